@@ -1,0 +1,35 @@
+-- Steps over known bytes.
+use Rattle.std.proofs.Common.{◌≡◌, ℕ, ◌+◌, ◌-◌, ◌<◌, ◌≤◌, min, List, [], ◌∷◌, ◌++◌, length, take, drop, Some, None, refl, sym, ap, ◌∙◌, arith, append_assoc, append-nil}
+use Rattle.std.specs.declared.option.Option.{Option}
+use Rattle.std.proofs.lemmas.List.{drop_min, drop-drop, take-append-drop, nil_from_length, length-drop, length-take, take_rest}
+use Rattle.std.specs.Io.KnownBytes.{Appends, Keeps}
+use Rattle.std.proofs.KnownBytes.{Appends-trans}
+use Rattle.rv_base.specs.Writes.{AppendsFront, IsFront}
+
+-- what a read of n bytes at a place gives, and what it leaves
+pub read_front : (items piece : List ℕ) (old at n : ℕ) → at ≡ min old (length items) → take n piece ≡ take n (take (length items - at) (drop at items)) → drop old items ≡ take n piece ++ drop (at + n) items
+read_front items piece old at n e f =
+    sym (drop_min old items) ∙ ap (λ k. drop k items) (sym e) ∙ sym (take-append-drop n (drop at items)) ∙ ap (λ l. l ++ drop n (drop at items)) (sym (f ∙ ap (take n) (take_rest items at))) ∙ ap (λ l. take n piece ++ l) (drop-drop n at items)
+
+pub read_none : (items : List ℕ) (at n : ℕ) → n ≡ 0 → (0 < length (take (length items - at) (drop at items)) → 0 < n) → drop (at + n) items ≡ []
+read_none items at n e some =
+    let h : 0 < length (drop at items) → 0 < n = λ p. some (omega (arith, ap length (take_rest items at), p)) in
+    nil_from_length _ (grind (arith, length-drop (at + n) items, length-drop at items, h))
+
+-- a write of n bytes of what is left of a text
+pub write_more : (text done rest : List ℕ) (n : ℕ) (old mid new : Option (List ℕ)) → text ≡ done ++ rest → Appends old mid done → Appends mid new (take n rest) → (more : List ℕ) × (text ≡ more ++ take (length rest - n) (drop n rest)) × Appends old new more
+write_more text done rest n old mid new e f g =
+    (done ++ take n rest, e ∙ ap (λ l. done ++ l) (sym (take-append-drop n rest)) ∙ sym (append_assoc done (take n rest) (drop n rest)) ∙ ap (λ l. (done ++ take n rest) ++ l) (sym (take_rest rest n)), Appends-trans _ _ _ _ _ f g)
+
+-- nothing is left of the text
+pub write_done : (text done rest : List ℕ) (old new : Option (List ℕ)) → text ≡ done ++ rest → length rest ≡ 0 → Appends old new done → Appends old new text
+write_done text done rest old new e none f = rw (e, nil_from_length rest none, append-nil done) f
+
+pub appends_keeps : (old mid new : Option (List ℕ)) (bs : List ℕ) → Appends old mid bs → Keeps mid new → Appends old new bs
+appends_keeps None mid new bs f g = tt
+appends_keeps (Some x) None new bs f g = absurd f
+appends_keeps (Some x) (Some y) None bs f g = absurd g
+appends_keeps (Some x) (Some y) (Some z) bs f g = g ∙ f
+
+pub write_stopped : (text done rest : List ℕ) (old mid new : Option (List ℕ)) → text ≡ done ++ rest → Appends old mid done → Keeps mid new → AppendsFront old new text
+write_stopped text done rest old mid new e f g = (done, (rest, e), appends_keeps old mid new done f g)

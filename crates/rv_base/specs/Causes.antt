@@ -1,0 +1,19 @@
+-- When a call may say that an object failed.
+use Rattle.std.specs.Prelude.{ℕ, ◌+◌, ◌-◌, ◌^◌, ◌≤◌, min, Result, OnErr}
+use Rattle.std.proofs.Common.{arith}
+
+-- the count of faults has risen, or stands at its type's end
+abbrev pub Rose : ℕ → ℕ → Type 0
+Rose before now = min (before + 1) (2 ^ 64 - 1) ≤ now
+
+-- the count hasn't fallen, and it has risen at an `Err`
+pub record HasCause {T E : Type 0} (before now : ℕ) (result : Result T E) : Type 0 where
+  pub later : before ≤ now
+  pub failed : OnErr result (Rose before now)
+
+-- a count that rose stands as risen later
+pub rose_later : (before mid now : ℕ) → Rose before mid → mid ≤ now → Rose before now
+rose_later before mid now r le = omega (arith, r)
+
+pub rose_before : (before mid now : ℕ) → before ≤ mid → Rose mid now → Rose before now
+rose_before before mid now le r = omega (arith, r)

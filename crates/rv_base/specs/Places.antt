@@ -1,0 +1,230 @@
+-- Laws of lists of items in the order of their keys.
+use Rattle.std.proofs.Common.{◌≡◌, ℕ, zero, suc, ◌+◌, ◌<◌, ◌≤◌, Bool, true, false, cond, List, [], ◌∷◌, ◌++◌, length, get_or, set, take, drop, Option, Some, None, refl, sym, ap, ◌∙◌, subst, arith, not, Ordering, Result, Ok, Err}
+use Rattle.std.specs.declared.cmp.Ordering.TheVariants.{Less, Equal, Greater}
+use Rattle.std.specs.Ordering.{nat_cmp, match_ordering, is_eq, ordering_reverse, ordering_index}
+use Rattle.std.specs.Cmp.Lexicographic.{slice_cmp}
+use Rattle.std.specs.Str.{bytes_eq}
+use Rattle.std.specs.List.{filter, AllByRecursion, HoldsAt}
+use Rattle.std.specs.List.Sorted.{IsNonDecreasingBy, IsBinarySearchResult, IsSearchInRange}
+use Rattle.std.specs.FinMap.{slice_cmp-IsAntisymmetric, nat_cmp-IsAntisymmetric}
+use Rattle.std.proofs.lemmas.Cmp.{nat_list_cmp_total, tied_itself}
+use Rattle.std.proofs.lemmas.Map.Text.{is_eq-slice_cmp}
+use Rattle.std.proofs.lemmas.Slice.Eq.{bytes_eq-Decides}
+use Rattle.rv_base.specs.Sorted.{find_by, without, put_by, InOrder, Settles}
+
+-- two keys, one below the other
+abbrev pub Below : List ℕ → List ℕ → Type 0
+Below a b = slice_cmp nat_cmp a b ≡ Less
+
+above_is : (a b : List ℕ) → Below a b → slice_cmp nat_cmp b a ≡ Greater
+above_is a b h = nat_list_cmp_total.antisymm b a ∙ ap ordering_reverse h
+
+below_is : (a b : List ℕ) → slice_cmp nat_cmp a b ≡ Greater → Below b a
+below_is a b h = nat_list_cmp_total.antisymm b a ∙ ap ordering_reverse h
+
+same_is : (a : List ℕ) → slice_cmp nat_cmp a a ≡ Equal
+same_is a = tied_itself nat_list_cmp_total a
+
+same_from : (a b : List ℕ) → slice_cmp nat_cmp a b ≡ Equal → a ≡ b
+same_from a b h = slice_cmp-IsAntisymmetric nat_cmp-IsAntisymmetric a b h
+
+differs : (a b : List ℕ) → Below a b → bytes_eq a b ≡ false
+differs a b h = sym (is_eq-slice_cmp a b) ∙ ap is_eq h
+
+differs_back : (a b : List ℕ) → Below a b → bytes_eq b a ≡ false
+differs_back a b h = sym (is_eq-slice_cmp b a) ∙ ap is_eq (above_is a b h)
+
+equals : (a : List ℕ) → bytes_eq a a ≡ true
+equals a = sym (is_eq-slice_cmp a a) ∙ ap is_eq (same_is a)
+
+module _ {X : Type 0} (key : X → List ℕ) where
+  -- each key is above k
+  abbrev pub Above : List ℕ → List X → Type 0
+  Above k xs = AllByRecursion (λ y. Below k (key y)) xs
+
+  above_chain : (a b : List ℕ) (xs : List X) → Below a b → Above b xs → Above a xs
+  above_chain a b [] h all = tt
+  above_chain a b (x ∷ xs) h all = (nat_list_cmp_total.trans a b (key x) h all.0, above_chain a b xs h all.1)
+
+  above_at : (k : List ℕ) (xs : List X) (j : ℕ) (d : X) → j < length xs → Above k xs → Below k (key (get_or xs j d))
+  above_at k [] j d lt all = absurd (omega arith)
+  above_at k (x ∷ xs) zero d lt all = all.0
+  above_at k (x ∷ xs) (suc j) d lt all = above_at k xs j d (omega arith) all.1
+
+  above_from : (k : List ℕ) (xs : List X) → ((j : ℕ) (d : X) → j < length xs → slice_cmp nat_cmp (key (get_or xs j d)) k ≡ Greater) → Above k xs
+  above_from k [] each = tt
+  above_from k (x ∷ xs) each = (below_is (key x) k (each 0 x (omega arith)), above_from k xs (λ j d lt. each (suc j) d (omega arith)))
+
+  pub find_above : (k : List ℕ) (xs : List X) → Above k xs → find_by key k xs ≡ None
+  find_above k [] all = refl
+  find_above k (x ∷ xs) all = rw (differs k (key x) all.0) (find_above k xs all.1)
+
+  pub without_above : (k : List ℕ) (xs : List X) → Above k xs → without key k xs ≡ xs
+  without_above k [] all = refl
+  without_above k (x ∷ xs) all = rw (differs k (key x) all.0) (ap (λ (t : List X). x ∷ t) (without_above k xs all.1))
+
+  put_above : (x : X) (xs : List X) → Above (key x) xs → put_by key x xs ≡ x ∷ xs
+  put_above x [] all = refl
+  put_above x (y ∷ ys) all = rw all.0 refl
+
+  -- what stands at the place i, which has the key k
+  module _ (k : List ℕ) where
+    pub find_found : (xs : List X) (i : ℕ) (d : X) → InOrder key xs → i < length xs → key (get_or xs i d) ≡ k → find_by key k xs ≡ Some (get_or xs i d)
+    find_found [] i d sorted lt is = absurd (omega arith)
+    find_found (x ∷ xs) zero d sorted lt is = rw (← is, equals (key x)) refl
+    find_found (x ∷ xs) (suc i) d sorted lt is =
+        let low : Below (key x) k = subst (λ (b : List ℕ). Below (key x) b) is (above_at (key x) xs i d (omega arith) sorted.0) in
+        rw (differs_back (key x) k low) (find_found xs i d sorted.1 (omega arith) is)
+
+    pub without_found : (xs : List X) (i : ℕ) (d : X) → InOrder key xs → i < length xs → key (get_or xs i d) ≡ k → without key k xs ≡ take i xs ++ drop (suc i) xs
+    without_found [] i d sorted lt is = absurd (omega arith)
+    without_found (x ∷ xs) zero d sorted lt is = subst (λ (t : List ℕ). without key t (x ∷ xs) ≡ xs) is (rw (equals (key x)) (without_above (key x) xs sorted.0))
+    without_found (x ∷ xs) (suc i) d sorted lt is =
+        let low : Below (key x) k = subst (λ (b : List ℕ). Below (key x) b) is (above_at (key x) xs i d (omega arith) sorted.0) in
+        rw (differs_back (key x) k low) (ap (λ (t : List X). x ∷ t) (without_found xs i d sorted.1 (omega arith) is))
+
+    pub find_gap : (xs : List X) (i : ℕ) → i ≤ length xs → ((j : ℕ) (d : X) → j < i → Below (key (get_or xs j d)) k) → ((j : ℕ) (d : X) → i ≤ j → j < length xs → slice_cmp nat_cmp (key (get_or xs j d)) k ≡ Greater) → find_by key k xs ≡ None
+    find_gap xs zero le low high = find_above k xs (above_from k xs (λ j d lt. high j d (omega arith) lt))
+    find_gap [] (suc i) le low high = refl
+    find_gap (x ∷ xs) (suc i) le low high = rw (differs_back (key x) k (low 0 x (omega arith))) (find_gap xs i (omega arith) (λ j d lt. low (suc j) d (omega arith)) (λ j d ge lt. high (suc j) d (omega arith) (omega arith)))
+
+    pub without_gap : (xs : List X) (i : ℕ) → i ≤ length xs → ((j : ℕ) (d : X) → j < i → Below (key (get_or xs j d)) k) → ((j : ℕ) (d : X) → i ≤ j → j < length xs → slice_cmp nat_cmp (key (get_or xs j d)) k ≡ Greater) → without key k xs ≡ xs
+    without_gap xs zero le low high = without_above k xs (above_from k xs (λ j d lt. high j d (omega arith) lt))
+    without_gap [] (suc i) le low high = refl
+    without_gap (x ∷ xs) (suc i) le low high = rw (differs_back (key x) k (low 0 x (omega arith))) (ap (λ (t : List X). x ∷ t) (without_gap xs i (omega arith) (λ j d lt. low (suc j) d (omega arith)) (λ j d ge lt. high (suc j) d (omega arith) (omega arith))))
+
+  pub put_found : (new : X) (xs : List X) (i : ℕ) (d : X) → InOrder key xs → i < length xs → key (get_or xs i d) ≡ key new → put_by key new xs ≡ set xs i new
+  put_found new [] i d sorted lt is = absurd (omega arith)
+  put_found new (x ∷ xs) zero d sorted lt is =
+      let e : slice_cmp nat_cmp (key new) (key x) ≡ Equal = subst (λ (b : List ℕ). slice_cmp nat_cmp (key new) b ≡ Equal) (sym is) (same_is (key new)) in
+      rw e refl
+  put_found new (x ∷ xs) (suc i) d sorted lt is =
+      let low : Below (key x) (key new) = subst (λ (b : List ℕ). Below (key x) b) is (above_at (key x) xs i d (omega arith) sorted.0) in
+      rw (above_is (key x) (key new) low) (ap (λ (t : List X). x ∷ t) (put_found new xs i d sorted.1 (omega arith) is))
+
+  pub put_gap : (new : X) (xs : List X) (i : ℕ) → i ≤ length xs → ((j : ℕ) (d : X) → j < i → Below (key (get_or xs j d)) (key new)) → ((j : ℕ) (d : X) → i ≤ j → j < length xs → slice_cmp nat_cmp (key (get_or xs j d)) (key new) ≡ Greater) → put_by key new xs ≡ take i xs ++ new ∷ drop i xs
+  put_gap new xs zero le low high = put_above new xs (above_from (key new) xs (λ j d lt. high j d (omega arith) lt))
+  put_gap new [] (suc i) le low high = absurd (omega arith)
+  put_gap new (x ∷ xs) (suc i) le low high =
+      rw (above_is (key x) (key new) (low 0 x (omega arith))) (ap (λ (t : List X). x ∷ t) (put_gap new xs i (omega arith) (λ j d lt. low (suc j) d (omega arith)) (λ j d ge lt. high (suc j) d (omega arith) (omega arith))))
+
+  -- the order is kept
+  above_put : (k : List ℕ) (new : X) (xs : List X) → Below k (key new) → Above k xs → Above k (put_by key new xs)
+  above_put k new [] h all = (h, tt)
+  above_put k new (y ∷ ys) h all =
+      elim (slice_cmp nat_cmp (key new) (key y)) as (λ o. Above k (match_ordering o (new ∷ y ∷ ys) (new ∷ ys) (y ∷ put_by key new ys))) [
+        | Less ↦ (h, all)
+        | Equal ↦ (h, all.1)
+        | Greater ↦ (all.0, above_put k new ys h all.1)
+      ]
+
+  pub in_order-put : (new : X) (xs : List X) → InOrder key xs → InOrder key (put_by key new xs)
+  in_order-put new [] sorted = (tt, tt)
+  in_order-put new (y ∷ ys) sorted =
+      elim (slice_cmp nat_cmp (key new) (key y)) as (λ o. slice_cmp nat_cmp (key new) (key y) ≡ o → InOrder key (match_ordering o (new ∷ y ∷ ys) (new ∷ ys) (y ∷ put_by key new ys))) [
+        | Less ↦ λ e. ((e, above_chain (key new) (key y) ys e sorted.0), sorted)
+        | Equal ↦ λ e. (subst (λ (b : List ℕ). Above b ys) (sym (same_from (key new) (key y) e)) sorted.0, sorted.1)
+        | Greater ↦ λ e. (above_put (key y) new ys (below_is (key new) (key y) e) sorted.0, in_order-put new ys sorted.1)
+      ] refl
+
+  above_without : (a k : List ℕ) (xs : List X) → Above a xs → Above a (without key k xs)
+  above_without a k [] all = tt
+  above_without a k (x ∷ xs) all = elim (bytes_eq k (key x)) as (λ b. Above a (cond (not b) (x ∷ without key k xs) (without key k xs))) [ true ↦ above_without a k xs all.1 | false ↦ (all.0, above_without a k xs all.1) ]
+
+  pub in_order-without : (k : List ℕ) (xs : List X) → InOrder key xs → InOrder key (without key k xs)
+  in_order-without k [] sorted = tt
+  in_order-without k (x ∷ xs) sorted = elim (bytes_eq k (key x)) as (λ b. InOrder key (cond (not b) (x ∷ without key k xs) (without key k xs))) [ true ↦ in_order-without k xs sorted.1 | false ↦ (above_without (key x) k xs sorted.0, in_order-without k xs sorted.1) ]
+
+  -- what a binary search is told: the answers rise
+  rises : (k : List ℕ) (xs : List X) → InOrder key xs → (i j : ℕ) (d : X) → i ≤ j → j < length xs → ordering_index (slice_cmp nat_cmp (key (get_or xs i d)) k) ≤ ordering_index (slice_cmp nat_cmp (key (get_or xs j d)) k)
+  rises k [] sorted i j d le lt = absurd (omega arith)
+  rises k (x ∷ xs) sorted zero zero d le lt = omega arith
+  rises k (x ∷ xs) sorted zero (suc j) d le lt = below_rises (key x) (key (get_or xs j d)) k (above_at (key x) xs j d (omega arith) sorted.0)
+    where
+      below_rises : (a b k : List ℕ) → Below a b → ordering_index (slice_cmp nat_cmp a k) ≤ ordering_index (slice_cmp nat_cmp b k)
+      below_rises a b k h =
+          elim (slice_cmp nat_cmp b k) as (λ o. slice_cmp nat_cmp b k ≡ o → ordering_index (slice_cmp nat_cmp a k) ≤ ordering_index o) [
+            | Less ↦ λ e. rw (nat_list_cmp_total.trans a b k h e) (omega arith)
+            | Equal ↦ λ e. rw (subst (λ (t : List ℕ). Below a t) (same_from b k e) h) (omega arith)
+            | Greater ↦ λ e. elim (slice_cmp nat_cmp a k) as (λ o. ordering_index o ≤ 2) [ Less ↦ omega arith | Equal ↦ omega arith | Greater ↦ omega arith ]
+          ] refl
+  rises k (x ∷ xs) sorted (suc i) zero d le lt = absurd (omega arith)
+  rises k (x ∷ xs) sorted (suc i) (suc j) d le lt = rises k xs sorted.1 i j d (omega arith) (omega arith)
+
+  pub settles : (k : List ℕ) (xs : List X) (r : Result ℕ ℕ) → InOrder key xs → IsSearchInRange r (length xs) → IsBinarySearchResult (λ y. slice_cmp nat_cmp (key y) k) xs r → Settles key k xs r
+  settles k xs (Ok i) sorted lt at =
+      let gone = gone_at xs refl in
+      record {
+        in_range = lt;
+        found = λ d. find_found k xs i d sorted lt (same_from _ _ (at d));
+        removed = gone;
+        removed_order = subst (λ (ys : List X). InOrder key ys) gone (in_order-without k xs sorted);
+        written = λ new e. put_at new e;
+        written_order = λ new e. subst (λ (ys : List X). InOrder key ys) (put_at new e) (in_order-put new xs sorted);
+      }
+    where
+      gone_at : (ys : List X) → ys ≡ xs → without key k xs ≡ take i xs ++ drop (suc i) xs
+      gone_at [] e = absurd (omega (arith, ap length e))
+      gone_at (d ∷ ys) e = without_found k xs i d sorted lt (same_from _ _ (at d))
+
+      put_at : (new : X) → key new ≡ k → put_by key new xs ≡ set xs i new
+      put_at new is = put_found new xs i new sorted lt (same_from _ _ (at new) ∙ sym is)
+  settles k xs (Err i) sorted le parted =
+      let parts = parted (rises k xs sorted) in
+      record {
+        in_range = le;
+        absent = find_gap k xs i le (λ j d lt. parts.0 j d (omega arith) lt) parts.1;
+        unmoved = without_gap k xs i le (λ j d lt. parts.0 j d (omega arith) lt) parts.1;
+        inserted = λ new e. put_at new e;
+        inserted_order = λ new e. subst (λ (ys : List X). InOrder key ys) (put_at new e) (in_order-put new xs sorted);
+      }
+    where
+      put_at : (new : X) → key new ≡ k → put_by key new xs ≡ take i xs ++ new ∷ drop i xs
+      put_at new is =
+          let parts = parted (rises k xs sorted) in
+          put_gap new xs i le (λ j d lt. subst (λ (b : List ℕ). Below (key (get_or xs j d)) b) (sym is) (parts.0 j d (omega arith) lt)) (λ j d ge lt. subst (λ (b : List ℕ). slice_cmp nat_cmp (key (get_or xs j d)) b ≡ Greater) (sym is) (parts.1 j d ge lt))
+
+-- what is found after a change, for callers
+shadowed : {A : Type 0} (b : Bool) (x y z : A) → cond b x z ≡ cond b x (cond b y z)
+shadowed true x y z = refl
+shadowed false x y z = refl
+
+swapped : {A : Type 0} (a b : Bool) (x y z : A) → (a ≡ true → b ≡ true → ⊥) → cond a x (cond b y z) ≡ cond b y (cond a x z)
+swapped true true x y z apart = absurd (apart refl refl)
+swapped true false x y z apart = refl
+swapped false b x y z apart = refl
+
+apart_by : (q a b : List ℕ) → slice_cmp nat_cmp b a ≡ Greater → bytes_eq q a ≡ true → bytes_eq q b ≡ true → ⊥
+apart_by q a b e h g =
+    let p : q ≡ a = (bytes_eq-Decides q a).0 h in
+    let r : q ≡ b = (bytes_eq-Decides q b).0 g in
+    let same : slice_cmp nat_cmp b a ≡ Equal = subst (λ (t : List ℕ). slice_cmp nat_cmp b t ≡ Equal) (sym r ∙ p) (same_is b) in
+    let both : Equal ≡ Greater = sym same ∙ e in cc
+
+gone : {X : Type 0} (a b : Bool) (y : X) (z : Option X) → (b ≡ true → a ≡ true) → cond a None z ≡ cond a None (cond b (Some y) z)
+gone true b y z h = refl
+gone false true y z h = absurd (let e : false ≡ true = h refl in cc)
+gone false false y z h = refl
+
+kept : {X : Type 0} (a b : Bool) (y : X) (z : Option X) → (b ≡ true → a ≡ false) → cond b (Some y) (cond a None z) ≡ cond a None (cond b (Some y) z)
+kept true true y z h = absurd (let e : true ≡ false = h refl in cc)
+kept true false y z h = refl
+kept false b y z h = refl
+
+module _ {X : Type 0} (key : X → List ℕ) where
+  pub find_put : (q : List ℕ) (new : X) (xs : List X) → find_by key q (put_by key new xs) ≡ cond (bytes_eq q (key new)) (Some new) (find_by key q xs)
+  find_put q new [] = refl
+  find_put q new (y ∷ ys) =
+      elim (slice_cmp nat_cmp (key new) (key y)) as (λ o. slice_cmp nat_cmp (key new) (key y) ≡ o → find_by key q (match_ordering o (new ∷ y ∷ ys) (new ∷ ys) (y ∷ put_by key new ys)) ≡ cond (bytes_eq q (key new)) (Some new) (find_by key q (y ∷ ys))) [
+        | Less ↦ λ e. refl
+        | Equal ↦ λ e. subst (λ (k : List ℕ). cond (bytes_eq q (key new)) (Some new) (find_by key q ys) ≡ cond (bytes_eq q (key new)) (Some new) (cond (bytes_eq q k) (Some y) (find_by key q ys))) (same_from (key new) (key y) e) (shadowed (bytes_eq q (key new)) (Some new) (Some y) (find_by key q ys))
+        | Greater ↦ λ e. ap (cond (bytes_eq q (key y)) (Some y)) (find_put q new ys) ∙ swapped (bytes_eq q (key y)) (bytes_eq q (key new)) (Some y) (Some new) (find_by key q ys) (apart_by q (key y) (key new) e)
+      ] refl
+
+  pub find_without : (q k : List ℕ) (xs : List X) → find_by key q (without key k xs) ≡ cond (bytes_eq k q) None (find_by key q xs)
+  find_without q k [] = elim (bytes_eq k q) as (λ b. ◌≡◌ {A = Option X} None (cond b None None)) [ true ↦ refl | false ↦ refl ]
+  find_without q k (x ∷ xs) =
+      elim (bytes_eq k (key x)) as (λ b. bytes_eq k (key x) ≡ b → find_by key q (cond (not b) (x ∷ without key k xs) (without key k xs)) ≡ cond (bytes_eq k q) None (cond (bytes_eq q (key x)) (Some x) (find_by key q xs))) [
+        | true ↦ λ e. find_without q k xs ∙ gone (bytes_eq k q) (bytes_eq q (key x)) x (find_by key q xs) (λ h. subst (λ (t : List ℕ). bytes_eq k t ≡ true) (sym ((bytes_eq-Decides q (key x)).0 h)) e)
+        | false ↦ λ e. ap (cond (bytes_eq q (key x)) (Some x)) (find_without q k xs) ∙ kept (bytes_eq k q) (bytes_eq q (key x)) x (find_by key q xs) (λ h. subst (λ (t : List ℕ). bytes_eq k t ≡ false) (sym ((bytes_eq-Decides q (key x)).0 h)) e)
+      ] refl

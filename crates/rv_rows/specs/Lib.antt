@@ -1,0 +1,6 @@
+pub mod Keys
+pub mod Held
+pub mod Sharing
+pub mod Effects
+pub mod RowTexts
+pub mod Members

@@ -1,0 +1,23 @@
+-- What a value and the members of an object are read as.
+use Rattle.std.specs.Prelude.{ℕ, ◌^◌, List, length, Option, Some, None, option_and_then, nat_le, nat_lt, ◌&&◌, if◌then◌else◌}
+use Rattle.std.specs.Str.{bytes_eq}
+use Rattle.serde_json.specs.Data.{Data, Members, no_members, member}
+use Rattle.serde_json.specs.Find.{as_str}
+
+-- a text of at least low and at most high bytes
+abbrev pub within : ℕ → ℕ → List ℕ → Option (List ℕ)
+within low high text = if nat_le low (length text) && nat_le (length text) high then Some text else None
+
+-- a value that is such a text
+abbrev pub text_in : ℕ → ℕ → Data → Option (List ℕ)
+text_in low high value = option_and_then (within low high) (as_str value)
+
+-- the value of the first member, where it has the name, and the members after it
+abbrev pub named : List ℕ → Members → Option (Data × Members)
+named name no_members = None
+named name (member key value members) = if bytes_eq key name then Some (value, members) else None
+
+-- no member is left
+abbrev pub has_ended : Members → Option (Unit {0})
+has_ended no_members = Some tt
+has_ended (member key value _) = None

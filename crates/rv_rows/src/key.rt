@@ -1,0 +1,53 @@
+ghost use Rattle.std.specs.Prelude.{◌≡◌, IfOk, string_bytes};
+ghost use Rattle.rv_rows.specs.Keys.{prefix, key_text};
+
+use rv_base::{Id, Memory};
+use std::alloc::Global;
+
+/// The kind of a row.
+#[derive(Clone, Copy, Debug, PartialEq, Eq)]
+pub enum Kind {
+    /// A list.
+    List,
+}
+
+/// What names a row. Its text is `list/ID`, and keys are ordered by the bytes of their texts.
+#[derive(Debug, Drop)]
+pub struct Key {
+    /// The kind of the row.
+    pub kind: Kind,
+    /// The row's name among those of its kind.
+    pub id: Id,
+}
+
+impl Kind {
+    /// The front of the kind's key texts, with its slash.
+    pub fn prefix(self) -> &'static str
+        ensures { result.now ≡ prefix self }
+    {
+        match self {
+            Kind::List => "list/",
+        }
+    }
+
+    /// The text of the key of this kind and this id.
+    pub fn key_text(self, alloc: Global, id: &Id) -> Result<String, Memory>
+        ensures { IfOk result (λ text. string_bytes text ≡ key_text (record { kind = self; id = id.now })) }
+    {
+        let mut text = String::from_str(alloc, self.prefix())?;
+        text.push_str(id.as_str())?;
+        Ok(text)
+    }
+}
+
+impl Key {
+    /// The same key, in memory of its own.
+    pub fn copy(&self, alloc: Global) -> Result<Key, Memory>
+        ensures { IfOk result (λ copy. copy ≡ self.now) }
+    {
+        Ok(Key {
+            kind: self.kind,
+            id: self.id.copy(alloc)?,
+        })
+    }
+}

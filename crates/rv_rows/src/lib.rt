@@ -1,0 +1,26 @@
+//! The rows of the shared lists, their keys, the calls that change them, the sorted table of the rows that stand, and
+//! each row as JSON.
+//!
+//! Contracts see rows, keys and calls as plain data. What speaks of lists of rows alone is defined in `specs/`: the key
+//! of a row, who sees it, and the effect of a call. [`plain`] computes those definitions slowly, apart from the table.
+#![tactic(auto)]
+
+mod call;
+mod key;
+mod members;
+pub mod plain;
+mod row;
+mod row_json;
+mod row_reading;
+mod tables;
+
+pub use call::Call;
+pub use key::{Key, Kind};
+pub use members::{next_named, text_of_value};
+pub use row::{Clients, ListRow, Row};
+pub use row_json::row_value;
+pub use row_reading::read_row;
+pub use tables::{RowsInOrder, Tables};
+
+#[cfg(test)]
+mod tests;

@@ -1,0 +1,39 @@
+// Members of JSON objects.
+ghost use Rattle.std.specs.Prelude.{◌≡◌, IfOk, IfSome, IfNone, Some, None};
+ghost use Rattle.serde_json.specs.View.{view, members_view};
+ghost use Rattle.rv_rows.specs.Members.{named, text_in};
+
+use rv_base::{Bounded, Memory, TextRefusal};
+use serde_json::Value;
+use std::alloc::Global;
+use std::collections::btree_map::Iter;
+
+/// The value of the next member, where that member has this name.
+pub fn next_named<'a>(left: &mut Iter<'a, String, Value>, name: &str) -> Option<&'a Value>
+    ensures found { IfSome result (λ v. named name.now (members_view left.old) ≡ Some (view v.now, members_view left.new)) }
+    ensures none { IfNone result (named name.now (members_view left.old) ≡ None) }
+{
+    let (key, value) = left.next()?;
+    if key.as_str() == name {
+        Some(value)
+    } else {
+        None
+    }
+}
+
+/// The text that a value is, where it is one within the bounds.
+pub fn text_of_value<const MIN: usize, const MAX: usize>(
+    alloc: Global,
+    value: &Value,
+) -> Result<Option<Bounded<MIN, MAX>>, Memory>
+    ensures { IfOk result (λ o. o ≡ text_in MIN MAX (view value.now)) }
+{
+    match value.as_str() {
+        None => Ok(None),
+        Some(text) => match Bounded::new(alloc, text) {
+            Ok(text) => Ok(Some(text)),
+            Err(TextRefusal::Memory) => Err(Memory),
+            Err(_) => Ok(None),
+        },
+    }
+}
