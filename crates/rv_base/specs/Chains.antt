@@ -1,5 +1,5 @@
 -- A chain of checks, which ends at the first that fails.
-use Rattle.std.specs.Prelude.{Bool, Option, Some, None, Result, Ok, Err, if◌then◌else◌}
+use Rattle.std.specs.Prelude.{Bool, List, [], ◌∷◌, Option, Some, None, Result, Ok, Err, if◌then◌else◌}
 
 infixl 10 ◌>>=◌
 abbrev pub ◌>>=◌ : {A B E : Type 0} → Result A E → (A → Result B E) → Result B E
@@ -14,3 +14,8 @@ need e (Some x) = Ok x
 -- the test holds, or else this fault
 abbrev pub hold : {E : Type 0} → E → Bool → Result (Unit {0}) E
 hold e b = if b then Ok tt else Err e
+
+-- what f gives of each, up to the first fault
+abbrev pub each : {A B E : Type 0} → (A → Result B E) → List A → Result (List B) E
+each f [] = Ok []
+each f (x ∷ xs) = f x >>= λ y. each f xs >>= λ ys. Ok (y ∷ ys)

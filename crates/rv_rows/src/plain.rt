@@ -43,7 +43,12 @@ fn is_seen(rows: &[Row], user: &User, row: &Row) -> bool
 }
 
 /// The rows after a call of the user.
-pub fn effect(alloc: Global, mut rows: Vec<Row>, user: &User, call: &Call) -> Result<Vec<Row>, Memory>
+pub fn effect(
+    alloc: Global,
+    mut rows: Vec<Row>,
+    user: &User,
+    call: &Call,
+) -> Result<Vec<Row>, Memory>
     ensures { IfOk result (λ new. new.items ≡ effect rows.items user.now call.now) }
 {
     match call {

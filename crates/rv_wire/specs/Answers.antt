@@ -1,0 +1,38 @@
+-- The answer to a pull, as JSON.
+use Rattle.std.specs.Prelude.{ℕ, List, [], ◌∷◌, map, codes}
+use Rattle.serde_json.specs.Data.{Data, null, number, unsigned, string, array, object, Members, member, no_members}
+use Rattle.serde_json.specs.View.{items_of}
+use Rattle.rv_rows.specs.Keys.{row_text}
+use Rattle.rv_rows.specs.RowTexts.{row_data}
+use Rattle.rv_wire.specs.declared.cookie.Cookie.{Cookie}
+use Rattle.rv_wire.specs.declared.cookie.Cookie.TheVariants.{Null, Bare, Named}
+use Rattle.rv_wire.specs.declared.op.Op.{Op}
+use Rattle.rv_wire.specs.declared.op.Op.TheVariants.{Clear, Put}
+
+-- {"cvrID":"PLACE","order":N}
+abbrev pub cookie_data : Cookie → Data
+cookie_data Null = null
+cookie_data (Bare order) = number (unsigned order)
+cookie_data (Named place order) = object (member (codes "cvrID") (string place) (member (codes "order") (number (unsigned order)) no_members))
+
+-- {"key":K,"op":"put","value":V}
+abbrev pub put_data : List ℕ → Data → Data
+put_data key value = object (member (codes "key") (string key) (member (codes "op") (string (codes "put")) (member (codes "value") value no_members)))
+
+-- {"op":"clear"} and {"key":K,"op":"put","value":ROW}
+abbrev pub op_data : Op → Data
+op_data Clear = object (member (codes "op") (string (codes "clear")) no_members)
+op_data (Put row) = put_data (row_text row) (row_data row)
+
+-- each client with its last mutation id
+abbrev pub id_members : List (List ℕ × ℕ) → Members
+id_members [] = no_members
+id_members (x ∷ xs) = member x.0 (number (unsigned x.1)) (id_members xs)
+
+-- {"cookie":C,"lastMutationIDChanges":I,"patch":P}
+abbrev pub answer_data : Data → Data → Data → Data
+answer_data cookie changes patch = object (member (codes "cookie") cookie (member (codes "lastMutationIDChanges") changes (member (codes "patch") patch no_members)))
+
+-- {"cookie":COOKIE,"lastMutationIDChanges":{CLIENT:N,..},"patch":[OP,..]}
+abbrev pub pull_data : Cookie → List (List ℕ × ℕ) → List Op → Data
+pull_data cookie ids ops = answer_data (cookie_data cookie) (object (id_members ids)) (array (items_of (map op_data ops)))

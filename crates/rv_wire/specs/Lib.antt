@@ -1,0 +1,5 @@
+pub mod Members
+pub mod Calls
+pub mod Bodies
+pub mod Answers
+pub mod Errors

@@ -1,0 +1,36 @@
+//! The JSON that clients send and get: the bodies of pushes and pulls, the answer to a pull, and the texts of refusals.
+//!
+//! The bodies are those of version 1 of the push and the pull of Replicache's reference ("Replicache Server: Push" and
+//! "Pull"). JSON is read and written by `serde_json`.
+#![tactic(auto)]
+
+mod answer;
+mod body;
+mod calls;
+mod cookie;
+mod error_body;
+
+mod fault;
+mod members;
+mod op;
+mod pull;
+mod pull_body;
+mod push;
+mod push_body;
+mod refusal;
+
+pub use answer::pull_text;
+pub use body::Schemas;
+pub use cookie::Cookie;
+pub use error_body::{ErrorBody, Which};
+pub use refusal::error_text;
+pub use fault::WireFault;
+
+pub use op::{Op, Ops};
+pub use pull::PullRequest;
+pub use pull_body::pull_of_value;
+pub use push::{Mutation, Mutations, Push};
+pub use push_body::push_of_value;
+
+#[cfg(test)]
+mod tests;

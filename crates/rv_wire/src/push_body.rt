@@ -1,0 +1,98 @@
+ghost use Rattle.std.specs.Prelude.{◌≡◌, codes, unwrap_or, map};
+ghost use Rattle.serde_json.specs.Data.{null};
+ghost use Rattle.serde_json.specs.Find.{get};
+ghost use Rattle.serde_json.specs.View.{view};
+ghost use Rattle.rv_base.specs.Chains.{each};
+ghost use Rattle.rv_wire.specs.Bodies.{Gives, GivesAll, is_served, mutation_in, mutations_in, push_in};
+ghost use Rattle.rv_wire.specs.Calls.{call_in};
+
+use crate::body::{Schemas, group_of_value};
+use crate::calls::call_of;
+use crate::fault::WireFault;
+use crate::members::{array_member, num_member, string_member, text_member};
+use crate::push::{Mutation, Push};
+use rv_base::Sequence;
+use rv_rows::Call;
+use serde_json::Value;
+use std::alloc::Global;
+
+// The call of a mutation, whose arguments are null where they are absent.
+fn call_of_mutation(alloc: Global, name: &str, value: &Value) -> Result<Call, WireFault>
+    ensures { Gives result (call_in name.now (unwrap_or (get (codes "args") (view value.now)) null)) }
+{
+    match value.get("args") {
+        Some(args) => call_of(alloc, name, args),
+        None => call_of(alloc, name, &Value::Null),
+    }
+}
+
+#[tactic(auto, unfolding(crate::specs::Bodies::mutation_in))]
+fn mutation_of(alloc: Global, value: &Value) -> Result<Mutation, WireFault>
+    ensures { Gives result (mutation_in (view value.now)) }
+{
+    if !value.is_object() {
+        return Err(WireFault::NotServed);
+    }
+    let client = match text_member(alloc, value, "clientID") {
+        Ok(Some(client)) => client,
+        Ok(None) => return Err(WireFault::NotServed),
+        Err(_) => return Err(WireFault::Memory),
+    };
+    let Some(id) = num_member(value, "id") else {
+        return Err(WireFault::NotServed);
+    };
+    let Some(name) = string_member(value, "name") else {
+        return Err(WireFault::NotServed);
+    };
+    match call_of_mutation(alloc, name, value) {
+        Ok(call) => Ok(Mutation { client, id, call }),
+        Err(fault) => Err(fault),
+    }
+}
+
+fn mutations_of(alloc: Global, values: &[Value]) -> Result<Vec<Mutation>, WireFault>
+    ensures { GivesAll (λ v. v.items) result (each mutation_in (map view values.now)) }
+{
+    let mut mutations = Vec::new(alloc);
+    for value in values {
+        let mutation = match mutation_of(alloc, value) {
+            Ok(mutation) => mutation,
+            Err(fault) => return Err(fault),
+        };
+        match mutations.push(mutation) {
+            Ok(()) => {}
+            Err(_) => return Err(WireFault::Memory),
+        }
+    }
+    Ok(mutations)
+}
+
+// The mutations of a body.
+#[tactic(auto, using(crate::proofs::Each::datas_views), unfolding(crate::specs::Bodies::mutations_in))]
+fn mutations_of_body(alloc: Global, value: &Value) -> Result<Vec<Mutation>, WireFault>
+    ensures { GivesAll (λ v. v.items) result (mutations_in (view value.now)) }
+{
+    match array_member(value, "mutations") {
+        None => Err(WireFault::NotServed),
+        Some(values) => mutations_of(alloc, values),
+    }
+}
+
+/// The push that a value is, where it is the body of one: every check passes, and each mutation is a well-formed
+/// `createList`.
+#[tactic(auto, unfolding(crate::specs::Bodies::push_in))]
+pub fn push_of_value(alloc: Global, value: &Value, schemas: &Schemas) -> Result<Push, WireFault>
+    ensures { Gives result (push_in (is_served schemas.now) (view value.now)) }
+{
+    let group = match group_of_value(alloc, value, "pushVersion", schemas) {
+        Ok(group) => group,
+        Err(fault) => return Err(fault),
+    };
+    match mutations_of_body(alloc, value) {
+        Ok(mutations) => Ok(Push {
+            group,
+            mutations: Sequence::from_vec(mutations),
+        }),
+        Err(fault) => Err(fault),
+    }
+}
