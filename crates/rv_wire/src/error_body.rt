@@ -5,6 +5,8 @@ use rv_base::Num;
 pub enum Which {
     /// The book of entries.
     Book,
+    /// The orders of cookies.
+    Order,
 }
 
 /// Why a request was refused, as its answer tells.

@@ -1,6 +1,6 @@
-ghost use Rattle.std.specs.Prelude.{◌≡◌, ◌≤◌, ◌+◌, ◌++◌, ◌<◌, length, take, decimal};
+ghost use Rattle.std.specs.Prelude.{◌≡◌, ◌≤◌, ◌+◌, ◌++◌, ◌<◌, length, take, decimal, codes};
 ghost use Rattle.serde_json.specs.Written.{compact_text};
-ghost use Rattle.rv_wire.specs.Errors.{error_data, error_status};
+ghost use Rattle.rv_wire.specs.Errors.{which_text, error_data, error_status};
 
 use crate::error_body::{ErrorBody, Which};
 use itoa::Buffer;
@@ -27,6 +27,17 @@ fn put_number(out: &mut [u8; 128], at: usize, number: u64) -> usize
     put(out, at, digits.as_bytes())
 }
 
+fn put_which(out: &mut [u8; 128], at: usize, which: Which) -> usize
+    requires { at + 34 ≤ 128 }
+    ensures bound { result ≤ at + 34 }
+    ensures text { take result out.new ≡ take at out.old ++ (codes ",\"error\":\"Limit\",\"which\":\"" ++ which_text which ++ codes "\"}") }
+{
+    match which {
+        Which::Book => put(out, at, b",\"error\":\"Limit\",\"which\":\"book\"}"),
+        Which::Order => put(out, at, b",\"error\":\"Limit\",\"which\":\"order\"}"),
+    }
+}
+
 /// Writes the JSON text of a refusal to the buffer's front, and answers how many bytes it has. Takes no memory.
 pub fn error_text(error: &ErrorBody, out: &mut [u8; 128]) -> usize
     ensures length { result ≤ 128 }
@@ -40,10 +51,10 @@ pub fn error_text(error: &ErrorBody, out: &mut [u8; 128]) -> usize
             let at = put_number(out, at, got.get());
             put(out, at, b"}")
         }
-        ErrorBody::Limit(Which::Book, number) => {
+        ErrorBody::Limit(which, number) => {
             let at = put(out, 0, b"{\"at\":");
             let at = put_number(out, at, number.get());
-            put(out, at, b",\"error\":\"Limit\",\"which\":\"book\"}")
+            put_which(out, at, *which)
         }
         ErrorBody::Memory => put(out, 0, b"{\"error\":\"memory\"}"),
     }
