@@ -1,16 +1,20 @@
 -- Laws of lists of items in the order of their keys.
-use Rattle.std.proofs.Common.{◌≡◌, ℕ, zero, suc, ◌+◌, ◌<◌, ◌≤◌, Bool, true, false, cond, List, [], ◌∷◌, ◌++◌, length, get_or, set, take, drop, Option, Some, None, refl, sym, ap, ◌∙◌, subst, arith, not, Ordering, Result, Ok, Err}
+use Rattle.std.proofs.Common.{append-nil, ◌≡◌, ℕ, zero, suc, ◌+◌, ◌<◌, ◌≤◌, Bool, true, false, cond, List, [], ◌∷◌, ◌++◌, length, get_or, set, take, drop, Option, Some, None, refl, sym, ap, ◌∙◌, subst, arith, not, Ordering, Result, Ok, Err}
 use Rattle.std.specs.declared.cmp.Ordering.TheVariants.{Less, Equal, Greater}
 use Rattle.std.specs.Ordering.{nat_cmp, match_ordering, is_eq, ordering_reverse, ordering_index}
 use Rattle.std.specs.Cmp.Lexicographic.{slice_cmp}
 use Rattle.std.specs.Str.{bytes_eq}
-use Rattle.std.specs.List.{filter, AllByRecursion, HoldsAt}
+use Rattle.std.specs.List.{filter, filter_map, cons_option, fold, AllByRecursion, HoldsAt}
 use Rattle.std.specs.List.Sorted.{IsNonDecreasingBy, IsBinarySearchResult, IsSearchInRange}
 use Rattle.std.specs.FinMap.{slice_cmp-IsAntisymmetric, nat_cmp-IsAntisymmetric}
 use Rattle.std.proofs.lemmas.Cmp.{nat_list_cmp_total, tied_itself}
 use Rattle.std.proofs.lemmas.Map.Text.{is_eq-slice_cmp}
 use Rattle.std.proofs.lemmas.Slice.Eq.{bytes_eq-Decides}
-use Rattle.rv_base.specs.Sorted.{find_by, without, put_by, InOrder, Settles}
+use Rattle.std.specs.Option.{option_map_or}
+use Rattle.std.proofs.lemmas.List.{take_more}
+use Rattle.std.proofs.lemmas.List.Elements.{filter_map-append}
+use Rattle.std.proofs.lemmas.List.Sums.{fold_push}
+use Rattle.rv_base.specs.Sorted.{find_by, without, put_by, InOrder, Settles, sorted_by}
 
 -- two keys, one below the other
 abbrev pub Below : List ℕ → List ℕ → Type 0
@@ -228,3 +232,30 @@ module _ {X : Type 0} (key : X → List ℕ) where
         | true ↦ λ e. find_without q k xs ∙ gone (bytes_eq k q) (bytes_eq q (key x)) x (find_by key q xs) (λ h. subst (λ (t : List ℕ). bytes_eq k t ≡ true) (sym ((bytes_eq-Decides q (key x)).0 h)) e)
         | false ↦ λ e. ap (cond (bytes_eq q (key x)) (Some x)) (find_without q k xs) ∙ kept (bytes_eq k q) (bytes_eq q (key x)) x (find_by key q xs) (λ h. subst (λ (t : List ℕ). bytes_eq k t ≡ false) (sym ((bytes_eq-Decides q (key x)).0 h)) e)
       ] refl
+
+-- the items in order after one more
+module _ {X : Type 0} (key : X → List ℕ) where
+  one_more : (o : Option X) (ys : List X) → sorted_by key (ys ++ cons_option o []) ≡ option_map_or (λ y. put_by key y (sorted_by key ys)) o (sorted_by key ys)
+  one_more None ys = ap (sorted_by key) (append-nil ys)
+  one_more (Some y) ys = fold_push _ _ ys y
+
+  pub sorted_more : {A : Type 0} (h : A → Option X) (xs : List A) (i : ℕ) (x : A) → i < length xs → x ≡ get_or xs i x
+      → sorted_by key (filter_map h (take (i + 1) xs)) ≡ option_map_or (λ y. put_by key y (sorted_by key (filter_map h (take i xs)))) (h x) (sorted_by key (filter_map h (take i xs)))
+  sorted_more h xs i x lt is =
+      ap (λ t. sorted_by key (filter_map h t)) (take_more xs i x lt ∙ ap (λ y. take i xs ++ y ∷ []) (sym is)) ∙ ap (sorted_by key) (filter_map-append h (take i xs) (x ∷ [])) ∙ one_more (h x) (filter_map h (take i xs))
+
+  pub in_order-sorted : (xs : List X) → InOrder key (sorted_by key xs)
+  in_order-sorted xs = each xs [] tt
+    where
+      each : (ys sorted : List X) → InOrder key sorted → InOrder key (fold (λ s x. put_by key x s) sorted ys)
+      each [] sorted h = h
+      each (y ∷ ys) sorted h = each ys (put_by key y sorted) (in_order-put key y sorted h)
+
+  above_filter : (p : X → Bool) (k : List ℕ) (xs : List X) → Above key k xs → Above key k (filter p xs)
+  above_filter p k [] h = tt
+  above_filter p k (x ∷ xs) h = elim (p x) as (λ b. Above key k (cond b (x ∷ filter p xs) (filter p xs))) [ true ↦ (h.0, above_filter p k xs h.1) | false ↦ above_filter p k xs h.1 ]
+
+  pub in_order-filter : (p : X → Bool) (xs : List X) → InOrder key xs → InOrder key (filter p xs)
+  in_order-filter p [] h = tt
+  in_order-filter p (x ∷ xs) h =
+      elim (p x) as (λ b. InOrder key (cond b (x ∷ filter p xs) (filter p xs))) [ true ↦ (above_filter p (key x) xs h.0, in_order-filter p xs h.1) | false ↦ in_order-filter p xs h.1 ]

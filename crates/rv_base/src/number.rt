@@ -40,6 +40,14 @@ impl Num {
         Ok(Num { number })
     }
 
+    /// The number, which is not above the greatest.
+    pub fn from_u64(number: u64) -> Num
+        requires { number < 2 ^ 53 }
+        ensures { result ≡ number }
+    {
+        Num { number }
+    }
+
     /// The number itself.
     pub fn get(self) -> u64
         ensures value { result ≡ self }

@@ -1,0 +1,6 @@
+pub mod Book
+pub mod Replay
+pub mod Lawful
+pub mod Patches
+pub mod Machine
+pub mod Served

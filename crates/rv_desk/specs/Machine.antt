@@ -1,0 +1,75 @@
+-- The machine: what a mutation, a pull and a push may be answered at a book, and which book is left.
+use Rattle.std.specs.Prelude.{◌≡◌, ℕ, ◌+◌, ◌-◌, ◌^◌, ◌<◌, ◌≤◌, max, List, [], ◌∷◌, ◌++◌, length, false, Option, Some, None, MatchOption, decimal}
+use Rattle.serde_json.specs.Written.{compact_text}
+use Rattle.rv_rows.specs.declared.call.Call.{Call}
+use Rattle.rv_wire.specs.Answers.{pull_data}
+use Rattle.rv_wire.specs.declared.cookie.Cookie.{Cookie}
+use Rattle.rv_wire.specs.declared.cookie.Cookie.TheVariants.{Null, Bare, Named}
+use Rattle.rv_wire.specs.declared.error_body.Which.TheVariants as which
+use Rattle.rv_wire.specs.declared.error_body.ErrorBody.{ErrorBody}
+use Rattle.rv_wire.specs.declared.error_body.ErrorBody.TheVariants as errors
+use Rattle.rv_wire.specs.declared.push.Mutation.{Mutation}
+use Rattle.rv_wire.specs.declared.pull.PullRequest.{PullRequest}
+use Rattle.rv_desk.specs.declared.entry.Entry.{Entry}
+use Rattle.rv_desk.specs.declared.entry.Entry.TheVariants.{Act, Look}
+use Rattle.rv_desk.specs.declared.turn.Turn.{Turn}
+use Rattle.rv_desk.specs.declared.turn.Turn.TheVariants.{Acted, Skipped, Future, Limit, Memory}
+use Rattle.rv_desk.specs.declared.turn.PullReply.{PullReply}
+use Rattle.rv_desk.specs.declared.turn.PullAnswer.{PullAnswer}
+use Rattle.rv_desk.specs.declared.turn.PullAnswer.TheVariants as pulls
+use Rattle.rv_desk.specs.Book.{Book, last, last_order, ids}
+use Rattle.rv_desk.specs.Patches.{patch}
+
+-- who sends what
+pub record Sender : Type 0 where
+  pub user : List ℕ
+  pub group : List ℕ
+
+-- The next mutation of a client is run: it becomes one entry, at the book's end. One that is not above the last is
+-- skipped, and one above the last + 1 is from the future; both change nothing. A full book takes no entry. Memory may be
+-- refused only where the mutation would have been run, and then nothing changes.
+abbrev pub Mutates : ℕ → Sender → Mutation → Book → Turn → Book → Type 0
+Mutates limit from m book (Acted place) new = (m.id ≡ last m.client book + 1) × (length book < limit) × (place ≡ length book + 1) × (new ≡ book ++ Act from.user from.group m.client m.id m.call ∷ [])
+Mutates limit from m book (Skipped number) new = (m.id ≤ last m.client book) × (number ≡ last m.client book) × (new ≡ book)
+Mutates limit from m book (Future expected got) new = (last m.client book + 1 < m.id) × (expected ≡ last m.client book + 1) × (got ≡ m.id) × (new ≡ book)
+Mutates limit from m book (Limit what at) new = (m.id ≡ last m.client book + 1) × (length book ≡ limit) × (what ≡ which.Book) × (at ≡ limit) × (new ≡ book)
+Mutates limit from m book Memory new = (m.id ≡ last m.client book + 1) × (length book < limit) × (new ≡ book)
+
+abbrev pub cookie_order : Cookie → ℕ
+cookie_order Null = 0
+cookie_order (Bare order) = order
+cookie_order (Named place order) = order
+
+-- the order of the next cookie: above the request's and above the group's last
+abbrev pub next_order : PullRequest → Book → ℕ
+next_order request book = max (cookie_order request.cookie) (last_order request.group book) + 1
+
+-- The reply to a pull, which is entered at the next place: the cookie has that place and the next order, the patch shows
+-- what the user sees, and the ids are those of the group's clients, all of one book.
+abbrev pub reply_to : List ℕ → PullRequest → Book → PullReply
+reply_to user request book =
+    let cookie = Named (decimal (length book + 1)) (next_order request book) in
+    let ids = ids request.group book in
+    let ops = patch user book in
+    record { cookie = cookie; same = false; ids = ids; ops = ops; text = compact_text (pull_data cookie ids ops) }
+
+abbrev pub Pulls : ℕ → List ℕ → PullRequest → Book → PullAnswer → Book → Type 0
+Pulls limit user request book (pulls.Pulled reply) new = (next_order request book < 2 ^ 53) × (length book < limit) × (reply ≡ reply_to user request book) × (new ≡ book ++ Look user request.group (next_order request book) None ∷ [])
+Pulls limit user request book (pulls.Limit which.Order at) new = (2 ^ 53 ≤ next_order request book) × (at ≡ 2 ^ 53 - 1) × (new ≡ book)
+Pulls limit user request book (pulls.Limit which.Book at) new = (next_order request book < 2 ^ 53) × (length book ≡ limit) × (at ≡ limit) × (new ≡ book)
+Pulls limit user request book pulls.Memory new = (next_order request book < 2 ^ 53) × (length book < limit) × (new ≡ book)
+
+-- the refusal that ends a push, if the turn does
+abbrev pub refusal : Turn → Option ErrorBody
+refusal (Acted place) = None
+refusal (Skipped number) = None
+refusal (Future expected got) = Some (errors.Future expected got)
+refusal (Limit what at) = Some (errors.Limit what at)
+refusal Memory = Some errors.Memory
+
+-- A push takes its mutations in order, one turn each, up to the first refusal, which is its answer.
+abbrev pub Pushes : ℕ → Sender → List Mutation → Book → Option ErrorBody → Book → Type 0
+Pushes limit from [] book answer new = (answer ≡ None) × (new ≡ book)
+Pushes limit from (m ∷ ms) book answer new =
+    (turn : Turn) × (mid : Book) × Mutates limit from m book turn mid
+    × MatchOption (refusal turn) (Pushes limit from ms mid answer new) (λ refused. (answer ≡ Some refused) × (new ≡ mid))

@@ -1,0 +1,40 @@
+-- What a user sees at a book, the patch that shows it, and a patch applied to a client's view.
+use Rattle.std.specs.Prelude.{ℕ, List, [], ◌∷◌, map, fold}
+use Rattle.serde_json.specs.Data.{Data}
+use Rattle.rv_base.specs.Sorted.{put_by}
+use Rattle.rv_rows.specs.declared.row.Row.{Row}
+use Rattle.rv_rows.specs.Keys.{row_text}
+use Rattle.rv_rows.specs.RowTexts.{row_data}
+use Rattle.rv_rows.specs.Sharing.{seen}
+use Rattle.rv_wire.specs.declared.op.Op.{Op}
+use Rattle.rv_wire.specs.declared.op.Op.TheVariants.{Clear, Put}
+use Rattle.rv_desk.specs.Book.{Book}
+use Rattle.rv_desk.specs.Replay.{rows_of}
+
+-- a key and a JSON value
+abbrev pub Shown : Type 0
+Shown = List ℕ × Data
+
+abbrev pub shown : Row → Shown
+shown row = (row_text row, row_data row)
+
+-- a client's view is a map from key to value, as a list in the order of the keys
+abbrev pub View : Type 0
+View = List Shown
+
+-- what the user sees at the book
+abbrev pub sees : List ℕ → Book → View
+sees user book = map shown (seen user (rows_of book))
+
+-- the patch without a base: everything goes, and all that the user sees is put, in key order
+abbrev pub patch : List ℕ → Book → List Op
+patch user book = Clear ∷ map (λ row. Put row) (seen user (rows_of book))
+
+-- the view after one operation
+abbrev pub applied : View → Op → View
+applied view Clear = []
+applied view (Put row) = put_by (λ item. item.0) (shown row) view
+
+-- the view after a patch, its operations done in order
+abbrev pub apply : List Op → View → View
+apply ops view = fold applied view ops

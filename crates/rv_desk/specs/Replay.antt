@@ -1,0 +1,35 @@
+-- The rows of a book: its acts replayed, one after another.
+use Rattle.std.specs.Prelude.{◌≡◌, ℕ, ◌-◌, ◌<◌, ◌≤◌, List, [], IsSome, fold, length, map, take}
+use Rattle.std.specs.List.{AllByRecursion}
+use Rattle.rv_rows.specs.declared.row.Row.{Row}
+use Rattle.rv_rows.specs.Effects.{effect}
+use Rattle.rv_rows.specs.Keys.{row_text, row_at, in_key_order}
+use Rattle.rv_rows.specs.Held.{Stored}
+use Rattle.rv_desk.specs.declared.entry.Entry.{Entry}
+use Rattle.rv_desk.specs.declared.entry.Entry.TheVariants.{Act, Look}
+use Rattle.rv_desk.specs.Book.{Book}
+
+-- the rows after one more entry
+abbrev pub rows_after : List Row → Entry → List Row
+rows_after rows (Act user group client id call) = effect rows user call
+rows_after rows (Look user group order base) = rows
+
+abbrev pub rows_of : Book → List Row
+rows_of book = fold rows_after [] book
+
+-- The entry at the place wrote the key: the row stands after it, and was absent or another before it.
+pub record Wrote (book : Book) (key : List ℕ) (place : ℕ) : Type 0 where
+  pub first : 1 ≤ place
+  pub within : place ≤ length book
+  pub stands : IsSome (row_at key (rows_of (take place book)))
+  pub differs : ¬ (row_at key (rows_of (take place book)) ≡ row_at key (rows_of (take (place - 1) book)))
+
+-- the place is the greatest that wrote the key
+pub record IsLastWrite (book : Book) (key : List ℕ) (place : ℕ) : Type 0 where
+  pub wrote : Wrote book key place
+  pub last : (later : ℕ) → place < later → ¬ Wrote book key later
+
+-- the stored rows are the book's, in key order, each with the place of its last write
+pub record IsReplay (book : Book) (stored : List Stored) : Type 0 where
+  pub rows : map (λ s. s.0) stored ≡ in_key_order (rows_of book)
+  pub versions : AllByRecursion (λ s. IsLastWrite book (row_text s.0) s.1) stored

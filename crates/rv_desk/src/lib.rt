@@ -1,0 +1,18 @@
+//! The server in memory: a book of entries, and the tables that are its replay.
+//!
+//! Each call is one step of the machine that `specs/` defines over plain lists (`Machine.antt`): the book alone says
+//! what a call is answered. [`plain`] computes those definitions slowly, apart from the desk.
+#![tactic(auto)]
+
+
+mod entry;
+mod reply;
+pub mod plain;
+mod turn;
+
+
+pub use entry::Entry;
+pub use turn::{PullAnswer, PullReply, Turn};
+
+#[cfg(test)]
+mod tests;

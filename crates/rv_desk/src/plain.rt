@@ -1,0 +1,7 @@
+//! The definitions on books, computed as they stand: slow, apart from the desk, and what the tests compare
+//! it with. A book is walked, and replayed from its first entry, each time.
+mod book;
+mod server;
+
+pub use book::{group_of, ids, last, last_order, rows_of};
+pub use server::{PlainDesk, patch};
