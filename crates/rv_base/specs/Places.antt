@@ -1,10 +1,11 @@
 -- Laws of lists of items in the order of their keys.
-use Rattle.std.proofs.Common.{append-nil, ◌≡◌, ℕ, zero, suc, ◌+◌, ◌<◌, ◌≤◌, Bool, true, false, cond, List, [], ◌∷◌, ◌++◌, length, get_or, set, take, drop, Option, Some, None, refl, sym, ap, ◌∙◌, subst, arith, not, Ordering, Result, Ok, Err}
+use Rattle.std.proofs.Common.{append-nil, ◌||◌, map, ◌≡◌, ℕ, zero, suc, ◌+◌, ◌<◌, ◌≤◌, Bool, true, false, cond, List, [], ◌∷◌, ◌++◌, length, get_or, set, take, drop, Option, Some, None, refl, sym, ap, ◌∙◌, subst, arith, not, Ordering, Result, Ok, Err}
 use Rattle.std.specs.declared.cmp.Ordering.TheVariants.{Less, Equal, Greater}
 use Rattle.std.specs.Ordering.{nat_cmp, match_ordering, is_eq, ordering_reverse, ordering_index}
 use Rattle.std.specs.Cmp.Lexicographic.{slice_cmp}
 use Rattle.std.specs.Str.{bytes_eq}
-use Rattle.std.specs.List.{filter, filter_map, cons_option, fold, AllByRecursion, HoldsAt}
+use Rattle.std.specs.List.{filter, filter_map, cons_option, fold, list_any, AllByRecursion, HoldsAt}
+use Rattle.std.specs.Option.{is_some}
 use Rattle.std.specs.List.Sorted.{IsNonDecreasingBy, IsBinarySearchResult, IsSearchInRange}
 use Rattle.std.specs.FinMap.{slice_cmp-IsAntisymmetric, nat_cmp-IsAntisymmetric}
 use Rattle.std.proofs.lemmas.Cmp.{nat_list_cmp_total, tied_itself}
@@ -259,3 +260,83 @@ module _ {X : Type 0} (key : X → List ℕ) where
   in_order-filter p [] h = tt
   in_order-filter p (x ∷ xs) h =
       elim (p x) as (λ b. InOrder key (cond b (x ∷ filter p xs) (filter p xs))) [ true ↦ (above_filter p (key x) xs h.0, in_order-filter p xs h.1) | false ↦ in_order-filter p xs h.1 ]
+
+pub not_same : (a b : List ℕ) → bytes_eq a b ≡ false → bytes_eq b a ≡ false
+not_same a b h =
+    elim (bytes_eq b a) as (λ t. bytes_eq b a ≡ t → t ≡ false) [
+      | true ↦ λ e. absurd (let p : b ≡ a = (bytes_eq-Decides b a).0 e in let same : bytes_eq a b ≡ true = subst (λ (t : List ℕ). bytes_eq a t ≡ true) (sym p) (equals a) in let both : true ≡ false = sym same ∙ h in cc)
+      | false ↦ λ e. refl
+    ] refl
+
+-- an item with the key is there exactly where one is found
+module _ {X : Type 0} (key : X → List ℕ) where
+  pub found-any : (k : List ℕ) (xs : List X) → is_some (find_by key k xs) ≡ list_any (λ x. bytes_eq k (key x)) xs
+  found-any k [] = refl
+  found-any k (x ∷ xs) = elim (bytes_eq k (key x)) as (λ b. is_some (cond b (Some x) (find_by key k xs)) ≡ (b || list_any (λ x. bytes_eq k (key x)) xs)) [ true ↦ refl | false ↦ found-any k xs ]
+
+  either : (b c : Bool) (x : X) (o : Option X) → (c || is_some (cond b (Some x) o)) ≡ ((b || c) || is_some o)
+  either true true x o = refl
+  either true false x o = refl
+  either false c x o = refl
+
+  found_after : (k : List ℕ) (xs sorted : List X) → is_some (find_by key k (fold (λ s x. put_by key x s) sorted xs)) ≡ (list_any (λ x. bytes_eq k (key x)) xs || is_some (find_by key k sorted))
+  found_after k [] sorted = refl
+  found_after k (x ∷ xs) sorted =
+      found_after k xs (put_by key x sorted) ∙ ap (λ (o : Option X). list_any (λ x. bytes_eq k (key x)) xs || is_some o) (find_put key k x sorted) ∙ either (bytes_eq k (key x)) (list_any (λ x. bytes_eq k (key x)) xs) x (find_by key k sorted)
+
+  or_false : (b : Bool) → (b || false) ≡ b
+  or_false true = refl
+  or_false false = refl
+
+  pub found-sorted : (k : List ℕ) (xs : List X) → is_some (find_by key k (sorted_by key xs)) ≡ list_any (λ x. bytes_eq k (key x)) xs
+  found-sorted k xs = found_after k xs [] ∙ or_false _
+
+  pub none_found : (k : List ℕ) (xs : List X) → is_some (find_by key k xs) ≡ false → find_by key k xs ≡ None
+  none_found k xs h = elim (find_by key k xs) as (λ o. is_some o ≡ false → o ≡ None) [ None ↦ λ e. refl | Some x ↦ λ e. absurd (cc) ] h
+
+  -- one more item at the end
+  pub find-push_other : (k : List ℕ) (x : X) (xs : List X) → bytes_eq k (key x) ≡ false → find_by key k (xs ++ x ∷ []) ≡ find_by key k xs
+  find-push_other k x [] h = rw h refl
+  find-push_other k x (y ∷ ys) h = ap (λ (o : Option X). cond (bytes_eq k (key y)) (Some y) o) (find-push_other k x ys h)
+
+  pub find-push_new : (x : X) (xs : List X) → find_by key (key x) xs ≡ None → find_by key (key x) (xs ++ x ∷ []) ≡ Some x
+  find-push_new x [] h = rw (equals (key x)) refl
+  find-push_new x (y ∷ ys) h =
+      elim (bytes_eq (key x) (key y)) as (λ b. cond b (Some y) (find_by key (key x) ys) ≡ None → cond b (Some y) (find_by key (key x) (ys ++ x ∷ [])) ≡ Some x) [
+        | true ↦ λ e. absurd (cc)
+        | false ↦ λ e. find-push_new x ys e
+      ] h
+
+  -- no item has a key that is not found
+  pub others : (k : List ℕ) (xs : List X) → find_by key k xs ≡ None → AllByRecursion (λ x. bytes_eq k (key x) ≡ false) xs
+  others k [] h = tt
+  others k (x ∷ xs) h =
+      elim (bytes_eq k (key x)) as (λ b. bytes_eq k (key x) ≡ b → cond b (Some x) (find_by key k xs) ≡ None → AllByRecursion (λ x. bytes_eq k (key x) ≡ false) (x ∷ xs)) [
+        | true ↦ λ e f. absurd (cc)
+        | false ↦ λ e f. (e, others k xs f)
+      ] refl h
+
+  -- what holds of each item and of a new one holds of each after it is put
+  pub all-put : (P : X → Type 0) (x : X) (xs : List X) → P x → AllByRecursion P xs → AllByRecursion P (put_by key x xs)
+  all-put P x [] p all = (p, tt)
+  all-put P x (y ∷ ys) p all =
+      elim (slice_cmp nat_cmp (key x) (key y)) as (λ o. AllByRecursion P (match_ordering o (x ∷ y ∷ ys) (x ∷ ys) (y ∷ put_by key x ys))) [
+        | Less ↦ (p, all)
+        | Equal ↦ (p, all.1)
+        | Greater ↦ (all.0, all-put P x ys p all.1)
+      ]
+
+-- items that are seen through a function with the same keys
+module _ {X Y : Type 0} (key : X → List ℕ) (view : Y → X) where
+  pub map-put : (y : Y) (ys : List Y) → map view (put_by (λ y. key (view y)) y ys) ≡ put_by key (view y) (map view ys)
+  map-put y [] = refl
+  map-put y (z ∷ zs) =
+      elim (slice_cmp nat_cmp (key (view y)) (key (view z))) as (λ o. map view (match_ordering o (y ∷ z ∷ zs) (y ∷ zs) (z ∷ put_by (λ y. key (view y)) y zs)) ≡ match_ordering o (view y ∷ view z ∷ map view zs) (view y ∷ map view zs) (view z ∷ put_by key (view y) (map view zs))) [
+        | Less ↦ refl
+        | Equal ↦ refl
+        | Greater ↦ ap (λ (t : List X). view z ∷ t) (map-put y zs)
+      ]
+
+  pub found-map : (k : List ℕ) (ys : List Y) → is_some (find_by (λ y. key (view y)) k ys) ≡ is_some (find_by key k (map view ys))
+  found-map k [] = refl
+  found-map k (y ∷ ys) = elim (bytes_eq k (key (view y))) as (λ b. is_some (cond b (Some y) (find_by (λ y. key (view y)) k ys)) ≡ is_some (cond b (Some (view y)) (find_by key k (map view ys)))) [ true ↦ refl | false ↦ found-map k ys ]

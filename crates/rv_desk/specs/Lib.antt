@@ -4,3 +4,4 @@ pub mod Lawful
 pub mod Patches
 pub mod Machine
 pub mod Served
+pub mod Stage

@@ -5,12 +5,14 @@
 #![tactic(auto)]
 
 
+mod desk;
 mod entry;
 mod reply;
 pub mod plain;
 mod turn;
 
 
+pub use desk::Desk;
 pub use entry::Entry;
 pub use turn::{PullAnswer, PullReply, Turn};
 

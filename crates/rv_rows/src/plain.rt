@@ -3,7 +3,7 @@
 ghost use Rattle.std.specs.Prelude.{◌≡◌, IfOk, OnOk};
 ghost use Rattle.rv_base.specs.Sorted.{InOrder, put_by, Settles};
 ghost use Rattle.rv_rows.specs.Keys.{key_text, row_text, has_row, in_key_order};
-ghost use Rattle.rv_rows.specs.Sharing.{may, is_own_list, is_seen, seen};
+ghost use Rattle.rv_rows.specs.Sharing.{may, seen};
 ghost use Rattle.rv_rows.specs.Effects.{effect};
 
 use crate::call::Call;
@@ -19,26 +19,12 @@ pub fn has_row(rows: &[Row], kind: Kind, id: &Id) -> bool
     rows.iter().any(|row| row.kind() == kind && row.id() == id)
 }
 
-/// Whether the user may see the list.
-pub fn may(rows: &[Row], user: &User, list: &Id) -> bool
-    ensures { result ≡ may user.now list.now rows.now }
-{
-    rows.iter().any(|row| is_own_list(row, user, list))
-}
-
-fn is_own_list(row: &Row, user: &User, list: &Id) -> bool
-    ensures { result ≡ is_own_list user.now list.now row.now }
+/// Whether the user may see the row: a list that the user owns.
+pub fn may(user: &User, row: &Row) -> bool
+    ensures { result ≡ may user.now row.now }
 {
     match row {
-        Row::List(row) => row.id == *list && row.owner == *user,
-    }
-}
-
-fn is_seen(rows: &[Row], user: &User, row: &Row) -> bool
-    ensures { result ≡ is_seen user.now rows.now row.now }
-{
-    match row {
-        Row::List(row) => may(rows, user, &row.id),
+        Row::List(list) => list.owner == *user,
     }
 }
 
@@ -112,7 +98,7 @@ pub fn seen(alloc: Global, rows: &[Row], user: &User) -> Result<Vec<Row>, Memory
     let sorted = in_key_order(alloc, rows)?;
     let mut seen = Vec::new(alloc);
     for row in &sorted {
-        if is_seen(rows, user, row) {
+        if may(user, row) {
             seen.push(row.copy(alloc)?)?;
         }
     }

@@ -112,13 +112,7 @@ impl PlainDesk {
         ensures err { OnErr result (self.new.book ≡ self.old.book) }
         ensures limit { self.new.limit ≡ self.old.limit }
     {
-        let entry = Entry::Act {
-            user: user.copy(self.alloc)?,
-            group: group.copy(self.alloc)?,
-            client: client.copy(self.alloc)?,
-            id,
-            call,
-        };
+        let entry = Entry::act(self.alloc, user, group, client, id, call)?;
         self.entries.push(entry)?;
         Ok(())
     }
@@ -153,12 +147,7 @@ impl PlainDesk {
         let ops = patch(self.alloc, &self.entries, user)?;
         let place = self.entries.len() as u32 + 1;
         let reply = reply(self.alloc, place, order, ids, ops)?;
-        let entry = Entry::Look {
-            user: user.copy(self.alloc)?,
-            group: request.group.copy(self.alloc)?,
-            order,
-            base: None,
-        };
+        let entry = Entry::look(self.alloc, user, &request.group, order)?;
         self.entries.push(entry)?;
         Ok(reply)
     }
