@@ -1,0 +1,6 @@
+pub mod Buffers
+pub mod LineLaws
+pub mod Json
+pub mod Mutations
+pub mod Runs
+pub mod Going

@@ -1,0 +1,34 @@
+-- Mutations that are run one after another, and bodies that are answered.
+use Rattle.std.proofs.Common.{◌≡◌, ℕ, List, [], ◌∷◌, Option, Some, None, Ok, refl, subst, inr}
+use Rattle.std.specs.Option.{MatchOption}
+use Rattle.rv_wire.specs.declared.error_body.ErrorBody.{ErrorBody}
+use Rattle.rv_wire.specs.declared.push.Mutation.{Mutation}
+use Rattle.serde_json.specs.Data.{Data}
+use Rattle.rv_wire.specs.Bodies.{push_in, pull_in}
+use Rattle.rv_wire.specs.declared.push.Push as wire
+use Rattle.rv_wire.specs.declared.pull.PullRequest.{PullRequest}
+use Rattle.rv_desk.specs.Book.{Book}
+use Rattle.rv_desk.specs.Machine.{Sender, Mutates, refusal, Pushes}
+use Rattle.rv_cli.specs.Steps.{RunsMutation, Answers, Step}
+use Rattle.rv_cli.specs.Requests.{serves, asked}
+use Rattle.rv_cli.specs.declared.answer.Answer.{Answer}
+use Rattle.rv_cli.specs.declared.request.Request.TheVariants.{Push, Pull}
+use Rattle.rv_cli.specs.declared.serving.Verb.{Verb}
+use Rattle.rv_cli.specs.declared.serving.Verb.TheVariants as verbs
+
+-- the next one isn't refused
+pub push_goes : (limit : ℕ) (from : Sender) (m : Mutation) (ms : List Mutation) (book mid new : Book) (answer : Option ErrorBody) → RunsMutation limit from m book None mid → Pushes limit from ms mid answer new → Pushes limit from (m ∷ ms) book answer new
+push_goes limit from m ms book mid new answer (turn, step, is) goes =
+    (turn, mid, step, subst (λ (r : Option ErrorBody). MatchOption r (Pushes limit from ms mid answer new) (λ refused. (answer ≡ Some refused) × (new ≡ mid))) is goes)
+
+-- the next one is
+pub push_stops : (limit : ℕ) (from : Sender) (m : Mutation) (ms : List Mutation) (book new : Book) (refused : ErrorBody) → RunsMutation limit from m book (Some refused) new → Pushes limit from (m ∷ ms) book (Some refused) new
+push_stops limit from m ms book new refused (turn, step, is) =
+    (turn, new, step, subst (λ (r : Option ErrorBody). MatchOption r (Pushes limit from ms new (Some refused) new) (λ other. (Some refused ≡ Some other) × (new ≡ new))) is (refl, refl))
+
+-- a body that is read is answered
+pub push_step : (limit : ℕ) (book new : Book) (verb : Verb) (user : List ℕ) (body : Data) (push : wire.Push) (answer : Answer) → verb ≡ verbs.Push → push_in serves body ≡ Ok push → Answers limit book (Push user push) answer new → Step limit book (asked verb user body) answer new
+push_step limit book new verb user body push answer e f a = inr (Push user push, rw (e, f) refl, a)
+
+pub pull_step : (limit : ℕ) (book new : Book) (verb : Verb) (user : List ℕ) (body : Data) (pull : PullRequest) (answer : Answer) → verb ≡ verbs.Pull → pull_in serves body ≡ Ok pull → Answers limit book (Pull user pull) answer new → Step limit book (asked verb user body) answer new
+pull_step limit book new verb user body pull answer e f a = inr (Pull user pull, rw (e, f) refl, a)

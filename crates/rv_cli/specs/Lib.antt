@@ -1,0 +1,10 @@
+pub mod Lines
+pub mod Found
+pub mod Reading
+pub mod Requests
+pub mod Steps
+pub mod Texts
+pub mod Words
+pub mod Turn
+pub mod Feed
+pub mod Run

@@ -1,0 +1,13 @@
+use rv_desk::PullReply;
+use rv_wire::ErrorBody;
+
+/// What a request is answered.
+#[derive(Debug, Drop)]
+pub enum Answer {
+    /// Each mutation of a push was run, or had been before.
+    Pushed,
+    /// A pull has its reply.
+    Pulled(PullReply),
+    /// The request was refused.
+    Refused(ErrorBody),
+}

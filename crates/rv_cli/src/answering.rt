@@ -1,0 +1,123 @@
+// What is asked, answered by the desk.
+ghost use Rattle.std.specs.Prelude.{◌≡◌, Some, None};
+ghost use Rattle.serde_json.specs.View.{view};
+ghost use Rattle.std.specs.Result.{result_err};
+ghost use Rattle.rv_desk.specs.Machine.{Pushes};
+ghost use Rattle.rv_wire.specs.Bodies.{is_served};
+ghost use Rattle.rv_cli.specs.declared.request.Request.TheVariants as requests;
+ghost use Rattle.rv_cli.specs.Requests.{serves, asked};
+ghost use Rattle.rv_cli.specs.Steps.{RunsMutation, Answers};
+ghost use Rattle.rv_cli.specs.Turn.{AnswersAsked, AnswersText};
+
+use crate::answer::Answer;
+use crate::serving::{Asking, Verb, asking_of, read_json};
+use rv_base::{Id, Memory, User};
+use rv_desk::{Desk, PullAnswer, Turn};
+use rv_wire::{ErrorBody, Mutation, PullRequest, Push, Schemas, WireFault, pull_of_value, push_of_value};
+use std::alloc::Global;
+
+// Runs mutations in order, up to the first refusal.
+fn run_mutations(
+    desk: &mut Desk,
+    user: &User,
+    group: &Id,
+    mutations: Vec<Mutation>,
+) -> Result<(), ErrorBody>
+    ensures answer { Pushes desk.old.limit (record { user = user.now; group = group.now }) mutations.items desk.old.book (result_err result) desk.new.book }
+    ensures limit { desk.new.limit ≡ desk.old.limit }
+{
+    for mutation in mutations {
+        match run_mutation(desk, user, group, mutation) {
+            Ok(()) => {}
+            Err(refusal) => return Err(refusal),
+        }
+    }
+    Ok(())
+}
+
+// Runs one mutation. That it was run or skipped is no refusal.
+fn run_mutation(
+    desk: &mut Desk,
+    user: &User,
+    group: &Id,
+    mutation: Mutation,
+) -> Result<(), ErrorBody>
+    ensures answer { RunsMutation desk.old.limit (record { user = user.now; group = group.now }) mutation desk.old.book (result_err result) desk.new.book }
+    ensures limit { desk.new.limit ≡ desk.old.limit }
+{
+    let Mutation { client, id, call } = mutation;
+    match desk.mutate(user, group, &client, id, call) {
+        Turn::Acted(_) => Ok(()),
+        Turn::Skipped(_) => Ok(()),
+        Turn::Future { expected, got } => Err(ErrorBody::Future { expected, got }),
+        Turn::Limit(which, at) => Err(ErrorBody::Limit(which, at)),
+        Turn::Memory => Err(ErrorBody::Memory),
+    }
+}
+
+fn answer_push(desk: &mut Desk, user: &User, push: Push) -> Answer
+    ensures answer { Answers desk.old.limit desk.old.book (requests.Push user.now push) result desk.new.book }
+    ensures limit { desk.new.limit ≡ desk.old.limit }
+{
+    let Push { group, mutations } = push;
+    match run_mutations(desk, user, &group, mutations.into_vec()) {
+        Ok(()) => Answer::Pushed,
+        Err(refusal) => Answer::Refused(refusal),
+    }
+}
+
+fn answer_pull(desk: &mut Desk, user: &User, pull: &PullRequest) -> Answer
+    ensures answer { Answers desk.old.limit desk.old.book (requests.Pull user.now pull.now) result desk.new.book }
+    ensures limit { desk.new.limit ≡ desk.old.limit }
+{
+    match desk.pull(user, pull) {
+        PullAnswer::Pulled(reply) => Answer::Pulled(reply),
+        PullAnswer::Limit(which, at) => Answer::Refused(ErrorBody::Limit(which, at)),
+        PullAnswer::Memory => Answer::Refused(ErrorBody::Memory),
+    }
+}
+
+// Reads the body, and answers it where it is one.
+fn answer_asking(
+    alloc: Global,
+    desk: &mut Desk,
+    schemas: &Schemas,
+    asking: &Asking<'_>,
+) -> Option<Answer>
+    requires { is_served schemas.now ≡ serves }
+    ensures answer { AnswersAsked desk.old.limit desk.old.book (asked asking.now.verb asking.now.user (view asking.now.body.now)) desk.new.book result }
+    ensures limit { desk.new.limit ≡ desk.old.limit }
+{
+    match asking.verb {
+        Verb::Push => match push_of_value(alloc, asking.body, schemas) {
+            Ok(push) => Some(answer_push(desk, &asking.user, push)),
+            Err(WireFault::NotServed) => None,
+            Err(WireFault::Memory) => Some(Answer::Refused(ErrorBody::Memory)),
+        },
+        Verb::Pull => match pull_of_value(alloc, asking.body, schemas) {
+            Ok(pull) => Some(answer_pull(desk, &asking.user, &pull)),
+            Err(WireFault::NotServed) => None,
+            Err(WireFault::Memory) => Some(Answer::Refused(ErrorBody::Memory)),
+        },
+    }
+}
+
+/// The answer to a line, where it is of the form.
+pub fn answer_text(
+    alloc: Global,
+    desk: &mut Desk,
+    schemas: &Schemas,
+    line: &[u8],
+) -> Result<Option<Answer>, Memory>
+    requires { is_served schemas.now ≡ serves }
+    ensures answer { AnswersText desk.old.limit desk.old.book line.now desk.new.book result }
+    ensures limit { desk.new.limit ≡ desk.old.limit }
+{
+    let Some(value) = read_json(alloc, line)? else {
+        return Ok(None);
+    };
+    let Some(asking) = asking_of(alloc, &value)? else {
+        return Ok(None);
+    };
+    Ok(answer_asking(alloc, desk, schemas, &asking))
+}

@@ -1,0 +1,21 @@
+use rv_base::User;
+use rv_wire::{PullRequest, Push};
+
+/// What a line asks.
+#[derive(Debug, Drop)]
+pub enum Request {
+    /// A user pushes mutations.
+    Push {
+        /// Who sends it.
+        user: User,
+        /// The push.
+        push: Push,
+    },
+    /// A user pulls.
+    Pull {
+        /// Who sends it.
+        user: User,
+        /// The pull.
+        pull: PullRequest,
+    },
+}

@@ -1,0 +1,94 @@
+// The texts that are written.
+ghost use Rattle.std.specs.Prelude.{◌++◌, decimal, codes};
+ghost use Rattle.rv_base.specs.Causes.{HasCause};
+ghost use Rattle.rv_base.specs.Writes.{WritesText};
+ghost use Rattle.rv_cli.specs.declared.answer.Answer.TheVariants.{Refused};
+ghost use Rattle.rv_cli.specs.Texts.{line_text, text_of, status_text};
+
+use crate::answer::Answer;
+use crate::feed::Ending;
+use itoa::Buffer;
+use rv_base::{Failed, Sink, write_all};
+use rv_wire::{ErrorBody, error_text};
+
+fn write_number<O: Sink>(out: &mut O, number: u64) -> Result<(), Failed>
+    ensures bytes { WritesText (O.written out.old) (O.written out.new) result (decimal number) }
+    ensures cause { HasCause (O.faults out.old) (O.faults out.new) result }
+{
+    let mut buffer = Buffer::new();
+    write_all(out, buffer.format(number).as_bytes())
+}
+
+// A text, and LF.
+fn write_ended<O: Sink>(out: &mut O, text: &[u8]) -> Result<(), Failed>
+    ensures bytes { WritesText (O.written out.old) (O.written out.new) result (text.now ++ codes "\n") }
+    ensures cause { HasCause (O.faults out.old) (O.faults out.new) result }
+{
+    write_all(out, text)?;
+    write_all(out, b"\n")
+}
+
+// A space, a text, and LF.
+fn write_body<O: Sink>(out: &mut O, body: &[u8]) -> Result<(), Failed>
+    ensures bytes { WritesText (O.written out.old) (O.written out.new) result (codes " " ++ (body.now ++ codes "\n")) }
+    ensures cause { HasCause (O.faults out.old) (O.faults out.new) result }
+{
+    match write_all(out, b" ") {
+        Ok(()) => write_ended(out, body),
+        Err(Failed) => Err(Failed),
+    }
+}
+
+fn write_line<O: Sink>(out: &mut O, status: u16, body: &[u8]) -> Result<(), Failed>
+    ensures bytes { WritesText (O.written out.old) (O.written out.new) result (line_text status body.now) }
+    ensures cause { HasCause (O.faults out.old) (O.faults out.new) result }
+{
+    write_number(out, u64::from(status))?;
+    write_body(out, body)
+}
+
+fn write_refusal<O: Sink>(out: &mut O, refusal: &ErrorBody) -> Result<(), Failed>
+    ensures bytes { WritesText (O.written out.old) (O.written out.new) result (text_of (Refused refusal.now)) }
+    ensures cause { HasCause (O.faults out.old) (O.faults out.new) result }
+{
+    let mut buffer = [0; 128];
+    let length = error_text(refusal, &mut buffer);
+    write_line(out, refusal.status(), &buffer[..length])
+}
+
+/// Writes the line of an answer: its status, a space, its body, and LF.
+pub fn write_answer<O: Sink>(out: &mut O, answer: &Answer) -> Result<(), Failed>
+    ensures bytes { WritesText (O.written out.old) (O.written out.new) result (text_of answer.now) }
+    ensures cause { HasCause (O.faults out.old) (O.faults out.new) result }
+{
+    match answer {
+        Answer::Pushed => write_line(out, 200, b"{}"),
+        Answer::Pulled(reply) => write_line(out, 200, reply.text.as_slice()),
+        Answer::Refused(refusal) => write_refusal(out, refusal),
+    }
+}
+
+fn write_malformed<O: Sink>(out: &mut O, number: u64) -> Result<(), Failed>
+    ensures bytes { WritesText (O.written out.old) (O.written out.new) result (codes "line " ++ (decimal number ++ codes "\n")) }
+    ensures cause { HasCause (O.faults out.old) (O.faults out.new) result }
+{
+    let mut buffer = Buffer::new();
+    match write_all(out, b"line ") {
+        Ok(()) => write_ended(out, buffer.format(number).as_bytes()),
+        Err(Failed) => Err(Failed),
+    }
+}
+
+/// Writes the text of a feed's ending.
+pub fn write_ending<O: Sink>(out: &mut O, ending: Ending) -> Result<(), Failed>
+    ensures bytes { WritesText (O.written out.old) (O.written out.new) result (status_text ending) }
+    ensures cause { HasCause (O.faults out.old) (O.faults out.new) result }
+{
+    match ending {
+        Ending::Done => Ok(()),
+        Ending::Write => Ok(()),
+        Ending::Read => write_all(out, b"read\n"),
+        Ending::Memory => write_all(out, b"memory\n"),
+        Ending::Malformed(number) => write_malformed(out, number),
+    }
+}
