@@ -218,7 +218,6 @@ feeds_last first (Some bytes) now left wrote written written' pending number lin
 feeds_last first (Some bytes) now left wrote written written' pending number line book new turns.WriteFault w h lt c e (answer, s, a) =
     let d = Consumes-trans (Some bytes) now (prepend_known pending left) w.whole line w.taken c in
     fed_write first bytes now left wrote written written' number line _ book new answer w (last_next bytes w.whole line w.lines pending left w.are h lt d e) (read_of bytes _ pending left d) s a
-
 -- memory is refused for the last line
 feeds_last first (Some bytes) now left wrote written written' pending number line book new turns.Memory w h lt c e (same, k) =
     let d = Consumes-trans (Some bytes) now (prepend_known pending left) w.whole line w.taken c in

@@ -4,3 +4,4 @@ pub mod Json
 pub mod Mutations
 pub mod Runs
 pub mod Going
+pub mod Ended

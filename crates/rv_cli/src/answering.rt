@@ -13,7 +13,9 @@ use crate::answer::Answer;
 use crate::serving::{Asking, Verb, asking_of, read_json};
 use rv_base::{Id, Memory, User};
 use rv_desk::{Desk, PullAnswer, Turn};
-use rv_wire::{ErrorBody, Mutation, PullRequest, Push, Schemas, WireFault, pull_of_value, push_of_value};
+use rv_wire::{
+    ErrorBody, Mutation, PullRequest, Push, Schemas, WireFault, pull_of_value, push_of_value,
+};
 use std::alloc::Global;
 
 // Runs mutations in order, up to the first refusal.

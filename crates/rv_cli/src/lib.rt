@@ -8,6 +8,7 @@ mod answer;
 mod answering;
 mod buffer;
 mod feed;
+mod program;
 mod reader;
 mod request;
 mod serving;
@@ -17,6 +18,7 @@ mod words;
 
 pub use answer::Answer;
 pub use feed::Ending;
+pub use program::run;
 pub use request::Request;
 
 #[cfg(test)]

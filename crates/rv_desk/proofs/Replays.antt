@@ -103,8 +103,8 @@ replay_added book e stored row added none absent r = record {
   versions = all-put stored_key (λ (s : Stored). IsLastWrite (book ++ e ∷ []) (row_text s.0) s.1) (row, length book + 1) stored
       (new_write book e (row_text row) row (ap (row_at (row_text row)) added ∙ find-push_new row_text row (rows_of book) none) none)
       (all_kept book (book ++ e ∷ []) (row_text row) stored
-          (λ q p apart w. kept_write book e q p (ap (row_at q) added ∙ find-push_other row_text q row (rows_of book) (not_same (row_text row) q apart)) w)
-          (others stored_key (row_text row) stored absent) r.versions);
+      (λ q p apart w. kept_write book e q p (ap (row_at q) added ∙ find-push_other row_text q row (rows_of book) (not_same (row_text row) q apart)) w)
+      (others stored_key (row_text row) stored absent) r.versions);
 }
 
 -- a row is stored exactly where it is among the book's

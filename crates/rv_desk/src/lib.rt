@@ -4,13 +4,11 @@
 //! what a call is answered. [`plain`] computes those definitions slowly, apart from the desk.
 #![tactic(auto)]
 
-
 mod desk;
 mod entry;
-mod reply;
 pub mod plain;
+mod reply;
 mod turn;
-
 
 pub use desk::Desk;
 pub use entry::Entry;

@@ -15,7 +15,10 @@ pub type Schemas = Sequence<String>;
 fn is_served(schemas: &Schemas, schema: &str) -> bool
     ensures { result ≡ is_served schemas.now schema.now }
 {
-    schemas.as_slice().iter().any(|served| served.as_str() == schema)
+    schemas
+        .as_slice()
+        .iter()
+        .any(|served| served.as_str() == schema)
 }
 
 // The client group of a body whose version stands at this name.

@@ -9,7 +9,6 @@ mod body;
 mod calls;
 mod cookie;
 mod error_body;
-
 mod fault;
 mod members;
 mod op;
@@ -23,14 +22,13 @@ pub use answer::pull_text;
 pub use body::Schemas;
 pub use cookie::Cookie;
 pub use error_body::{ErrorBody, Which};
-pub use refusal::error_text;
 pub use fault::WireFault;
-
 pub use op::{Op, Ops};
 pub use pull::PullRequest;
 pub use pull_body::pull_of_value;
 pub use push::{Mutation, Mutations, Push};
 pub use push_body::push_of_value;
+pub use refusal::error_text;
 
 #[cfg(test)]
 mod tests;

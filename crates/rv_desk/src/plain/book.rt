@@ -31,7 +31,12 @@ pub fn group_of<'b>(book: &'b [Entry], client: &Id) -> Option<&'b Id>
     ensures { option_map (λ group. group.now) result ≡ group_of client.now book.now }
 {
     for entry in book {
-        if let Entry::Act { group, client: actor, .. } = entry {
+        if let Entry::Act {
+            group,
+            client: actor,
+            ..
+        } = entry
+        {
             if actor == client {
                 return Some(group);
             }
@@ -45,13 +50,11 @@ fn order_after(entry: &Entry, group: &Id, before: Num) -> Num
 {
     match entry {
         Entry::Act { .. } => before,
-        Entry::Look { group: other, order, .. } => {
-            if other == group {
-                *order
-            } else {
-                before
-            }
-        }
+        Entry::Look {
+            group: other,
+            order,
+            ..
+        } => { if other == group { *order } else { before } }
     }
 }
 

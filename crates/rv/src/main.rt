@@ -1,0 +1,34 @@
+//! The program `rv`: the words of the command line, standard input and standard output, handed to `rv_cli::run`.
+#![tactic(auto)]
+
+use rv_base::{Reading, Writing};
+use rv_cli::run;
+use std::alloc::Global;
+use std::process::ExitCode;
+use std::{env, io};
+
+// The words of the command line. Where they can't be had as text there are none.
+fn words(rt: &HostRuntime, alloc: Global) -> io::Result<Vec<String>> {
+    let mut words = Vec::new(alloc);
+    for word in env::args(rt)? {
+        words.push(word)?;
+    }
+    Ok(words)
+}
+
+fn main(rt: HostRuntime) -> ExitCode {
+    let alloc = rt.alloc();
+    let words = match words(&rt, alloc) {
+        Ok(words) => words,
+        Err(_) => Vec::new(alloc),
+    };
+    let mut input = Reading {
+        inner: rt.reader(),
+        faults: 0,
+    };
+    let mut output = Writing {
+        inner: io::writer(&rt),
+        faults: 0,
+    };
+    ExitCode::from(run(alloc, &words, &mut input, &mut output))
+}
