@@ -1,2 +1,4 @@
 pub mod Replays
 pub mod Replies
+pub mod LawfulBooks
+pub mod Shown

@@ -5,3 +5,4 @@ pub mod Patches
 pub mod Machine
 pub mod Served
 pub mod Stage
+pub mod Laws

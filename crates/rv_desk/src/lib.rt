@@ -6,6 +6,7 @@
 
 mod desk;
 mod entry;
+pub mod laws;
 pub mod plain;
 mod reply;
 mod turn;

@@ -1,0 +1,5 @@
+use Rattle.rv_desk.proofs.LawfulBooks.{pulls_keep}
+use Rattle.rv_desk.proofs.laws.pulls_keep_law.Goals as goal
+
+pub returns : goal.returns
+returns c = pulls_keep

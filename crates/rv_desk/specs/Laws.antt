@@ -1,0 +1,54 @@
+-- What follows from the machine, for every book that it makes.
+use Rattle.std.specs.Prelude.{◌≡◌, ℕ, ◌<◌, List, ◌++◌, Option, Some, None, if◌then◌else◌}
+use Rattle.std.specs.List.{filter_map, range_with_len}
+use Rattle.std.specs.List.Sorted.{IsStrictlyIncreasing}
+use Rattle.std.specs.Str.{bytes_eq}
+use Rattle.rv_wire.specs.declared.error_body.ErrorBody.{ErrorBody}
+use Rattle.rv_wire.specs.declared.push.Mutation.{Mutation}
+use Rattle.rv_wire.specs.declared.pull.PullRequest.{PullRequest}
+use Rattle.rv_desk.specs.declared.entry.Entry.{Entry}
+use Rattle.rv_desk.specs.declared.entry.Entry.TheVariants.{Act, Look}
+use Rattle.rv_desk.specs.declared.turn.PullAnswer.{PullAnswer}
+use Rattle.rv_desk.specs.declared.turn.PullAnswer.TheVariants.{Pulled}
+use Rattle.rv_desk.specs.declared.turn.PullReply.{PullReply}
+use Rattle.rv_desk.specs.Book.{Book, last}
+use Rattle.rv_desk.specs.Lawful.{IsLawful}
+use Rattle.rv_desk.specs.Patches.{View, sees, apply}
+use Rattle.rv_desk.specs.Machine.{Sender, Pulls, Pushes, cookie_order}
+
+abbrev pub act_id : List ℕ → Entry → Option ℕ
+act_id client (Act user group actor id call) = if bytes_eq actor client then Some id else None
+act_id client (Look user group order base) = None
+
+-- the ids of a client's acts, in the order of the book
+abbrev pub act_ids : List ℕ → Book → List ℕ
+act_ids client book = filter_map (act_id client) book
+
+abbrev pub look_order : List ℕ → Entry → Option ℕ
+look_order group (Act user other client id call) = None
+look_order group (Look user other order base) = if bytes_eq other group then Some order else None
+
+-- the orders of a group's looks, in the order of the book
+abbrev pub look_orders : List ℕ → Book → List ℕ
+look_orders group book = filter_map (look_order group) book
+
+-- Each client's acts have the ids 1, 2, 3 and so on.
+abbrev pub IdsCountUp : Type 0
+IdsCountUp = (book : Book) (client : List ℕ) → IsLawful book → act_ids client book ≡ range_with_len 1 (last client book)
+
+-- The orders of each group's looks rise.
+abbrev pub OrdersRise : Type 0
+OrdersRise = (book : Book) (group : List ℕ) → IsLawful book → IsStrictlyIncreasing (look_orders group book)
+
+-- A push keeps the book lawful, and only adds to it.
+abbrev pub PushesKeepLaw : Type 0
+PushesKeepLaw = (limit : ℕ) (from : Sender) (mutations : List Mutation) (book new : Book) (answer : Option ErrorBody) → Pushes limit from mutations book answer new → IsLawful book → IsLawful new × ((more : Book) × (new ≡ book ++ more))
+
+-- So does a pull.
+abbrev pub PullsKeepLaw : Type 0
+PullsKeepLaw = (limit : ℕ) (user : List ℕ) (request : PullRequest) (book new : Book) (answer : PullAnswer) → Pulls limit user request book answer new → IsLawful book → IsLawful new × ((more : Book) × (new ≡ book ++ more))
+
+-- The patch of a reply, applied to any view, gives exactly what the user sees at the book, and its cookie is above the
+-- request's.
+abbrev pub PullsShow : Type 0
+PullsShow = (limit : ℕ) (user : List ℕ) (request : PullRequest) (book new : Book) (reply : PullReply) (view : View) → Pulls limit user request book (Pulled reply) new → (apply reply.ops view ≡ sees user book) × (cookie_order request.cookie < cookie_order reply.cookie)
