@@ -5,3 +5,4 @@ pub mod Mutations
 pub mod Runs
 pub mod Going
 pub mod Ended
+pub mod LawfulRuns

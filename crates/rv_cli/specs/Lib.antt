@@ -8,3 +8,4 @@ pub mod Words
 pub mod Turn
 pub mod Feed
 pub mod Run
+pub mod Laws

@@ -8,6 +8,7 @@ mod answer;
 mod answering;
 mod buffer;
 mod feed;
+pub mod laws;
 mod program;
 mod reader;
 mod request;
