@@ -78,15 +78,15 @@ ids_from client before (Act user group actor id call ∷ rest) lawful =
     let mine : id ≡ last actor before + 1 = here before rest e lawful in
     elim (bytes_eq actor client) as (λ b. bytes_eq actor client ≡ b → cons_option (cond b (Some id) None) (act_ids client rest) ≡ range_with_len (last client before + 1) (last client (e ∷ rest))) [
       | true ↦ λ same.
-        let is : actor ≡ client = (bytes_eq-Decides actor client).0 same in
-        let first : id ≡ last client before + 1 = mine ∙ ap (λ (c : List ℕ). last c before + 1) is in
-        let count : last client (e ∷ rest) ≡ suc (last client rest) = last_cons client rest e ∙ ap (λ (b : Bool). cond b 1 0 + last client rest) same ∙ omega arith in
-        let grown : last client (before ++ e ∷ []) ≡ last client before + 1 = last_push client before e ∙ ap (λ (b : Bool). last client before + cond b 1 0) same in
-        rw count ((λ i. first i ∷ next i) ∙ ap (λ (n : ℕ). (last client before + 1) ∷ range_with_len (n + 1) (last client rest)) grown)
+          let is : actor ≡ client = (bytes_eq-Decides actor client).0 same in
+          let first : id ≡ last client before + 1 = mine ∙ ap (λ (c : List ℕ). last c before + 1) is in
+          let count : last client (e ∷ rest) ≡ suc (last client rest) = last_cons client rest e ∙ ap (λ (b : Bool). cond b 1 0 + last client rest) same ∙ omega arith in
+          let grown : last client (before ++ e ∷ []) ≡ last client before + 1 = last_push client before e ∙ ap (λ (b : Bool). last client before + cond b 1 0) same in
+          rw count ((λ i. first i ∷ next i) ∙ ap (λ (n : ℕ). (last client before + 1) ∷ range_with_len (n + 1) (last client rest)) grown)
       | false ↦ λ other.
-        let count : last client (e ∷ rest) ≡ last client rest = last_cons client rest e ∙ ap (λ (b : Bool). cond b 1 0 + last client rest) other ∙ omega arith in
-        let grown : last client (before ++ e ∷ []) ≡ last client before = last_push client before e ∙ ap (λ (b : Bool). last client before + cond b 1 0) other ∙ omega arith in
-        rw count (next ∙ ap (λ (n : ℕ). range_with_len (n + 1) (last client rest)) grown)
+          let count : last client (e ∷ rest) ≡ last client rest = last_cons client rest e ∙ ap (λ (b : Bool). cond b 1 0 + last client rest) other ∙ omega arith in
+          let grown : last client (before ++ e ∷ []) ≡ last client before = last_push client before e ∙ ap (λ (b : Bool). last client before + cond b 1 0) other ∙ omega arith in
+          rw count (next ∙ ap (λ (n : ℕ). range_with_len (n + 1) (last client rest)) grown)
     ] refl
 ids_from client before (Look user group order base ∷ rest) lawful =
     let e : Entry = Look user group order base in
@@ -111,7 +111,7 @@ climbs group before (Act user other client id call ∷ rest) lawful =
 climbs group before (Look user other order base ∷ rest) lawful =
     let e : Entry = Look user other order base in
     let next : Climbs (order_after group (last_order group before) e) (look_orders group rest) =
-        subst (λ (n : ℕ). Climbs n (look_orders group rest)) (fold_push (order_after group) 0 before e) (climbs group (before ++ e ∷ []) rest (onward before rest e lawful)) in
+    subst (λ (n : ℕ). Climbs n (look_orders group rest)) (fold_push (order_after group) 0 before e) (climbs group (before ++ e ∷ []) rest (onward before rest e lawful)) in
     let mine : last_order other before < order = (here before rest e lawful).0 in
     elim (bytes_eq other group) as (λ b. bytes_eq other group ≡ b → Climbs (cond b order (last_order group before)) (look_orders group rest) → Climbs (last_order group before) (cons_option (cond b (Some order) None) (look_orders group rest))) [
       | true ↦ λ same next. (subst (λ (g : List ℕ). last_order g before < order) ((bytes_eq-Decides other group).0 same) mine, next)
