@@ -1,5 +1,5 @@
 // A source and a sink in memory, which fail at the calls of a list.
-ghost use Rattle.std.specs.Prelude.{◌≡◌, ◌≤◌, ◌<◌, ◌+◌, ◌-◌, ◌^◌, ◌==◌, true, [], min, length, take, drop, Some, IfOk, is_err, OnErr};
+ghost use Rattle.std.specs.Prelude.{◌≡◌, ◌≤◌, ◌<◌, ◌+◌, ◌-◌, ◌^◌, ◌==◌, true, [], min, max, length, take, drop, Some, IfOk, is_err, OnErr};
 ghost use Rattle.std.specs.List.{list_any};
 ghost use Rattle.std.specs.Io.{ReadsAtMost, WritesAtMost};
 ghost use Rattle.std.specs.Io.KnownBytes.{ReadConsumes, WriteAppends};
@@ -52,6 +52,7 @@ fn copy_front(from: &[u8], to: &mut [u8], most: usize) -> usize
     ensures bound { result ≤ length to.old }
     ensures bytes { take result to.new ≡ take result from.now }
     ensures some { 0 < length from.now → 0 < length to.old → 0 < result }
+    ensures exact { result ≡ min (min (max most 1) (length from.now)) (length to.old) }
 {
     let count = most.max(1).min(from.len()).min(to.len());
     to[..count].copy_from_slice(&from[..count]);
@@ -69,6 +70,7 @@ impl Source for MemorySource {
         ensures cause { HasCause self.old.faults self.new.faults result }
         ensures calls { self.new.calls ≡ min (self.old.calls + 1) (2 ^ 64 - 1) }
         ensures fails { is_err result ≡ list_any (λ call. call == self.new.calls) self.old.failing.items }
+        ensures count { IfOk result (λ n. n ≡ min (min (max self.old.most 1) (length self.old.bytes.items - self.old.at)) (length piece.new)) }
         ensures list { self.new.failing.items ≡ self.old.failing.items }
     {
         self.calls = self.calls.saturating_add(1);
@@ -129,6 +131,7 @@ impl Sink for MemorySink {
         ensures cause { HasCause self.old.faults self.new.faults result }
         ensures calls { self.new.calls ≡ min (self.old.calls + 1) (2 ^ 64 - 1) }
         ensures fails { list_any (λ call. call == self.new.calls) self.old.failing.items ≡ true → is_err result ≡ true }
+        ensures count { IfOk result (λ n. n ≡ min (max self.old.most 1) (length piece.now)) }
         ensures list { self.new.failing.items ≡ self.old.failing.items }
     {
         self.calls = self.calls.saturating_add(1);

@@ -32,6 +32,7 @@ fn status(ending: Ending) -> u8
 pub fn run<S: Source, O: Sink>(alloc: Global, words: &[String], input: &mut S, out: &mut O) -> u8
     ensures usage { result ≡ 2 ↔ (IsFeedMemory words.now → ⊥) }
     ensures usage_text { result ≡ 2 → WritesStatusText (O.written out.old) (O.written out.new) (Rose (O.faults out.old) (O.faults out.new)) usage_text }
+    ensures usage_reads { result ≡ 2 → S.left input.new ≡ S.left input.old }
 
     // What is written are the answers of a run of the machine from the empty book over the lines that were read.
     ensures feed { IsFeedMemory words.now → RunsFeed [] (S.left input.old) (S.left input.new) (O.written out.old) (O.written out.new) (Rose (O.faults out.old) (O.faults out.new)) result }
