@@ -1,6 +1,4 @@
-// std's readers and writers as sources and sinks. They tell nothing of what is left or was written.
-ghost use Rattle.std.specs.Prelude.{None};
-
+// std's readers and writers as sources and sinks. They tell of what is left and was written what the std type tells.
 use crate::outside::{Failed, Sink, Source};
 use std::io::{Read, Write};
 
@@ -14,7 +12,7 @@ pub struct Reading<R: Read> {
 }
 
 impl<R: Read> Source for Reading<R> {
-    ghost left = { λ s. None };
+    ghost left = { λ s. R.remaining s.inner };
 
     ghost faults = { λ s. s.faults };
 
@@ -39,7 +37,7 @@ pub struct Writing<W: Write> {
 }
 
 impl<W: Write> Sink for Writing<W> {
-    ghost written = { λ s. None };
+    ghost written = { λ s. W.contents s.inner };
 
     ghost faults = { λ s. s.faults };
 
