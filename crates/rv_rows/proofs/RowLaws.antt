@@ -1,5 +1,5 @@
 -- What is read as a row is the row's value, and the value of a row is read as it.
-use Rattle.std.proofs.Common.{◌≡◌, ℕ, ◌<◌, ◌≤◌, Bool, true, false, cond, List, [], ◌∷◌, length, Option, Some, None, refl, sym, ap, ◌∙◌, subst, arith, ◌&&◌, leb}
+use Rattle.std.proofs.Common.{◌≡◌, ℕ, List, length, Option, Some, None, refl, sym, ap, ◌∙◌, subst, arith, ◌&&◌, leb}
 use Rattle.std.specs.Prelude.{codes, option_map, IfSome}
 use Rattle.std.specs.Str.{bytes_eq}
 use Rattle.std.proofs.lemmas.Slice.Eq.{bytes_eq-Decides}
@@ -12,7 +12,7 @@ use Rattle.rv_rows.specs.declared.row.Row.{Row}
 use Rattle.rv_rows.specs.declared.row.Row.TheVariants as variants
 use Rattle.rv_rows.specs.declared.row.ListRow.{ListRow}
 use Rattle.rv_rows.specs.Members.{within, text_in, named, has_ended}
-use Rattle.rv_rows.specs.RowTexts.{row_data, Fits, list_row_in, members_row_in, row_in}
+use Rattle.rv_rows.specs.RowTexts.{row_data, Fits, list_row_in, row_in}
 
 named_is : (k : List ℕ) (ms : Members) (x : Data × Members) → named k ms ≡ Some x → ms ≡ member k x.0 x.1
 named_is k no_members x e = absurd (none-some x e)

@@ -1,5 +1,5 @@
 -- What a value and the members of an object are read as.
-use Rattle.std.specs.Prelude.{ℕ, ◌^◌, List, length, Option, Some, None, option_and_then, nat_le, nat_lt, ◌&&◌, if◌then◌else◌}
+use Rattle.std.specs.Prelude.{ℕ, List, length, Option, Some, None, option_and_then, nat_le, ◌&&◌, if◌then◌else◌}
 use Rattle.std.specs.Str.{bytes_eq}
 use Rattle.serde_json.specs.Data.{Data, Members, no_members, member}
 use Rattle.serde_json.specs.Find.{as_str}

@@ -1,5 +1,5 @@
 -- A row as JSON, and reading it back. A list is {"id":I,"name":T,"ownerID":U}, members in byte order, and no others.
-use Rattle.std.specs.Prelude.{ℕ, List, codes, Option, Some, option_map, option_and_then}
+use Rattle.std.specs.Prelude.{codes, Option, Some, option_map, option_and_then}
 use Rattle.serde_json.specs.Data.{Data, Members, string, object, member, no_members}
 use Rattle.serde_json.specs.Find.{as_object}
 use Rattle.rv_base.specs.Texts.{IsWithin}

@@ -1,5 +1,5 @@
 -- The texts of refusals, cut where numbers stand.
-use Rattle.std.proofs.Common.{◌≡◌, ℕ, List, ◌++◌, refl, append_assoc}
+use Rattle.std.proofs.Common.{◌≡◌, ℕ, ◌++◌, refl, append_assoc}
 use Rattle.std.specs.Prelude.{codes, decimal}
 use Rattle.serde_json.specs.Written.{compact_text}
 use Rattle.serde_json.proofs.OnLiterals.{serde_json_on_literals}

@@ -1,5 +1,5 @@
-use Rattle.std.proofs.Common.{rules, arith}
-use Rattle.rv_base.proofs.Known.{write_more, write_done, write_stopped}
+use Rattle.std.proofs.Common.{arith}
+use Rattle.rv_base.proofs.Known.{write_more}
 use Rattle.rv_base.proofs.writing.write_all.Goals as goal
 
 pub loop-rest-preserved : goal.loop-rest-preserved

@@ -1,4 +1,4 @@
-use Rattle.std.proofs.Common.{rules, arith, ◌≡◌, ◌<◌, ◌-◌, length, take, drop, min, ap, ◌∙◌}
+use Rattle.std.proofs.Common.{rules, ◌≡◌, ◌-◌, length, take, drop, min}
 use Rattle.rv_base.proofs.Known.{read_front, read_none}
 use Rattle.rv_base.proofs.in_memory.MemorySourceSource.read.Goals as goal
 
