@@ -1,11 +1,9 @@
 -- From how a feed ends to the status and its text.
-use Rattle.std.proofs.Common.{◌≡◌, ◌⊎◌, inl, inr, ℕ, ◌+◌, ◌^◌, ◌<◌, ◌≤◌, List, [], ◌∷◌, ◌++◌, length, map, Option, Some, None, Result, Ok, Err, refl, sym, ap, ◌∙◌, append-nil, arith}
+use Rattle.std.proofs.Common.{◌≡◌, ◌⊎◌, inl, inr, ℕ, ◌^◌, ◌<◌, ◌≤◌, List, [], ◌∷◌, ◌++◌, length, map, Option, Some, None, Result, Ok, Err, refl, ap, arith}
 use Rattle.std.specs.List.{AllByRecursion}
-use Rattle.std.specs.Io.KnownBytes.{Appends}
 use Rattle.std.proofs.KnownBytes.{Appends-trans}
 use Rattle.std.proofs.lemmas.List.{length-append}
-use Rattle.rv_base.specs.Causes.{Rose}
-use Rattle.rv_base.specs.Writes.{WritesText, AppendsFront, IsFront}
+use Rattle.rv_base.specs.Writes.{WritesText}
 use Rattle.rv_cli.specs.Lines.{lines_of}
 use Rattle.rv_cli.specs.declared.buffer.TheConstants.{LINE_LIMIT}
 use Rattle.rv_cli.specs.declared.request.Request.{Request}

@@ -1,16 +1,13 @@
 -- A feed that goes on, and how it ends.
-use Rattle.std.proofs.Common.{◌≡◌, ◌⊎◌, inl, inr, ℕ, ◌+◌, ◌^◌, ◌<◌, ◌≤◌, ◌≢◌, List, [], ◌∷◌, ◌++◌, length, Option, Some, None, Ok, refl, sym, ap, ◌∙◌, subst, append_assoc, append-nil, arith}
+use Rattle.std.proofs.Common.{◌≡◌, inl, inr, ℕ, ◌+◌, ◌^◌, ◌<◌, ◌≤◌, ◌≢◌, List, [], ◌∷◌, ◌++◌, length, Option, Some, None, Ok, refl, sym, ap, ◌∙◌, append_assoc, append-nil}
 use Rattle.std.specs.Io.KnownBytes.{Keeps, Consumes, Appends, IsAtEnd, prepend_known}
 use Rattle.std.proofs.KnownBytes.{Consumes-trans, Consumes-kept, Appends-trans, Appends-nil}
 use Rattle.std.proofs.lemmas.List.{length_push}
-use Rattle.rv_base.specs.Writes.{AppendsFront, IsFront, appends_keeps}
+use Rattle.rv_base.specs.Writes.{AppendsFront, appends_keeps}
 use Rattle.rv_cli.specs.Lines.{lines_of, ended_lines_of, HasNoLf, BeginsLong}
-use Rattle.rv_cli.specs.declared.buffer.TheConstants.{LINE_LIMIT}
 use Rattle.rv_cli.proofs.LineLaws.{lines_of_line, ended_lines_of_line, no_ended_line, last_line, begins_long}
 use Rattle.rv_desk.specs.Book.{Book}
 use Rattle.rv_cli.specs.declared.answer.Answer.{Answer}
-use Rattle.rv_cli.specs.Requests.{request_of}
-use Rattle.rv_cli.specs.declared.feed.Ending.{Ending}
 use Rattle.rv_cli.specs.declared.feed.Ending.TheVariants.{Done, Read, Write, Memory, Malformed}
 use Rattle.rv_cli.specs.Texts.{text_of}
 use Rattle.rv_cli.specs.declared.turn.Turn.{Turn}
@@ -19,7 +16,7 @@ use Rattle.rv_cli.specs.Turn.{LineStep, AnswersLine}
 use Rattle.rv_cli.specs.Reading.{Reading, GivesNext, unread}
 use Rattle.rv_cli.specs.declared.reader.Next.{Next}
 use Rattle.rv_cli.specs.declared.reader.Next.TheVariants as nexts
-use Rattle.rv_cli.specs.Feed.{Answered, book_limit, Ends, Fed, Feeds, IsMalformed, ending_after}
+use Rattle.rv_cli.specs.Feed.{Answered, book_limit, Fed, Feeds, IsMalformed, ending_after}
 use Rattle.rv_cli.proofs.Runs.{answered_more, answered_none}
 
 -- The lines so far were ended and answered; now is what isn't taken yet of what was left at the start.

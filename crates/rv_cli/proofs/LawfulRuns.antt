@@ -1,22 +1,18 @@
 -- Runs keep the law, and each pull is shown.
-use Rattle.std.proofs.Common.{◌≡◌, ℕ, List, [], ◌∷◌, ◌++◌, length, Option, Some, None, refl, sym, ap, ◌∙◌, subst, append_assoc, append-nil, inl, inr, arith}
+use Rattle.std.proofs.Common.{◌≡◌, ℕ, List, [], ◌∷◌, ◌++◌, length, Some, None, refl, sym, ap, ◌∙◌, subst, append_assoc, append-nil, inl, inr, arith}
 use Rattle.std.specs.List.{range_with_len}
 use Rattle.std.specs.List.Sorted.{IsStrictlyIncreasing}
-use Rattle.rv_wire.specs.declared.pull.PullRequest.{PullRequest}
 use Rattle.rv_wire.specs.declared.error_body.ErrorBody.TheVariants as errors
 use Rattle.rv_desk.specs.declared.turn.PullReply.{PullReply}
 use Rattle.rv_desk.specs.declared.turn.PullAnswer.TheVariants as pulls
-use Rattle.rv_desk.specs.declared.entry.Entry.{Entry}
 use Rattle.rv_desk.specs.Book.{Book, last}
 use Rattle.rv_desk.specs.Lawful.{IsLawful}
-use Rattle.rv_desk.specs.Patches.{View, sees, apply}
-use Rattle.rv_desk.specs.Machine.{Sender}
 use Rattle.rv_desk.specs.Laws.{act_ids, look_orders, IdsCountUp, OrdersRise, PushesKeepLaw, PullsKeepLaw, PullsShow}
 use Rattle.rv_cli.specs.declared.answer.Answer.{Answer}
 use Rattle.rv_cli.specs.declared.answer.Answer.TheVariants.{Pushed, Pulled, Refused}
 use Rattle.rv_cli.specs.declared.request.Request.{Request}
 use Rattle.rv_cli.specs.declared.request.Request.TheVariants.{Push, Pull}
-use Rattle.rv_cli.specs.Requests.{Asked, request_in}
+use Rattle.rv_cli.specs.Requests.{Asked}
 use Rattle.rv_cli.specs.Steps.{Answers, Step, Run}
 use Rattle.rv_cli.specs.Laws.{ShowsAt}
 

@@ -1,6 +1,5 @@
 -- Laws of the lines of bytes.
-use Rattle.std.proofs.Common.{◌≡◌, ℕ, suc, zero, ◌+◌, ◌-◌, ◌<◌, ◌≤◌, List, [], ◌∷◌, ◌++◌, length, take, drop, refl, sym, ap, ◌∙◌, subst, arith, append_assoc, append-nil, add-one, Bool, true, false, ◌||◌, ◌==◌, cond}
-use Rattle.std.specs.List.{list_any}
+use Rattle.std.proofs.Common.{◌≡◌, ℕ, suc, zero, ◌+◌, ◌<◌, List, [], ◌∷◌, ◌++◌, length, take, refl, sym, ap, ◌∙◌, subst, arith, Bool, true, false, ◌||◌, ◌==◌, cond}
 use Rattle.std.proofs.lemmas.List.{take-append-le, length-append}
 use Rattle.rv_cli.specs.Lines.{onto, onto_ended, lines_of, ended_lines_of, HasNoLf, BeginsLong}
 use Rattle.rv_cli.specs.declared.buffer.TheConstants.{LINE_LIMIT}

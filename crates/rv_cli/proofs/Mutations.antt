@@ -1,5 +1,5 @@
 -- Mutations that are run one after another, and bodies that are answered.
-use Rattle.std.proofs.Common.{◌≡◌, ℕ, List, [], ◌∷◌, Option, Some, None, Ok, refl, subst, inr}
+use Rattle.std.proofs.Common.{◌≡◌, ℕ, List, ◌∷◌, Option, Some, None, Ok, refl, subst, inr}
 use Rattle.std.specs.Option.{MatchOption}
 use Rattle.rv_wire.specs.declared.error_body.ErrorBody.{ErrorBody}
 use Rattle.rv_wire.specs.declared.push.Mutation.{Mutation}
@@ -8,7 +8,7 @@ use Rattle.rv_wire.specs.Bodies.{push_in, pull_in}
 use Rattle.rv_wire.specs.declared.push.Push as wire
 use Rattle.rv_wire.specs.declared.pull.PullRequest.{PullRequest}
 use Rattle.rv_desk.specs.Book.{Book}
-use Rattle.rv_desk.specs.Machine.{Sender, Mutates, refusal, Pushes}
+use Rattle.rv_desk.specs.Machine.{Sender, Pushes}
 use Rattle.rv_cli.specs.Steps.{RunsMutation, Answers, Step}
 use Rattle.rv_cli.specs.Requests.{serves, asked}
 use Rattle.rv_cli.specs.declared.answer.Answer.{Answer}

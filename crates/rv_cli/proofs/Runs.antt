@@ -1,6 +1,5 @@
 -- A run goes on by one line.
-use Rattle.std.proofs.Common.{◌≡◌, ℕ, List, [], ◌∷◌, ◌++◌, map, Option, Some, None, refl, sym, ap, ◌∙◌}
-use Rattle.std.specs.List.{flat_map}
+use Rattle.std.proofs.Common.{ℕ, List, [], ◌∷◌, ◌++◌, map, Some, refl, sym, ap, ◌∙◌}
 use Rattle.std.proofs.lemmas.List.{map_push, flat_map_more}
 use Rattle.rv_desk.specs.Book.{Book}
 use Rattle.rv_cli.specs.declared.answer.Answer.{Answer}

@@ -1,12 +1,8 @@
 -- Lawful books, entry by entry.
-use Rattle.std.proofs.Common.{◌≡◌, ℕ, zero, suc, ◌+◌, ◌-◌, ◌^◌, ◌<◌, ◌≤◌, max, Bool, true, false, cond, List, [], ◌∷◌, ◌++◌, length, get_or, map, Option, Some, None, refl, sym, ap, ◌∙◌, subst, arith, append_assoc, append-nil, add-zero, inl, inr, ◌⊎◌}
-use Rattle.std.specs.List.{filter_map, cons_option, count_by, fold, range_with_len}
+use Rattle.std.proofs.Common.{◌≡◌, ℕ, zero, suc, ◌+◌, ◌<◌, max, Bool, true, false, cond, List, [], ◌∷◌, ◌++◌, length, get_or, Option, Some, None, refl, sym, ap, ◌∙◌, subst, arith, append_assoc, append-nil, add-zero, inl, inr, ◌⊎◌}
+use Rattle.std.specs.List.{cons_option, range_with_len}
 use Rattle.std.specs.List.Sorted.{IsStrictlyIncreasing}
 use Rattle.std.specs.Str.{bytes_eq}
-use Rattle.std.specs.Option.{MatchOption}
-use Rattle.std.proofs.lemmas.Bool.{cases_lt}
-use Rattle.std.proofs.lemmas.List.{length-append}
-use Rattle.std.proofs.lemmas.List.Elements.{filter_map-append}
 use Rattle.std.proofs.lemmas.List.Sums.{fold_push, sum_by-append, sum_by-cons}
 use Rattle.std.proofs.lemmas.Slice.Eq.{bytes_eq-Decides}
 use Rattle.rv_wire.specs.declared.error_body.ErrorBody.{ErrorBody}
@@ -21,8 +17,8 @@ use Rattle.rv_desk.specs.declared.turn.PullAnswer.{PullAnswer}
 use Rattle.rv_desk.specs.declared.turn.PullAnswer.TheVariants as pulls
 use Rattle.rv_desk.specs.Book.{Book, is_act_of, last, order_after, last_order}
 use Rattle.rv_desk.specs.Lawful.{IsLawfulAfter, IsLawful}
-use Rattle.rv_desk.specs.Machine.{Sender, Mutates, Pulls, Pushes, refusal, cookie_order, next_order}
-use Rattle.rv_desk.specs.Laws.{act_id, act_ids, look_order, look_orders}
+use Rattle.rv_desk.specs.Machine.{Sender, Mutates, Pulls, Pushes, cookie_order, next_order}
+use Rattle.rv_desk.specs.Laws.{act_ids, look_orders}
 
 pub lawful_none : IsLawful []
 lawful_none [] after entry e = absurd (cc)

@@ -1,6 +1,6 @@
 -- A book goes on by one entry: what becomes of the last writes and of the stored rows.
-use Rattle.std.proofs.Common.{◌≡◌, ℕ, ◌+◌, ◌-◌, ◌<◌, ◌≤◌, Bool, true, false, cond, List, [], ◌∷◌, ◌++◌, length, map, take, Option, Some, None, refl, sym, ap, ◌∙◌, subst, arith, append-nil, not, ◌&&◌, inl, inr}
-use Rattle.std.specs.Option.{is_some, IsSome, option_map_or}
+use Rattle.std.proofs.Common.{◌≡◌, ℕ, ◌+◌, ◌-◌, ◌<◌, ◌≤◌, Bool, true, false, cond, List, [], ◌∷◌, ◌++◌, length, take, Option, Some, None, refl, sym, ap, ◌∙◌, subst, arith, not, ◌&&◌, inl, inr}
+use Rattle.std.specs.Option.{is_some, IsSome}
 use Rattle.std.specs.List.{AllByRecursion}
 use Rattle.std.specs.Str.{bytes_eq}
 use Rattle.std.proofs.lemmas.Bool.{cases_lt}
@@ -19,7 +19,7 @@ use Rattle.rv_rows.specs.Held.{Stored, stored_key, find, put}
 use Rattle.rv_desk.specs.declared.entry.Entry.{Entry}
 use Rattle.rv_desk.specs.declared.entry.Entry.TheVariants.{Act, Look}
 use Rattle.rv_desk.specs.Book.{Book}
-use Rattle.rv_desk.specs.Replay.{rows_after, rows_of, Wrote, IsLastWrite, IsReplay}
+use Rattle.rv_desk.specs.Replay.{rows_of, Wrote, IsLastWrite, IsReplay}
 use Rattle.rv_desk.specs.Stage.{staged}
 
 -- the row of a key after the first p entries

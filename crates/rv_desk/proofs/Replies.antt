@@ -1,5 +1,5 @@
 -- The reply of a desk is that of its book.
-use Rattle.std.proofs.Common.{◌≡◌, ℕ, ◌+◌, Bool, false, List, length, map, refl, sym, ap, ◌∙◌}
+use Rattle.std.proofs.Common.{◌≡◌, ℕ, ◌+◌, false, List, length, map, refl, ◌∙◌}
 use Rattle.std.specs.Prelude.{decimal}
 use Rattle.serde_json.specs.Written.{compact_text}
 use Rattle.rv_rows.specs.Held.{Stored}

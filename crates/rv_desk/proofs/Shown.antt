@@ -1,5 +1,5 @@
 -- A patch that puts rows in key order shows exactly these rows.
-use Rattle.std.proofs.Common.{◌≡◌, ℕ, ◌+◌, ◌<◌, max, List, [], ◌∷◌, ◌++◌, map, Option, None, refl, sym, ap, ◌∙◌, subst, arith, append_assoc, append-nil}
+use Rattle.std.proofs.Common.{◌≡◌, ℕ, ◌+◌, ◌<◌, max, List, [], ◌∷◌, ◌++◌, map, refl, sym, ap, ◌∙◌, subst, arith, append_assoc, append-nil}
 use Rattle.std.specs.declared.cmp.Ordering.TheVariants.{Less, Greater}
 use Rattle.std.specs.Ordering.{nat_cmp, ordering_reverse}
 use Rattle.std.specs.Cmp.Lexicographic.{slice_cmp}
@@ -9,16 +9,15 @@ use Rattle.rv_base.specs.Sorted.{InOrder, put_by}
 use Rattle.rv_base.specs.Places.{in_order-sorted, in_order-filter}
 use Rattle.rv_rows.specs.declared.row.Row.{Row}
 use Rattle.rv_rows.specs.Keys.{row_text, in_key_order}
-use Rattle.rv_rows.specs.Sharing.{may, seen}
-use Rattle.rv_wire.specs.declared.op.Op.{Op}
-use Rattle.rv_wire.specs.declared.op.Op.TheVariants.{Clear, Put}
+use Rattle.rv_rows.specs.Sharing.{may}
+use Rattle.rv_wire.specs.declared.op.Op.TheVariants.{Put}
 use Rattle.rv_wire.specs.declared.pull.PullRequest.{PullRequest}
 use Rattle.rv_desk.specs.declared.turn.PullReply.{PullReply}
 use Rattle.rv_desk.specs.declared.turn.PullAnswer.TheVariants.{Pulled}
 use Rattle.rv_desk.specs.Book.{Book, last_order}
 use Rattle.rv_desk.specs.Replay.{rows_of}
 use Rattle.rv_desk.specs.Patches.{View, Shown, shown, sees, patch, applied, apply}
-use Rattle.rv_desk.specs.Machine.{Pulls, cookie_order, next_order, reply_to}
+use Rattle.rv_desk.specs.Machine.{Pulls, cookie_order}
 
 abbrev key : Shown → List ℕ
 key item = item.0

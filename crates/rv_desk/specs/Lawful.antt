@@ -1,5 +1,5 @@
 -- What holds of every book that the machine makes.
-use Rattle.std.specs.Prelude.{◌≡◌, ℕ, ◌+◌, ◌^◌, ◌<◌, List, ◌∷◌, ◌++◌, None}
+use Rattle.std.specs.Prelude.{◌≡◌, ◌+◌, ◌^◌, ◌<◌, ◌∷◌, ◌++◌, None}
 use Rattle.rv_desk.specs.declared.entry.Entry.{Entry}
 use Rattle.rv_desk.specs.declared.entry.Entry.TheVariants.{Act, Look}
 use Rattle.rv_desk.specs.Book.{Book, last, last_order}

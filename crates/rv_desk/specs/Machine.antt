@@ -1,7 +1,6 @@
 -- The machine: what a mutation, a pull and a push may be answered at a book, and which book is left.
 use Rattle.std.specs.Prelude.{◌≡◌, ℕ, ◌+◌, ◌-◌, ◌^◌, ◌<◌, ◌≤◌, max, List, [], ◌∷◌, ◌++◌, length, false, Option, Some, None, MatchOption, decimal}
 use Rattle.serde_json.specs.Written.{compact_text}
-use Rattle.rv_rows.specs.declared.call.Call.{Call}
 use Rattle.rv_wire.specs.Answers.{pull_data}
 use Rattle.rv_wire.specs.declared.cookie.Cookie.{Cookie}
 use Rattle.rv_wire.specs.declared.cookie.Cookie.TheVariants.{Null, Bare, Named}
@@ -10,7 +9,6 @@ use Rattle.rv_wire.specs.declared.error_body.ErrorBody.{ErrorBody}
 use Rattle.rv_wire.specs.declared.error_body.ErrorBody.TheVariants as errors
 use Rattle.rv_wire.specs.declared.push.Mutation.{Mutation}
 use Rattle.rv_wire.specs.declared.pull.PullRequest.{PullRequest}
-use Rattle.rv_desk.specs.declared.entry.Entry.{Entry}
 use Rattle.rv_desk.specs.declared.entry.Entry.TheVariants.{Act, Look}
 use Rattle.rv_desk.specs.declared.turn.Turn.{Turn}
 use Rattle.rv_desk.specs.declared.turn.Turn.TheVariants.{Acted, Skipped, Future, Limit, Memory}

@@ -1,4 +1,4 @@
-use Rattle.std.proofs.Common.{arith, rules}
+use Rattle.std.proofs.Common.{rules}
 use Rattle.rv_cli.proofs.Buffers.{no_lf_take, no_lf_front}
 use Rattle.rv_cli.proofs.buffer.find_line.Goals as goal
 

@@ -1,4 +1,4 @@
-use Rattle.std.proofs.Common.{arith, inl, [], ◌∙◌, ◌≤◌, ◌^◌, ◌≡◌}
+use Rattle.std.proofs.Common.{arith, inl, [], ◌∙◌, ◌≡◌}
 use Rattle.rv_cli.specs.declared.reader.Next.TheVariants as nexts
 use Rattle.rv_cli.proofs.Going.{going_first, going_more, feeds_done, feeds_read, feeds_memory, feeds_line_malformed, feeds_line_memory, feeds_line_write, feeds_last, feeds_long, feeds_beyond}
 use Rattle.rv_cli.proofs.feed.feed_lines.Goals as goal

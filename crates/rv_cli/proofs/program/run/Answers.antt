@@ -1,4 +1,4 @@
-use Rattle.std.proofs.Common.{◌≡◌, ◌∙◌, [], arith}
+use Rattle.std.proofs.Common.{◌∙◌, []}
 use Rattle.std.proofs.lemmas.Result.{IfErr-at_err}
 use Rattle.rv_base.specs.Causes.{Rose, rose_before, rose_later}
 use Rattle.rv_cli.proofs.Ended.{ended_with, completes}

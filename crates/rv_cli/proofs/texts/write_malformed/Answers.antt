@@ -1,5 +1,5 @@
-use Rattle.std.proofs.Common.{◌≡◌, ◌∙◌, ◌++◌, codes, decimal, List, ℕ}
-use Rattle.rv_base.specs.Writes.{WritesText, front_longer, writes_after}
+use Rattle.std.proofs.Common.{◌≡◌, ◌∙◌, ◌++◌, codes, decimal}
+use Rattle.rv_base.specs.Writes.{front_longer, writes_after}
 use Rattle.rv_cli.proofs.texts.write_malformed.Goals as goal
 
 pub returns-in-Err-clause-bytes : goal.returns-in-Err-clause-bytes

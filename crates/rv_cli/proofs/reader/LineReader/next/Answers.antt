@@ -1,4 +1,4 @@
-use Rattle.std.proofs.Common.{◌≡◌, ◌≤◌, take, arith, rules, ap, sym, ◌∙◌, length, Ok, Err}
+use Rattle.std.proofs.Common.{◌≡◌, ◌≤◌, take, arith, ap, sym, ◌∙◌, length}
 use Rattle.std.proofs.lemmas.List.{length-take-le, take_all}
 use Rattle.rv_cli.specs.Reading.{Reading}
 use Rattle.rv_cli.proofs.Buffers.{took_line, took_rest, at_end, kept, kept_none}

@@ -1,7 +1,4 @@
-use Rattle.std.proofs.Common.{◌≡◌, ◌++◌, ◌∷◌, [], length, vec_len, arith}
-use Rattle.std.proofs.lemmas.List.{length-append}
-use Rattle.rv_desk.specs.declared.entry.Entry.TheVariants.{Act}
-use Rattle.rv_desk.specs.Replay.{IsReplay}
+use Rattle.std.proofs.Common.{◌≡◌, length, vec_len, arith}
 use Rattle.rv_desk.proofs.Replays.{replay_act, length_push_le}
 use Rattle.rv_desk.proofs.desk.Desk.act.Goals as goal
 

@@ -1,6 +1,6 @@
-use Rattle.std.proofs.Common.{◌≡◌, ◌+◌, length, vec_len, arith, ap, sym, ◌∙◌}
+use Rattle.std.proofs.Common.{◌≡◌, ◌+◌, length, arith, ap, ◌∙◌}
 use Rattle.rv_desk.specs.Served.{Served}
-use Rattle.rv_desk.specs.Machine.{next_order, reply_to}
+use Rattle.rv_desk.specs.Machine.{reply_to}
 use Rattle.rv_desk.proofs.Replays.{replay_look, length_push_le}
 use Rattle.rv_desk.proofs.Replies.{reply_is}
 use Rattle.rv_desk.proofs.desk.Desk.look.Goals as goal

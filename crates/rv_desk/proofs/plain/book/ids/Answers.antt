@@ -1,4 +1,4 @@
-use Rattle.std.proofs.Common.{◌≡◌, ◌∙◌, sym, ap, ℕ, List}
+use Rattle.std.proofs.Common.{◌∙◌, sym, ap, ℕ, List}
 use Rattle.std.specs.Option.{option_map_or}
 use Rattle.rv_base.specs.Sorted.{put_by}
 use Rattle.rv_base.specs.Places.{sorted_more}
