@@ -20,8 +20,8 @@ fn piece(letter: u8) -> &'static [u8] {
         b'R' => first_pulled(),
         b'F' => b"409 {\"error\":\"Future\",\"expected\":1,\"got\":2}\n",
         b'G' => b"409 {\"error\":\"Future\",\"expected\":3,\"got\":4}\n",
-        b'1' => b"line 1\n",
-        b'2' => b"line 2\n",
+        b'i' => b"line 1\n",
+        b'j' => b"line 2\n",
         b'r' => b"read\n",
         _ => b"",
     }
@@ -99,14 +99,14 @@ fn scripts() -> [(&'static str, u8, &'static str); 14] {
         ("SP", 0, "FD"),
         ("SPQ", 0, "FDR"),
         ("PS", 0, "DG"),
-        ("n", 10, "1"),
-        ("PeQ", 10, "D2"),
-        ("Pn", 10, "D2"),
-        ("Pu", 10, "D2"),
-        ("Pb", 10, "D2"),
-        ("Pf", 10, "D2"),
-        ("Ps", 10, "D2"),
-        ("Px", 10, "D2"),
+        ("n", 10, "i"),
+        ("PeQ", 10, "Dj"),
+        ("Pn", 10, "Dj"),
+        ("Pu", 10, "Dj"),
+        ("Pb", 10, "Dj"),
+        ("Pf", 10, "Dj"),
+        ("Ps", 10, "Dj"),
+        ("Px", 10, "Dj"),
     ]
 }
 
