@@ -6,9 +6,8 @@ use Rattle.std.proofs.lemmas.List.{length-append}
 use Rattle.rv_base.specs.Writes.{WritesText}
 use Rattle.rv_cli.specs.Lines.{lines_of}
 use Rattle.rv_cli.specs.declared.buffer.TheConstants.{LINE_LIMIT}
-use Rattle.rv_cli.specs.declared.request.Request.{Request}
 use Rattle.rv_desk.specs.Book.{Book}
-use Rattle.rv_cli.specs.Requests.{request_of}
+use Rattle.rv_cli.specs.Requests.{Asked, asked_of}
 use Rattle.rv_cli.specs.declared.feed.Ending.{Ending}
 use Rattle.rv_cli.specs.declared.feed.Ending.TheVariants.{Done, Read, Write, Memory, Malformed}
 use Rattle.rv_cli.specs.Texts.{status_of, status_text}
@@ -50,7 +49,7 @@ ended_with first rose (Some bytes) left wrote written now ending (Err e) f (part
 )
 
 -- where all lines ask something, so does each
-each_asks : (lines others : List (List ℕ)) (line : List ℕ) (requests : List Request) → map request_of (lines ++ line ∷ others) ≡ map Some requests → request_of line ≡ None → ⊥
+each_asks : (lines others : List (List ℕ)) (line : List ℕ) (requests : List Asked) → map asked_of (lines ++ line ∷ others) ≡ map Some requests → asked_of line ≡ None → ⊥
 each_asks [] others line [] e none = cc
 each_asks [] others line (r ∷ requests) e none = cc
 each_asks (l ∷ lines) others line [] e none = cc
@@ -61,8 +60,8 @@ each_fits [] others line (h, rest) = h
 each_fits (l ∷ lines) others line (h, rest) = each_fits lines others line rest
 
 -- no line of the form is told to be none
-pub none_malformed : (first : Book) (bytes read text : List ℕ) (book : _) (number : ℕ) (requests : List Request) → feeds.Ends first bytes read text book (Malformed number)
-    → map request_of (lines_of bytes) ≡ map Some requests → AllByRecursion (λ l. length l ≤ LINE_LIMIT) (lines_of bytes) → length (lines_of bytes) < 2 ^ 32 → ⊥
+pub none_malformed : (first : Book) (bytes read text : List ℕ) (book : _) (number : ℕ) (requests : List Asked) → feeds.Ends first bytes read text book (Malformed number)
+    → map asked_of (lines_of bytes) ≡ map Some requests → AllByRecursion (λ l. length l ≤ LINE_LIMIT) (lines_of bytes) → length (lines_of bytes) < 2 ^ 32 → ⊥
 none_malformed first bytes read text book number requests (lines, others, line, are, count, inl none, answered) asks fit few = each_asks lines others line requests (rw are at asks) none
 none_malformed first bytes read text book number requests (lines, others, line, are, count, inr (inl long), answered) asks fit few =
     let le = each_fits lines others line (rw are at fit) in omega (arith, le, long)

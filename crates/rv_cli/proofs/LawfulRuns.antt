@@ -37,11 +37,15 @@ answers_keep pushes pulled limit book new (Pull user pull) (Pulled reply) h lawf
 answers_keep pushes pulled limit book new (Pull user pull) (Refused (errors.Limit what at)) h lawful = pulled limit user pull book new (pulls.Limit what at) h lawful
 answers_keep pushes pulled limit book new (Pull user pull) (Refused errors.Memory) h lawful = pulled limit user pull book new pulls.Memory h lawful
 answers_keep pushes pulled limit book new (Pull user pull) (Refused (errors.Future expected got)) h lawful = absurd h
+answers_keep pushes pulled limit book new (Pull user pull) (Refused errors.NotJson) h lawful = absurd h
+answers_keep pushes pulled limit book new (Pull user pull) (Refused (errors.Field field)) h lawful = absurd h
+answers_keep pushes pulled limit book new (Pull user pull) (Refused (errors.VersionNotSupported kind)) h lawful = absurd h
 answers_keep pushes pulled limit book new (Pull user pull) Pushed h lawful = absurd h
 
 step_keeps : PushesKeepLaw → PullsKeepLaw → (limit : ℕ) (book new : Book) (asked : Asked) (answer : Answer) → Step limit book asked answer new → IsLawful book → Kept book new
 step_keeps pushes pulled limit book new asked answer (inl refused) lawful = kept_same book new refused.1 lawful
-step_keeps pushes pulled limit book new asked answer (inr (request, is, h)) lawful = answers_keep pushes pulled limit book new request answer h lawful
+step_keeps pushes pulled limit book new asked answer (inr (inl (fault, is, told, same))) lawful = kept_same book new same lawful
+step_keeps pushes pulled limit book new asked answer (inr (inr (request, is, h))) lawful = answers_keep pushes pulled limit book new request answer h lawful
 
 run_keeps : PushesKeepLaw → PullsKeepLaw → (limit : ℕ) (first : Book) (askeds : List Asked) (answers : List Answer) (book : Book) → Run limit first askeds answers book → IsLawful first → Kept first book
 run_keeps pushes pulled limit first [] [] book same lawful = kept_same first book same lawful
@@ -58,8 +62,9 @@ books_are_lawful pushes pulled ids orders limit askeds answers book run =
 
 shown_at : PullsShow → (limit : ℕ) (point new : Book) (asked : Asked) (reply : PullReply) → Step limit point asked (Pulled reply) new → ShowsAt asked reply point
 shown_at show limit point new asked reply (inl refused) = absurd (let no = refused.0 in cc)
-shown_at show limit point new asked reply (inr (Push user push, is, h)) = absurd h
-shown_at show limit point new asked reply (inr (Pull user pull, is, h)) = record { user = user; request = pull; asks = is; is = h.2; shows = λ view. (show limit user pull point new reply view h).0 }
+shown_at show limit point new asked reply (inr (inl (fault, is, told, same))) = absurd (let no = told in cc)
+shown_at show limit point new asked reply (inr (inr (Push user push, is, h))) = absurd h
+shown_at show limit point new asked reply (inr (inr (Pull user pull, is, h))) = record { user = user; request = pull; asks = is; is = h.2; shows = λ view. (show limit user pull point new reply view h).0 }
 
 shown_from : PushesKeepLaw → PullsKeepLaw → PullsShow → (limit : ℕ) (first : Book) (before after : List Asked) (answered answers : List Answer) (asked : Asked) (reply : PullReply) (book : Book) → length before ≡ length answered → IsLawful first
     → Run limit first (before ++ asked ∷ after) (answered ++ Pulled reply ∷ answers) book → (point : Book) × Run limit first before answered point × ShowsAt asked reply point × ((more : Book) × (book ≡ point ++ more))

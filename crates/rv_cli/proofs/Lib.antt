@@ -1,6 +1,5 @@
 pub mod Buffers
 pub mod LineLaws
-pub mod Json
 pub mod Mutations
 pub mod Runs
 pub mod Going

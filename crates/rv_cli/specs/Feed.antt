@@ -12,7 +12,7 @@ use Rattle.rv_cli.specs.declared.turn.Turn.{Turn}
 use Rattle.rv_cli.specs.declared.turn.Turn.TheVariants as turns
 use Rattle.rv_cli.specs.declared.feed.Ending.{Ending}
 use Rattle.rv_cli.specs.declared.feed.Ending.TheVariants.{Done, Read, Write, Memory, Malformed}
-use Rattle.rv_cli.specs.Requests.{Asked, asked_of, request_of}
+use Rattle.rv_cli.specs.Requests.{Asked, asked_of}
 use Rattle.rv_cli.specs.Steps.{Run}
 use Rattle.rv_cli.specs.Texts.{text_of}
 
@@ -30,7 +30,7 @@ pub record Answered (first : Book) (lines : List (List ℕ)) (text : List ℕ) (
 
 -- the line with this number, from 1, isn't of the form
 abbrev pub IsMalformed : ℕ → List ℕ → Type 0
-IsMalformed number line = (request_of line ≡ None) ⊎ (LINE_LIMIT < length line) ⊎ (2 ^ 32 ≤ number)
+IsMalformed number line = (asked_of line ≡ None) ⊎ (LINE_LIMIT < length line) ⊎ (2 ^ 32 ≤ number)
 
 -- A feed over these bytes, of which some were read, may end so, with this text of answers and this book.
 abbrev pub Ends : Book → List ℕ → List ℕ → List ℕ → Book → Ending → Type 0

@@ -1,5 +1,5 @@
 -- What follows from the clause of `run`, for the book that it names and for each pull that was answered.
-use Rattle.std.specs.Prelude.{◌≡◌, ℕ, List, [], ◌∷◌, ◌++◌, length, Some}
+use Rattle.std.specs.Prelude.{◌≡◌, ℕ, List, [], ◌∷◌, ◌++◌, length, Ok}
 use Rattle.std.specs.List.{range_with_len}
 use Rattle.std.specs.List.Sorted.{IsStrictlyIncreasing}
 use Rattle.rv_wire.specs.declared.pull.PullRequest.{PullRequest}
@@ -26,7 +26,7 @@ BooksAreLawful = (limit : ℕ) (askeds : List Asked) (answers : List Answer) (bo
 pub record ShowsAt (asked : Asked) (reply : PullReply) (point : Book) : Type 0 where
   pub user : List ℕ
   pub request : PullRequest
-  pub asks : request_in asked ≡ Some (Pull user request)
+  pub asks : request_in asked ≡ Ok (Pull user request)
   pub is : reply ≡ reply_to user request point
   pub shows : (view : View) → apply reply.ops view ≡ sees user point
 

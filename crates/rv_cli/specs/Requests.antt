@@ -1,14 +1,14 @@
 -- What a line asks: {"user":U,"push":V} or {"user":U,"pull":V}, members in any order, and no others.
-use Rattle.std.specs.Prelude.{ℕ, List, [], ◌∷◌, Bool, Option, Some, None, codes, option_and_then, option_map, if◌then◌else◌}
+use Rattle.std.specs.Prelude.{ℕ, List, [], ◌∷◌, Bool, Option, Some, None, codes, Result, option_and_then, if◌then◌else◌}
 use Rattle.std.specs.List.{list_any}
-use Rattle.std.specs.Result.{result_ok}
-use Rattle.std.specs.Str.{bytes_eq, is_utf8}
+use Rattle.std.specs.Result.{result_map_both}
+use Rattle.std.specs.Str.{bytes_eq}
 use Rattle.serde_json.specs.Data.{Data, Members, no_members, member}
 use Rattle.serde_json.specs.Find.{as_object}
-use Rattle.serde_json.specs.Read.{read}
 use Rattle.rv_base.specs.Options.{◌>>=◌}
 use Rattle.rv_rows.specs.Members.{text_in}
-use Rattle.rv_wire.specs.Bodies.{push_in, pull_in}
+use Rattle.rv_wire.specs.Bodies.{push_in, pull_in, json_in}
+use Rattle.rv_wire.specs.declared.fault.WireFault.{WireFault}
 use Rattle.rv_cli.specs.declared.request.Request.{Request}
 use Rattle.rv_cli.specs.declared.request.Request.TheVariants.{Push, Pull}
 use Rattle.rv_cli.specs.declared.serving.Verb.{Verb}
@@ -17,10 +17,6 @@ use Rattle.rv_cli.specs.declared.serving.Verb.TheVariants as verbs
 -- the schema versions that a feed serves
 abbrev pub serves : List ℕ → Bool
 serves schema = list_any (λ served. bytes_eq served schema) ([] ∷ codes "1" ∷ [])
-
--- the JSON value of a text that is UTF-8
-unfoldable pub json_in : List ℕ → Option Data
-json_in text = if is_utf8 text then read text else None
 
 -- who asks what, with a body that is not read yet
 pub record Asked : Type 0 where
@@ -53,18 +49,14 @@ asked_in value = do
   user ← text_in 1 64 two.1.1
   Some (asked verb user two.0.1)
 
--- the request of a body
-abbrev pub request_with : List ℕ → Data → Verb → Option Request
-request_with user body verbs.Push = option_map (λ push. Push user push) (result_ok (push_in serves body))
-request_with user body verbs.Pull = option_map (λ pull. Pull user pull) (result_ok (pull_in serves body))
+-- the request of a body, or the first thing that is wrong with it
+abbrev pub request_with : List ℕ → Data → Verb → Result Request WireFault
+request_with user body verbs.Push = result_map_both (λ push. Push user push) (λ fault. fault) (push_in serves body)
+request_with user body verbs.Pull = result_map_both (λ pull. Pull user pull) (λ fault. fault) (pull_in serves body)
 
-abbrev pub request_in : Asked → Option Request
+abbrev pub request_in : Asked → Result Request WireFault
 request_in asked = request_with asked.user asked.body asked.verb
 
--- who asks what, by a line that is of the form up to its body
+-- what a line asks, where it is of the form
 abbrev pub asked_of : List ℕ → Option Asked
 asked_of line = option_and_then asked_in (json_in line)
-
--- what a line asks, where it is of the form
-abbrev pub request_of : List ℕ → Option Request
-request_of line = option_and_then request_in (asked_of line)

@@ -6,9 +6,8 @@ use Rattle.rv_base.specs.Writes.{IsFront}
 use Rattle.rv_desk.specs.Book.{Book}
 use Rattle.rv_cli.specs.Lines.{lines_of}
 use Rattle.rv_cli.specs.declared.buffer.TheConstants.{LINE_LIMIT}
-use Rattle.rv_cli.specs.declared.request.Request.{Request}
 use Rattle.rv_cli.specs.declared.feed.Ending.{Ending}
-use Rattle.rv_cli.specs.Requests.{request_of}
+use Rattle.rv_cli.specs.Requests.{Asked, asked_of}
 use Rattle.rv_cli.specs.Texts.{status_of, status_text}
 use Rattle.rv_cli.specs.Feed.{Ends}
 
@@ -38,4 +37,4 @@ RunsFeed first left left' written written' rose status = (ending : Ending) × (s
 
 -- where the source tells and all its lines are of the form, P
 abbrev pub AllAsk : Option (List ℕ) → Type 0 → Type 0
-AllAsk left P = IfSome left (λ bytes. (requests : List Request) → map request_of (lines_of bytes) ≡ map Some requests → AllByRecursion (λ line. length line ≤ LINE_LIMIT) (lines_of bytes) → length (lines_of bytes) < 2 ^ 32 → P)
+AllAsk left P = IfSome left (λ bytes. (askeds : List Asked) → map asked_of (lines_of bytes) ≡ map Some askeds → AllByRecursion (λ line. length line ≤ LINE_LIMIT) (lines_of bytes) → length (lines_of bytes) < 2 ^ 32 → P)

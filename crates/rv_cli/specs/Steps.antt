@@ -1,6 +1,8 @@
 -- The machine over requests: what each is answered, and which book is left.
-use Rattle.std.specs.Prelude.{ℕ, ◌≡◌, ◌⊎◌, List, [], ◌∷◌, Option, Some, None}
+use Rattle.std.specs.Prelude.{ℕ, ◌≡◌, ◌⊎◌, List, [], ◌∷◌, Option, Some, None, Ok, Err}
 use Rattle.rv_wire.specs.declared.error_body.ErrorBody.TheVariants.{Limit, Memory}
+use Rattle.rv_wire.specs.Errors.{fault_error}
+use Rattle.rv_wire.specs.declared.fault.WireFault.{WireFault}
 use Rattle.rv_wire.specs.declared.error_body.ErrorBody.{ErrorBody}
 use Rattle.rv_wire.specs.declared.push.Mutation.{Mutation}
 use Rattle.rv_desk.specs.declared.turn.Turn.{Turn}
@@ -26,10 +28,13 @@ Answers limit book (Pull user pull) (Refused Memory) new = Pulls limit user pull
 -- no other answer comes
 Answers limit book request answer new = ⊥
 
--- Memory may be refused where the body is read, and then nothing changes. Else the body is of the form, and the machine
--- answers.
+-- A body of the form is answered by the machine. One that is not is answered by the first thing that is wrong with it,
+-- and nothing changes. So is any body where memory is refused in reading it.
 abbrev pub Step : ℕ → Book → Asked → Answer → Book → Type 0
-Step limit book asked answer new = ((answer ≡ Refused Memory) × (new ≡ book)) ⊎ ((request : Request) × (request_in asked ≡ Some request) × Answers limit book request answer new)
+Step limit book asked answer new =
+    ((answer ≡ Refused Memory) × (new ≡ book))
+    ⊎ ((fault : WireFault) × (request_in asked ≡ Err fault) × (answer ≡ Refused (fault_error fault)) × (new ≡ book))
+    ⊎ ((request : Request) × (request_in asked ≡ Ok request) × Answers limit book request answer new)
 
 -- the book may give these answers to what is asked, one after another
 abbrev pub Run : ℕ → Book → List Asked → List Answer → Book → Type 0

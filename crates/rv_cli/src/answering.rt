@@ -6,15 +6,15 @@ ghost use Rattle.rv_desk.specs.Machine.{Pushes};
 ghost use Rattle.rv_wire.specs.Bodies.{is_served};
 ghost use Rattle.rv_cli.specs.declared.request.Request.TheVariants as requests;
 ghost use Rattle.rv_cli.specs.Requests.{serves, asked};
-ghost use Rattle.rv_cli.specs.Steps.{RunsMutation, Answers};
-ghost use Rattle.rv_cli.specs.Turn.{AnswersAsked, AnswersText};
+ghost use Rattle.rv_cli.specs.Steps.{RunsMutation, Answers, Step};
+ghost use Rattle.rv_cli.specs.Turn.{AnswersText};
 
 use crate::answer::Answer;
-use crate::serving::{Asking, Verb, asking_of, read_json};
+use crate::serving::{Asking, Verb, asking_of};
 use rv_base::{Id, Memory, User};
 use rv_desk::{Desk, PullAnswer, Turn};
 use rv_wire::{
-    ErrorBody, Mutation, PullRequest, Push, Schemas, WireFault, pull_of_value, push_of_value,
+    ErrorBody, Mutation, PullRequest, Push, Schemas, pull_of_value, push_of_value, read_json,
 };
 use std::alloc::Global;
 
@@ -79,27 +79,20 @@ fn answer_pull(desk: &mut Desk, user: &User, pull: &PullRequest) -> Answer
     }
 }
 
-// Reads the body, and answers it where it is one.
-fn answer_asking(
-    alloc: Global,
-    desk: &mut Desk,
-    schemas: &Schemas,
-    asking: &Asking<'_>,
-) -> Option<Answer>
+// Reads the body, and answers it, or names the first thing that is wrong with it.
+fn answer_asking(alloc: Global, desk: &mut Desk, schemas: &Schemas, asking: &Asking<'_>) -> Answer
     requires { is_served schemas.now ≡ serves }
-    ensures answer { AnswersAsked desk.old.limit desk.old.book (asked asking.now.verb asking.now.user (view asking.now.body.now)) desk.new.book result }
+    ensures answer { Step desk.old.limit desk.old.book (asked asking.now.verb asking.now.user (view asking.now.body.now)) result desk.new.book }
     ensures limit { desk.new.limit ≡ desk.old.limit }
 {
     match asking.verb {
         Verb::Push => match push_of_value(alloc, asking.body, schemas) {
-            Ok(push) => Some(answer_push(desk, &asking.user, push)),
-            Err(WireFault::NotServed) => None,
-            Err(WireFault::Memory) => Some(Answer::Refused(ErrorBody::Memory)),
+            Ok(push) => answer_push(desk, &asking.user, push),
+            Err(fault) => Answer::Refused(fault.refusal()),
         },
         Verb::Pull => match pull_of_value(alloc, asking.body, schemas) {
-            Ok(pull) => Some(answer_pull(desk, &asking.user, &pull)),
-            Err(WireFault::NotServed) => None,
-            Err(WireFault::Memory) => Some(Answer::Refused(ErrorBody::Memory)),
+            Ok(pull) => answer_pull(desk, &asking.user, &pull),
+            Err(fault) => Answer::Refused(fault.refusal()),
         },
     }
 }
@@ -121,5 +114,5 @@ pub fn answer_text(
     let Some(asking) = asking_of(alloc, &value)? else {
         return Ok(None);
     };
-    Ok(answer_asking(alloc, desk, schemas, &asking))
+    Ok(Some(answer_asking(alloc, desk, schemas, &asking)))
 }

@@ -3,7 +3,7 @@ ghost use Rattle.std.specs.Prelude.{◌≡◌, IfOk, option_map, option_and_then
 ghost use Rattle.serde_json.specs.Find.{as_object};
 ghost use Rattle.serde_json.specs.View.{view};
 ghost use Rattle.rv_wire.specs.Bodies.{is_served};
-ghost use Rattle.rv_cli.specs.Requests.{serves, json_in, verb_of, two_members, asked, asked_in};
+ghost use Rattle.rv_cli.specs.Requests.{serves, verb_of, two_members, asked, asked_in};
 
 use rv_base::{Memory, Sequence, User};
 use rv_rows::text_of_value;
@@ -39,23 +39,6 @@ pub fn served_schemas(alloc: Global) -> Result<Schemas, Memory>
     schemas.push(String::new(alloc))?;
     schemas.push(String::from_str(alloc, "1")?)?;
     Ok(schemas)
-}
-
-/// The JSON value of a line, where it is one.
-#[tactic(auto, using(crate::proofs::Json::json_none, crate::proofs::Json::json_some))]
-pub fn read_json(alloc: Global, line: &[u8]) -> Result<Option<Value>, Memory>
-    ensures { IfOk result (λ o. option_map (λ v. view v) o ≡ json_in line.now) }
-{
-    match Value::from_slice(alloc, line) {
-        Ok(value) => Ok(Some(value)),
-        Err(error) => {
-            if error.is_memory() {
-                Err(Memory)
-            } else {
-                Ok(None)
-            }
-        }
-    }
 }
 
 fn verb_of(name: &str) -> Option<Verb>

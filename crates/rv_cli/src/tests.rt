@@ -13,11 +13,25 @@ fn piece(letter: u8) -> &'static [u8] {
         b'n' => b"{\"user\":\"ann\"}",
         b'u' => b"{\"user\":\"\",\"pull\":null}\n",
         b'b' => b"{\"user\":\"ann\",\"pull\":{}}\n",
+        b'l' => b"{\"user\":\"ann\",\"push\":[]}\n",
+        b'm' => b"{\"user\":\"ann\",\"push\":{\"pushVersion\":2}}\n",
+        b'v' => void_push(),
+        b'7' => bare_pull(),
+        b'9' => greatest_pull(),
+        b'w' => text_pull(),
         b'f' => b"{\"user\":\"ann\",\"pull\":1e999}\n",
         b's' => b"{\"stop\":true}\n",
         b'x' => b"\xff\n",
         b'D' => b"200 {}\n",
         b'R' => first_pulled(),
+        b'W' => voids_pulled(),
+        b'T' => second_pulled(),
+        b'U' => third_pulled(),
+        b'O' => b"507 {\"at\":9007199254740991,\"error\":\"Limit\",\"which\":\"order\"}\n",
+        b'C' => b"400 {\"error\":\"Field\",\"field\":\"cookie\"}\n",
+        b'B' => b"400 {\"error\":\"Field\",\"field\":\"pullVersion\"}\n",
+        b'J' => b"400 {\"error\":\"NotJson\"}\n",
+        b'V' => b"200 {\"error\":\"VersionNotSupported\",\"versionType\":\"push\"}\n",
         b'F' => b"409 {\"error\":\"Future\",\"expected\":1,\"got\":2}\n",
         b'G' => b"409 {\"error\":\"Future\",\"expected\":3,\"got\":4}\n",
         b'i' => b"line 1\n",
@@ -39,6 +53,41 @@ fn second_push() -> &'static [u8] {
 
 fn null_pull() -> &'static [u8] {
     br#"{"user":"ann","pull":{"pullVersion":1,"clientGroupID":"g1","profileID":"p","schemaVersion":"","cookie":null}}
+"#
+}
+
+fn bare_pull() -> &'static [u8] {
+    br#"{"user":"ann","pull":{"pullVersion":1,"clientGroupID":"g1","profileID":"p","schemaVersion":"","cookie":7}}
+"#
+}
+
+fn greatest_pull() -> &'static [u8] {
+    br#"{"user":"ann","pull":{"pullVersion":1,"clientGroupID":"g1","profileID":"p","schemaVersion":"","cookie":{"cvrID":"2","order":9007199254740991}}}
+"#
+}
+
+fn text_pull() -> &'static [u8] {
+    br#"{"user":"ann","pull":{"pullVersion":1,"clientGroupID":"g1","profileID":"p","schemaVersion":"","cookie":"x"}}
+"#
+}
+
+fn void_push() -> &'static [u8] {
+    br#"{"user":"ann","push":{"pushVersion":1,"clientGroupID":"g1","profileID":"p","schemaVersion":"","mutations":[{"clientID":"c1","id":1,"name":"paint","args":null,"timestamp":0.5},{"clientID":"c1","id":2,"name":"updateTodo","args":{"id":"t1","sort":1.5},"timestamp":0.5}]}}
+"#
+}
+
+fn second_pulled() -> &'static [u8] {
+    br#"200 {"cookie":{"cvrID":"3","order":2},"lastMutationIDChanges":{"c1":1},"patch":[{"op":"clear"},{"key":"list/l1","op":"put","value":{"id":"l1","name":"Home","ownerID":"ann"}}]}
+"#
+}
+
+fn third_pulled() -> &'static [u8] {
+    br#"200 {"cookie":{"cvrID":"4","order":8},"lastMutationIDChanges":{"c1":1},"patch":[{"op":"clear"},{"key":"list/l1","op":"put","value":{"id":"l1","name":"Home","ownerID":"ann"}}]}
+"#
+}
+
+fn voids_pulled() -> &'static [u8] {
+    br#"200 {"cookie":{"cvrID":"3","order":1},"lastMutationIDChanges":{"c1":2},"patch":[{"op":"clear"}]}
 "#
 }
 
@@ -91,7 +140,7 @@ fn feeds(alloc: Global, input: &str, going: Going, status: u8, output: &str) -> 
 }
 
 // An input, the status, and the output.
-fn scripts() -> [(&'static str, u8, &'static str); 14] {
+fn scripts() -> [(&'static str, u8, &'static str); 18] {
     [
         ("", 0, ""),
         ("PQ", 0, "DR"),
@@ -103,7 +152,11 @@ fn scripts() -> [(&'static str, u8, &'static str); 14] {
         ("PeQ", 10, "Dj"),
         ("Pn", 10, "Dj"),
         ("Pu", 10, "Dj"),
-        ("Pb", 10, "Dj"),
+        ("PQQ79w", 0, "DRTUOC"),
+        ("PbQ", 0, "DBR"),
+        ("PlQ", 0, "DJR"),
+        ("PmQ", 0, "DVR"),
+        ("vQ", 0, "DW"),
         ("Pf", 10, "Dj"),
         ("Ps", 10, "Dj"),
         ("Px", 10, "Dj"),

@@ -12,7 +12,7 @@ use Rattle.rv_rows.specs.declared.row.Row.{Row}
 use Rattle.rv_rows.specs.declared.key.Kind.TheVariants as kinds
 use Rattle.rv_rows.specs.declared.row.Row.TheVariants as variants
 use Rattle.rv_rows.specs.declared.call.Call.{Call}
-use Rattle.rv_rows.specs.declared.call.Call.TheVariants.{CreateList}
+use Rattle.rv_rows.specs.declared.call.Call.TheVariants.{CreateList, Void}
 use Rattle.rv_rows.specs.Keys.{key_text, row_text, row_at, has_row, in_key_order}
 use Rattle.rv_rows.specs.Effects.{effect}
 use Rattle.rv_rows.specs.Held.{Stored, stored_key, find, put}
@@ -138,6 +138,8 @@ replay_act book stored user group client id (CreateList list name owner) o is r 
         | false ↦ λ g. replay_same book e stored (next ∙ ap (λ (b : Bool). cond (not b && bytes_eq owner user) (rows_of book ++ row ∷ []) (rows_of book)) (sym same ∙ f) ∙ ap (λ (b : Bool). cond b (rows_of book ++ row ∷ []) (rows_of book)) g) r
       ] refl
     ] refl)
+replay_act book stored user group client id (Void reason) o is r =
+    subst (λ (p : Option Row). IsReplay (book ++ Act user group client id (Void reason) ∷ []) (after_act book stored p)) (sym is) (replay_same book (Act user group client id (Void reason)) stored (fold_push _ _ book _) r)
 
 pub replay_look : (book : Book) (stored : List Stored) (user group : List ℕ) (order : ℕ) (base : Option ℕ) → IsReplay book stored → IsReplay (book ++ Look user group order base ∷ []) stored
 replay_look book stored user group order base r = replay_same book (Look user group order base) stored (fold_push _ _ book _) r

@@ -50,6 +50,7 @@ fn staged(alloc: Global, tables: &Tables, user: &User, call: &Call) -> Result<Op
                 Ok(None)
             }
         }
+        Call::Void(_) => Ok(None),
     }
 }
 

@@ -1,7 +1,7 @@
 use super::*;
 use crate::plain::PlainDesk;
 use rv_base::{Id, Num, Text, User};
-use rv_rows::Call;
+use rv_rows::{Call, Reason};
 use rv_wire::{Cookie, PullRequest, Which};
 use std::alloc::Global;
 use std::test::Fail;
@@ -155,6 +155,31 @@ fn answers_as_the_plain_desk_does(rt: HostRuntime) -> Result<(), Fail> {
         assert!(rt; same);
     }
     assert_eq!(rt; desk.book().len(), 10);
+    Ok(())
+}
+
+// A call that is no call, on both: it is entered and moves its client's last id, and changes nothing else.
+#[test]
+fn a_call_that_is_no_call_uses_its_id(rt: HostRuntime) -> Result<(), Fail> {
+    let alloc = rt.alloc();
+    let mut desk = Desk::new(alloc, 100);
+    let mut plain = PlainDesk::new(alloc, 100);
+    let (user, group) = (User::new(alloc, "ann")?, Id::new(alloc, "g1")?);
+    let client = Id::new(alloc, "c1")?;
+    for (id, reason, place) in [
+        (1, Reason::UnknownName, 1),
+        (1, Reason::BadArgs, 0),
+        (2, Reason::BadArgs, 2),
+    ] {
+        let id = Num::new(id)?;
+        let turn = desk.mutate(&user, &group, &client, id, Call::Void(reason));
+        let other = plain.mutate(&user, &group, &client, id, Call::Void(reason));
+        assert_eq!(rt; turn, other);
+        assert_eq!(rt; place_of(turn), place);
+    }
+    assert!(rt; both_mutate(alloc, &mut desk, &mut plain, "ann g1 c1 3 l1 ann", 3)?);
+    assert!(rt; both_pull(alloc, &mut desk, &mut plain, "ann", "g1")?);
+    assert_eq!(rt; standing(alloc, &desk)?.as_str(), "l1 3,");
     Ok(())
 }
 

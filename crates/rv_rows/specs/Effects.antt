@@ -5,7 +5,7 @@ use Rattle.rv_rows.specs.declared.key.Kind.TheVariants as kinds
 use Rattle.rv_rows.specs.declared.row.Row.{Row}
 use Rattle.rv_rows.specs.declared.row.Row.TheVariants as variants
 use Rattle.rv_rows.specs.declared.call.Call.{Call}
-use Rattle.rv_rows.specs.declared.call.Call.TheVariants.{CreateList}
+use Rattle.rv_rows.specs.declared.call.Call.TheVariants.{CreateList, Void}
 use Rattle.rv_rows.specs.Keys.{key_text, has_row}
 
 -- `createList`: where no list has the id and the owner is the caller, the list is added.
@@ -14,3 +14,5 @@ effect rows user (CreateList id name owner) =
     if not (has_row (key_text (record { kind = kinds.List; id = id })) rows) && bytes_eq owner user
     then rows ++ variants.List (record { id = id; name = name; owner = owner }) ∷ []
     else rows
+-- A call that is none has no effect.
+effect rows user (Void reason) = rows

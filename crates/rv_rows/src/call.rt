@@ -15,6 +15,17 @@ pub enum Call {
         /// The list's owner.
         owner: User,
     },
+    /// Nothing: the name and the arguments spell no call.
+    Void(Reason),
+}
+
+/// Why a name and arguments spell no call.
+#[derive(Clone, Copy, Debug, PartialEq, Eq)]
+pub enum Reason {
+    /// No mutator has the name.
+    UnknownName,
+    /// The mutator takes other arguments.
+    BadArgs,
 }
 
 impl Call {
@@ -28,6 +39,7 @@ impl Call {
                 name: name.copy(alloc)?,
                 owner: owner.copy(alloc)?,
             }),
+            Call::Void(reason) => Ok(Call::Void(*reason)),
         }
     }
 }

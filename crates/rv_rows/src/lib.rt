@@ -14,7 +14,7 @@ mod row_json;
 mod row_reading;
 mod tables;
 
-pub use call::Call;
+pub use call::{Call, Reason};
 pub use key::{Key, Kind};
 pub use members::{next_named, text_of_value};
 pub use row::{Clients, ListRow, Row};

@@ -48,6 +48,7 @@ pub fn effect(
             }
             Ok(rows)
         }
+        Call::Void(_) => Ok(rows),
     }
 }
 

@@ -4,7 +4,7 @@ use Rattle.std.proofs.lemmas.List.{take_more, take-append-drop, drop_more}
 use Rattle.rv_wire.specs.declared.fault.WireFault.{WireFault}
 use Rattle.rv_base.specs.Chains.{◌>>=◌, each}
 use Rattle.rv_wire.specs.Bodies.{Fails, datas}
-use Rattle.rv_wire.specs.declared.fault.WireFault.TheVariants.{NotServed, Memory}
+use Rattle.rv_wire.specs.declared.fault.WireFault.TheVariants.{NotJson, Field, Version, Memory}
 use Rattle.serde_json.specs.Data.{Data}
 use Rattle.serde_json.specs.View.{view, items_view}
 use Rattle.serde_json.specs.declared.value.Value.{Value}
@@ -41,7 +41,9 @@ each_ends_at f xs i x ys e lt is so_far fails =
 
 pub each_ends : {A B : Type 0} (f : A → Result B WireFault) (xs : List A) (i : ℕ) (x : A) (ys : List B) (e : WireFault) → i < length xs → x ≡ get_or xs i x → each f (take i xs) ≡ Ok ys → Fails e (f x) → Fails e (each f xs)
 each_ends f xs i x ys Memory lt is so_far fails = tt
-each_ends f xs i x ys NotServed lt is so_far fails = each_ends_at f xs i x ys NotServed lt is so_far fails
+each_ends f xs i x ys NotJson lt is so_far fails = each_ends_at f xs i x ys NotJson lt is so_far fails
+each_ends f xs i x ys (Field n) lt is so_far fails = each_ends_at f xs i x ys (Field n) lt is so_far fails
+each_ends f xs i x ys (Version k) lt is so_far fails = each_ends_at f xs i x ys (Version k) lt is so_far fails
 
 -- the items of a value, as a list
 pub datas_views : (vs : List Value) → datas (items_view vs) ≡ map view vs

@@ -5,8 +5,12 @@ use Rattle.serde_json.specs.Written.{compact_text}
 use Rattle.serde_json.proofs.OnLiterals.{serde_json_on_literals}
 use Rattle.rv_wire.specs.declared.error_body.Which.{Which}
 use Rattle.rv_wire.specs.declared.error_body.Which.TheVariants.{Book, Order}
-use Rattle.rv_wire.specs.declared.error_body.ErrorBody.TheVariants.{Future, Limit, Memory}
-use Rattle.rv_wire.specs.Errors.{which_text, error_data}
+use Rattle.rv_wire.specs.declared.error_body.ErrorBody.TheVariants.{VersionNotSupported, NotJson, Field, Future, Limit, Memory}
+use Rattle.rv_wire.specs.declared.fault.FieldName.{FieldName}
+use Rattle.rv_wire.specs.declared.fault.FieldName.TheVariants as fields
+use Rattle.rv_wire.specs.declared.fault.VersionKind.{VersionKind}
+use Rattle.rv_wire.specs.declared.fault.VersionKind.TheVariants as versions
+use Rattle.rv_wire.specs.Errors.{field_text, version_text, which_text, error_data}
 
 pub future_text : (e g : ℕ) → (((codes "{\"error\":\"Future\",\"expected\":" ++ decimal e) ++ codes ",\"got\":") ++ decimal g) ++ codes "}" ≡ compact_text (error_data (Future e g))
 unfolding serde_json_on_literals
@@ -20,3 +24,26 @@ limit_text Order n = simp append_assoc
 pub memory_text : compact_text (error_data Memory) ≡ codes "{\"error\":\"memory\"}"
 unfolding serde_json_on_literals
 memory_text = refl
+
+pub not_json_text : compact_text (error_data NotJson) ≡ codes "{\"error\":\"NotJson\"}"
+unfolding serde_json_on_literals
+not_json_text = refl
+
+pub field_error_text : (field : FieldName) → (codes "{\"error\":\"Field\",\"field\":\"" ++ field_text field) ++ codes "\"}" ≡ compact_text (error_data (Field field))
+unfolding serde_json_on_literals
+field_error_text fields.PushVersion = refl
+field_error_text fields.PullVersion = refl
+field_error_text fields.SchemaVersion = refl
+field_error_text fields.ProfileId = refl
+field_error_text fields.ClientGroupId = refl
+field_error_text fields.Mutations = refl
+field_error_text fields.ClientId = refl
+field_error_text fields.Id = refl
+field_error_text fields.Name = refl
+field_error_text fields.Cookie = refl
+
+pub version_error_text : (kind : VersionKind) → (codes "{\"error\":\"VersionNotSupported\",\"versionType\":\"" ++ version_text kind) ++ codes "\"}" ≡ compact_text (error_data (VersionNotSupported kind))
+unfolding serde_json_on_literals
+version_error_text versions.Push = refl
+version_error_text versions.Pull = refl
+version_error_text versions.Schema = refl

@@ -1,19 +1,24 @@
 -- The body of a push and of a pull, version 1 of each: the checks in their order. Other members are ignored.
-use Rattle.std.specs.Prelude.{◌≡◌, ℕ, List, [], ◌∷◌, Bool, Option, Some, None, Result, Ok, Err, String, string_bytes, codes, unwrap_or, ◌==◌}
+use Rattle.std.specs.Prelude.{◌≡◌, ℕ, List, [], ◌∷◌, Bool, Option, Some, None, Result, Ok, Err, String, string_bytes, codes, unwrap_or, option_map, ◌==◌, if◌then◌else◌}
 use Rattle.std.specs.declared.alloc.Global.{Global}
 use Rattle.std.specs.List.{list_any}
-use Rattle.std.specs.Str.{bytes_eq}
-use Rattle.serde_json.specs.Data.{Data, null, Items, no_items, item}
-use Rattle.serde_json.specs.Find.{get, as_object, as_null}
+use Rattle.std.specs.Str.{bytes_eq, is_utf8}
+use Rattle.serde_json.specs.Read.{read}
+use Rattle.serde_json.specs.Data.{Data, null, boolean, number, string, array, object, Items, no_items, item}
+use Rattle.serde_json.specs.Find.{get, as_object}
 use Rattle.rv_base.specs.Chains.{◌>>=◌, need, hold, each}
 use Rattle.rv_wire.specs.declared.fault.WireFault.{WireFault}
-use Rattle.rv_wire.specs.declared.fault.WireFault.TheVariants.{NotServed, Memory}
+use Rattle.rv_wire.specs.declared.fault.WireFault.TheVariants.{NotJson, Field, Version, Memory}
+use Rattle.rv_wire.specs.declared.fault.FieldName.{FieldName}
+use Rattle.rv_wire.specs.declared.fault.FieldName.TheVariants as fields
+use Rattle.rv_wire.specs.declared.fault.VersionKind.{VersionKind}
+use Rattle.rv_wire.specs.declared.fault.VersionKind.TheVariants as versions
 use Rattle.rv_wire.specs.declared.cookie.Cookie.{Cookie}
-use Rattle.rv_wire.specs.declared.cookie.Cookie.TheVariants.{Null}
+use Rattle.rv_wire.specs.declared.cookie.Cookie.TheVariants.{Null, Bare, Named}
 use Rattle.rv_wire.specs.declared.push.Mutation.{Mutation}
 use Rattle.rv_wire.specs.declared.push.Push.{Push}
 use Rattle.rv_wire.specs.declared.pull.PullRequest.{PullRequest}
-use Rattle.rv_wire.specs.Members.{text_member, string_member, num_member, array_member}
+use Rattle.rv_wire.specs.Members.{text_member, string_member, num_in, num_member, array_member}
 use Rattle.rv_wire.specs.Calls.{call_in}
 
 -- the answer is this fault, or memory was refused
@@ -34,25 +39,30 @@ abbrev pub is_served : List (String Global) → List ℕ → Bool
 is_served schemas schema = list_any (λ served. bytes_eq (string_bytes served) schema) schemas
 
 -- what both bodies begin with: an object, its version 1, a served schema, a profile, and the client group
-unfoldable pub group_in : List ℕ → (List ℕ → Bool) → Data → Result (List ℕ) WireFault
-group_in version served body = do
-  members ← need NotServed (as_object body)
-  number ← need NotServed (num_member version body)
-  right ← hold NotServed (number == 1)
-  schema ← need NotServed (string_member (codes "schemaVersion") body)
-  known ← hold NotServed (served schema)
-  profile ← need NotServed (string_member (codes "profileID") body)
-  need NotServed (text_member 1 128 (codes "clientGroupID") body)
+unfoldable pub group_in : VersionKind → List ℕ → FieldName → (List ℕ → Bool) → Data → Result (List ℕ) WireFault
+group_in kind version field served body = do
+  members ← need NotJson (as_object body)
+  found ← need (Field field) (num_member version body)
+  right ← hold (Version kind) (found == 1)
+  schema ← need (Field fields.SchemaVersion) (string_member (codes "schemaVersion") body)
+  known ← hold (Version versions.Schema) (served schema)
+  profile ← need (Field fields.ProfileId) (string_member (codes "profileID") body)
+  need (Field fields.ClientGroupId) (text_member 1 128 (codes "clientGroupID") body)
+
+unfoldable pub push_group_in : (List ℕ → Bool) → Data → Result (List ℕ) WireFault
+push_group_in served body = group_in versions.Push (codes "pushVersion") fields.PushVersion served body
+
+unfoldable pub pull_group_in : (List ℕ → Bool) → Data → Result (List ℕ) WireFault
+pull_group_in served body = group_in versions.Pull (codes "pullVersion") fields.PullVersion served body
 
 -- one mutation; absent arguments are null
 unfoldable pub mutation_in : Data → Result Mutation WireFault
 mutation_in value = do
-  members ← need NotServed (as_object value)
-  client ← need NotServed (text_member 1 128 (codes "clientID") value)
-  id ← need NotServed (num_member (codes "id") value)
-  name ← need NotServed (string_member (codes "name") value)
-  call ← call_in name (unwrap_or (get (codes "args") value) null)
-  Ok (record { client = client; id = id; call = call })
+  members ← need (Field fields.Mutations) (as_object value)
+  client ← need (Field fields.ClientId) (text_member 1 128 (codes "clientID") value)
+  id ← need (Field fields.Id) (num_member (codes "id") value)
+  name ← need (Field fields.Name) (string_member (codes "name") value)
+  Ok (record { client = client; id = id; call = call_in name (unwrap_or (get (codes "args") value) null) })
 
 -- the items as a list
 abbrev pub datas : Items → List Data
@@ -61,25 +71,45 @@ datas (item value values) = value ∷ datas values
 
 unfoldable pub mutations_in : Data → Result (List Mutation) WireFault
 mutations_in body = do
-  values ← need NotServed (array_member (codes "mutations") body)
+  values ← need (Field fields.Mutations) (array_member (codes "mutations") body)
   each mutation_in (datas values)
 
 unfoldable pub push_in : (List ℕ → Bool) → Data → Result Push WireFault
 push_in served body = do
-  group ← group_in (codes "pushVersion") served body
+  group ← push_group_in served body
   mutations ← mutations_in body
   Ok (record { group = group; mutations = mutations })
 
--- the cookie is absent or null
-abbrev pub null_cookie : Option Data → Result Cookie WireFault
-null_cookie None = Ok Null
-null_cookie (Some value) = need NotServed (as_null value) >>= λ _. Ok Null
+-- a cookie: null, a number, or an object with a text `cvrID` and a number `order`
+abbrev pub named_cookie : Option (List ℕ) → Option ℕ → Option Cookie
+named_cookie (Some place) (Some order) = Some (Named place order)
+named_cookie place order = None
 
+abbrev pub cookie_at : Data → Option Cookie
+cookie_at null = Some Null
+cookie_at (number n) = option_map (λ order. Bare order) (num_in (number n))
+cookie_at (object members) = named_cookie (text_member 0 16384 (codes "cvrID") (object members)) (num_member (codes "order") (object members))
+cookie_at (boolean b) = None
+cookie_at (string text) = None
+cookie_at (array values) = None
+
+-- an absent cookie is null
 abbrev pub cookie_in : Data → Result Cookie WireFault
-cookie_in body = null_cookie (get (codes "cookie") body)
+cookie_in body = need (Field fields.Cookie) (cookie_at (unwrap_or (get (codes "cookie") body) null))
 
 unfoldable pub pull_in : (List ℕ → Bool) → Data → Result PullRequest WireFault
 pull_in served body = do
-  group ← group_in (codes "pullVersion") served body
+  group ← pull_group_in served body
   cookie ← cookie_in body
   Ok (record { group = group; cookie = cookie })
+
+-- the JSON value of a text that is UTF-8
+unfoldable pub json_in : List ℕ → Option Data
+json_in text = if is_utf8 text then read text else None
+
+-- the push and the pull of a body's bytes
+abbrev pub push_text : (List ℕ → Bool) → List ℕ → Result Push WireFault
+push_text served text = need NotJson (json_in text) >>= push_in served
+
+abbrev pub pull_body : (List ℕ → Bool) → List ℕ → Result PullRequest WireFault
+pull_body served text = need NotJson (json_in text) >>= pull_in served

@@ -4,18 +4,54 @@ use Rattle.serde_json.specs.Data.{Data, number, unsigned, string, object, member
 use Rattle.rv_wire.specs.declared.error_body.Which.{Which}
 use Rattle.rv_wire.specs.declared.error_body.Which.TheVariants.{Book, Order}
 use Rattle.rv_wire.specs.declared.error_body.ErrorBody.{ErrorBody}
-use Rattle.rv_wire.specs.declared.error_body.ErrorBody.TheVariants.{Future, Limit, Memory}
+use Rattle.rv_wire.specs.declared.error_body.ErrorBody.TheVariants.{VersionNotSupported, NotJson, Field, Future, Limit, Memory}
+use Rattle.rv_wire.specs.declared.fault.WireFault.{WireFault}
+use Rattle.rv_wire.specs.declared.fault.WireFault.TheVariants as faults
+use Rattle.rv_wire.specs.declared.fault.FieldName.{FieldName}
+use Rattle.rv_wire.specs.declared.fault.FieldName.TheVariants as fields
+use Rattle.rv_wire.specs.declared.fault.VersionKind.{VersionKind}
+use Rattle.rv_wire.specs.declared.fault.VersionKind.TheVariants as versions
 
 abbrev pub which_text : Which → List ℕ
 which_text Book = codes "book"
 which_text Order = codes "order"
 
+abbrev pub field_text : FieldName → List ℕ
+field_text fields.PushVersion = codes "pushVersion"
+field_text fields.PullVersion = codes "pullVersion"
+field_text fields.SchemaVersion = codes "schemaVersion"
+field_text fields.ProfileId = codes "profileID"
+field_text fields.ClientGroupId = codes "clientGroupID"
+field_text fields.Mutations = codes "mutations"
+field_text fields.ClientId = codes "clientID"
+field_text fields.Id = codes "id"
+field_text fields.Name = codes "name"
+field_text fields.Cookie = codes "cookie"
+
+abbrev pub version_text : VersionKind → List ℕ
+version_text versions.Push = codes "push"
+version_text versions.Pull = codes "pull"
+version_text versions.Schema = codes "schema"
+
 abbrev pub error_data : ErrorBody → Data
+error_data (VersionNotSupported kind) = object (member (codes "error") (string (codes "VersionNotSupported")) (member (codes "versionType") (string (version_text kind)) no_members))
+error_data NotJson = object (member (codes "error") (string (codes "NotJson")) no_members)
+error_data (Field field) = object (member (codes "error") (string (codes "Field")) (member (codes "field") (string (field_text field)) no_members))
 error_data (Future expected got) = object (member (codes "error") (string (codes "Future")) (member (codes "expected") (number (unsigned expected)) (member (codes "got") (number (unsigned got)) no_members)))
 error_data (Limit which at) = object (member (codes "at") (number (unsigned at)) (member (codes "error") (string (codes "Limit")) (member (codes "which") (string (which_text which)) no_members)))
 error_data Memory = object (member (codes "error") (string (codes "memory")) no_members)
 
 abbrev pub error_status : ErrorBody → ℕ
+error_status (VersionNotSupported kind) = 200
+error_status NotJson = 400
+error_status (Field field) = 400
 error_status (Future expected got) = 409
 error_status (Limit which at) = 507
 error_status Memory = 503
+
+-- the answer to a body that is not taken
+abbrev pub fault_error : WireFault → ErrorBody
+fault_error faults.NotJson = NotJson
+fault_error (faults.Field field) = Field field
+fault_error (faults.Version kind) = VersionNotSupported kind
+fault_error faults.Memory = Memory

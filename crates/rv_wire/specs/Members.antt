@@ -16,9 +16,13 @@ string_member name body = option_and_then as_str (get name body)
 abbrev pub num_within : ℕ → Option ℕ
 num_within n = if nat_lt n (2 ^ 53) then Some n else None
 
+-- a value that is such a number
+abbrev pub num_in : Data → Option ℕ
+num_in value = option_and_then num_within (option_and_then as_u64 (as_number value))
+
 -- a member that is such a number
 abbrev pub num_member : List ℕ → Data → Option ℕ
-num_member name body = option_and_then num_within (option_and_then as_u64 (option_and_then as_number (get name body)))
+num_member name body = option_and_then num_in (get name body)
 
 -- the items of a member that is an array
 abbrev pub array_member : List ℕ → Data → Option Items

@@ -1,42 +1,35 @@
 // The call of a mutation's name and arguments.
-ghost use Rattle.std.specs.Prelude.{◌≡◌};
+ghost use Rattle.std.specs.Prelude.{◌≡◌, IfOk};
 ghost use Rattle.serde_json.specs.View.{view};
-ghost use Rattle.rv_wire.specs.Bodies.{Gives};
 ghost use Rattle.rv_wire.specs.Calls.{call_in, create_list_in};
 
-use crate::fault::WireFault;
 use crate::members::text_member;
-use rv_rows::Call;
+use rv_base::Memory;
+use rv_rows::{Call, Reason};
 use serde_json::Value;
 use std::alloc::Global;
 
-pub(crate) fn call_of(alloc: Global, name: &str, args: &Value) -> Result<Call, WireFault>
-    ensures { Gives result (call_in name.now (view args.now)) }
+/// The call that a mutation's name and arguments spell: `Void` where they spell none.
+pub fn read_call(alloc: Global, name: &str, args: &Value) -> Result<Call, Memory>
+    ensures { IfOk result (λ call. call ≡ call_in name.now (view args.now)) }
 {
     match name {
         "createList" => create_list(alloc, args),
-        _ => Err(WireFault::NotServed),
+        _ => Ok(Call::Void(Reason::UnknownName)),
     }
 }
 
-#[tactic(auto, unfolding(crate::specs::Calls::create_list_in))]
-fn create_list(alloc: Global, args: &Value) -> Result<Call, WireFault>
-    ensures { Gives result (create_list_in (view args.now)) }
+fn create_list(alloc: Global, args: &Value) -> Result<Call, Memory>
+    ensures { IfOk result (λ call. call ≡ create_list_in (view args.now)) }
 {
-    let id = match text_member(alloc, args, "id") {
-        Ok(Some(id)) => id,
-        Ok(None) => return Err(WireFault::NotServed),
-        Err(_) => return Err(WireFault::Memory),
+    let Some(id) = text_member(alloc, args, "id")? else {
+        return Ok(Call::Void(Reason::BadArgs));
     };
-    let name = match text_member(alloc, args, "name") {
-        Ok(Some(name)) => name,
-        Ok(None) => return Err(WireFault::NotServed),
-        Err(_) => return Err(WireFault::Memory),
+    let Some(name) = text_member(alloc, args, "name")? else {
+        return Ok(Call::Void(Reason::BadArgs));
     };
-    let owner = match text_member(alloc, args, "ownerID") {
-        Ok(Some(owner)) => owner,
-        Ok(None) => return Err(WireFault::NotServed),
-        Err(_) => return Err(WireFault::Memory),
+    let Some(owner) = text_member(alloc, args, "ownerID")? else {
+        return Ok(Call::Void(Reason::BadArgs));
     };
     Ok(Call::CreateList { id, name, owner })
 }

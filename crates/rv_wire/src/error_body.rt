@@ -1,3 +1,4 @@
+use crate::fault::{FieldName, VersionKind};
 use rv_base::Num;
 
 /// What is full.
@@ -12,6 +13,12 @@ pub enum Which {
 /// Why a request was refused, as its answer tells.
 #[derive(Clone, Copy, Debug, PartialEq, Eq)]
 pub enum ErrorBody {
+    /// A version of the body is not served. The client's reference names this answer.
+    VersionNotSupported(VersionKind),
+    /// The body is no JSON object.
+    NotJson,
+    /// This member of the body is the first that is wrong.
+    Field(FieldName),
     /// A mutation's id is above the client's last + 1.
     Future {
         /// The client's last mutation id + 1.

@@ -10,6 +10,7 @@ mod calls;
 mod cookie;
 mod error_body;
 mod fault;
+mod json;
 mod members;
 mod op;
 mod pull;
@@ -20,14 +21,16 @@ mod refusal;
 
 pub use answer::pull_text;
 pub use body::Schemas;
+pub use calls::read_call;
 pub use cookie::Cookie;
 pub use error_body::{ErrorBody, Which};
-pub use fault::WireFault;
+pub use fault::{FieldName, VersionKind, WireFault};
+pub use json::read_json;
 pub use op::{Op, Ops};
 pub use pull::PullRequest;
-pub use pull_body::pull_of_value;
+pub use pull_body::{pull_of_value, read_pull};
 pub use push::{Mutation, Mutations, Push};
-pub use push_body::push_of_value;
+pub use push_body::{push_of_value, read_push};
 pub use refusal::error_text;
 
 #[cfg(test)]

@@ -1,7 +1,7 @@
 // Members of a body.
 ghost use Rattle.std.specs.Prelude.{◌≡◌, IfOk, option_map};
 ghost use Rattle.serde_json.specs.View.{view, items_view};
-ghost use Rattle.rv_wire.specs.Members.{text_member, string_member, num_member, array_member};
+ghost use Rattle.rv_wire.specs.Members.{text_member, string_member, num_in, num_member, array_member};
 
 use rv_base::{Bounded, Memory, Num};
 use rv_rows::text_of_value;
@@ -29,12 +29,19 @@ pub(crate) fn string_member<'v>(value: &'v Value, name: &str) -> Option<&'v str>
     value.get(name).and_then(Value::as_str)
 }
 
+// The number that a value is, where it is a `Num`.
+pub(crate) fn num_of_value(value: &Value) -> Option<Num>
+    ensures { result ≡ num_in (view value.now) }
+{
+    let number = value.as_u64()?;
+    Num::new(number).ok()
+}
+
 // The number of a member, where it is there and is a `Num`.
 pub(crate) fn num_member(value: &Value, name: &str) -> Option<Num>
     ensures { result ≡ num_member name.now (view value.now) }
 {
-    let number = value.get(name).and_then(Value::as_u64)?;
-    Num::new(number).ok()
+    num_of_value(value.get(name)?)
 }
 
 // The items of a member that is an array.

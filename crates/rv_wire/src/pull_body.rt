@@ -1,30 +1,60 @@
-ghost use Rattle.std.specs.Prelude.{◌≡◌};
+ghost use Rattle.std.specs.Prelude.{◌≡◌, IfOk, codes};
 ghost use Rattle.serde_json.specs.View.{view};
-ghost use Rattle.rv_wire.specs.Bodies.{Gives, is_served, cookie_in, pull_in};
+ghost use Rattle.rv_wire.specs.Bodies.{Gives, is_served, named_cookie, cookie_at, cookie_in, pull_in, pull_body};
+ghost use Rattle.rv_wire.specs.Members.{text_member, num_member};
 
-use crate::body::{Schemas, group_of_value};
+use crate::body::{Schemas, pull_group};
 use crate::cookie::Cookie;
-use crate::fault::WireFault;
+use crate::fault::{FieldName, WireFault};
+use crate::json::json_of_body;
+use crate::members::{num_member, num_of_value, text_member};
 use crate::pull::PullRequest;
+use rv_base::Memory;
 use serde_json::Value;
 use std::alloc::Global;
 
-fn cookie_of(value: &Value) -> Result<Cookie, WireFault>
-    ensures { Gives result (cookie_in (view value.now)) }
+fn named_cookie(alloc: Global, value: &Value) -> Result<Option<Cookie>, Memory>
+    ensures { IfOk result (λ o. o ≡ named_cookie (text_member 0 16384 (codes "cvrID") (view value.now)) (num_member (codes "order") (view value.now))) }
 {
-    match value.get("cookie") {
-        None => Ok(Cookie::Null),
-        Some(cookie) => {
-            if cookie.is_null() {
-                Ok(Cookie::Null)
-            } else {
-                Err(WireFault::NotServed)
-            }
-        }
+    let Some(place_text) = text_member(alloc, value, "cvrID")? else {
+        return Ok(None);
+    };
+    match num_member(value, "order") {
+        Some(order) => Ok(Some(Cookie::Named { place_text, order })),
+        None => Ok(None),
     }
 }
 
-/// The pull that a value is, where it is the body of one: every check passes, and the cookie is absent or null.
+fn cookie_at(alloc: Global, value: &Value) -> Result<Option<Cookie>, Memory>
+    ensures { IfOk result (λ o. o ≡ cookie_at (view value.now)) }
+{
+    match value {
+        Value::Null => Ok(Some(Cookie::Null)),
+        Value::Number(_) => Ok(num_of_value(value).map(Cookie::Bare)),
+        Value::Object(_) => named_cookie(alloc, value),
+        Value::Bool(_) => Ok(None),
+        Value::String(_) => Ok(None),
+        Value::Array(_) => Ok(None),
+    }
+}
+
+fn cookie_of(alloc: Global, value: &Value) -> Result<Cookie, WireFault>
+    ensures { Gives result (cookie_in (view value.now)) }
+{
+    let Some(cookie) = value.get("cookie") else {
+        return Ok(Cookie::Null);
+    };
+    match cookie_at(alloc, cookie) {
+        Ok(Some(cookie)) => Ok(cookie),
+        Ok(None) => Err(WireFault::Field(FieldName::Cookie)),
+        Err(Memory) => Err(WireFault::Memory),
+    }
+}
+
+/// The pull that a value is, or the first thing that is wrong with it, in this order: no JSON object; `pullVersion` no
+/// `Num`, then not 1; `schemaVersion` no text, then not served; `profileID` no text; `clientGroupID` no `Id`; and last
+/// `cookie`, which is absent, null, a `Num`, or an object with a `Text` at `cvrID` and a `Num` at `order`. Other members
+/// are ignored.
 #[tactic(auto, unfolding(crate::specs::Bodies::pull_in))]
 pub fn pull_of_value(
     alloc: Global,
@@ -33,12 +63,22 @@ pub fn pull_of_value(
 ) -> Result<PullRequest, WireFault>
     ensures { Gives result (pull_in (is_served schemas.now) (view value.now)) }
 {
-    let group = match group_of_value(alloc, value, "pullVersion", schemas) {
+    let group = match pull_group(alloc, value, schemas) {
         Ok(group) => group,
         Err(fault) => return Err(fault),
     };
-    match cookie_of(value) {
+    match cookie_of(alloc, value) {
         Ok(cookie) => Ok(PullRequest { group, cookie }),
+        Err(fault) => Err(fault),
+    }
+}
+
+/// The pull that a body's bytes are. Bytes that are not UTF-8, are no JSON or nest deeper than 127 are `NotJson`.
+pub fn read_pull(alloc: Global, body: &[u8], schemas: &Schemas) -> Result<PullRequest, WireFault>
+    ensures { Gives result (pull_body (is_served schemas.now) body.now) }
+{
+    match json_of_body(alloc, body) {
+        Ok(value) => pull_of_value(alloc, &value, schemas),
         Err(fault) => Err(fault),
     }
 }

@@ -1,28 +1,29 @@
-ghost use Rattle.std.specs.Prelude.{◌≡◌, codes, unwrap_or, map};
+ghost use Rattle.std.specs.Prelude.{◌≡◌, IfOk, codes, unwrap_or, map};
 ghost use Rattle.serde_json.specs.Data.{null};
 ghost use Rattle.serde_json.specs.Find.{get};
 ghost use Rattle.serde_json.specs.View.{view};
 ghost use Rattle.rv_base.specs.Chains.{each};
-ghost use Rattle.rv_wire.specs.Bodies.{Gives, GivesAll, is_served, mutation_in, mutations_in, push_in};
+ghost use Rattle.rv_wire.specs.Bodies.{Gives, GivesAll, is_served, mutation_in, mutations_in, push_in, push_text};
 ghost use Rattle.rv_wire.specs.Calls.{call_in};
 
-use crate::body::{Schemas, group_of_value};
-use crate::calls::call_of;
-use crate::fault::WireFault;
+use crate::body::{Schemas, push_group};
+use crate::calls::read_call;
+use crate::fault::{FieldName, WireFault};
+use crate::json::json_of_body;
 use crate::members::{array_member, num_member, string_member, text_member};
 use crate::push::{Mutation, Push};
-use rv_base::Sequence;
+use rv_base::{Memory, Sequence};
 use rv_rows::Call;
 use serde_json::Value;
 use std::alloc::Global;
 
 // The call of a mutation, whose arguments are null where they are absent.
-fn call_of_mutation(alloc: Global, name: &str, value: &Value) -> Result<Call, WireFault>
-    ensures { Gives result (call_in name.now (unwrap_or (get (codes "args") (view value.now)) null)) }
+fn call_of_mutation(alloc: Global, name: &str, value: &Value) -> Result<Call, Memory>
+    ensures { IfOk result (λ call. call ≡ call_in name.now (unwrap_or (get (codes "args") (view value.now)) null)) }
 {
     match value.get("args") {
-        Some(args) => call_of(alloc, name, args),
-        None => call_of(alloc, name, &Value::Null),
+        Some(args) => read_call(alloc, name, args),
+        None => read_call(alloc, name, &Value::Null),
     }
 }
 
@@ -31,22 +32,22 @@ fn mutation_of(alloc: Global, value: &Value) -> Result<Mutation, WireFault>
     ensures { Gives result (mutation_in (view value.now)) }
 {
     if !value.is_object() {
-        return Err(WireFault::NotServed);
+        return Err(WireFault::Field(FieldName::Mutations));
     }
     let client = match text_member(alloc, value, "clientID") {
         Ok(Some(client)) => client,
-        Ok(None) => return Err(WireFault::NotServed),
+        Ok(None) => return Err(WireFault::Field(FieldName::ClientId)),
         Err(_) => return Err(WireFault::Memory),
     };
     let Some(id) = num_member(value, "id") else {
-        return Err(WireFault::NotServed);
+        return Err(WireFault::Field(FieldName::Id));
     };
     let Some(name) = string_member(value, "name") else {
-        return Err(WireFault::NotServed);
+        return Err(WireFault::Field(FieldName::Name));
     };
     match call_of_mutation(alloc, name, value) {
         Ok(call) => Ok(Mutation { client, id, call }),
-        Err(fault) => Err(fault),
+        Err(Memory) => Err(WireFault::Memory),
     }
 }
 
@@ -73,18 +74,20 @@ fn mutations_of_body(alloc: Global, value: &Value) -> Result<Vec<Mutation>, Wire
     ensures { GivesAll (λ v. v.items) result (mutations_in (view value.now)) }
 {
     match array_member(value, "mutations") {
-        None => Err(WireFault::NotServed),
+        None => Err(WireFault::Field(FieldName::Mutations)),
         Some(values) => mutations_of(alloc, values),
     }
 }
 
-/// The push that a value is, where it is the body of one: every check passes, and each mutation is a well-formed
-/// `createList`.
+/// The push that a value is, or the first thing that is wrong with it, in this order: no JSON object; `pushVersion` no
+/// `Num`, then not 1; `schemaVersion` no text, then not served; `profileID` no text; `clientGroupID` no `Id`;
+/// `mutations` no array; then of each mutation in turn: no object, `clientID` no `Id`, `id` no `Num`, `name` no text.
+/// Other members are ignored, and arguments that are absent are null.
 #[tactic(auto, unfolding(crate::specs::Bodies::push_in))]
 pub fn push_of_value(alloc: Global, value: &Value, schemas: &Schemas) -> Result<Push, WireFault>
     ensures { Gives result (push_in (is_served schemas.now) (view value.now)) }
 {
-    let group = match group_of_value(alloc, value, "pushVersion", schemas) {
+    let group = match push_group(alloc, value, schemas) {
         Ok(group) => group,
         Err(fault) => return Err(fault),
     };
@@ -93,6 +96,16 @@ pub fn push_of_value(alloc: Global, value: &Value, schemas: &Schemas) -> Result<
             group,
             mutations: Sequence::from_vec(mutations),
         }),
+        Err(fault) => Err(fault),
+    }
+}
+
+/// The push that a body's bytes are. Bytes that are not UTF-8, are no JSON or nest deeper than 127 are `NotJson`.
+pub fn read_push(alloc: Global, body: &[u8], schemas: &Schemas) -> Result<Push, WireFault>
+    ensures { Gives result (push_text (is_served schemas.now) body.now) }
+{
+    match json_of_body(alloc, body) {
+        Ok(value) => push_of_value(alloc, &value, schemas),
         Err(fault) => Err(fault),
     }
 }

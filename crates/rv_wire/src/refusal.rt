@@ -1,8 +1,9 @@
 ghost use Rattle.std.specs.Prelude.{◌≡◌, ◌≤◌, ◌+◌, ◌++◌, ◌<◌, length, take, decimal, codes};
 ghost use Rattle.serde_json.specs.Written.{compact_text};
-ghost use Rattle.rv_wire.specs.Errors.{which_text, error_data, error_status};
+ghost use Rattle.rv_wire.specs.Errors.{field_text, version_text, which_text, error_data, error_status, fault_error};
 
 use crate::error_body::{ErrorBody, Which};
+use crate::fault::{FieldName, VersionKind, WireFault};
 use itoa::Buffer;
 
 // Copies a text into the buffer from a place on, and answers the place after it.
@@ -38,12 +39,62 @@ fn put_which(out: &mut [u8; 128], at: usize, which: Which) -> usize
     }
 }
 
+impl FieldName {
+    /// The member's name.
+    pub fn name(self) -> &'static str
+        ensures name { result.now ≡ field_text self }
+        ensures bound { length result.now ≤ 13 }
+    {
+        match self {
+            FieldName::PushVersion => "pushVersion",
+            FieldName::PullVersion => "pullVersion",
+            FieldName::SchemaVersion => "schemaVersion",
+            FieldName::ProfileId => "profileID",
+            FieldName::ClientGroupId => "clientGroupID",
+            FieldName::Mutations => "mutations",
+            FieldName::ClientId => "clientID",
+            FieldName::Id => "id",
+            FieldName::Name => "name",
+            FieldName::Cookie => "cookie",
+        }
+    }
+}
+
+impl VersionKind {
+    /// The name of what the version is of.
+    pub fn name(self) -> &'static str
+        ensures name { result.now ≡ version_text self }
+        ensures bound { length result.now ≤ 6 }
+    {
+        match self {
+            VersionKind::Push => "push",
+            VersionKind::Pull => "pull",
+            VersionKind::Schema => "schema",
+        }
+    }
+}
+
 /// Writes the JSON text of a refusal to the buffer's front, and answers how many bytes it has. Takes no memory.
 pub fn error_text(error: &ErrorBody, out: &mut [u8; 128]) -> usize
     ensures length { result ≤ 128 }
     ensures text { take result out.new ≡ compact_text (error_data error.now) }
 {
     match error {
+        ErrorBody::VersionNotSupported(kind) => {
+            let at = put(
+                out,
+                0,
+                b"{\"error\":\"VersionNotSupported\",\"versionType\":\"",
+            );
+            let at = put(out, at, kind.name().as_bytes());
+            put(out, at, b"\"}")
+        }
+        ErrorBody::NotJson => put(out, 0, b"{\"error\":\"NotJson\"}"),
+        ErrorBody::Field(field) => {
+            let at = put(out, 0, b"{\"error\":\"Field\",\"field\":\"");
+            let at = put(out, at, field.name().as_bytes());
+            put(out, at, b"\"}")
+        }
         ErrorBody::Future { expected, got } => {
             let at = put(out, 0, b"{\"error\":\"Future\",\"expected\":");
             let at = put_number(out, at, expected.get());
@@ -61,14 +112,31 @@ pub fn error_text(error: &ErrorBody, out: &mut [u8; 128]) -> usize
 }
 
 impl ErrorBody {
-    /// The status that a refusal is answered with: 409, 507 or 503.
+    /// The status that a refusal is answered with.
     pub fn status(&self) -> u16
         ensures { result ≡ error_status self.now }
     {
         match self {
+            ErrorBody::VersionNotSupported(_) => 200,
+            ErrorBody::NotJson => 400,
+            ErrorBody::Field(_) => 400,
             ErrorBody::Future { .. } => 409,
             ErrorBody::Limit(_, _) => 507,
             ErrorBody::Memory => 503,
+        }
+    }
+}
+
+impl WireFault {
+    /// The refusal that a body which is not taken is answered with.
+    pub fn refusal(self) -> ErrorBody
+        ensures { result ≡ fault_error self }
+    {
+        match self {
+            WireFault::NotJson => ErrorBody::NotJson,
+            WireFault::Field(field) => ErrorBody::Field(field),
+            WireFault::Version(kind) => ErrorBody::VersionNotSupported(kind),
+            WireFault::Memory => ErrorBody::Memory,
         }
     }
 }

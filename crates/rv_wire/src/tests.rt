@@ -12,11 +12,8 @@ const PUSH: &str =
 const PULL: &str =
     r#"{"pullVersion":1,"clientGroupID":"g1","profileID":"p","schemaVersion":"","cookie":null}"#;
 
-// What a body that is not of the form is told as.
-const NO: &str = "NotServed";
-
 // A piece of `PUSH`, what stands in its place, and what the push is told as.
-static PUSHES: [(&str, &str, &str); 81] = [
+static PUSHES: [(&str, &str, &str); 85] = [
     (PUSH, PUSH, "g1: c1 1 l1 Home ann;"),
     (
         r#"{"push"#,
@@ -69,123 +66,209 @@ static PUSHES: [(&str, &str, &str); 81] = [
         r#"\"\\\n\u0001\u00e9"#,
         "g1: c1 1 l1 \"\\\n\u{1}é ann;",
     ),
-    (PUSH, "null", NO),
-    (PUSH, "[]", NO),
-    (PUSH, r#""pushVersion""#, NO),
-    (r#""pushVersion":1,"#, "", NO),
-    (r#""pushVersion":1"#, r#""pushVersion":null"#, NO),
-    (r#""pushVersion":1"#, r#""pushVersion":"1""#, NO),
-    (r#""pushVersion":1"#, r#""pushVersion":0"#, NO),
-    (r#""pushVersion":1"#, r#""pushVersion":2"#, NO),
-    (r#""pushVersion":1"#, r#""pushVersion":1.0"#, NO),
-    (r#""pushVersion":1"#, r#""pushVersion":1e0"#, NO),
-    (r#""pushVersion":1"#, r#""pushVersion":-0"#, NO),
-    (r#""pushVersion":1"#, r#""pushVersion":-1"#, NO),
+    (PUSH, "null", "NotJson"),
+    (PUSH, "[]", "NotJson"),
+    (PUSH, r#""pushVersion""#, "NotJson"),
+    (r#""pushVersion":1,"#, "", "Field(PushVersion)"),
+    (
+        r#""pushVersion":1"#,
+        r#""pushVersion":null"#,
+        "Field(PushVersion)",
+    ),
+    (
+        r#""pushVersion":1"#,
+        r#""pushVersion":"1""#,
+        "Field(PushVersion)",
+    ),
+    (r#""pushVersion":1"#, r#""pushVersion":0"#, "Version(Push)"),
+    (r#""pushVersion":1"#, r#""pushVersion":2"#, "Version(Push)"),
+    (
+        r#""pushVersion":1"#,
+        r#""pushVersion":1.0"#,
+        "Field(PushVersion)",
+    ),
+    (
+        r#""pushVersion":1"#,
+        r#""pushVersion":1e0"#,
+        "Field(PushVersion)",
+    ),
+    (
+        r#""pushVersion":1"#,
+        r#""pushVersion":-0"#,
+        "Field(PushVersion)",
+    ),
+    (
+        r#""pushVersion":1"#,
+        r#""pushVersion":-1"#,
+        "Field(PushVersion)",
+    ),
     (
         r#""pushVersion":1"#,
         r#""pushVersion":9007199254740992"#,
-        NO,
+        "Field(PushVersion)",
     ),
     (
         r#""pushVersion":1"#,
         r#""pushVersion":1,"pushVersion":2"#,
-        NO,
+        "Version(Push)",
     ),
-    ("pushVersion", "pullVersion", NO),
-    (r#""clientGroupID":"g1","#, "", NO),
-    (r#""g1""#, "null", NO),
-    (r#""g1""#, "1", NO),
-    (r#""g1""#, r#""""#, NO),
-    (r#""profileID":"p","#, "", NO),
-    (r#""p""#, "null", NO),
-    (r#""p""#, "{}", NO),
-    (r#""schemaVersion":"","#, "", NO),
-    (r#""schemaVersion":"""#, r#""schemaVersion":null"#, NO),
-    (r#""schemaVersion":"""#, r#""schemaVersion":1"#, NO),
-    (r#""schemaVersion":"""#, r#""schemaVersion":"2""#, NO),
-    (r#""schemaVersion":"""#, r#""schemaVersion":"11""#, NO),
-    (r#""mutations""#, r#""more""#, NO),
-    (r#""mutations":[{"#, r#""mutations":null,"more":[{"#, NO),
-    (r#""mutations":[{"#, r#""mutations":{},"more":[{"#, NO),
-    ("[{", "[1,{", NO),
-    ("[{", "[[],{", NO),
-    ("}]}", "},null]}", NO),
-    (r#""clientID":"c1","#, "", NO),
-    (r#""c1""#, "null", NO),
-    (r#""c1""#, "[]", NO),
-    (r#""c1""#, r#""""#, NO),
-    (r#""id":1,"#, "", NO),
-    (r#""id":1"#, r#""id":null"#, NO),
-    (r#""id":1"#, r#""id":"1""#, NO),
-    (r#""id":1"#, r#""id":1.5"#, NO),
-    (r#""id":1"#, r#""id":-1"#, NO),
-    (r#""id":1"#, r#""id":9007199254740992"#, NO),
-    (r#""name":"createList","#, "", NO),
-    (r#""createList""#, "null", NO),
-    (r#""createList""#, "3", NO),
-    (r#""createList""#, r#""paint""#, NO),
-    (r#""createList""#, r#""createlist""#, NO),
-    (r#""args""#, r#""more""#, NO),
-    (r#""args":{"#, r#""args":null,"more":{"#, NO),
-    (r#""args":{"#, r#""args":[],"more":{"#, NO),
-    (r#"{"id":"l1","#, "{", NO),
-    (r#""l1""#, "null", NO),
-    (r#""l1""#, "1", NO),
-    (r#""l1""#, r#""""#, NO),
-    (r#""name":"Home","#, "", NO),
-    (r#""Home""#, "null", NO),
-    (r#""Home""#, "false", NO),
-    (r#","ownerID":"ann""#, "", NO),
-    (r#""ann""#, "null", NO),
-    (r#""ann""#, "0", NO),
-    (r#""ann""#, r#""""#, NO),
-    (r#""ann""#, r#""ann","ownerID":"""#, NO),
+    ("pushVersion", "pullVersion", "Field(PushVersion)"),
+    (r#""clientGroupID":"g1","#, "", "Field(ClientGroupId)"),
+    (r#""g1""#, "null", "Field(ClientGroupId)"),
+    (r#""g1""#, "1", "Field(ClientGroupId)"),
+    (r#""g1""#, r#""""#, "Field(ClientGroupId)"),
+    (r#""profileID":"p","#, "", "Field(ProfileId)"),
+    (r#""p""#, "null", "Field(ProfileId)"),
+    (r#""p""#, "{}", "Field(ProfileId)"),
+    (r#""schemaVersion":"","#, "", "Field(SchemaVersion)"),
+    (
+        r#""schemaVersion":"""#,
+        r#""schemaVersion":null"#,
+        "Field(SchemaVersion)",
+    ),
+    (
+        r#""schemaVersion":"""#,
+        r#""schemaVersion":1"#,
+        "Field(SchemaVersion)",
+    ),
+    (
+        r#""schemaVersion":"""#,
+        r#""schemaVersion":"2""#,
+        "Version(Schema)",
+    ),
+    (
+        r#""schemaVersion":"""#,
+        r#""schemaVersion":"11""#,
+        "Version(Schema)",
+    ),
+    (r#""mutations""#, r#""more""#, "Field(Mutations)"),
+    (
+        r#""mutations":[{"#,
+        r#""mutations":null,"more":[{"#,
+        "Field(Mutations)",
+    ),
+    (
+        r#""mutations":[{"#,
+        r#""mutations":{},"more":[{"#,
+        "Field(Mutations)",
+    ),
+    ("[{", "[1,{", "Field(Mutations)"),
+    ("[{", "[[],{", "Field(Mutations)"),
+    ("}]}", "},null]}", "Field(Mutations)"),
+    (r#""clientID":"c1","#, "", "Field(ClientId)"),
+    (r#""c1""#, "null", "Field(ClientId)"),
+    (r#""c1""#, "[]", "Field(ClientId)"),
+    (r#""c1""#, r#""""#, "Field(ClientId)"),
+    (r#""id":1,"#, "", "Field(Id)"),
+    (r#""id":1"#, r#""id":null"#, "Field(Id)"),
+    (r#""id":1"#, r#""id":"1""#, "Field(Id)"),
+    (r#""id":1"#, r#""id":1.5"#, "Field(Id)"),
+    (r#""id":1"#, r#""id":-1"#, "Field(Id)"),
+    (r#""id":1"#, r#""id":9007199254740992"#, "Field(Id)"),
+    (r#""name":"createList","#, "", "Field(Name)"),
+    (r#""createList""#, "null", "Field(Name)"),
+    (r#""createList""#, "3", "Field(Name)"),
+    (r#""createList""#, r#""paint""#, "g1: c1 1 UnknownName;"),
+    (
+        r#""createList""#,
+        r#""createlist""#,
+        "g1: c1 1 UnknownName;",
+    ),
+    (r#""args""#, r#""more""#, "g1: c1 1 BadArgs;"),
+    (
+        r#""args":{"#,
+        r#""args":null,"more":{"#,
+        "g1: c1 1 BadArgs;",
+    ),
+    (r#""args":{"#, r#""args":[],"more":{"#, "g1: c1 1 BadArgs;"),
+    (r#"{"id":"l1","#, "{", "g1: c1 1 BadArgs;"),
+    (r#""l1""#, "null", "g1: c1 1 BadArgs;"),
+    (r#""l1""#, "1", "g1: c1 1 BadArgs;"),
+    (r#""l1""#, r#""""#, "g1: c1 1 BadArgs;"),
+    (r#""name":"Home","#, "", "g1: c1 1 BadArgs;"),
+    (r#""Home""#, "null", "g1: c1 1 BadArgs;"),
+    (r#""Home""#, "false", "g1: c1 1 BadArgs;"),
+    (r#","ownerID":"ann""#, "", "g1: c1 1 BadArgs;"),
+    (r#""ann""#, "null", "g1: c1 1 BadArgs;"),
+    (r#""ann""#, "0", "g1: c1 1 BadArgs;"),
+    (r#""ann""#, r#""""#, "g1: c1 1 BadArgs;"),
+    (r#""ann""#, r#""ann","ownerID":"""#, "g1: c1 1 BadArgs;"),
     ("c1", r#"\u0000"#, "g1: \u{0} 1 l1 Home ann;"),
     (
         "}]}",
         r#"},{"clientID":"c2","id":2,"name":"paint","args":{}}]}"#,
-        NO,
+        "g1: c1 1 l1 Home ann; c2 2 UnknownName;",
     ),
+    (
+        r#""p","schemaVersion":"""#,
+        r#"1,"schemaVersion":2"#,
+        "Field(SchemaVersion)",
+    ),
+    (
+        r#""g1","profileID":"p""#,
+        r#""","profileID":1"#,
+        "Field(ProfileId)",
+    ),
+    (r#""c1","id":1"#, r#""c1","id":-1,"name":1"#, "Field(Id)"),
+    ("}]}", r#"},{"clientID":""},1]}"#, "Field(ClientId)"),
 ];
 
-// A text within a push, the most bytes that may stand in its place, and one more.
-static BOUNDS: [(&str, usize, usize); 5] = [
-    (r#""g1""#, 128, 129),
-    (r#""c1""#, 128, 129),
-    (r#""l1""#, 128, 129),
-    (r#""Home""#, 16384, 16385),
-    (r#""ann""#, 64, 65),
+// A text within a push, the most bytes that may stand in its place, and what the push is told as with one more.
+static BOUNDS: [(&str, usize, &str); 5] = [
+    (r#""g1""#, 128, "Field(ClientGroupId)"),
+    (r#""c1""#, 128, "Field(ClientId)"),
+    (r#""l1""#, 128, "g1: c1 1 BadArgs;"),
+    (r#""Home""#, 16384, "g1: c1 1 BadArgs;"),
+    (r#""ann""#, 64, "g1: c1 1 BadArgs;"),
 ];
 
 // A piece of `PULL`, what stands in its place, and what the pull is told as.
-static PULLS: [(&str, &str, &str); 27] = [
+static PULLS: [(&str, &str, &str); 33] = [
     (PULL, PULL, "g1"),
     (r#","cookie":null"#, "", "g1"),
     (r#"{"pull"#, r#"{"mutations":0,"pull"#, "g1"),
-    (r#""p""#, r#""""#, "g1"),
     (r#""schemaVersion":"""#, r#""schemaVersion":"1""#, "g1"),
     (r#""cookie":null"#, r#""cookie":7,"cookie":null"#, "g1"),
-    (r#""cookie""#, r#""\u0063ookie""#, "g1"),
-    ("null", "0", NO),
-    ("null", "7", NO),
-    ("null", r#""x""#, NO),
-    ("null", "{}", NO),
-    ("null", "[]", NO),
-    ("null", "false", NO),
-    ("null", r#"{"order":1,"cvrID":"1"}"#, NO),
-    ("null", r#"null,"cookie":1"#, NO),
-    (PULL, "[]", NO),
-    (r#""pullVersion":1,"#, "", NO),
-    (r#""pullVersion":1"#, r#""pullVersion":null"#, NO),
-    (r#""pullVersion":1"#, r#""pullVersion":0"#, NO),
-    (r#""pullVersion":1"#, r#""pullVersion":2"#, NO),
-    (r#""pullVersion":1"#, r#""pullVersion":1.0"#, NO),
-    ("pullVersion", "pushVersion", NO),
-    (r#""clientGroupID":"g1","#, "", NO),
-    (r#""g1""#, r#""""#, NO),
-    (r#""profileID":"p","#, "", NO),
-    (r#""schemaVersion":"","#, "", NO),
-    (r#""schemaVersion":"""#, r#""schemaVersion":"2""#, NO),
+    ("null", "0", "g1 0"),
+    ("null", "9007199254740991", "g1 9007199254740991"),
+    ("null", r#"{"order":1,"cvrID":"2"}"#, "g1 2 1"),
+    ("null", r#"{"cvrID":"","order":0,"more":[]}"#, "g1  0"),
+    ("null", r#"null,"cookie":1"#, "g1 1"),
+    ("null", "9007199254740992", "Field(Cookie)"),
+    ("null", "1.0", "Field(Cookie)"),
+    ("null", "-1", "Field(Cookie)"),
+    ("null", r#""x""#, "Field(Cookie)"),
+    ("null", "{}", "Field(Cookie)"),
+    ("null", "[]", "Field(Cookie)"),
+    ("null", "false", "Field(Cookie)"),
+    ("null", r#"{"cvrID":"2"}"#, "Field(Cookie)"),
+    ("null", r#"{"order":1}"#, "Field(Cookie)"),
+    ("null", r#"{"cvrID":2,"order":1}"#, "Field(Cookie)"),
+    ("null", r#"{"cvrID":"2","order":1e0}"#, "Field(Cookie)"),
+    ("null", r#"{"cvrID":"2","order":"1"}"#, "Field(Cookie)"),
+    (PULL, "[]", "NotJson"),
+    (r#""pullVersion":1,"#, "", "Field(PullVersion)"),
+    (r#""pullVersion":1"#, r#""pullVersion":0"#, "Version(Pull)"),
+    (r#""pullVersion":1"#, r#""pullVersion":2"#, "Version(Pull)"),
+    (
+        r#""pullVersion":1"#,
+        r#""pullVersion":1.0"#,
+        "Field(PullVersion)",
+    ),
+    ("pullVersion", "pushVersion", "Field(PullVersion)"),
+    (r#""g1""#, r#""""#, "Field(ClientGroupId)"),
+    (r#""profileID":"p","#, "", "Field(ProfileId)"),
+    (r#""schemaVersion":"","#, "", "Field(SchemaVersion)"),
+    (
+        r#""schemaVersion":"""#,
+        r#""schemaVersion":"2""#,
+        "Version(Schema)",
+    ),
+    (
+        r#""g1","profileID":"p","schemaVersion":"","cookie":null"#,
+        r#"1,"profileID":"p","schemaVersion":"","cookie":1.5"#,
+        "Field(ClientGroupId)",
+    ),
 ];
 
 // A text with another piece where this one stands first.
@@ -201,6 +284,16 @@ fn schemas(alloc: Global) -> Result<Schemas, Fail> {
     Ok(schemas)
 }
 
+fn call_told(alloc: Global, call: &Call) -> Result<String, Fail> {
+    match call {
+        Call::CreateList { id, name, owner } => {
+            let (id, name, owner) = (id.as_str(), name.as_str(), owner.as_str());
+            Ok(format!(in alloc; "{id} {name} {owner}")?)
+        }
+        Call::Void(reason) => Ok(format!(in alloc; "{reason:?}")?),
+    }
+}
+
 // What a push says, or why it was not taken.
 fn push_told(alloc: Global, text: &str) -> Result<String, Fail> {
     let value = Value::from_str(alloc, text)?;
@@ -210,11 +303,10 @@ fn push_told(alloc: Global, text: &str) -> Result<String, Fail> {
     };
     let mut told = format!(in alloc; "{}:", push.group.as_str())?;
     for mutation in push.mutations.as_slice() {
-        let Call::CreateList { id, name, owner } = &mutation.call;
         let client = mutation.client.as_str();
         let number = mutation.id.get();
-        let (id, name, owner) = (id.as_str(), name.as_str(), owner.as_str());
-        told = format!(in alloc; "{told} {client} {number} {id} {name} {owner};")?;
+        let call = call_told(alloc, &mutation.call)?;
+        told = format!(in alloc; "{told} {client} {number} {call};")?;
     }
     Ok(told)
 }
@@ -226,18 +318,26 @@ fn long_told(alloc: Global, old: &str, length: usize) -> Result<String, Fail> {
     push_told(alloc, &changed(alloc, PUSH, old, &quoted)?)
 }
 
-// The group of a pull whose cookie is null, or why it was not taken.
+// The group and the cookie of a pull, or why it was not taken.
 fn pull_told(alloc: Global, text: &str) -> Result<String, Fail> {
     let value = Value::from_str(alloc, text)?;
     match pull_of_value(alloc, &value, &schemas(alloc)?) {
-        Ok(
-            PullRequest {
-                group,
-                cookie: Cookie::Null,
-            },
-        ) => Ok(String::from_str(alloc, group.as_str())?),
-        Ok(_) => Ok(String::from_str(alloc, "another cookie")?),
+        Ok(PullRequest { group, cookie }) => cookie_told(alloc, group.as_str(), &cookie),
         Err(fault) => Ok(format!(in alloc; "{fault:?}")?),
+    }
+}
+
+fn cookie_told(alloc: Global, group: &str, cookie: &Cookie) -> Result<String, Fail> {
+    match cookie {
+        Cookie::Null => Ok(String::from_str(alloc, group)?),
+        Cookie::Bare(order) => {
+            let order = order.get();
+            Ok(format!(in alloc; "{group} {order}")?)
+        }
+        Cookie::Named { place_text, order } => {
+            let (place, order) = (place_text.as_str(), order.get());
+            Ok(format!(in alloc; "{group} {place} {order}")?)
+        }
     }
 }
 
@@ -248,18 +348,52 @@ fn reads_pushes(rt: HostRuntime) -> Result<(), Fail> {
         let text = changed(alloc, PUSH, old, new)?;
         assert_eq!(rt; push_told(alloc, &text)?.as_str(), told, "{new} for {old}");
     }
-    for &(old, most, beyond) in &BOUNDS {
+    for &(old, most, told) in &BOUNDS {
         assert_ne!(rt;
             long_told(alloc, old, most)?.as_str(),
-            NO,
+            told,
             "{most} for {old}"
         );
         assert_eq!(rt;
-            long_told(alloc, old, beyond)?.as_str(),
-            NO,
-            "{beyond} for {old}"
+            long_told(alloc, old, most + 1)?.as_str(),
+            told,
+            "more for {old}"
         );
     }
+    Ok(())
+}
+
+// Bytes that are no body, and what they are told as by the readers of pushes and of pulls.
+fn bytes_told(alloc: Global, bytes: &[u8]) -> Result<String, Fail> {
+    let schemas = schemas(alloc)?;
+    let push = read_push(alloc, bytes, &schemas).err();
+    let pull = read_pull(alloc, bytes, &schemas).err();
+    Ok(format!(in alloc; "{push:?} {pull:?}")?)
+}
+
+#[test]
+fn reads_bytes(rt: HostRuntime) -> Result<(), Fail> {
+    let alloc = rt.alloc();
+    let deep = "[".repeat(alloc, 200)?;
+    let none = "Some(NotJson) Some(NotJson)";
+    for bytes in [
+        b"".as_slice(),
+        b"\xff",
+        b"{",
+        b"[]",
+        b"1e999",
+        deep.as_bytes(),
+    ] {
+        assert_eq!(rt; bytes_told(alloc, bytes)?.as_str(), none);
+    }
+    assert_eq!(rt;
+        bytes_told(alloc, PUSH.as_bytes())?.as_str(),
+        "None Some(Field(PullVersion))"
+    );
+    assert_eq!(rt;
+        bytes_told(alloc, PULL.as_bytes())?.as_str(),
+        "Some(Field(PushVersion)) None"
+    );
     Ok(())
 }
 
@@ -346,6 +480,17 @@ fn writes_refusals(rt: HostRuntime) -> Result<(), Fail> {
             r#"{"at":9007199254740991,"error":"Limit","which":"order"}"#,
         ),
         (ErrorBody::Memory, 503, r#"{"error":"memory"}"#),
+        (WireFault::NotJson.refusal(), 400, r#"{"error":"NotJson"}"#),
+        (
+            WireFault::Field(FieldName::ClientGroupId).refusal(),
+            400,
+            r#"{"error":"Field","field":"clientGroupID"}"#,
+        ),
+        (
+            WireFault::Version(VersionKind::Schema).refusal(),
+            200,
+            r#"{"error":"VersionNotSupported","versionType":"schema"}"#,
+        ),
     ];
     for (error, status, text) in cases {
         let mut out = [0; 128];

@@ -1,4 +1,4 @@
-use Rattle.rv_cli.proofs.Mutations.{push_step, pull_step}
+use Rattle.rv_cli.proofs.Mutations.{push_step, pull_step, push_refused, pull_refused}
 use Rattle.rv_cli.proofs.answering.answer_asking.Goals as goal
 
 pub returns-in-Ok-clause-answer : goal.returns-in-Ok-clause-answer
