@@ -5,3 +5,4 @@ pub mod Sorted
 pub mod Places
 pub mod Chains
 pub mod Options
+pub mod Arranged

@@ -24,22 +24,22 @@ Below a b = slice_cmp nat_cmp a b ≡ Less
 above_is : (a b : List ℕ) → Below a b → slice_cmp nat_cmp b a ≡ Greater
 above_is a b h = nat_list_cmp_total.antisymm b a ∙ ap ordering_reverse h
 
-below_is : (a b : List ℕ) → slice_cmp nat_cmp a b ≡ Greater → Below b a
+pub below_is : (a b : List ℕ) → slice_cmp nat_cmp a b ≡ Greater → Below b a
 below_is a b h = nat_list_cmp_total.antisymm b a ∙ ap ordering_reverse h
 
 same_is : (a : List ℕ) → slice_cmp nat_cmp a a ≡ Equal
 same_is a = tied_itself nat_list_cmp_total a
 
-same_from : (a b : List ℕ) → slice_cmp nat_cmp a b ≡ Equal → a ≡ b
+pub same_from : (a b : List ℕ) → slice_cmp nat_cmp a b ≡ Equal → a ≡ b
 same_from a b h = slice_cmp-IsAntisymmetric nat_cmp-IsAntisymmetric a b h
 
-differs : (a b : List ℕ) → Below a b → bytes_eq a b ≡ false
+pub differs : (a b : List ℕ) → Below a b → bytes_eq a b ≡ false
 differs a b h = sym (is_eq-slice_cmp a b) ∙ ap is_eq h
 
-differs_back : (a b : List ℕ) → Below a b → bytes_eq b a ≡ false
+pub differs_back : (a b : List ℕ) → Below a b → bytes_eq b a ≡ false
 differs_back a b h = sym (is_eq-slice_cmp b a) ∙ ap is_eq (above_is a b h)
 
-equals : (a : List ℕ) → bytes_eq a a ≡ true
+pub equals : (a : List ℕ) → bytes_eq a a ≡ true
 equals a = sym (is_eq-slice_cmp a a) ∙ ap is_eq (same_is a)
 
 module _ {X : Type 0} (key : X → List ℕ) where
@@ -47,7 +47,7 @@ module _ {X : Type 0} (key : X → List ℕ) where
   abbrev pub Above : List ℕ → List X → Type 0
   Above k xs = AllByRecursion (λ y. Below k (key y)) xs
 
-  above_chain : (a b : List ℕ) (xs : List X) → Below a b → Above b xs → Above a xs
+  pub above_chain : (a b : List ℕ) (xs : List X) → Below a b → Above b xs → Above a xs
   above_chain a b [] h all = tt
   above_chain a b (x ∷ xs) h all = (nat_list_cmp_total.trans a b (key x) h all.0, above_chain a b xs h all.1)
 

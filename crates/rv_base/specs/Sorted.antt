@@ -47,3 +47,8 @@ module _ {X : Type 0} (key : X → List ℕ) where
   -- the items in order; of two with one key the later
   abbrev pub sorted_by : List X → List X
   sorted_by xs = fold (λ sorted x. put_by x sorted) [] xs
+
+  -- no two items have one key
+  abbrev pub Distinct : List X → Type 0
+  Distinct [] = Unit {0}
+  Distinct (x ∷ xs) = (find_by (key x) xs ≡ None) × Distinct xs

@@ -1,3 +1,6 @@
+mod worked;
+
+use self::worked::script;
 use super::*;
 use rv_base::{MemorySink, MemorySource};
 use std::alloc::Global;
@@ -174,6 +177,27 @@ fn answers_lines(rt: HostRuntime) -> Result<(), Fail> {
         for (input, status, output) in &scripts() {
             let same = feeds(rt.alloc(), input, going, *status, output)?;
             assert!(rt; same, "{input}");
+        }
+    }
+    Ok(())
+}
+
+// Runs `feed memory` over a script, and answers whether it is answered exactly so, with status 0.
+fn answers_script(alloc: Global, number: u8, most: usize) -> Result<bool, Fail> {
+    let (input, output) = script(number);
+    let words = words(alloc, "rv feed memory")?;
+    let mut input = MemorySource::new(input.to_vec(alloc)?, most, Vec::new(alloc));
+    let mut out = MemorySink::new(alloc, most, Vec::new(alloc));
+    let status = run(alloc, &words, &mut input, &mut out);
+    Ok(status == 0 && out.bytes.as_slice() == output)
+}
+
+#[test]
+fn answers_scripts(rt: HostRuntime) -> Result<(), Fail> {
+    for most in [7, 100_000] {
+        for number in 0..7u8 {
+            let same = answers_script(rt.alloc(), number, most)?;
+            assert!(rt; same, "script {number}");
         }
     }
     Ok(())

@@ -3,13 +3,13 @@ use Rattle.std.proofs.Common.{◌≡◌, ℕ, ◌+◌, ◌<◌, max, List, [], �
 use Rattle.std.specs.declared.cmp.Ordering.TheVariants.{Less, Greater}
 use Rattle.std.specs.Ordering.{nat_cmp, ordering_reverse}
 use Rattle.std.specs.Cmp.Lexicographic.{slice_cmp}
-use Rattle.std.specs.List.{AllByRecursion, fold, filter}
+use Rattle.std.specs.List.{AllByRecursion, fold}
 use Rattle.std.proofs.lemmas.Cmp.{nat_list_cmp_total}
 use Rattle.rv_base.specs.Sorted.{InOrder, put_by}
 use Rattle.rv_base.specs.Places.{in_order-sorted, in_order-filter}
 use Rattle.rv_rows.specs.declared.row.Row.{Row}
 use Rattle.rv_rows.specs.Keys.{row_text, in_key_order}
-use Rattle.rv_rows.specs.Sharing.{may}
+use Rattle.rv_rows.specs.Sharing.{sees as sees_row, seen}
 use Rattle.rv_wire.specs.declared.op.Op.TheVariants.{Put}
 use Rattle.rv_wire.specs.declared.pull.PullRequest.{PullRequest}
 use Rattle.rv_desk.specs.declared.turn.PullReply.{PullReply}
@@ -50,8 +50,8 @@ shown_in_order (row ∷ rows) sorted = (above_shown (row_text row) rows sorted.0
 
 patch_shows : (user : List ℕ) (book : Book) (view : View) → apply (patch user book) view ≡ sees user book
 patch_shows user book view =
-    let rows : List Row = filter (may user) (in_key_order (rows_of book)) in
-    puts [] rows (shown_in_order rows (in_order-filter row_text (may user) (in_key_order (rows_of book)) (in_order-sorted row_text (rows_of book))))
+    let rows : List Row = seen user (rows_of book) in
+    puts [] rows (shown_in_order rows (in_order-filter row_text (sees_row user (rows_of book)) (in_key_order (rows_of book)) (in_order-sorted row_text (rows_of book))))
 
 above_cookie : (a b : ℕ) → a < max a b + 1
 above_cookie a b = omega arith

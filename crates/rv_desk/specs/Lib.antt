@@ -4,5 +4,5 @@ pub mod Lawful
 pub mod Patches
 pub mod Machine
 pub mod Served
-pub mod Stage
 pub mod Laws
+pub mod Shows

@@ -1,12 +1,11 @@
 -- What a user sees at a book, the patch that shows it, and a patch applied to a client's view.
 use Rattle.std.specs.Prelude.{ℕ, List, [], ◌∷◌, map, fold}
-use Rattle.std.specs.List.{filter}
 use Rattle.serde_json.specs.Data.{Data}
 use Rattle.rv_base.specs.Sorted.{put_by}
 use Rattle.rv_rows.specs.declared.row.Row.{Row}
-use Rattle.rv_rows.specs.Keys.{row_text, in_key_order}
+use Rattle.rv_rows.specs.Keys.{row_text}
 use Rattle.rv_rows.specs.RowTexts.{row_data}
-use Rattle.rv_rows.specs.Sharing.{may, seen}
+use Rattle.rv_rows.specs.Sharing.{seen}
 use Rattle.rv_wire.specs.declared.op.Op.{Op}
 use Rattle.rv_wire.specs.declared.op.Op.TheVariants.{Clear, Put}
 use Rattle.rv_desk.specs.Book.{Book}
@@ -27,13 +26,9 @@ View = List Shown
 abbrev pub sees : List ℕ → Book → View
 sees user book = map shown (seen user (rows_of book))
 
--- everything goes, and of rows in key order those that the user sees are put
-abbrev pub shows : List ℕ → List Row → List Op
-shows user rows = Clear ∷ map (λ row. Put row) (filter (may user) rows)
-
--- the patch without a base shows all that the user sees
+-- the patch without a base: everything goes, and each row that the user sees is put, in the order of their keys
 abbrev pub patch : List ℕ → Book → List Op
-patch user book = shows user (in_key_order (rows_of book))
+patch user book = Clear ∷ map (λ row. Put row) (seen user (rows_of book))
 
 -- the view after one operation
 abbrev pub applied : View → Op → View

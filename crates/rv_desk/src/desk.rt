@@ -1,14 +1,15 @@
-ghost use Rattle.std.specs.Prelude.{◌≡◌, ◌≤◌, ◌<◌, ◌+◌, ◌^◌, ◌∷◌, [], ◌++◌, map, length, IfOk, None, OnOk, OnErr, IsTrue};
-ghost use Rattle.rv_desk.specs.Patches.{shows};
+ghost use Rattle.std.specs.Prelude.{◌≡◌, ◌≤◌, ◌<◌, ◌+◌, ◌^◌, ◌∷◌, [], ◌++◌, length, IfOk, None, OnOk, OnErr, IsTrue};
+ghost use Rattle.rv_desk.specs.Shows.{shows};
 ghost use Rattle.rv_desk.specs.declared.entry.Entry.TheVariants.{Act, Look};
-ghost use Rattle.rv_desk.specs.Stage.{staged};
 
 use crate::entry::Entry;
 use crate::plain;
 use crate::reply::{next_order, reply};
 use crate::turn::{PullAnswer, PullReply, Turn};
 use rv_base::{Id, Memory, Num, Sequence, User};
-use rv_rows::{Call, Kind, ListRow, Row, Tables};
+use rv_mutators::stage;
+use rv_rows::{Call, Key, Tables};
+use rv_sharing::visible;
 use rv_wire::{Op, Ops, PullRequest, Which};
 use std::alloc::Global;
 use std::marker::Model;
@@ -34,35 +35,14 @@ impl Model for Desk {
     ghost invariant = { λ d. (length d.entries.items ≤ d.limit) × IsReplay d.entries.items d.tables.rows };
 }
 
-// The row that a call adds.
-fn staged(alloc: Global, tables: &Tables, user: &User, call: &Call) -> Result<Option<Row>, Memory>
-    ensures { IfOk result (λ o. o ≡ staged tables.now.rows user.now call.now) }
-{
-    match call {
-        Call::CreateList { id, name, owner } => {
-            if tables.row(Kind::List, id).is_none() && owner == user {
-                Ok(Some(Row::List(ListRow {
-                    id: id.copy(alloc)?,
-                    name: name.copy(alloc)?,
-                    owner: owner.copy(alloc)?,
-                })))
-            } else {
-                Ok(None)
-            }
-        }
-        Call::Void(_) => Ok(None),
-    }
-}
-
-// Everything goes, and each row that the user sees is put.
-#[tactic(auto, using(std::proofs::lemmas::List::Elements::filter_more))]
-fn patch(alloc: Global, tables: &Tables, user: &User) -> Result<Ops, Memory>
-    ensures { IfOk result (λ ops. ops ≡ shows user.now (map (λ s. s.0) tables.now.rows)) }
+// Everything goes, and the row of each key is put.
+fn patch(alloc: Global, tables: &Tables, visible: &[(Key, u32)]) -> Result<Ops, Memory>
+    ensures { IfOk result (λ ops. ops ≡ shows tables.now.rows visible.now) }
 {
     let mut ops = Sequence::new(alloc);
     ops.push(Op::Clear)?;
-    for (row, _version) in tables.iter() {
-        if rv_rows::plain::may(user, row) {
+    for (key, _version) in visible {
+        if let Some((row, _)) = tables.get(key) {
             ops.push(Op::Put(row.copy(alloc)?))?;
         }
     }
@@ -141,17 +121,11 @@ impl Desk {
         ensures limit { self.new.limit ≡ self.old.limit }
     {
         let place = self.entries.len() as u32 + 1;
-        let row = staged(self.alloc, &self.tables, user, &call)?;
-        self.tables.reserve(1)?;
+        let staged = stage(self.alloc, &mut self.tables, user, &call)?;
         let entry = Entry::act(self.alloc, user, group, client, id, call)?;
         self.entries.push(entry)?;
-        match row {
-            Some(row) => {
-                self.tables.put(row, place);
-                Ok(place)
-            }
-            None => Ok(place),
-        }
+        staged.apply(&mut self.tables, place);
+        Ok(place)
     }
 
     /// One pull. A refusal leaves all as it was.
@@ -183,7 +157,8 @@ impl Desk {
         ensures limit { self.new.limit ≡ self.old.limit }
     {
         let ids = plain::ids(self.alloc, &self.entries, &request.group)?;
-        let ops = patch(self.alloc, &self.tables, user)?;
+        let visible = visible(self.alloc, &self.tables, user)?;
+        let ops = patch(self.alloc, &self.tables, visible.as_slice())?;
         let place = self.entries.len() as u32 + 1;
         let reply = reply(self.alloc, place, order, ids, ops)?;
         let entry = Entry::look(self.alloc, user, &request.group, order)?;

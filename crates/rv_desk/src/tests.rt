@@ -1,61 +1,34 @@
+mod words;
+
+use self::words::{Line, line_of};
 use super::*;
 use crate::plain::PlainDesk;
-use rv_base::{Id, Num, Text, User};
-use rv_rows::{Call, Reason};
+use rv_base::{Id, Num, User};
+use rv_rows::{Key, Kind};
 use rv_wire::{Cookie, PullRequest, Which};
 use std::alloc::Global;
 use std::test::Fail;
 
-// A mutation, as words: its user, group, client and id, and the id and the owner of the list that it is to create.
-#[derive(Clone, Copy)]
-struct Line<'a> {
-    user: &'a str,
-    group: &'a str,
-    client: &'a str,
-    id: u64,
-    list: &'a str,
-    owner: &'a str,
-}
-
-fn line_of(text: &str) -> Line<'_> {
-    let mut words = text.split_whitespace();
-    let user = words.next().unwrap_or("");
-    let group = words.next().unwrap_or("");
-    let client = words.next().unwrap_or("");
-    let id = words.next().unwrap_or("").parse::<u64>().unwrap_or(0);
-    let list = words.next().unwrap_or("");
-    let owner = words.next().unwrap_or("");
-    Line {
+fn mutate(desk: &mut Desk, line: Line) -> Turn {
+    let Line {
         user,
         group,
         client,
         id,
-        list,
-        owner,
-    }
+        call,
+    } = line;
+    desk.mutate(&user, &group, &client, id, call)
 }
 
-fn create_list(alloc: Global, id: &str, owner: &str) -> Result<Call, Fail> {
-    let id = Id::new(alloc, id)?;
-    let name = Text::new(alloc, "Home")?;
-    let owner = User::new(alloc, owner)?;
-    Ok(Call::CreateList { id, name, owner })
-}
-
-fn mutate(alloc: Global, desk: &mut Desk, line: Line<'_>) -> Result<Turn, Fail> {
-    let call = create_list(alloc, line.list, line.owner)?;
-    let user = User::new(alloc, line.user)?;
-    let group = Id::new(alloc, line.group)?;
-    let client = Id::new(alloc, line.client)?;
-    Ok(desk.mutate(&user, &group, &client, Num::new(line.id)?, call))
-}
-
-fn plain_mutate(alloc: Global, desk: &mut PlainDesk, line: Line<'_>) -> Result<Turn, Fail> {
-    let call = create_list(alloc, line.list, line.owner)?;
-    let user = User::new(alloc, line.user)?;
-    let group = Id::new(alloc, line.group)?;
-    let client = Id::new(alloc, line.client)?;
-    Ok(desk.mutate(&user, &group, &client, Num::new(line.id)?, call))
+fn plain_mutate(desk: &mut PlainDesk, line: Line) -> Turn {
+    let Line {
+        user,
+        group,
+        client,
+        id,
+        call,
+    } = line;
+    desk.mutate(&user, &group, &client, id, call)
 }
 
 fn request(alloc: Global, group: &str, cookie: Cookie) -> Result<PullRequest, Fail> {
@@ -91,20 +64,7 @@ fn plain_pull(
     Ok(desk.pull(&user, &request))
 }
 
-// Each with the place where it is entered, or 0.
-fn lines() -> [(&'static str, u32); 8] {
-    [
-        ("ann g1 c1 2 l1 ann", 0),
-        ("ann g1 c1 1 l1 ann", 1),
-        ("ann g1 c1 1 l2 ann", 0),
-        ("ann g1 c1 2 l10 ann", 2),
-        ("bob g2 c2 1 l10 bob", 3),
-        ("bob g2 c2 2 a ann", 4),
-        ("bob g2 c3 1 B bob", 5),
-        ("ann g1 c0 1 l2 ann", 6),
-    ]
-}
-
+// The place where a mutation is entered, or 0.
 fn place_of(turn: Turn) -> u32 {
     match turn {
         Turn::Acted(place) => place,
@@ -123,9 +83,8 @@ fn both_mutate(
     text: &str,
     place: u32,
 ) -> Result<bool, Fail> {
-    let line = line_of(text);
-    let turn = mutate(alloc, desk, line)?;
-    let other = plain_mutate(alloc, plain, line)?;
+    let turn = mutate(desk, line_of(alloc, text)?);
+    let other = plain_mutate(plain, line_of(alloc, text)?);
     Ok(turn == other && place_of(turn) == place)
 }
 
@@ -141,50 +100,107 @@ fn both_pull(
     Ok(text_of(&answer) == text_of(&other))
 }
 
+// Mutations, each with the place where it is entered, or 0; and after it the rows that stand, with their versions.
+fn lines() -> [(&'static str, u32, &'static str); 18] {
+    [
+        ("ann g1 c1 2 list l1 ann", 0, ""),
+        ("ann g1 c1 1 list l1 ann", 1, "l1 1,"),
+        ("ann g1 c1 1 list l2 ann", 0, "l1 1,"),
+        ("bob g2 c2 1 list l1 bob", 2, "l1 1,"),
+        ("ann g1 c1 2 todo t1 l1 milk", 3, "l1 1,t1 3,"),
+        ("bob g2 c2 2 todo t2 l1 eggs", 4, "l1 1,t1 3,"),
+        ("ann g1 c1 3 share s1 l1 bob", 5, "l1 1,s1 5,t1 3,"),
+        ("ann g1 c1 4 share s2 l1 bob", 6, "l1 1,s1 5,t1 3,"),
+        ("bob g2 c2 3 text t1 bread", 7, "l1 1,s1 5,t1 7,"),
+        ("bob g2 c2 4 text t1 bread", 8, "l1 1,s1 5,t1 7,"),
+        ("bob g2 c2 5 unknown", 9, "l1 1,s1 5,t1 7,"),
+        ("cat g3 c3 1 untodo t1", 10, "l1 1,s1 5,t1 7,"),
+        ("cat g3 c3 2 unshare s1", 11, "l1 1,s1 5,t1 7,"),
+        ("bob g2 c2 6 todo t2 l1 eggs", 12, "l1 1,s1 5,t1 7,t2 12,"),
+        (
+            "ann g1 c1 5 list l10 ann",
+            13,
+            "l1 1,l10 13,s1 5,t1 7,t2 12,",
+        ),
+        ("ann g1 c1 6 untodo t1", 14, "l1 1,l10 13,s1 5,t2 12,"),
+        ("bob g2 c2 7 unlist l1", 15, "l1 1,l10 13,s1 5,t2 12,"),
+        ("ann g1 c1 7 unlist l1", 16, "l10 13,"),
+    ]
+}
+
+fn senders() -> [(&'static str, &'static str); 4] {
+    [("ann", "g1"), ("bob", "g2"), ("cat", "g3"), ("ann", "g1")]
+}
+
+// The rows that stand, each with its version.
+fn standing(alloc: Global, desk: &Desk) -> Result<String, Fail> {
+    let mut text = String::new(alloc);
+    for (row, version) in desk.tables().iter() {
+        let id = row.id().as_str();
+        let item = format!(in alloc; "{id} {version},")?;
+        text.push_str(&item)?;
+    }
+    Ok(text)
+}
+
 #[test]
 fn answers_as_the_plain_desk_does(rt: HostRuntime) -> Result<(), Fail> {
     let alloc = rt.alloc();
     let mut desk = Desk::new(alloc, 100);
     let mut plain = PlainDesk::new(alloc, 100);
-    for (text, place) in &lines() {
+    for (text, place, rows) in &lines() {
         let same = both_mutate(alloc, &mut desk, &mut plain, text, *place)?;
-        assert!(rt; same);
+        assert!(rt; same, "{text}");
+        assert_eq!(rt; standing(alloc, &desk)?.as_str(), *rows, "{text}");
     }
     for (user, group) in &senders() {
         let same = both_pull(alloc, &mut desk, &mut plain, user, group)?;
         assert!(rt; same);
     }
-    assert_eq!(rt; desk.book().len(), 10);
+    assert_eq!(rt; desk.book().len(), 20);
     Ok(())
 }
 
-// A call that is no call, on both: it is entered and moves its client's last id, and changes nothing else.
-#[test]
-fn a_call_that_is_no_call_uses_its_id(rt: HostRuntime) -> Result<(), Fail> {
-    let alloc = rt.alloc();
-    let mut desk = Desk::new(alloc, 100);
-    let mut plain = PlainDesk::new(alloc, 100);
-    let (user, group) = (User::new(alloc, "ann")?, Id::new(alloc, "g1")?);
-    let client = Id::new(alloc, "c1")?;
-    for (id, reason, place) in [
-        (1, Reason::UnknownName, 1),
-        (1, Reason::BadArgs, 0),
-        (2, Reason::BadArgs, 2),
-    ] {
-        let id = Num::new(id)?;
-        let turn = desk.mutate(&user, &group, &client, id, Call::Void(reason));
-        let other = plain.mutate(&user, &group, &client, id, Call::Void(reason));
-        assert_eq!(rt; turn, other);
-        assert_eq!(rt; place_of(turn), place);
+// The users who see a todo, each with a space after it.
+fn viewers(alloc: Global, desk: &Desk, todo: &str) -> Result<String, Fail> {
+    let kind = Kind::Todo;
+    let id = Id::new(alloc, todo)?;
+    let key = Key { kind, id }.copy(alloc)?;
+    let users = rv_sharing::affected(alloc, desk.tables(), &[key])?;
+    let mut text = String::new(alloc);
+    for user in users.as_slice() {
+        text.push_str(user.as_str())?;
+        text.push_str(" ")?;
     }
-    assert!(rt; both_mutate(alloc, &mut desk, &mut plain, "ann g1 c1 3 l1 ann", 3)?);
-    assert!(rt; both_pull(alloc, &mut desk, &mut plain, "ann", "g1")?);
-    assert_eq!(rt; standing(alloc, &desk)?.as_str(), "l1 3,");
-    Ok(())
+    Ok(text)
 }
 
-fn senders() -> [(&'static str, &'static str); 4] {
-    [("ann", "g1"), ("bob", "g2"), ("cat", "g3"), ("ann", "g1")]
+fn greatest_lines() -> [&'static str; 5] {
+    [
+        "ann g1 c1 1 list l1 ann",
+        "ann g1 c1 2 todo t1 l1 milk",
+        "ann g1 c1 3 share s1 l1 bob",
+        "bob g2 c2 1 sort t1 9007199254740991",
+        "bob g2 c2 2 todo t2 l1 eggs",
+    ]
+}
+
+#[test]
+fn a_sort_stays_within_the_greatest(rt: HostRuntime) -> Result<(), Fail> {
+    let alloc = rt.alloc();
+    let mut desk = Desk::new(alloc, 9);
+    for text in &greatest_lines() {
+        let _turn = mutate(&mut desk, line_of(alloc, text)?);
+    }
+    assert_eq!(rt; standing(alloc, &desk)?.as_str(), "l1 1,s1 3,t1 4,t2 5,");
+    for (row, _version) in desk.tables().iter() {
+        if let rv_rows::Row::Todo(todo) = row {
+            assert_eq!(rt; todo.sort.get(), Num::MAX);
+        }
+    }
+    assert_eq!(rt; viewers(alloc, &desk, "t2")?.as_str(), "ann bob ");
+    assert_eq!(rt; viewers(alloc, &desk, "t3")?.as_str(), "");
+    Ok(())
 }
 
 fn described(alloc: Global, turn: Turn) -> Result<String, Fail> {
@@ -210,30 +226,13 @@ fn described(alloc: Global, turn: Turn) -> Result<String, Fail> {
 // What becomes of mutations at a limit of two entries.
 fn limited() -> [(&'static str, &'static str); 6] {
     [
-        ("ann g1 c1 4 l2 ann", "future 1 4"),
-        ("ann g1 c1 1 l2 ann", "acted 1"),
-        ("ann g1 c1 2 l1 ann", "acted 2"),
-        ("ann g1 c1 3 l3 ann", "limit 2"),
-        ("ann g1 c1 2 l1 ann", "skipped 2"),
-        ("ann g1 c1 0 l1 ann", "skipped 2"),
+        ("ann g1 c1 4 list l2 ann", "future 1 4"),
+        ("ann g1 c1 1 list l2 ann", "acted 1"),
+        ("ann g1 c1 2 list l1 ann", "acted 2"),
+        ("ann g1 c1 3 list l3 ann", "limit 2"),
+        ("ann g1 c1 2 list l1 ann", "skipped 2"),
+        ("ann g1 c1 0 list l1 ann", "skipped 2"),
     ]
-}
-
-// The rows that stand, each with its version.
-fn standing(alloc: Global, desk: &Desk) -> Result<String, Fail> {
-    let mut text = String::new(alloc);
-    for (row, version) in desk.tables().iter() {
-        let id = row.id().as_str();
-        let item = format!(in alloc; "{id} {version},")?;
-        text.push_str(&item)?;
-    }
-    Ok(text)
-}
-
-fn mutates_to(alloc: Global, desk: &mut Desk, text: &str, expected: &str) -> Result<bool, Fail> {
-    let turn = mutate(alloc, desk, line_of(text))?;
-    let description = described(alloc, turn)?;
-    Ok(description.as_str() == expected)
 }
 
 #[test]
@@ -241,8 +240,8 @@ fn stops_at_its_limits(rt: HostRuntime) -> Result<(), Fail> {
     let alloc = rt.alloc();
     let mut desk = Desk::new(alloc, 2);
     for (text, expected) in &limited() {
-        let same = mutates_to(alloc, &mut desk, text, expected)?;
-        assert!(rt; same, "{text}");
+        let turn = mutate(&mut desk, line_of(alloc, text)?);
+        assert_eq!(rt; described(alloc, turn)?.as_str(), *expected, "{text}");
     }
     let answer = pull(alloc, &mut desk, "ann", "g1")?;
     assert_eq!(rt; text_of(&answer), b"book".as_slice());

@@ -1,18 +1,21 @@
 -- What is read as a row is the row's value, and the value of a row is read as it.
-use Rattle.std.proofs.Common.{◌≡◌, ℕ, List, length, Option, Some, None, refl, sym, ap, ◌∙◌, subst, arith, ◌&&◌, leb}
+use Rattle.std.proofs.Common.{◌≡◌, ℕ, ◌<◌, ◌^◌, Bool, List, length, Option, Some, None, refl, sym, ap, ◌∙◌, subst, arith, ◌&&◌, leb, nat_lt}
 use Rattle.std.specs.Prelude.{codes, option_map, IfSome}
 use Rattle.std.specs.Str.{bytes_eq}
 use Rattle.std.proofs.lemmas.Slice.Eq.{bytes_eq-Decides}
 use Rattle.std.proofs.lemmas.Option.{none-some, same_Some, cond_some}
 use Rattle.std.proofs.lemmas.Bool.Decides.{nat_tests}
-use Rattle.serde_json.specs.Data.{Data, Members, no_members, member, null, boolean, number, string, array, object}
+use Rattle.serde_json.specs.Data.{Data, unsigned, negative, float, Members, no_members, member, null, boolean, number, string, array, object}
+use Rattle.serde_json.specs.Find.{as_bool}
 use Rattle.rv_base.specs.Texts.{IsWithin}
 use Rattle.rv_base.specs.Options.{◌>>=◌}
 use Rattle.rv_rows.specs.declared.row.Row.{Row}
 use Rattle.rv_rows.specs.declared.row.Row.TheVariants as variants
 use Rattle.rv_rows.specs.declared.row.ListRow.{ListRow}
-use Rattle.rv_rows.specs.Members.{within, text_in, named, has_ended}
-use Rattle.rv_rows.specs.RowTexts.{row_data, Fits, list_row_in, row_in}
+use Rattle.rv_rows.specs.declared.row.ShareRow.{ShareRow}
+use Rattle.rv_rows.specs.declared.row.TodoRow.{TodoRow}
+use Rattle.rv_rows.specs.Members.{within, text_in, num_in, named, has_ended}
+use Rattle.rv_rows.specs.RowTexts.{row_data, Fits, list_row_in, share_row_in, todo_row_in, either, row_in}
 
 named_is : (k : List ℕ) (ms : Members) (x : Data × Members) → named k ms ≡ Some x → ms ≡ member k x.0 x.1
 named_is k no_members x e = absurd (none-some x e)
@@ -39,6 +42,9 @@ text_is low high (number n) t e = absurd (none-some t e)
 text_is low high (array ds) t e = absurd (none-some t e)
 text_is low high (object ms) t e = absurd (none-some t e)
 
+num_again : (n : ℕ) → n < 2 ^ 53 → num_in (number (unsigned n)) ≡ Some n
+num_again n fits = grind (arith, nat_tests)
+
 one_more : (k : List ℕ) (ms : Members) (x : Data × Members) (d : Data) (rest : Members) → named k ms ≡ Some x → x.0 ≡ d → x.1 ≡ rest → ms ≡ member k d rest
 one_more k ms x d rest e p q = named_is k ms x e ∙ (λ i. member k (p i) (q i))
 
@@ -58,12 +64,57 @@ list_takes ms r e =
         subst (λ (q : ListRow). (object ms ≡ row_data (variants.List q)) × Fits (variants.List q)) (same_Some (record { id = i; name = n; owner = o }) r e)
         (ap (λ (t : Members). object t) (one_more (codes "id") ms a (string i) _ ea ti.0 (one_more (codes "name") a.1 b (string n) _ eb tn.0 (one_more (codes "ownerID") b.1 c (string o) _ ec to.0 (ended_is c.1 d ed)))), (ti.1, tn.1, to.1))
 
-members_takes : (ms : Members) (o : Option ListRow) (r : Row) → list_row_in ms ≡ o → option_map (λ r. variants.List r) o ≡ Some r → (object ms ≡ row_data r) × Fits r
-members_takes ms (Some q) r e h = subst (λ (r : Row). (object ms ≡ row_data r) × Fits r) (same_Some (variants.List q) r h) (list_takes ms q e)
-members_takes ms None r e h = absurd (none-some r h)
+share_takes : (ms : Members) (r : ShareRow) → share_row_in ms ≡ Some r → (object ms ≡ row_data (variants.Share r)) × Fits (variants.Share r)
+unfolding share_row_in
+share_takes ms r e =
+    then _ _ r e (λ a ea e. then _ _ r e (λ b eb e. then _ _ r e (λ c ec e. then _ _ r e (λ d ed e. then _ _ r e (λ i ei e. then _ _ r e (λ l el e. then _ _ r e (λ u eu e.
+    share_made ms a b c d i l u r ea eb ec ed (text_is 1 128 a.0 i ei) (text_is 1 128 b.0 l el) (text_is 1 64 c.0 u eu) e)))))))
+  where
+    share_made : (ms : Members) (a b c : Data × Members) (d : Unit {0}) (i l u : List ℕ) (r : ShareRow) → named (codes "id") ms ≡ Some a → named (codes "listID") a.1 ≡ Some b → named (codes "userID") b.1 ≡ Some c → has_ended c.1 ≡ Some d
+        → (a.0 ≡ string i) × IsWithin 1 128 i → (b.0 ≡ string l) × IsWithin 1 128 l → (c.0 ≡ string u) × IsWithin 1 64 u → Some (record { id = i; list = l; user = u }) ≡ Some r → (object ms ≡ row_data (variants.Share r)) × Fits (variants.Share r)
+    share_made ms a b c d i l u r ea eb ec ed ti tl tu e =
+        subst (λ (q : ShareRow). (object ms ≡ row_data (variants.Share q)) × Fits (variants.Share q)) (same_Some (record { id = i; list = l; user = u }) r e)
+        (ap (λ (t : Members). object t) (one_more (codes "id") ms a (string i) _ ea ti.0 (one_more (codes "listID") a.1 b (string l) _ eb tl.0 (one_more (codes "userID") b.1 c (string u) _ ec tu.0 (ended_is c.1 d ed)))), (ti.1, tl.1, tu.1))
+
+bool_is : (d : Data) (b : Bool) → as_bool d ≡ Some b → d ≡ boolean b
+bool_is (boolean c) b e = ap (λ (x : Bool). boolean x) (same_Some c b e)
+bool_is null b e = absurd (none-some b e)
+bool_is (string s) b e = absurd (none-some b e)
+bool_is (number n) b e = absurd (none-some b e)
+bool_is (array ds) b e = absurd (none-some b e)
+bool_is (object ms) b e = absurd (none-some b e)
+
+num_is : (d : Data) (n : ℕ) → num_in d ≡ Some n → (d ≡ number (unsigned n)) × (n < 2 ^ 53)
+num_is (number (unsigned m)) n e = let parts = cond_some (nat_lt m (2 ^ 53)) m n e in (ap (λ (k : ℕ). number (unsigned k)) parts.1, grind (arith, nat_tests))
+num_is (number (negative z)) n e = absurd (none-some n e)
+num_is (number (float x)) n e = absurd (none-some n e)
+num_is null n e = absurd (none-some n e)
+num_is (boolean b) n e = absurd (none-some n e)
+num_is (string s) n e = absurd (none-some n e)
+num_is (array ds) n e = absurd (none-some n e)
+num_is (object ms) n e = absurd (none-some n e)
+
+todo_takes : (ms : Members) (r : TodoRow) → todo_row_in ms ≡ Some r → (object ms ≡ row_data (variants.Todo r)) × Fits (variants.Todo r)
+unfolding todo_row_in
+todo_takes ms r e =
+    then _ _ r e (λ a ea e. then _ _ r e (λ b eb e. then _ _ r e (λ f ef e. then _ _ r e (λ g eg e. then _ _ r e (λ h eh e. then _ _ r e (λ d ed e. then _ _ r e (λ c ec e. then _ _ r e (λ i ei e. then _ _ r e (λ l el e. then _ _ r e (λ s es e. then _ _ r e (λ t et e.
+    todo_made ms a b f g h d c i l s t r ea eb ef eg eh ed (bool_is a.0 c ec) (text_is 1 128 b.0 i ei) (text_is 1 128 f.0 l el) (num_is g.0 s es) (text_is 0 16384 h.0 t et) e)))))))))))
+  where
+    todo_made : (ms : Members) (a b f g h : Data × Members) (d : Unit {0}) (c : Bool) (i l : List ℕ) (s : ℕ) (t : List ℕ) (r : TodoRow) → named (codes "complete") ms ≡ Some a → named (codes "id") a.1 ≡ Some b → named (codes "listID") b.1 ≡ Some f → named (codes "sort") f.1 ≡ Some g → named (codes "text") g.1 ≡ Some h → has_ended h.1 ≡ Some d
+        → a.0 ≡ boolean c → (b.0 ≡ string i) × IsWithin 1 128 i → (f.0 ≡ string l) × IsWithin 1 128 l → (g.0 ≡ number (unsigned s)) × (s < 2 ^ 53) → (h.0 ≡ string t) × IsWithin 0 16384 t → Some (record { id = i; list = l; text = t; complete = c; sort = s }) ≡ Some r → (object ms ≡ row_data (variants.Todo r)) × Fits (variants.Todo r)
+    todo_made ms a b f g h d c i l s t r ea eb ef eg eh ed tc ti tl ts tt e =
+        subst (λ (q : TodoRow). (object ms ≡ row_data (variants.Todo q)) × Fits (variants.Todo q)) (same_Some (record { id = i; list = l; text = t; complete = c; sort = s }) r e)
+        (ap (λ (x : Members). object x) (one_more (codes "complete") ms a (boolean c) _ ea tc (one_more (codes "id") a.1 b (string i) _ eb ti.0 (one_more (codes "listID") b.1 f (string l) _ ef tl.0 (one_more (codes "sort") f.1 g (number (unsigned s)) _ eg ts.0 (one_more (codes "text") g.1 h (string t) _ eh tt.0 (ended_is h.1 d ed)))))), (ti.1, tl.1, tt.1, ts.1))
+
+members_takes : (ms : Members) (o : Option ListRow) (p : Option ShareRow) (q : Option TodoRow) (r : Row) → list_row_in ms ≡ o → share_row_in ms ≡ p → todo_row_in ms ≡ q
+    → either (option_map (λ r. variants.List r) o) (either (option_map (λ r. variants.Share r) p) (option_map (λ r. variants.Todo r) q)) ≡ Some r → (object ms ≡ row_data r) × Fits r
+members_takes ms (Some x) p q r e f g h = subst (λ (r : Row). (object ms ≡ row_data r) × Fits r) (same_Some (variants.List x) r h) (list_takes ms x e)
+members_takes ms None (Some x) q r e f g h = subst (λ (r : Row). (object ms ≡ row_data r) × Fits r) (same_Some (variants.Share x) r h) (share_takes ms x f)
+members_takes ms None None (Some x) r e f g h = subst (λ (r : Row). (object ms ≡ row_data r) × Fits r) (same_Some (variants.Todo x) r h) (todo_takes ms x g)
+members_takes ms None None None r e f g h = absurd (none-some r h)
 
 pub row_takes : (d : Data) (r : Row) → row_in d ≡ Some r → (d ≡ row_data r) × Fits r
-row_takes (object ms) r e = members_takes ms _ r refl e
+row_takes (object ms) r e = members_takes ms _ _ _ r refl refl refl e
 row_takes null r e = absurd (none-some r e)
 row_takes (boolean b) r e = absurd (none-some r e)
 row_takes (number n) r e = absurd (none-some r e)
@@ -71,8 +122,10 @@ row_takes (string s) r e = absurd (none-some r e)
 row_takes (array ds) r e = absurd (none-some r e)
 
 pub row_again : (r : Row) → Fits r → row_in (row_data r) ≡ Some r
-unfolding list_row_in
+unfolding list_row_in share_row_in todo_row_in
 row_again (variants.List r) fits = rw (within_again 1 128 r.id fits.0, within_again 0 16384 r.name fits.1, within_again 1 64 r.owner fits.2) refl
+row_again (variants.Share r) fits = rw (within_again 1 128 r.id fits.0, within_again 1 128 r.list fits.1, within_again 1 64 r.user fits.2) refl
+row_again (variants.Todo r) fits = rw (within_again 1 128 r.id fits.0, within_again 1 128 r.list fits.1, within_again 0 16384 r.text fits.2, num_again r.sort fits.3) refl
 
 pub is_found : (d : Data) (o : Option Row) → o ≡ row_in d → IfSome o (λ r. (d ≡ row_data r) × Fits r)
 is_found d (Some r) e = row_takes d r (sym e)

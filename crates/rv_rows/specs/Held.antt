@@ -1,5 +1,5 @@
 -- A table as its rows with their versions, in key order, and the room that it has beside.
-use Rattle.std.specs.Prelude.{ℕ, List, Option}
+use Rattle.std.specs.Prelude.{ℕ, List, Option, map}
 use Rattle.rv_rows.specs.declared.row.Row.{Row}
 use Rattle.rv_rows.specs.Keys.{row_text}
 use Rattle.rv_base.specs.Sorted.{find_by, without, put_by, InOrder}
@@ -13,6 +13,10 @@ pub record Held : Type 0 where
 
 abbrev pub stored_key : Stored → List ℕ
 stored_key s = row_text s.0
+
+-- the rows alone
+abbrev pub rows_in : List Stored → List Row
+rows_in = map (λ s. s.0)
 
 abbrev pub AreRows : List Stored → Type 0
 AreRows = InOrder stored_key

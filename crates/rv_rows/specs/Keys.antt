@@ -12,12 +12,16 @@ use Rattle.rv_rows.specs.declared.row.Row.TheVariants as variants
 -- the kind's text, with the slash
 abbrev pub prefix : Kind → List ℕ
 prefix kinds.List = codes "list/"
+prefix kinds.Share = codes "share/"
+prefix kinds.Todo = codes "todo/"
 
 abbrev pub key_text : Key → List ℕ
 key_text key = prefix key.kind ++ key.id
 
 abbrev pub row_key : Row → Key
 row_key (variants.List row) = record { kind = kinds.List; id = row.id }
+row_key (variants.Share row) = record { kind = kinds.Share; id = row.id }
+row_key (variants.Todo row) = record { kind = kinds.Todo; id = row.id }
 
 abbrev pub row_text : Row → List ℕ
 row_text row = key_text (row_key row)

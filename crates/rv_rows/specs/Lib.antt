@@ -4,3 +4,5 @@ pub mod Sharing
 pub mod Effects
 pub mod RowTexts
 pub mod Members
+pub mod Changes
+pub mod EffectLaws

@@ -1,8 +1,8 @@
 -- What a value and the members of an object are read as.
-use Rattle.std.specs.Prelude.{ℕ, List, length, Option, Some, None, option_and_then, nat_le, ◌&&◌, if◌then◌else◌}
+use Rattle.std.specs.Prelude.{ℕ, ◌^◌, List, length, Option, Some, None, option_and_then, nat_le, nat_lt, ◌&&◌, if◌then◌else◌}
 use Rattle.std.specs.Str.{bytes_eq}
 use Rattle.serde_json.specs.Data.{Data, Members, no_members, member}
-use Rattle.serde_json.specs.Find.{as_str}
+use Rattle.serde_json.specs.Find.{as_str, as_number, as_u64}
 
 -- a text of at least low and at most high bytes
 abbrev pub within : ℕ → ℕ → List ℕ → Option (List ℕ)
@@ -11,6 +11,14 @@ within low high text = if nat_le low (length text) && nat_le (length text) high 
 -- a value that is such a text
 abbrev pub text_in : ℕ → ℕ → Data → Option (List ℕ)
 text_in low high value = option_and_then (within low high) (as_str value)
+
+-- a whole number up to 2^53 - 1
+abbrev pub num_within : ℕ → Option ℕ
+num_within n = if nat_lt n (2 ^ 53) then Some n else None
+
+-- a value that is such a number; one with a fraction or an exponent is none
+abbrev pub num_in : Data → Option ℕ
+num_in value = option_and_then num_within (option_and_then as_u64 (as_number value))
 
 -- the value of the first member, where it has the name, and the members after it
 abbrev pub named : List ℕ → Members → Option (Data × Members)

@@ -1,20 +1,29 @@
--- A row as JSON, and reading it back. A list is {"id":I,"name":T,"ownerID":U}, members in byte order, and no others.
-use Rattle.std.specs.Prelude.{codes, Option, Some, option_map, option_and_then}
-use Rattle.serde_json.specs.Data.{Data, Members, string, object, member, no_members}
-use Rattle.serde_json.specs.Find.{as_object}
+-- A row as JSON, and reading it back. Members stand in byte order, and there are no others:
+--   a list   {"id":I,"name":T,"ownerID":U}
+--   a share  {"id":I,"listID":I,"userID":U}
+--   a todo   {"complete":B,"id":I,"listID":I,"sort":N,"text":T}
+use Rattle.std.specs.Prelude.{codes, ◌<◌, ◌^◌, Option, Some, None, option_map, option_and_then}
+use Rattle.serde_json.specs.Data.{Data, Members, boolean, number, unsigned, string, object, member, no_members}
+use Rattle.serde_json.specs.Find.{as_object, as_bool}
 use Rattle.rv_base.specs.Texts.{IsWithin}
 use Rattle.rv_base.specs.Options.{◌>>=◌}
 use Rattle.rv_rows.specs.declared.row.Row.{Row}
 use Rattle.rv_rows.specs.declared.row.Row.TheVariants as variants
 use Rattle.rv_rows.specs.declared.row.ListRow.{ListRow}
-use Rattle.rv_rows.specs.Members.{named, has_ended, text_in}
+use Rattle.rv_rows.specs.declared.row.ShareRow.{ShareRow}
+use Rattle.rv_rows.specs.declared.row.TodoRow.{TodoRow}
+use Rattle.rv_rows.specs.Members.{named, has_ended, text_in, num_in}
 
 abbrev pub row_data : Row → Data
 row_data (variants.List row) = object (member (codes "id") (string row.id) (member (codes "name") (string row.name) (member (codes "ownerID") (string row.owner) no_members)))
+row_data (variants.Share row) = object (member (codes "id") (string row.id) (member (codes "listID") (string row.list) (member (codes "userID") (string row.user) no_members)))
+row_data (variants.Todo row) = object (member (codes "complete") (boolean row.complete) (member (codes "id") (string row.id) (member (codes "listID") (string row.list) (member (codes "sort") (number (unsigned row.sort)) (member (codes "text") (string row.text) no_members)))))
 
 -- the row's texts are within their bounds
 abbrev pub Fits : Row → Type 0
 Fits (variants.List row) = IsWithin 1 128 row.id × IsWithin 0 16384 row.name × IsWithin 1 64 row.owner
+Fits (variants.Share row) = IsWithin 1 128 row.id × IsWithin 1 128 row.list × IsWithin 1 64 row.user
+Fits (variants.Todo row) = IsWithin 1 128 row.id × IsWithin 1 128 row.list × IsWithin 0 16384 row.text × (row.sort < 2 ^ 53)
 
 unfoldable pub list_row_in : Members → Option ListRow
 list_row_in members = do
@@ -27,8 +36,39 @@ list_row_in members = do
   o ← text_in 1 64 owner.0
   Some (record { id = i; name = n; owner = o })
 
+unfoldable pub share_row_in : Members → Option ShareRow
+share_row_in members = do
+  id ← named (codes "id") members
+  list ← named (codes "listID") id.1
+  user ← named (codes "userID") list.1
+  end ← has_ended user.1
+  i ← text_in 1 128 id.0
+  l ← text_in 1 128 list.0
+  u ← text_in 1 64 user.0
+  Some (record { id = i; list = l; user = u })
+
+unfoldable pub todo_row_in : Members → Option TodoRow
+todo_row_in members = do
+  complete ← named (codes "complete") members
+  id ← named (codes "id") complete.1
+  list ← named (codes "listID") id.1
+  sort ← named (codes "sort") list.1
+  text ← named (codes "text") sort.1
+  end ← has_ended text.1
+  c ← as_bool complete.0
+  i ← text_in 1 128 id.0
+  l ← text_in 1 128 list.0
+  s ← num_in sort.0
+  t ← text_in 0 16384 text.0
+  Some (record { id = i; list = l; text = t; complete = c; sort = s })
+
+-- the first of the two that is there
+abbrev pub either : Option Row → Option Row → Option Row
+either (Some row) other = Some row
+either None other = other
+
 abbrev pub members_row_in : Members → Option Row
-members_row_in members = option_map (λ row. variants.List row) (list_row_in members)
+members_row_in members = either (option_map (λ row. variants.List row) (list_row_in members)) (either (option_map (λ row. variants.Share row) (share_row_in members)) (option_map (λ row. variants.Todo row) (todo_row_in members)))
 
 abbrev pub row_in : Data → Option Row
 row_in value = option_and_then members_row_in (as_object value)

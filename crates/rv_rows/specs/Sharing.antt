@@ -1,15 +1,44 @@
--- Who sees what. A user may see a list exactly where the user owns it, and sees each such list.
-use Rattle.std.specs.Prelude.{ℕ, Bool, List}
-use Rattle.std.specs.List.{filter}
+-- Who sees what. A user may see a list exactly where the list is there and the user owns it or a share of that list names
+-- the user. A user sees each such list, with its shares and its todos.
+use Rattle.std.specs.Prelude.{ℕ, Bool, false, List, ◌&&◌, ◌||◌}
+use Rattle.std.specs.List.{filter, list_any}
 use Rattle.std.specs.Str.{bytes_eq}
 use Rattle.rv_rows.specs.declared.row.Row.{Row}
 use Rattle.rv_rows.specs.declared.row.Row.TheVariants as variants
 use Rattle.rv_rows.specs.Keys.{in_key_order}
 
--- the user may see the row: a list that the user owns
-abbrev pub may : List ℕ → Row → Bool
-may user (variants.List row) = bytes_eq row.owner user
+-- the row is this list
+abbrev pub is_list : List ℕ → Row → Bool
+is_list list (variants.List row) = bytes_eq row.id list
+is_list list (variants.Share row) = false
+is_list list (variants.Todo row) = false
+
+-- the row is this list, and the user owns it
+abbrev pub owns : List ℕ → List ℕ → Row → Bool
+owns user list (variants.List row) = bytes_eq row.id list && bytes_eq row.owner user
+owns user list (variants.Share row) = false
+owns user list (variants.Todo row) = false
+
+-- the row is a share of this list that names the user
+abbrev pub shares : List ℕ → List ℕ → Row → Bool
+shares user list (variants.List row) = false
+shares user list (variants.Share row) = bytes_eq row.list list && bytes_eq row.user user
+shares user list (variants.Todo row) = false
+
+-- the user may see the list
+abbrev pub may : List ℕ → List ℕ → List Row → Bool
+may user list rows = list_any (owns user list) rows || (list_any (is_list list) rows && list_any (shares user list) rows)
+
+-- the list that a row is or belongs to
+abbrev pub list_of : Row → List ℕ
+list_of (variants.List row) = row.id
+list_of (variants.Share row) = row.list
+list_of (variants.Todo row) = row.list
+
+-- the user sees the row, as one of these
+unfoldable pub sees : List ℕ → List Row → Row → Bool
+sees user rows row = may user (list_of row) rows
 
 -- the rows that the user sees, in the order of their keys
 abbrev pub seen : List ℕ → List Row → List Row
-seen user rows = filter (may user) (in_key_order rows)
+seen user rows = filter (sees user rows) (in_key_order rows)

@@ -1,6 +1,6 @@
 ghost use Rattle.std.specs.Prelude.{◌≡◌, IfOk};
 
-use rv_base::{Id, Memory, Text, User};
+use rv_base::{Id, Memory, Num, Text, User};
 use std::alloc::Global;
 
 /// What a mutation asks for.
@@ -15,6 +15,52 @@ pub enum Call {
         /// The list's owner.
         owner: User,
     },
+    /// A list goes, with its shares and its todos.
+    DeleteList {
+        /// The list's id.
+        id: Id,
+    },
+    /// A new share, with this id, of this list with this user.
+    CreateShare {
+        /// The share's id.
+        id: Id,
+        /// The list's id.
+        list: Id,
+        /// Whom the list is shared with.
+        user: User,
+    },
+    /// A share goes.
+    DeleteShare {
+        /// The share's id.
+        id: Id,
+    },
+    /// A new todo at the end of a list.
+    CreateTodo {
+        /// The todo's id.
+        id: Id,
+        /// The list's id.
+        list: Id,
+        /// What is to be done.
+        text: Text,
+        /// Whether it is done.
+        complete: bool,
+    },
+    /// A todo gets the fields that are named.
+    UpdateTodo {
+        /// The todo's id.
+        id: Id,
+        /// What is to be done, where it is named.
+        text: Option<Text>,
+        /// Whether it is done, where it is named.
+        complete: Option<bool>,
+        /// Its sort, where it is named.
+        sort: Option<Num>,
+    },
+    /// A todo goes.
+    DeleteTodo {
+        /// The todo's id.
+        id: Id,
+    },
     /// Nothing: the name and the arguments spell no call.
     Void(Reason),
 }
@@ -28,6 +74,15 @@ pub enum Reason {
     BadArgs,
 }
 
+fn text_copy(alloc: Global, text: &Option<Text>) -> Result<Option<Text>, Memory>
+    ensures { IfOk result (λ copy. copy ≡ text.now) }
+{
+    match text {
+        Some(text) => Ok(Some(text.copy(alloc)?)),
+        None => Ok(None),
+    }
+}
+
 impl Call {
     /// The same call, in memory of its own.
     pub fn copy(&self, alloc: Global) -> Result<Call, Memory>
@@ -38,6 +93,42 @@ impl Call {
                 id: id.copy(alloc)?,
                 name: name.copy(alloc)?,
                 owner: owner.copy(alloc)?,
+            }),
+            Call::DeleteList { id } => Ok(Call::DeleteList {
+                id: id.copy(alloc)?,
+            }),
+            Call::CreateShare { id, list, user } => Ok(Call::CreateShare {
+                id: id.copy(alloc)?,
+                list: list.copy(alloc)?,
+                user: user.copy(alloc)?,
+            }),
+            Call::DeleteShare { id } => Ok(Call::DeleteShare {
+                id: id.copy(alloc)?,
+            }),
+            Call::CreateTodo {
+                id,
+                list,
+                text,
+                complete,
+            } => Ok(Call::CreateTodo {
+                id: id.copy(alloc)?,
+                list: list.copy(alloc)?,
+                text: text.copy(alloc)?,
+                complete: *complete,
+            }),
+            Call::UpdateTodo {
+                id,
+                text,
+                complete,
+                sort,
+            } => Ok(Call::UpdateTodo {
+                id: id.copy(alloc)?,
+                text: text_copy(alloc, text)?,
+                complete: *complete,
+                sort: *sort,
+            }),
+            Call::DeleteTodo { id } => Ok(Call::DeleteTodo {
+                id: id.copy(alloc)?,
             }),
             Call::Void(reason) => Ok(Call::Void(*reason)),
         }

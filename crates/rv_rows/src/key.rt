@@ -9,9 +9,13 @@ use std::alloc::Global;
 pub enum Kind {
     /// A list.
     List,
+    /// A share of a list with a user.
+    Share,
+    /// A todo of a list.
+    Todo,
 }
 
-/// What names a row. Its text is `list/ID`, and keys are ordered by the bytes of their texts.
+/// What names a row. Its text is `list/ID`, `share/ID` or `todo/ID`, and keys are ordered by the bytes of their texts.
 #[derive(Debug, Drop)]
 pub struct Key {
     /// The kind of the row.
@@ -27,6 +31,8 @@ impl Kind {
     {
         match self {
             Kind::List => "list/",
+            Kind::Share => "share/",
+            Kind::Todo => "todo/",
         }
     }
 

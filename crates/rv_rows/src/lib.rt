@@ -7,6 +7,7 @@
 
 mod call;
 mod key;
+mod lists;
 mod members;
 pub mod plain;
 mod row;
@@ -16,8 +17,9 @@ mod tables;
 
 pub use call::{Call, Reason};
 pub use key::{Key, Kind};
-pub use members::{next_named, text_of_value};
-pub use row::{Clients, ListRow, Row};
+pub use lists::{Clients, Keys, Rows, Users, Visible};
+pub use members::{next_named, num_of_value, text_of_value};
+pub use row::{ListRow, Row, ShareRow, TodoRow};
 pub use row_json::row_value;
 pub use row_reading::read_row;
 pub use tables::{RowsInOrder, Tables};

@@ -1,9 +1,9 @@
 // Members of JSON objects.
 ghost use Rattle.std.specs.Prelude.{◌≡◌, IfOk, IfSome, IfNone, Some, None};
 ghost use Rattle.serde_json.specs.View.{view, members_view};
-ghost use Rattle.rv_rows.specs.Members.{named, text_in};
+ghost use Rattle.rv_rows.specs.Members.{named, text_in, num_in};
 
-use rv_base::{Bounded, Memory, TextRefusal};
+use rv_base::{Bounded, Memory, Num, TextRefusal};
 use serde_json::Value;
 use std::alloc::Global;
 use std::collections::btree_map::Iter;
@@ -36,4 +36,12 @@ pub fn text_of_value<const MIN: usize, const MAX: usize>(
             Err(_) => Ok(None),
         },
     }
+}
+
+/// The number that a value is, where it is a `Num`.
+pub fn num_of_value(value: &Value) -> Option<Num>
+    ensures { result ≡ num_in (view value.now) }
+{
+    let number = value.as_u64()?;
+    Num::new(number).ok()
 }

@@ -4,7 +4,7 @@ ghost use Rattle.std.specs.Ordering.{nat_cmp};
 ghost use Rattle.rv_rows.specs.Keys.{key_text, row_key, row_text};
 
 use crate::key::Kind;
-use rv_base::{Id, Memory, Num, Sequence, Text, User};
+use rv_base::{Id, Memory, Num, Text, User};
 use std::alloc::Global;
 use std::cmp::Ordering;
 
@@ -19,15 +19,42 @@ pub struct ListRow {
     pub owner: User,
 }
 
+/// A share, by which a user sees a list of another.
+#[derive(Debug, Drop)]
+pub struct ShareRow {
+    /// The share's name among shares.
+    pub id: Id,
+    /// The list that is shared.
+    pub list: Id,
+    /// The user that it is shared with.
+    pub user: User,
+}
+
+/// A todo of a list.
+#[derive(Debug, Drop)]
+pub struct TodoRow {
+    /// The todo's name among todos.
+    pub id: Id,
+    /// The list that it belongs to.
+    pub list: Id,
+    /// What is to be done.
+    pub text: Text,
+    /// Whether it is done.
+    pub complete: bool,
+    /// Its place among the todos of its list, from below.
+    pub sort: Num,
+}
+
 /// A row.
 #[derive(Debug, Drop)]
 pub enum Row {
     /// A list.
     List(ListRow),
+    /// A share of a list with a user.
+    Share(ShareRow),
+    /// A todo of a list.
+    Todo(TodoRow),
 }
-
-/// Clients of a group, each with its last mutation id.
-pub type Clients = Sequence<(Id, Num)>;
 
 impl Row {
     /// The kind of the row's key.
@@ -36,6 +63,8 @@ impl Row {
     {
         match self {
             Row::List(_) => Kind::List,
+            Row::Share(_) => Kind::Share,
+            Row::Todo(_) => Kind::Todo,
         }
     }
 
@@ -45,6 +74,8 @@ impl Row {
     {
         match self {
             Row::List(row) => &row.id,
+            Row::Share(row) => &row.id,
+            Row::Todo(row) => &row.id,
         }
     }
 
@@ -54,6 +85,14 @@ impl Row {
     {
         match (self, kind) {
             (Row::List(row), Kind::List) => row.id.cmp(id),
+            (Row::List(_), Kind::Share) => Ordering::Less,
+            (Row::List(_), Kind::Todo) => Ordering::Less,
+            (Row::Share(_), Kind::List) => Ordering::Greater,
+            (Row::Share(row), Kind::Share) => row.id.cmp(id),
+            (Row::Share(_), Kind::Todo) => Ordering::Less,
+            (Row::Todo(_), Kind::List) => Ordering::Greater,
+            (Row::Todo(_), Kind::Share) => Ordering::Greater,
+            (Row::Todo(row), Kind::Todo) => row.id.cmp(id),
         }
     }
 
@@ -63,6 +102,8 @@ impl Row {
     {
         match self {
             Row::List(row) => Ok(Row::List(row.copy(alloc)?)),
+            Row::Share(row) => Ok(Row::Share(row.copy(alloc)?)),
+            Row::Todo(row) => Ok(Row::Todo(row.copy(alloc)?)),
         }
     }
 }
@@ -76,6 +117,34 @@ impl ListRow {
             id: self.id.copy(alloc)?,
             name: self.name.copy(alloc)?,
             owner: self.owner.copy(alloc)?,
+        })
+    }
+}
+
+impl ShareRow {
+    /// The same row, in memory of its own.
+    pub fn copy(&self, alloc: Global) -> Result<ShareRow, Memory>
+        ensures { IfOk result (λ copy. copy ≡ self.now) }
+    {
+        Ok(ShareRow {
+            id: self.id.copy(alloc)?,
+            list: self.list.copy(alloc)?,
+            user: self.user.copy(alloc)?,
+        })
+    }
+}
+
+impl TodoRow {
+    /// The same row, in memory of its own.
+    pub fn copy(&self, alloc: Global) -> Result<TodoRow, Memory>
+        ensures { IfOk result (λ copy. copy ≡ self.now) }
+    {
+        Ok(TodoRow {
+            id: self.id.copy(alloc)?,
+            list: self.list.copy(alloc)?,
+            text: self.text.copy(alloc)?,
+            complete: self.complete,
+            sort: self.sort,
         })
     }
 }

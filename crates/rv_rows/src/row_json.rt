@@ -1,19 +1,39 @@
 ghost use Rattle.std.specs.Prelude.{◌≡◌, IfOk};
 ghost use Rattle.serde_json.specs.View.{view};
+ghost use Rattle.rv_rows.specs.declared.row.Row.TheVariants as variants;
 ghost use Rattle.rv_rows.specs.RowTexts.{row_data};
 
-use crate::row::Row;
+use crate::row::{ListRow, Row, ShareRow, TodoRow};
 use rv_base::Memory;
 use serde_json::{Value, json};
-use std::alloc::Global;
+use std::alloc::{AllocError, Global};
 
-/// The row as a JSON value: a list is `{"id":I,"name":T,"ownerID":U}`.
+fn list_value(alloc: Global, row: &ListRow) -> Result<Value, AllocError>
+    ensures { IfOk result (λ v. view v ≡ row_data (variants.List row.now)) }
+{
+    json!(in alloc; {"id": row.id.as_str(), "name": row.name.as_str(), "ownerID": row.owner.as_str()})
+}
+
+fn share_value(alloc: Global, row: &ShareRow) -> Result<Value, AllocError>
+    ensures { IfOk result (λ v. view v ≡ row_data (variants.Share row.now)) }
+{
+    json!(in alloc; {"id": row.id.as_str(), "listID": row.list.as_str(), "userID": row.user.as_str()})
+}
+
+fn todo_value(alloc: Global, row: &TodoRow) -> Result<Value, AllocError>
+    ensures { IfOk result (λ v. view v ≡ row_data (variants.Todo row.now)) }
+{
+    json!(in alloc; {"complete": row.complete, "id": row.id.as_str(), "listID": row.list.as_str(), "sort": row.sort.get(), "text": row.text.as_str()})
+}
+
+/// The row as a JSON value: a list is `{"id":I,"name":T,"ownerID":U}`, a share is `{"id":I,"listID":I,"userID":U}`, and
+/// a todo is `{"complete":B,"id":I,"listID":I,"sort":N,"text":T}`.
 pub fn row_value(alloc: Global, row: &Row) -> Result<Value, Memory>
     ensures { IfOk result (λ v. view v ≡ row_data row.now) }
 {
     match row {
-        Row::List(row) => Ok(
-            json!(in alloc; {"id": row.id.as_str(), "name": row.name.as_str(), "ownerID": row.owner.as_str()})?,
-        ),
+        Row::List(row) => Ok(list_value(alloc, row)?),
+        Row::Share(row) => Ok(share_value(alloc, row)?),
+        Row::Todo(row) => Ok(todo_value(alloc, row)?),
     }
 }

@@ -1,13 +1,14 @@
 ghost use Rattle.std.specs.Prelude.{◌≡◌, IfOk, IfSome, Some};
 ghost use Rattle.serde_json.specs.View.{view, members_view};
 ghost use Rattle.rv_rows.specs.declared.row.Row.{Row};
-ghost use Rattle.rv_rows.specs.RowTexts.{row_data, Fits, list_row_in, row_in};
+ghost use Rattle.rv_rows.specs.RowTexts.{row_data, Fits, list_row_in, share_row_in, todo_row_in, members_row_in, row_in};
 
-use crate::members::{next_named, text_of_value};
-use crate::row::{ListRow, Row};
+use crate::members::{next_named, num_of_value, text_of_value};
+use crate::row::{ListRow, Row, ShareRow, TodoRow};
 use rv_base::Memory;
 use serde_json::Value;
 use std::alloc::Global;
+use std::collections::BTreeMap;
 use std::collections::btree_map::Iter;
 
 #[tactic(auto, unfolding(crate::specs::RowTexts::list_row_in))]
@@ -38,14 +39,100 @@ fn list_row(alloc: Global, mut left: Iter<'_, String, Value>) -> Result<Option<L
     Ok(Some(ListRow { id, name, owner }))
 }
 
+#[tactic(auto, unfolding(crate::specs::RowTexts::share_row_in))]
+fn share_row(alloc: Global, mut left: Iter<'_, String, Value>) -> Result<Option<ShareRow>, Memory>
+    ensures { IfOk result (λ o. o ≡ share_row_in (members_view left.entry)) }
+{
+    let Some(id) = next_named(&mut left, "id") else {
+        return Ok(None);
+    };
+    let Some(list) = next_named(&mut left, "listID") else {
+        return Ok(None);
+    };
+    let Some(user) = next_named(&mut left, "userID") else {
+        return Ok(None);
+    };
+    if left.next().is_some() {
+        return Ok(None);
+    }
+    let Some(id) = text_of_value(alloc, id)? else {
+        return Ok(None);
+    };
+    let Some(list) = text_of_value(alloc, list)? else {
+        return Ok(None);
+    };
+    let Some(user) = text_of_value(alloc, user)? else {
+        return Ok(None);
+    };
+    Ok(Some(ShareRow { id, list, user }))
+}
+
+#[tactic(auto, unfolding(crate::specs::RowTexts::todo_row_in))]
+fn todo_row(alloc: Global, mut left: Iter<'_, String, Value>) -> Result<Option<TodoRow>, Memory>
+    ensures { IfOk result (λ o. o ≡ todo_row_in (members_view left.entry)) }
+{
+    let Some(complete) = next_named(&mut left, "complete") else {
+        return Ok(None);
+    };
+    let Some(id) = next_named(&mut left, "id") else {
+        return Ok(None);
+    };
+    let Some(list) = next_named(&mut left, "listID") else {
+        return Ok(None);
+    };
+    let Some(sort) = next_named(&mut left, "sort") else {
+        return Ok(None);
+    };
+    let Some(text) = next_named(&mut left, "text") else {
+        return Ok(None);
+    };
+    if left.next().is_some() {
+        return Ok(None);
+    }
+    let Some(complete) = complete.as_bool() else {
+        return Ok(None);
+    };
+    let Some(id) = text_of_value(alloc, id)? else {
+        return Ok(None);
+    };
+    let Some(list) = text_of_value(alloc, list)? else {
+        return Ok(None);
+    };
+    let Some(sort) = num_of_value(sort) else {
+        return Ok(None);
+    };
+    let Some(text) = text_of_value(alloc, text)? else {
+        return Ok(None);
+    };
+    Ok(Some(TodoRow {
+        id,
+        list,
+        text,
+        complete,
+        sort,
+    }))
+}
+
+fn row_of_members(alloc: Global, members: &BTreeMap<String, Value>) -> Result<Option<Row>, Memory>
+    ensures { IfOk result (λ o. o ≡ members_row_in (members_view members.now.entries)) }
+{
+    if let Some(row) = list_row(alloc, members.iter())? {
+        return Ok(Some(Row::List(row)));
+    }
+    if let Some(row) = share_row(alloc, members.iter())? {
+        return Ok(Some(Row::Share(row)));
+    }
+    match todo_row(alloc, members.iter())? {
+        Some(row) => Ok(Some(Row::Todo(row))),
+        None => Ok(None),
+    }
+}
+
 fn row_of(alloc: Global, value: &Value) -> Result<Option<Row>, Memory>
     ensures { IfOk result (λ o. o ≡ row_in (view value.now)) }
 {
-    let Some(members) = value.as_object() else {
-        return Ok(None);
-    };
-    match list_row(alloc, members.iter())? {
-        Some(row) => Ok(Some(Row::List(row))),
+    match value.as_object() {
+        Some(members) => row_of_members(alloc, members),
         None => Ok(None),
     }
 }

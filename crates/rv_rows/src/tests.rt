@@ -1,135 +1,99 @@
+// Rows as letters and words, for the tables of cases.
 use super::*;
-use rv_base::{Id, Text, User};
-use serde_json::Value;
+use rv_base::{Id, Num, Text, User};
 use std::alloc::Global;
 use std::test::Fail;
 
-fn list(alloc: Global, id: &str, owner: &str) -> Result<Row, Fail> {
-    let id = Id::new(alloc, id)?;
-    let name = Text::new(alloc, "Home")?;
-    let owner = User::new(alloc, owner)?;
-    Ok(Row::List(ListRow { id, name, owner }))
-}
+mod effects;
+mod readings;
+mod sharing;
+mod tables;
 
-fn create(alloc: Global, id: &str, owner: &str) -> Result<Call, Fail> {
-    let id = Id::new(alloc, id)?;
-    let name = Text::new(alloc, "Home")?;
-    let owner = User::new(alloc, owner)?;
-    Ok(Call::CreateList { id, name, owner }.copy(alloc)?)
-}
-
-// The ids of the rows, each with a space after it.
-fn ids(alloc: Global, rows: &[Row]) -> Result<String, Fail> {
-    let mut text = String::new(alloc);
-    for row in rows {
-        text.push_str(row.id().as_str())?;
-        text.push_str(" ")?;
+// A row by its letter: a capital is a list, a letter up to `s` is a share, and the others are todos.
+fn row_words(letter: u8) -> &'static str {
+    match letter {
+        b'A' => "list a ann Home",
+        b'B' => "list b bob Home",
+        b'S' => "list s ann Home",
+        b'T' => "list t ann Home",
+        b'a' => "share a a bob",
+        b'p' => "share p b ann",
+        b'r' => "share r a cat",
+        b's' => "share s a bob",
+        b't' => "todo t a 1 false Milk",
+        b'u' => "todo u a 2 false Milk",
+        b'v' => "todo v b 7 false Milk",
+        b'w' => "todo w a 5 false Milk",
+        b'x' => "todo x a 6 true Tea",
+        b'y' => "todo y a 9007199254740990 false Milk",
+        b'z' => "todo z a 9007199254740991 false Milk",
+        b'0' => "todo t a 1 false",
+        b'1' => "todo t a 1 false Tea",
+        b'2' => "todo t a 1 true Milk",
+        b'3' => "todo t a 0 false Milk",
+        b'4' => "todo t a 9007199254740991 true Tea",
+        b'5' => "todo u a 9007199254740991 false Milk",
+        _ => "todo z a 1 false Milk",
     }
-    Ok(text)
 }
 
-// The texts of the rows' keys, each with a colon and the row's version after it.
-fn told(alloc: Global, tables: &Tables) -> Result<String, Fail> {
-    let mut text = String::new(alloc);
-    for (row, version) in tables.iter() {
-        let key = row.kind().key_text(alloc, row.id())?;
-        text.push_str(format!(in alloc; "{key}:{version} ")?.as_str())?;
+// The word at this place of a text, from 0, or an empty one.
+fn word(text: &str, at: usize) -> &str {
+    text.split_whitespace().nth(at).unwrap_or("")
+}
+
+fn num(text: &str) -> Result<Num, Fail> {
+    Ok(Num::new(text.parse::<u64>()?)?)
+}
+
+// The row that is spelled so: `list ID OWNER NAME`, `share ID LIST USER` or `todo ID LIST SORT COMPLETE TEXT`.
+fn row(alloc: Global, text: &str) -> Result<Row, Fail> {
+    let id = Id::new(alloc, word(text, 1))?;
+    match word(text, 0) {
+        "list" => Ok(Row::List(ListRow {
+            id,
+            name: Text::new(alloc, word(text, 3))?,
+            owner: User::new(alloc, word(text, 2))?,
+        })),
+        "share" => Ok(Row::Share(ShareRow {
+            id,
+            list: Id::new(alloc, word(text, 2))?,
+            user: User::new(alloc, word(text, 3))?,
+        })),
+        _ => Ok(Row::Todo(TodoRow {
+            id,
+            list: Id::new(alloc, word(text, 2))?,
+            text: Text::new(alloc, word(text, 5))?,
+            complete: word(text, 4) == "true",
+            sort: num(word(text, 3))?,
+        })),
     }
-    Ok(text)
 }
 
-fn version_of(tables: &Tables, key: &Key) -> Option<u32> {
-    tables.get(key).map(|found| found.1)
-}
-
-#[test]
-fn keeps_rows_in_the_order_of_their_keys(rt: HostRuntime) -> Result<(), Fail> {
-    let alloc = rt.alloc();
-    let kind = Kind::List;
-    let id = Id::new(alloc, "l10")?;
-    let key = Key { kind, id }.copy(alloc)?;
-    let mut tables = Tables::new(alloc);
-    tables.reserve(3)?;
-    tables.put(list(alloc, "l2", "bob")?, 1);
-    tables.put(list(alloc, "l10", "ann")?, 2);
-    tables.put(list(alloc, "l2", "ann")?, 4);
-    assert_eq!(rt; told(alloc, &tables)?.as_str(), "list/l10:2 list/l2:4 ");
-    assert_eq!(rt; version_of(&tables, &key), Some(2));
-    assert!(rt; tables.remove(&key));
-    assert!(rt; !tables.remove(&key));
-    assert_eq!(rt; version_of(&tables, &key), None);
-    assert_eq!(rt; told(alloc, &tables)?.as_str(), "list/l2:4 ");
-    Ok(())
-}
-
-#[test]
-fn prints_a_row_and_reads_it_back(rt: HostRuntime) -> Result<(), Fail> {
-    let alloc = rt.alloc();
-    let row = list(alloc, "l1", "ann")?.copy(alloc)?;
-    let text = row_value(alloc, &row)?.to_string(alloc)?;
-    assert_eq!(rt;
-        text.as_str(),
-        r#"{"id":"l1","name":"Home","ownerID":"ann"}"#
-    );
-    let value = Value::from_str(alloc, text.as_str())?;
-    let Some(Row::List(back)) = read_row(alloc, &value)? else {
-        assert!(rt; false);
-        return Ok(());
-    };
-    assert_eq!(rt; back.id.as_str(), "l1");
-    assert_eq!(rt; back.name.as_str(), "Home");
-    assert_eq!(rt; back.owner.as_str(), "ann");
-    Ok(())
-}
-
-#[test]
-fn reads_no_other_value_as_a_row(rt: HostRuntime) -> Result<(), Fail> {
-    let alloc = rt.alloc();
-    let cases = [
-        (r#"{"id":"l1","name":"","ownerID":"ann"}"#, true),
-        (r#"{"extra":1,"id":"l1","name":"","ownerID":"ann"}"#, false),
-        (r#"{"id":"l1","name":"","ownerID":"ann","z":1}"#, false),
-        (r#"{"id":"l1","name":""}"#, false),
-        (r#"{"id":"l1","name":"","ownerid":"ann"}"#, false),
-        (r#"{"id":"","name":"","ownerID":"ann"}"#, false),
-        (r#"{"id":"l1","name":7,"ownerID":"ann"}"#, false),
-        (r#"["l1","","ann"]"#, false),
-        ("null", false),
-    ];
-    for (text, want) in cases {
-        let value = Value::from_str(alloc, text)?;
-        assert_eq!(rt; read_row(alloc, &value)?.is_some(), want, "at {text}");
-    }
-    for (length, want) in [(128, true), (129, false)] {
-        let text = format!(in alloc; r#"{{"id":"{:0>length$}","name":"","ownerID":"ann"}}"#, 7)?;
-        let value = Value::from_str(alloc, text.as_str())?;
-        assert_eq!(rt; read_row(alloc, &value)?.is_some(), want, "at {length}");
-    }
-    Ok(())
-}
-
-#[test]
-fn adds_a_list_for_its_owner_and_shows_it_to_no_other(rt: HostRuntime) -> Result<(), Fail> {
-    let alloc = rt.alloc();
-    let ann = User::new(alloc, "ann")?;
-    let cases = [
-        ("l2", "ann", "l2 "),
-        ("l10", "ann", "l2 l10 "),
-        ("l2", "ann", "l2 l10 "),
-        ("l3", "bob", "l2 l10 "),
-        ("a", "ann", "l2 l10 a "),
-        ("B", "ann", "l2 l10 a B "),
-    ];
+fn rows(alloc: Global, letters: &str) -> Result<Vec<Row>, Fail> {
     let mut rows = Vec::new(alloc);
-    for (id, owner, want) in cases {
-        let call = create(alloc, id, owner)?;
-        rows = plain::effect(alloc, rows, &ann, &call)?;
-        assert_eq!(rt; ids(alloc, &rows)?.as_str(), want);
+    for letter in letters.bytes() {
+        rows.push(row(alloc, row_words(letter))?.copy(alloc)?)?;
     }
-    rows.push(list(alloc, "A", "bob")?)?;
-    let sorted = plain::in_key_order(alloc, &rows)?;
-    assert_eq!(rt; ids(alloc, &sorted)?.as_str(), "A B a l10 l2 ");
-    let seen = plain::seen(alloc, &rows, &ann)?;
-    assert_eq!(rt; ids(alloc, &seen)?.as_str(), "B a l10 l2 ");
-    Ok(())
+    Ok(rows)
+}
+
+// The row with all its fields.
+fn row_told(alloc: Global, row: &Row) -> Result<String, Fail> {
+    Ok(format!(in alloc; "{row:?}")?)
+}
+
+// Whether the row is the one of these words.
+fn is_row(alloc: Global, found: &Row, words: &str) -> Result<bool, Fail> {
+    let wanted = row(alloc, words)?;
+    Ok(row_told(alloc, found)?.as_str() == row_told(alloc, &wanted)?.as_str())
+}
+
+// Whether the rows are those of these letters.
+fn are_rows(alloc: Global, found: &[Row], letters: &str) -> Result<bool, Fail> {
+    let mut same = found.len() == letters.len();
+    for (row, letter) in found.iter().zip(letters.bytes()) {
+        same = is_row(alloc, row, row_words(letter))? && same;
+    }
+    Ok(same)
 }

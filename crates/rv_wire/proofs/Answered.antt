@@ -20,6 +20,8 @@ use Rattle.rv_wire.specs.Answers.{cookie_data, id_members, op_data, pull_data}
 op_no_float : (o : Op) → has_float (op_data o) ≡ false
 op_no_float Clear = refl
 op_no_float (Put (variants.List r)) = refl
+op_no_float (Put (variants.Share r)) = refl
+op_no_float (Put (variants.Todo r)) = refl
 
 ops_no_float : (os : List Op) → items_have_float (items_of (map op_data os)) ≡ false
 ops_no_float [] = refl

@@ -18,7 +18,8 @@ use Rattle.rv_wire.specs.declared.cookie.Cookie.TheVariants.{Null, Bare, Named}
 use Rattle.rv_wire.specs.declared.push.Mutation.{Mutation}
 use Rattle.rv_wire.specs.declared.push.Push.{Push}
 use Rattle.rv_wire.specs.declared.pull.PullRequest.{PullRequest}
-use Rattle.rv_wire.specs.Members.{text_member, string_member, num_in, num_member, array_member}
+use Rattle.rv_wire.specs.Members.{text_member, string_member, num_member, array_member}
+use Rattle.rv_rows.specs.Members.{num_in}
 use Rattle.rv_wire.specs.Calls.{call_in}
 
 -- the answer is this fault, or memory was refused

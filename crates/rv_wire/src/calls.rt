@@ -1,11 +1,14 @@
 // The call of a mutation's name and arguments.
-ghost use Rattle.std.specs.Prelude.{◌≡◌, IfOk};
+ghost use Rattle.std.specs.Prelude.{◌≡◌, IfOk, IfSome, option_map};
+ghost use Rattle.serde_json.specs.Find.{as_bool, get};
 ghost use Rattle.serde_json.specs.View.{view};
-ghost use Rattle.rv_wire.specs.Calls.{call_in, create_list_in};
+ghost use Rattle.rv_rows.specs.Members.{text_in, num_in};
+ghost use Rattle.rv_wire.specs.Members.{optional};
+ghost use Rattle.rv_wire.specs.Calls.{call_in, call_with, create_list_in, create_share_in, create_todo_in, update_todo_in};
 
-use crate::members::text_member;
-use rv_base::Memory;
-use rv_rows::{Call, Reason};
+use crate::members::{bool_member, text_member};
+use rv_base::{Id, Memory, Num, Text};
+use rv_rows::{Call, Reason, num_of_value, text_of_value};
 use serde_json::Value;
 use std::alloc::Global;
 
@@ -13,23 +16,141 @@ use std::alloc::Global;
 pub fn read_call(alloc: Global, name: &str, args: &Value) -> Result<Call, Memory>
     ensures { IfOk result (λ call. call ≡ call_in name.now (view args.now)) }
 {
-    match name {
-        "createList" => create_list(alloc, args),
-        _ => Ok(Call::Void(Reason::UnknownName)),
+    match call_with(alloc, name, args)? {
+        Some(call) => Ok(call),
+        None => Ok(Call::Void(Reason::BadArgs)),
     }
 }
 
-fn create_list(alloc: Global, args: &Value) -> Result<Call, Memory>
-    ensures { IfOk result (λ call. call ≡ create_list_in (view args.now)) }
+// The call of a name and arguments, where they are not bad.
+fn call_with(alloc: Global, name: &str, args: &Value) -> Result<Option<Call>, Memory>
+    ensures { IfOk result (λ o. o ≡ call_with name.now (view args.now)) }
+{
+    match name {
+        "createList" => create_list(alloc, args),
+        "deleteList" => Ok(id_of(alloc, args)?.map(|id| Call::DeleteList { id })),
+        "createShare" => create_share(alloc, args),
+        "deleteShare" => Ok(id_of(alloc, args)?.map(|id| Call::DeleteShare { id })),
+        "createTodo" => create_todo(alloc, args),
+        "updateTodo" => update_todo(alloc, args),
+        "deleteTodo" => Ok(id_of(alloc, args)?.map(|id| Call::DeleteTodo { id })),
+        _ => Ok(Some(Call::Void(Reason::UnknownName))),
+    }
+}
+
+fn id_of(alloc: Global, args: &Value) -> Result<Option<Id>, Memory>
+    ensures { IfOk result (λ o. o ≡ text_in 1 128 (view args.now)) }
+{
+    text_of_value(alloc, args)
+}
+
+#[tactic(auto, unfolding(crate::specs::Calls::create_list_in))]
+fn create_list(alloc: Global, args: &Value) -> Result<Option<Call>, Memory>
+    ensures { IfOk result (λ o. o ≡ create_list_in (view args.now)) }
 {
     let Some(id) = text_member(alloc, args, "id")? else {
-        return Ok(Call::Void(Reason::BadArgs));
+        return Ok(None);
     };
     let Some(name) = text_member(alloc, args, "name")? else {
-        return Ok(Call::Void(Reason::BadArgs));
+        return Ok(None);
     };
     let Some(owner) = text_member(alloc, args, "ownerID")? else {
-        return Ok(Call::Void(Reason::BadArgs));
+        return Ok(None);
     };
-    Ok(Call::CreateList { id, name, owner })
+    Ok(Some(Call::CreateList { id, name, owner }))
+}
+
+#[tactic(auto, unfolding(crate::specs::Calls::create_share_in))]
+fn create_share(alloc: Global, args: &Value) -> Result<Option<Call>, Memory>
+    ensures { IfOk result (λ o. o ≡ create_share_in (view args.now)) }
+{
+    let Some(id) = text_member(alloc, args, "id")? else {
+        return Ok(None);
+    };
+    let Some(list) = text_member(alloc, args, "listID")? else {
+        return Ok(None);
+    };
+    let Some(user) = text_member(alloc, args, "userID")? else {
+        return Ok(None);
+    };
+    Ok(Some(Call::CreateShare { id, list, user }))
+}
+
+#[tactic(auto, unfolding(crate::specs::Calls::create_todo_in))]
+fn create_todo(alloc: Global, args: &Value) -> Result<Option<Call>, Memory>
+    ensures { IfOk result (λ o. o ≡ create_todo_in (view args.now)) }
+{
+    let Some(id) = text_member(alloc, args, "id")? else {
+        return Ok(None);
+    };
+    let Some(list) = text_member(alloc, args, "listID")? else {
+        return Ok(None);
+    };
+    let Some(text) = text_member(alloc, args, "text")? else {
+        return Ok(None);
+    };
+    let Some(complete) = bool_member(args, "complete") else {
+        return Ok(None);
+    };
+    Ok(Some(Call::CreateTodo {
+        id,
+        list,
+        text,
+        complete,
+    }))
+}
+
+// A text that may be absent; `None` where it is there and is none.
+fn optional_text(alloc: Global, value: Option<&Value>) -> Result<Option<Option<Text>>, Memory>
+    ensures { IfOk result (λ o. o ≡ optional (text_in 0 16384) (option_map (λ v. view v.now) value.entry)) }
+{
+    match value {
+        None => Ok(Some(None)),
+        Some(value) => match text_of_value(alloc, value)? {
+            Some(text) => Ok(Some(Some(text))),
+            None => Ok(None),
+        },
+    }
+}
+
+fn optional_bool(value: Option<&Value>) -> Option<Option<bool>>
+    ensures { result ≡ optional as_bool (option_map (λ v. view v.now) value.entry) }
+{
+    match value {
+        None => Some(None),
+        Some(value) => Some(Some(value.as_bool()?)),
+    }
+}
+
+fn optional_num(value: Option<&Value>) -> Option<Option<Num>>
+    ensures { result ≡ optional num_in (option_map (λ v. view v.now) value.entry) }
+{
+    match value {
+        None => Some(None),
+        Some(value) => Some(Some(num_of_value(value)?)),
+    }
+}
+
+#[tactic(auto, unfolding(crate::specs::Calls::update_todo_in))]
+fn update_todo(alloc: Global, args: &Value) -> Result<Option<Call>, Memory>
+    ensures { IfOk result (λ o. o ≡ update_todo_in (view args.now)) }
+{
+    let Some(id) = text_member(alloc, args, "id")? else {
+        return Ok(None);
+    };
+    let Some(text) = optional_text(alloc, args.get("text"))? else {
+        return Ok(None);
+    };
+    let Some(complete) = optional_bool(args.get("complete")) else {
+        return Ok(None);
+    };
+    let Some(sort) = optional_num(args.get("sort")) else {
+        return Ok(None);
+    };
+    Ok(Some(Call::UpdateTodo {
+        id,
+        text,
+        complete,
+        sort,
+    }))
 }

@@ -1,10 +1,10 @@
 // Members of a body.
 ghost use Rattle.std.specs.Prelude.{◌≡◌, IfOk, option_map};
 ghost use Rattle.serde_json.specs.View.{view, items_view};
-ghost use Rattle.rv_wire.specs.Members.{text_member, string_member, num_in, num_member, array_member};
+ghost use Rattle.rv_wire.specs.Members.{text_member, string_member, bool_member, num_member, array_member};
 
 use rv_base::{Bounded, Memory, Num};
-use rv_rows::text_of_value;
+use rv_rows::{num_of_value, text_of_value};
 use serde_json::Value;
 use std::alloc::Global;
 
@@ -29,12 +29,11 @@ pub(crate) fn string_member<'v>(value: &'v Value, name: &str) -> Option<&'v str>
     value.get(name).and_then(Value::as_str)
 }
 
-// The number that a value is, where it is a `Num`.
-pub(crate) fn num_of_value(value: &Value) -> Option<Num>
-    ensures { result ≡ num_in (view value.now) }
+// The member that is true or false.
+pub(crate) fn bool_member(value: &Value, name: &str) -> Option<bool>
+    ensures { result ≡ bool_member name.now (view value.now) }
 {
-    let number = value.as_u64()?;
-    Num::new(number).ok()
+    value.get(name)?.as_bool()
 }
 
 // The number of a member, where it is there and is a `Num`.

@@ -7,9 +7,10 @@ use crate::body::{Schemas, pull_group};
 use crate::cookie::Cookie;
 use crate::fault::{FieldName, WireFault};
 use crate::json::json_of_body;
-use crate::members::{num_member, num_of_value, text_member};
+use crate::members::{num_member, text_member};
 use crate::pull::PullRequest;
 use rv_base::Memory;
+use rv_rows::num_of_value;
 use serde_json::Value;
 use std::alloc::Global;
 

@@ -1,0 +1,6 @@
+pub mod Picked
+pub mod Changed
+pub mod Applied
+pub mod Calls
+pub mod ReaderLaws
+pub mod TouchLaws

@@ -1,0 +1,116 @@
+-- The users who see rows that are written.
+use Rattle.std.proofs.Common.{◌≡◌, ℕ, ◌+◌, ◌<◌, Bool, true, false, ◌&&◌, ◌||◌, List, [], ◌∷◌, ◌++◌, length, take, get_or, Option, Some, None, Result, Ok, Err, refl, sym, ap, ◌∙◌, subst}
+use Rattle.std.specs.Prelude.{IfOk}
+use Rattle.std.specs.Str.{bytes_eq}
+use Rattle.std.specs.List.{list_any}
+use Rattle.std.specs.Option.{option_map, is_some}
+use Rattle.std.proofs.lemmas.List.{take_more}
+use Rattle.rv_base.specs.Places.{equals, not_same}
+use Rattle.rv_rows.specs.declared.row.Row.{Row}
+use Rattle.rv_rows.specs.declared.row.ListRow.{ListRow}
+use Rattle.rv_rows.specs.declared.row.ShareRow.{ShareRow}
+use Rattle.rv_rows.specs.declared.row.TodoRow.{TodoRow}
+use Rattle.rv_rows.specs.declared.row.Row.TheVariants as variants
+use Rattle.rv_rows.specs.Held.{Stored, rows_in}
+use Rattle.rv_rows.specs.Sharing.{is_list, owns, shares, list_of}
+use Rattle.rv_sharing.specs.Owners.{owner_of}
+use Rattle.rv_sharing.specs.OwnerLaws.{is_list-owner}
+use Rattle.rv_sharing.specs.Texts.{AreInOrder, Adds}
+use Rattle.rv_sharing.specs.Sharers.{AddsSharers}
+use Rattle.rv_sharing.specs.Affected.{AddsViewers}
+use Rattle.rv_mutators.specs.Touched.{sees_with, AddsReaders}
+use Rattle.rv_mutators.proofs.Picked.{by_flag}
+
+pub list_any-push : {X : Type 0} (p : X → Bool) (xs : List X) (x : X) → list_any p (xs ++ x ∷ []) ≡ (p x || list_any p xs)
+list_any-push p [] x = refl
+list_any-push p (y ∷ ys) x = ap (λ (b : Bool). p y || b) (list_any-push p ys x) ∙ turned (p y) (p x) (list_any p ys)
+  where
+    turned : (a b c : Bool) → (a || (b || c)) ≡ (b || (a || c))
+    turned true true c = refl
+    turned true false c = refl
+    turned false true c = refl
+    turned false false c = refl
+
+-- equality of texts is told from either side
+bytes_eq-turned : (a b : List ℕ) → bytes_eq a b ≡ bytes_eq b a
+bytes_eq-turned a b =
+    by_flag (λ t. bytes_eq a b ≡ t) (bytes_eq b a)
+    (λ e. by_flag (λ t. t ≡ true) (bytes_eq a b) (λ f. refl) (λ f. sym (not_same a b f) ∙ e))
+    (λ e. not_same b a e)
+
+pub sharers_end : (rows : List Row) (rest : List Stored) (list : List ℕ) (users sharers : List (List ℕ)) → rest ≡ [] → AreInOrder sharers
+    → ((user : List ℕ) → (list_any (bytes_eq user) sharers || list_any (shares user list) (rows_in rest)) ≡ (list_any (bytes_eq user) users || list_any (shares user list) rows)) → AddsSharers rows list users sharers
+sharers_end rows rest list users sharers none order each = record {
+  order = order;
+  each = λ user. sym (or_false (list_any (bytes_eq user) sharers)) ∙ subst (λ (t : List Stored). (list_any (bytes_eq user) sharers || list_any (shares user list) (rows_in t)) ≡ (list_any (bytes_eq user) users || list_any (shares user list) rows)) none (each user);
+}
+  where
+    or_false : (b : Bool) → (b || false) ≡ b
+    or_false true = refl
+    or_false false = refl
+
+-- a list's readers are those of the list before, its owner, and whom shares of it name
+pub readers_list : {E : Type 0} (rows : List Row) (row : ListRow) (users viewers owned : List (List ℕ)) (result : Result (List (List ℕ)) E)
+    → AddsViewers rows row.id users viewers → Adds row.owner viewers owned → IfOk result (AddsSharers rows row.id owned) → IfOk result (AddsViewers (variants.List row ∷ rows) row.id users)
+readers_list rows row users viewers owned (Err e) seen own shared = tt
+readers_list rows row users viewers owned (Ok after) seen own shared = record {
+  order = shared.order;
+  each = λ user. shared.each user ∙ ap (λ (b : Bool). b || list_any (shares user row.id) rows) (own.each (bytes_eq user) ∙ ap (λ (b : Bool). bytes_eq user row.owner || b) (seen.each user))
+      ∙ rw (equals row.id, bytes_eq-turned row.owner user) (flags (list_any (bytes_eq user) users) (bytes_eq user row.owner) (list_any (owns user row.id) rows) (list_any (is_list row.id) rows) (list_any (shares user row.id) rows));
+}
+  where
+    flags : (u w o i s : Bool) → ((w || (u || (o || (i && s)))) || s) ≡ (u || ((w || o) || s))
+    flags true true o i s = refl
+    flags true false o i s = refl
+    flags false true o i s = refl
+    flags false false true i s = refl
+    flags false false false true true = refl
+    flags false false false true false = refl
+    flags false false false false s = refl
+
+-- a share's readers are those of the list before, and whom it names where the list is there
+pub readers_share : {E : Type 0} (rows : List Row) (row : ShareRow) (users viewers : List (List ℕ)) (result : Result (List (List ℕ)) E)
+    → list_any (is_list row.list) rows ≡ true → AddsViewers rows row.list users viewers → IfOk result (Adds row.user viewers) → IfOk result (AddsViewers (variants.Share row ∷ rows) row.list users)
+readers_share rows row users viewers (Err e) there seen named = tt
+readers_share rows row users viewers (Ok after) there seen named = record {
+  order = named.order;
+  each = λ user. named.each (bytes_eq user) ∙ ap (λ (b : Bool). bytes_eq user row.user || b) (seen.each user)
+      ∙ rw (there, equals row.list, bytes_eq-turned row.user user) (flags (list_any (bytes_eq user) users) (bytes_eq user row.user) (list_any (owns user row.list) rows) (list_any (shares user row.list) rows));
+}
+  where
+    flags : (u w o s : Bool) → (w || (u || (o || s))) ≡ (u || (o || (w || s)))
+    flags true true o s = refl
+    flags true false o s = refl
+    flags false true true s = refl
+    flags false true false s = refl
+    flags false false o s = refl
+
+pub readers_lost : (rows : List Row) (row : ShareRow) (users viewers : List (List ℕ)) → list_any (is_list row.list) rows ≡ false → AddsViewers rows row.list users viewers → AddsViewers (variants.Share row ∷ rows) row.list users viewers
+readers_lost rows row users viewers absent seen = record { order = seen.order; each = λ user. seen.each user ∙ rw absent refl }
+
+pub readers_todo : (rows : List Row) (row : TodoRow) (users viewers : List (List ℕ)) → AddsViewers rows row.list users viewers → AddsViewers (variants.Todo row ∷ rows) row.list users viewers
+readers_todo rows row users viewers seen = record { order = seen.order; each = seen.each }
+
+-- the list is there where it has an owner
+pub list_there : {X : Type 0} (view : X → List ℕ) (o : Option X) (list : List ℕ) (rows : List Row) → option_map view o ≡ owner_of list rows → list_any (is_list list) rows ≡ is_some o
+list_there view o list rows e = is_list-owner list rows ∙ ap is_some (sym e) ∙ sym (seen o)
+  where
+    seen : (o : Option _) → is_some o ≡ is_some (option_map view o)
+    seen None = refl
+    seen (Some x) = refl
+
+-- one more row
+pub readers_more : (rows added : List Row) (i : ℕ) (row : Row) (users readers after : List (List ℕ)) → i < length added → row ≡ get_or added i row
+    → AddsViewers (row ∷ rows) (list_of row) readers after → AddsReaders rows (take i added) users readers → AddsReaders rows (take (i + 1) added) users after
+readers_more rows added i row users readers after lt is seen before = record {
+  order = seen.order;
+  each = λ user. seen.each user ∙ ap (λ (b : Bool). b || sees_with rows user row) (before.each user) ∙ moved (list_any (bytes_eq user) users) (list_any (sees_with rows user) (take i added)) (sees_with rows user row)
+      ∙ ap (λ (b : Bool). list_any (bytes_eq user) users || b) (sym (list_any-push (sees_with rows user) (take i added) row) ∙ ap (list_any (sees_with rows user)) (sym (take_more added i row lt ∙ ap (λ y. take i added ++ y ∷ []) (sym is))));
+}
+  where
+    moved : (a b c : Bool) → ((a || b) || c) ≡ (a || (c || b))
+    moved true b c = refl
+    moved false true true = refl
+    moved false true false = refl
+    moved false false true = refl
+    moved false false false = refl

@@ -1,0 +1,19 @@
+//! What the seven calls do to the tables.
+//!
+//! [`stage`] finds the rows that a call writes and the keys that it removes, and makes all the room that they need;
+//! [`Staged::apply`] then writes and removes them, and can't fail. Together they are the effect of the call on the rows.
+#![tactic(auto)]
+
+mod lists;
+mod lookups;
+mod readers;
+mod shares;
+mod staged;
+mod staging;
+mod todos;
+
+pub use staged::Staged;
+pub use staging::stage;
+
+#[cfg(test)]
+mod tests;

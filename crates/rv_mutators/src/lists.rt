@@ -1,0 +1,83 @@
+// The calls that make and remove a list.
+ghost use Rattle.std.specs.Prelude.{◌≡◌, ◌&&◌, not, IfOk, map};
+ghost use Rattle.std.specs.List.{filter};
+ghost use Rattle.std.specs.Str.{bytes_eq};
+ghost use Rattle.rv_rows.specs.Held.{rows_in, AreRows};
+ghost use Rattle.rv_rows.specs.Keys.{key_text, row_key, has_row};
+ghost use Rattle.rv_rows.specs.Sharing.{list_of};
+ghost use Rattle.rv_rows.specs.declared.call.Call.TheVariants.{CreateList, DeleteList};
+ghost use Rattle.rv_rows.specs.declared.key.Kind.TheVariants.{List as ListKind};
+ghost use Rattle.rv_mutators.specs.Staging.{staged};
+
+use crate::lookups::{has_row, key_of, list_of, owns};
+use crate::staged::Staged;
+use rv_base::{Id, Memory, Text, User};
+use rv_rows::{Keys, Kind, ListRow, Row, Rows, RowsInOrder, Tables};
+use std::alloc::Global;
+
+// A list that is not there, for the user.
+pub(crate) fn create_list(
+    alloc: Global,
+    tables: &Tables,
+    user: &User,
+    id: &Id,
+    name: &Text,
+    owner: &User,
+) -> Result<Staged, Memory>
+    requires { AreRows tables.now.rows }
+    ensures { IfOk result (λ s. s ≡ staged (rows_in tables.now.rows) user.now (CreateList id.now name.now owner.now)) }
+{
+    if may_create(tables, user, id, owner) {
+        let row = ListRow {
+            id: id.copy(alloc)?,
+            name: name.copy(alloc)?,
+            owner: owner.copy(alloc)?,
+        };
+        Staged::writes(alloc, Row::List(row))
+    } else {
+        Ok(Staged::nothing(alloc))
+    }
+}
+
+// Whether no list has the id, and the user is the owner.
+fn may_create(tables: &Tables, user: &User, id: &Id, owner: &User) -> bool
+    ensures { result ≡ (not (has_row (key_text (record { kind = ListKind; id = id.now })) (rows_in tables.now.rows)) && bytes_eq owner.now user.now) }
+{
+    !has_row(tables, Kind::List, id) && owner == user
+}
+
+// The user's list goes, with its shares and its todos.
+pub(crate) fn delete_list(
+    alloc: Global,
+    tables: &Tables,
+    rows: RowsInOrder<'_>,
+    user: &User,
+    id: &Id,
+) -> Result<Staged, Memory>
+    requires order { AreRows tables.now.rows }
+    requires rows { rows.rows.now ≡ tables.now.rows }
+    ensures { IfOk result (λ s. s ≡ staged (rows_in tables.now.rows) user.now (DeleteList id.now)) }
+{
+    if owns(tables, user, id) {
+        let keys = keys_of(alloc, rows, id)?;
+        Ok(Staged {
+            rows: Rows::new(alloc),
+            keys,
+        })
+    } else {
+        Ok(Staged::nothing(alloc))
+    }
+}
+
+// The keys of a list, of its shares and of its todos.
+fn keys_of(alloc: Global, rows: RowsInOrder<'_>, list: &Id) -> Result<Keys, Memory>
+    ensures { IfOk result (λ keys. keys ≡ map row_key (filter (λ row. bytes_eq (list_of row) list.now) (rows_in rows.entry.rows.now))) }
+{
+    let mut keys = Keys::new(alloc);
+    for (row, _version) in rows {
+        if list_of(row) == list {
+            keys.push(key_of(alloc, row)?)?;
+        }
+    }
+    Ok(keys)
+}

@@ -1,0 +1,124 @@
+// The calls that make and remove a share.
+ghost use Rattle.std.specs.Prelude.{◌≡◌, ◌&&◌, not, IfOk};
+ghost use Rattle.std.specs.List.{list_any};
+ghost use Rattle.rv_rows.specs.Held.{rows_in, AreRows};
+ghost use Rattle.std.specs.Str.{bytes_eq};
+ghost use Rattle.rv_rows.specs.Keys.{key_text, has_row};
+ghost use Rattle.rv_rows.specs.Sharing.{owns, shares};
+ghost use Rattle.rv_rows.specs.Effects.{may_end};
+ghost use Rattle.rv_rows.specs.declared.call.Call.TheVariants.{CreateShare, DeleteShare};
+ghost use Rattle.rv_rows.specs.declared.key.Kind.TheVariants.{Share as ShareKind};
+ghost use Rattle.rv_mutators.specs.Staging.{staged, removed_if};
+
+use crate::lookups::{has_row, key_of, owns};
+use crate::staged::Staged;
+use rv_base::{Id, Memory, User};
+use rv_rows::{Kind, Row, RowsInOrder, ShareRow, Tables};
+use std::alloc::Global;
+
+// A share of the user's list with another, who has none of it.
+pub(crate) fn create_share(
+    alloc: Global,
+    tables: &Tables,
+    rows: RowsInOrder<'_>,
+    user: &User,
+    id: &Id,
+    list: &Id,
+    other: &User,
+) -> Result<Staged, Memory>
+    requires order { AreRows tables.now.rows }
+    requires rows { rows.rows.now ≡ tables.now.rows }
+    ensures { IfOk result (λ s. s ≡ staged (rows_in tables.now.rows) user.now (CreateShare id.now list.now other.now)) }
+{
+    if may_create(tables, rows, user, id, list, other) {
+        let row = ShareRow {
+            id: id.copy(alloc)?,
+            list: list.copy(alloc)?,
+            user: other.copy(alloc)?,
+        };
+        Staged::writes(alloc, Row::Share(row))
+    } else {
+        Ok(Staged::nothing(alloc))
+    }
+}
+
+// Whether the user owns the list, no share has the id, and the other is not the owner and has no share of the list.
+fn may_create(
+    tables: &Tables,
+    rows: RowsInOrder<'_>,
+    user: &User,
+    id: &Id,
+    list: &Id,
+    other: &User,
+) -> bool
+    requires { AreRows tables.now.rows }
+    ensures { result ≡ (list_any (owns user.now list.now) (rows_in tables.now.rows) && not (has_row (key_text (record { kind = ShareKind; id = id.now })) (rows_in tables.now.rows)) && not (bytes_eq other.now user.now) && not (list_any (shares other.now list.now) (rows_in rows.entry.rows.now))) }
+{
+    owns(tables, user, list)
+        && !has_row(tables, Kind::Share, id)
+        && other != user
+        && !has_share(rows, other, list)
+}
+
+// Whether one of the rows is a share of the list that names the user.
+fn has_share(rows: RowsInOrder<'_>, user: &User, list: &Id) -> bool
+    ensures { result ≡ list_any (shares user.now list.now) (rows_in rows.entry.rows.now) }
+{
+    for (row, _version) in rows {
+        if shares(user, list, row) {
+            return true;
+        }
+    }
+    false
+}
+
+// Whether the row is a share of this list that names the user.
+fn shares(user: &User, list: &Id, row: &Row) -> bool
+    ensures { result ≡ shares user.now list.now row.now }
+{
+    match row {
+        Row::List(_) => false,
+        Row::Share(row) => row.list == *list && row.user == *user,
+        Row::Todo(_) => false,
+    }
+}
+
+// A share that the user may end goes.
+pub(crate) fn delete_share(
+    alloc: Global,
+    tables: &Tables,
+    user: &User,
+    id: &Id,
+) -> Result<Staged, Memory>
+    requires { AreRows tables.now.rows }
+    ensures { IfOk result (λ s. s ≡ staged (rows_in tables.now.rows) user.now (DeleteShare id.now)) }
+{
+    match tables.row(Kind::Share, id) {
+        Some((row, _version)) => end_share(alloc, tables, user, row),
+        None => Ok(Staged::nothing(alloc)),
+    }
+}
+
+// The share goes where the user may end it.
+fn end_share(alloc: Global, tables: &Tables, user: &User, row: &Row) -> Result<Staged, Memory>
+    requires { AreRows tables.now.rows }
+    ensures { IfOk result (λ s. s ≡ removed_if (may_end user.now (rows_in tables.now.rows) row.now) row.now) }
+{
+    if may_end(tables, user, row) {
+        Staged::removes(alloc, key_of(alloc, row)?)
+    } else {
+        Ok(Staged::nothing(alloc))
+    }
+}
+
+// Whether the row is a share that the user may end: the user owns its list, or is the one whom it names.
+fn may_end(tables: &Tables, user: &User, row: &Row) -> bool
+    requires { AreRows tables.now.rows }
+    ensures { result ≡ may_end user.now (rows_in tables.now.rows) row.now }
+{
+    match row {
+        Row::List(_) => false,
+        Row::Share(row) => owns(tables, user, &row.list) || row.user == *user,
+        Row::Todo(_) => false,
+    }
+}

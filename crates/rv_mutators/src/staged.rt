@@ -1,0 +1,99 @@
+ghost use Rattle.std.specs.Prelude.{◌≡◌, ◌≤◌, length, fold, vec_len, [], ◌∷◌, IfOk};
+ghost use Rattle.rv_rows.specs.Keys.{key_text};
+ghost use Rattle.rv_rows.specs.Held.{put, remove};
+ghost use Rattle.rv_mutators.specs.Staging.{applied, IsStagedOn};
+ghost use Rattle.rv_mutators.specs.Touched.{AreTouched};
+
+use crate::readers::add_readers;
+use rv_base::Memory;
+use rv_rows::{Key, Keys, Row, Rows, Tables, Users};
+use rv_sharing::affected;
+use std::alloc::Global;
+
+/// What a call writes and removes, of the tables that it was staged on.
+#[derive(Debug, Drop)]
+pub struct Staged {
+    /// The rows that it writes, in the order of their keys.
+    pub rows: Rows,
+    /// The keys that it removes, in order.
+    pub keys: Keys,
+}
+
+impl Staged {
+    // Nothing is written or removed.
+    pub(crate) fn nothing(alloc: Global) -> Staged
+        ensures { result ≡ record { rows = []; keys = [] } }
+    {
+        Staged {
+            rows: Rows::new(alloc),
+            keys: Keys::new(alloc),
+        }
+    }
+
+    // One row is written.
+    pub(crate) fn writes(alloc: Global, row: Row) -> Result<Staged, Memory>
+        ensures { IfOk result (λ s. s ≡ record { rows = row ∷ []; keys = [] }) }
+    {
+        let mut rows = Rows::new(alloc);
+        rows.push(row)?;
+        Ok(Staged {
+            rows,
+            keys: Keys::new(alloc),
+        })
+    }
+
+    // One key is removed.
+    pub(crate) fn removes(alloc: Global, key: Key) -> Result<Staged, Memory>
+        ensures { IfOk result (λ s. s ≡ record { rows = []; keys = key ∷ [] }) }
+    {
+        let mut keys = Keys::new(alloc);
+        keys.push(key)?;
+        Ok(Staged {
+            rows: Rows::new(alloc),
+            keys,
+        })
+    }
+
+    /// Removes the keys, and writes the rows with this version, the place of the act. It can't fail, and takes no memory;
+    /// the tables have room for the rows where they are those that it was staged on.
+    pub fn apply(self, tables: &mut Tables, version: u32)
+        requires { length self.rows ≤ tables.old.spare }
+        ensures { tables.new.rows ≡ applied version self tables.old.rows }
+    {
+        let Staged { rows, keys } = self;
+        remove_keys(tables, keys.as_slice());
+        put_rows(tables, rows.into_vec(), version);
+    }
+
+    /// The users who see a key that it writes or removes, before or after [`Staged::apply`], in the order of their bytes,
+    /// each once. The tables are those that it was staged on.
+    pub fn affected(&self, alloc: Global, tables: &Tables) -> Result<Users, Memory>
+        requires { IsStagedOn tables.now.rows self.now }
+        ensures { IfOk result (AreTouched tables.now.rows self.now) }
+    {
+        // `iter` tells that the rows stand in order
+        let _in_order = tables.iter();
+        let users = affected(alloc, tables, self.keys.as_slice())?;
+        add_readers(alloc, users, tables, self.rows.as_slice())
+    }
+}
+
+// Removes the rows of the keys.
+fn remove_keys(tables: &mut Tables, keys: &[Key])
+    ensures rows { tables.new.rows ≡ fold (λ t key. remove (key_text key) t) tables.old.rows keys.now }
+    ensures spare { tables.old.spare ≤ tables.new.spare }
+{
+    for key in keys {
+        tables.remove(key);
+    }
+}
+
+// Writes the rows with the version, in room that there is.
+fn put_rows(tables: &mut Tables, rows: Vec<Row>, version: u32)
+    requires { vec_len rows ≤ tables.old.spare }
+    ensures { tables.new.rows ≡ fold (λ t row. put (row, version) t) tables.old.rows rows.items }
+{
+    for row in rows {
+        tables.put(row, version);
+    }
+}

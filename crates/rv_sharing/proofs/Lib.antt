@@ -1,0 +1,4 @@
+pub mod TextLaws
+pub mod OpenedLaws
+pub mod VisibleLaws
+pub mod ViewerLaws

@@ -1,0 +1,67 @@
+-- Laws of texts in the order of their bytes, each once.
+use Rattle.std.proofs.Common.{◌≡◌, ℕ, Bool, true, false, cond, List, [], ◌∷◌, ◌++◌, get_or, take, drop, Some, Ok, Err, refl, sym, ap, ◌∙◌, subst, ◌||◌}
+use Rattle.std.specs.declared.cmp.Ordering.TheVariants.{Less, Equal, Greater}
+use Rattle.std.specs.Ordering.{nat_cmp, match_ordering}
+use Rattle.std.specs.Cmp.Lexicographic.{slice_cmp}
+use Rattle.std.specs.List.{list_any}
+use Rattle.std.specs.Option.{is_some}
+use Rattle.std.specs.Str.{bytes_eq}
+use Rattle.std.proofs.lemmas.Slice.Eq.{bytes_eq-Decides}
+use Rattle.rv_base.specs.Sorted.{find_by, put_by, Settles}
+use Rattle.rv_base.specs.Places.{found-any, same_from, in_order-put}
+use Rattle.rv_sharing.specs.Texts.{AreInOrder, Adds}
+
+abbrev pub text_key : List ℕ → List ℕ
+text_key text = text
+
+or_twice : (a c : Bool) → (a || c) ≡ (a || (a || c))
+or_twice true c = refl
+or_twice false c = refl
+
+or_swap : (a b c : Bool) → (a || (b || c)) ≡ (b || (a || c))
+or_swap true true c = refl
+or_swap true false c = refl
+or_swap false b c = refl
+
+pub or_moved : (a b c : Bool) → ((a || b) || c) ≡ (b || (a || c))
+or_moved true true c = refl
+or_moved true false c = refl
+or_moved false b c = refl
+
+pub or_false : (b : Bool) → b ≡ (b || false)
+or_false true = refl
+or_false false = refl
+
+module _ (p : List ℕ → Bool) where
+  any-put : (x : List ℕ) (xs : List (List ℕ)) → list_any p (put_by text_key x xs) ≡ (p x || list_any p xs)
+  any-put x [] = refl
+  any-put x (y ∷ ys) =
+      elim (slice_cmp nat_cmp x y) as (λ o. slice_cmp nat_cmp x y ≡ o → list_any p (match_ordering o (x ∷ y ∷ ys) (x ∷ ys) (y ∷ put_by text_key x ys)) ≡ (p x || (p y || list_any p ys))) [
+        | Less ↦ λ e. refl
+        | Equal ↦ λ e. subst (λ (z : List ℕ). (p x || list_any p ys) ≡ (p x || (p z || list_any p ys))) (same_from x y e) (or_twice (p x) (list_any p ys))
+        | Greater ↦ λ e. ap (λ (b : Bool). p y || b) (any-put x ys) ∙ or_swap (p y) (p x) (list_any p ys)
+      ] refl
+
+  any-kept : (x z : List ℕ) (xs : List (List ℕ)) → find_by text_key x xs ≡ Some z → list_any p xs ≡ (p x || list_any p xs)
+  any-kept x z [] h = absurd (cc)
+  any-kept x z (y ∷ ys) h =
+      elim (bytes_eq x y) as (λ b. bytes_eq x y ≡ b → cond b (Some y) (find_by text_key x ys) ≡ Some z → (p y || list_any p ys) ≡ (p x || (p y || list_any p ys))) [
+        | true ↦ λ e f. subst (λ (w : List ℕ). (p y || list_any p ys) ≡ (p w || (p y || list_any p ys))) (sym ((bytes_eq-Decides x y).0 e)) (or_twice (p y) (list_any p ys))
+        | false ↦ λ e f. ap (λ (b : Bool). p y || b) (any-kept x z ys f) ∙ or_swap (p y) (p x) (list_any p ys)
+      ] refl h
+
+-- a text that is found is among the texts, and is kept
+pub held : (k : List ℕ) (xs : List (List ℕ)) (i : ℕ) → Settles text_key k xs (Ok i) → true ≡ list_any (bytes_eq k) xs
+held k xs i s = sym (ap is_some (s.found k)) ∙ found-any text_key k xs
+
+pub kept : (k : List ℕ) (xs ys : List (List ℕ)) (i : ℕ) → ys ≡ xs → AreInOrder xs → Settles text_key k ys (Ok i) → Adds k xs xs
+kept k xs ys i same order s = record { order = order; each = λ p. any-kept p k _ xs (subst (λ (zs : List (List ℕ)). find_by text_key k zs ≡ Some (get_or ys i k)) same (s.found k)) }
+
+-- one that is not found is not among them, and comes to its place
+pub not_held : (k : List ℕ) (xs : List (List ℕ)) (i : ℕ) → Settles text_key k xs (Err i) → false ≡ list_any (bytes_eq k) xs
+not_held k xs i s = sym (ap is_some s.absent) ∙ found-any text_key k xs
+
+pub added : (k : List ℕ) (xs ys zs : List (List ℕ)) (i : ℕ) → ys ≡ xs → AreInOrder xs → Settles text_key k ys (Err i) → zs ≡ take i xs ++ k ∷ drop i xs → Adds k xs zs
+added k xs ys zs i same order s is =
+    subst (λ (vs : List (List ℕ)). Adds k xs vs) (ap (λ (ws : List (List ℕ)). put_by text_key k ws) (sym same) ∙ s.inserted k refl ∙ ap (λ (ws : List (List ℕ)). take i ws ++ k ∷ drop i ws) same ∙ sym is)
+    (record { order = in_order-put text_key k xs order; each = λ p. any-put p k xs })

@@ -1,0 +1,55 @@
+-- Laws of the keys that a user sees, collected row by row.
+use Rattle.std.proofs.Common.{◌≡◌, ℕ, Bool, true, false, cond, List, [], ◌∷◌, ◌++◌, map, refl, sym, ap, ◌∙◌, append_assoc, append-nil}
+use Rattle.std.specs.List.{filter, list_any}
+use Rattle.std.specs.Str.{bytes_eq}
+use Rattle.rv_rows.specs.declared.key.Key.{Key}
+use Rattle.rv_rows.specs.declared.row.Row.{Row}
+use Rattle.rv_rows.specs.Keys.{row_key}
+use Rattle.rv_rows.specs.Held.{Stored, rows_in}
+use Rattle.rv_rows.specs.Sharing.{list_of, sees}
+use Rattle.rv_sharing.specs.Opened.{AreOpened}
+use Rattle.rv_sharing.specs.Visible.{visible}
+
+-- the keys that the user sees among the rest of the rows
+abbrev shown : List ℕ → List Row → List Stored → List (Key × ℕ)
+shown user rows rest = map (λ s. (row_key s.0, s.1)) (filter (λ s. sees user rows s.0) rest)
+
+-- the keys so far, with those of the rest, are all that the user sees
+pub record Showing (user : List ℕ) (stored : List Stored) (lists : List (List ℕ)) (keys : List (Key × ℕ)) (rest : List Stored) : Type 0 where
+  pub lists_are : AreOpened user (rows_in stored) lists
+  pub keys_are : keys ++ shown user (rows_in stored) rest ≡ visible user stored
+
+-- among the lists that the user sees is a row's exactly where the user sees the row
+seen_so : (user : List ℕ) (rows : List Row) (lists : List (List ℕ)) (row : Row) → AreOpened user rows lists → sees user rows row ≡ list_any (bytes_eq (list_of row)) lists
+unfolding sees
+seen_so user rows lists row are = sym (are.each (list_of row))
+
+pub showing_begins : (user : List ℕ) (stored rest : List Stored) (lists : List (List ℕ)) (keys : List (Key × ℕ)) → AreOpened user (rows_in stored) lists → keys ≡ [] → rest ≡ stored → Showing user stored lists keys rest
+showing_begins user stored rest lists keys are none all = rw (none, all) (record { lists_are = are; keys_are = refl })
+
+pub showing_more : (user : List ℕ) (stored rest next : List Stored) (lists : List (List ℕ)) (keys new : List (Key × ℕ)) (row : Row) (version : ℕ) (key : Key) → rest ≡ (row, version) ∷ next
+    → true ≡ list_any (bytes_eq (list_of row)) lists → key ≡ row_key row → new ≡ keys ++ (key, version) ∷ [] → Showing user stored lists keys rest → Showing user stored lists new next
+showing_more user stored rest next lists keys new row version key first holds is pushed showing =
+    let showing = rw first at showing in
+    record {
+      lists_are = showing.lists_are;
+      keys_are =
+          ap (λ (ks : List (Key × ℕ)). ks ++ shown user (rows_in stored) next) (pushed ∙ ap (λ (k : Key). keys ++ (k, version) ∷ []) is)
+          ∙ append_assoc keys ((row_key row, version) ∷ []) (shown user (rows_in stored) next)
+          ∙ ap (λ (b : Bool). keys ++ map (λ (s : Stored). (row_key s.0, s.1)) (cond b ((row, version) ∷ filter (λ s. sees user (rows_in stored) s.0) next) (filter (λ s. sees user (rows_in stored) s.0) next))) (holds ∙ sym (seen_so user (rows_in stored) lists row showing.lists_are))
+          ∙ showing.keys_are;
+    }
+
+pub showing_same : (user : List ℕ) (stored rest next : List Stored) (lists : List (List ℕ)) (keys : List (Key × ℕ)) (row : Row) (version : ℕ) → rest ≡ (row, version) ∷ next
+    → false ≡ list_any (bytes_eq (list_of row)) lists → Showing user stored lists keys rest → Showing user stored lists keys next
+showing_same user stored rest next lists keys row version first holds showing =
+    let showing = rw first at showing in
+    record {
+      lists_are = showing.lists_are;
+      keys_are =
+          ap (λ (b : Bool). keys ++ map (λ (s : Stored). (row_key s.0, s.1)) (cond b ((row, version) ∷ filter (λ s. sees user (rows_in stored) s.0) next) (filter (λ s. sees user (rows_in stored) s.0) next))) (holds ∙ sym (seen_so user (rows_in stored) lists row showing.lists_are))
+          ∙ showing.keys_are;
+    }
+
+pub showing_ends : (user : List ℕ) (stored rest : List Stored) (lists : List (List ℕ)) (keys : List (Key × ℕ)) → rest ≡ [] → Showing user stored lists keys rest → keys ≡ visible user stored
+showing_ends user stored rest lists keys none showing = let showing = rw none at showing in sym (append-nil keys) ∙ showing.keys_are

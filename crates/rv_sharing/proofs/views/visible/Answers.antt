@@ -1,0 +1,29 @@
+use Rattle.std.proofs.Common.{List, ℕ, Bool, ◌≡◌, true, false, sym, ap, ◌∙◌}
+use Rattle.std.specs.List.{list_any}
+use Rattle.std.specs.Str.{bytes_eq}
+use Rattle.rv_sharing.proofs.VisibleLaws.{showing_begins, showing_more, showing_same, showing_ends}
+use Rattle.rv_sharing.proofs.views.visible.Goals as goal
+
+-- what the look-up says of the row's list
+found : (b r : Bool) (l k : List ℕ) (xs ys : List (List ℕ)) → r ≡ b → r ≡ list_any (bytes_eq l) xs → l ≡ k → xs ≡ ys → b ≡ list_any (bytes_eq k) ys
+found b r l k xs ys is held same all = sym is ∙ held ∙ ap (λ (m : List ℕ). list_any (bytes_eq m) xs) same ∙ ap (λ (zs : List (List ℕ)). list_any (bytes_eq k) zs) all
+
+pub loop-row-init : goal.loop-row-init
+loop-row-init c = record { can_next = tt; is_finite = tt; showing = showing_begins _ _ _ _ _ c.in_ok-lists.ensures c.new-keys.ensures (ap (λ i. i.rows.now) c.into_iter-row-iterator.ensures.into_iter_gives ∙ c.iter-row-items.ensures.rows) }
+
+pub loop-row-preserved-in_ok-push : goal.loop-row-preserved-in_ok-push
+loop-row-preserved-in_ok-push c = record {
+  can_next = tt;
+  is_finite = tt;
+  showing = showing_more _ _ _ _ _ _ _ _ _ _ c.in-Some.ensures.steps (found true _ _ _ _ _ c.if-holds.true c.holds.ensures c.list_of.ensures c.deref.ensures.value) c.in_ok-key_of.ensures c.in_ok-push.ensures.ok c.loop-row.invariant.showing;
+}
+
+pub loop-row-preserved : goal.loop-row-preserved
+loop-row-preserved c = record {
+  can_next = tt;
+  is_finite = tt;
+  showing = showing_same _ _ _ _ _ _ _ _ c.in-Some.ensures.steps (found false _ _ _ _ _ c.if-holds.false c.holds.ensures c.list_of.ensures c.deref.ensures.value) c.loop-row.invariant.showing;
+}
+
+pub returns : goal.returns
+returns c = showing_ends _ _ _ _ _ c.in-None.ensures.steps.0 c.loop-row.invariant.showing

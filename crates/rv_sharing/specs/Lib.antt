@@ -1,0 +1,7 @@
+pub mod Owners
+pub mod OwnerLaws
+pub mod Texts
+pub mod Opened
+pub mod Sharers
+pub mod Visible
+pub mod Affected

@@ -1,0 +1,31 @@
+-- The lists that a user sees, and the lists of keys.
+use Rattle.std.specs.Prelude.{◌≡◌, ℕ, Bool, false, List, Option, Some, None, ◌&&◌, if◌then◌else◌}
+use Rattle.std.specs.List.{list_any}
+use Rattle.std.specs.Option.{option_map_or}
+use Rattle.std.specs.Str.{bytes_eq}
+use Rattle.rv_rows.specs.declared.key.Key.{Key}
+use Rattle.rv_rows.specs.declared.row.Row.{Row}
+use Rattle.rv_rows.specs.declared.row.Row.TheVariants as variants
+use Rattle.rv_rows.specs.Keys.{key_text, row_at}
+use Rattle.rv_rows.specs.Sharing.{is_list, may, list_of}
+use Rattle.rv_sharing.specs.Texts.{AreInOrder}
+
+-- the list that the row lets the user see: one that the user owns, or one that is there and shared with the user
+abbrev pub opened : List ℕ → List Row → Row → Option (List ℕ)
+opened user rows (variants.List row) = if bytes_eq row.owner user then Some row.id else None
+opened user rows (variants.Share row) = if bytes_eq row.user user && list_any (is_list row.list) rows then Some row.list else None
+opened user rows (variants.Todo row) = None
+
+-- these are the lists that the user sees
+pub record AreOpened (user : List ℕ) (rows : List Row) (lists : List (List ℕ)) : Type 0 where
+  pub order : AreInOrder lists
+  pub each : (list : List ℕ) → list_any (bytes_eq list) lists ≡ may user list rows
+
+-- the key's row is there, and the list that it is or belongs to passes the test
+abbrev pub list_passes : (List ℕ → Bool) → List Row → Key → Bool
+list_passes p rows key = option_map_or (λ row. p (list_of row)) (row_at (key_text key) rows) false
+
+-- these are the lists that the keys' rows are or belong to
+pub record AreListsOf (rows : List Row) (keys : List Key) (lists : List (List ℕ)) : Type 0 where
+  pub order : AreInOrder lists
+  pub each : (p : List ℕ → Bool) → list_any p lists ≡ list_any (list_passes p rows) keys

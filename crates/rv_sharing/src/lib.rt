@@ -1,0 +1,17 @@
+//! Who sees which rows.
+//!
+//! A user may see a list exactly where the list is there and the user owns it or a share of that list names the user. A
+//! user sees each such list, with its shares and its todos. The calls here are that rule over [`Tables`](rv_rows::Tables).
+#![tactic(auto)]
+
+mod lists;
+mod texts;
+mod viewers;
+mod views;
+
+pub use lists::{may, owner_of};
+pub use viewers::{add_user, add_viewers, affected};
+pub use views::visible;
+
+#[cfg(test)]
+mod tests;

@@ -1,0 +1,74 @@
+// What a user may see of a list.
+ghost use Rattle.std.specs.Prelude.{◌≡◌, option_map};
+ghost use Rattle.std.specs.List.{list_any};
+ghost use Rattle.rv_rows.specs.Held.{rows_in};
+ghost use Rattle.rv_rows.specs.Sharing.{is_list, may, shares};
+ghost use Rattle.rv_sharing.specs.Owners.{row_owner, owner_of};
+
+use rv_base::{Id, User};
+use rv_rows::{Kind, Row, RowsInOrder, Tables};
+
+// Whose the row is, where it is a list.
+fn row_owner(row: &Row) -> Option<&User>
+    ensures { option_map (λ owner. owner.now) result ≡ row_owner row.now }
+{
+    match row {
+        Row::List(row) => Some(&row.owner),
+        Row::Share(_) => None,
+        Row::Todo(_) => None,
+    }
+}
+
+/// The owner of a list, where the list is there. Takes no memory.
+pub fn owner_of<'t>(tables: &'t Tables, list: &Id) -> Option<&'t User>
+    ensures { option_map (λ owner. owner.now) result ≡ owner_of list.now (rows_in tables.now.rows) }
+{
+    match tables.row(Kind::List, list) {
+        Some((row, _version)) => row_owner(row),
+        None => None,
+    }
+}
+
+// Whether the list is there.
+pub(crate) fn is_there(tables: &Tables, list: &Id) -> bool
+    ensures { result ≡ list_any (is_list list.now) (rows_in tables.now.rows) }
+{
+    match owner_of(tables, list) {
+        Some(_) => true,
+        None => false,
+    }
+}
+
+// Whether the row is a share of this list that names the user.
+fn shares(user: &User, list: &Id, row: &Row) -> bool
+    ensures { result ≡ shares user.now list.now row.now }
+{
+    match row {
+        Row::List(_) => false,
+        Row::Share(row) => row.list == *list && row.user == *user,
+        Row::Todo(_) => false,
+    }
+}
+
+// Whether one of the rows is a share of the list that names the user.
+fn has_share(rows: RowsInOrder<'_>, user: &User, list: &Id) -> bool
+    ensures { result ≡ list_any (shares user.now list.now) (rows_in rows.entry.rows.now) }
+{
+    for (row, _version) in rows {
+        if shares(user, list, row) {
+            return true;
+        }
+    }
+    false
+}
+
+/// Whether the user may see the list: it is there, and the user owns it or a share of it names the user. Takes no memory.
+pub fn may(tables: &Tables, user: &User, list: &Id) -> bool
+    ensures { result ≡ may user.now list.now (rows_in tables.now.rows) }
+{
+    let rows = tables.iter();
+    match owner_of(tables, list) {
+        Some(owner) => owner == user || has_share(rows, user, list),
+        None => false,
+    }
+}

@@ -1,0 +1,59 @@
+// Ids or users in the order of their bytes, each once.
+ghost use Rattle.std.specs.Prelude.{◌≡◌, OnOk};
+ghost use Rattle.std.specs.List.{list_any};
+ghost use Rattle.std.specs.Str.{bytes_eq};
+ghost use Rattle.std.specs.Cmp.Lexicographic.{slice_cmp};
+ghost use Rattle.std.specs.Ordering.{nat_cmp};
+ghost use Rattle.rv_base.specs.Sorted.{Settles};
+ghost use Rattle.rv_sharing.specs.Texts.{AreInOrder, Adds};
+
+use rv_base::{Bounded, Memory};
+use std::alloc::Global;
+use std::cmp::Ordering;
+
+// Where a text stands, or where it would go.
+fn place<const MIN: usize, const MAX: usize>(
+    texts: &[Bounded<MIN, MAX>],
+    text: &Bounded<MIN, MAX>,
+) -> Result<usize, usize>
+    requires { AreInOrder texts.now }
+    ensures { Settles (λ text. text) text.now texts.now result }
+{
+    texts.binary_search_by(
+        |other| -> Ordering
+            ensures { result ≡ slice_cmp nat_cmp other.now text.entry.now }
+        { other.cmp(text) },
+    )
+}
+
+// Whether the text is among the texts.
+pub(crate) fn holds<const MIN: usize, const MAX: usize>(
+    texts: &[Bounded<MIN, MAX>],
+    text: &Bounded<MIN, MAX>,
+) -> bool
+    requires { AreInOrder texts.now }
+    ensures { result ≡ list_any (bytes_eq text.now) texts.now }
+{
+    match place(texts, text) {
+        Ok(_) => true,
+        Err(_) => false,
+    }
+}
+
+// Puts a text in its place, where it is not there yet.
+pub(crate) fn add<const MIN: usize, const MAX: usize>(
+    alloc: Global,
+    texts: &mut Vec<Bounded<MIN, MAX>>,
+    text: &Bounded<MIN, MAX>,
+) -> Result<(), Memory>
+    requires { AreInOrder texts.old.items }
+    ensures { OnOk result (Adds text.now texts.old.items texts.new.items) }
+{
+    match place(texts, text) {
+        Ok(_) => Ok(()),
+        Err(at) => {
+            texts.insert(at, text.copy(alloc)?)?;
+            Ok(())
+        }
+    }
+}

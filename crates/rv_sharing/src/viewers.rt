@@ -1,0 +1,98 @@
+// The users who see something of a table.
+ghost use Rattle.std.specs.Prelude.{◌≡◌, IfOk, option_map};
+ghost use Rattle.rv_rows.specs.Held.{rows_in};
+ghost use Rattle.rv_sharing.specs.Texts.{AreInOrder, Adds};
+ghost use Rattle.rv_sharing.specs.Opened.{AreListsOf};
+ghost use Rattle.rv_sharing.specs.Sharers.{sharer, AddsSharers};
+ghost use Rattle.rv_sharing.specs.Affected.{AddsViewers, AreAffected};
+
+use crate::lists::owner_of;
+use crate::texts::add;
+use rv_base::{Id, Memory, Sequence, User};
+use rv_rows::plain::list_of;
+use rv_rows::{Key, Row, RowsInOrder, Tables, Users};
+use std::alloc::Global;
+
+/// The users and this one. They stand in the order of their bytes, each once.
+pub fn add_user(alloc: Global, users: Users, user: &User) -> Result<Users, Memory>
+    requires { AreInOrder users }
+    ensures { IfOk result (Adds user.now users) }
+{
+    let mut users = users.into_vec();
+    add(alloc, &mut users, user)?;
+    Ok(Sequence::from_vec(users))
+}
+
+// The user whom the row names, where it is a share of the list.
+fn sharer<'r>(row: &'r Row, list: &Id) -> Option<&'r User>
+    ensures { option_map (λ user. user.now) result ≡ sharer list.now row.now }
+{
+    match row {
+        Row::List(_) => None,
+        Row::Share(row) => if row.list == *list {
+            Some(&row.user)
+        } else {
+            None
+        },
+        Row::Todo(_) => None,
+    }
+}
+
+// The users and those whom a share of the list names.
+fn add_sharers(
+    alloc: Global,
+    users: Users,
+    rows: RowsInOrder<'_>,
+    list: &Id,
+) -> Result<Users, Memory>
+    requires { AreInOrder users }
+    ensures { IfOk result (AddsSharers (rows_in rows.entry.rows.now) list.now users) }
+{
+    let mut users = users.into_vec();
+    for (row, _version) in rows {
+        if let Some(user) = sharer(row, list) {
+            add(alloc, &mut users, user)?;
+        }
+    }
+    Ok(Sequence::from_vec(users))
+}
+
+/// The users and those who may see the list. They stand in the order of their bytes, each once.
+pub fn add_viewers(alloc: Global, users: Users, tables: &Tables, list: &Id) -> Result<Users, Memory>
+    requires { AreInOrder users }
+    ensures { IfOk result (AddsViewers (rows_in tables.now.rows) list.now users) }
+{
+    let rows = tables.iter();
+    match owner_of(tables, list) {
+        Some(owner) => {
+            let owned = add_user(alloc, users, owner)?;
+            add_sharers(alloc, owned, rows, list)
+        }
+        None => Ok(users),
+    }
+}
+
+// The lists that the keys' rows are or belong to, in order, each once.
+fn lists_of(alloc: Global, tables: &Tables, keys: &[Key]) -> Result<Vec<Id>, Memory>
+    ensures { IfOk result (λ lists. AreListsOf (rows_in tables.now.rows) keys.now lists.items) }
+{
+    let mut lists = Vec::new(alloc);
+    for key in keys {
+        if let Some((row, _version)) = tables.get(key) {
+            add(alloc, &mut lists, list_of(row))?;
+        }
+    }
+    Ok(lists)
+}
+
+/// The users who see at least one of the keys, in the order of their bytes, each once.
+pub fn affected(alloc: Global, tables: &Tables, keys: &[Key]) -> Result<Users, Memory>
+    ensures { IfOk result (AreAffected (rows_in tables.now.rows) keys.now) }
+{
+    let lists = lists_of(alloc, tables, keys)?;
+    let mut users = Sequence::new(alloc);
+    for list in &lists {
+        users = add_viewers(alloc, users, tables, list)?;
+    }
+    Ok(users)
+}

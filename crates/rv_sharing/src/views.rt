@@ -1,0 +1,71 @@
+// What a user sees of a table.
+ghost use Rattle.std.specs.Prelude.{◌≡◌, IfOk, OnOk, option_map};
+ghost use Rattle.rv_rows.specs.Keys.{row_key};
+ghost use Rattle.rv_rows.specs.Held.{rows_in};
+ghost use Rattle.rv_sharing.specs.Opened.{opened, AreOpened};
+ghost use Rattle.rv_sharing.specs.Visible.{visible};
+
+use crate::lists::is_there;
+use crate::texts::{add, holds};
+use rv_base::{Id, Memory, Sequence, User};
+use rv_rows::plain::list_of;
+use rv_rows::{Key, Row, Tables, Visible};
+use std::alloc::Global;
+
+// The list that the row lets the user see: one that the user owns, or one that is there and shared with the user.
+fn opened<'r>(tables: &Tables, user: &User, row: &'r Row) -> Option<&'r Id>
+    ensures { option_map (λ list. list.now) result ≡ opened user.now (rows_in tables.now.rows) row.now }
+{
+    match row {
+        Row::List(row) => if row.owner == *user {
+            Some(&row.id)
+        } else {
+            None
+        },
+        Row::Share(row) => {
+            if row.user == *user && is_there(tables, &row.list) {
+                Some(&row.list)
+            } else {
+                None
+            }
+        }
+        Row::Todo(_) => None,
+    }
+}
+
+// The lists that the user sees, in order, each once.
+fn lists_opened(alloc: Global, tables: &Tables, user: &User) -> Result<Vec<Id>, Memory>
+    ensures { IfOk result (λ lists. AreOpened user.now (rows_in tables.now.rows) lists.items) }
+{
+    let mut lists = Vec::new(alloc);
+    for (row, _version) in tables.iter() {
+        if let Some(list) = opened(tables, user, row) {
+            add(alloc, &mut lists, list)?;
+        }
+    }
+    Ok(lists)
+}
+
+// The key of a row, in memory of its own.
+fn key_of(alloc: Global, row: &Row) -> Result<Key, Memory>
+    ensures { IfOk result (λ key. key ≡ row_key row.now) }
+{
+    Ok(Key {
+        kind: row.kind(),
+        id: row.id().copy(alloc)?,
+    })
+}
+
+/// The keys that the user sees, in order, each with the version of its row.
+pub fn visible(alloc: Global, tables: &Tables, user: &User) -> Result<Visible, Memory>
+    ensures { IfOk result (λ v. v ≡ visible user.now tables.now.rows) }
+{
+    let lists = lists_opened(alloc, tables, user)?;
+    let mut keys = Sequence::new(alloc);
+    for (row, version) in tables.iter() {
+        if holds(&lists, list_of(row)) {
+            keys.push((key_of(alloc, row)?, version))?;
+        }
+    }
+    Ok(keys)
+}
