@@ -32,7 +32,7 @@ def rows(count):
 
 def seconds(program, lines):
     """The best time of three runs over the lines."""
-    text = ("\n".join(lines) + "\n").encode()
+    text = "".join(line + "\n" for line in lines).encode()
     best = None
     for _ in range(3):
         start = time.perf_counter()
@@ -44,8 +44,19 @@ def seconds(program, lines):
     return best
 
 
+def voids(count):
+    """Mutations that are no call: each is one entry of the book, and nothing else."""
+    return [push("c1", number, "paint", None) for number in range(1, count + 1)]
+
+
+def a_turn(program, count):
+    """Seconds a line of so many mutations without effect, without the start of the program."""
+    return (seconds(program, voids(count)) - seconds(program, [])) / count
+
+
 def main():
     program = sys.argv[1]
+    print(f"a turn at 100,000 entries against 1,000: {a_turn(program, 100000) / a_turn(program, 1000):.2f} times")
     pulls = 10
     pushed, pulled = {}, {}
     for count in (1000, 10000):

@@ -6,7 +6,7 @@ use Rattle.std.proofs.lemmas.List.{length-append}
 use Rattle.rv_base.specs.Writes.{WritesText}
 use Rattle.rv_cli.specs.Lines.{lines_of}
 use Rattle.rv_cli.specs.declared.buffer.TheConstants.{LINE_LIMIT}
-use Rattle.rv_desk.specs.Book.{Book}
+use Rattle.rv_book.specs.Book.{Book}
 use Rattle.rv_cli.specs.Requests.{Asked, asked_of}
 use Rattle.rv_cli.specs.declared.feed.Ending.{Ending}
 use Rattle.rv_cli.specs.declared.feed.Ending.TheVariants.{Done, Read, Write, Memory, Malformed}

@@ -6,7 +6,7 @@ use Rattle.std.proofs.lemmas.List.{length_push}
 use Rattle.rv_base.specs.Writes.{AppendsFront, appends_keeps}
 use Rattle.rv_cli.specs.Lines.{lines_of, ended_lines_of, HasNoLf, BeginsLong}
 use Rattle.rv_cli.proofs.LineLaws.{lines_of_line, ended_lines_of_line, no_ended_line, last_line, begins_long}
-use Rattle.rv_desk.specs.Book.{Book}
+use Rattle.rv_book.specs.Book.{Book}
 use Rattle.rv_cli.specs.declared.answer.Answer.{Answer}
 use Rattle.rv_cli.specs.declared.feed.Ending.TheVariants.{Done, Read, Write, Memory, Malformed}
 use Rattle.rv_cli.specs.Texts.{text_of}

@@ -5,3 +5,4 @@ pub mod Runs
 pub mod Going
 pub mod Ended
 pub mod LawfulRuns
+pub mod OneRun

@@ -1,7 +1,7 @@
 -- A run goes on by one line.
 use Rattle.std.proofs.Common.{ℕ, List, [], ◌∷◌, ◌++◌, map, Some, refl, sym, ap, ◌∙◌}
 use Rattle.std.proofs.lemmas.List.{map_push, flat_map_more}
-use Rattle.rv_desk.specs.Book.{Book}
+use Rattle.rv_book.specs.Book.{Book}
 use Rattle.rv_cli.specs.declared.answer.Answer.{Answer}
 use Rattle.rv_cli.specs.Requests.{Asked, asked_of}
 use Rattle.rv_cli.specs.Steps.{Run, Step}

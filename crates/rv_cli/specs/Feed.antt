@@ -4,7 +4,7 @@ use Rattle.std.specs.List.{flat_map}
 use Rattle.std.specs.Io.KnownBytes.{Consumes, Appends}
 use Rattle.rv_base.specs.Causes.{Rose}
 use Rattle.rv_base.specs.Writes.{IsFront}
-use Rattle.rv_desk.specs.Book.{Book}
+use Rattle.rv_book.specs.Book.{Book}
 use Rattle.rv_cli.specs.Lines.{lines_of, ended_lines_of}
 use Rattle.rv_cli.specs.declared.buffer.TheConstants.{LINE_LIMIT}
 use Rattle.rv_cli.specs.declared.answer.Answer.{Answer}

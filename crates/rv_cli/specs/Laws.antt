@@ -4,7 +4,7 @@ use Rattle.std.specs.List.{range_with_len}
 use Rattle.std.specs.List.Sorted.{IsStrictlyIncreasing}
 use Rattle.rv_wire.specs.declared.pull.PullRequest.{PullRequest}
 use Rattle.rv_desk.specs.declared.turn.PullReply.{PullReply}
-use Rattle.rv_desk.specs.Book.{Book, last}
+use Rattle.rv_book.specs.Book.{Book, last}
 use Rattle.rv_desk.specs.Lawful.{IsLawful}
 use Rattle.rv_desk.specs.Patches.{View, sees, apply}
 use Rattle.rv_desk.specs.Machine.{reply_to}

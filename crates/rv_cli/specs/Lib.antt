@@ -4,8 +4,8 @@ pub mod Reading
 pub mod Requests
 pub mod Steps
 pub mod Texts
-pub mod Words
 pub mod Turn
 pub mod Feed
 pub mod Run
 pub mod Laws
+pub mod Asking

@@ -4,7 +4,7 @@ use Rattle.std.specs.Io.KnownBytes.{Keeps, Appends}
 use Rattle.rv_base.specs.Causes.{Rose}
 use Rattle.rv_base.specs.Writes.{AppendsFront}
 use Rattle.rv_base.specs.declared.memory.Memory.{Memory}
-use Rattle.rv_desk.specs.Book.{Book}
+use Rattle.rv_book.specs.Book.{Book}
 use Rattle.rv_cli.specs.declared.answer.Answer.{Answer}
 use Rattle.rv_cli.specs.declared.turn.Turn.{Turn}
 use Rattle.rv_cli.specs.declared.turn.Turn.TheVariants as turns

@@ -8,6 +8,8 @@ pub enum Answer {
     Pushed,
     /// A pull has its reply.
     Pulled(PullReply),
+    /// A client group is retired; this stands in the book at this place.
+    Retired(u32),
     /// The request was refused.
     Refused(ErrorBody),
 }

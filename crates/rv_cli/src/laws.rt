@@ -9,6 +9,7 @@ pub fn books_are_lawful()
 {
     rv_desk::laws::pushes_keep_law();
     rv_desk::laws::pulls_keep_law();
+    rv_desk::laws::retirements_keep_law();
     rv_desk::laws::ids_count_up();
     rv_desk::laws::orders_rise();
 }
@@ -20,5 +21,6 @@ pub fn pulls_are_shown()
 {
     rv_desk::laws::pushes_keep_law();
     rv_desk::laws::pulls_keep_law();
+    rv_desk::laws::retirements_keep_law();
     rv_desk::laws::pulls_show();
 }

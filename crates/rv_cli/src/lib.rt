@@ -15,11 +15,10 @@ mod request;
 mod serving;
 mod texts;
 mod turn;
-mod words;
 
 pub use answer::Answer;
 pub use feed::Ending;
-pub use program::run;
+pub use program::{run, run_feed, run_retire};
 pub use request::Request;
 
 #[cfg(test)]

@@ -1,4 +1,4 @@
-use rv_base::User;
+use rv_base::{Id, User};
 use rv_wire::{PullRequest, Push};
 
 /// What a line asks.
@@ -17,5 +17,10 @@ pub enum Request {
         user: User,
         /// The pull.
         pull: PullRequest,
+    },
+    /// A client group is retired.
+    Retire {
+        /// The group.
+        group: Id,
     },
 }

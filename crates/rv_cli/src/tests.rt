@@ -195,7 +195,7 @@ fn answers_script(alloc: Global, number: u8, most: usize) -> Result<bool, Fail> 
 #[test]
 fn answers_scripts(rt: HostRuntime) -> Result<(), Fail> {
     for most in [7, 100_000] {
-        for number in 0..7u8 {
+        for number in 0..9u8 {
             let same = answers_script(rt.alloc(), number, most)?;
             assert!(rt; same, "script {number}");
         }
@@ -203,26 +203,63 @@ fn answers_scripts(rt: HostRuntime) -> Result<(), Fail> {
     Ok(())
 }
 
+// Command lines that are no line of the set.
+fn other_lines() -> [&'static str; 14] {
+    [
+        "",
+        "rv",
+        "rv feed",
+        "rv memory feed",
+        "rv feed memory more",
+        "rv feed feed memory",
+        "rv feed Memory",
+        "rv fed memory",
+        "rv help",
+        "rv --help",
+        "rv --version",
+        "rv retire memory",
+        "rv retire memory g1 g2",
+        "rv lists memory",
+    ]
+}
+
 #[test]
-fn reads_the_words(rt: HostRuntime) -> Result<(), Fail> {
+fn refuses_other_words(rt: HostRuntime) -> Result<(), Fail> {
     let going = Going {
         most: 100,
         read: 0,
         write: 0,
     };
     let usage = b"usage: rv feed|serve|retire|lists|activity|check|make\n";
-    for text in [
-        "",
-        "rv",
-        "rv feed",
-        "rv feed memory more",
-        "rv feed Memory",
-        "rv --help",
-    ] {
+    for text in &other_lines() {
         let (status, written) = runs(rt.alloc(), text, "PQ", going)?;
-        assert_eq!(rt; status, 2);
+        assert_eq!(rt; status, 2, "{text}");
         assert_eq!(rt; written.as_slice(), usage.as_slice());
     }
+    Ok(())
+}
+
+// The words `retire memory` with this group.
+fn retires(alloc: Global, group: &str) -> Result<(u8, Vec<u8>), Fail> {
+    let mut words = words(alloc, "rv retire memory")?;
+    words.push(String::from_str(alloc, group)?)?;
+    let mut input = MemorySource::new(Vec::new(alloc), 100, Vec::new(alloc));
+    let mut out = MemorySink::new(alloc, 100, Vec::new(alloc));
+    let status = run(alloc, &words, &mut input, &mut out);
+    Ok((status, out.bytes))
+}
+
+#[test]
+fn retires_by_words(rt: HostRuntime) -> Result<(), Fail> {
+    let (status, written) = retires(rt.alloc(), "g1")?;
+    assert_eq!(rt; status, 0);
+    assert_eq!(rt;
+        written.as_slice(),
+        b"404 {\"error\":\"NoGroup\"}\n".as_slice()
+    );
+    let (status, written) = retires(rt.alloc(), "")?;
+    assert_eq!(rt; status, 2);
+    assert!(rt; written.starts_with(b"usage: rv "));
     Ok(())
 }
 

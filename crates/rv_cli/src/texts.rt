@@ -2,14 +2,14 @@
 ghost use Rattle.std.specs.Prelude.{◌++◌, decimal, codes};
 ghost use Rattle.rv_base.specs.Causes.{HasCause};
 ghost use Rattle.rv_base.specs.Writes.{WritesText};
-ghost use Rattle.rv_cli.specs.declared.answer.Answer.TheVariants.{Refused};
+ghost use Rattle.rv_cli.specs.declared.answer.Answer.TheVariants.{Refused, Retired};
 ghost use Rattle.rv_cli.specs.Texts.{line_text, text_of, status_text};
 
 use crate::answer::Answer;
 use crate::feed::Ending;
 use itoa::Buffer;
 use rv_base::{Failed, Sink, write_all};
-use rv_wire::{ErrorBody, error_text};
+use rv_wire::{ErrorBody, error_text, retired_text};
 
 fn write_number<O: Sink>(out: &mut O, number: u64) -> Result<(), Failed>
     ensures bytes { WritesText (O.written out.old) (O.written out.new) result (decimal number) }
@@ -56,6 +56,15 @@ fn write_refusal<O: Sink>(out: &mut O, refusal: &ErrorBody) -> Result<(), Failed
     write_line(out, refusal.status(), &buffer[..length])
 }
 
+fn write_retired<O: Sink>(out: &mut O, place: u32) -> Result<(), Failed>
+    ensures bytes { WritesText (O.written out.old) (O.written out.new) result (text_of (Retired place)) }
+    ensures cause { HasCause (O.faults out.old) (O.faults out.new) result }
+{
+    let mut buffer = [0; 128];
+    let length = retired_text(place, &mut buffer);
+    write_line(out, 200, &buffer[..length])
+}
+
 /// Writes the line of an answer: its status, a space, its body, and LF.
 pub fn write_answer<O: Sink>(out: &mut O, answer: &Answer) -> Result<(), Failed>
     ensures bytes { WritesText (O.written out.old) (O.written out.new) result (text_of answer.now) }
@@ -64,6 +73,7 @@ pub fn write_answer<O: Sink>(out: &mut O, answer: &Answer) -> Result<(), Failed>
     match answer {
         Answer::Pushed => write_line(out, 200, b"{}"),
         Answer::Pulled(reply) => write_line(out, 200, reply.text.as_slice()),
+        Answer::Retired(place) => write_retired(out, *place),
         Answer::Refused(refusal) => write_refusal(out, refusal),
     }
 }

@@ -1,23 +1,14 @@
 -- Lawful books, entry by entry.
-use Rattle.std.proofs.Common.{◌≡◌, ℕ, zero, suc, ◌+◌, ◌<◌, max, Bool, true, false, cond, List, [], ◌∷◌, ◌++◌, length, get_or, Option, Some, None, refl, sym, ap, ◌∙◌, subst, arith, append_assoc, append-nil, add-zero, inl, inr, ◌⊎◌}
+use Rattle.std.proofs.Common.{◌≡◌, ℕ, zero, suc, ◌+◌, ◌<◌, ◌≤◌, Bool, true, false, cond, List, [], ◌∷◌, ◌++◌, length, get_or, Some, None, refl, sym, ap, ◌∙◌, subst, arith, append_assoc, append-nil, add-zero, inl, inr, ◌⊎◌}
 use Rattle.std.specs.List.{cons_option, range_with_len}
 use Rattle.std.specs.List.Sorted.{IsStrictlyIncreasing}
 use Rattle.std.specs.Str.{bytes_eq}
 use Rattle.std.proofs.lemmas.List.Sums.{fold_push, sum_by-append, sum_by-cons}
 use Rattle.std.proofs.lemmas.Slice.Eq.{bytes_eq-Decides}
-use Rattle.rv_wire.specs.declared.error_body.ErrorBody.{ErrorBody}
-use Rattle.rv_wire.specs.declared.error_body.Which.TheVariants as which
-use Rattle.rv_wire.specs.declared.push.Mutation.{Mutation}
-use Rattle.rv_wire.specs.declared.pull.PullRequest.{PullRequest}
-use Rattle.rv_desk.specs.declared.entry.Entry.{Entry}
-use Rattle.rv_desk.specs.declared.entry.Entry.TheVariants.{Act, Look}
-use Rattle.rv_desk.specs.declared.turn.Turn.{Turn}
-use Rattle.rv_desk.specs.declared.turn.Turn.TheVariants.{Acted, Skipped, Future, Limit, Memory}
-use Rattle.rv_desk.specs.declared.turn.PullAnswer.{PullAnswer}
-use Rattle.rv_desk.specs.declared.turn.PullAnswer.TheVariants as pulls
-use Rattle.rv_desk.specs.Book.{Book, is_act_of, last, order_after, last_order}
+use Rattle.rv_book.specs.declared.entry.Entry.{Entry}
+use Rattle.rv_book.specs.declared.entry.Entry.TheVariants.{Act, Look, Retire}
+use Rattle.rv_book.specs.Book.{Book, is_act_of, last, order_after, last_order}
 use Rattle.rv_desk.specs.Lawful.{IsLawfulAfter, IsLawful}
-use Rattle.rv_desk.specs.Machine.{Sender, Mutates, Pulls, Pushes, cookie_order, next_order}
 use Rattle.rv_desk.specs.Laws.{act_ids, look_orders}
 
 pub lawful_none : IsLawful []
@@ -46,32 +37,34 @@ lawful_more book e lawful next before after entry h =
       | inr there ↦ lawful before there.0 entry there.1
     ]
 
+-- the front of a lawful book is lawful
+pub lawful_front : (book more : Book) → IsLawful (book ++ more) → IsLawful book
+lawful_front book more lawful = λ before after entry h.
+    lawful before (after ++ more) entry (ap (λ (b : Book). b ++ more) h ∙ append_assoc before (entry ∷ after) more)
+
 -- an entry, and what comes after it
-here : (before rest : Book) (e : Entry) → IsLawful (before ++ e ∷ rest) → IsLawfulAfter before e
+pub here : (before rest : Book) (e : Entry) → IsLawful (before ++ e ∷ rest) → IsLawfulAfter before e
 here before rest e lawful = lawful before rest e refl
 
-onward : (before rest : Book) (e : Entry) → IsLawful (before ++ e ∷ rest) → IsLawful ((before ++ e ∷ []) ++ rest)
+pub onward : (before rest : Book) (e : Entry) → IsLawful (before ++ e ∷ rest) → IsLawful ((before ++ e ∷ []) ++ rest)
 onward before rest e lawful = subst (λ (b : Book). IsLawful b) (sym (append_assoc before (e ∷ []) rest)) lawful
 
-one : (client : List ℕ) (e : Entry) → ℕ
+abbrev pub one : (client : List ℕ) (e : Entry) → ℕ
 one client e = cond (is_act_of client e) 1 0
 
-last_push : (client : List ℕ) (before : Book) (e : Entry) → last client (before ++ e ∷ []) ≡ last client before + one client e
-unfolding one
+pub last_push : (client : List ℕ) (before : Book) (e : Entry) → last client (before ++ e ∷ []) ≡ last client before + one client e
 last_push client before e = sum_by-append (λ (x : Entry). cond (is_act_of client x) 1 0) before (e ∷ []) ∙ ap (λ (n : ℕ). last client before + n) (sum_by-cons (λ (x : Entry). cond (is_act_of client x) 1 0) e [] ∙ add-zero _)
 
-last_cons : (client : List ℕ) (rest : Book) (e : Entry) → last client (e ∷ rest) ≡ one client e + last client rest
-unfolding one
+pub last_cons : (client : List ℕ) (rest : Book) (e : Entry) → last client (e ∷ rest) ≡ one client e + last client rest
 last_cons client rest e = sum_by-cons (λ (x : Entry). cond (is_act_of client x) 1 0) e rest
 
 -- the ids of the acts that are still to come
 ids_from : (client : List ℕ) (before rest : Book) → IsLawful (before ++ rest) → act_ids client rest ≡ range_with_len (last client before + 1) (last client rest)
-unfolding one
 ids_from client before [] lawful = refl
 ids_from client before (Act user group actor id call ∷ rest) lawful =
     let e : Entry = Act user group actor id call in
     let next = ids_from client (before ++ e ∷ []) rest (onward before rest e lawful) in
-    let mine : id ≡ last actor before + 1 = here before rest e lawful in
+    let mine : id ≡ last actor before + 1 = (here before rest e lawful).2 in
     elim (bytes_eq actor client) as (λ b. bytes_eq actor client ≡ b → cons_option (cond b (Some id) None) (act_ids client rest) ≡ range_with_len (last client before + 1) (last client (e ∷ rest))) [
       | true ↦ λ same.
           let is : actor ≡ client = (bytes_eq-Decides actor client).0 same in
@@ -86,6 +79,12 @@ ids_from client before (Act user group actor id call ∷ rest) lawful =
     ] refl
 ids_from client before (Look user group order base ∷ rest) lawful =
     let e : Entry = Look user group order base in
+    let next = ids_from client (before ++ e ∷ []) rest (onward before rest e lawful) in
+    let count : last client (e ∷ rest) ≡ last client rest = last_cons client rest e ∙ omega arith in
+    let grown : last client (before ++ e ∷ []) ≡ last client before = last_push client before e ∙ omega arith in
+    rw count (next ∙ ap (λ (n : ℕ). range_with_len (n + 1) (last client rest)) grown)
+ids_from client before (Retire group ∷ rest) lawful =
+    let e : Entry = Retire group in
     let next = ids_from client (before ++ e ∷ []) rest (onward before rest e lawful) in
     let count : last client (e ∷ rest) ≡ last client rest = last_cons client rest e ∙ omega arith in
     let grown : last client (before ++ e ∷ []) ≡ last client before = last_push client before e ∙ omega arith in
@@ -108,11 +107,14 @@ climbs group before (Look user other order base ∷ rest) lawful =
     let e : Entry = Look user other order base in
     let next : Climbs (order_after group (last_order group before) e) (look_orders group rest) =
     subst (λ (n : ℕ). Climbs n (look_orders group rest)) (fold_push (order_after group) 0 before e) (climbs group (before ++ e ∷ []) rest (onward before rest e lawful)) in
-    let mine : last_order other before < order = (here before rest e lawful).0 in
+    let mine : last_order other before < order = (here before rest e lawful).1 in
     elim (bytes_eq other group) as (λ b. bytes_eq other group ≡ b → Climbs (cond b order (last_order group before)) (look_orders group rest) → Climbs (last_order group before) (cons_option (cond b (Some order) None) (look_orders group rest))) [
       | true ↦ λ same next. (subst (λ (g : List ℕ). last_order g before < order) ((bytes_eq-Decides other group).0 same) mine, next)
       | false ↦ λ different next. next
     ] refl next
+climbs group before (Retire other ∷ rest) lawful =
+    let e : Entry = Retire other in
+    subst (λ (n : ℕ). Climbs n (look_orders group rest)) (fold_push (order_after group) 0 before e) (climbs group (before ++ e ∷ []) rest (onward before rest e lawful))
 
 step_up : (low : ℕ) (xs : List ℕ) → Climbs low xs → (k : ℕ) → suc k < length xs → get_or xs k 0 < get_or xs (suc k) 0
 step_up low [] c k lt = absurd (omega arith)
@@ -126,45 +128,26 @@ orders_rise book group lawful = λ k lt.
     let n : suc k ≡ k + 1 = omega arith in
     subst (λ (m : ℕ). get_or orders k 0 < get_or orders m 0) n (step_up 0 orders (climbs group [] book lawful) k (omega (arith, lt)))
 
--- a step keeps the law, and only adds
-abbrev Kept : Book → Book → Type 0
-Kept book new = IsLawful new × ((more : Book) × (new ≡ book ++ more))
+order_step : (group : List ℕ) (before : Book) (e : Entry) → IsLawfulAfter before e → last_order group before ≤ order_after group (last_order group before) e
+order_step group before (Act user other client id call) next = omega arith
+order_step group before (Look user other order base) next =
+    let mine : last_order other before < order = next.1 in
+    elim (bytes_eq other group) as (λ b. bytes_eq other group ≡ b → last_order group before ≤ cond b order (last_order group before)) [
+      | true ↦ λ same. (let up : last_order group before < order = subst (λ (g : List ℕ). last_order g before < order) ((bytes_eq-Decides other group).0 same) mine in omega arith)
+      | false ↦ λ different. omega arith
+    ] refl
+order_step group before (Retire other) next = omega arith
 
-kept_same : (book new : Book) → new ≡ book → IsLawful book → Kept book new
-kept_same book new same lawful = (subst (λ (b : Book). IsLawful b) (sym same) lawful, ([], same ∙ sym (append-nil book)))
+-- a group's last order never falls
+pub orders_stay : (group : List ℕ) (before rest : Book) → IsLawful (before ++ rest) → last_order group before ≤ last_order group (before ++ rest)
+orders_stay group before [] lawful = rw append-nil (omega arith)
+orders_stay group before (e ∷ rest) lawful =
+    let next : last_order group before ≤ order_after group (last_order group before) e = order_step group before e (here before rest e lawful) in
+    let push : last_order group (before ++ e ∷ []) ≡ order_after group (last_order group before) e = fold_push (order_after group) 0 before e in
+    let more : last_order group (before ++ e ∷ []) ≤ last_order group ((before ++ e ∷ []) ++ rest) = orders_stay group (before ++ e ∷ []) rest (onward before rest e lawful) in
+    let joined : last_order group ((before ++ e ∷ []) ++ rest) ≡ last_order group (before ++ e ∷ rest) = ap (last_order group) (append_assoc before (e ∷ []) rest) in
+    omega arith
 
-kept_more : (book new : Book) (e : Entry) → new ≡ book ++ e ∷ [] → IsLawfulAfter book e → IsLawful book → Kept book new
-kept_more book new e is next lawful = (subst (λ (b : Book). IsLawful b) (sym is) (lawful_more book e lawful next), (e ∷ [], is))
-
-kept_on : (book mid new : Book) → Kept book mid → Kept mid new → Kept book new
-kept_on book mid new (_, (some, p)) (lawful, (more, q)) = (lawful, (some ++ more, q ∙ ap (λ (b : Book). b ++ more) p ∙ append_assoc book some more))
-
-mutates_keep : (limit : ℕ) (from : Sender) (m : Mutation) (book new : Book) (turn : Turn) → Mutates limit from m book turn new → IsLawful book → Kept book new
-mutates_keep limit from m book new (Acted place) (next, room, at, is) lawful = kept_more book new (Act from.user from.group m.client m.id m.call) is next lawful
-mutates_keep limit from m book new (Skipped number) (le, is, same) lawful = kept_same book new same lawful
-mutates_keep limit from m book new (Future expected got) (lt, is, was, same) lawful = kept_same book new same lawful
-mutates_keep limit from m book new (Limit what at) (next, full, is, was, same) lawful = kept_same book new same lawful
-mutates_keep limit from m book new Memory (next, room, same) lawful = kept_same book new same lawful
-
-pub pushes_keep : (limit : ℕ) (from : Sender) (mutations : List Mutation) (book new : Book) (answer : Option ErrorBody) → Pushes limit from mutations book answer new → IsLawful book → IsLawful new × ((more : Book) × (new ≡ book ++ more))
-pushes_keep limit from [] book new answer (is, same) lawful = kept_same book new same lawful
-pushes_keep limit from (m ∷ ms) book new answer (Acted place, mid, step, rest) lawful =
-    let kept = mutates_keep limit from m book mid (Acted place) step lawful in kept_on book mid new kept (pushes_keep limit from ms mid new answer rest kept.0)
-pushes_keep limit from (m ∷ ms) book new answer (Skipped number, mid, step, rest) lawful =
-    let kept = mutates_keep limit from m book mid (Skipped number) step lawful in kept_on book mid new kept (pushes_keep limit from ms mid new answer rest kept.0)
-pushes_keep limit from (m ∷ ms) book new answer (Future expected got, mid, step, (is, same)) lawful =
-    let kept = mutates_keep limit from m book mid (Future expected got) step lawful in kept_on book mid new kept (kept_same mid new same kept.0)
-pushes_keep limit from (m ∷ ms) book new answer (Limit what at, mid, step, (is, same)) lawful =
-    let kept = mutates_keep limit from m book mid (Limit what at) step lawful in kept_on book mid new kept (kept_same mid new same kept.0)
-pushes_keep limit from (m ∷ ms) book new answer (Memory, mid, step, (is, same)) lawful =
-    let kept = mutates_keep limit from m book mid Memory step lawful in kept_on book mid new kept (kept_same mid new same kept.0)
-
-above_last : (a b : ℕ) → b < max a b + 1
-above_last a b = omega arith
-
-pub pulls_keep : (limit : ℕ) (user : List ℕ) (request : PullRequest) (book new : Book) (answer : PullAnswer) → Pulls limit user request book answer new → IsLawful book → IsLawful new × ((more : Book) × (new ≡ book ++ more))
-pulls_keep limit user request book new (pulls.Pulled reply) (fits, room, is, same) lawful =
-    kept_more book new (Look user request.group (next_order request book) None) same (above_last (cookie_order request.cookie) (last_order request.group book), fits, refl) lawful
-pulls_keep limit user request book new (pulls.Limit which.Order at) (big, is, same) lawful = kept_same book new same lawful
-pulls_keep limit user request book new (pulls.Limit which.Book at) (fits, full, is, same) lawful = kept_same book new same lawful
-pulls_keep limit user request book new pulls.Memory (fits, room, same) lawful = kept_same book new same lawful
+-- a client's last id after more entries
+pub last_append : (client : List ℕ) (before more : Book) → last client (before ++ more) ≡ last client before + last client more
+last_append client before more = sum_by-append (λ (x : Entry). cond (is_act_of client x) 1 0) before more

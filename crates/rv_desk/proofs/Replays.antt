@@ -1,5 +1,5 @@
 -- A book goes on by one entry: what becomes of the last writes and of the stored rows.
-use Rattle.std.proofs.Common.{◌≡◌, ℕ, ◌+◌, ◌-◌, ◌<◌, ◌≤◌, Bool, true, false, cond, List, [], ◌∷◌, ◌++◌, length, take, Option, Some, None, refl, sym, ap, ◌∙◌, subst, arith, map, inl, inr}
+use Rattle.std.proofs.Common.{◌≡◌, ℕ, ◌+◌, ◌-◌, ◌<◌, ◌≤◌, true, false, cond, List, [], ◌∷◌, ◌++◌, length, take, Option, Some, None, refl, sym, ap, ◌∙◌, subst, arith, map, inl, inr}
 use Rattle.std.specs.Option.{is_some, IsSome, option_map, option_map_or}
 use Rattle.std.specs.declared.cmp.Ordering.TheVariants.{Less}
 use Rattle.std.specs.Ordering.{nat_cmp}
@@ -21,9 +21,9 @@ use Rattle.rv_rows.specs.Held.{Stored, AreRows, stored_key, find, rows_in}
 use Rattle.rv_rows.specs.Changes.{same_row, version_after, after}
 use Rattle.rv_base.specs.Arranged.{find-map, find-sorted}
 use Rattle.rv_rows.specs.EffectLaws.{distinct-effect, effect-sorted, same_row-Decides}
-use Rattle.rv_desk.specs.declared.entry.Entry.{Entry}
-use Rattle.rv_desk.specs.declared.entry.Entry.TheVariants.{Act, Look}
-use Rattle.rv_desk.specs.Book.{Book}
+use Rattle.rv_book.specs.declared.entry.Entry.{Entry}
+use Rattle.rv_book.specs.declared.entry.Entry.TheVariants.{Act, Look, Retire}
+use Rattle.rv_book.specs.Book.{Book}
 use Rattle.rv_desk.specs.Replay.{rows_after, rows_of, Wrote, IsLastWrite, IsReplay}
 
 -- the row of a key after the first p entries
@@ -99,6 +99,7 @@ distinct_after : (rows : List Row) (book : Book) → Distinct row_text rows → 
 distinct_after rows [] h = h
 distinct_after rows (Act user group client id call ∷ book) h = distinct_after (effect rows user call) book (distinct-effect rows user call h)
 distinct_after rows (Look user group order base ∷ book) h = distinct_after rows book h
+distinct_after rows (Retire group ∷ book) h = distinct_after rows book h
 
 pub distinct-rows_of : (book : Book) → Distinct row_text (rows_of book)
 distinct-rows_of book = distinct_after [] book tt
@@ -194,6 +195,9 @@ replay_act book stored user group client id call r =
 
 pub replay_look : (book : Book) (stored : List Stored) (user group : List ℕ) (order : ℕ) (base : Option ℕ) → IsReplay book stored → IsReplay (book ++ Look user group order base ∷ []) stored
 replay_look book stored user group order base r = replay_same book (Look user group order base) stored (fold_push _ _ book _) r
+
+pub replay_retire : (book : Book) (stored : List Stored) (group : List ℕ) → IsReplay book stored → IsReplay (book ++ Retire group ∷ []) stored
+replay_retire book stored group r = replay_same book (Retire group) stored (fold_push _ _ book _) r
 
 pub replay_none : IsReplay [] []
 replay_none = record { rows = refl; versions = tt }

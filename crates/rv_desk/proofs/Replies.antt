@@ -18,7 +18,7 @@ use Rattle.rv_wire.specs.declared.op.Op.{Op}
 use Rattle.rv_wire.specs.declared.op.Op.TheVariants.{Clear, Put}
 use Rattle.rv_wire.specs.declared.pull.PullRequest.{PullRequest}
 use Rattle.rv_desk.specs.declared.turn.PullReply.{PullReply}
-use Rattle.rv_desk.specs.Book.{Book, ids}
+use Rattle.rv_book.specs.Book.{Book, ids}
 use Rattle.rv_desk.specs.Replay.{rows_of, IsReplay}
 use Rattle.rv_desk.specs.Patches.{patch}
 use Rattle.rv_desk.specs.Shows.{put_of, shows}

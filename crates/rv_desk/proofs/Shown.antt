@@ -14,7 +14,7 @@ use Rattle.rv_wire.specs.declared.op.Op.TheVariants.{Put}
 use Rattle.rv_wire.specs.declared.pull.PullRequest.{PullRequest}
 use Rattle.rv_desk.specs.declared.turn.PullReply.{PullReply}
 use Rattle.rv_desk.specs.declared.turn.PullAnswer.TheVariants.{Pulled}
-use Rattle.rv_desk.specs.Book.{Book, last_order}
+use Rattle.rv_book.specs.Book.{Book, last_order}
 use Rattle.rv_desk.specs.Replay.{rows_of}
 use Rattle.rv_desk.specs.Patches.{View, Shown, shown, sees, patch, applied, apply}
 use Rattle.rv_desk.specs.Machine.{Pulls, cookie_order}
@@ -57,7 +57,7 @@ above_cookie : (a b : ℕ) → a < max a b + 1
 above_cookie a b = omega arith
 
 pub pulls_show : (limit : ℕ) (user : List ℕ) (request : PullRequest) (book new : Book) (reply : PullReply) (view : View) → Pulls limit user request book (Pulled reply) new → (apply reply.ops view ≡ sees user book) × (cookie_order request.cookie < cookie_order reply.cookie)
-pulls_show limit user request book new reply view (fits, room, is, same) = (
+pulls_show limit user request book new reply view (admits, fits, room, is, same) = (
   ap (λ (r : PullReply). apply r.ops view) is ∙ patch_shows user book view,
   subst (λ (r : PullReply). cookie_order request.cookie < cookie_order r.cookie) (sym is) (above_cookie (cookie_order request.cookie) (last_order request.group book)),
 )

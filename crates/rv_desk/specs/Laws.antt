@@ -1,24 +1,26 @@
 -- What follows from the machine, for every book that it makes.
-use Rattle.std.specs.Prelude.{◌≡◌, ℕ, ◌<◌, List, ◌++◌, Option, Some, None, if◌then◌else◌}
+use Rattle.std.specs.Prelude.{◌≡◌, ℕ, ◌<◌, Bool, false, List, ◌∷◌, ◌++◌, Option, Some, None, Contains, if◌then◌else◌}
 use Rattle.std.specs.List.{filter_map, range_with_len}
 use Rattle.std.specs.List.Sorted.{IsStrictlyIncreasing}
 use Rattle.std.specs.Str.{bytes_eq}
 use Rattle.rv_wire.specs.declared.error_body.ErrorBody.{ErrorBody}
 use Rattle.rv_wire.specs.declared.push.Mutation.{Mutation}
 use Rattle.rv_wire.specs.declared.pull.PullRequest.{PullRequest}
-use Rattle.rv_desk.specs.declared.entry.Entry.{Entry}
-use Rattle.rv_desk.specs.declared.entry.Entry.TheVariants.{Act, Look}
+use Rattle.rv_book.specs.declared.entry.Entry.{Entry}
+use Rattle.rv_book.specs.declared.entry.Entry.TheVariants.{Act, Look, Retire}
 use Rattle.rv_desk.specs.declared.turn.PullAnswer.{PullAnswer}
 use Rattle.rv_desk.specs.declared.turn.PullAnswer.TheVariants.{Pulled}
 use Rattle.rv_desk.specs.declared.turn.PullReply.{PullReply}
-use Rattle.rv_desk.specs.Book.{Book, last}
+use Rattle.rv_desk.specs.declared.turn.RetireAnswer.{RetireAnswer}
+use Rattle.rv_book.specs.Book.{Book, bound, group_of, last}
 use Rattle.rv_desk.specs.Lawful.{IsLawful}
 use Rattle.rv_desk.specs.Patches.{View, sees, apply}
-use Rattle.rv_desk.specs.Machine.{Sender, Pulls, Pushes, cookie_order}
+use Rattle.rv_desk.specs.Machine.{Sender, Pulls, Retires, Pushes, cookie_order}
 
 abbrev pub act_id : List ℕ → Entry → Option ℕ
 act_id client (Act user group actor id call) = if bytes_eq actor client then Some id else None
 act_id client (Look user group order base) = None
+act_id client (Retire group) = None
 
 -- the ids of a client's acts, in the order of the book
 abbrev pub act_ids : List ℕ → Book → List ℕ
@@ -27,6 +29,7 @@ act_ids client book = filter_map (act_id client) book
 abbrev pub look_order : List ℕ → Entry → Option ℕ
 look_order group (Act user other client id call) = None
 look_order group (Look user other order base) = if bytes_eq other group then Some order else None
+look_order group (Retire other) = None
 
 -- the orders of a group's looks, in the order of the book
 abbrev pub look_orders : List ℕ → Book → List ℕ
@@ -40,6 +43,40 @@ IdsCountUp = (book : Book) (client : List ℕ) → IsLawful book → act_ids cli
 abbrev pub OrdersRise : Type 0
 OrdersRise = (book : Book) (group : List ℕ) → IsLawful book → IsStrictlyIncreasing (look_orders group book)
 
+-- the entry names the group, as an act, a look or a retirement
+abbrev pub names : List ℕ → Entry → Bool
+names group (Act user other client id call) = bytes_eq other group
+names group (Look user other order base) = bytes_eq other group
+names group (Retire other) = bytes_eq other group
+
+-- the user of an act or a look that names the group
+abbrev pub user_in : List ℕ → Entry → Option (List ℕ)
+user_in group (Act user other client id call) = if bytes_eq other group then Some user else None
+user_in group (Look user other order base) = if bytes_eq other group then Some user else None
+user_in group (Retire other) = None
+
+-- the group of an act of the client
+abbrev pub group_in : List ℕ → Entry → Option (List ℕ)
+group_in client (Act user group actor id call) = if bytes_eq actor client then Some group else None
+group_in client (Look user group order base) = None
+group_in client (Retire group) = None
+
+-- No group has two users: each act and each look of a group is by the user whom the group is bound to.
+abbrev pub GroupsHaveOneUser : Type 0
+GroupsHaveOneUser = (book : Book) (group user : List ℕ) (entry : Entry) → IsLawful book → Contains book entry → user_in group entry ≡ Some user → bound group book ≡ Some user
+
+-- No client has two groups: each of its acts is of the group of its first.
+abbrev pub ClientsHaveOneGroup : Type 0
+ClientsHaveOneGroup = (book : Book) (client group : List ℕ) (entry : Entry) → IsLawful book → Contains book entry → group_in client entry ≡ Some group → group_of client book ≡ Some group
+
+-- Nothing of a group follows its retirement.
+abbrev pub RetiredGroupsRest : Type 0
+RetiredGroupsRest = (book before after : Book) (group : List ℕ) (entry : Entry) → IsLawful book → book ≡ before ++ Retire group ∷ after → Contains after entry → names group entry ≡ false
+
+-- No entry stands twice.
+abbrev pub EntriesStandOnce : Type 0
+EntriesStandOnce = (book before between after : Book) (entry : Entry) → IsLawful book → book ≡ before ++ entry ∷ (between ++ entry ∷ after) → ⊥
+
 -- A push keeps the book lawful, and only adds to it.
 abbrev pub PushesKeepLaw : Type 0
 PushesKeepLaw = (limit : ℕ) (from : Sender) (mutations : List Mutation) (book new : Book) (answer : Option ErrorBody) → Pushes limit from mutations book answer new → IsLawful book → IsLawful new × ((more : Book) × (new ≡ book ++ more))
@@ -47,6 +84,10 @@ PushesKeepLaw = (limit : ℕ) (from : Sender) (mutations : List Mutation) (book 
 -- So does a pull.
 abbrev pub PullsKeepLaw : Type 0
 PullsKeepLaw = (limit : ℕ) (user : List ℕ) (request : PullRequest) (book new : Book) (answer : PullAnswer) → Pulls limit user request book answer new → IsLawful book → IsLawful new × ((more : Book) × (new ≡ book ++ more))
+
+-- So does a retirement.
+abbrev pub RetirementsKeepLaw : Type 0
+RetirementsKeepLaw = (limit : ℕ) (group : List ℕ) (book new : Book) (answer : RetireAnswer) → Retires limit group book answer new → IsLawful book → IsLawful new × ((more : Book) × (new ≡ book ++ more))
 
 -- The patch of a reply, applied to any view, gives exactly what the user sees at the book, and its cookie is above the
 -- request's.

@@ -1,4 +1,4 @@
-pub mod Book
+pub mod Groups
 pub mod Replay
 pub mod Lawful
 pub mod Patches

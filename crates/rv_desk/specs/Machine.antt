@@ -1,6 +1,8 @@
--- The machine: what a mutation, a pull and a push may be answered at a book, and which book is left.
-use Rattle.std.specs.Prelude.{◌≡◌, ℕ, ◌+◌, ◌-◌, ◌^◌, ◌<◌, ◌≤◌, max, List, [], ◌∷◌, ◌++◌, length, false, Option, Some, None, MatchOption, decimal}
+-- The machine: what a mutation, a pull, a retirement and a push may be answered at a book, and which book is left.
+use Rattle.std.specs.Prelude.{◌≡◌, ℕ, ◌+◌, ◌-◌, ◌^◌, ◌<◌, ◌≤◌, true, false, max, List, [], ◌∷◌, ◌++◌, length, Option, Some, None, IsSome, MatchOption, decimal}
 use Rattle.serde_json.specs.Written.{compact_text}
+use Rattle.rv_book.specs.declared.entry.Entry.TheVariants.{Act, Look, Retire}
+use Rattle.rv_book.specs.Book.{Book, bound, retired, last, last_order, ids}
 use Rattle.rv_wire.specs.Answers.{pull_data}
 use Rattle.rv_wire.specs.declared.cookie.Cookie.{Cookie}
 use Rattle.rv_wire.specs.declared.cookie.Cookie.TheVariants.{Null, Bare, Named}
@@ -9,13 +11,14 @@ use Rattle.rv_wire.specs.declared.error_body.ErrorBody.{ErrorBody}
 use Rattle.rv_wire.specs.declared.error_body.ErrorBody.TheVariants as errors
 use Rattle.rv_wire.specs.declared.push.Mutation.{Mutation}
 use Rattle.rv_wire.specs.declared.pull.PullRequest.{PullRequest}
-use Rattle.rv_desk.specs.declared.entry.Entry.TheVariants.{Act, Look}
 use Rattle.rv_desk.specs.declared.turn.Turn.{Turn}
-use Rattle.rv_desk.specs.declared.turn.Turn.TheVariants.{Acted, Skipped, Future, Limit, Memory}
+use Rattle.rv_desk.specs.declared.turn.Turn.TheVariants.{Acted, Skipped, Future, GroupOfOther, ClientOfOther, NotFound, Limit, Memory}
 use Rattle.rv_desk.specs.declared.turn.PullReply.{PullReply}
 use Rattle.rv_desk.specs.declared.turn.PullAnswer.{PullAnswer}
 use Rattle.rv_desk.specs.declared.turn.PullAnswer.TheVariants as pulls
-use Rattle.rv_desk.specs.Book.{Book, last, last_order, ids}
+use Rattle.rv_desk.specs.declared.turn.RetireAnswer.{RetireAnswer}
+use Rattle.rv_desk.specs.declared.turn.RetireAnswer.TheVariants as retires
+use Rattle.rv_desk.specs.Groups.{is_of_other, is_elsewhere, Admits}
 use Rattle.rv_desk.specs.Patches.{patch}
 
 -- who sends what
@@ -23,15 +26,24 @@ pub record Sender : Type 0 where
   pub user : List ℕ
   pub group : List ℕ
 
--- The next mutation of a client is run: it becomes one entry, at the book's end. One that is not above the last is
--- skipped, and one above the last + 1 is from the future; both change nothing. A full book takes no entry. Memory may be
--- refused only where the mutation would have been run, and then nothing changes.
+-- A mutation's id is looked at where its user may use the group and its client is of no other group.
+pub record Takes (from : Sender) (client : List ℕ) (book : Book) : Type 0 where
+  pub admits : Admits from.user from.group book
+  pub here : is_elsewhere client from.group book ≡ false
+
+-- The first case that holds: the group is bound to another user; it is retired; the client is of another group; the id is
+-- not above the client's last, and the mutation is skipped; it is above the last + 1, from the future; the book is full;
+-- and else the mutation is run: it becomes one entry, at the book's end. Only this changes the book. Memory may be refused
+-- only where the mutation would have been run, and then nothing changes.
 abbrev pub Mutates : ℕ → Sender → Mutation → Book → Turn → Book → Type 0
-Mutates limit from m book (Acted place) new = (m.id ≡ last m.client book + 1) × (length book < limit) × (place ≡ length book + 1) × (new ≡ book ++ Act from.user from.group m.client m.id m.call ∷ [])
-Mutates limit from m book (Skipped number) new = (m.id ≤ last m.client book) × (number ≡ last m.client book) × (new ≡ book)
-Mutates limit from m book (Future expected got) new = (last m.client book + 1 < m.id) × (expected ≡ last m.client book + 1) × (got ≡ m.id) × (new ≡ book)
-Mutates limit from m book (Limit what at) new = (m.id ≡ last m.client book + 1) × (length book ≡ limit) × (what ≡ which.Book) × (at ≡ limit) × (new ≡ book)
-Mutates limit from m book Memory new = (m.id ≡ last m.client book + 1) × (length book < limit) × (new ≡ book)
+Mutates limit from m book GroupOfOther new = (is_of_other from.user from.group book ≡ true) × (new ≡ book)
+Mutates limit from m book NotFound new = (is_of_other from.user from.group book ≡ false) × (retired from.group book ≡ true) × (new ≡ book)
+Mutates limit from m book ClientOfOther new = Admits from.user from.group book × (is_elsewhere m.client from.group book ≡ true) × (new ≡ book)
+Mutates limit from m book (Skipped number) new = Takes from m.client book × (m.id ≤ last m.client book) × (number ≡ last m.client book) × (new ≡ book)
+Mutates limit from m book (Future expected got) new = Takes from m.client book × (last m.client book + 1 < m.id) × (expected ≡ last m.client book + 1) × (got ≡ m.id) × (new ≡ book)
+Mutates limit from m book (Limit what at) new = Takes from m.client book × (m.id ≡ last m.client book + 1) × (length book ≡ limit) × (what ≡ which.Book) × (at ≡ limit) × (new ≡ book)
+Mutates limit from m book (Acted place) new = Takes from m.client book × (m.id ≡ last m.client book + 1) × (length book < limit) × (place ≡ length book + 1) × (new ≡ book ++ Act from.user from.group m.client m.id m.call ∷ [])
+Mutates limit from m book Memory new = Takes from m.client book × (m.id ≡ last m.client book + 1) × (length book < limit) × (new ≡ book)
 
 abbrev pub cookie_order : Cookie → ℕ
 cookie_order Null = 0
@@ -51,17 +63,33 @@ reply_to user request book =
     let ops = patch user book in
     record { cookie = cookie; same = false; ids = ids; ops = ops; text = compact_text (pull_data cookie ids ops) }
 
+-- The first case that holds: the group is bound to another user; it is retired; the next order is above 2^53 - 1; the book
+-- is full; and else the pull is answered, and becomes one entry. Memory may be refused only where it would be answered.
 abbrev pub Pulls : ℕ → List ℕ → PullRequest → Book → PullAnswer → Book → Type 0
-Pulls limit user request book (pulls.Pulled reply) new = (next_order request book < 2 ^ 53) × (length book < limit) × (reply ≡ reply_to user request book) × (new ≡ book ++ Look user request.group (next_order request book) None ∷ [])
-Pulls limit user request book (pulls.Limit which.Order at) new = (2 ^ 53 ≤ next_order request book) × (at ≡ 2 ^ 53 - 1) × (new ≡ book)
-Pulls limit user request book (pulls.Limit which.Book at) new = (next_order request book < 2 ^ 53) × (length book ≡ limit) × (at ≡ limit) × (new ≡ book)
-Pulls limit user request book pulls.Memory new = (next_order request book < 2 ^ 53) × (length book < limit) × (new ≡ book)
+Pulls limit user request book pulls.GroupOfOther new = (is_of_other user request.group book ≡ true) × (new ≡ book)
+Pulls limit user request book pulls.NotFound new = (is_of_other user request.group book ≡ false) × (retired request.group book ≡ true) × (new ≡ book)
+Pulls limit user request book (pulls.Limit which.Order at) new = Admits user request.group book × (2 ^ 53 ≤ next_order request book) × (at ≡ 2 ^ 53 - 1) × (new ≡ book)
+Pulls limit user request book (pulls.Limit which.Book at) new = Admits user request.group book × (next_order request book < 2 ^ 53) × (length book ≡ limit) × (at ≡ limit) × (new ≡ book)
+Pulls limit user request book (pulls.Pulled reply) new = Admits user request.group book × (next_order request book < 2 ^ 53) × (length book < limit) × (reply ≡ reply_to user request book) × (new ≡ book ++ Look user request.group (next_order request book) None ∷ [])
+Pulls limit user request book pulls.Memory new = Admits user request.group book × (next_order request book < 2 ^ 53) × (length book < limit) × (new ≡ book)
+
+-- The first case that holds: no act or look names the group; it is retired already; the book is full; and else the
+-- retirement becomes one entry.
+abbrev pub Retires : ℕ → List ℕ → Book → RetireAnswer → Book → Type 0
+Retires limit group book retires.NoGroup new = (bound group book ≡ None) × (new ≡ book)
+Retires limit group book retires.NotFound new = IsSome (bound group book) × (retired group book ≡ true) × (new ≡ book)
+Retires limit group book (retires.Limit what at) new = IsSome (bound group book) × (retired group book ≡ false) × (length book ≡ limit) × (what ≡ which.Book) × (at ≡ limit) × (new ≡ book)
+Retires limit group book (retires.Retired place) new = IsSome (bound group book) × (retired group book ≡ false) × (length book < limit) × (place ≡ length book + 1) × (new ≡ book ++ Retire group ∷ [])
+Retires limit group book retires.Memory new = IsSome (bound group book) × (retired group book ≡ false) × (length book < limit) × (new ≡ book)
 
 -- the refusal that ends a push, if the turn does
 abbrev pub refusal : Turn → Option ErrorBody
 refusal (Acted place) = None
 refusal (Skipped number) = None
 refusal (Future expected got) = Some (errors.Future expected got)
+refusal GroupOfOther = Some errors.GroupOfOther
+refusal ClientOfOther = Some errors.ClientOfOther
+refusal NotFound = Some errors.ClientStateNotFound
 refusal (Limit what at) = Some (errors.Limit what at)
 refusal Memory = Some errors.Memory
 

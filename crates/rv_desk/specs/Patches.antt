@@ -8,7 +8,7 @@ use Rattle.rv_rows.specs.RowTexts.{row_data}
 use Rattle.rv_rows.specs.Sharing.{seen}
 use Rattle.rv_wire.specs.declared.op.Op.{Op}
 use Rattle.rv_wire.specs.declared.op.Op.TheVariants.{Clear, Put}
-use Rattle.rv_desk.specs.Book.{Book}
+use Rattle.rv_book.specs.Book.{Book}
 use Rattle.rv_desk.specs.Replay.{rows_of}
 
 -- a key and a JSON value

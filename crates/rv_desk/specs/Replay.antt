@@ -5,14 +5,15 @@ use Rattle.rv_rows.specs.declared.row.Row.{Row}
 use Rattle.rv_rows.specs.Effects.{effect}
 use Rattle.rv_rows.specs.Keys.{row_text, row_at, in_key_order}
 use Rattle.rv_rows.specs.Held.{Stored}
-use Rattle.rv_desk.specs.declared.entry.Entry.{Entry}
-use Rattle.rv_desk.specs.declared.entry.Entry.TheVariants.{Act, Look}
-use Rattle.rv_desk.specs.Book.{Book}
+use Rattle.rv_book.specs.declared.entry.Entry.{Entry}
+use Rattle.rv_book.specs.declared.entry.Entry.TheVariants.{Act, Look, Retire}
+use Rattle.rv_book.specs.Book.{Book}
 
 -- the rows after one more entry
 abbrev pub rows_after : List Row → Entry → List Row
 rows_after rows (Act user group client id call) = effect rows user call
 rows_after rows (Look user group order base) = rows
+rows_after rows (Retire group) = rows
 
 abbrev pub rows_of : Book → List Row
 rows_of book = fold rows_after [] book

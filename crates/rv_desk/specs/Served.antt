@@ -1,6 +1,6 @@
 -- A desk, as contracts see it.
 use Rattle.std.specs.Prelude.{ℕ}
-use Rattle.rv_desk.specs.Book.{Book}
+use Rattle.rv_book.specs.Book.{Book}
 
 -- the book, and the most entries that it may have
 pub record Served : Type 0 where

@@ -1,12 +1,13 @@
-ghost use Rattle.std.specs.Prelude.{◌≡◌, ◌≤◌, ◌<◌, ◌+◌, ◌^◌, ◌∷◌, [], ◌++◌, length, IfOk, None, OnOk, OnErr, IsTrue};
+ghost use Rattle.std.specs.Prelude.{◌≡◌, ◌≤◌, ◌<◌, ◌+◌, ◌^◌, ◌∷◌, [], ◌++◌, length, IfOk, None, OnOk, OnErr};
 ghost use Rattle.rv_desk.specs.Shows.{shows};
-ghost use Rattle.rv_desk.specs.declared.entry.Entry.TheVariants.{Act, Look};
+ghost use Rattle.rv_book.specs.declared.entry.Entry.TheVariants.{Act, Look, Retire};
 
-use crate::entry::Entry;
-use crate::plain;
+use crate::entries;
+use crate::groups::{is_elsewhere, is_of_other};
 use crate::reply::{next_order, reply};
-use crate::turn::{PullAnswer, PullReply, Turn};
+use crate::turn::{PullAnswer, PullReply, RetireAnswer, Turn};
 use rv_base::{Id, Memory, Num, Sequence, User};
+use rv_book::{Book, BookFault, Entry};
 use rv_mutators::stage;
 use rv_rows::{Call, Key, Tables};
 use rv_sharing::visible;
@@ -17,22 +18,21 @@ use std::marker::Model;
 /// One sequential server in memory: its book, and beside it the tables, which are the book's replay.
 #[derive(Debug, Drop)]
 pub struct Desk {
-    entries: Vec<Entry>,
+    book: Book,
     tables: Tables,
-    limit: u32,
     alloc: Global,
 }
 
 impl Model for Desk {
-    ghost use Rattle.std.specs.Prelude.{◌≤◌, length};
     ghost use Rattle.rv_desk.specs.Served.{Served};
+    ghost use Rattle.rv_desk.specs.Lawful.{IsLawful};
     ghost use Rattle.rv_desk.specs.Replay.{IsReplay};
 
     ghost Value = { Served };
 
-    ghost view = { λ d. record { book = d.entries.items; limit = d.limit } };
+    ghost view = { λ d. record { book = d.book.entries; limit = d.book.limit } };
 
-    ghost invariant = { λ d. (length d.entries.items ≤ d.limit) × IsReplay d.entries.items d.tables.rows };
+    ghost invariant = { λ d. IsLawful d.book.entries × IsReplay d.book.entries d.tables.rows };
 }
 
 // Everything goes, and the row of each key is put.
@@ -49,9 +49,27 @@ fn patch(alloc: Global, tables: &Tables, visible: &[(Key, u32)]) -> Result<Ops, 
     Ok(ops)
 }
 
+// Enters an entry in the book.
+fn enter(book: &mut Book, entry: Entry) -> Result<(), Memory>
+    requires { length book.old.entries < book.old.limit }
+    ensures ok { OnOk result (book.new.entries ≡ book.old.entries ++ entry ∷ []) }
+    ensures err { OnErr result (book.new.entries ≡ book.old.entries) }
+    ensures limit { book.new.limit ≡ book.old.limit }
+{
+    match book.reserve(&entry) {
+        Ok(()) => {
+            book.push_entry(entry);
+            Ok(())
+        }
+        Err(BookFault::Memory) => Err(Memory),
+        Err(BookFault::Full) => unreachable!(),
+    }
+}
+
 impl Desk {
+    ghost use Rattle.rv_desk.specs.Lawful.{IsLawful, IsLawfulAfter};
     ghost use Rattle.rv_desk.specs.Replay.{IsReplay};
-    ghost use Rattle.rv_desk.specs.Machine.{Mutates, Pulls, next_order, reply_to};
+    ghost use Rattle.rv_desk.specs.Machine.{Mutates, Pulls, Retires, next_order, reply_to};
 
     /// A desk with the empty book, which takes at most so many entries.
     pub fn new(alloc: Global, limit: u32) -> Desk
@@ -59,19 +77,19 @@ impl Desk {
         ensures limit { result.limit ≡ limit }
     {
         Desk {
-            entries: Vec::new(alloc),
+            book: Book::new(alloc, limit),
             tables: Tables::new(alloc),
-            limit,
             alloc,
         }
     }
 
-    /// The entries of the book, in order. Takes no memory.
-    pub fn book(&self) -> &[Entry]
-        ensures book { result.now ≡ self.now.book }
-        ensures bound { length self.now.book ≤ self.now.limit }
+    /// The book. Takes no memory.
+    pub fn book(&self) -> &Book
+        ensures book { result.now.entries ≡ self.now.book }
+        ensures limit { result.now.limit ≡ self.now.limit }
+        ensures lawful { IsLawful self.now.book }
     {
-        &self.entries
+        &self.book
     }
 
     /// The rows that the book leaves, each with the place of its last write. Takes no memory.
@@ -86,7 +104,16 @@ impl Desk {
         ensures turn { Mutates self.old.limit (record { user = user.now; group = group.now }) (record { client = client.now; id = id; call = call }) self.old.book result self.new.book }
         ensures limit { self.new.limit ≡ self.old.limit }
     {
-        let last = plain::last(&self.entries, client);
+        if is_of_other(&self.book, user, group) {
+            return Turn::GroupOfOther;
+        }
+        if self.book.retired(group) {
+            return Turn::NotFound;
+        }
+        if is_elsewhere(&self.book, client, group) {
+            return Turn::ClientOfOther;
+        }
+        let last = self.book.last(client).get();
         if id.get() <= last {
             return Turn::Skipped(Num::from_u64(last));
         }
@@ -96,8 +123,8 @@ impl Desk {
                 got: id,
             };
         }
-        if self.entries.len() >= self.limit as usize {
-            return Turn::Limit(Which::Book, Num::from_u64(u64::from(self.limit)));
+        if self.book.is_full() {
+            return Turn::Limit(Which::Book, Num::from_u64(u64::from(self.book.len())));
         }
         match self.act(user, group, client, id, call) {
             Ok(place) => Turn::Acted(place),
@@ -114,16 +141,17 @@ impl Desk {
         id: Num,
         call: Call,
     ) -> Result<u32, Memory>
-        requires { length self.old.book < self.old.limit }
+        requires room { length self.old.book < self.old.limit }
+        requires lawful { IsLawfulAfter self.old.book (Act user.now group.now client.now id call) }
         ensures ok { OnOk result (self.new.book ≡ self.old.book ++ Act user.now group.now client.now id call ∷ []) }
         ensures place { IfOk result (λ place. place ≡ length self.old.book + 1) }
         ensures err { OnErr result (self.new.book ≡ self.old.book) }
         ensures limit { self.new.limit ≡ self.old.limit }
     {
-        let place = self.entries.len() as u32 + 1;
+        let place = self.book.len() + 1;
         let staged = stage(self.alloc, &mut self.tables, user, &call)?;
-        let entry = Entry::act(self.alloc, user, group, client, id, call)?;
-        self.entries.push(entry)?;
+        let entry = entries::act(self.alloc, user, group, client, id, call)?;
+        enter(&mut self.book, entry)?;
         staged.apply(&mut self.tables, place);
         Ok(place)
     }
@@ -133,13 +161,19 @@ impl Desk {
         ensures answer { Pulls self.old.limit user.now request.now self.old.book result self.new.book }
         ensures limit { self.new.limit ≡ self.old.limit }
     {
-        let last = plain::last_order(&self.entries, &request.group);
+        if is_of_other(&self.book, user, &request.group) {
+            return PullAnswer::GroupOfOther;
+        }
+        if self.book.retired(&request.group) {
+            return PullAnswer::NotFound;
+        }
+        let last = self.book.last_order(&request.group);
         let order = next_order(&request.cookie, last);
         if order > Num::MAX {
             return PullAnswer::Limit(Which::Order, Num::from_u64(Num::MAX));
         }
-        if self.entries.len() >= self.limit as usize {
-            return PullAnswer::Limit(Which::Book, Num::from_u64(u64::from(self.limit)));
+        if self.book.is_full() {
+            return PullAnswer::Limit(Which::Book, Num::from_u64(u64::from(self.book.len())));
         }
         match self.look(user, request, Num::from_u64(order)) {
             Ok(reply) => PullAnswer::Pulled(reply),
@@ -151,18 +185,53 @@ impl Desk {
     fn look(&mut self, user: &User, request: &PullRequest, order: Num) -> Result<PullReply, Memory>
         requires room { length self.old.book < self.old.limit }
         requires order { order ≡ next_order request.now self.old.book }
+        requires lawful { IsLawfulAfter self.old.book (Look user.now request.now.group order None) }
         ensures reply { IfOk result (λ reply. reply ≡ reply_to user.now request.now self.old.book) }
         ensures ok { OnOk result (self.new.book ≡ self.old.book ++ Look user.now request.now.group order None ∷ []) }
         ensures err { OnErr result (self.new.book ≡ self.old.book) }
         ensures limit { self.new.limit ≡ self.old.limit }
     {
-        let ids = plain::ids(self.alloc, &self.entries, &request.group)?;
+        let ids = self.book.clients(&request.group)?;
         let visible = visible(self.alloc, &self.tables, user)?;
         let ops = patch(self.alloc, &self.tables, visible.as_slice())?;
-        let place = self.entries.len() as u32 + 1;
+        let place = self.book.len() + 1;
         let reply = reply(self.alloc, place, order, ids, ops)?;
-        let entry = Entry::look(self.alloc, user, &request.group, order)?;
-        self.entries.push(entry)?;
+        let entry = entries::look(self.alloc, user, &request.group, order)?;
+        enter(&mut self.book, entry)?;
         Ok(reply)
+    }
+
+    /// Retires a client group, for good. A refusal leaves all as it was.
+    pub fn retire(&mut self, group: &Id) -> RetireAnswer
+        ensures answer { Retires self.old.limit group.now self.old.book result self.new.book }
+        ensures limit { self.new.limit ≡ self.old.limit }
+    {
+        if self.book.bound(group).is_none() {
+            return RetireAnswer::NoGroup;
+        }
+        if self.book.retired(group) {
+            return RetireAnswer::NotFound;
+        }
+        if self.book.is_full() {
+            return RetireAnswer::Limit(Which::Book, Num::from_u64(u64::from(self.book.len())));
+        }
+        match self.enter_retirement(group) {
+            Ok(place) => RetireAnswer::Retired(place),
+            Err(Memory) => RetireAnswer::Memory,
+        }
+    }
+
+    fn enter_retirement(&mut self, group: &Id) -> Result<u32, Memory>
+        requires room { length self.old.book < self.old.limit }
+        requires lawful { IsLawfulAfter self.old.book (Retire group.now) }
+        ensures ok { OnOk result (self.new.book ≡ self.old.book ++ Retire group.now ∷ []) }
+        ensures place { IfOk result (λ place. place ≡ length self.old.book + 1) }
+        ensures err { OnErr result (self.new.book ≡ self.old.book) }
+        ensures limit { self.new.limit ≡ self.old.limit }
+    {
+        let place = self.book.len() + 1;
+        let entry = entries::retirement(self.alloc, group)?;
+        enter(&mut self.book, entry)?;
+        Ok(place)
     }
 }

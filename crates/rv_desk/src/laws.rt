@@ -1,5 +1,5 @@
 //! What follows from the machine, as contracts of functions that do nothing: a check of the crate proves them.
-ghost use Rattle.rv_desk.specs.Laws.{IdsCountUp, OrdersRise, PushesKeepLaw, PullsKeepLaw, PullsShow};
+ghost use Rattle.rv_desk.specs.Laws.{IdsCountUp, OrdersRise, GroupsHaveOneUser, ClientsHaveOneGroup, RetiredGroupsRest, EntriesStandOnce, PushesKeepLaw, PullsKeepLaw, RetirementsKeepLaw, PullsShow};
 
 /// In a lawful book each client's acts have the ids 1, 2, 3 and so on.
 pub fn ids_count_up()
@@ -11,6 +11,26 @@ pub fn orders_rise()
     ensures { OrdersRise }
 {}
 
+/// In a lawful book no group has two users.
+pub fn groups_have_one_user()
+    ensures { GroupsHaveOneUser }
+{}
+
+/// In a lawful book no client has two groups.
+pub fn clients_have_one_group()
+    ensures { ClientsHaveOneGroup }
+{}
+
+/// In a lawful book nothing of a group follows its retirement.
+pub fn retired_groups_rest()
+    ensures { RetiredGroupsRest }
+{}
+
+/// In a lawful book no entry stands twice.
+pub fn entries_stand_once()
+    ensures { EntriesStandOnce }
+{}
+
 /// A push keeps a book lawful, and only adds to it.
 pub fn pushes_keep_law()
     ensures { PushesKeepLaw }
@@ -19,6 +39,11 @@ pub fn pushes_keep_law()
 /// A pull keeps a book lawful, and only adds to it.
 pub fn pulls_keep_law()
     ensures { PullsKeepLaw }
+{}
+
+/// A retirement keeps a book lawful, and only adds to it.
+pub fn retirements_keep_law()
+    ensures { RetirementsKeepLaw }
 {}
 
 /// The patch of a pull's reply, applied to any view, gives exactly what the user sees, and the cookies' orders rise.

@@ -5,15 +5,15 @@
 #![tactic(auto)]
 
 mod desk;
-mod entry;
+mod entries;
+mod groups;
 pub mod laws;
 pub mod plain;
 mod reply;
 mod turn;
 
 pub use desk::Desk;
-pub use entry::Entry;
-pub use turn::{PullAnswer, PullReply, Turn};
+pub use turn::{PullAnswer, PullReply, RetireAnswer, Turn};
 
 #[cfg(test)]
 mod tests;

@@ -3,5 +3,5 @@
 mod book;
 mod server;
 
-pub use book::{group_of, ids, last, last_order, rows_of};
+pub use book::{bound, group_of, ids, last, last_order, retired, rows_of};
 pub use server::{PlainDesk, patch};

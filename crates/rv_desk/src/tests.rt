@@ -41,6 +41,8 @@ fn request(alloc: Global, group: &str, cookie: Cookie) -> Result<PullRequest, Fa
 fn text_of(answer: &PullAnswer) -> &[u8] {
     match answer {
         PullAnswer::Pulled(reply) => reply.text.as_slice(),
+        PullAnswer::GroupOfOther => b"group of other",
+        PullAnswer::NotFound => b"not found",
         PullAnswer::Limit(Which::Book, _) => b"book",
         PullAnswer::Limit(Which::Order, _) => b"order",
         PullAnswer::Memory => b"memory",
@@ -70,6 +72,9 @@ fn place_of(turn: Turn) -> u32 {
         Turn::Acted(place) => place,
         Turn::Skipped(_) => 0,
         Turn::Future { .. } => 0,
+        Turn::GroupOfOther => 0,
+        Turn::ClientOfOther => 0,
+        Turn::NotFound => 0,
         Turn::Limit(_, _) => 0,
         Turn::Memory => 0,
     }
@@ -219,6 +224,9 @@ fn described(alloc: Global, turn: Turn) -> Result<String, Fail> {
             let at = at.get();
             Ok(format!(in alloc; "limit {at}")?)
         }
+        Turn::GroupOfOther => Ok(String::from_str(alloc, "group of other")?),
+        Turn::ClientOfOther => Ok(String::from_str(alloc, "client of other")?),
+        Turn::NotFound => Ok(String::from_str(alloc, "not found")?),
         Turn::Memory => Ok(String::from_str(alloc, "memory")?),
     }
 }
@@ -247,8 +255,6 @@ fn stops_at_its_limits(rt: HostRuntime) -> Result<(), Fail> {
     assert_eq!(rt; text_of(&answer), b"book".as_slice());
     let rows = standing(alloc, &desk)?;
     assert_eq!(rt; rows.as_str(), "l1 2,l2 1,");
-    let rows = plain::rows_of(alloc, desk.book())?;
-    assert_eq!(rt; rows.len(), 2);
     Ok(())
 }
 
@@ -271,5 +277,84 @@ fn orders_stay_within_the_greatest(rt: HostRuntime) -> Result<(), Fail> {
         b"{\"cookie\":{\"cvrID\":\"1\",\"order\":8},\"lastMutationIDChanges\":{},\"patch\":[{\"op\":\"clear\"}]}".as_slice()
     );
     assert_eq!(rt; desk.book().len(), 1);
+    Ok(())
+}
+
+// Turns, and what becomes of each: the first case that holds is told.
+fn bound() -> [(&'static str, &'static str); 6] {
+    [
+        ("ann g1 c1 1 list l1 ann", "acted 1"),
+        ("bob g1 c5 1 unknown", "group of other"),
+        ("bob g1 c1 9 unknown", "group of other"),
+        ("ann g2 c1 2 unknown", "client of other"),
+        ("ann g2 c1 9 unknown", "client of other"),
+        ("ann g1 c1 3 unknown", "future 2 3"),
+    ]
+}
+
+// The same after the group g1 was retired.
+fn retired() -> [(&'static str, &'static str); 5] {
+    [
+        ("bob g1 c5 1 unknown", "group of other"),
+        ("ann g1 c1 1 list l1 ann", "not found"),
+        ("ann g1 c9 7 unknown", "not found"),
+        ("ann g2 c1 2 unknown", "client of other"),
+        ("ann g2 c2 1 unknown", "acted 3"),
+    ]
+}
+
+// Runs a line on both, and answers whether both are answered so.
+fn both_turn(
+    alloc: Global,
+    desk: &mut Desk,
+    plain: &mut PlainDesk,
+    text: &str,
+    expected: &str,
+) -> Result<bool, Fail> {
+    let turn = mutate(desk, line_of(alloc, text)?);
+    let other = plain_mutate(plain, line_of(alloc, text)?);
+    Ok(turn == other && described(alloc, turn)?.as_str() == expected)
+}
+
+// Retires a group on both, and answers whether both are answered so.
+fn both_retire(
+    alloc: Global,
+    desk: &mut Desk,
+    plain: &mut PlainDesk,
+    group: &str,
+    expected: RetireAnswer,
+) -> Result<bool, Fail> {
+    let group = Id::new(alloc, group)?;
+    let answer = desk.retire(&group);
+    let other = plain.retire(&group);
+    Ok(answer == other && answer == expected)
+}
+
+#[test]
+fn binds_groups_and_clients_and_retires_groups(rt: HostRuntime) -> Result<(), Fail> {
+    let alloc = rt.alloc();
+    let mut desk = Desk::new(alloc, 100);
+    let mut plain = PlainDesk::new(alloc, 100);
+    for (text, expected) in &bound() {
+        let same = both_turn(alloc, &mut desk, &mut plain, text, expected)?;
+        assert!(rt; same, "{text}");
+    }
+    for (group, expected) in [
+        ("g1", RetireAnswer::Retired(2)),
+        ("g1", RetireAnswer::NotFound),
+        ("zz", RetireAnswer::NoGroup),
+    ] {
+        let same = both_retire(alloc, &mut desk, &mut plain, group, expected)?;
+        assert!(rt; same, "{group}");
+    }
+    for (text, expected) in &retired() {
+        let same = both_turn(alloc, &mut desk, &mut plain, text, expected)?;
+        assert!(rt; same, "{text}");
+    }
+    for (user, group) in &[("ann", "g1"), ("bob", "g1"), ("ann", "g2"), ("bob", "g2")] {
+        let same = both_pull(alloc, &mut desk, &mut plain, user, group)?;
+        assert!(rt; same);
+    }
+    assert_eq!(rt; desk.book().len(), 4);
     Ok(())
 }

@@ -16,6 +16,12 @@ pub enum Turn {
         /// Its id.
         got: Num,
     },
+    /// Its group is bound to another user.
+    GroupOfOther,
+    /// Its client is of another group.
+    ClientOfOther,
+    /// Its group is retired.
+    NotFound,
     /// This is full, at this number.
     Limit(Which, Num),
     /// Memory was refused.
@@ -42,6 +48,25 @@ pub struct PullReply {
 pub enum PullAnswer {
     /// It was answered.
     Pulled(PullReply),
+    /// Its group is bound to another user.
+    GroupOfOther,
+    /// Its group is retired.
+    NotFound,
+    /// This is full, at this number.
+    Limit(Which, Num),
+    /// Memory was refused.
+    Memory,
+}
+
+/// What became of a retirement.
+#[derive(Clone, Copy, Debug, PartialEq, Eq)]
+pub enum RetireAnswer {
+    /// The group is retired, and this stands in the book at this place.
+    Retired(u32),
+    /// No act and no look names the group.
+    NoGroup,
+    /// The group is retired already.
+    NotFound,
     /// This is full, at this number.
     Limit(Which, Num),
     /// Memory was refused.

@@ -5,11 +5,12 @@ use Rattle.serde_json.specs.Written.{compact_text}
 use Rattle.serde_json.proofs.OnLiterals.{serde_json_on_literals}
 use Rattle.rv_wire.specs.declared.error_body.Which.{Which}
 use Rattle.rv_wire.specs.declared.error_body.Which.TheVariants.{Book, Order}
-use Rattle.rv_wire.specs.declared.error_body.ErrorBody.TheVariants.{VersionNotSupported, NotJson, Field, Future, Limit, Memory}
+use Rattle.rv_wire.specs.declared.error_body.ErrorBody.TheVariants.{ClientStateNotFound, VersionNotSupported, NotJson, Field, GroupOfOther, ClientOfOther, NoGroup, Future, Limit, Memory}
 use Rattle.rv_wire.specs.declared.fault.FieldName.{FieldName}
 use Rattle.rv_wire.specs.declared.fault.FieldName.TheVariants as fields
 use Rattle.rv_wire.specs.declared.fault.VersionKind.{VersionKind}
 use Rattle.rv_wire.specs.declared.fault.VersionKind.TheVariants as versions
+use Rattle.rv_wire.specs.Answers.{retired_data}
 use Rattle.rv_wire.specs.Errors.{field_text, version_text, which_text, error_data}
 
 pub future_text : (e g : ℕ) → (((codes "{\"error\":\"Future\",\"expected\":" ++ decimal e) ++ codes ",\"got\":") ++ decimal g) ++ codes "}" ≡ compact_text (error_data (Future e g))
@@ -29,6 +30,22 @@ pub not_json_text : compact_text (error_data NotJson) ≡ codes "{\"error\":\"No
 unfolding serde_json_on_literals
 not_json_text = refl
 
+pub not_found_text : compact_text (error_data ClientStateNotFound) ≡ codes "{\"error\":\"ClientStateNotFound\"}"
+unfolding serde_json_on_literals
+not_found_text = refl
+
+pub group_of_other_text : compact_text (error_data GroupOfOther) ≡ codes "{\"error\":\"GroupOfOther\"}"
+unfolding serde_json_on_literals
+group_of_other_text = refl
+
+pub client_of_other_text : compact_text (error_data ClientOfOther) ≡ codes "{\"error\":\"ClientOfOther\"}"
+unfolding serde_json_on_literals
+client_of_other_text = refl
+
+pub no_group_text : compact_text (error_data NoGroup) ≡ codes "{\"error\":\"NoGroup\"}"
+unfolding serde_json_on_literals
+no_group_text = refl
+
 pub field_error_text : (field : FieldName) → (codes "{\"error\":\"Field\",\"field\":\"" ++ field_text field) ++ codes "\"}" ≡ compact_text (error_data (Field field))
 unfolding serde_json_on_literals
 field_error_text fields.PushVersion = refl
@@ -47,3 +64,8 @@ unfolding serde_json_on_literals
 version_error_text versions.Push = refl
 version_error_text versions.Pull = refl
 version_error_text versions.Schema = refl
+
+-- the answer to a retirement
+pub retired_text_is : (place : ℕ) → (codes "{\"retired\":" ++ decimal place) ++ codes "}" ≡ compact_text (retired_data place)
+unfolding serde_json_on_literals
+retired_text_is place = simp append_assoc

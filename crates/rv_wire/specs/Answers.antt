@@ -1,4 +1,4 @@
--- The answer to a pull, as JSON.
+-- The answers to a pull and to a retirement, as JSON.
 use Rattle.std.specs.Prelude.{ℕ, List, [], ◌∷◌, map, codes}
 use Rattle.serde_json.specs.Data.{Data, null, number, unsigned, string, array, object, Members, member, no_members}
 use Rattle.serde_json.specs.View.{items_of}
@@ -36,3 +36,7 @@ answer_data cookie changes patch = object (member (codes "cookie") cookie (membe
 -- {"cookie":COOKIE,"lastMutationIDChanges":{CLIENT:N,..},"patch":[OP,..]}
 abbrev pub pull_data : Cookie → List (List ℕ × ℕ) → List Op → Data
 pull_data cookie ids ops = answer_data (cookie_data cookie) (object (id_members ids)) (array (items_of (map op_data ops)))
+
+-- {"retired":PLACE}
+abbrev pub retired_data : ℕ → Data
+retired_data place = object (member (codes "retired") (number (unsigned place)) no_members)

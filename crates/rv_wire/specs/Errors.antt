@@ -4,7 +4,7 @@ use Rattle.serde_json.specs.Data.{Data, number, unsigned, string, object, member
 use Rattle.rv_wire.specs.declared.error_body.Which.{Which}
 use Rattle.rv_wire.specs.declared.error_body.Which.TheVariants.{Book, Order}
 use Rattle.rv_wire.specs.declared.error_body.ErrorBody.{ErrorBody}
-use Rattle.rv_wire.specs.declared.error_body.ErrorBody.TheVariants.{VersionNotSupported, NotJson, Field, Future, Limit, Memory}
+use Rattle.rv_wire.specs.declared.error_body.ErrorBody.TheVariants.{ClientStateNotFound, VersionNotSupported, NotJson, Field, GroupOfOther, ClientOfOther, NoGroup, Future, Limit, Memory}
 use Rattle.rv_wire.specs.declared.fault.WireFault.{WireFault}
 use Rattle.rv_wire.specs.declared.fault.WireFault.TheVariants as faults
 use Rattle.rv_wire.specs.declared.fault.FieldName.{FieldName}
@@ -34,17 +34,25 @@ version_text versions.Pull = codes "pull"
 version_text versions.Schema = codes "schema"
 
 abbrev pub error_data : ErrorBody → Data
+error_data ClientStateNotFound = object (member (codes "error") (string (codes "ClientStateNotFound")) no_members)
 error_data (VersionNotSupported kind) = object (member (codes "error") (string (codes "VersionNotSupported")) (member (codes "versionType") (string (version_text kind)) no_members))
 error_data NotJson = object (member (codes "error") (string (codes "NotJson")) no_members)
 error_data (Field field) = object (member (codes "error") (string (codes "Field")) (member (codes "field") (string (field_text field)) no_members))
+error_data GroupOfOther = object (member (codes "error") (string (codes "GroupOfOther")) no_members)
+error_data ClientOfOther = object (member (codes "error") (string (codes "ClientOfOther")) no_members)
+error_data NoGroup = object (member (codes "error") (string (codes "NoGroup")) no_members)
 error_data (Future expected got) = object (member (codes "error") (string (codes "Future")) (member (codes "expected") (number (unsigned expected)) (member (codes "got") (number (unsigned got)) no_members)))
 error_data (Limit which at) = object (member (codes "at") (number (unsigned at)) (member (codes "error") (string (codes "Limit")) (member (codes "which") (string (which_text which)) no_members)))
 error_data Memory = object (member (codes "error") (string (codes "memory")) no_members)
 
 abbrev pub error_status : ErrorBody → ℕ
+error_status ClientStateNotFound = 200
 error_status (VersionNotSupported kind) = 200
 error_status NotJson = 400
 error_status (Field field) = 400
+error_status GroupOfOther = 403
+error_status ClientOfOther = 403
+error_status NoGroup = 404
 error_status (Future expected got) = 409
 error_status (Limit which at) = 507
 error_status Memory = 503

@@ -13,12 +13,20 @@ pub enum Which {
 /// Why a request was refused, as its answer tells.
 #[derive(Clone, Copy, Debug, PartialEq, Eq)]
 pub enum ErrorBody {
+    /// The client group is retired. The client's reference names this answer, at which a client starts anew.
+    ClientStateNotFound,
     /// A version of the body is not served. The client's reference names this answer.
     VersionNotSupported(VersionKind),
     /// The body is no JSON object.
     NotJson,
     /// This member of the body is the first that is wrong.
     Field(FieldName),
+    /// The client group is bound to another user.
+    GroupOfOther,
+    /// The client is of another client group.
+    ClientOfOther,
+    /// No act and no look names the client group.
+    NoGroup,
     /// A mutation's id is above the client's last + 1.
     Future {
         /// The client's last mutation id + 1.

@@ -18,6 +18,7 @@ mod pull_body;
 mod push;
 mod push_body;
 mod refusal;
+mod retirement;
 
 pub use answer::pull_text;
 pub use body::Schemas;
@@ -32,6 +33,7 @@ pub use pull_body::{pull_of_value, read_pull};
 pub use push::{Mutation, Mutations, Push};
 pub use push_body::{push_of_value, read_push};
 pub use refusal::error_text;
+pub use retirement::retired_text;
 
 #[cfg(test)]
 mod tests;

@@ -7,7 +7,7 @@ use crate::fault::{FieldName, VersionKind, WireFault};
 use itoa::Buffer;
 
 // Copies a text into the buffer from a place on, and answers the place after it.
-fn put(out: &mut [u8; 128], at: usize, text: &[u8]) -> usize
+pub(crate) fn put(out: &mut [u8; 128], at: usize, text: &[u8]) -> usize
     requires { at + length text.now ≤ 128 }
     ensures end { result ≡ at + length text.now }
     ensures text { take result out.new ≡ take at out.old ++ text.now }
@@ -17,7 +17,7 @@ fn put(out: &mut [u8; 128], at: usize, text: &[u8]) -> usize
     end
 }
 
-fn put_number(out: &mut [u8; 128], at: usize, number: u64) -> usize
+pub(crate) fn put_number(out: &mut [u8; 128], at: usize, number: u64) -> usize
     requires { at + 20 ≤ 128 }
     ensures low { at ≤ result }
     ensures high { result ≤ at + 20 }
@@ -80,6 +80,7 @@ pub fn error_text(error: &ErrorBody, out: &mut [u8; 128]) -> usize
     ensures text { take result out.new ≡ compact_text (error_data error.now) }
 {
     match error {
+        ErrorBody::ClientStateNotFound => put(out, 0, b"{\"error\":\"ClientStateNotFound\"}"),
         ErrorBody::VersionNotSupported(kind) => {
             let at = put(
                 out,
@@ -95,6 +96,9 @@ pub fn error_text(error: &ErrorBody, out: &mut [u8; 128]) -> usize
             let at = put(out, at, field.name().as_bytes());
             put(out, at, b"\"}")
         }
+        ErrorBody::GroupOfOther => put(out, 0, b"{\"error\":\"GroupOfOther\"}"),
+        ErrorBody::ClientOfOther => put(out, 0, b"{\"error\":\"ClientOfOther\"}"),
+        ErrorBody::NoGroup => put(out, 0, b"{\"error\":\"NoGroup\"}"),
         ErrorBody::Future { expected, got } => {
             let at = put(out, 0, b"{\"error\":\"Future\",\"expected\":");
             let at = put_number(out, at, expected.get());
@@ -117,9 +121,13 @@ impl ErrorBody {
         ensures { result ≡ error_status self.now }
     {
         match self {
+            ErrorBody::ClientStateNotFound => 200,
             ErrorBody::VersionNotSupported(_) => 200,
             ErrorBody::NotJson => 400,
             ErrorBody::Field(_) => 400,
+            ErrorBody::GroupOfOther => 403,
+            ErrorBody::ClientOfOther => 403,
+            ErrorBody::NoGroup => 404,
             ErrorBody::Future { .. } => 409,
             ErrorBody::Limit(_, _) => 507,
             ErrorBody::Memory => 503,

@@ -10,6 +10,11 @@ pub fn script(number: u8) -> (&'static [u8], &'static [u8]) {
         4 => (shared_list(), shared_list_answers()),
         5 => (deleted_list(), deleted_list_answers()),
         6 => (greatest_sort(), greatest_sort_answers()),
+        7 => (bound_and_retired(), bound_and_retired_answers()),
+        8 => (
+            refused_after_retirement(),
+            refused_after_retirement_answers(),
+        ),
         _ => (b"", b""),
     }
 }
@@ -113,5 +118,55 @@ fn greatest_sort_answers() -> &'static [u8] {
 200 {}
 200 {"cookie":{"cvrID":"5","order":1},"lastMutationIDChanges":{},"patch":[{"op":"clear"},{"key":"list/l1","op":"put","value":{"id":"l1","name":"Home","ownerID":"ann"}},{"key":"share/s1","op":"put","value":{"id":"s1","listID":"l1","userID":"bob"}},{"key":"todo/t1","op":"put","value":{"complete":false,"id":"t1","listID":"l1","sort":1,"text":"milk"}}]}
 200 {}
+"#
+}
+
+fn bound_and_retired() -> &'static [u8] {
+    br#"{"user":"ann","push":{"pushVersion":1,"clientGroupID":"g1","profileID":"p","schemaVersion":"","mutations":[{"clientID":"c1","id":1,"name":"createList","args":{"id":"l1","name":"Home","ownerID":"ann"},"timestamp":0.5}]}}
+{"user":"ann","pull":{"pullVersion":1,"clientGroupID":"g1","profileID":"p","schemaVersion":"","cookie":null}}
+{"user":"bob","push":{"pushVersion":1,"clientGroupID":"g1","profileID":"p","schemaVersion":"","mutations":[{"clientID":"c5","id":1,"name":"paint","args":null,"timestamp":0.5}]}}
+{"user":"bob","pull":{"pullVersion":1,"clientGroupID":"g1","profileID":"p","schemaVersion":"","cookie":null}}
+{"user":"ann","push":{"pushVersion":1,"clientGroupID":"g2","profileID":"p","schemaVersion":"","mutations":[{"clientID":"c1","id":2,"name":"paint","args":null,"timestamp":0.5}]}}
+{"retire":"g1"}
+{"retire":"g1"}
+{"user":"ann","push":{"pushVersion":1,"clientGroupID":"g1","profileID":"p","schemaVersion":"","mutations":[{"clientID":"c1","id":1,"name":"createList","args":{"id":"l1","name":"Home","ownerID":"ann"},"timestamp":0.5}]}}
+{"user":"ann","pull":{"pullVersion":1,"clientGroupID":"g1","profileID":"p","schemaVersion":"","cookie":null}}
+{"retire":"zz"}
+{"user":"ann","push":{"pushVersion":0,"clientGroupID":"g1","profileID":"p","schemaVersion":"","mutations":[{"clientID":"c1","id":1,"name":"createList","args":{"id":"l1","name":"Home","ownerID":"ann"},"timestamp":0.5}]}}
+{"user":"ann","push":{"pushVersion":1,"clientGroupID":"g1","profileID":"p","schemaVersion":"9","mutations":[{"clientID":"c1","id":1,"name":"createList","args":{"id":"l1","name":"Home","ownerID":"ann"},"timestamp":0.5}]}}
+"#
+}
+
+fn bound_and_retired_answers() -> &'static [u8] {
+    br#"200 {}
+200 {"cookie":{"cvrID":"2","order":1},"lastMutationIDChanges":{"c1":1},"patch":[{"op":"clear"},{"key":"list/l1","op":"put","value":{"id":"l1","name":"Home","ownerID":"ann"}}]}
+403 {"error":"GroupOfOther"}
+403 {"error":"GroupOfOther"}
+403 {"error":"ClientOfOther"}
+200 {"retired":3}
+200 {"error":"ClientStateNotFound"}
+200 {"error":"ClientStateNotFound"}
+200 {"error":"ClientStateNotFound"}
+404 {"error":"NoGroup"}
+200 {"error":"VersionNotSupported","versionType":"push"}
+200 {"error":"VersionNotSupported","versionType":"schema"}
+"#
+}
+
+fn refused_after_retirement() -> &'static [u8] {
+    br#"{"user":"ann","push":{"pushVersion":1,"clientGroupID":"g1","profileID":"p","schemaVersion":"","mutations":[{"clientID":"c1","id":1,"name":"createList","args":{"id":"l1","name":"Home","ownerID":"ann"},"timestamp":0.5}]}}
+{"user":"ann","pull":{"pullVersion":1,"clientGroupID":"g1","profileID":"p","schemaVersion":"","cookie":null}}
+{"retire":"g1"}
+{"user":"bob","push":{"pushVersion":1,"clientGroupID":"g1","profileID":"p","schemaVersion":"","mutations":[{"clientID":"c5","id":1,"name":"paint","args":null,"timestamp":0.5}]}}
+{"user":"ann","push":{"pushVersion":1,"clientGroupID":"g2","profileID":"p","schemaVersion":"","mutations":[{"clientID":"c1","id":2,"name":"paint","args":null,"timestamp":0.5}]}}
+"#
+}
+
+fn refused_after_retirement_answers() -> &'static [u8] {
+    br#"200 {}
+200 {"cookie":{"cvrID":"2","order":1},"lastMutationIDChanges":{"c1":1},"patch":[{"op":"clear"},{"key":"list/l1","op":"put","value":{"id":"l1","name":"Home","ownerID":"ann"}}]}
+200 {"retired":3}
+403 {"error":"GroupOfOther"}
+403 {"error":"ClientOfOther"}
 "#
 }

@@ -1,13 +1,60 @@
 ghost use Rattle.std.specs.Prelude.{◌≡◌, ◌≤◌, ◌<◌, ◌^◌, length, IfOk, OnOk, option_map};
 ghost use Rattle.std.specs.Option.{option_map_or};
 ghost use Rattle.rv_base.specs.Sorted.{InOrder, put_by, Settles};
-ghost use Rattle.rv_desk.specs.Book.{is_act_of, last, group_of, order_after, last_order, belongs, client_in, ids};
+ghost use Rattle.rv_book.specs.Book.{bound, retires, retired, is_act_of, last, group_of, order_after, last_order, belongs, client_in, ids};
 ghost use Rattle.rv_desk.specs.Replay.{rows_after, rows_of};
 
-use crate::entry::Entry;
-use rv_base::{Id, Memory, Num, Sequence};
+use rv_base::{Id, Memory, Num, Sequence, User};
+use rv_book::Entry;
 use rv_rows::{Clients, Row};
 use std::alloc::Global;
+
+/// The user whom a group is bound to: that of the first act or look that names it.
+pub fn bound<'b>(book: &'b [Entry], group: &Id) -> Option<&'b User>
+    ensures { option_map (λ user. user.now) result ≡ bound group.now book.now }
+{
+    for entry in book {
+        match entry {
+            Entry::Act {
+                user,
+                group: other,
+                ..
+            } => {
+                if other == group {
+                    return Some(user);
+                }
+            }
+            Entry::Look {
+                user,
+                group: other,
+                ..
+            } => {
+                if other == group {
+                    return Some(user);
+                }
+            }
+            Entry::Retire { .. } => {}
+        }
+    }
+    None
+}
+
+fn retires(entry: &Entry, group: &Id) -> bool
+    ensures { result ≡ retires group.now entry.now }
+{
+    match entry {
+        Entry::Act { .. } => false,
+        Entry::Look { .. } => false,
+        Entry::Retire { group: other } => other == group,
+    }
+}
+
+/// Whether an entry retires a group.
+pub fn retired(book: &[Entry], group: &Id) -> bool
+    ensures { result ≡ retired group.now book.now }
+{
+    book.iter().any(|entry| retires(entry, group))
+}
 
 fn is_act_of(entry: &Entry, actor: &Id) -> bool
     ensures { result ≡ is_act_of actor.now entry.now }
@@ -15,6 +62,7 @@ fn is_act_of(entry: &Entry, actor: &Id) -> bool
     match entry {
         Entry::Act { client, .. } => client == actor,
         Entry::Look { .. } => false,
+        Entry::Retire { .. } => false,
     }
 }
 
@@ -55,6 +103,7 @@ fn order_after(entry: &Entry, group: &Id, before: Num) -> Num
             order,
             ..
         } => { if other == group { *order } else { before } }
+        Entry::Retire { .. } => before,
     }
 }
 
@@ -93,6 +142,7 @@ fn client_in<'b>(book: &'b [Entry], group: &Id, entry: &'b Entry) -> Option<(&'b
             }
         }
         Entry::Look { .. } => None,
+        Entry::Retire { .. } => None,
     }
 }
 
@@ -160,6 +210,7 @@ fn rows_after(alloc: Global, rows: Vec<Row>, entry: &Entry) -> Result<Vec<Row>, 
     match entry {
         Entry::Act { user, call, .. } => rv_rows::plain::effect(alloc, rows, user, call),
         Entry::Look { .. } => Ok(rows),
+        Entry::Retire { .. } => Ok(rows),
     }
 }
 

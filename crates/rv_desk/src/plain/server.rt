@@ -1,13 +1,15 @@
 ghost use Rattle.std.specs.Prelude.{◌≡◌, ◌≤◌, ◌<◌, ◌+◌, ◌^◌, ◌∷◌, [], ◌++◌, map, length, IfOk, None, OnOk, OnErr};
 ghost use Rattle.rv_wire.specs.declared.op.Op.TheVariants.{Clear, Put};
-ghost use Rattle.rv_desk.specs.declared.entry.Entry.TheVariants.{Act, Look};
+ghost use Rattle.rv_book.specs.declared.entry.Entry.TheVariants.{Act, Look, Retire};
+ghost use Rattle.rv_desk.specs.Groups.{is_of_other, is_elsewhere};
 ghost use Rattle.rv_desk.specs.Patches.{patch};
 
-use crate::entry::Entry;
-use crate::plain::book::{ids, last, last_order, rows_of};
+use crate::entries;
+use crate::plain::book::{bound, group_of, ids, last, last_order, retired, rows_of};
 use crate::reply::{next_order, reply};
-use crate::turn::{PullAnswer, PullReply, Turn};
+use crate::turn::{PullAnswer, PullReply, RetireAnswer, Turn};
 use rv_base::{Id, Memory, Num, Sequence, User};
+use rv_book::Entry;
 use rv_rows::{Call, Row};
 use rv_wire::{Op, Ops, PullRequest, Which};
 use std::alloc::Global;
@@ -34,6 +36,24 @@ fn puts(alloc: Global, rows: &[Row]) -> Result<Ops, Memory>
     Ok(ops)
 }
 
+fn is_of_other(book: &[Entry], user: &User, group: &Id) -> bool
+    ensures { result ≡ is_of_other user.now group.now book.now }
+{
+    match bound(book, group) {
+        Some(owner) => owner != user,
+        None => false,
+    }
+}
+
+fn is_elsewhere(book: &[Entry], client: &Id, group: &Id) -> bool
+    ensures { result ≡ is_elsewhere client.now group.now book.now }
+{
+    match group_of(book, client) {
+        Some(other) => other != group,
+        None => false,
+    }
+}
+
 /// A server that has nothing but its book, and replays it at each pull.
 #[derive(Debug, Drop)]
 pub struct PlainDesk {
@@ -54,7 +74,7 @@ impl Model for PlainDesk {
 }
 
 impl PlainDesk {
-    ghost use Rattle.rv_desk.specs.Machine.{Mutates, Pulls, next_order, reply_to};
+    ghost use Rattle.rv_desk.specs.Machine.{Mutates, Pulls, Retires, next_order, reply_to};
 
     /// A server with the empty book, which takes at most so many entries.
     pub fn new(alloc: Global, limit: u32) -> PlainDesk
@@ -80,6 +100,15 @@ impl PlainDesk {
         ensures turn { Mutates self.old.limit (record { user = user.now; group = group.now }) (record { client = client.now; id = id; call = call }) self.old.book result self.new.book }
         ensures limit { self.new.limit ≡ self.old.limit }
     {
+        if is_of_other(&self.entries, user, group) {
+            return Turn::GroupOfOther;
+        }
+        if retired(&self.entries, group) {
+            return Turn::NotFound;
+        }
+        if is_elsewhere(&self.entries, client, group) {
+            return Turn::ClientOfOther;
+        }
         let last = last(&self.entries, client);
         if id.get() <= last {
             return Turn::Skipped(Num::from_u64(last));
@@ -112,7 +141,7 @@ impl PlainDesk {
         ensures err { OnErr result (self.new.book ≡ self.old.book) }
         ensures limit { self.new.limit ≡ self.old.limit }
     {
-        let entry = Entry::act(self.alloc, user, group, client, id, call)?;
+        let entry = entries::act(self.alloc, user, group, client, id, call)?;
         self.entries.push(entry)?;
         Ok(())
     }
@@ -122,6 +151,12 @@ impl PlainDesk {
         ensures answer { Pulls self.old.limit user.now request.now self.old.book result self.new.book }
         ensures limit { self.new.limit ≡ self.old.limit }
     {
+        if is_of_other(&self.entries, user, &request.group) {
+            return PullAnswer::GroupOfOther;
+        }
+        if retired(&self.entries, &request.group) {
+            return PullAnswer::NotFound;
+        }
         let order = next_order(&request.cookie, last_order(&self.entries, &request.group));
         if order > Num::MAX {
             return PullAnswer::Limit(Which::Order, Num::from_u64(Num::MAX));
@@ -147,8 +182,39 @@ impl PlainDesk {
         let ops = patch(self.alloc, &self.entries, user)?;
         let place = self.entries.len() as u32 + 1;
         let reply = reply(self.alloc, place, order, ids, ops)?;
-        let entry = Entry::look(self.alloc, user, &request.group, order)?;
+        let entry = entries::look(self.alloc, user, &request.group, order)?;
         self.entries.push(entry)?;
         Ok(reply)
+    }
+
+    /// One retirement.
+    pub fn retire(&mut self, group: &Id) -> RetireAnswer
+        ensures answer { Retires self.old.limit group.now self.old.book result self.new.book }
+        ensures limit { self.new.limit ≡ self.old.limit }
+    {
+        if bound(&self.entries, group).is_none() {
+            return RetireAnswer::NoGroup;
+        }
+        if retired(&self.entries, group) {
+            return RetireAnswer::NotFound;
+        }
+        if self.entries.len() >= self.limit as usize {
+            return RetireAnswer::Limit(Which::Book, Num::from_u64(u64::from(self.limit)));
+        }
+        match self.enter_retirement(group) {
+            Ok(()) => RetireAnswer::Retired(self.entries.len() as u32),
+            Err(Memory) => RetireAnswer::Memory,
+        }
+    }
+
+    fn enter_retirement(&mut self, group: &Id) -> Result<(), Memory>
+        requires { length self.old.book < self.old.limit }
+        ensures ok { OnOk result (self.new.book ≡ self.old.book ++ Retire group.now ∷ []) }
+        ensures err { OnErr result (self.new.book ≡ self.old.book) }
+        ensures limit { self.new.limit ≡ self.old.limit }
+    {
+        let entry = entries::retirement(self.alloc, group)?;
+        self.entries.push(entry)?;
+        Ok(())
     }
 }

@@ -1,8 +1,5 @@
-use Rattle.rv_cli.proofs.Mutations.{push_step, pull_step, push_refused, pull_refused}
+use Rattle.rv_cli.proofs.Mutations.{retire_step}
 use Rattle.rv_cli.proofs.answering.answer_asking.Goals as goal
 
-pub returns-in-Ok-clause-answer : goal.returns-in-Ok-clause-answer
-returns-in-Ok-clause-answer c = push_step _ _ _ _ _ _ _ _ c.in-Push.is (rw c.requires at c.in-Ok.ensures) c.answer_push.ensures.answer
-
-pub returns-in-Ok-pull_of_value-clause-answer : goal.returns-in-Ok-pull_of_value-clause-answer
-returns-in-Ok-pull_of_value-clause-answer c = pull_step _ _ _ _ _ _ _ _ c.in-Pull.is (rw c.requires at c.in-Ok-pull_of_value.ensures) c.answer_pull.ensures.answer
+pub returns-in-Retires-clause-answer : goal.returns-in-Retires-clause-answer
+returns-in-Retires-clause-answer c = rw c.in-Retires.is (retire_step _ _ _ _ _ c.answer_retirement.ensures.answer)

@@ -2,7 +2,7 @@ use Rattle.std.proofs.Common.{◌≡◌}
 use Rattle.std.specs.declared.option.Option.{Option}
 use Rattle.std.specs.Vec.Iter.{into_iter_items}
 use Rattle.rv_wire.specs.declared.error_body.ErrorBody.{ErrorBody}
-use Rattle.rv_desk.specs.Book.{Book}
+use Rattle.rv_book.specs.Book.{Book}
 use Rattle.rv_desk.specs.Machine.{Pushes}
 use Rattle.rv_cli.proofs.answering.run_mutations.Given as goal
 

@@ -1,4 +1,4 @@
-use Rattle.std.proofs.Common.{◌≡◌, append-nil, refl, sym, ◌∙◌}
+use Rattle.std.proofs.Common.{append-nil, refl, sym, ◌∙◌}
 use Rattle.rv_desk.proofs.Replies.{shows_more}
 use Rattle.rv_desk.proofs.desk.patch.Goals.{in-Some+in_ok-copy+in_ok-push-2, in_default}
 use Rattle.rv_desk.proofs.desk.patch.Goals as goal

@@ -1,4 +1,4 @@
-use Rattle.rv_desk.proofs.LawfulBooks.{pulls_keep}
+use Rattle.rv_desk.proofs.KeptLaws.{pulls_keep}
 use Rattle.rv_desk.proofs.laws.pulls_keep_law.Goals as goal
 
 pub returns : goal.returns

@@ -1,9 +1,9 @@
 use Rattle.std.proofs.Common.{refl}
-use Rattle.rv_wire.proofs.ErrorTexts.{future_text, limit_text, memory_text, not_json_text, field_error_text, version_error_text}
+use Rattle.rv_wire.proofs.ErrorTexts.{future_text, limit_text, memory_text, not_json_text, not_found_text, group_of_other_text, client_of_other_text, no_group_text, field_error_text, version_error_text}
 use Rattle.rv_wire.proofs.refusal.error_text.Goals as goal
 
 pub returns-in-VersionNotSupported-clause-text : goal.returns-in-VersionNotSupported-clause-text
-returns-in-VersionNotSupported-clause-text c = rw (c.put.ensures.text, c.put-at-in-VersionNotSupported.ensures.text, c.put-at.ensures.text, c.as_bytes.ensures.value, c.name.ensures.name, c.in-VersionNotSupported.is) (version_error_text _)
+returns-in-VersionNotSupported-clause-text c = rw (c.put-in-VersionNotSupported.ensures.text, c.put-at-in-VersionNotSupported.ensures.text, c.put-at.ensures.text, c.as_bytes.ensures.value, c.name.ensures.name, c.in-VersionNotSupported.is) (version_error_text _)
 
 pub returns-in-NotJson-clause-text : goal.returns-in-NotJson-clause-text
 returns-in-NotJson-clause-text c = rw (c.put-in-NotJson.ensures.text, c.in-NotJson.is, not_json_text) refl
@@ -19,3 +19,15 @@ returns-in-Limit-clause-text c = rw (c.put_which.ensures.text, c.put_number-at-i
 
 pub returns-in-Memory-clause-text : goal.returns-in-Memory-clause-text
 returns-in-Memory-clause-text c = rw (c.put-in-Memory.ensures.text, c.in-Memory.is, memory_text) refl
+
+pub returns-in-ClientStateNotFound-clause-text : goal.returns-in-ClientStateNotFound-clause-text
+returns-in-ClientStateNotFound-clause-text c = rw (c.put.ensures.text, c.in-ClientStateNotFound.is, not_found_text) refl
+
+pub returns-in-GroupOfOther-clause-text : goal.returns-in-GroupOfOther-clause-text
+returns-in-GroupOfOther-clause-text c = rw (c.put-in-GroupOfOther.ensures.text, c.in-GroupOfOther.is, group_of_other_text) refl
+
+pub returns-in-ClientOfOther-clause-text : goal.returns-in-ClientOfOther-clause-text
+returns-in-ClientOfOther-clause-text c = rw (c.put-in-ClientOfOther.ensures.text, c.in-ClientOfOther.is, client_of_other_text) refl
+
+pub returns-in-NoGroup-clause-text : goal.returns-in-NoGroup-clause-text
+returns-in-NoGroup-clause-text c = rw (c.put-in-NoGroup.ensures.text, c.in-NoGroup.is, no_group_text) refl

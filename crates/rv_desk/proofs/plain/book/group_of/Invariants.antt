@@ -1,5 +1,5 @@
 use Rattle.std.proofs.Common.{◌≡◌, drop}
-use Rattle.rv_desk.specs.Book.{group_of}
+use Rattle.rv_book.specs.Book.{group_of}
 use Rattle.rv_desk.proofs.plain.book.group_of.Given as goal
 
 abbrev pub invariant-loop-entry : goal.invariant-loop-entry

@@ -2,7 +2,7 @@ use Rattle.std.proofs.Common.{◌∙◌, sym, ap, ℕ, List}
 use Rattle.std.specs.Option.{option_map_or}
 use Rattle.rv_base.specs.Sorted.{put_by}
 use Rattle.rv_base.specs.Places.{sorted_more}
-use Rattle.rv_desk.specs.Book.{client_in}
+use Rattle.rv_book.specs.Book.{client_in}
 use Rattle.rv_desk.proofs.plain.book.ids.Goals as goal
 
 pub loop-entry-preserved : goal.loop-entry-preserved

@@ -1,7 +1,7 @@
 use Rattle.std.proofs.Common.{◌≡◌, ℕ, List, take}
 use Rattle.std.specs.List.{filter_map}
 use Rattle.rv_base.specs.Sorted.{sorted_by, InOrder}
-use Rattle.rv_desk.specs.Book.{client_in}
+use Rattle.rv_book.specs.Book.{client_in}
 use Rattle.rv_desk.proofs.plain.book.ids.Given as goal
 
 abbrev pub invariant-loop-entry : goal.invariant-loop-entry

@@ -1,5 +1,5 @@
 use Rattle.std.proofs.Common.{◌≡◌, take}
-use Rattle.rv_desk.specs.Book.{last_order}
+use Rattle.rv_book.specs.Book.{last_order}
 use Rattle.rv_desk.proofs.plain.book.last_order.Given as goal
 
 abbrev pub invariant-loop-entry : goal.invariant-loop-entry

@@ -1,0 +1,87 @@
+ghost use Rattle.std.specs.Prelude.{◌≡◌, IfOk, option_map};
+ghost use Rattle.rv_book.specs.Book.{entry_at};
+
+use rv_base::{Id, Memory, Num, User};
+use rv_rows::Call;
+use std::alloc::Global;
+
+/// An entry of the book. Its place is its number in the book, from 1.
+#[derive(Debug, Drop)]
+pub enum Entry {
+    /// A mutation was run.
+    Act {
+        /// Who sent it.
+        user: User,
+        /// The client group.
+        group: Id,
+        /// The client.
+        client: Id,
+        /// The mutation's id.
+        id: Num,
+        /// What it asked for.
+        call: Call,
+    },
+    /// A pull was answered.
+    Look {
+        /// Who sent it.
+        user: User,
+        /// The client group.
+        group: Id,
+        /// The order of the answered cookie.
+        order: Num,
+        /// The place of the look that the patch was made from.
+        base: Option<u32>,
+    },
+    /// A client group was retired.
+    Retire {
+        /// The client group.
+        group: Id,
+    },
+}
+
+impl Entry {
+    /// The same entry, in memory of its own.
+    pub fn copy(&self, alloc: Global) -> Result<Entry, Memory>
+        ensures { IfOk result (λ copy. copy ≡ self.now) }
+    {
+        match self {
+            Entry::Act {
+                user,
+                group,
+                client,
+                id,
+                call,
+            } => Ok(Entry::Act {
+                user: user.copy(alloc)?,
+                group: group.copy(alloc)?,
+                client: client.copy(alloc)?,
+                id: *id,
+                call: call.copy(alloc)?,
+            }),
+            Entry::Look {
+                user,
+                group,
+                order,
+                base,
+            } => Ok(Entry::Look {
+                user: user.copy(alloc)?,
+                group: group.copy(alloc)?,
+                order: *order,
+                base: *base,
+            }),
+            Entry::Retire { group } => Ok(Entry::Retire {
+                group: group.copy(alloc)?,
+            }),
+        }
+    }
+}
+
+// The entry at a place, from 1.
+pub(crate) fn entry_at(entries: &[Entry], place: u32) -> Option<&Entry>
+    ensures { option_map (λ entry. entry.now) result ≡ entry_at place entries.now }
+{
+    if place == 0 {
+        return None;
+    }
+    entries.get(place as usize - 1)
+}

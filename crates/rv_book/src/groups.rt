@@ -1,0 +1,153 @@
+ghost use Rattle.std.specs.Prelude.{◌≡◌, ◌≤◌, ◌<◌, ◌+◌, ◌-◌, ◌^◌, ◌++◌, ◌∷◌, [], length, count_by, option_map, option_and_then, slice_get, vec_len, vec_capacity};
+ghost use Rattle.rv_base.specs.Sorted.{Settles};
+ghost use Rattle.rv_book.specs.declared.entry.Entry.{Entry};
+ghost use Rattle.rv_book.specs.Book.{bound, last_order, retired};
+ghost use Rattle.rv_book.specs.Kept.{is_look_of};
+ghost use Rattle.rv_book.specs.Indexes.{AreGroupRows, binds, first_where, group_key, group_row, named_in, new_row, row_after, user_of};
+
+use crate::entry::Entry;
+use rv_base::{Id, Num, User};
+
+// Of a group that an entry names: the index of such an entry, the index of the first act or look of the group, the order of
+// its last look, the number of its looks, and whether it is retired.
+#[derive(Clone, Copy, Debug)]
+pub(crate) struct GroupRow {
+    named: u32,
+    bound: Option<u32>,
+    pub(crate) order: Num,
+    pub(crate) looks: u32,
+    pub(crate) retired: bool,
+}
+
+impl GroupRow {
+    // The row of a group before the first entry that names it.
+    fn new(index: u32) -> GroupRow
+        ensures { result ≡ new_row index }
+    {
+        GroupRow {
+            named: index,
+            bound: None,
+            order: Num::from_u64(0),
+            looks: 0,
+            retired: false,
+        }
+    }
+
+    // The row after one more entry of the group.
+    fn after(self, index: u32, entry: &Entry) -> GroupRow
+        requires { self.looks + 1 < 2 ^ 32 }
+        ensures { result ≡ row_after index entry.now self }
+    {
+        let bound = self.bound.or(Some(index));
+        match entry {
+            Entry::Act { .. } => GroupRow { bound, ..self },
+            Entry::Look { order, .. } => GroupRow {
+                bound,
+                order: *order,
+                looks: self.looks + 1,
+                ..self
+            },
+            Entry::Retire { .. } => GroupRow {
+                retired: true,
+                ..self
+            },
+        }
+    }
+}
+
+// The group that an entry names.
+fn named(entry: &Entry) -> &Id
+    ensures { result.now ≡ named_in entry.now }
+{
+    match entry {
+        Entry::Act { group, .. } => group,
+        Entry::Look { group, .. } => group,
+        Entry::Retire { group } => group,
+    }
+}
+
+// The group of a row, and an empty text where the row names no entry.
+#[tactic(auto, unfolding(crate::specs::Indexes::group_key))]
+fn key<'b>(entries: &'b [Entry], row: &GroupRow) -> &'b str
+    ensures { result.now ≡ group_key entries.now row.now }
+{
+    match entries.get(row.named as usize) {
+        Some(entry) => named(entry).as_str(),
+        None => "",
+    }
+}
+
+// Where the row of a group stands, or where it would go.
+fn place(entries: &[Entry], rows: &[GroupRow], group: &Id) -> Result<usize, usize>
+    requires { AreGroupRows entries.now rows.now }
+    ensures now { Settles (group_key entries.now) group.now rows.now result }
+    ensures next { (entry : Entry) → Settles (group_key (entries.now ++ entry ∷ [])) group.now rows.now result }
+{
+    rows.binary_search_by(|row| key(entries, row).cmp(group.as_str()))
+}
+
+// The row of a group, where an entry names it.
+fn find(entries: &[Entry], rows: &[GroupRow], group: &Id) -> Option<GroupRow>
+    requires { AreGroupRows entries.now rows.now }
+    ensures { result ≡ group_row entries.now group.now }
+{
+    match place(entries, rows, group) {
+        Ok(at) => Some(rows[at]),
+        Err(_) => None,
+    }
+}
+
+// The row of a group, and that of a group without an entry where none names it.
+pub(crate) fn row(entries: &[Entry], rows: &[GroupRow], group: &Id) -> GroupRow
+    requires { AreGroupRows entries.now rows.now }
+    ensures bound { result.bound ≡ first_where (binds group.now) entries.now }
+    ensures order { result.order ≡ last_order group.now entries.now }
+    ensures looks { result.looks ≡ count_by (is_look_of group.now) entries.now }
+    ensures retired { result.retired ≡ retired group.now entries.now }
+    ensures looks_bound { result.looks ≤ length entries.now }
+{
+    match find(entries, rows, group) {
+        Some(row) => row,
+        None => GroupRow::new(0),
+    }
+}
+
+// The user of the act or look at an index.
+fn user_at(entries: &[Entry], index: u32) -> Option<&User>
+    ensures { option_map (λ user. user.now) result ≡ option_and_then user_of (slice_get entries.now index) }
+{
+    match entries.get(index as usize)? {
+        Entry::Act { user, .. } => Some(user),
+        Entry::Look { user, .. } => Some(user),
+        Entry::Retire { .. } => None,
+    }
+}
+
+// The user whom a group is bound to.
+pub(crate) fn bound<'b>(entries: &'b [Entry], rows: &[GroupRow], group: &Id) -> Option<&'b User>
+    requires { AreGroupRows entries.now rows.now }
+    ensures { option_map (λ user. user.now) result ≡ bound group.now entries.now }
+{
+    match row(entries, rows, group).bound {
+        Some(index) => user_at(entries, index),
+        None => None,
+    }
+}
+
+// Enters an entry, which follows the others.
+pub(crate) fn enter(entries: &[Entry], rows: &mut Vec<GroupRow>, entry: &Entry)
+    requires rows { AreGroupRows entries.now rows.old.items }
+    requires room { 1 ≤ vec_capacity rows.old - vec_len rows.old }
+    requires length { length entries.now + 1 < 2 ^ 32 }
+    ensures rows { AreGroupRows (entries.now ++ entry.now ∷ []) rows.new.items }
+    ensures room { vec_capacity rows.old - vec_len rows.old ≤ (vec_capacity rows.new - vec_len rows.new) + 1 }
+{
+    let index = entries.len() as u32;
+    match place(entries, rows, named(entry)) {
+        Ok(at) => rows[at] = rows[at].after(index, entry),
+        Err(at) => match rows.insert(at, GroupRow::new(index).after(index, entry)) {
+            Ok(()) => {}
+            Err(_) => unreachable!(),
+        },
+    }
+}

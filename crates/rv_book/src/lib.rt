@@ -1,0 +1,20 @@
+//! The book: what was entered, entry by entry, and what is looked up in it.
+//!
+//! Contracts see the list of the entries and the most that there may be. The definitions of what is looked up are in
+//! `specs/`, on lists of entries. The indexes that answer without a walk of the book are in no contract.
+#![tactic(auto)]
+
+mod book;
+mod clients;
+mod entry;
+mod fault;
+mod groups;
+mod look;
+
+pub use book::Book;
+pub use entry::Entry;
+pub use fault::BookFault;
+pub use look::{KEPT_LOOKS, LookRef};
+
+#[cfg(test)]
+mod tests;

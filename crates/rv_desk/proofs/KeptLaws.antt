@@ -1,0 +1,80 @@
+-- Each step of the machine keeps a book lawful, and only adds to it.
+use Rattle.std.proofs.Common.{◌≡◌, ℕ, ◌+◌, ◌<◌, max, List, [], ◌∷◌, ◌++◌, Option, None, sym, ap, ◌∙◌, subst, arith, append_assoc, append-nil}
+use Rattle.rv_wire.specs.declared.error_body.ErrorBody.{ErrorBody}
+use Rattle.rv_wire.specs.declared.error_body.Which.TheVariants as which
+use Rattle.rv_wire.specs.declared.push.Mutation.{Mutation}
+use Rattle.rv_wire.specs.declared.pull.PullRequest.{PullRequest}
+use Rattle.rv_book.specs.declared.entry.Entry.{Entry}
+use Rattle.rv_book.specs.declared.entry.Entry.TheVariants.{Act, Look, Retire}
+use Rattle.rv_book.specs.Book.{Book, last_order}
+use Rattle.rv_desk.specs.declared.turn.Turn.{Turn}
+use Rattle.rv_desk.specs.declared.turn.Turn.TheVariants.{Acted, Skipped, Future, GroupOfOther, ClientOfOther, NotFound, Limit, Memory}
+use Rattle.rv_desk.specs.declared.turn.PullAnswer.{PullAnswer}
+use Rattle.rv_desk.specs.declared.turn.PullAnswer.TheVariants as pulls
+use Rattle.rv_desk.specs.declared.turn.RetireAnswer.{RetireAnswer}
+use Rattle.rv_desk.specs.declared.turn.RetireAnswer.TheVariants as retires
+use Rattle.rv_desk.specs.Lawful.{IsLawfulAfter, IsLawful}
+use Rattle.rv_desk.specs.Machine.{Sender, Mutates, Pulls, Retires, Pushes, cookie_order, next_order}
+use Rattle.rv_desk.proofs.LawfulBooks.{lawful_more}
+
+-- a step keeps the law, and only adds
+abbrev Kept : Book → Book → Type 0
+Kept book new = IsLawful new × ((more : Book) × (new ≡ book ++ more))
+
+kept_same : (book new : Book) → new ≡ book → IsLawful book → Kept book new
+kept_same book new same lawful = (subst (λ (b : Book). IsLawful b) (sym same) lawful, ([], same ∙ sym (append-nil book)))
+
+kept_more : (book new : Book) (e : Entry) → new ≡ book ++ e ∷ [] → IsLawfulAfter book e → IsLawful book → Kept book new
+kept_more book new e is next lawful = (subst (λ (b : Book). IsLawful b) (sym is) (lawful_more book e lawful next), (e ∷ [], is))
+
+kept_on : (book mid new : Book) → Kept book mid → Kept mid new → Kept book new
+kept_on book mid new (_, (some, p)) (lawful, (more, q)) = (lawful, (some ++ more, q ∙ ap (λ (b : Book). b ++ more) p ∙ append_assoc book some more))
+
+mutates_keep : (limit : ℕ) (from : Sender) (m : Mutation) (book new : Book) (turn : Turn) → Mutates limit from m book turn new → IsLawful book → Kept book new
+mutates_keep limit from m book new (Acted place) (takes, next, room, at, is) lawful =
+    kept_more book new (Act from.user from.group m.client m.id m.call) is (takes.admits, takes.here, next) lawful
+mutates_keep limit from m book new (Skipped number) (takes, le, is, same) lawful = kept_same book new same lawful
+mutates_keep limit from m book new (Future expected got) (takes, lt, is, was, same) lawful = kept_same book new same lawful
+mutates_keep limit from m book new GroupOfOther (other, same) lawful = kept_same book new same lawful
+mutates_keep limit from m book new ClientOfOther (admits, other, same) lawful = kept_same book new same lawful
+mutates_keep limit from m book new NotFound (own, gone, same) lawful = kept_same book new same lawful
+mutates_keep limit from m book new (Limit what at) (takes, next, full, is, was, same) lawful = kept_same book new same lawful
+mutates_keep limit from m book new Memory (takes, next, room, same) lawful = kept_same book new same lawful
+
+pub pushes_keep : (limit : ℕ) (from : Sender) (mutations : List Mutation) (book new : Book) (answer : Option ErrorBody) → Pushes limit from mutations book answer new → IsLawful book → IsLawful new × ((more : Book) × (new ≡ book ++ more))
+pushes_keep limit from [] book new answer (is, same) lawful = kept_same book new same lawful
+pushes_keep limit from (m ∷ ms) book new answer (Acted place, mid, step, rest) lawful =
+    let kept = mutates_keep limit from m book mid (Acted place) step lawful in kept_on book mid new kept (pushes_keep limit from ms mid new answer rest kept.0)
+pushes_keep limit from (m ∷ ms) book new answer (Skipped number, mid, step, rest) lawful =
+    let kept = mutates_keep limit from m book mid (Skipped number) step lawful in kept_on book mid new kept (pushes_keep limit from ms mid new answer rest kept.0)
+pushes_keep limit from (m ∷ ms) book new answer (Future expected got, mid, step, (is, same)) lawful =
+    let kept = mutates_keep limit from m book mid (Future expected got) step lawful in kept_on book mid new kept (kept_same mid new same kept.0)
+pushes_keep limit from (m ∷ ms) book new answer (GroupOfOther, mid, step, (is, same)) lawful =
+    let kept = mutates_keep limit from m book mid GroupOfOther step lawful in kept_on book mid new kept (kept_same mid new same kept.0)
+pushes_keep limit from (m ∷ ms) book new answer (ClientOfOther, mid, step, (is, same)) lawful =
+    let kept = mutates_keep limit from m book mid ClientOfOther step lawful in kept_on book mid new kept (kept_same mid new same kept.0)
+pushes_keep limit from (m ∷ ms) book new answer (NotFound, mid, step, (is, same)) lawful =
+    let kept = mutates_keep limit from m book mid NotFound step lawful in kept_on book mid new kept (kept_same mid new same kept.0)
+pushes_keep limit from (m ∷ ms) book new answer (Limit what at, mid, step, (is, same)) lawful =
+    let kept = mutates_keep limit from m book mid (Limit what at) step lawful in kept_on book mid new kept (kept_same mid new same kept.0)
+pushes_keep limit from (m ∷ ms) book new answer (Memory, mid, step, (is, same)) lawful =
+    let kept = mutates_keep limit from m book mid Memory step lawful in kept_on book mid new kept (kept_same mid new same kept.0)
+
+above_last : (a b : ℕ) → b < max a b + 1
+above_last a b = omega arith
+
+pub pulls_keep : (limit : ℕ) (user : List ℕ) (request : PullRequest) (book new : Book) (answer : PullAnswer) → Pulls limit user request book answer new → IsLawful book → IsLawful new × ((more : Book) × (new ≡ book ++ more))
+pulls_keep limit user request book new (pulls.Pulled reply) (admits, fits, room, is, same) lawful =
+    kept_more book new (Look user request.group (next_order request book) None) same (admits, above_last (cookie_order request.cookie) (last_order request.group book), fits, tt) lawful
+pulls_keep limit user request book new pulls.GroupOfOther (other, same) lawful = kept_same book new same lawful
+pulls_keep limit user request book new pulls.NotFound (own, gone, same) lawful = kept_same book new same lawful
+pulls_keep limit user request book new (pulls.Limit which.Order at) (admits, big, is, same) lawful = kept_same book new same lawful
+pulls_keep limit user request book new (pulls.Limit which.Book at) (admits, fits, full, is, same) lawful = kept_same book new same lawful
+pulls_keep limit user request book new pulls.Memory (admits, fits, room, same) lawful = kept_same book new same lawful
+
+pub retires_keep : (limit : ℕ) (group : List ℕ) (book new : Book) (answer : RetireAnswer) → Retires limit group book answer new → IsLawful book → IsLawful new × ((more : Book) × (new ≡ book ++ more))
+retires_keep limit group book new (retires.Retired place) (some, stands, room, at, is) lawful = kept_more book new (Retire group) is (some, stands) lawful
+retires_keep limit group book new retires.NoGroup (none, same) lawful = kept_same book new same lawful
+retires_keep limit group book new retires.NotFound (some, gone, same) lawful = kept_same book new same lawful
+retires_keep limit group book new (retires.Limit what at) (some, stands, full, is, was, same) lawful = kept_same book new same lawful
+retires_keep limit group book new retires.Memory (some, stands, room, same) lawful = kept_same book new same lawful

@@ -1,0 +1,6 @@
+pub mod Tables
+pub mod Parses
+pub mod Leaves
+pub mod Verbs
+pub mod Lines
+pub mod Asked

@@ -1,0 +1,40 @@
+-- What follows of what the words ask for.
+use Rattle.std.specs.Prelude.{◌≡◌, ◌≢◌, ◌==◌, Bool, true, false, ℕ, List, [], ◌∷◌, Some, None, codes}
+use Rattle.rv_words.specs.Words.{command_in, is_id}
+use Rattle.rv_words.specs.Plain.{plainly_in}
+use Rattle.rv_words.specs.declared.command.Command.TheVariants.{Feed, Retire}
+
+-- a first `-` (45)
+abbrev pub begins_with_hyphen : List ℕ → Bool
+begins_with_hyphen [] = false
+begins_with_hyphen (byte ∷ rest) = byte == 45
+
+abbrev pub LinesArePlain : Type 0
+LinesArePlain = (words : List (List ℕ)) → command_in words ≡ plainly_in words
+
+abbrev pub FeedIsAsked : Type 0
+FeedIsAsked = (name : List ℕ) → command_in (name ∷ codes "feed" ∷ codes "memory" ∷ []) ≡ Some Feed
+
+abbrev pub RetireIsAsked : Type 0
+RetireIsAsked = (name group : List ℕ) → is_id group ≡ true → begins_with_hyphen group ≡ false
+    → command_in (name ∷ codes "retire" ∷ codes "memory" ∷ group ∷ []) ≡ Some (Retire group)
+
+abbrev pub EachGroupIsAsked : Type 0
+EachGroupIsAsked = (name group : List ℕ) → is_id group ≡ true
+    → command_in (name ∷ codes "retire" ∷ codes "memory" ∷ codes "--" ∷ group ∷ []) ≡ Some (Retire group)
+
+abbrev pub GroupsAreIds : Type 0
+GroupsAreIds = (words : List (List ℕ)) (group : List ℕ) → command_in words ≡ Some (Retire group) → is_id group ≡ true
+
+-- lines that end too early
+pub record AskForNothing : Type 0 where
+  pub no_words : command_in [] ≡ None
+  pub no_command : (name : List ℕ) → command_in (name ∷ []) ≡ None
+  pub feed_alone : (name : List ℕ) → command_in (name ∷ codes "feed" ∷ []) ≡ None
+  pub retire_alone : (name : List ℕ) → command_in (name ∷ codes "retire" ∷ []) ≡ None
+  pub no_group : (name store : List ℕ) → command_in (name ∷ codes "retire" ∷ store ∷ []) ≡ None
+
+-- no command goes by any other name: not by `help`, `--help`, `-h`, `--version` or `--` either
+abbrev pub OthersAskForNothing : Type 0
+OthersAskForNothing = (name verb : List ℕ) (words : List (List ℕ)) → verb ≢ codes "feed" → verb ≢ codes "retire"
+    → command_in (name ∷ verb ∷ words) ≡ None

@@ -1,0 +1,39 @@
+-- What the words ask for, said without clap.
+use Rattle.std.specs.Prelude.{ℕ, ◌==◌, ◌&&◌, List, [], ◌∷◌, Option, Some, None, Bool, false, codes, is_some, slice_get, if◌then◌else◌, option_and_then, option_map}
+use Rattle.std.specs.Str.{bytes_eq, chars}
+use Rattle.rv_words.specs.Words.{is_store, retire_group_in}
+use Rattle.rv_words.specs.declared.command.Command.{Command}
+use Rattle.rv_words.specs.declared.command.Command.TheVariants.{Feed}
+
+-- a `-` (45) with a character after it
+abbrev pub is_flag : List ℕ → Bool
+is_flag [] = false
+is_flag (byte ∷ rest) = byte == 45 && is_some (slice_get (chars rest) 0)
+
+-- The values among the words after a command's name. The first `--` is none, and what follows it are values whatever
+-- they look like. Before it no word may be a flag.
+abbrev pub values_in : List (List ℕ) → Option (List (List ℕ))
+values_in [] = Some []
+values_in (word ∷ words) =
+    if bytes_eq word (codes "--") then Some words
+    else if is_flag word then None
+    else option_map (λ values. word ∷ values) (values_in words)
+
+abbrev pub feed_with : List (List ℕ) → Option Command
+feed_with (store ∷ []) = if is_store store then Some Feed else None
+feed_with other = None
+
+abbrev pub retire_with : List (List ℕ) → Option Command
+retire_with (store ∷ group ∷ []) = if is_store store then retire_group_in group else None
+retire_with other = None
+
+abbrev pub asked_with : List ℕ → List (List ℕ) → Option Command
+asked_with verb values =
+    if bytes_eq verb (codes "feed") then feed_with values
+    else if bytes_eq verb (codes "retire") then retire_with values
+    else None
+
+-- the program's name, the command's, and its values
+abbrev pub plainly_in : List (List ℕ) → Option Command
+plainly_in (name ∷ verb ∷ words) = option_and_then (asked_with verb) (values_in words)
+plainly_in other = None

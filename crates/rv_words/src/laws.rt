@@ -1,0 +1,46 @@
+//! What follows of what the words ask for, as contracts of functions that do nothing: a check of the crate proves them.
+ghost use Rattle.rv_words.specs.Laws.{
+  AskForNothing,
+  EachGroupIsAsked,
+  FeedIsAsked,
+  GroupsAreIds,
+  LinesArePlain,
+  OthersAskForNothing,
+  RetireIsAsked,
+};
+
+/// What `clap` makes of any words is what they ask for said without `clap`: the program's name, the command's, and its
+/// values, among which a first `--` is none and no other word before it begins with `-` and goes on.
+pub fn lines_are_plain()
+    ensures { LinesArePlain }
+{}
+
+/// The words `feed memory` after any name of the program ask for a feed.
+pub fn feed_is_asked()
+    ensures { FeedIsAsked }
+{}
+
+/// The words `retire memory GROUP` ask for that, for each `Id` that doesn't begin with `-`.
+pub fn retire_is_asked()
+    ensures { RetireIsAsked }
+{}
+
+/// After `--` any `Id` is taken.
+pub fn each_group_is_asked()
+    ensures { EachGroupIsAsked }
+{}
+
+/// A group that is to be retired is named by an `Id`.
+pub fn groups_are_ids()
+    ensures { GroupsAreIds }
+{}
+
+/// Lines that end too early ask for nothing.
+pub fn short_lines_ask_for_nothing()
+    ensures { AskForNothing }
+{}
+
+/// Lines that name another command ask for nothing.
+pub fn others_ask_for_nothing()
+    ensures { OthersAskForNothing }
+{}

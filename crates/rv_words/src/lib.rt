@@ -1,0 +1,16 @@
+//! What the words of a command line ask for.
+//!
+//! The words are read by `clap`, whose contracts say exactly what a simple command takes: the table of the commands
+//! stands in `specs/` as a value of `clap`'s own, and [`command_of`] gives what the words ask for by that table.
+#![tactic(auto)]
+
+mod command;
+pub mod laws;
+mod reading;
+mod table;
+
+pub use command::Command;
+pub use reading::command_of;
+
+#[cfg(test)]
+mod tests;

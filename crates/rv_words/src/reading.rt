@@ -1,0 +1,114 @@
+// The words of a command line are read by the table.
+ghost use Rattle.std.specs.Prelude.{◌≡◌, IfOk, map, option_and_then, option_map, string_bytes};
+ghost use Rattle.clap.specs.Words.{first_of, found_of, rows_of, subcommand_rows_of};
+ghost use Rattle.rv_words.specs.Words.{command_in, feed_in, named_in, retire_in, retire_group_in, is_store, Parses};
+
+use crate::command::Command;
+use crate::table::rv;
+use clap::ArgMatches;
+use clap::error::ErrorKind;
+use rv_base::{Id, Memory, TextRefusal};
+use std::alloc::Global;
+
+// What `clap` finds in the words, where it takes them.
+fn matches_of<'a>(alloc: Global, words: &'a [String]) -> Result<Option<ArgMatches<'a>>, Memory>
+    ensures { IfOk result (Parses (map string_bytes words.now)) }
+{
+    match rv(alloc)?.try_get_matches_from(words) {
+        Ok(matches) => Ok(Some(matches)),
+        Err(error) => match error.kind() {
+            ErrorKind::OutOfMemory => Err(Memory),
+            _ => Ok(None),
+        },
+    }
+}
+
+// The value of this name, if it was given.
+fn value<'a>(matches: &ArgMatches<'a>, name: &str) -> Option<&'a str>
+    ensures { option_map (λ text. text.now) result ≡ first_of name.now (rows_of (found_of matches.now)) }
+{
+    matches.get_str(name)
+}
+
+// The text is the name of a store.
+fn is_store(text: &str) -> bool
+    ensures { result ≡ is_store text.now }
+{
+    text == "memory"
+}
+
+fn feed(matches: &ArgMatches<'_>) -> Option<Command>
+    ensures { result ≡ feed_in (rows_of (found_of matches.now)) }
+{
+    if is_store(value(matches, "STORE")?) {
+        Some(Command::Feed)
+    } else {
+        None
+    }
+}
+
+// A group of this name is retired.
+fn retire_group(alloc: Global, group: &str) -> Result<Option<Command>, Memory>
+    ensures { IfOk result (λ command. command ≡ retire_group_in group.now) }
+{
+    match Id::new(alloc, group) {
+        Ok(group) => Ok(Some(Command::Retire { group })),
+        Err(TextRefusal::TooShort) => Ok(None),
+        Err(TextRefusal::TooLong(_)) => Ok(None),
+        Err(TextRefusal::Memory) => Err(Memory),
+    }
+}
+
+fn retire(alloc: Global, matches: &ArgMatches<'_>) -> Result<Option<Command>, Memory>
+    ensures { IfOk result (λ command. command ≡ retire_in (rows_of (found_of matches.now))) }
+{
+    let Some(store) = value(matches, "STORE") else {
+        return Ok(None);
+    };
+    let Some(group) = value(matches, "GROUP") else {
+        return Ok(None);
+    };
+    if !is_store(store) {
+        return Ok(None);
+    }
+    retire_group(alloc, group)
+}
+
+// What the command of this name asks for, with what was found for it.
+fn named(alloc: Global, name: &str, matches: &ArgMatches<'_>) -> Result<Option<Command>, Memory>
+    ensures { IfOk result (λ command. command ≡ named_in (name.now, rows_of (found_of matches.now))) }
+{
+    match name {
+        "feed" => Ok(feed(matches)),
+        "retire" => retire(alloc, matches),
+        _ => Ok(None),
+    }
+}
+
+// The command that was named, and what was found for it.
+fn entered<'a, 'm>(matches: &'m ArgMatches<'a>) -> Option<(&'a str, &'m ArgMatches<'a>)>
+    ensures { option_map (λ p. (p.0.now, rows_of (found_of p.1.now))) result ≡ subcommand_rows_of matches.now }
+{
+    matches.subcommand()
+}
+
+// What was found asks for.
+fn found(alloc: Global, matches: &ArgMatches<'_>) -> Result<Option<Command>, Memory>
+    ensures { IfOk result (λ command. command ≡ option_and_then named_in (subcommand_rows_of matches.now)) }
+{
+    match entered(matches) {
+        Some((name, inner)) => named(alloc, name, inner),
+        None => Ok(None),
+    }
+}
+
+/// What the words ask for: nothing, where they are no line of the command set.
+#[tactic(auto, unfolding(crate::specs::Words::command_in))]
+pub fn command_of(alloc: Global, words: &[String]) -> Result<Option<Command>, Memory>
+    ensures { IfOk result (λ command. command ≡ command_in (map string_bytes words.now)) }
+{
+    match matches_of(alloc, words)? {
+        Some(matches) => found(alloc, &matches),
+        None => Ok(None),
+    }
+}

@@ -1,0 +1,56 @@
+// The commands that there are, as `clap` is told of them.
+ghost use Rattle.std.specs.Prelude.{◌≡◌, IfOk, false};
+ghost use Rattle.clap.specs.Words.{app_of, with_rule};
+ghost use Rattle.clap.specs.declared.builder.command.Command.TheViews.{out-Command};
+ghost use Rattle.rv_words.specs.Table.{bare_app, feed_app, required_value, retire_app, rv_app};
+
+use clap::{Arg, Command};
+use std::alloc::{AllocError, Global};
+
+// The command with one more word, which must be given.
+fn with_required<'a>(
+    alloc: Global,
+    command: Command<'a>,
+    name: &'a str,
+) -> Result<Command<'a>, AllocError>
+    ensures app { IfOk result (λ r. app_of r ≡ with_rule (app_of command.entry) (required_value name.entry.now)) }
+    ensures local { IfOk result (λ r. (out-Command command.entry).has_globals ≡ false → (out-Command r).has_globals ≡ false) }
+{
+    command.arg(Arg::new(alloc, name).required(true))
+}
+
+fn feed<'a>(alloc: Global) -> Result<Command<'a>, AllocError>
+    ensures app { IfOk result (λ r. app_of r ≡ feed_app) }
+    ensures local { IfOk result (λ r. (out-Command r).has_globals ≡ false) }
+{
+    with_required(alloc, Command::new(alloc, "feed"), "STORE")
+}
+
+fn retire<'a>(alloc: Global) -> Result<Command<'a>, AllocError>
+    ensures app { IfOk result (λ r. app_of r ≡ retire_app) }
+    ensures local { IfOk result (λ r. (out-Command r).has_globals ≡ false) }
+{
+    let command = with_required(alloc, Command::new(alloc, "retire"), "STORE")?;
+    with_required(alloc, command, "GROUP")
+}
+
+// No command yet, and no call for help.
+fn bare<'a>(alloc: Global) -> Command<'a>
+    ensures app { app_of result ≡ bare_app }
+    ensures local { (out-Command result).has_globals ≡ false }
+{
+    Command::new(alloc, "rv")
+        .subcommand_required(true)
+        .disable_help_flag(true)
+        .disable_help_subcommand(true)
+        .disable_version_flag(true)
+}
+
+/// All commands.
+pub fn rv<'a>(alloc: Global) -> Result<Command<'a>, AllocError>
+    ensures { IfOk result (λ r. app_of r ≡ rv_app) }
+{
+    bare(alloc)
+        .subcommand(feed(alloc)?)?
+        .subcommand(retire(alloc)?)
+}
