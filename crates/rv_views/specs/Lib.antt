@@ -1,0 +1,4 @@
+pub mod Viewed
+pub mod Difference
+pub mod DifferenceLaws
+pub mod Walks
