@@ -1,3 +1,4 @@
+mod books;
 mod worked;
 
 use self::worked::script;
