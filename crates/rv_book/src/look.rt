@@ -8,7 +8,7 @@ use crate::groups::GroupRow;
 use rv_base::{Id, Num, User};
 
 /// A look is kept where fewer than so many later looks of its group stand in the book, and its group is not retired.
-pub const KEPT_LOOKS: u32 = 0;
+pub const KEPT_LOOKS: u32 = 16;
 
 /// A look of the book: who pulled, for which client group, and the order of the answered cookie.
 #[derive(Clone, Copy, Debug)]

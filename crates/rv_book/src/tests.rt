@@ -186,12 +186,31 @@ fn looks_up_places(rt: HostRuntime) -> Result<(), Fail> {
     let kept = [
         (0, false),
         (1, false),
-        (2, 1 < KEPT_LOOKS),
+        (2, true),
         (6, false),
-        (7, 0 < KEPT_LOOKS),
+        (7, true),
         (13, false),
     ];
     for (place, kept) in kept {
+        assert_eq!(rt; book.kept(place), kept, "at {place}");
+    }
+    Ok(())
+}
+
+// A book with a look of a group, and then so many looks of another.
+fn looks(alloc: Global, count: u32) -> Result<Book, Fail> {
+    let mut book = book_of(alloc, 100, "look bob g2 1")?;
+    for _ in 0..count {
+        enter(alloc, &mut book, "look ann g1 1")?;
+    }
+    Ok(book)
+}
+
+#[test]
+fn keeps_the_last_looks_of_each_group(rt: HostRuntime) -> Result<(), Fail> {
+    let alloc = rt.alloc();
+    let book = looks(alloc, 17)?;
+    for (place, kept) in [(1, true), (2, false), (3, true), (18, true), (19, false)] {
         assert_eq!(rt; book.kept(place), kept, "at {place}");
     }
     Ok(())

@@ -80,25 +80,30 @@ books_are_lawful pushes pulled retired ids orders limit askeds answers book run 
     let lawful : IsLawful book = (run_keeps pushes pulled retired limit [] askeds answers book run lawful_none).0 in
     (lawful, λ client. ids book client lawful, λ group. orders book group lawful)
 
-shown_at : PullsShow → (limit : ℕ) (point new : Book) (asked : Asked) (reply : PullReply) → Step limit point asked (Pulled reply) new → ShowsAt asked reply point
+shown_at : PullsShow → (limit : ℕ) (point new : Book) (asked : Asked) (reply : PullReply) → Step limit point asked (Pulled reply) new → ShowsAt asked reply point new
 shown_at show limit point new asked reply (inl refused) = absurd (let no = refused.0 in cc)
 shown_at show limit point new asked reply (inr (inl (fault, is, told, same))) = absurd (let no = told in cc)
 shown_at show limit point new asked reply (inr (inr (Push user push, is, h))) = absurd h
 shown_at show limit point new asked reply (inr (inr (Retire group, is, h))) = absurd h
-shown_at show limit point new asked reply (inr (inr (Pull user pull, is, h))) = record { user = user; request = pull; asks = is; is = h.3; shows = λ view. (show limit user pull point new reply view h).0 }
+shown_at show limit point new asked reply (inr (inr (Pull user pull, is, h))) = record { user = user; request = pull; asks = is; tells = show limit user pull point new reply h }
+
+-- of a pull that is answered after these: its point, the step there, the book that it leaves, and the books going on
+abbrev Shown : ℕ → Book → List Asked → List Answer → Asked → PullReply → Book → Type 0
+Shown limit first before answered asked reply book =
+    (point : Book) × (new : Book) × Run limit first before answered point × Step limit point asked (Pulled reply) new × ShowsAt asked reply point new × ((more : Book) × (new ≡ point ++ more)) × ((more : Book) × (book ≡ new ++ more))
 
 shown_from : PushesKeepLaw → PullsKeepLaw → RetirementsKeepLaw → PullsShow → (limit : ℕ) (first : Book) (before after : List Asked) (answered answers : List Answer) (asked : Asked) (reply : PullReply) (book : Book) → length before ≡ length answered → IsLawful first
-    → Run limit first (before ++ asked ∷ after) (answered ++ Pulled reply ∷ answers) book → (point : Book) × Run limit first before answered point × ShowsAt asked reply point × ((more : Book) × (book ≡ point ++ more))
+    → Run limit first (before ++ asked ∷ after) (answered ++ Pulled reply ∷ answers) book → Shown limit first before answered asked reply book
 shown_from pushes pulled retired show limit first [] after [] answers asked reply book same lawful (mid, step, rest) =
     let kept = step_keeps pushes pulled retired limit first mid asked (Pulled reply) step lawful in
-    (first, refl, shown_at show limit first mid asked reply step, (kept_on first mid book kept (run_keeps pushes pulled retired limit mid after answers book rest kept.0)).1)
+    (first, mid, refl, step, shown_at show limit first mid asked reply step, kept.1, (run_keeps pushes pulled retired limit mid after answers book rest kept.0).1)
 shown_from pushes pulled retired show limit first [] after (x ∷ answered) answers asked reply book same lawful run = absurd (omega (arith, same))
 shown_from pushes pulled retired show limit first (a ∷ before) after [] answers asked reply book same lawful run = absurd (omega (arith, same))
 shown_from pushes pulled retired show limit first (a ∷ before) after (x ∷ answered) answers asked reply book same lawful (mid, step, rest) =
     let kept = step_keeps pushes pulled retired limit first mid a x step lawful in
-    let (point, run, shows, more) = shown_from pushes pulled retired show limit mid before after answered answers asked reply book (omega (arith, same)) kept.0 rest in
-    (point, (mid, step, run), shows, more)
+    let (point, new, run, own, shows, here, more) = shown_from pushes pulled retired show limit mid before after answered answers asked reply book (omega (arith, same)) kept.0 rest in
+    (point, new, (mid, step, run), own, shows, here, more)
 
 pub pulls_are_shown : PushesKeepLaw → PullsKeepLaw → RetirementsKeepLaw → PullsShow → (limit : ℕ) (before after : List Asked) (answered answers : List Answer) (asked : Asked) (reply : PullReply) (book : Book) → length before ≡ length answered
-    → Run limit [] (before ++ asked ∷ after) (answered ++ Pulled reply ∷ answers) book → (point : Book) × Run limit [] before answered point × ShowsAt asked reply point × ((more : Book) × (book ≡ point ++ more))
+    → Run limit [] (before ++ asked ∷ after) (answered ++ Pulled reply ∷ answers) book → Shown limit [] before answered asked reply book
 pulls_are_shown pushes pulled retired show limit before after answered answers asked reply book same run = shown_from pushes pulled retired show limit [] before after answered answers asked reply book same lawful_none run

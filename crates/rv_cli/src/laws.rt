@@ -14,8 +14,8 @@ pub fn books_are_lawful()
     rv_desk::laws::orders_rise();
 }
 
-/// The patch of each pull that a run answers, applied to any view, gives exactly what the user sees at that point of the
-/// book.
+/// The patch of each pull that a run answers, applied to the view that its cookie names, gives exactly what the user sees at
+/// that point of the book; without a base it begins with a clear, and the view may be any.
 pub fn pulls_are_shown()
     ensures { PullsAreShown }
 {

@@ -1,7 +1,7 @@
 mod books;
 mod worked;
 
-use self::worked::script;
+use self::worked::{SCRIPTS, script, status_of, with_repeats};
 use super::*;
 use rv_base::{MemorySink, MemorySource};
 use std::alloc::Global;
@@ -20,19 +20,12 @@ fn piece(letter: u8) -> &'static [u8] {
         b'l' => b"{\"user\":\"ann\",\"push\":[]}\n",
         b'm' => b"{\"user\":\"ann\",\"push\":{\"pushVersion\":2}}\n",
         b'v' => void_push(),
-        b'7' => bare_pull(),
-        b'9' => greatest_pull(),
-        b'w' => text_pull(),
         b'f' => b"{\"user\":\"ann\",\"pull\":1e999}\n",
         b's' => b"{\"stop\":true}\n",
         b'x' => b"\xff\n",
         b'D' => b"200 {}\n",
         b'R' => first_pulled(),
         b'W' => voids_pulled(),
-        b'T' => second_pulled(),
-        b'U' => third_pulled(),
-        b'O' => b"507 {\"at\":9007199254740991,\"error\":\"Limit\",\"which\":\"order\"}\n",
-        b'C' => b"400 {\"error\":\"Field\",\"field\":\"cookie\"}\n",
         b'B' => b"400 {\"error\":\"Field\",\"field\":\"pullVersion\"}\n",
         b'J' => b"400 {\"error\":\"NotJson\"}\n",
         b'V' => b"200 {\"error\":\"VersionNotSupported\",\"versionType\":\"push\"}\n",
@@ -60,33 +53,8 @@ fn null_pull() -> &'static [u8] {
 "#
 }
 
-fn bare_pull() -> &'static [u8] {
-    br#"{"user":"ann","pull":{"pullVersion":1,"clientGroupID":"g1","profileID":"p","schemaVersion":"","cookie":7}}
-"#
-}
-
-fn greatest_pull() -> &'static [u8] {
-    br#"{"user":"ann","pull":{"pullVersion":1,"clientGroupID":"g1","profileID":"p","schemaVersion":"","cookie":{"cvrID":"2","order":9007199254740991}}}
-"#
-}
-
-fn text_pull() -> &'static [u8] {
-    br#"{"user":"ann","pull":{"pullVersion":1,"clientGroupID":"g1","profileID":"p","schemaVersion":"","cookie":"x"}}
-"#
-}
-
 fn void_push() -> &'static [u8] {
     br#"{"user":"ann","push":{"pushVersion":1,"clientGroupID":"g1","profileID":"p","schemaVersion":"","mutations":[{"clientID":"c1","id":1,"name":"paint","args":null,"timestamp":0.5},{"clientID":"c1","id":2,"name":"updateTodo","args":{"id":"t1","sort":1.5},"timestamp":0.5}]}}
-"#
-}
-
-fn second_pulled() -> &'static [u8] {
-    br#"200 {"cookie":{"cvrID":"3","order":2},"lastMutationIDChanges":{"c1":1},"patch":[{"op":"clear"},{"key":"list/l1","op":"put","value":{"id":"l1","name":"Home","ownerID":"ann"}}]}
-"#
-}
-
-fn third_pulled() -> &'static [u8] {
-    br#"200 {"cookie":{"cvrID":"4","order":8},"lastMutationIDChanges":{"c1":1},"patch":[{"op":"clear"},{"key":"list/l1","op":"put","value":{"id":"l1","name":"Home","ownerID":"ann"}}]}
 "#
 }
 
@@ -144,7 +112,7 @@ fn feeds(alloc: Global, input: &str, going: Going, status: u8, output: &str) -> 
 }
 
 // An input, the status, and the output.
-fn scripts() -> [(&'static str, u8, &'static str); 18] {
+fn scripts() -> [(&'static str, u8, &'static str); 17] {
     [
         ("", 0, ""),
         ("PQ", 0, "DR"),
@@ -156,7 +124,6 @@ fn scripts() -> [(&'static str, u8, &'static str); 18] {
         ("PeQ", 10, "Dj"),
         ("Pn", 10, "Dj"),
         ("Pu", 10, "Dj"),
-        ("PQQ79w", 0, "DRTUOC"),
         ("PbQ", 0, "DBR"),
         ("PlQ", 0, "DJR"),
         ("PmQ", 0, "DVR"),
@@ -183,24 +150,67 @@ fn answers_lines(rt: HostRuntime) -> Result<(), Fail> {
     Ok(())
 }
 
-// Runs `feed memory` over a script, and answers whether it is answered exactly so, with status 0.
+// Whether `feed memory` over these bytes ends so and writes exactly these.
+fn answers(
+    alloc: Global,
+    input: Vec<u8>,
+    most: usize,
+    status: u8,
+    output: &[u8],
+) -> Result<bool, Fail> {
+    let words = words(alloc, "rv feed memory")?;
+    let mut input = MemorySource::new(input, most, Vec::new(alloc));
+    let mut out = MemorySink::new(alloc, most, Vec::new(alloc));
+    let ended = run(alloc, &words, &mut input, &mut out);
+    Ok(ended == status && out.bytes.as_slice() == output)
+}
+
+// Whether a script is answered exactly as it says.
 fn answers_script(alloc: Global, number: u8, most: usize) -> Result<bool, Fail> {
     let (input, output) = script(number);
-    let words = words(alloc, "rv feed memory")?;
-    let mut input = MemorySource::new(input.to_vec(alloc)?, most, Vec::new(alloc));
-    let mut out = MemorySink::new(alloc, most, Vec::new(alloc));
-    let status = run(alloc, &words, &mut input, &mut out);
-    Ok(status == 0 && out.bytes.as_slice() == output)
+    answers(alloc, input.to_vec(alloc)?, most, status_of(number), output)
 }
 
 #[test]
 fn answers_scripts(rt: HostRuntime) -> Result<(), Fail> {
     for most in [7, 100_000] {
-        for number in 0..9u8 {
+        for number in 0..SCRIPTS {
             let same = answers_script(rt.alloc(), number, most)?;
             assert!(rt; same, "script {number}");
         }
     }
+    Ok(())
+}
+
+// Whether a script is answered so where each push is sent twice: its answer comes twice, and no other answer changes.
+fn answers_repeats(alloc: Global, number: u8) -> Result<bool, Fail> {
+    let (input, output) = script(number);
+    let output = with_repeats(alloc, input, output)?;
+    let input = with_repeats(alloc, input, input)?;
+    answers(alloc, input, 100_000, status_of(number), &output)
+}
+
+#[test]
+fn answers_pushes_that_are_sent_twice(rt: HostRuntime) -> Result<(), Fail> {
+    for number in 0..SCRIPTS {
+        let same = answers_repeats(rt.alloc(), number)?;
+        assert!(rt; same, "script {number}");
+    }
+    Ok(())
+}
+
+// Whether a push and a pull with each push sent twice are two pushes and a pull.
+fn repeats_the_push(alloc: Global) -> Result<bool, Fail> {
+    let input = joined(alloc, "PQ")?;
+    let repeated = joined(alloc, "PPQ")?;
+    let same = with_repeats(alloc, &input, &input)?;
+    Ok(same.as_slice() == repeated.as_slice())
+}
+
+#[test]
+fn sends_each_push_twice(rt: HostRuntime) -> Result<(), Fail> {
+    let same = repeats_the_push(rt.alloc())?;
+    assert!(rt; same);
     Ok(())
 }
 

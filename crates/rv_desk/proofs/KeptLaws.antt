@@ -1,5 +1,5 @@
 -- Each step of the machine keeps a book lawful, and only adds to it.
-use Rattle.std.proofs.Common.{◌≡◌, ℕ, ◌+◌, ◌<◌, max, List, [], ◌∷◌, ◌++◌, Option, None, sym, ap, ◌∙◌, subst, arith, append_assoc, append-nil}
+use Rattle.std.proofs.Common.{◌≡◌, ℕ, Bool, true, false, List, [], ◌∷◌, ◌++◌, Option, refl, sym, ap, ◌∙◌, subst, append_assoc, append-nil}
 use Rattle.rv_wire.specs.declared.error_body.ErrorBody.{ErrorBody}
 use Rattle.rv_wire.specs.declared.error_body.Which.TheVariants as which
 use Rattle.rv_wire.specs.declared.push.Mutation.{Mutation}
@@ -9,12 +9,16 @@ use Rattle.rv_book.specs.declared.entry.Entry.TheVariants.{Act, Look, Retire}
 use Rattle.rv_book.specs.Book.{Book, last_order}
 use Rattle.rv_desk.specs.declared.turn.Turn.{Turn}
 use Rattle.rv_desk.specs.declared.turn.Turn.TheVariants.{Acted, Skipped, Future, GroupOfOther, ClientOfOther, NotFound, Limit, Memory}
+use Rattle.rv_desk.specs.declared.turn.PullReply.{PullReply}
 use Rattle.rv_desk.specs.declared.turn.PullAnswer.{PullAnswer}
 use Rattle.rv_desk.specs.declared.turn.PullAnswer.TheVariants as pulls
 use Rattle.rv_desk.specs.declared.turn.RetireAnswer.{RetireAnswer}
 use Rattle.rv_desk.specs.declared.turn.RetireAnswer.TheVariants as retires
+use Rattle.rv_desk.specs.Groups.{Admits}
+use Rattle.rv_desk.specs.Bases.{base_of}
 use Rattle.rv_desk.specs.Lawful.{IsLawfulAfter, IsLawful}
-use Rattle.rv_desk.specs.Machine.{Sender, Mutates, Pulls, Retires, Pushes, cookie_order, next_order}
+use Rattle.rv_desk.specs.Machine.{Sender, Mutates, Replies, Pulls, Retires, Pushes, cookie_order, next_order}
+use Rattle.rv_desk.proofs.Based.{base_lawful, next_above}
 use Rattle.rv_desk.proofs.LawfulBooks.{lawful_more}
 
 -- a step keeps the law, and only adds
@@ -60,17 +64,19 @@ pushes_keep limit from (m ∷ ms) book new answer (Limit what at, mid, step, (is
 pushes_keep limit from (m ∷ ms) book new answer (Memory, mid, step, (is, same)) lawful =
     let kept = mutates_keep limit from m book mid Memory step lawful in kept_on book mid new kept (kept_same mid new same kept.0)
 
-above_last : (a b : ℕ) → b < max a b + 1
-above_last a b = omega arith
+replies_keep : (limit : ℕ) (user : List ℕ) (request : PullRequest) (book new : Book) (same : Bool) (reply : PullReply) → Admits user request.group book → Replies limit user request book same reply new → IsLawful book → Kept book new
+replies_keep limit user request book new true reply admits (none, is, same) lawful = kept_same book new same lawful
+replies_keep limit user request book new false reply admits (some, fits, room, is, more) lawful =
+    kept_more book new (Look user request.group (next_order request book) (base_of user request.cookie book)) more
+    (admits, (next_above (cookie_order request.cookie) (last_order request.group book) (next_order request book) refl).1, fits, base_lawful user request book) lawful
 
 pub pulls_keep : (limit : ℕ) (user : List ℕ) (request : PullRequest) (book new : Book) (answer : PullAnswer) → Pulls limit user request book answer new → IsLawful book → IsLawful new × ((more : Book) × (new ≡ book ++ more))
-pulls_keep limit user request book new (pulls.Pulled reply) (admits, fits, room, is, same) lawful =
-    kept_more book new (Look user request.group (next_order request book) None) same (admits, above_last (cookie_order request.cookie) (last_order request.group book), fits, tt) lawful
+pulls_keep limit user request book new (pulls.Pulled reply) (admits, replies) lawful = replies_keep limit user request book new reply.same reply admits replies lawful
 pulls_keep limit user request book new pulls.GroupOfOther (other, same) lawful = kept_same book new same lawful
 pulls_keep limit user request book new pulls.NotFound (own, gone, same) lawful = kept_same book new same lawful
-pulls_keep limit user request book new (pulls.Limit which.Order at) (admits, big, is, same) lawful = kept_same book new same lawful
-pulls_keep limit user request book new (pulls.Limit which.Book at) (admits, fits, full, is, same) lawful = kept_same book new same lawful
-pulls_keep limit user request book new pulls.Memory (admits, fits, room, same) lawful = kept_same book new same lawful
+pulls_keep limit user request book new (pulls.Limit which.Order at) (admits, some, big, is, same) lawful = kept_same book new same lawful
+pulls_keep limit user request book new (pulls.Limit which.Book at) (admits, some, fits, full, is, same) lawful = kept_same book new same lawful
+pulls_keep limit user request book new pulls.Memory (admits, same) lawful = kept_same book new same lawful
 
 pub retires_keep : (limit : ℕ) (group : List ℕ) (book new : Book) (answer : RetireAnswer) → Retires limit group book answer new → IsLawful book → IsLawful new × ((more : Book) × (new ≡ book ++ more))
 retires_keep limit group book new (retires.Retired place) (some, stands, room, at, is) lawful = kept_more book new (Retire group) is (some, stands) lawful

@@ -26,35 +26,33 @@ use Rattle.rv_book.specs.declared.entry.Entry.TheVariants.{Act, Look, Retire}
 use Rattle.rv_book.specs.Book.{Book}
 use Rattle.rv_desk.specs.Replay.{rows_after, rows_of, Wrote, IsLastWrite, IsReplay}
 
--- the row of a key after the first p entries
-abbrev At : List ℕ → Book → Option Row
+-- the row of a key at a book
+abbrev pub At : List ℕ → Book → Option Row
 At k book = row_at k (rows_of book)
 
-front : (book : Book) (e : Entry) (p : ℕ) → p ≤ length book → take p (book ++ e ∷ []) ≡ take p book
-front book e p le = take-append-le p book (e ∷ []) le
-
-whole : (book : Book) (e : Entry) → take (length book + 1) (book ++ e ∷ []) ≡ book ++ e ∷ []
+pub whole : (book : Book) (e : Entry) → take (length book + 1) (book ++ e ∷ []) ≡ book ++ e ∷ []
 whole book e = take_all (length book + 1) (book ++ e ∷ []) (omega (arith, length-append book (e ∷ [])))
 
-before : (book : Book) (e : Entry) → take ((length book + 1) - 1) (book ++ e ∷ []) ≡ book
+pub before : (book : Book) (e : Entry) → take ((length book + 1) - 1) (book ++ e ∷ []) ≡ book
 before book e =
     let n : (length book + 1) - 1 ≡ length book = omega arith in
-    ap (λ (m : ℕ). take m (book ++ e ∷ [])) n ∙ front book e (length book) (omega arith) ∙ take_all (length book) book (omega arith)
+    ap (λ (m : ℕ). take m (book ++ e ∷ [])) n ∙ take-append-le (length book) book (e ∷ []) (omega arith) ∙ take_all (length book) book (omega arith)
 
-wrote_more : (book : Book) (e : Entry) (k : List ℕ) (p : ℕ) → Wrote book k p → Wrote (book ++ e ∷ []) k p
-wrote_more book e k p w = record {
+-- more entries leave what was written in the front
+pub wrote_more : (book more : Book) (k : List ℕ) (p : ℕ) → Wrote book k p → Wrote (book ++ more) k p
+wrote_more book more k p w = record {
   first = w.first;
-  within = omega (arith, w.within, length-append book (e ∷ []));
-  stands = subst (λ (b : Book). IsSome (At k b)) (sym (front book e p w.within)) w.stands;
-  differs = λ same. w.differs (ap (At k) (sym (front book e p w.within)) ∙ same ∙ ap (At k) (front book e (p - 1) (omega (arith, w.within))));
+  within = omega (arith, w.within, length-append book more);
+  stands = subst (λ (b : Book). IsSome (At k b)) (sym (take-append-le p book more w.within)) w.stands;
+  differs = λ same. w.differs (ap (At k) (sym (take-append-le p book more w.within)) ∙ same ∙ ap (At k) (take-append-le (p - 1) book more (omega (arith, w.within))));
 }
 
-wrote_less : (book : Book) (e : Entry) (k : List ℕ) (p : ℕ) → Wrote (book ++ e ∷ []) k p → p ≤ length book → Wrote book k p
-wrote_less book e k p w le = record {
+pub wrote_less : (book more : Book) (k : List ℕ) (p : ℕ) → Wrote (book ++ more) k p → p ≤ length book → Wrote book k p
+wrote_less book more k p w le = record {
   first = w.first;
   within = le;
-  stands = subst (λ (b : Book). IsSome (At k b)) (front book e p le) w.stands;
-  differs = λ same. w.differs (ap (At k) (front book e p le) ∙ same ∙ ap (At k) (sym (front book e (p - 1) (omega (arith, le)))));
+  stands = subst (λ (b : Book). IsSome (At k b)) (take-append-le p book more le) w.stands;
+  differs = λ same. w.differs (ap (At k) (take-append-le p book more le) ∙ same ∙ ap (At k) (sym (take-append-le (p - 1) book more (omega (arith, le)))));
 }
 
 at_end : (book : Book) (e : Entry) (k : List ℕ) → Wrote (book ++ e ∷ []) k (length book + 1) → At k (book ++ e ∷ []) ≡ At k book → ⊥
@@ -63,10 +61,10 @@ at_end book e k w same = w.differs (ap (At k) (whole book e) ∙ same ∙ ap (At
 -- a key that the entry leaves alone keeps its last write
 kept_write : (book : Book) (e : Entry) (k : List ℕ) (p : ℕ) → At k (book ++ e ∷ []) ≡ At k book → IsLastWrite book k p → IsLastWrite (book ++ e ∷ []) k p
 kept_write book e k p same w = record {
-  wrote = wrote_more book e k p w.wrote;
+  wrote = wrote_more book (e ∷ []) k p w.wrote;
   last = λ later lt h. elim (cases_lt (length book) later) as (λ _. ⊥) [
     | inl above ↦ (let is : later ≡ length book + 1 = omega (arith, above, h.within, length-append book (e ∷ [])) in at_end book e k (subst (λ (n : ℕ). Wrote (book ++ e ∷ []) k n) is h) same)
-    | inr le ↦ w.last later lt (wrote_less book e k later h le)
+    | inr le ↦ w.last later lt (wrote_less book (e ∷ []) k later h le)
   ];
 }
 
@@ -105,7 +103,7 @@ pub distinct-rows_of : (book : Book) → Distinct row_text (rows_of book)
 distinct-rows_of book = distinct_after [] book tt
 
 -- what is stored under a key is the book's row
-stored_is : (book : Book) (stored : List Stored) (k : List ℕ) → IsReplay book stored → option_map (λ (s : Stored). s.0) (find k stored) ≡ row_at k (rows_of book)
+pub stored_is : (book : Book) (stored : List Stored) (k : List ℕ) → IsReplay book stored → option_map (λ (s : Stored). s.0) (find k stored) ≡ row_at k (rows_of book)
 stored_is book stored k r =
     find-map row_text (λ (s : Stored). s.0) k stored ∙ ap (row_at k) r.rows ∙ find-sorted row_text k (rows_of book) (distinct-rows_of book)
 
@@ -122,7 +120,7 @@ pub stored_in_order : (book : Book) (stored : List Stored) → IsReplay book sto
 stored_in_order book stored r = rows_in_order stored (subst (λ (rows : List Row). InOrder row_text rows) (sym r.rows) (in_order-sorted row_text (rows_of book)))
 
 -- what holds of each item holds of the one that is found
-all_found : {X : Type 0} (key : X → List ℕ) (P : X → Type 0) (k : List ℕ) (xs : List X) (x : X) → AllByRecursion P xs → find_by key k xs ≡ Some x → P x × (k ≡ key x)
+pub all_found : {X : Type 0} (key : X → List ℕ) (P : X → Type 0) (k : List ℕ) (xs : List X) (x : X) → AllByRecursion P xs → find_by key k xs ≡ Some x → P x × (k ≡ key x)
 all_found key P k [] x all e = absurd (cc)
 all_found key P k (y ∷ ys) x all e =
     elim (bytes_eq k (key y)) as (λ b. bytes_eq k (key y) ≡ b → cond b (Some y) (find_by key k ys) ≡ Some x → P x × (k ≡ key x)) [
@@ -170,7 +168,7 @@ all_at : (xs others rows : List Row) → ((k : List ℕ) → row_at k xs ≡ row
 all_at xs others [] same all = tt
 all_at xs others (row ∷ rows) same all = (sym (same (row_text row)) ∙ all.0, all_at xs others rows same all.1)
 
-each_at : (book : Book) → AllByRecursion (λ row. At (row_text row) book ≡ Some row) (in_key_order (rows_of book))
+pub each_at : (book : Book) → AllByRecursion (λ row. At (row_text row) book ≡ Some row) (in_key_order (rows_of book))
 each_at book = all_at (in_key_order (rows_of book)) (rows_of book) (in_key_order (rows_of book)) (λ k. find-sorted row_text k (rows_of book) (distinct-rows_of book))
     (each_found row_text (in_key_order (rows_of book)) (in_order-sorted row_text (rows_of book)))
 

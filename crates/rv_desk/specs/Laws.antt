@@ -1,8 +1,11 @@
 -- What follows from the machine, for every book that it makes.
-use Rattle.std.specs.Prelude.{◌≡◌, ℕ, ◌<◌, Bool, false, List, ◌∷◌, ◌++◌, Option, Some, None, Contains, if◌then◌else◌}
-use Rattle.std.specs.List.{filter_map, range_with_len}
+use Rattle.std.specs.Prelude.{◌≡◌, ℕ, ◌<◌, ◌≤◌, ◌⊎◌, Bool, true, false, List, [], ◌∷◌, ◌++◌, take, Option, Some, None, Contains, option_and_then, if◌then◌else◌}
+use Rattle.std.specs.List.{filter_map, list_any, range_with_len}
+use Rattle.std.specs.Option.{option_map_or}
 use Rattle.std.specs.List.Sorted.{IsStrictlyIncreasing}
 use Rattle.std.specs.Str.{bytes_eq}
+use Rattle.rv_wire.specs.declared.op.Op.{Op}
+use Rattle.rv_wire.specs.declared.op.Op.TheVariants.{Clear, Del, Put}
 use Rattle.rv_wire.specs.declared.error_body.ErrorBody.{ErrorBody}
 use Rattle.rv_wire.specs.declared.push.Mutation.{Mutation}
 use Rattle.rv_wire.specs.declared.pull.PullRequest.{PullRequest}
@@ -12,7 +15,8 @@ use Rattle.rv_desk.specs.declared.turn.PullAnswer.{PullAnswer}
 use Rattle.rv_desk.specs.declared.turn.PullAnswer.TheVariants.{Pulled}
 use Rattle.rv_desk.specs.declared.turn.PullReply.{PullReply}
 use Rattle.rv_desk.specs.declared.turn.RetireAnswer.{RetireAnswer}
-use Rattle.rv_book.specs.Book.{Book, bound, group_of, last}
+use Rattle.rv_book.specs.Book.{Book, bound, group_of, last, last_order, ids}
+use Rattle.rv_desk.specs.Bases.{base_of, base_group}
 use Rattle.rv_desk.specs.Lawful.{IsLawful}
 use Rattle.rv_desk.specs.Patches.{View, sees, apply}
 use Rattle.rv_desk.specs.Machine.{Sender, Pulls, Retires, Pushes, cookie_order}
@@ -89,7 +93,40 @@ PullsKeepLaw = (limit : ℕ) (user : List ℕ) (request : PullRequest) (book new
 abbrev pub RetirementsKeepLaw : Type 0
 RetirementsKeepLaw = (limit : ℕ) (group : List ℕ) (book new : Book) (answer : RetireAnswer) → Retires limit group book answer new → IsLawful book → IsLawful new × ((more : Book) × (new ≡ book ++ more))
 
--- The patch of a reply, applied to any view, gives exactly what the user sees at the book, and its cookie is above the
--- request's.
+-- the view that a base names: what the user saw there; without a base it may be any view
+abbrev pub IsBaseView : List ℕ → Book → Option ℕ → View → Type 0
+IsBaseView user book None view = Unit {0}
+IsBaseView user book (Some place) view = view ≡ sees user (take place book)
+
+abbrev pub is_clear : Op → Bool
+is_clear Clear = true
+is_clear (Del key) = false
+is_clear (Put row) = false
+
+-- without a base a patch begins with its one clear, and with a base it has none
+abbrev pub ClearsWithoutBase : Option ℕ → List Op → Type 0
+ClearsWithoutBase None ops = (others : List Op) × (ops ≡ Clear ∷ others) × (list_any is_clear others ≡ false)
+ClearsWithoutBase (Some place) ops = list_any is_clear ops ≡ false
+
+-- the last mutation ids that a client has by its cookie: those of the base look's own group there, and none without a base
+abbrev pub known_ids : List ℕ → PullRequest → Book → List (List ℕ × ℕ)
+known_ids user request book = option_map_or (λ base. ids base.1 (take base.0 book)) (option_and_then (base_group book) (base_of user request.cookie book)) []
+
+-- What the reply to a pull tells at a book. Its patch, applied to the view that the cookie names, gives exactly what the
+-- user sees; it begins with a clear exactly where there is no base. Each last mutation id of the group is known by the
+-- cookie or told, and nothing else is told; what is told was not known. The order is not below the request's. A reply of
+-- the same cookie has an empty patch and no ids, and leaves the book as it is; any other has an order above the group's last
+-- and the request's.
+pub record Tells (user : List ℕ) (request : PullRequest) (book new : Book) (reply : PullReply) : Type 0 where
+  pub shows : (view : View) → IsBaseView user book (base_of user request.cookie book) view → apply reply.ops view ≡ sees user book
+  pub clears : ClearsWithoutBase (base_of user request.cookie book) reply.ops
+  pub complete : (pair : List ℕ × ℕ) → Contains (ids request.group book) pair → Contains (known_ids user request book) pair ⊎ Contains reply.ids pair
+  pub sound : (pair : List ℕ × ℕ) → Contains reply.ids pair → Contains (ids request.group book) pair
+  pub news : (pair : List ℕ × ℕ) → Contains reply.ids pair → ¬ Contains (known_ids user request book) pair
+  pub no_lower : cookie_order request.cookie ≤ cookie_order reply.cookie
+  pub same : reply.same ≡ true → (reply.ops ≡ []) × (reply.ids ≡ []) × (reply.cookie ≡ request.cookie) × (new ≡ book)
+  pub above : reply.same ≡ false → (last_order request.group book < cookie_order reply.cookie) × (cookie_order request.cookie < cookie_order reply.cookie)
+
+-- So does each reply that the machine gives.
 abbrev pub PullsShow : Type 0
-PullsShow = (limit : ℕ) (user : List ℕ) (request : PullRequest) (book new : Book) (reply : PullReply) (view : View) → Pulls limit user request book (Pulled reply) new → (apply reply.ops view ≡ sees user book) × (cookie_order request.cookie < cookie_order reply.cookie)
+PullsShow = (limit : ℕ) (user : List ℕ) (request : PullRequest) (book new : Book) (reply : PullReply) → Pulls limit user request book (Pulled reply) new → Tells user request book new reply

@@ -6,3 +6,7 @@ pub mod Machine
 pub mod Served
 pub mod Laws
 pub mod Shows
+pub mod History
+pub mod Bases
+pub mod Records
+pub mod News

@@ -1,11 +1,12 @@
 -- The machine: what a mutation, a pull, a retirement and a push may be answered at a book, and which book is left.
-use Rattle.std.specs.Prelude.{◌≡◌, ℕ, ◌+◌, ◌-◌, ◌^◌, ◌<◌, ◌≤◌, true, false, max, List, [], ◌∷◌, ◌++◌, length, Option, Some, None, IsSome, MatchOption, decimal}
+use Rattle.std.specs.Prelude.{◌≡◌, ℕ, ◌+◌, ◌-◌, ◌^◌, ◌<◌, ◌≤◌, Bool, true, false, max, List, [], ◌∷◌, ◌++◌, length, Option, Some, None, IsSome, MatchOption, option_and_then, decimal}
 use Rattle.serde_json.specs.Written.{compact_text}
 use Rattle.rv_book.specs.declared.entry.Entry.TheVariants.{Act, Look, Retire}
-use Rattle.rv_book.specs.Book.{Book, bound, retired, last, last_order, ids}
+use Rattle.rv_book.specs.Book.{Book, bound, retired, last, last_order}
 use Rattle.rv_wire.specs.Answers.{pull_data}
-use Rattle.rv_wire.specs.declared.cookie.Cookie.{Cookie}
-use Rattle.rv_wire.specs.declared.cookie.Cookie.TheVariants.{Null, Bare, Named}
+use Rattle.rv_wire.specs.declared.op.Op.{Op}
+use Rattle.rv_views.specs.declared.cookie.Cookie.{Cookie}
+use Rattle.rv_views.specs.declared.cookie.Cookie.TheVariants.{Null, Bare, Named}
 use Rattle.rv_wire.specs.declared.error_body.Which.TheVariants as which
 use Rattle.rv_wire.specs.declared.error_body.ErrorBody.{ErrorBody}
 use Rattle.rv_wire.specs.declared.error_body.ErrorBody.TheVariants as errors
@@ -19,7 +20,8 @@ use Rattle.rv_desk.specs.declared.turn.PullAnswer.TheVariants as pulls
 use Rattle.rv_desk.specs.declared.turn.RetireAnswer.{RetireAnswer}
 use Rattle.rv_desk.specs.declared.turn.RetireAnswer.TheVariants as retires
 use Rattle.rv_desk.specs.Groups.{is_of_other, is_elsewhere, Admits}
-use Rattle.rv_desk.specs.Patches.{patch}
+use Rattle.rv_desk.specs.History.{patch_since, ids_since}
+use Rattle.rv_desk.specs.Bases.{base_of, base_group}
 
 -- who sends what
 pub record Sender : Type 0 where
@@ -54,24 +56,47 @@ cookie_order (Named place order) = order
 abbrev pub next_order : PullRequest → Book → ℕ
 next_order request book = max (cookie_order request.cookie) (last_order request.group book) + 1
 
--- The reply to a pull, which is entered at the next place: the cookie has that place and the next order, the patch shows
--- what the user sees, and the ids are those of the group's clients, all of one book.
+-- what a pull is told: the patch and the last mutation ids since the base that its cookie names, both at one book
+abbrev pub patch_for : List ℕ → PullRequest → Book → List Op
+patch_for user request book = patch_since user book (base_of user request.cookie book)
+
+abbrev pub ids_for : List ℕ → PullRequest → Book → List (List ℕ × ℕ)
+ids_for user request book = ids_since request.group book (option_and_then (base_group book) (base_of user request.cookie book))
+
+-- There is nothing to tell. Without a base there always is: the patch begins with a clear.
+abbrev pub IsUnchanged : List ℕ → PullRequest → Book → Type 0
+IsUnchanged user request book = (patch_for user request book ≡ []) × (ids_for user request book ≡ [])
+
+-- The reply where there is nothing to tell: the request's cookie.
+abbrev pub same_reply : PullRequest → PullReply
+same_reply request = record { cookie = request.cookie; same = true; ids = []; ops = []; text = compact_text (pull_data request.cookie [] []) }
+
+-- The reply that is entered at the next place: the cookie has that place and the next order.
 abbrev pub reply_to : List ℕ → PullRequest → Book → PullReply
 reply_to user request book =
     let cookie = Named (decimal (length book + 1)) (next_order request book) in
-    let ids = ids request.group book in
-    let ops = patch user book in
+    let ids = ids_for user request book in
+    let ops = patch_for user request book in
     record { cookie = cookie; same = false; ids = ids; ops = ops; text = compact_text (pull_data cookie ids ops) }
 
--- The first case that holds: the group is bound to another user; it is retired; the next order is above 2^53 - 1; the book
--- is full; and else the pull is answered, and becomes one entry. Memory may be refused only where it would be answered.
+-- A pull is answered: by its own cookie where there is nothing to tell, whatever the limits, and then nothing is entered; and
+-- else as one entry, a look with its base.
+abbrev pub Replies : ℕ → List ℕ → PullRequest → Book → Bool → PullReply → Book → Type 0
+Replies limit user request book true reply new = IsUnchanged user request book × (reply ≡ same_reply request) × (new ≡ book)
+Replies limit user request book false reply new =
+    ¬ IsUnchanged user request book × (next_order request book < 2 ^ 53) × (length book < limit) × (reply ≡ reply_to user request book)
+    × (new ≡ book ++ Look user request.group (next_order request book) (base_of user request.cookie book) ∷ [])
+
+-- The first case that holds: the group is bound to another user; it is retired; there is nothing to tell, and the pull is
+-- answered; the next order is above 2^53 - 1; the book is full; and else the pull is answered, and becomes one entry. Memory
+-- may be refused wherever the group is the user's and not retired, and then nothing changes.
 abbrev pub Pulls : ℕ → List ℕ → PullRequest → Book → PullAnswer → Book → Type 0
 Pulls limit user request book pulls.GroupOfOther new = (is_of_other user request.group book ≡ true) × (new ≡ book)
 Pulls limit user request book pulls.NotFound new = (is_of_other user request.group book ≡ false) × (retired request.group book ≡ true) × (new ≡ book)
-Pulls limit user request book (pulls.Limit which.Order at) new = Admits user request.group book × (2 ^ 53 ≤ next_order request book) × (at ≡ 2 ^ 53 - 1) × (new ≡ book)
-Pulls limit user request book (pulls.Limit which.Book at) new = Admits user request.group book × (next_order request book < 2 ^ 53) × (length book ≡ limit) × (at ≡ limit) × (new ≡ book)
-Pulls limit user request book (pulls.Pulled reply) new = Admits user request.group book × (next_order request book < 2 ^ 53) × (length book < limit) × (reply ≡ reply_to user request book) × (new ≡ book ++ Look user request.group (next_order request book) None ∷ [])
-Pulls limit user request book pulls.Memory new = Admits user request.group book × (next_order request book < 2 ^ 53) × (length book < limit) × (new ≡ book)
+Pulls limit user request book (pulls.Limit which.Order at) new = Admits user request.group book × ¬ IsUnchanged user request book × (2 ^ 53 ≤ next_order request book) × (at ≡ 2 ^ 53 - 1) × (new ≡ book)
+Pulls limit user request book (pulls.Limit which.Book at) new = Admits user request.group book × ¬ IsUnchanged user request book × (next_order request book < 2 ^ 53) × (length book ≡ limit) × (at ≡ limit) × (new ≡ book)
+Pulls limit user request book (pulls.Pulled reply) new = Admits user request.group book × Replies limit user request book reply.same reply new
+Pulls limit user request book pulls.Memory new = Admits user request.group book × (new ≡ book)
 
 -- The first case that holds: no act or look names the group; it is retired already; the book is full; and else the
 -- retirement becomes one entry.

@@ -1,13 +1,13 @@
--- What a user sees at a book, the patch that shows it, and a patch applied to a client's view.
-use Rattle.std.specs.Prelude.{ℕ, List, [], ◌∷◌, map, fold}
+-- What a user sees at a book, and a patch applied to a client's view.
+use Rattle.std.specs.Prelude.{ℕ, List, [], map, fold}
 use Rattle.serde_json.specs.Data.{Data}
-use Rattle.rv_base.specs.Sorted.{put_by}
+use Rattle.rv_base.specs.Sorted.{put_by, without}
 use Rattle.rv_rows.specs.declared.row.Row.{Row}
-use Rattle.rv_rows.specs.Keys.{row_text}
+use Rattle.rv_rows.specs.Keys.{key_text, row_text}
 use Rattle.rv_rows.specs.RowTexts.{row_data}
 use Rattle.rv_rows.specs.Sharing.{seen}
 use Rattle.rv_wire.specs.declared.op.Op.{Op}
-use Rattle.rv_wire.specs.declared.op.Op.TheVariants.{Clear, Put}
+use Rattle.rv_wire.specs.declared.op.Op.TheVariants.{Clear, Del, Put}
 use Rattle.rv_book.specs.Book.{Book}
 use Rattle.rv_desk.specs.Replay.{rows_of}
 
@@ -26,13 +26,10 @@ View = List Shown
 abbrev pub sees : List ℕ → Book → View
 sees user book = map shown (seen user (rows_of book))
 
--- the patch without a base: everything goes, and each row that the user sees is put, in the order of their keys
-abbrev pub patch : List ℕ → Book → List Op
-patch user book = Clear ∷ map (λ row. Put row) (seen user (rows_of book))
-
 -- the view after one operation
 abbrev pub applied : View → Op → View
 applied view Clear = []
+applied view (Del key) = without (λ item. item.0) (key_text key) view
 applied view (Put row) = put_by (λ item. item.0) (shown row) view
 
 -- the view after a patch, its operations done in order

@@ -1,5 +1,5 @@
 // Entries of the book, with copies of their names.
-ghost use Rattle.std.specs.Prelude.{◌≡◌, IfOk, None};
+ghost use Rattle.std.specs.Prelude.{◌≡◌, IfOk};
 ghost use Rattle.rv_book.specs.declared.entry.Entry.TheVariants.{Act, Look, Retire};
 
 use rv_base::{Id, Memory, Num, User};
@@ -27,15 +27,21 @@ pub(crate) fn act(
     })
 }
 
-// A look without a base.
-pub(crate) fn look(alloc: Global, user: &User, group: &Id, order: Num) -> Result<Entry, Memory>
-    ensures { IfOk result (λ entry. entry ≡ Look user.now group.now order None) }
+// A look, with the place of its base.
+pub(crate) fn look(
+    alloc: Global,
+    user: &User,
+    group: &Id,
+    order: Num,
+    base: Option<u32>,
+) -> Result<Entry, Memory>
+    ensures { IfOk result (λ entry. entry ≡ Look user.now group.now order base) }
 {
     Ok(Entry::Look {
         user: user.copy(alloc)?,
         group: group.copy(alloc)?,
         order,
-        base: None,
+        base,
     })
 }
 

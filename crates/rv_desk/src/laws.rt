@@ -46,7 +46,10 @@ pub fn retirements_keep_law()
     ensures { RetirementsKeepLaw }
 {}
 
-/// The patch of a pull's reply, applied to any view, gives exactly what the user sees, and the cookies' orders rise.
+/// The patch of a pull's reply, applied to the view that the request's cookie names, gives exactly what the user sees; where
+/// the cookie names no kept look of the user, it begins with a clear and may be applied to any view. Each last mutation id of
+/// the group is told or known by the cookie. A reply of the request's own cookie tells nothing and leaves the book; the order
+/// of any other is above the request's and above the group's last.
 pub fn pulls_show()
     ensures { PullsShow }
 {}

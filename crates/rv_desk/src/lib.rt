@@ -4,11 +4,14 @@
 //! what a call is answered. [`plain`] computes those definitions slowly, apart from the desk.
 #![tactic(auto)]
 
+mod base;
 mod desk;
 mod entries;
 mod groups;
 pub mod laws;
+mod news;
 pub mod plain;
+mod records;
 mod reply;
 mod turn;
 

@@ -3,14 +3,14 @@ ghost use Rattle.std.specs.Prelude.{◌≡◌, ◌+◌, ◌<◌, ◌^◌, max, f
 ghost use Rattle.serde_json.specs.Written.{compact_text};
 ghost use Rattle.rv_base.specs.Sorted.{InOrder};
 ghost use Rattle.rv_wire.specs.Answers.{pull_data};
-ghost use Rattle.rv_wire.specs.declared.cookie.Cookie.TheVariants.{Named};
-ghost use Rattle.rv_desk.specs.Machine.{cookie_order};
+ghost use Rattle.rv_views.specs.declared.cookie.Cookie.TheVariants.{Named};
+ghost use Rattle.rv_desk.specs.Machine.{cookie_order, same_reply};
 
 use crate::turn::PullReply;
 use itoa::Buffer;
-use rv_base::{Memory, Num, Text, TextRefusal};
+use rv_base::{Memory, Num, Sequence, Text, TextRefusal};
 use rv_rows::Clients;
-use rv_wire::{Cookie, Ops, pull_text};
+use rv_wire::{Cookie, Ops, PullRequest, pull_text};
 use std::alloc::Global;
 
 fn cookie_order(cookie: &Cookie) -> u64
@@ -62,6 +62,23 @@ pub(crate) fn reply(
     Ok(PullReply {
         cookie,
         same: false,
+        ids,
+        ops,
+        text,
+    })
+}
+
+// The reply of the request's own cookie.
+pub(crate) fn same_reply(alloc: Global, request: &PullRequest) -> Result<PullReply, Memory>
+    ensures { IfOk result (λ r. r ≡ same_reply request.now) }
+{
+    let cookie = request.cookie.copy(alloc)?;
+    let ids = Sequence::new(alloc);
+    let ops = Sequence::new(alloc);
+    let text = pull_text(alloc, &cookie, &ids, &ops)?;
+    Ok(PullReply {
+        cookie,
+        same: true,
         ids,
         ops,
         text,

@@ -1,5 +1,5 @@
 -- The users who see rows that are written.
-use Rattle.std.proofs.Common.{◌≡◌, ℕ, ◌+◌, ◌<◌, Bool, true, false, ◌&&◌, ◌||◌, List, [], ◌∷◌, ◌++◌, length, take, get_or, Option, Some, None, Result, Ok, Err, refl, sym, ap, ◌∙◌, subst}
+use Rattle.std.proofs.Common.{◌≡◌, ℕ, ◌+◌, ◌<◌, Bool, true, false, ◌&&◌, ◌||◌, List, [], ◌∷◌, ◌++◌, length, take, get_or, Option, Some, None, Result, Ok, Err, refl, sym, ap, ◌∙◌}
 use Rattle.std.specs.Prelude.{IfOk}
 use Rattle.std.specs.Str.{bytes_eq}
 use Rattle.std.specs.List.{list_any}
@@ -11,7 +11,6 @@ use Rattle.rv_rows.specs.declared.row.ListRow.{ListRow}
 use Rattle.rv_rows.specs.declared.row.ShareRow.{ShareRow}
 use Rattle.rv_rows.specs.declared.row.TodoRow.{TodoRow}
 use Rattle.rv_rows.specs.declared.row.Row.TheVariants as variants
-use Rattle.rv_rows.specs.Held.{Stored, rows_in}
 use Rattle.rv_rows.specs.Sharing.{is_list, owns, shares, list_of}
 use Rattle.rv_sharing.specs.Owners.{owner_of}
 use Rattle.rv_sharing.specs.OwnerLaws.{is_list-owner}
@@ -37,17 +36,6 @@ bytes_eq-turned a b =
     by_flag (λ t. bytes_eq a b ≡ t) (bytes_eq b a)
     (λ e. by_flag (λ t. t ≡ true) (bytes_eq a b) (λ f. refl) (λ f. sym (not_same a b f) ∙ e))
     (λ e. not_same b a e)
-
-pub sharers_end : (rows : List Row) (rest : List Stored) (list : List ℕ) (users sharers : List (List ℕ)) → rest ≡ [] → AreInOrder sharers
-    → ((user : List ℕ) → (list_any (bytes_eq user) sharers || list_any (shares user list) (rows_in rest)) ≡ (list_any (bytes_eq user) users || list_any (shares user list) rows)) → AddsSharers rows list users sharers
-sharers_end rows rest list users sharers none order each = record {
-  order = order;
-  each = λ user. sym (or_false (list_any (bytes_eq user) sharers)) ∙ subst (λ (t : List Stored). (list_any (bytes_eq user) sharers || list_any (shares user list) (rows_in t)) ≡ (list_any (bytes_eq user) users || list_any (shares user list) rows)) none (each user);
-}
-  where
-    or_false : (b : Bool) → (b || false) ≡ b
-    or_false true = refl
-    or_false false = refl
 
 -- a list's readers are those of the list before, its owner, and whom shares of it name
 pub readers_list : {E : Type 0} (rows : List Row) (row : ListRow) (users viewers owned : List (List ℕ)) (result : Result (List (List ℕ)) E)

@@ -9,7 +9,7 @@ ghost use Rattle.rv_rows.specs.declared.call.Call.TheVariants.{CreateList, Delet
 ghost use Rattle.rv_rows.specs.declared.key.Kind.TheVariants.{List as ListKind};
 ghost use Rattle.rv_mutators.specs.Staging.{staged};
 
-use crate::lookups::{has_row, key_of, list_of, owns};
+use crate::lookups::{has_row, key_of, owns};
 use crate::staged::Staged;
 use rv_base::{Id, Memory, Text, User};
 use rv_rows::{Keys, Kind, ListRow, Row, Rows, RowsInOrder, Tables};
@@ -75,7 +75,7 @@ fn keys_of(alloc: Global, rows: RowsInOrder<'_>, list: &Id) -> Result<Keys, Memo
 {
     let mut keys = Keys::new(alloc);
     for (row, _version) in rows {
-        if list_of(row) == list {
+        if row.list() == list {
             keys.push(key_of(alloc, row)?)?;
         }
     }

@@ -3,7 +3,7 @@ ghost use Rattle.std.specs.Prelude.{◌≡◌, IfOk};
 ghost use Rattle.std.specs.List.{list_any};
 ghost use Rattle.rv_rows.specs.Held.{rows_in, AreRows};
 ghost use Rattle.rv_rows.specs.Keys.{key_text, row_key, has_row};
-ghost use Rattle.rv_rows.specs.Sharing.{owns, list_of};
+ghost use Rattle.rv_rows.specs.Sharing.{owns};
 
 use rv_base::{Id, Memory, User};
 use rv_rows::{Key, Kind, Row, Tables};
@@ -25,17 +25,6 @@ pub(crate) fn owns(tables: &Tables, user: &User, list: &Id) -> bool
     match owner_of(tables, list) {
         Some(owner) => owner == user,
         None => false,
-    }
-}
-
-// The list that a row is or belongs to.
-pub(crate) fn list_of(row: &Row) -> &Id
-    ensures { result.now ≡ list_of row.now }
-{
-    match row {
-        Row::List(row) => &row.id,
-        Row::Share(row) => &row.list,
-        Row::Todo(row) => &row.list,
     }
 }
 

@@ -14,6 +14,7 @@ use crate::lookups::{has_row, key_of, owns};
 use crate::staged::Staged;
 use rv_base::{Id, Memory, User};
 use rv_rows::{Kind, Row, RowsInOrder, ShareRow, Tables};
+use rv_sharing::has_share;
 use std::alloc::Global;
 
 // A share of the user's list with another, who has none of it.
@@ -58,29 +59,6 @@ fn may_create(
         && !has_row(tables, Kind::Share, id)
         && other != user
         && !has_share(rows, other, list)
-}
-
-// Whether one of the rows is a share of the list that names the user.
-fn has_share(rows: RowsInOrder<'_>, user: &User, list: &Id) -> bool
-    ensures { result ≡ list_any (shares user.now list.now) (rows_in rows.entry.rows.now) }
-{
-    for (row, _version) in rows {
-        if shares(user, list, row) {
-            return true;
-        }
-    }
-    false
-}
-
-// Whether the row is a share of this list that names the user.
-fn shares(user: &User, list: &Id, row: &Row) -> bool
-    ensures { result ≡ shares user.now list.now row.now }
-{
-    match row {
-        Row::List(_) => false,
-        Row::Share(row) => row.list == *list && row.user == *user,
-        Row::Todo(_) => false,
-    }
 }
 
 // A share that the user may end goes.

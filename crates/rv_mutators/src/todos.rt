@@ -10,7 +10,7 @@ ghost use Rattle.rv_rows.specs.declared.row.Row.TheVariants.{Todo};
 ghost use Rattle.rv_rows.specs.declared.key.Kind.TheVariants.{Todo as TodoKind};
 ghost use Rattle.rv_mutators.specs.Staging.{staged, written_if, removed_if};
 
-use crate::lookups::{has_row, key_of, list_of};
+use crate::lookups::{has_row, key_of};
 use crate::staged::Staged;
 use rv_base::{Id, Memory, Num, Text, User};
 use rv_rows::{Kind, Row, RowsInOrder, Tables, TodoRow};
@@ -105,7 +105,7 @@ pub(crate) fn update_todo(
 {
     match tables.row(Kind::Todo, id) {
         Some((row, _version)) => {
-            if may(tables, user, list_of(row)) {
+            if may(tables, user, row.list()) {
                 set_fields(alloc, row, text, complete, sort)
             } else {
                 Ok(Staged::nothing(alloc))
@@ -181,7 +181,7 @@ pub(crate) fn delete_todo(
 {
     match tables.row(Kind::Todo, id) {
         Some((row, _version)) => {
-            if may(tables, user, list_of(row)) {
+            if may(tables, user, row.list()) {
                 Staged::removes(alloc, key_of(alloc, row)?)
             } else {
                 Ok(Staged::nothing(alloc))

@@ -1,8 +1,11 @@
 ghost use Rattle.std.specs.Prelude.{◌≡◌, IfOk, string_bytes};
+ghost use Rattle.std.specs.Cmp.Lexicographic.{slice_cmp};
+ghost use Rattle.std.specs.Ordering.{nat_cmp};
 ghost use Rattle.rv_rows.specs.Keys.{prefix, key_text};
 
 use rv_base::{Id, Memory};
 use std::alloc::Global;
+use std::cmp::Ordering;
 
 /// The kind of a row.
 #[derive(Clone, Copy, Debug, PartialEq, Eq)]
@@ -47,6 +50,23 @@ impl Kind {
 }
 
 impl Key {
+    /// How the key stands to another, by the bytes of their texts.
+    pub fn compare(&self, other: &Key) -> Ordering
+        ensures { result ≡ slice_cmp nat_cmp (key_text self.now) (key_text other.now) }
+    {
+        match (self.kind, other.kind) {
+            (Kind::List, Kind::List) => self.id.cmp(&other.id),
+            (Kind::List, Kind::Share) => Ordering::Less,
+            (Kind::List, Kind::Todo) => Ordering::Less,
+            (Kind::Share, Kind::List) => Ordering::Greater,
+            (Kind::Share, Kind::Share) => self.id.cmp(&other.id),
+            (Kind::Share, Kind::Todo) => Ordering::Less,
+            (Kind::Todo, Kind::List) => Ordering::Greater,
+            (Kind::Todo, Kind::Share) => Ordering::Greater,
+            (Kind::Todo, Kind::Todo) => self.id.cmp(&other.id),
+        }
+    }
+
     /// The same key, in memory of its own.
     pub fn copy(&self, alloc: Global) -> Result<Key, Memory>
         ensures { IfOk result (λ copy. copy ≡ self.now) }

@@ -3,7 +3,7 @@
 ghost use Rattle.std.specs.Prelude.{◌≡◌, IfOk, OnOk, map};
 ghost use Rattle.rv_base.specs.Sorted.{InOrder, put_by, Settles};
 ghost use Rattle.rv_rows.specs.Keys.{key_text, row_text, has_row, in_key_order};
-ghost use Rattle.rv_rows.specs.Sharing.{is_list, owns, shares, may, list_of, sees, seen};
+ghost use Rattle.rv_rows.specs.Sharing.{is_list, owns, shares, may, sees, seen};
 ghost use Rattle.rv_rows.specs.Effects.{is_at, is_other, is_outside, may_change, is_unchanged, may_end, ends, sort_in, greatest_sort, next_sort, with_fields, after_update, effect};
 ghost use Rattle.rv_rows.specs.declared.call.Call.TheVariants.{CreateList, CreateShare, CreateTodo};
 ghost use Rattle.std.specs.List.{filter, list_any};
@@ -79,23 +79,12 @@ pub fn may(user: &User, list: &Id, rows: &[Row]) -> bool
     owns_list(user, list, rows) || (has_list(list, rows) && has_share(user, list, rows))
 }
 
-/// The list that a row is or belongs to.
-pub fn list_of(row: &Row) -> &Id
-    ensures { result.now ≡ list_of row.now }
-{
-    match row {
-        Row::List(row) => &row.id,
-        Row::Share(row) => &row.list,
-        Row::Todo(row) => &row.list,
-    }
-}
-
 /// Whether the user sees the row, as one of these: the user may see the list that it is or belongs to.
 #[tactic(auto, unfolding(crate::specs::Sharing::sees))]
 pub fn sees(user: &User, rows: &[Row], row: &Row) -> bool
     ensures { result ≡ sees user.now rows.now row.now }
 {
-    may(user, list_of(row), rows)
+    may(user, row.list(), rows)
 }
 
 fn is_at(kind: Kind, id: &Id, row: &Row) -> bool
@@ -111,7 +100,7 @@ fn without_list(alloc: Global, rows: &[Row], list: &Id) -> Result<Vec<Row>, Memo
 {
     let mut kept = Vec::new(alloc);
     for row in rows {
-        if list_of(row) != list {
+        if row.list() != list {
             kept.push(row.copy(alloc)?)?;
         }
     }

@@ -2,6 +2,7 @@ ghost use Rattle.std.specs.Prelude.{◌≡◌, IfOk};
 ghost use Rattle.std.specs.Cmp.Lexicographic.{slice_cmp};
 ghost use Rattle.std.specs.Ordering.{nat_cmp};
 ghost use Rattle.rv_rows.specs.Keys.{key_text, row_key, row_text};
+ghost use Rattle.rv_rows.specs.Sharing.{list_of};
 
 use crate::key::Kind;
 use rv_base::{Id, Memory, Num, Text, User};
@@ -76,6 +77,17 @@ impl Row {
             Row::List(row) => &row.id,
             Row::Share(row) => &row.id,
             Row::Todo(row) => &row.id,
+        }
+    }
+
+    /// The list that the row is or belongs to.
+    pub fn list(&self) -> &Id
+        ensures { result.now ≡ list_of self.now }
+    {
+        match self {
+            Row::List(row) => &row.id,
+            Row::Share(row) => &row.list,
+            Row::Todo(row) => &row.list,
         }
     }
 

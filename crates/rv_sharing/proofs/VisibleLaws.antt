@@ -2,10 +2,12 @@
 use Rattle.std.proofs.Common.{◌≡◌, ℕ, Bool, true, false, cond, List, [], ◌∷◌, ◌++◌, map, refl, sym, ap, ◌∙◌, append_assoc, append-nil}
 use Rattle.std.specs.List.{filter, list_any}
 use Rattle.std.specs.Str.{bytes_eq}
+use Rattle.rv_base.specs.Sorted.{InOrder}
+use Rattle.rv_base.specs.Places.{Above, in_order-filter}
 use Rattle.rv_rows.specs.declared.key.Key.{Key}
 use Rattle.rv_rows.specs.declared.row.Row.{Row}
-use Rattle.rv_rows.specs.Keys.{row_key}
-use Rattle.rv_rows.specs.Held.{Stored, rows_in}
+use Rattle.rv_rows.specs.Keys.{key_text, row_key}
+use Rattle.rv_rows.specs.Held.{Stored, AreRows, stored_key, rows_in}
 use Rattle.rv_rows.specs.Sharing.{list_of, sees}
 use Rattle.rv_sharing.specs.Opened.{AreOpened}
 use Rattle.rv_sharing.specs.Visible.{visible}
@@ -53,3 +55,18 @@ showing_same user stored rest next lists keys row version first holds showing =
 
 pub showing_ends : (user : List ℕ) (stored rest : List Stored) (lists : List (List ℕ)) (keys : List (Key × ℕ)) → rest ≡ [] → Showing user stored lists keys rest → keys ≡ visible user stored
 showing_ends user stored rest lists keys none showing = let showing = rw none at showing in sym (append-nil keys) ∙ showing.keys_are
+
+-- keys with versions, of stored rows in the order of their keys
+abbrev pair : Stored → Key × ℕ
+pair s = (row_key s.0, s.1)
+
+above-pairs : (k : List ℕ) (xs : List Stored) → Above stored_key k xs → Above (λ (p : Key × ℕ). key_text p.0) k (map pair xs)
+above-pairs k [] all = tt
+above-pairs k (x ∷ xs) all = (all.0, above-pairs k xs all.1)
+
+in_order-pairs : (xs : List Stored) → AreRows xs → InOrder (λ (p : Key × ℕ). key_text p.0) (map pair xs)
+in_order-pairs [] h = tt
+in_order-pairs (x ∷ xs) h = (above-pairs (stored_key x) xs h.0, in_order-pairs xs h.1)
+
+pub visible_in_order : (user : List ℕ) (stored : List Stored) (keys : List (Key × ℕ)) → keys ≡ visible user stored → AreRows stored → InOrder (λ (p : Key × ℕ). key_text p.0) keys
+visible_in_order user stored keys is h = rw is (in_order-pairs _ (in_order-filter stored_key (λ s. sees user (rows_in stored) s.0) stored h))

@@ -9,8 +9,8 @@ mod texts;
 mod viewers;
 mod views;
 
-pub use lists::{may, owner_of};
-pub use viewers::{add_user, add_viewers, affected};
+pub use lists::{has_share, may, owner_of};
+pub use viewers::{add_sharers, add_user, add_viewers, affected};
 pub use views::visible;
 
 #[cfg(test)]

@@ -50,8 +50,8 @@ fn shares(user: &User, list: &Id, row: &Row) -> bool
     }
 }
 
-// Whether one of the rows is a share of the list that names the user.
-fn has_share(rows: RowsInOrder<'_>, user: &User, list: &Id) -> bool
+/// Whether one of the rows is a share of the list that names the user. Takes no memory.
+pub fn has_share(rows: RowsInOrder<'_>, user: &User, list: &Id) -> bool
     ensures { result ≡ list_any (shares user.now list.now) (rows_in rows.entry.rows.now) }
 {
     for (row, _version) in rows {

@@ -9,7 +9,6 @@ ghost use Rattle.rv_sharing.specs.Affected.{AddsViewers, AreAffected};
 use crate::lists::owner_of;
 use crate::texts::add;
 use rv_base::{Id, Memory, Sequence, User};
-use rv_rows::plain::list_of;
 use rv_rows::{Key, Row, RowsInOrder, Tables, Users};
 use std::alloc::Global;
 
@@ -38,8 +37,9 @@ fn sharer<'r>(row: &'r Row, list: &Id) -> Option<&'r User>
     }
 }
 
-// The users and those whom a share of the list names.
-fn add_sharers(
+/// The users and those whom one of the rows names as a share of the list. They stand in the order of their bytes, each
+/// once.
+pub fn add_sharers(
     alloc: Global,
     users: Users,
     rows: RowsInOrder<'_>,
@@ -79,7 +79,7 @@ fn lists_of(alloc: Global, tables: &Tables, keys: &[Key]) -> Result<Vec<Id>, Mem
     let mut lists = Vec::new(alloc);
     for key in keys {
         if let Some((row, _version)) = tables.get(key) {
-            add(alloc, &mut lists, list_of(row))?;
+            add(alloc, &mut lists, row.list())?;
         }
     }
     Ok(lists)

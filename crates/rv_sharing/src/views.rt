@@ -1,6 +1,7 @@
 // What a user sees of a table.
 ghost use Rattle.std.specs.Prelude.{◌≡◌, IfOk, OnOk, option_map};
-ghost use Rattle.rv_rows.specs.Keys.{row_key};
+ghost use Rattle.rv_base.specs.Sorted.{InOrder};
+ghost use Rattle.rv_rows.specs.Keys.{key_text, row_key};
 ghost use Rattle.rv_rows.specs.Held.{rows_in};
 ghost use Rattle.rv_sharing.specs.Opened.{opened, AreOpened};
 ghost use Rattle.rv_sharing.specs.Visible.{visible};
@@ -8,7 +9,6 @@ ghost use Rattle.rv_sharing.specs.Visible.{visible};
 use crate::lists::is_there;
 use crate::texts::{add, holds};
 use rv_base::{Id, Memory, Sequence, User};
-use rv_rows::plain::list_of;
 use rv_rows::{Key, Row, Tables, Visible};
 use std::alloc::Global;
 
@@ -58,12 +58,13 @@ fn key_of(alloc: Global, row: &Row) -> Result<Key, Memory>
 
 /// The keys that the user sees, in order, each with the version of its row.
 pub fn visible(alloc: Global, tables: &Tables, user: &User) -> Result<Visible, Memory>
-    ensures { IfOk result (λ v. v ≡ visible user.now tables.now.rows) }
+    ensures visible { IfOk result (λ v. v ≡ visible user.now tables.now.rows) }
+    ensures order { IfOk result (λ v. InOrder (λ pair. key_text pair.0) v) }
 {
     let lists = lists_opened(alloc, tables, user)?;
     let mut keys = Sequence::new(alloc);
     for (row, version) in tables.iter() {
-        if holds(&lists, list_of(row)) {
+        if holds(&lists, row.list()) {
             keys.push((key_of(alloc, row)?, version))?;
         }
     }

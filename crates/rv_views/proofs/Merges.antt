@@ -15,6 +15,10 @@ use Rattle.rv_views.specs.Walks.{rest_from, begins_with}
 pub same_text : (a b : List ℕ) → is_eq (slice_cmp nat_cmp a b) ≡ bytes_eq a b
 same_text = is_eq-slice_cmp
 
+-- the items from a place on begin with the item at that place
+pub drop_at_item : {X : Type 0} (xs : List X) (i : ℕ) (x : X) → i < length xs → x ≡ get_or xs i x → drop i xs ≡ x ∷ drop (i + 1) xs
+drop_at_item {X} xs i x lt is = rw (add-one) (drop-cons xs i x lt ∙ ap (λ (z : X). z ∷ drop (suc i) xs) (sym is))
+
 or_else_not : (a b : Bool) → b ≡ false → (a || b) ≡ a
 or_else_not true b none = refl
 or_else_not false b none = none
@@ -25,7 +29,7 @@ module _ {X : Type 0} (key : X → List ℕ) where
   rest_order k [] h = tt
   rest_order k (y ∷ ys) h = elim (is_lt (slice_cmp nat_cmp (key y) k)) as (λ b. InOrder key (cond b (rest_from key k ys) (y ∷ ys))) [ true ↦ rest_order k ys h.1 | false ↦ h ]
 
-  in_order-drop : (i : ℕ) (xs : List X) → InOrder key xs → InOrder key (drop i xs)
+  pub in_order-drop : (i : ℕ) (xs : List X) → InOrder key xs → InOrder key (drop i xs)
   in_order-drop zero xs h = h
   in_order-drop (suc i) [] h = tt
   in_order-drop (suc i) (x ∷ xs) h = in_order-drop i xs h.1
@@ -33,15 +37,15 @@ module _ {X : Type 0} (key : X → List ℕ) where
 -- items that meet others with the same key alone
 module _ {X : Type 0} (key : X → List ℕ) (meets : X → X → Bool) (apart : (y x : X) → bytes_eq (key y) (key x) ≡ false → meets y x ≡ false) where
   -- some item meets x
-  abbrev met : List X → X → Bool
+  abbrev pub met : List X → X → Bool
   met ys x = list_any (λ y. meets y x) ys
 
   -- the items that none meets
-  abbrev unmet : List X → List X → List X
+  abbrev pub unmet : List X → List X → List X
   unmet ys xs = filter (λ x. not (met ys x)) xs
 
   -- items above x do not meet it
-  met_above : (x : X) (ys : List X) → Above key (key x) ys → met ys x ≡ false
+  pub met_above : (x : X) (ys : List X) → Above key (key x) ys → met ys x ≡ false
   met_above x [] all = refl
   met_above x (y ∷ ys) all = rw (apart y x (differs_back (key x) (key y) all.0)) (met_above x ys all.1)
 
@@ -71,7 +75,7 @@ module _ {X : Type 0} (key : X → List ℕ) (meets : X → X → Bool) (apart :
   unmet_rest k (x ∷ xs) ys all = rw (met_rest k x ys all.0) (ap (λ (t : List X). cond (not (met ys x)) (x ∷ t) t) (unmet_rest k xs ys all.1))
 
   -- one step: the item is taken where the first that is left does not meet it
-  unmet_step : (x : X) (xs ys : List X) → InOrder key (x ∷ xs) → InOrder key ys
+  pub unmet_step : (x : X) (xs ys : List X) → InOrder key (x ∷ xs) → InOrder key ys
       → unmet ys (x ∷ xs) ≡ cond (not (begins_with (λ y. meets y x) (rest_from key (key x) ys))) (x ∷ unmet (rest_from key (key x) ys) xs) (unmet (rest_from key (key x) ys) xs)
   unmet_step x xs ys order h = rw (met_first x ys h, unmet_rest (key x) xs ys order.0) refl
 
@@ -79,19 +83,18 @@ module _ {X : Type 0} (key : X → List ℕ) (meets : X → X → Bool) (apart :
   unmet_at : (xs ys rest : List X) (i : ℕ) (x : X) → i < length xs → x ≡ get_or xs i x → InOrder key xs → InOrder key ys → rest ≡ rest_from key (key x) ys
       → unmet ys (drop i xs) ≡ cond (not (begins_with (λ y. meets y x) rest)) (x ∷ unmet rest (drop (i + 1) xs)) (unmet rest (drop (i + 1) xs))
   unmet_at xs ys rest i x lt is order h walked =
-      let e : drop i xs ≡ x ∷ drop (i + 1) xs = rw (add-one) (drop-cons xs i x lt ∙ ap (λ (z : X). z ∷ drop (suc i) xs) (sym is)) in
+      let e : drop i xs ≡ x ∷ drop (i + 1) xs = drop_at_item xs i x lt is in
       rw walked (ap (unmet ys) e ∙ unmet_step x (drop (i + 1) xs) ys (subst (InOrder key) e (in_order-drop key i xs order)) h)
 
   -- what is kept, and what is to be kept of the items that are left, stays the same
-  module _ {Y : Type 0} (first : X → Y) (out : List X → List Y) (at_first : (x : X) (xs : List X) → out (x ∷ xs) ≡ first x ∷ out xs) where
-    pub taken : (xs ys rest : List X) (i : ℕ) (x : X) (kept all : List Y) → i < length xs → x ≡ get_or xs i x → InOrder key xs → InOrder key ys → rest ≡ rest_from key (key x) ys
-        → begins_with (λ y. meets y x) rest ≡ false → kept ++ out (unmet ys (drop i xs)) ≡ all → (kept ++ first x ∷ []) ++ out (unmet rest (drop (i + 1) xs)) ≡ all
-    taken xs ys rest i x kept all lt is order h walked none ahead =
-        let e : unmet ys (drop i xs) ≡ x ∷ unmet rest (drop (i + 1) xs) = unmet_at xs ys rest i x lt is order h walked ∙ rw none refl in
-        append_assoc kept (first x ∷ []) (out (unmet rest (drop (i + 1) xs))) ∙ ap (λ (t : List Y). kept ++ t) (sym (at_first x (unmet rest (drop (i + 1) xs)))) ∙ ap (λ (t : List X). kept ++ out t) (sym e) ∙ ahead
+  pub taken : (xs ys rest : List X) (i : ℕ) (x : X) (kept all : List X) → i < length xs → x ≡ get_or xs i x → InOrder key xs → InOrder key ys → rest ≡ rest_from key (key x) ys
+      → begins_with (λ y. meets y x) rest ≡ false → kept ++ unmet ys (drop i xs) ≡ all → (kept ++ x ∷ []) ++ unmet rest (drop (i + 1) xs) ≡ all
+  taken xs ys rest i x kept all lt is order h walked none ahead =
+      let e : unmet ys (drop i xs) ≡ x ∷ unmet rest (drop (i + 1) xs) = unmet_at xs ys rest i x lt is order h walked ∙ rw none refl in
+      append_assoc kept (x ∷ []) (unmet rest (drop (i + 1) xs)) ∙ ap (λ (t : List X). kept ++ t) (sym e) ∙ ahead
 
-    pub passed : (xs ys rest : List X) (i : ℕ) (x : X) (kept all : List Y) → i < length xs → x ≡ get_or xs i x → InOrder key xs → InOrder key ys → rest ≡ rest_from key (key x) ys
-        → begins_with (λ y. meets y x) rest ≡ true → kept ++ out (unmet ys (drop i xs)) ≡ all → kept ++ out (unmet rest (drop (i + 1) xs)) ≡ all
-    passed xs ys rest i x kept all lt is order h walked some ahead =
-        let e : unmet ys (drop i xs) ≡ unmet rest (drop (i + 1) xs) = unmet_at xs ys rest i x lt is order h walked ∙ rw some refl in
-        ap (λ (t : List X). kept ++ out t) (sym e) ∙ ahead
+  pub passed : (xs ys rest : List X) (i : ℕ) (x : X) (kept all : List X) → i < length xs → x ≡ get_or xs i x → InOrder key xs → InOrder key ys → rest ≡ rest_from key (key x) ys
+      → begins_with (λ y. meets y x) rest ≡ true → kept ++ unmet ys (drop i xs) ≡ all → kept ++ unmet rest (drop (i + 1) xs) ≡ all
+  passed xs ys rest i x kept all lt is order h walked some ahead =
+      let e : unmet ys (drop i xs) ≡ unmet rest (drop (i + 1) xs) = unmet_at xs ys rest i x lt is order h walked ∙ rw some refl in
+      ap (λ (t : List X). kept ++ t) (sym e) ∙ ahead

@@ -6,11 +6,12 @@
 //! Row Version Strategy of Replicache's guide, with client view records).
 #![tactic(auto)]
 
+mod cookie;
 mod diff;
-mod keys;
 mod record;
 mod walks;
 
+pub use cookie::Cookie;
 pub use diff::Diff;
 pub use record::{ViewRecord, record_now};
 pub use walks::difference;

@@ -6,7 +6,6 @@ ghost use Rattle.rv_rows.specs.Keys.{key_text};
 ghost use Rattle.rv_views.specs.Viewed.{AreSeen, AreClients, seen_key, client_key};
 
 use super::*;
-use crate::keys::compare_keys;
 use rv_base::{Id, Num, Sequence};
 use rv_rows::{Clients, Key, Kind, Visible};
 use std::alloc::Global;
@@ -16,7 +15,7 @@ use std::test::Fail;
 fn is_above_rows(rows: &[(Key, u32)], key: &Key) -> bool
     ensures { result ≡ list_all (λ other. is_lt (slice_cmp nat_cmp (seen_key other) (key_text key.now))) rows.now }
 {
-    rows.iter().all(|other| compare_keys(&other.0, key).is_lt())
+    rows.iter().all(|other| other.0.compare(key).is_lt())
 }
 
 // Whether the id is above those of all clients.

@@ -1,33 +1,39 @@
 // What changes between two views, by walks along both in the order of their keys.
-ghost use Rattle.std.specs.Prelude.{◌≡◌, ◌==◌, ◌&&◌, IfOk, map, option_map};
+ghost use Rattle.std.specs.Prelude.{◌≡◌, ◌==◌, ◌&&◌, if◌then◌else◌, [], ◌∷◌, ◌++◌, IfOk, map, drop, take_while, option_map};
+ghost use Rattle.std.specs.Cmp.Lexicographic.{slice_cmp};
+ghost use Rattle.std.specs.Ordering.{nat_cmp, is_lt};
 ghost use Rattle.std.specs.Str.{bytes_eq};
 ghost use Rattle.rv_rows.specs.Keys.{key_text};
 ghost use Rattle.rv_views.specs.Viewed.{AreSeen, AreClients, seen_key, client_key};
 ghost use Rattle.rv_views.specs.Difference.{lost_keys, touched_keys, changed_ids, difference};
+ghost use Rattle.rv_views.specs.DifferenceLaws.{Arranged};
 ghost use Rattle.rv_views.specs.Walks.{rest_from, begins_with};
 
 use crate::diff::Diff;
-use crate::keys::compare_keys;
 use crate::record::ViewRecord;
 use rv_base::{Id, Memory, Num, Sequence};
 use rv_rows::{Clients, Key, Keys};
 use std::alloc::Global;
 
-/// What has changed since a base. Without one everything goes, and all that is seen now is put.
+/// What has changed since a base, each list in order. Without a base everything goes, and all that is seen now is put.
 pub fn difference(
     alloc: Global,
     base: Option<&ViewRecord>,
     now: &ViewRecord,
 ) -> Result<Diff, Memory>
-    ensures { IfOk result (λ d. d ≡ difference (option_map (λ r. r.now) base.entry) now.now) }
+    ensures difference { IfOk result (λ d. d ≡ difference (option_map (λ r. r.now) base.entry) now.now) }
+    ensures arranged { IfOk result (λ d. Arranged d) }
 {
     match base {
-        Some(base) => Ok(Diff {
-            clear: false,
-            dels: lost(alloc, base.rows(), now.rows())?,
-            puts: touched(alloc, base.rows(), now.rows())?,
-            ids: changed(alloc, base.clients(), now.clients())?,
-        }),
+        Some(base) => {
+            let RowChanges { dels, puts } = rows_changed(alloc, base.rows(), now.rows())?;
+            Ok(Diff {
+                clear: false,
+                dels,
+                puts,
+                ids: changed(alloc, base.clients(), now.clients())?,
+            })
+        }
         None => Ok(Diff {
             clear: true,
             dels: Sequence::new(alloc),
@@ -37,38 +43,89 @@ pub fn difference(
     }
 }
 
-// The keys that were seen and are not seen now.
-fn lost(alloc: Global, base: &[(Key, u32)], now: &[(Key, u32)]) -> Result<Keys, Memory>
-    requires base { AreSeen base.now }
-    requires now { AreSeen now.now }
-    ensures { IfOk result (λ keys. keys ≡ lost_keys base.now now.now) }
-{
-    let mut keys = Sequence::new(alloc);
-    let mut rest = now;
-    for row in base {
-        rest = rows_from(rest, &row.0);
-        if !begins_with_key(rest, &row.0) {
-            keys.push(row.0.copy(alloc)?)?;
-        }
-    }
-    Ok(keys)
+// The keys of the rows that have changed.
+#[derive(Drop)]
+struct RowChanges {
+    // The keys that were seen and are not seen now.
+    dels: Keys,
+    // The keys that are seen now and were not, or had another version.
+    puts: Keys,
 }
 
-// The keys that are seen now and were not, or had another version.
-fn touched(alloc: Global, base: &[(Key, u32)], now: &[(Key, u32)]) -> Result<Keys, Memory>
+// What has changed of the rows, by one walk along both.
+fn rows_changed(
+    alloc: Global,
+    base: &[(Key, u32)],
+    now: &[(Key, u32)],
+) -> Result<RowChanges, Memory>
     requires base { AreSeen base.now }
     requires now { AreSeen now.now }
-    ensures { IfOk result (λ keys. keys ≡ touched_keys base.now now.now) }
+    ensures dels { IfOk result (λ c. c.dels ≡ lost_keys base.now now.now) }
+    ensures puts { IfOk result (λ c. c.puts ≡ touched_keys base.now now.now) }
 {
-    let mut keys = Sequence::new(alloc);
+    let mut dels = Sequence::new(alloc);
+    let mut puts = Sequence::new(alloc);
     let mut rest = base;
     for row in now {
-        rest = rows_from(rest, &row.0);
-        if !begins_with_row(rest, row) {
-            keys.push(row.0.copy(alloc)?)?;
-        }
+        rest = add_below(alloc, &mut dels, rest, &row.0)?;
+        add_touched(alloc, &mut puts, rest, row)?;
+        rest = after_key(rest, &row.0);
     }
-    Ok(keys)
+    add_keys(alloc, &mut dels, rest)?;
+    Ok(RowChanges { dels, puts })
+}
+
+// Adds the keys of the rows before the first whose key is not below this one, and gives the rows from there on.
+fn add_below<'r>(
+    alloc: Global,
+    keys: &mut Keys,
+    rows: &'r [(Key, u32)],
+    key: &Key,
+) -> Result<&'r [(Key, u32)], Memory>
+    ensures rest { IfOk result (λ rest. rest.now ≡ rest_from seen_key (key_text key.now) rows.now) }
+    ensures keys { IfOk result (λ rest. keys.new ≡ keys.old ++ map (λ pair. pair.0) (take_while (λ other. is_lt (slice_cmp nat_cmp (seen_key other) (key_text key.now))) rows.now)) }
+{
+    let mut rest = rows;
+    while let Some((first, others)) = rest.split_first() {
+        if !first.0.compare(key).is_lt() {
+            return Ok(rest);
+        }
+        keys.push(first.0.copy(alloc)?)?;
+        rest = others;
+    }
+    Ok(rest)
+}
+
+// Adds the key of the row, unless the first of the others has this key and this version.
+fn add_touched(
+    alloc: Global,
+    keys: &mut Keys,
+    others: &[(Key, u32)],
+    row: &(Key, u32),
+) -> Result<(), Memory>
+    ensures { IfOk result (λ _. keys.new ≡ keys.old ++ (if begins_with (λ other. bytes_eq (seen_key other) (seen_key row.now) && (other.1 == row.now.1)) others.now then [] else row.now.0 ∷ [])) }
+{
+    if !begins_with_row(others, row) {
+        keys.push(row.0.copy(alloc)?)?;
+    }
+    Ok(())
+}
+
+// The rows without the first, where that has this key.
+#[tactic(auto, using(crate::proofs::Merges::same_text))]
+fn after_key<'r>(rows: &'r [(Key, u32)], key: &Key) -> &'r [(Key, u32)]
+    ensures { result.now ≡ (if begins_with (λ other. bytes_eq (seen_key other) (key_text key.now)) rows.now then drop 1 rows.now else rows.now) }
+{
+    match rows.split_first() {
+        Some((first, others)) => {
+            if first.0.compare(key).is_eq() {
+                others
+            } else {
+                rows
+            }
+        }
+        None => rows,
+    }
 }
 
 // The clients that are there now and were not, or had another last mutation id.
@@ -88,20 +145,6 @@ fn changed(alloc: Global, base: &[(Id, Num)], now: &[(Id, Num)]) -> Result<Clien
     Ok(ids)
 }
 
-// The rows from the first on whose key is not below this one.
-fn rows_from<'r>(rows: &'r [(Key, u32)], key: &Key) -> &'r [(Key, u32)]
-    ensures { result.now ≡ rest_from seen_key (key_text key.now) rows.now }
-{
-    let mut rest = rows;
-    while let Some((first, others)) = rest.split_first() {
-        if !compare_keys(&first.0, key).is_lt() {
-            return rest;
-        }
-        rest = others;
-    }
-    rest
-}
-
 // The clients from the first on whose id is not below this one.
 fn clients_from<'c>(clients: &'c [(Id, Num)], id: &Id) -> &'c [(Id, Num)]
     ensures { result.now ≡ rest_from client_key id.now clients.now }
@@ -116,24 +159,13 @@ fn clients_from<'c>(clients: &'c [(Id, Num)], id: &Id) -> &'c [(Id, Num)]
     rest
 }
 
-// Whether the first row has this key.
-#[tactic(auto, using(crate::proofs::Merges::same_text))]
-fn begins_with_key(rows: &[(Key, u32)], key: &Key) -> bool
-    ensures { result ≡ begins_with (λ other. bytes_eq (seen_key other) (key_text key.now)) rows.now }
-{
-    match rows.first() {
-        Some(first) => compare_keys(&first.0, key).is_eq(),
-        None => false,
-    }
-}
-
 // Whether the first row has the key of this one, and its version.
 #[tactic(auto, using(crate::proofs::Merges::same_text))]
 fn begins_with_row(rows: &[(Key, u32)], row: &(Key, u32)) -> bool
     ensures { result ≡ begins_with (λ other. bytes_eq (seen_key other) (seen_key row.now) && (other.1 == row.now.1)) rows.now }
 {
     match rows.first() {
-        Some(first) => compare_keys(&first.0, &row.0).is_eq() && first.1 == row.1,
+        Some(first) => first.0.compare(&row.0).is_eq() && first.1 == row.1,
         None => false,
     }
 }
@@ -149,15 +181,23 @@ fn begins_with_client(clients: &[(Id, Num)], client: &(Id, Num)) -> bool
 }
 
 // The keys of rows.
-#[tactic(auto, using(std::proofs::lemmas::List::map_more))]
 fn keys_of(alloc: Global, rows: &[(Key, u32)]) -> Result<Keys, Memory>
     ensures { IfOk result (λ keys. keys ≡ map (λ pair. pair.0) rows.now) }
 {
     let mut keys = Sequence::new(alloc);
+    add_keys(alloc, &mut keys, rows)?;
+    Ok(keys)
+}
+
+// Adds the keys of rows.
+#[tactic(auto, using(std::proofs::lemmas::List::map_more))]
+fn add_keys(alloc: Global, keys: &mut Keys, rows: &[(Key, u32)]) -> Result<(), Memory>
+    ensures { IfOk result (λ _. keys.new ≡ keys.old ++ map (λ pair. pair.0) rows.now) }
+{
     for row in rows {
         keys.push(row.0.copy(alloc)?)?;
     }
-    Ok(keys)
+    Ok(())
 }
 
 // The same clients, in memory of their own.

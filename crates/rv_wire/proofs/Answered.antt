@@ -11,14 +11,15 @@ use Rattle.serde_json.specs.View.{items_of}
 use Rattle.serde_json.specs.Written.{has_float, items_have_float, members_have_float}
 use Rattle.rv_base.specs.Sorted.{InOrder}
 use Rattle.rv_rows.specs.declared.row.Row.TheVariants as variants
-use Rattle.rv_wire.specs.declared.cookie.Cookie.{Cookie}
-use Rattle.rv_wire.specs.declared.cookie.Cookie.TheVariants.{Null, Bare, Named}
+use Rattle.rv_views.specs.declared.cookie.Cookie.{Cookie}
+use Rattle.rv_views.specs.declared.cookie.Cookie.TheVariants.{Null, Bare, Named}
 use Rattle.rv_wire.specs.declared.op.Op.{Op}
-use Rattle.rv_wire.specs.declared.op.Op.TheVariants.{Clear, Put}
+use Rattle.rv_wire.specs.declared.op.Op.TheVariants.{Clear, Del, Put}
 use Rattle.rv_wire.specs.Answers.{cookie_data, id_members, op_data, pull_data}
 
 op_no_float : (o : Op) → has_float (op_data o) ≡ false
 op_no_float Clear = refl
+op_no_float (Del key) = refl
 op_no_float (Put (variants.List r)) = refl
 op_no_float (Put (variants.Share r)) = refl
 op_no_float (Put (variants.Todo r)) = refl

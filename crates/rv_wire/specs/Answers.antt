@@ -2,12 +2,12 @@
 use Rattle.std.specs.Prelude.{ℕ, List, [], ◌∷◌, map, codes}
 use Rattle.serde_json.specs.Data.{Data, null, number, unsigned, string, array, object, Members, member, no_members}
 use Rattle.serde_json.specs.View.{items_of}
-use Rattle.rv_rows.specs.Keys.{row_text}
+use Rattle.rv_rows.specs.Keys.{key_text, row_text}
 use Rattle.rv_rows.specs.RowTexts.{row_data}
-use Rattle.rv_wire.specs.declared.cookie.Cookie.{Cookie}
-use Rattle.rv_wire.specs.declared.cookie.Cookie.TheVariants.{Null, Bare, Named}
+use Rattle.rv_views.specs.declared.cookie.Cookie.{Cookie}
+use Rattle.rv_views.specs.declared.cookie.Cookie.TheVariants.{Null, Bare, Named}
 use Rattle.rv_wire.specs.declared.op.Op.{Op}
-use Rattle.rv_wire.specs.declared.op.Op.TheVariants.{Clear, Put}
+use Rattle.rv_wire.specs.declared.op.Op.TheVariants.{Clear, Del, Put}
 
 -- {"cvrID":"PLACE","order":N}
 abbrev pub cookie_data : Cookie → Data
@@ -19,9 +19,10 @@ cookie_data (Named place order) = object (member (codes "cvrID") (string place) 
 abbrev pub put_data : List ℕ → Data → Data
 put_data key value = object (member (codes "key") (string key) (member (codes "op") (string (codes "put")) (member (codes "value") value no_members)))
 
--- {"op":"clear"} and {"key":K,"op":"put","value":ROW}
+-- {"op":"clear"}, {"key":K,"op":"del"} and {"key":K,"op":"put","value":ROW}
 abbrev pub op_data : Op → Data
 op_data Clear = object (member (codes "op") (string (codes "clear")) no_members)
+op_data (Del key) = object (member (codes "key") (string (key_text key)) (member (codes "op") (string (codes "del")) no_members))
 op_data (Put row) = put_data (row_text row) (row_data row)
 
 -- each client with its last mutation id

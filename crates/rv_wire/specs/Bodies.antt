@@ -13,8 +13,8 @@ use Rattle.rv_wire.specs.declared.fault.FieldName.{FieldName}
 use Rattle.rv_wire.specs.declared.fault.FieldName.TheVariants as fields
 use Rattle.rv_wire.specs.declared.fault.VersionKind.{VersionKind}
 use Rattle.rv_wire.specs.declared.fault.VersionKind.TheVariants as versions
-use Rattle.rv_wire.specs.declared.cookie.Cookie.{Cookie}
-use Rattle.rv_wire.specs.declared.cookie.Cookie.TheVariants.{Null, Bare, Named}
+use Rattle.rv_views.specs.declared.cookie.Cookie.{Cookie}
+use Rattle.rv_views.specs.declared.cookie.Cookie.TheVariants.{Null, Bare, Named}
 use Rattle.rv_wire.specs.declared.push.Mutation.{Mutation}
 use Rattle.rv_wire.specs.declared.push.Push.{Push}
 use Rattle.rv_wire.specs.declared.pull.PullRequest.{PullRequest}

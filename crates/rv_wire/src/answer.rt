@@ -4,10 +4,10 @@ ghost use Rattle.serde_json.specs.Written.{compact_text};
 ghost use Rattle.rv_base.specs.Sorted.{InOrder};
 ghost use Rattle.rv_wire.specs.Answers.{cookie_data, id_members, put_data, op_data, answer_data, pull_data};
 
-use crate::cookie::Cookie;
 use crate::op::{Op, Ops};
 use rv_base::{Bytes, Id, Memory, Num, Sequence};
 use rv_rows::{Clients, row_value};
+use rv_views::Cookie;
 use serde_json::{Map, Value, json};
 use std::alloc::{AllocError, Global};
 
@@ -34,6 +34,10 @@ fn op_value(alloc: Global, op: &Op) -> Result<Value, Memory>
 {
     match op {
         Op::Clear => Ok(json!(in alloc; {"op": "clear"})?),
+        Op::Del(key) => {
+            let text = key.kind.key_text(alloc, &key.id)?;
+            Ok(json!(in alloc; {"key": text.as_str(), "op": "del"})?)
+        }
         Op::Put(row) => {
             let key = row.kind().key_text(alloc, row.id())?;
             let value = row_value(alloc, row)?;

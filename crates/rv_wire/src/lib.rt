@@ -7,7 +7,6 @@
 mod answer;
 mod body;
 mod calls;
-mod cookie;
 mod error_body;
 mod fault;
 mod json;
@@ -23,7 +22,6 @@ mod retirement;
 pub use answer::pull_text;
 pub use body::Schemas;
 pub use calls::read_call;
-pub use cookie::Cookie;
 pub use error_body::{ErrorBody, Which};
 pub use fault::{FieldName, VersionKind, WireFault};
 pub use json::read_json;
@@ -34,6 +32,7 @@ pub use push::{Mutation, Mutations, Push};
 pub use push_body::{push_of_value, read_push};
 pub use refusal::error_text;
 pub use retirement::retired_text;
+pub use rv_views::Cookie;
 
 #[cfg(test)]
 mod tests;

@@ -1,5 +1,5 @@
-use crate::cookie::Cookie;
 use rv_base::Id;
+use rv_views::Cookie;
 
 /// The body of a pull: where a client group stands.
 #[derive(Debug, Drop)]

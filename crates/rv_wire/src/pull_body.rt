@@ -4,13 +4,13 @@ ghost use Rattle.rv_wire.specs.Bodies.{Gives, is_served, named_cookie, cookie_at
 ghost use Rattle.rv_wire.specs.Members.{text_member, num_member};
 
 use crate::body::{Schemas, pull_group};
-use crate::cookie::Cookie;
 use crate::fault::{FieldName, WireFault};
 use crate::json::json_of_body;
 use crate::members::{num_member, text_member};
 use crate::pull::PullRequest;
 use rv_base::Memory;
 use rv_rows::num_of_value;
+use rv_views::Cookie;
 use serde_json::Value;
 use std::alloc::Global;
 

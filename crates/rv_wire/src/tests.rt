@@ -1,7 +1,7 @@
 // Bodies and calls of the form and each way to be wrong, and the exact texts of answers and refusals.
 use super::*;
 use rv_base::{Id, Num, Sequence, Text, User};
-use rv_rows::{Call, Clients, ListRow, Row, ShareRow, TodoRow};
+use rv_rows::{Call, Clients, Key, Kind, ListRow, Reason, Row, ShareRow, TodoRow};
 use serde_json::Value;
 use std::alloc::Global;
 use std::test::Fail;
@@ -25,10 +25,23 @@ fn changed(alloc: Global, text: &str, old: &str, new: &str) -> Result<String, Fa
     Ok(format!(in alloc; "{before}{new}{after}")?)
 }
 
+fn copied(alloc: Global, text: &str) -> Result<String, Fail> {
+    Ok(String::from_str(alloc, text)?)
+}
+
+fn push_schema(schemas: &mut Schemas, text: String) -> Result<(), Fail> {
+    Ok(schemas.push(text)?)
+}
+
+fn value(alloc: Global, text: &str) -> Result<Value, Fail> {
+    Ok(Value::from_str(alloc, text)?)
+}
+
 fn schemas(alloc: Global) -> Result<Schemas, Fail> {
     let mut schemas = Sequence::new(alloc);
-    schemas.push(String::from_str(alloc, "")?)?;
-    schemas.push(String::from_str(alloc, "1")?)?;
+    for &text in &["", "1"] {
+        push_schema(&mut schemas, copied(alloc, text)?)?;
+    }
     Ok(schemas)
 }
 
@@ -36,6 +49,18 @@ fn schemas(alloc: Global) -> Result<Schemas, Fail> {
 fn quoted(alloc: Global, length: usize) -> Result<String, Fail> {
     let long = "a".repeat(alloc, length)?;
     Ok(format!(in alloc; "\"{}\"", long.as_str())?)
+}
+
+fn fault_told(alloc: Global, fault: WireFault) -> Result<String, Fail> {
+    Ok(format!(in alloc; "{fault:?}")?)
+}
+
+fn id_told(alloc: Global, name: &str, id: &str) -> Result<String, Fail> {
+    Ok(format!(in alloc; "{name} {id}")?)
+}
+
+fn reason_told(alloc: Global, reason: Reason) -> Result<String, Fail> {
+    Ok(format!(in alloc; "{reason:?}")?)
 }
 
 fn list_told(alloc: Global, id: &str, name: &str, owner: &str) -> Result<String, Fail> {
@@ -72,11 +97,11 @@ fn call_told(alloc: Global, call: &Call) -> Result<String, Fail> {
         Call::CreateList { id, name, owner } => {
             list_told(alloc, id.as_str(), name.as_str(), owner.as_str())
         }
-        Call::DeleteList { id } => Ok(format!(in alloc; "deleteList {}", id.as_str())?),
+        Call::DeleteList { id } => id_told(alloc, "deleteList", id.as_str()),
         Call::CreateShare { id, list, user } => {
             share_told(alloc, id.as_str(), list.as_str(), user.as_str())
         }
-        Call::DeleteShare { id } => Ok(format!(in alloc; "deleteShare {}", id.as_str())?),
+        Call::DeleteShare { id } => id_told(alloc, "deleteShare", id.as_str()),
         Call::CreateTodo {
             id,
             list,
@@ -92,7 +117,7 @@ fn call_told(alloc: Global, call: &Call) -> Result<String, Fail> {
             let text = text.as_ref().map(Text::as_str);
             update_told(alloc, id.as_str(), text, *complete, sort.map(Num::get))
         }
-        Call::DeleteTodo { id } => Ok(format!(in alloc; "deleteTodo {}", id.as_str())?),
-        Call::Void(reason) => Ok(format!(in alloc; "{reason:?}")?),
+        Call::DeleteTodo { id } => id_told(alloc, "deleteTodo", id.as_str()),
+        Call::Void(reason) => reason_told(alloc, *reason),
     }
 }

@@ -1,5 +1,5 @@
 // The book and the tables that a script leaves.
-use super::worked::script;
+use super::worked::{SCRIPTS, lengths, script, with_repeats};
 use crate::answering::answer_text;
 use crate::serving::served_schemas;
 use rv_base::Id;
@@ -9,28 +9,43 @@ use rv_rows::{Call, Key, Kind, Reason};
 use std::alloc::Global;
 use std::test::Fail;
 
-// Answers the lines of a script.
-fn answer_lines(alloc: Global, desk: &mut Desk, number: u8) -> Result<(), Fail> {
+// Answers the lines of an input.
+fn answer_lines(alloc: Global, desk: &mut Desk, input: &[u8]) -> Result<(), Fail> {
     let schemas = served_schemas(alloc)?;
-    let text = std::str::from_utf8(script(number).0).unwrap_or("");
+    let text = std::str::from_utf8(input).unwrap_or("");
     for line in text.lines() {
         let _answer = answer_text(alloc, desk, &schemas, line.as_bytes())?;
     }
     Ok(())
 }
 
-fn length_after(alloc: Global, number: u8) -> Result<u32, Fail> {
+fn length_after(alloc: Global, input: &[u8]) -> Result<u32, Fail> {
     let mut desk = Desk::new(alloc, 100);
-    answer_lines(alloc, &mut desk, number)?;
+    answer_lines(alloc, &mut desk, input)?;
     Ok(desk.book().len())
 }
 
 #[test]
 fn leaves_books_of_their_lengths(rt: HostRuntime) -> Result<(), Fail> {
-    let lengths: [u32; 9] = [2, 4, 4, 2, 5, 7, 7, 3, 3];
-    for number in 0..9u8 {
-        let length = length_after(rt.alloc(), number)?;
-        assert_eq!(rt; length, lengths[number as usize], "script {number}");
+    for number in 0..SCRIPTS {
+        let length = length_after(rt.alloc(), script(number).0)?;
+        assert_eq!(rt; length, lengths()[number as usize], "script {number}");
+    }
+    Ok(())
+}
+
+// The length of the book that a script leaves where each push is sent twice.
+fn length_after_repeats(alloc: Global, number: u8) -> Result<u32, Fail> {
+    let input = script(number).0;
+    let input = with_repeats(alloc, input, input)?;
+    length_after(alloc, &input)
+}
+
+#[test]
+fn enters_nothing_for_a_push_that_is_sent_again(rt: HostRuntime) -> Result<(), Fail> {
+    for number in 0..SCRIPTS {
+        let length = length_after_repeats(rt.alloc(), number)?;
+        assert_eq!(rt; length, lengths()[number as usize], "script {number}");
     }
     Ok(())
 }
@@ -64,7 +79,7 @@ fn viewers(alloc: Global, desk: &Desk, todo: &str) -> Result<String, Fail> {
 fn keeps_the_place_of_each_write(rt: HostRuntime) -> Result<(), Fail> {
     let alloc = rt.alloc();
     let mut desk = Desk::new(alloc, 100);
-    answer_lines(alloc, &mut desk, 6)?;
+    answer_lines(alloc, &mut desk, script(6).0)?;
     assert_eq!(rt; standing(alloc, &desk)?.as_str(), "l1 1,s1 4,t1 6,t2 7,");
     assert_eq!(rt; viewers(alloc, &desk, "t2")?.as_str(), "ann bob ");
     Ok(())
@@ -87,7 +102,7 @@ fn reason_at(desk: &Desk, place: u32) -> Option<Reason> {
 fn enters_calls_that_are_none(rt: HostRuntime) -> Result<(), Fail> {
     let alloc = rt.alloc();
     let mut desk = Desk::new(alloc, 100);
-    answer_lines(alloc, &mut desk, 3)?;
+    answer_lines(alloc, &mut desk, script(3).0)?;
     assert_eq!(rt; reason_at(&desk, 1), Some(Reason::UnknownName));
     assert_eq!(rt; reason_at(&desk, 2), Some(Reason::BadArgs));
     assert_eq!(rt; reason_at(&desk, 3), None);

@@ -1,172 +1,52 @@
 // Whole inputs of `feed memory`, and exactly what they are answered.
+mod pushes;
+mod views;
 
-/// A script by its number.
+use std::alloc::Global;
+use std::test::Fail;
+
+/// How many scripts there are. Their numbers are the ones below.
+pub const SCRIPTS: u8 = 25;
+
+/// A script by its number: the input, and what is written.
 pub fn script(number: u8) -> (&'static [u8], &'static [u8]) {
-    match number {
-        0 => (future_in_a_push(), future_in_a_push_answers()),
-        1 => (future_then_caught_up(), future_then_caught_up_answers()),
-        2 => (stranger_without_effect(), stranger_without_effect_answers()),
-        3 => (void_calls(), void_calls_answers()),
-        4 => (shared_list(), shared_list_answers()),
-        5 => (deleted_list(), deleted_list_answers()),
-        6 => (greatest_sort(), greatest_sort_answers()),
-        7 => (bound_and_retired(), bound_and_retired_answers()),
-        8 => (
-            refused_after_retirement(),
-            refused_after_retirement_answers(),
-        ),
-        _ => (b"", b""),
+    if number < 13 {
+        pushes::script(number)
+    } else {
+        views::script(number - 13)
     }
 }
 
-fn future_in_a_push() -> &'static [u8] {
-    br#"{"user":"ann","push":{"pushVersion":1,"clientGroupID":"g1","profileID":"p","schemaVersion":"","mutations":[{"clientID":"c1","id":1,"name":"createList","args":{"id":"l1","name":"Home","ownerID":"ann"},"timestamp":0.5},{"clientID":"c1","id":2,"name":"createTodo","args":{"id":"t1","listID":"l1","text":"milk","complete":false},"timestamp":0.5},{"clientID":"c1","id":4,"name":"deleteTodo","args":"t1","timestamp":0.5}]}}
-"#
+/// The status of a script: one ends at a line that is not of the form.
+pub fn status_of(number: u8) -> u8 {
+    if number == 12 { 10 } else { 0 }
 }
 
-fn future_in_a_push_answers() -> &'static [u8] {
-    br#"409 {"error":"Future","expected":3,"got":4}
-"#
+/// The lengths of the books that the scripts leave.
+pub fn lengths() -> [u32; 25] {
+    [
+        2, 4, 4, 2, 5, 7, 7, 3, 3, 0, 2, 1, 0, 2, 7, 8, 7, 9, 37, 3, 4, 4, 3, 5, 11,
+    ]
 }
 
-fn future_then_caught_up() -> &'static [u8] {
-    br#"{"user":"ann","push":{"pushVersion":1,"clientGroupID":"g1","profileID":"p","schemaVersion":"","mutations":[{"clientID":"c1","id":1,"name":"createList","args":{"id":"l1","name":"Home","ownerID":"ann"},"timestamp":0.5},{"clientID":"c1","id":2,"name":"createTodo","args":{"id":"t1","listID":"l1","text":"milk","complete":false},"timestamp":0.5},{"clientID":"c1","id":4,"name":"deleteTodo","args":"t1","timestamp":0.5}]}}
-{"user":"ann","push":{"pushVersion":1,"clientGroupID":"g1","profileID":"p","schemaVersion":"","mutations":[{"clientID":"c1","id":3,"name":"deleteTodo","args":"zz","timestamp":0.5},{"clientID":"c1","id":4,"name":"deleteTodo","args":"t1","timestamp":0.5}]}}
-"#
+/// The lines of a text, and each line twice that stands beside a push: of a script's input beside itself they are the input
+/// with each push sent twice, and of its output beside the input the answers to that.
+pub fn with_repeats(alloc: Global, input: &[u8], text: &[u8]) -> Result<Vec<u8>, Fail> {
+    let input = std::str::from_utf8(input)?;
+    let text = std::str::from_utf8(text)?;
+    let mut bytes = Vec::new(alloc);
+    for (request, line) in input.lines().zip(text.lines()) {
+        let times = if request.contains("\"push\"") { 2 } else { 1 };
+        add_line(&mut bytes, line, times)?;
+    }
+    Ok(bytes)
 }
 
-fn future_then_caught_up_answers() -> &'static [u8] {
-    br#"409 {"error":"Future","expected":3,"got":4}
-200 {}
-"#
-}
-
-fn stranger_without_effect() -> &'static [u8] {
-    br#"{"user":"ann","push":{"pushVersion":1,"clientGroupID":"g1","profileID":"p","schemaVersion":"","mutations":[{"clientID":"c1","id":1,"name":"createList","args":{"id":"l1","name":"Home","ownerID":"ann"},"timestamp":0.5}]}}
-{"user":"ann","pull":{"pullVersion":1,"clientGroupID":"g1","profileID":"p","schemaVersion":"","cookie":null}}
-{"user":"bob","push":{"pushVersion":1,"clientGroupID":"g9","profileID":"p","schemaVersion":"","mutations":[{"clientID":"c9","id":1,"name":"createTodo","args":{"id":"t9","listID":"l1","text":"x","complete":false},"timestamp":0.5}]}}
-{"user":"bob","pull":{"pullVersion":1,"clientGroupID":"g9","profileID":"p","schemaVersion":"","cookie":null}}
-"#
-}
-
-fn stranger_without_effect_answers() -> &'static [u8] {
-    br#"200 {}
-200 {"cookie":{"cvrID":"2","order":1},"lastMutationIDChanges":{"c1":1},"patch":[{"op":"clear"},{"key":"list/l1","op":"put","value":{"id":"l1","name":"Home","ownerID":"ann"}}]}
-200 {}
-200 {"cookie":{"cvrID":"4","order":1},"lastMutationIDChanges":{"c9":1},"patch":[{"op":"clear"}]}
-"#
-}
-
-fn void_calls() -> &'static [u8] {
-    br#"{"user":"ann","push":{"pushVersion":1,"clientGroupID":"g1","profileID":"p","schemaVersion":"","mutations":[{"clientID":"c1","id":1,"name":"paint","args":null,"timestamp":0.5},{"clientID":"c1","id":2,"name":"updateTodo","args":{"id":"t1","sort":1.5},"timestamp":0.5}]}}
-"#
-}
-
-fn void_calls_answers() -> &'static [u8] {
-    br#"200 {}
-"#
-}
-
-fn shared_list() -> &'static [u8] {
-    br#"{"user":"ann","push":{"pushVersion":1,"clientGroupID":"g1","profileID":"p","schemaVersion":"","mutations":[{"clientID":"c1","id":1,"name":"createList","args":{"id":"l1","name":"Home","ownerID":"ann"},"timestamp":0.5}]}}
-{"user":"ann","pull":{"pullVersion":1,"clientGroupID":"g1","profileID":"p","schemaVersion":"","cookie":null}}
-{"user":"ann","push":{"pushVersion":1,"clientGroupID":"g1","profileID":"p","schemaVersion":"","mutations":[{"clientID":"c1","id":2,"name":"createTodo","args":{"id":"t1","listID":"l1","text":"milk","complete":false},"timestamp":0.5},{"clientID":"c1","id":3,"name":"createShare","args":{"id":"s1","listID":"l1","userID":"bob"},"timestamp":0.5}]}}
-{"user":"bob","pull":{"pullVersion":1,"clientGroupID":"g2","profileID":"p","schemaVersion":"","cookie":null}}
-"#
-}
-
-fn shared_list_answers() -> &'static [u8] {
-    br#"200 {}
-200 {"cookie":{"cvrID":"2","order":1},"lastMutationIDChanges":{"c1":1},"patch":[{"op":"clear"},{"key":"list/l1","op":"put","value":{"id":"l1","name":"Home","ownerID":"ann"}}]}
-200 {}
-200 {"cookie":{"cvrID":"5","order":1},"lastMutationIDChanges":{},"patch":[{"op":"clear"},{"key":"list/l1","op":"put","value":{"id":"l1","name":"Home","ownerID":"ann"}},{"key":"share/s1","op":"put","value":{"id":"s1","listID":"l1","userID":"bob"}},{"key":"todo/t1","op":"put","value":{"complete":false,"id":"t1","listID":"l1","sort":1,"text":"milk"}}]}
-"#
-}
-
-fn deleted_list() -> &'static [u8] {
-    br#"{"user":"ann","push":{"pushVersion":1,"clientGroupID":"g1","profileID":"p","schemaVersion":"","mutations":[{"clientID":"c1","id":1,"name":"createList","args":{"id":"l1","name":"Home","ownerID":"ann"},"timestamp":0.5}]}}
-{"user":"ann","pull":{"pullVersion":1,"clientGroupID":"g1","profileID":"p","schemaVersion":"","cookie":null}}
-{"user":"ann","push":{"pushVersion":1,"clientGroupID":"g1","profileID":"p","schemaVersion":"","mutations":[{"clientID":"c1","id":2,"name":"createTodo","args":{"id":"t1","listID":"l1","text":"milk","complete":false},"timestamp":0.5},{"clientID":"c1","id":3,"name":"createShare","args":{"id":"s1","listID":"l1","userID":"bob"},"timestamp":0.5}]}}
-{"user":"bob","pull":{"pullVersion":1,"clientGroupID":"g2","profileID":"p","schemaVersion":"","cookie":null}}
-{"user":"ann","push":{"pushVersion":1,"clientGroupID":"g1","profileID":"p","schemaVersion":"","mutations":[{"clientID":"c1","id":4,"name":"deleteList","args":"l1","timestamp":0.5}]}}
-{"user":"ann","pull":{"pullVersion":1,"clientGroupID":"g1","profileID":"p","schemaVersion":"","cookie":null}}
-"#
-}
-
-fn deleted_list_answers() -> &'static [u8] {
-    br#"200 {}
-200 {"cookie":{"cvrID":"2","order":1},"lastMutationIDChanges":{"c1":1},"patch":[{"op":"clear"},{"key":"list/l1","op":"put","value":{"id":"l1","name":"Home","ownerID":"ann"}}]}
-200 {}
-200 {"cookie":{"cvrID":"5","order":1},"lastMutationIDChanges":{},"patch":[{"op":"clear"},{"key":"list/l1","op":"put","value":{"id":"l1","name":"Home","ownerID":"ann"}},{"key":"share/s1","op":"put","value":{"id":"s1","listID":"l1","userID":"bob"}},{"key":"todo/t1","op":"put","value":{"complete":false,"id":"t1","listID":"l1","sort":1,"text":"milk"}}]}
-200 {}
-200 {"cookie":{"cvrID":"7","order":2},"lastMutationIDChanges":{"c1":4},"patch":[{"op":"clear"}]}
-"#
-}
-
-fn greatest_sort() -> &'static [u8] {
-    br#"{"user":"ann","push":{"pushVersion":1,"clientGroupID":"g1","profileID":"p","schemaVersion":"","mutations":[{"clientID":"c1","id":1,"name":"createList","args":{"id":"l1","name":"Home","ownerID":"ann"},"timestamp":0.5}]}}
-{"user":"ann","pull":{"pullVersion":1,"clientGroupID":"g1","profileID":"p","schemaVersion":"","cookie":null}}
-{"user":"ann","push":{"pushVersion":1,"clientGroupID":"g1","profileID":"p","schemaVersion":"","mutations":[{"clientID":"c1","id":2,"name":"createTodo","args":{"id":"t1","listID":"l1","text":"milk","complete":false},"timestamp":0.5},{"clientID":"c1","id":3,"name":"createShare","args":{"id":"s1","listID":"l1","userID":"bob"},"timestamp":0.5}]}}
-{"user":"bob","pull":{"pullVersion":1,"clientGroupID":"g2","profileID":"p","schemaVersion":"","cookie":null}}
-{"user":"bob","push":{"pushVersion":1,"clientGroupID":"g2","profileID":"p","schemaVersion":"","mutations":[{"clientID":"c2","id":1,"name":"updateTodo","args":{"id":"t1","sort":9007199254740991},"timestamp":0.5},{"clientID":"c2","id":2,"name":"createTodo","args":{"id":"t2","listID":"l1","text":"","complete":true},"timestamp":0.5}]}}
-"#
-}
-
-fn greatest_sort_answers() -> &'static [u8] {
-    br#"200 {}
-200 {"cookie":{"cvrID":"2","order":1},"lastMutationIDChanges":{"c1":1},"patch":[{"op":"clear"},{"key":"list/l1","op":"put","value":{"id":"l1","name":"Home","ownerID":"ann"}}]}
-200 {}
-200 {"cookie":{"cvrID":"5","order":1},"lastMutationIDChanges":{},"patch":[{"op":"clear"},{"key":"list/l1","op":"put","value":{"id":"l1","name":"Home","ownerID":"ann"}},{"key":"share/s1","op":"put","value":{"id":"s1","listID":"l1","userID":"bob"}},{"key":"todo/t1","op":"put","value":{"complete":false,"id":"t1","listID":"l1","sort":1,"text":"milk"}}]}
-200 {}
-"#
-}
-
-fn bound_and_retired() -> &'static [u8] {
-    br#"{"user":"ann","push":{"pushVersion":1,"clientGroupID":"g1","profileID":"p","schemaVersion":"","mutations":[{"clientID":"c1","id":1,"name":"createList","args":{"id":"l1","name":"Home","ownerID":"ann"},"timestamp":0.5}]}}
-{"user":"ann","pull":{"pullVersion":1,"clientGroupID":"g1","profileID":"p","schemaVersion":"","cookie":null}}
-{"user":"bob","push":{"pushVersion":1,"clientGroupID":"g1","profileID":"p","schemaVersion":"","mutations":[{"clientID":"c5","id":1,"name":"paint","args":null,"timestamp":0.5}]}}
-{"user":"bob","pull":{"pullVersion":1,"clientGroupID":"g1","profileID":"p","schemaVersion":"","cookie":null}}
-{"user":"ann","push":{"pushVersion":1,"clientGroupID":"g2","profileID":"p","schemaVersion":"","mutations":[{"clientID":"c1","id":2,"name":"paint","args":null,"timestamp":0.5}]}}
-{"retire":"g1"}
-{"retire":"g1"}
-{"user":"ann","push":{"pushVersion":1,"clientGroupID":"g1","profileID":"p","schemaVersion":"","mutations":[{"clientID":"c1","id":1,"name":"createList","args":{"id":"l1","name":"Home","ownerID":"ann"},"timestamp":0.5}]}}
-{"user":"ann","pull":{"pullVersion":1,"clientGroupID":"g1","profileID":"p","schemaVersion":"","cookie":null}}
-{"retire":"zz"}
-{"user":"ann","push":{"pushVersion":0,"clientGroupID":"g1","profileID":"p","schemaVersion":"","mutations":[{"clientID":"c1","id":1,"name":"createList","args":{"id":"l1","name":"Home","ownerID":"ann"},"timestamp":0.5}]}}
-{"user":"ann","push":{"pushVersion":1,"clientGroupID":"g1","profileID":"p","schemaVersion":"9","mutations":[{"clientID":"c1","id":1,"name":"createList","args":{"id":"l1","name":"Home","ownerID":"ann"},"timestamp":0.5}]}}
-"#
-}
-
-fn bound_and_retired_answers() -> &'static [u8] {
-    br#"200 {}
-200 {"cookie":{"cvrID":"2","order":1},"lastMutationIDChanges":{"c1":1},"patch":[{"op":"clear"},{"key":"list/l1","op":"put","value":{"id":"l1","name":"Home","ownerID":"ann"}}]}
-403 {"error":"GroupOfOther"}
-403 {"error":"GroupOfOther"}
-403 {"error":"ClientOfOther"}
-200 {"retired":3}
-200 {"error":"ClientStateNotFound"}
-200 {"error":"ClientStateNotFound"}
-200 {"error":"ClientStateNotFound"}
-404 {"error":"NoGroup"}
-200 {"error":"VersionNotSupported","versionType":"push"}
-200 {"error":"VersionNotSupported","versionType":"schema"}
-"#
-}
-
-fn refused_after_retirement() -> &'static [u8] {
-    br#"{"user":"ann","push":{"pushVersion":1,"clientGroupID":"g1","profileID":"p","schemaVersion":"","mutations":[{"clientID":"c1","id":1,"name":"createList","args":{"id":"l1","name":"Home","ownerID":"ann"},"timestamp":0.5}]}}
-{"user":"ann","pull":{"pullVersion":1,"clientGroupID":"g1","profileID":"p","schemaVersion":"","cookie":null}}
-{"retire":"g1"}
-{"user":"bob","push":{"pushVersion":1,"clientGroupID":"g1","profileID":"p","schemaVersion":"","mutations":[{"clientID":"c5","id":1,"name":"paint","args":null,"timestamp":0.5}]}}
-{"user":"ann","push":{"pushVersion":1,"clientGroupID":"g2","profileID":"p","schemaVersion":"","mutations":[{"clientID":"c1","id":2,"name":"paint","args":null,"timestamp":0.5}]}}
-"#
-}
-
-fn refused_after_retirement_answers() -> &'static [u8] {
-    br#"200 {}
-200 {"cookie":{"cvrID":"2","order":1},"lastMutationIDChanges":{"c1":1},"patch":[{"op":"clear"},{"key":"list/l1","op":"put","value":{"id":"l1","name":"Home","ownerID":"ann"}}]}
-200 {"retired":3}
-403 {"error":"GroupOfOther"}
-403 {"error":"ClientOfOther"}
-"#
+// Adds a line so many times.
+fn add_line(bytes: &mut Vec<u8>, line: &str, times: u8) -> Result<(), Fail> {
+    for _ in 0..times {
+        bytes.extend_from_slice(line.as_bytes())?;
+        bytes.push(b'\n')?;
+    }
+    Ok(())
 }

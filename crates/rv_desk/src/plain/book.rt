@@ -204,7 +204,8 @@ pub fn ids(alloc: Global, book: &[Entry], group: &Id) -> Result<Clients, Memory>
     Ok(Sequence::from_vec(clients))
 }
 
-fn rows_after(alloc: Global, rows: Vec<Row>, entry: &Entry) -> Result<Vec<Row>, Memory>
+/// The rows after one more entry.
+pub fn rows_after(alloc: Global, rows: Vec<Row>, entry: &Entry) -> Result<Vec<Row>, Memory>
     ensures { IfOk result (λ v. v.items ≡ rows_after rows.items entry.now) }
 {
     match entry {

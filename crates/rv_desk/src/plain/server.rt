@@ -1,40 +1,22 @@
-ghost use Rattle.std.specs.Prelude.{◌≡◌, ◌≤◌, ◌<◌, ◌+◌, ◌^◌, ◌∷◌, [], ◌++◌, map, length, IfOk, None, OnOk, OnErr};
-ghost use Rattle.rv_wire.specs.declared.op.Op.TheVariants.{Clear, Put};
+ghost use Rattle.std.specs.Prelude.{◌≡◌, ◌≤◌, ◌<◌, ◌+◌, ◌^◌, ◌∷◌, [], ◌++◌, ◌↔◌, IsTrue, length, IfOk, OnOk, OnErr};
+ghost use Rattle.rv_base.specs.Sorted.{InOrder};
 ghost use Rattle.rv_book.specs.declared.entry.Entry.TheVariants.{Act, Look, Retire};
-ghost use Rattle.rv_desk.specs.Groups.{is_of_other, is_elsewhere};
-ghost use Rattle.rv_desk.specs.Patches.{patch};
+ghost use Rattle.rv_desk.specs.Groups.{is_of_other, is_elsewhere, Admits};
+ghost use Rattle.rv_desk.specs.Bases.{base_of};
+ghost use Rattle.rv_desk.specs.Machine.{patch_for, ids_for};
 
 use crate::entries;
-use crate::plain::book::{bound, group_of, ids, last, last_order, retired, rows_of};
-use crate::reply::{next_order, reply};
+use crate::plain::book::{bound, group_of, last, last_order, retired};
+use crate::plain::history::{ids_since, patch_since};
+use crate::plain::looks::base_of;
+use crate::reply::{next_order, reply, same_reply};
 use crate::turn::{PullAnswer, PullReply, RetireAnswer, Turn};
-use rv_base::{Id, Memory, Num, Sequence, User};
+use rv_base::{Id, Memory, Num, User};
 use rv_book::Entry;
-use rv_rows::{Call, Row};
-use rv_wire::{Op, Ops, PullRequest, Which};
+use rv_rows::{Call, Clients};
+use rv_wire::{Ops, PullRequest, Which};
 use std::alloc::Global;
 use std::marker::Model;
-
-/// The patch that shows a user all that it sees at a book.
-pub fn patch(alloc: Global, book: &[Entry], user: &User) -> Result<Ops, Memory>
-    ensures { IfOk result (λ ops. ops ≡ patch user.now book.now) }
-{
-    let rows = rows_of(alloc, book)?;
-    let seen = rv_rows::plain::seen(alloc, &rows, user)?;
-    puts(alloc, &seen)
-}
-
-// Everything goes, and each row is put.
-fn puts(alloc: Global, rows: &[Row]) -> Result<Ops, Memory>
-    ensures { IfOk result (λ ops. ops ≡ Clear ∷ map (λ row. Put row) rows.now) }
-{
-    let mut ops = Sequence::new(alloc);
-    ops.push(Op::Clear)?;
-    for row in rows {
-        ops.push(Op::Put(row.copy(alloc)?))?;
-    }
-    Ok(ops)
-}
 
 fn is_of_other(book: &[Entry], user: &User, group: &Id) -> bool
     ensures { result ≡ is_of_other user.now group.now book.now }
@@ -52,6 +34,42 @@ fn is_elsewhere(book: &[Entry], client: &Id, group: &Id) -> bool
         Some(other) => other != group,
         None => false,
     }
+}
+
+// What a pull is told, with the place of its base.
+#[derive(Debug, Drop)]
+struct Told {
+    base: Option<u32>,
+    ops: Ops,
+    ids: Clients,
+}
+
+impl Told {
+    // Whether there is nothing to tell.
+    fn is_empty(&self) -> bool
+        ensures { IsTrue result ↔ ((self.now.ops ≡ []) × (self.now.ids ≡ [])) }
+    {
+        self.ops.as_slice().is_empty() && self.ids.as_slice().is_empty()
+    }
+}
+
+// What a pull is told at a book.
+fn told_at(
+    alloc: Global,
+    book: &[Entry],
+    user: &User,
+    request: &PullRequest,
+) -> Result<Told, Memory>
+    requires { length book.now < 2 ^ 32 }
+    ensures base { IfOk result (λ told. told.base ≡ base_of user.now request.now.cookie book.now) }
+    ensures ops { IfOk result (λ told. told.ops ≡ patch_for user.now request.now book.now) }
+    ensures ids { IfOk result (λ told. told.ids ≡ ids_for user.now request.now book.now) }
+    ensures order { IfOk result (λ told. InOrder (λ pair. pair.0) told.ids) }
+{
+    let base = base_of(book, user, &request.cookie);
+    let ops = patch_since(alloc, book, user, base)?;
+    let ids = ids_since(alloc, book, &request.group, base)?;
+    Ok(Told { base, ops, ids })
 }
 
 /// A server that has nothing but its book, and replays it at each pull.
@@ -157,32 +175,57 @@ impl PlainDesk {
         if retired(&self.entries, &request.group) {
             return PullAnswer::NotFound;
         }
-        let order = next_order(&request.cookie, last_order(&self.entries, &request.group));
-        if order > Num::MAX {
-            return PullAnswer::Limit(Which::Order, Num::from_u64(Num::MAX));
-        }
-        if self.entries.len() >= self.limit as usize {
-            return PullAnswer::Limit(Which::Book, Num::from_u64(u64::from(self.limit)));
-        }
-        match self.look(user, request, Num::from_u64(order)) {
-            Ok(reply) => PullAnswer::Pulled(reply),
+        match self.answer(user, request) {
+            Ok(answer) => answer,
             Err(Memory) => PullAnswer::Memory,
         }
     }
 
-    fn look(&mut self, user: &User, request: &PullRequest, order: Num) -> Result<PullReply, Memory>
-        requires room { length self.old.book < self.old.limit }
-        requires order { order ≡ next_order request.now self.old.book }
-        ensures reply { IfOk result (λ reply. reply ≡ reply_to user.now request.now self.old.book) }
-        ensures ok { OnOk result (self.new.book ≡ self.old.book ++ Look user.now request.now.group order None ∷ []) }
+    // The answer to a pull of a group that is the user's and not retired.
+    fn answer(&mut self, user: &User, request: &PullRequest) -> Result<PullAnswer, Memory>
+        requires admits { Admits user.now request.now.group self.old.book }
+        ensures ok { IfOk result (λ answer. Pulls self.old.limit user.now request.now self.old.book answer self.new.book) }
         ensures err { OnErr result (self.new.book ≡ self.old.book) }
         ensures limit { self.new.limit ≡ self.old.limit }
     {
-        let ids = ids(self.alloc, &self.entries, &request.group)?;
-        let ops = patch(self.alloc, &self.entries, user)?;
+        let told = told_at(self.alloc, &self.entries, user, request)?;
+        if told.is_empty() {
+            return Ok(PullAnswer::Pulled(same_reply(self.alloc, request)?));
+        }
+        let order = next_order(&request.cookie, last_order(&self.entries, &request.group));
+        if order > Num::MAX {
+            return Ok(PullAnswer::Limit(Which::Order, Num::from_u64(Num::MAX)));
+        }
+        if self.entries.len() >= self.limit as usize {
+            return Ok(PullAnswer::Limit(Which::Book, Num::from_u64(u64::from(self.limit))));
+        }
+        let reply = self.look(user, request, Num::from_u64(order), told)?;
+        Ok(PullAnswer::Pulled(reply))
+    }
+
+    // Makes the reply, and then enters the look.
+    fn look(
+        &mut self,
+        user: &User,
+        request: &PullRequest,
+        order: Num,
+        told: Told,
+    ) -> Result<PullReply, Memory>
+        requires room { length self.old.book < self.old.limit }
+        requires order { order ≡ next_order request.now self.old.book }
+        requires base { told.base ≡ base_of user.now request.now.cookie self.old.book }
+        requires ops { told.ops ≡ patch_for user.now request.now self.old.book }
+        requires ids { told.ids ≡ ids_for user.now request.now self.old.book }
+        requires ids_order { InOrder (λ pair. pair.0) told.ids }
+        ensures reply { IfOk result (λ reply. reply ≡ reply_to user.now request.now self.old.book) }
+        ensures ok { OnOk result (self.new.book ≡ self.old.book ++ Look user.now request.now.group order (base_of user.now request.now.cookie self.old.book) ∷ []) }
+        ensures err { OnErr result (self.new.book ≡ self.old.book) }
+        ensures limit { self.new.limit ≡ self.old.limit }
+    {
+        let Told { base, ops, ids } = told;
         let place = self.entries.len() as u32 + 1;
         let reply = reply(self.alloc, place, order, ids, ops)?;
-        let entry = entries::look(self.alloc, user, &request.group, order)?;
+        let entry = entries::look(self.alloc, user, &request.group, order, base)?;
         self.entries.push(entry)?;
         Ok(reply)
     }

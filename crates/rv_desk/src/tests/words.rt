@@ -2,8 +2,8 @@
 use rv_base::{Id, Num, Text, User};
 use rv_rows::{Call, Reason};
 use std::alloc::Global;
-use std::test::Fail;
 
+#[derive(Drop)]
 pub struct Line {
     pub user: User,
     pub group: Id,
@@ -20,25 +20,25 @@ struct Words<'a> {
     other: &'a str,
 }
 
-fn create_list(alloc: Global, words: Words<'_>) -> Result<Call, Fail> {
-    let id = Id::new(alloc, words.id)?;
-    let name = Text::new(alloc, "Home")?;
-    let owner = User::new(alloc, words.list)?;
-    Ok(Call::CreateList { id, name, owner })
+fn create_list(alloc: Global, words: Words<'_>) -> Option<Call> {
+    let id = Id::new(alloc, words.id).ok()?;
+    let name = Text::new(alloc, "Home").ok()?;
+    let owner = User::new(alloc, words.list).ok()?;
+    Some(Call::CreateList { id, name, owner })
 }
 
-fn create_share(alloc: Global, words: Words<'_>) -> Result<Call, Fail> {
-    let id = Id::new(alloc, words.id)?;
-    let list = Id::new(alloc, words.list)?;
-    let user = User::new(alloc, words.other)?;
-    Ok(Call::CreateShare { id, list, user })
+fn create_share(alloc: Global, words: Words<'_>) -> Option<Call> {
+    let id = Id::new(alloc, words.id).ok()?;
+    let list = Id::new(alloc, words.list).ok()?;
+    let user = User::new(alloc, words.other).ok()?;
+    Some(Call::CreateShare { id, list, user })
 }
 
-fn create_todo(alloc: Global, words: Words<'_>) -> Result<Call, Fail> {
-    let id = Id::new(alloc, words.id)?;
-    let list = Id::new(alloc, words.list)?;
-    let text = Text::new(alloc, words.other)?;
-    Ok(Call::CreateTodo {
+fn create_todo(alloc: Global, words: Words<'_>) -> Option<Call> {
+    let id = Id::new(alloc, words.id).ok()?;
+    let list = Id::new(alloc, words.list).ok()?;
+    let text = Text::new(alloc, words.other).ok()?;
+    Some(Call::CreateTodo {
         id,
         list,
         text,
@@ -46,10 +46,10 @@ fn create_todo(alloc: Global, words: Words<'_>) -> Result<Call, Fail> {
     })
 }
 
-fn set_text(alloc: Global, words: Words<'_>) -> Result<Call, Fail> {
-    let id = Id::new(alloc, words.id)?;
-    let text = Text::new(alloc, words.list)?;
-    Ok(Call::UpdateTodo {
+fn set_text(alloc: Global, words: Words<'_>) -> Option<Call> {
+    let id = Id::new(alloc, words.id).ok()?;
+    let text = Text::new(alloc, words.list).ok()?;
+    Some(Call::UpdateTodo {
         id,
         text: Some(text),
         complete: None,
@@ -57,44 +57,58 @@ fn set_text(alloc: Global, words: Words<'_>) -> Result<Call, Fail> {
     })
 }
 
-fn set_sort(alloc: Global, words: Words<'_>) -> Result<Call, Fail> {
-    let id = Id::new(alloc, words.id)?;
-    let sort = Num::new(words.list.parse::<u64>().unwrap_or(0))?;
-    Ok(Call::UpdateTodo {
-        id,
+fn set_complete(alloc: Global, words: Words<'_>) -> Option<Call> {
+    Some(Call::UpdateTodo {
+        id: Id::new(alloc, words.id).ok()?,
+        text: None,
+        complete: Some(words.list == "yes"),
+        sort: None,
+    })
+}
+
+fn set_sort(alloc: Global, words: Words<'_>) -> Option<Call> {
+    let sort = number_of(words.list);
+    Some(Call::UpdateTodo {
+        id: Id::new(alloc, words.id).ok()?,
         text: None,
         complete: None,
         sort: Some(sort),
     })
 }
 
-fn call_of(alloc: Global, words: Words<'_>) -> Result<Call, Fail> {
+fn call_of(alloc: Global, words: Words<'_>) -> Option<Call> {
     match words.verb {
         "list" => create_list(alloc, words),
-        "unlist" => Ok(Call::DeleteList {
-            id: Id::new(alloc, words.id)?,
+        "unlist" => Some(Call::DeleteList {
+            id: Id::new(alloc, words.id).ok()?,
         }),
         "share" => create_share(alloc, words),
-        "unshare" => Ok(Call::DeleteShare {
-            id: Id::new(alloc, words.id)?,
+        "unshare" => Some(Call::DeleteShare {
+            id: Id::new(alloc, words.id).ok()?,
         }),
         "todo" => create_todo(alloc, words),
         "text" => set_text(alloc, words),
+        "tick" => set_complete(alloc, words),
         "sort" => set_sort(alloc, words),
-        "untodo" => Ok(Call::DeleteTodo {
-            id: Id::new(alloc, words.id)?,
+        "untodo" => Some(Call::DeleteTodo {
+            id: Id::new(alloc, words.id).ok()?,
         }),
-        "unknown" => Ok(Call::Void(Reason::UnknownName)),
-        _ => Ok(Call::Void(Reason::BadArgs)),
+        "unknown" => Some(Call::Void(Reason::UnknownName)),
+        _ => Some(Call::Void(Reason::BadArgs)),
     }
 }
 
-pub fn line_of(alloc: Global, text: &str) -> Result<Line, Fail> {
+// The number that a word spells, or 0.
+pub fn number_of(word: &str) -> Num {
+    Num::new(word.parse::<u64>().unwrap_or(0)).unwrap_or(Num::from_u64(0))
+}
+
+pub fn line_of(alloc: Global, text: &str) -> Option<Line> {
     let mut words = text.split_whitespace();
-    let user = User::new(alloc, words.next().unwrap_or(""))?;
-    let group = Id::new(alloc, words.next().unwrap_or(""))?;
-    let client = Id::new(alloc, words.next().unwrap_or(""))?;
-    let id = Num::new(words.next().unwrap_or("").parse::<u64>().unwrap_or(0))?;
+    let user = User::new(alloc, words.next().unwrap_or("")).ok()?;
+    let group = Id::new(alloc, words.next().unwrap_or("")).ok()?;
+    let client = Id::new(alloc, words.next().unwrap_or("")).ok()?;
+    let id = number_of(words.next().unwrap_or(""));
     let call = Words {
         verb: words.next().unwrap_or(""),
         id: words.next().unwrap_or(""),
@@ -102,7 +116,7 @@ pub fn line_of(alloc: Global, text: &str) -> Result<Line, Fail> {
         other: words.next().unwrap_or(""),
     };
     let call = call_of(alloc, call)?;
-    Ok(Line {
+    Some(Line {
         user,
         group,
         client,

@@ -106,24 +106,60 @@ fn changed(alloc: Global, text: &str, old: &str, new: &str) -> Result<String, Fa
     Ok(format!(in alloc; "{before}{new}{after}")?)
 }
 
+fn value(alloc: Global, text: &str) -> Result<Value, Fail> {
+    Ok(Value::from_str(alloc, text)?)
+}
+
+fn row_of(alloc: Global, value: &Value) -> Result<Option<Row>, Fail> {
+    Ok(read_row(alloc, value)?)
+}
+
 // The row that a text is, with all its fields.
 fn read(alloc: Global, text: &str) -> Result<Option<Row>, Fail> {
-    let value = Value::from_str(alloc, text)?;
-    Ok(read_row(alloc, &value)?)
+    row_of(alloc, &value(alloc, text)?)
+}
+
+// Whether a text is a row.
+fn is_read(alloc: Global, text: &str) -> Result<bool, Fail> {
+    Ok(read(alloc, text)?.is_some())
+}
+
+// Whether a text is a row once another piece stands where this one stands first.
+fn reads_changed(alloc: Global, text: &str, old: &str, new: &str) -> Result<bool, Fail> {
+    is_read(alloc, changed(alloc, text, old, new)?.as_str())
+}
+
+// A text of so many bytes.
+fn long(alloc: Global, length: usize) -> Result<String, Fail> {
+    Ok("a".repeat(alloc, length)?)
+}
+
+fn quoted(alloc: Global, text: &str) -> Result<String, Fail> {
+    Ok(format!(in alloc; "\"{text}\"")?)
 }
 
 // Whether a text is a row that has so many bytes where this piece stands.
 fn reads_long(alloc: Global, text: &str, old: &str, length: usize) -> Result<bool, Fail> {
-    let long = "a".repeat(alloc, length)?;
-    let quoted = format!(in alloc; "\"{}\"", long.as_str())?;
-    Ok(read(alloc, &changed(alloc, text, old, &quoted)?)?.is_some())
+    let long = long(alloc, length)?;
+    reads_changed(alloc, text, old, quoted(alloc, long.as_str())?.as_str())
+}
+
+fn row_json(alloc: Global, row: &Row) -> Result<Value, Fail> {
+    Ok(row_value(alloc, row)?)
+}
+
+fn value_text(alloc: Global, value: &Value) -> Result<String, Fail> {
+    Ok(value.to_string(alloc)?)
+}
+
+fn row_text(alloc: Global, row: &Row) -> Result<String, Fail> {
+    value_text(alloc, &row_json(alloc, row)?)
 }
 
 // Whether a row of these words has this text.
 fn prints(alloc: Global, words: &str, text: &str) -> Result<bool, Fail> {
     let row = row(alloc, words)?;
-    let value = row_value(alloc, &row)?;
-    Ok(value.to_string(alloc)?.as_str() == text)
+    Ok(row_text(alloc, &row)?.as_str() == text)
 }
 
 // Whether a text is read as the row of these words.
@@ -148,9 +184,14 @@ fn prints_rows_and_reads_them_back(rt: HostRuntime) -> Result<(), Fail> {
 fn reads_no_other_value_as_a_row(rt: HostRuntime) -> Result<(), Fail> {
     let alloc = rt.alloc();
     for &(text, old, new) in &OTHERS {
-        let other = changed(alloc, text, old, new)?;
-        assert!(rt; read(alloc, &other)?.is_none(), "{new} for {old}");
+        assert!(rt; !reads_changed(alloc, text, old, new)?, "{new} for {old}");
     }
+    Ok(())
+}
+
+#[test]
+fn reads_texts_within_their_bounds(rt: HostRuntime) -> Result<(), Fail> {
+    let alloc = rt.alloc();
     for &(text, old, most) in &BOUNDS {
         assert!(rt; reads_long(alloc, text, old, most)?, "{most} for {old}");
         assert!(rt; !reads_long(alloc, text, old, most + 1)?, "more for {old}");

@@ -49,22 +49,38 @@ fn table(alloc: Global, letters: &str) -> Result<Tables, Fail> {
     Ok(tables)
 }
 
+fn key_text(alloc: Global, row: &Row) -> Result<String, Fail> {
+    Ok(row.kind().key_text(alloc, row.id())?)
+}
+
+fn versioned(alloc: Global, key: &str, version: u32) -> Result<String, Fail> {
+    Ok(format!(in alloc; "{key}:{version} ")?)
+}
+
+// The text of the row's key, with a colon and the version after it.
+fn key_told(alloc: Global, row: &Row, version: u32) -> Result<String, Fail> {
+    versioned(alloc, key_text(alloc, row)?.as_str(), version)
+}
+
 // The texts of the rows' keys, each with a colon and the row's version after it.
 fn keys_told(alloc: Global, tables: &Tables) -> Result<String, Fail> {
     let mut text = String::new(alloc);
     for (row, version) in tables.iter() {
-        let key = row.kind().key_text(alloc, row.id())?;
-        text.push_str(format!(in alloc; "{key}:{version} ")?.as_str())?;
+        text.push_str(key_told(alloc, row, version)?.as_str())?;
     }
     Ok(text)
 }
 
+// What the table of these rows tells.
+fn table_told(alloc: Global, letters: &str) -> Result<String, Fail> {
+    keys_told(alloc, &table(alloc, letters)?)
+}
+
 #[test]
 fn keeps_rows_in_the_order_of_their_keys(rt: HostRuntime) -> Result<(), Fail> {
-    let alloc = rt.alloc();
     for &(letters, wanted) in &TABLES {
-        let tables = table(alloc, letters)?;
-        assert_eq!(rt; keys_told(alloc, &tables)?.as_str(), wanted, "{letters}");
+        let told = table_told(rt.alloc(), letters)?;
+        assert_eq!(rt; told.as_str(), wanted, "{letters}");
     }
     Ok(())
 }
@@ -95,9 +111,14 @@ fn left(alloc: Global, tables: &mut Tables, key: &Key, wanted: bool) -> Result<S
     }
 }
 
+fn key_copy(alloc: Global, key: &Key) -> Result<Key, Fail> {
+    Ok(key.copy(alloc)?)
+}
+
+// A copy of the key.
 fn key_of(alloc: Global, kind: Kind, id: &str) -> Result<Key, Fail> {
     let id = Id::new(alloc, id)?;
-    Ok(Key { kind, id }.copy(alloc)?)
+    key_copy(alloc, &Key { kind, id })
 }
 
 // Whether the key's row is the one of this letter and has this version, and what is left without it.

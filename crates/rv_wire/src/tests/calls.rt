@@ -172,17 +172,25 @@ static BOUNDS: [(&str, &str, &str, usize); 14] = [
     ("deleteTodo", ID, ID, 128),
 ];
 
-// The call of a name and the text of its arguments, as it is told.
-fn read_told(alloc: Global, name: &str, args: &str) -> Result<String, Fail> {
-    let args = Value::from_str(alloc, args)?;
-    let call = read_call(alloc, name, &args)?;
-    call_told(alloc, &call)
+fn call(alloc: Global, name: &str, args: &Value) -> Result<Call, Fail> {
+    Ok(read_call(alloc, name, args)?)
+}
+
+// The call of a name and the text of its arguments.
+fn call_of(alloc: Global, name: &str, args: &str) -> Result<Call, Fail> {
+    call(alloc, name, &value(alloc, args)?)
+}
+
+// Whether the call of a name and the text of its arguments is told so.
+fn is_read(alloc: Global, name: &str, args: &str, told: &str) -> Result<bool, Fail> {
+    let call = call_of(alloc, name, args)?;
+    Ok(call_told(alloc, &call)?.as_str() == told)
 }
 
 // Whether the arguments are bad with another piece where this one stands.
 fn is_bad(alloc: Global, name: &str, args: &str, old: &str, new: &str) -> Result<bool, Fail> {
     let args = changed(alloc, args, old, new)?;
-    Ok(read_told(alloc, name, &args)?.as_str() == "BadArgs")
+    is_read(alloc, name, &args, "BadArgs")
 }
 
 // Whether the arguments are bad with a text of so many bytes where this piece stands.
@@ -197,37 +205,36 @@ fn is_too_long(
     is_bad(alloc, name, args, old, &long)
 }
 
+// Whether the arguments are bad with one more byte than so many where this piece stands, and with so many are not.
+fn is_bound(alloc: Global, name: &str, args: &str, old: &str, most: usize) -> Result<bool, Fail> {
+    let within = is_too_long(alloc, name, args, old, most)?;
+    let above = is_too_long(alloc, name, args, old, usize::wrapping_add(most, 1))?;
+    Ok(!within && above)
+}
+
 #[test]
 fn reads_calls(rt: HostRuntime) -> Result<(), Fail> {
-    let alloc = rt.alloc();
     for &(name, args, told) in &CALLS {
-        assert_eq!(rt;
-            read_told(alloc, name, args)?.as_str(),
-            told,
-            "{name} {args}"
-        );
+        let same = is_read(rt.alloc(), name, args, told)?;
+        assert!(rt; same, "{name} {args}");
     }
     Ok(())
 }
 
 #[test]
 fn reads_no_call_from_other_arguments(rt: HostRuntime) -> Result<(), Fail> {
-    let alloc = rt.alloc();
     for &(name, args, old, new) in &BAD {
-        assert!(rt;
-            is_bad(alloc, name, args, old, new)?,
-            "{name}: {new} for {old}"
-        );
+        let bad = is_bad(rt.alloc(), name, args, old, new)?;
+        assert!(rt; bad, "{name}: {new} for {old}");
     }
+    Ok(())
+}
+
+#[test]
+fn reads_arguments_within_their_bounds(rt: HostRuntime) -> Result<(), Fail> {
     for &(name, args, old, most) in &BOUNDS {
-        assert!(rt;
-            !is_too_long(alloc, name, args, old, most)?,
-            "{name}: {most} for {old}"
-        );
-        assert!(rt;
-            is_too_long(alloc, name, args, old, most + 1)?,
-            "{name}: more for {old}"
-        );
+        let bound = is_bound(rt.alloc(), name, args, old, most)?;
+        assert!(rt; bound, "{name}: {most} for {old}");
     }
     Ok(())
 }

@@ -210,15 +210,18 @@ static BOUNDS: [(&str, usize, &str); 2] = [
     (r#""c1""#, 128, "Field(ClientId)"),
 ];
 
-fn mutation_told(alloc: Global, mutation: &Mutation) -> Result<String, Fail> {
-    let client = mutation.client.as_str();
-    let number = mutation.id.get();
-    let call = call_told(alloc, &mutation.call)?;
+fn words_told(alloc: Global, client: &str, number: u64, call: &str) -> Result<String, Fail> {
     Ok(format!(in alloc; " {client} {number} {call};")?)
 }
 
-fn fault_told(alloc: Global, fault: WireFault) -> Result<String, Fail> {
-    Ok(format!(in alloc; "{fault:?}")?)
+fn mutation_told(alloc: Global, mutation: &Mutation) -> Result<String, Fail> {
+    let call = call_told(alloc, &mutation.call)?;
+    words_told(
+        alloc,
+        mutation.client.as_str(),
+        mutation.id.get(),
+        call.as_str(),
+    )
 }
 
 // The group of a push, and each mutation's client, id and call.
@@ -233,37 +236,46 @@ fn taken_told(alloc: Global, push: &Push) -> Result<String, Fail> {
 
 // What a push says, or why it was not taken.
 fn push_told(alloc: Global, text: &str) -> Result<String, Fail> {
-    let value = Value::from_str(alloc, text)?;
+    let value = value(alloc, text)?;
     match push_of_value(alloc, &value, &schemas(alloc)?) {
         Ok(push) => taken_told(alloc, &push),
         Err(fault) => fault_told(alloc, fault),
     }
 }
 
-// What `PUSH` says with another piece where this one stands.
-fn changed_told(alloc: Global, old: &str, new: &str) -> Result<String, Fail> {
-    push_told(alloc, &changed(alloc, PUSH, old, new)?)
+// Whether `PUSH` is told so with another piece where this one stands.
+fn is_told(alloc: Global, old: &str, new: &str, told: &str) -> Result<bool, Fail> {
+    let text = changed(alloc, PUSH, old, new)?;
+    Ok(push_told(alloc, &text)?.as_str() == told)
 }
 
 // Whether `PUSH` is told so with a text of so many bytes where this piece stands.
 fn is_long_told(alloc: Global, old: &str, length: usize, told: &str) -> Result<bool, Fail> {
-    let long = changed_told(alloc, old, &quoted(alloc, length)?)?;
-    Ok(long.as_str() == told)
+    let long = quoted(alloc, length)?;
+    is_told(alloc, old, &long, told)
+}
+
+// Whether `PUSH` is told so with one more byte than so many where this piece stands, and with so many is not.
+fn is_bound(alloc: Global, old: &str, most: usize, told: &str) -> Result<bool, Fail> {
+    let within = is_long_told(alloc, old, most, told)?;
+    let above = is_long_told(alloc, old, usize::wrapping_add(most, 1), told)?;
+    Ok(!within && above)
 }
 
 #[test]
 fn reads_pushes(rt: HostRuntime) -> Result<(), Fail> {
-    let alloc = rt.alloc();
     for &(old, new, told) in &PUSHES {
-        assert_eq!(rt;
-            changed_told(alloc, old, new)?.as_str(),
-            told,
-            "{new} for {old}"
-        );
+        let same = is_told(rt.alloc(), old, new, told)?;
+        assert!(rt; same, "{new} for {old}");
     }
+    Ok(())
+}
+
+#[test]
+fn reads_pushes_within_their_bounds(rt: HostRuntime) -> Result<(), Fail> {
     for &(old, most, told) in &BOUNDS {
-        assert!(rt; !is_long_told(alloc, old, most, told)?, "{most} for {old}");
-        assert!(rt; is_long_told(alloc, old, most + 1, told)?, "more for {old}");
+        let bound = is_bound(rt.alloc(), old, most, told)?;
+        assert!(rt; bound, "{most} for {old}");
     }
     Ok(())
 }

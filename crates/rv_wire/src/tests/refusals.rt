@@ -117,7 +117,7 @@ fn writes_faults(rt: HostRuntime) {
 }
 
 #[test]
-fn writes_futures_and_limits(rt: HostRuntime) -> Result<(), Fail> {
+fn writes_futures(rt: HostRuntime) -> Result<(), Fail> {
     for &(expected, got, text) in &FUTURES {
         let (expected, got) = (Num::new(expected)?, Num::new(got)?);
         assert!(rt;
@@ -125,12 +125,21 @@ fn writes_futures_and_limits(rt: HostRuntime) -> Result<(), Fail> {
             "{text}"
         );
     }
+    Ok(())
+}
+
+#[test]
+fn writes_limits(rt: HostRuntime) -> Result<(), Fail> {
     for &(which, at, text) in &LIMITS {
         assert!(rt;
             is_told(&ErrorBody::Limit(which, Num::new(at)?), 507, text),
             "{text}"
         );
     }
-    assert!(rt; is_told(&ErrorBody::Memory, 503, r#"{"error":"memory"}"#));
     Ok(())
+}
+
+#[test]
+fn writes_want_of_memory(rt: HostRuntime) {
+    assert!(rt; is_told(&ErrorBody::Memory, 503, r#"{"error":"memory"}"#));
 }

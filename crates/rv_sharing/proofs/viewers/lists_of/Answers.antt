@@ -6,7 +6,7 @@ pub loop-key-preserved : goal.loop-key-preserved
 loop-key-preserved c =
     elim c.match-get.branch [
       | in-Some+in_ok-add w ↦ (
-          let after = lists_more _ _ _ _ (w.in-Some.row.now, w.in-Some._version) _ _ _ c.loop-key-test.true c.key-item.is w.in-Some.ensures w.list_of.ensures w.in_ok-add.ensures c.loop-key.invariant in
+          let after = lists_more _ _ _ _ (w.in-Some.row.now, w.in-Some._version) _ _ _ c.loop-key-test.true c.key-item.is w.in-Some.ensures w.list.ensures w.in_ok-add.ensures c.loop-key.invariant in
           rw w.lists-is after)
       | in_default w ↦ (
           let after = lists_same _ _ _ _ _ c.loop-key-test.true c.key-item.is w.in_default.ensures c.loop-key.invariant in

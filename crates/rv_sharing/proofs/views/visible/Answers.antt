@@ -1,7 +1,7 @@
 use Rattle.std.proofs.Common.{List, ℕ, Bool, ◌≡◌, true, false, sym, ap, ◌∙◌}
 use Rattle.std.specs.List.{list_any}
 use Rattle.std.specs.Str.{bytes_eq}
-use Rattle.rv_sharing.proofs.VisibleLaws.{showing_begins, showing_more, showing_same, showing_ends}
+use Rattle.rv_sharing.proofs.VisibleLaws.{showing_begins, showing_more, showing_same, showing_ends, visible_in_order}
 use Rattle.rv_sharing.proofs.views.visible.Goals as goal
 
 -- what the look-up says of the row's list
@@ -15,15 +15,18 @@ pub loop-row-preserved-in_ok-push : goal.loop-row-preserved-in_ok-push
 loop-row-preserved-in_ok-push c = record {
   can_next = tt;
   is_finite = tt;
-  showing = showing_more _ _ _ _ _ _ _ _ _ _ c.in-Some.ensures.steps (found true _ _ _ _ _ c.if-holds.true c.holds.ensures c.list_of.ensures c.deref.ensures.value) c.in_ok-key_of.ensures c.in_ok-push.ensures.ok c.loop-row.invariant.showing;
+  showing = showing_more _ _ _ _ _ _ _ _ _ _ c.in-Some.ensures.steps (found true _ _ _ _ _ c.if-holds.true c.holds.ensures c.list.ensures c.deref.ensures.value) c.in_ok-key_of.ensures c.in_ok-push.ensures.ok c.loop-row.invariant.showing;
 }
 
 pub loop-row-preserved : goal.loop-row-preserved
 loop-row-preserved c = record {
   can_next = tt;
   is_finite = tt;
-  showing = showing_same _ _ _ _ _ _ _ _ c.in-Some.ensures.steps (found false _ _ _ _ _ c.if-holds.false c.holds.ensures c.list_of.ensures c.deref.ensures.value) c.loop-row.invariant.showing;
+  showing = showing_same _ _ _ _ _ _ _ _ c.in-Some.ensures.steps (found false _ _ _ _ _ c.if-holds.false c.holds.ensures c.list.ensures c.deref.ensures.value) c.loop-row.invariant.showing;
 }
 
-pub returns : goal.returns
-returns c = showing_ends _ _ _ _ _ c.in-None.ensures.steps.0 c.loop-row.invariant.showing
+pub returns-clause-visible : goal.returns-clause-visible
+returns-clause-visible c = showing_ends _ _ _ _ _ c.in-None.ensures.steps.0 c.loop-row.invariant.showing
+
+pub returns-clause-order : goal.returns-clause-order
+returns-clause-order c = visible_in_order _ _ _ (showing_ends _ _ _ _ _ c.in-None.ensures.steps.0 c.loop-row.invariant.showing) c.iter-row-items.ensures.order
