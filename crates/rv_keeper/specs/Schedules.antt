@@ -1,0 +1,53 @@
+-- The calls at which a keeper in memory fails, and what it answers there.
+use Rattle.std.specs.Prelude.{◌≡◌, ℕ, ◌+◌, ◌-◌, ◌^◌, ◌==◌, min, Bool, true, false, not, ◌||◌, ◌⊎◌, List, Result, Ok, Err, if◌then◌else◌}
+use Rattle.std.specs.List.{list_any}
+use Rattle.rv_keeper.specs.declared.fails.Fails.{Fails}
+use Rattle.rv_keeper.specs.declared.fails.Fails.TheVariants.{Before, After, Load, Generation}
+use Rattle.rv_keeper.specs.declared.change.Change.{Change}
+use Rattle.rv_keeper.specs.declared.fault.KeepFault.{KeepFault}
+use Rattle.rv_keeper.specs.declared.fault.KeepFault.TheVariants.{Failed, Memory}
+use Rattle.rv_keeper.specs.declared.loaded.Loaded.{Loaded}
+use Rattle.rv_keeper.specs.Keeping.{committed}
+
+-- both name the same call
+abbrev pub same_fails : Fails → Fails → Bool
+same_fails (Before one) (Before two) = one == two
+same_fails (After one) (After two) = one == two
+same_fails (Load one) (Load two) = one == two
+same_fails (Generation one) (Generation two) = one == two
+same_fails one two = false
+
+-- the schedule names the call
+abbrev pub fails_at : Fails → List Fails → Bool
+fails_at call schedule = list_any (λ fails. same_fails fails call) schedule
+
+-- one more, up to the type's end
+abbrev pub one_more : ℕ → ℕ
+one_more n = min (n + 1) (2 ^ 64 - 1)
+
+-- the count of faults after a call, which was one or not
+abbrev pub counted : Bool → ℕ → ℕ
+counted fault n = if fault then one_more n else n
+
+-- the generation can't be what a commit from this one left or found
+abbrev pub is_strange : ℕ → ℕ → Bool
+is_strange from generation = not ((generation == from) || (generation == from + 1))
+
+-- the call failed, and not for want of memory
+abbrev pub has_failed : {T : Type 0} → Result T KeepFault → Bool
+has_failed (Ok x) = false
+has_failed (Err Failed) = true
+has_failed (Err Memory) = false
+
+-- what a load is answered: it fails exactly where the schedule says so
+abbrev pub IsLoad : Bool → Loaded → Result Loaded KeepFault → Type 0
+IsLoad fails held (Ok loaded) = (fails ≡ false) × (loaded ≡ held)
+IsLoad fails held (Err Failed) = fails ≡ true
+IsLoad fails held (Err Memory) = fails ≡ false
+
+-- What a commit is answered and leaves. It fails exactly where the schedule says so: before the changes are made, or
+-- after.
+abbrev pub IsCommit : Bool → Bool → ℕ → List Change → Loaded → Loaded → Result (Unit {0}) KeepFault → Type 0
+IsCommit before after from changes old new (Ok done) = (before ≡ false) × (after ≡ false) × (new ≡ committed from changes old)
+IsCommit before after from changes old new (Err Failed) = ((before ≡ true) × (new ≡ old)) ⊎ ((before ≡ false) × (after ≡ true) × (new ≡ committed from changes old))
+IsCommit before after from changes old new (Err Memory) = (before ≡ false) × (new ≡ old)

@@ -1,0 +1,28 @@
+//! What is kept outside the desk: cells and a generation.
+//!
+//! A [`Keeper`] holds cells, each with its shelf, its key and its body, in the order of shelves and then of keys, and a
+//! generation. A commit changes the cells and raises the generation in one step. A keeper counts its faults, and a call
+//! says that it failed only where that count rose. [`MemoryKeeper`] keeps all in memory, tells what it holds, and fails
+//! at the calls of a schedule.
+#![tactic(auto)]
+
+mod cell;
+mod change;
+mod fails;
+mod fault;
+mod keeper;
+mod loaded;
+mod memory_keeper;
+mod shelves;
+
+pub use cell::Cell;
+pub use change::Change;
+pub use fails::Fails;
+pub use fault::KeepFault;
+pub use keeper::Keeper;
+pub use loaded::Loaded;
+pub use memory_keeper::MemoryKeeper;
+pub use shelves::Shelves;
+
+#[cfg(test)]
+mod tests;

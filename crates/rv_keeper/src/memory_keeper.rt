@@ -1,0 +1,219 @@
+// A keeper in memory, which fails at the calls of a schedule.
+ghost use Rattle.std.specs.Prelude.{◌≡◌, ◌≤◌, ◌<◌, ◌+◌, ◌-◌, ◌^◌, ◌||◌, ◌⊎◌, [], Some, IfOk, OnOk, OnErr, vec_len, is_err, if◌then◌else◌};
+ghost use Rattle.std.specs.List.{AllByRecursion};
+ghost use Rattle.rv_base.specs.Causes.{HasCause, Rose};
+ghost use Rattle.rv_keeper.specs.declared.fails.Fails.TheVariants as calls;
+ghost use Rattle.rv_keeper.specs.Cells.{AreCells, AreChanges, changed, changed_by, change_shelf};
+ghost use Rattle.rv_keeper.specs.Keeping.{IsTold, Commits, HasKeepCause, holding};
+ghost use Rattle.rv_keeper.specs.Schedules.{fails_at, one_more, counted, is_strange, has_failed, IsLoad, IsCommit};
+
+use crate::cell::Cell;
+use crate::change::Change;
+use crate::fails::{Fails, fails_at};
+use crate::fault::KeepFault;
+use crate::keeper::Keeper;
+use crate::loaded::Loaded;
+use crate::shelves::Shelves;
+use rv_base::{Failed, Memory, Sequence};
+use std::alloc::Global;
+
+/// Keeps cells and a generation in memory, and fails at the calls of a schedule. It tells what it holds.
+/// Its counts stand still at 2^64 - 1.
+#[derive(Drop)]
+pub struct MemoryKeeper {
+    /// Where copies are made.
+    pub alloc: Global,
+    /// The cells.
+    pub shelves: Shelves,
+    /// The generation.
+    pub generation: u64,
+    /// The calls that fail.
+    pub schedule: Vec<Fails>,
+    /// How many loads there were.
+    pub loads: u64,
+    /// How many questions for the generation there were.
+    pub questions: u64,
+    /// How many commits there were.
+    pub commits: u64,
+    /// How many calls failed, or were answered what can't be.
+    pub faults: u64,
+}
+
+impl MemoryKeeper {
+    /// A keeper that holds no cell, at generation 0.
+    pub fn new(alloc: Global, schedule: Vec<Fails>) -> Self
+        ensures cells { result.shelves.cells ≡ [] }
+        ensures generation { result.generation ≡ 0 }
+        ensures schedule { result.schedule.items ≡ schedule.items }
+        ensures calls { (result.loads ≡ 0) × (result.questions ≡ 0) × (result.commits ≡ 0) }
+        ensures faults { result.faults ≡ 0 }
+    {
+        MemoryKeeper::on(alloc, schedule, Shelves::new(alloc), 0)
+    }
+
+    /// A keeper that holds these cells, at this generation.
+    pub fn with(alloc: Global, schedule: Vec<Fails>, cells: Vec<Cell>, generation: u64) -> Self
+        requires { AreCells cells.items }
+        ensures cells { result.shelves.cells ≡ cells.items }
+        ensures generation { result.generation ≡ generation }
+        ensures schedule { result.schedule.items ≡ schedule.items }
+        ensures calls { (result.loads ≡ 0) × (result.questions ≡ 0) × (result.commits ≡ 0) }
+        ensures faults { result.faults ≡ 0 }
+    {
+        MemoryKeeper::on(alloc, schedule, Shelves::from_vec(cells), generation)
+    }
+
+    // A keeper that holds what stands on the shelves.
+    fn on(alloc: Global, schedule: Vec<Fails>, shelves: Shelves, generation: u64) -> Self
+        ensures { result ≡ record { alloc = alloc; shelves = shelves; generation = generation; schedule = schedule; loads = 0; questions = 0; commits = 0; faults = 0 } }
+    {
+        MemoryKeeper {
+            alloc,
+            shelves,
+            generation,
+            schedule,
+            loads: 0,
+            questions: 0,
+            commits: 0,
+            faults: 0,
+        }
+    }
+
+    // Counts a fault.
+    fn count_fault(&mut self)
+        ensures after { self.new ≡ record self.old { faults = one_more self.old.faults } }
+        ensures later { self.old.faults ≤ self.new.faults }
+        ensures rose { Rose self.old.faults self.new.faults }
+    {
+        self.faults = self.faults.saturating_add(1);
+    }
+
+    // Makes the changes: first what may want for memory, then what can't fail.
+    fn make(&mut self, from: u64, changes: &[Change]) -> Result<(), Memory>
+        requires from { from < 2 ^ 64 - 1 }
+        requires changes { AreChanges changes.now }
+        ensures rest { self.new ≡ record self.old { shelves = self.new.shelves; generation = self.new.generation } }
+        ensures ok { OnOk result ((self.new.shelves.cells ≡ changed self.old.shelves.cells changes.now) × (self.new.generation ≡ from + 1)) }
+        ensures err { OnErr result ((self.new.shelves.cells ≡ self.old.shelves.cells) × (self.new.generation ≡ self.old.generation)) }
+    {
+        let changes = copies_of_changes(self.alloc, changes)?;
+        self.shelves.reserve(changes.len())?;
+        apply(&mut self.shelves, changes);
+        self.generation = from + 1;
+        Ok(())
+    }
+}
+
+impl Keeper for MemoryKeeper {
+    ghost held = { λ s. Some (holding s.shelves.cells s.generation) };
+
+    ghost faults = { λ s. s.faults };
+
+    fn load(&mut self) -> Result<Loaded, KeepFault>
+        ensures held { Some (holding self.new.shelves.cells self.new.generation) ≡ Some (holding self.old.shelves.cells self.old.generation) }
+        ensures told { IfOk result (λ loaded. IsTold loaded (Some (holding self.old.shelves.cells self.old.generation))) }
+        ensures order { IfOk result (λ loaded. AreCells loaded.cells ⊎ Rose self.old.faults self.new.faults) }
+        ensures cause { HasKeepCause self.old.faults self.new.faults result }
+        ensures answer { IsLoad (fails_at (calls.Load self.new.loads) self.old.schedule.items) (holding self.old.shelves.cells self.old.generation) result }
+        ensures after { self.new ≡ record self.old { loads = one_more self.old.loads; faults = counted (has_failed result) self.old.faults } }
+    {
+        self.loads = self.loads.saturating_add(1);
+        if fails_at(&self.schedule, Fails::Load(self.loads)) {
+            self.count_fault();
+            return Err(KeepFault::Failed);
+        }
+        let cells = copies_of_cells(self.alloc, self.shelves.as_slice())?;
+        Ok(Loaded {
+            cells,
+            generation: self.generation,
+        })
+    }
+
+    fn generation(&mut self, from: u64) -> Result<u64, Failed>
+        requires { from < 2 ^ 64 - 1 }
+        ensures held { Some (holding self.new.shelves.cells self.new.generation) ≡ Some (holding self.old.shelves.cells self.old.generation) }
+        ensures told { IfOk result (λ n. IsTold n (Some self.old.generation)) }
+        ensures near { IfOk result (λ n. (n ≡ from) ⊎ (n ≡ from + 1) ⊎ Rose self.old.faults self.new.faults) }
+        ensures cause { HasCause self.old.faults self.new.faults result }
+        ensures fails { is_err result ≡ fails_at (calls.Generation self.new.questions) self.old.schedule.items }
+        ensures after { self.new ≡ record self.old { questions = one_more self.old.questions; faults = counted (is_err result || is_strange from self.old.generation) self.old.faults } }
+    {
+        self.questions = self.questions.saturating_add(1);
+        if fails_at(&self.schedule, Fails::Generation(self.questions)) {
+            self.count_fault();
+            return Err(Failed);
+        }
+        if self.generation != from && self.generation != from + 1 {
+            self.count_fault();
+        }
+        Ok(self.generation)
+    }
+
+    fn commit(&mut self, from: u64, changes: &[Change]) -> Result<(), KeepFault>
+        requires from { from < 2 ^ 64 - 1 }
+        requires changes { AreChanges changes.now }
+        ensures held { Commits from changes.now (Some (holding self.old.shelves.cells self.old.generation)) (Some (holding self.new.shelves.cells self.new.generation)) result }
+        ensures cause { HasKeepCause self.old.faults self.new.faults result }
+        ensures answer { IsCommit (fails_at (calls.Before self.new.commits) self.old.schedule.items) (fails_at (calls.After self.new.commits) self.old.schedule.items) from changes.now
+            (holding self.old.shelves.cells self.old.generation) (holding self.new.shelves.cells self.new.generation) result }
+        ensures after { self.new ≡ record self.old { shelves = self.new.shelves; generation = self.new.generation; commits = one_more self.old.commits; faults = counted (has_failed result) self.old.faults } }
+    {
+        self.commits = self.commits.saturating_add(1);
+        if fails_at(&self.schedule, Fails::Before(self.commits)) {
+            self.count_fault();
+            return Err(KeepFault::Failed);
+        }
+        self.make(from, changes)?;
+        if fails_at(&self.schedule, Fails::After(self.commits)) {
+            self.count_fault();
+            return Err(KeepFault::Failed);
+        }
+        Ok(())
+    }
+}
+
+// The cells, in memory of their own.
+fn copies_of_cells(alloc: Global, cells: &[Cell]) -> Result<Sequence<Cell>, Memory>
+    ensures { IfOk result (λ copies. copies ≡ cells.now) }
+{
+    let mut copies = Sequence::new(alloc);
+    for cell in cells {
+        copies.push(cell.copy(alloc)?)?;
+    }
+    Ok(copies)
+}
+
+// The changes, in memory of their own.
+fn copies_of_changes(alloc: Global, changes: &[Change]) -> Result<Vec<Change>, Memory>
+    ensures { IfOk result (λ copies. copies.items ≡ changes.now) }
+{
+    let mut copies = Vec::new(alloc);
+    for change in changes {
+        copies.push(change.copy(alloc)?)?;
+    }
+    Ok(copies)
+}
+
+// Makes the changes, in room that there is.
+fn apply(shelves: &mut Shelves, changes: Vec<Change>)
+    requires shelves { AllByRecursion (λ change. 0 < change_shelf change) changes.items }
+    requires room { vec_len changes ≤ shelves.old.spare }
+    ensures { shelves.new.cells ≡ changed shelves.old.cells changes.items }
+{
+    for change in changes {
+        make_one(shelves, change);
+    }
+}
+
+// Makes one change, in room that there is.
+fn make_one(shelves: &mut Shelves, change: Change)
+    requires shelf { 0 < change_shelf change }
+    requires room { 1 ≤ shelves.old.spare }
+    ensures cells { shelves.new.cells ≡ changed_by shelves.old.cells change }
+    ensures spare { shelves.old.spare ≤ shelves.new.spare + 1 }
+{
+    match change {
+        Change::Put(cell) => shelves.put(cell),
+        Change::Remove { shelf, key } => shelves.remove(shelf, &key),
+    }
+}
