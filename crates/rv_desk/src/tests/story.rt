@@ -21,6 +21,7 @@ struct Shown {
 // How much of what was met.
 #[derive(Clone, Copy, Debug, Default)]
 pub struct Tally {
+    // the last request that both desks answered the same, from 0
     pub met: u64,
     pub acted: u64,
     pub refused: u64,
@@ -235,7 +236,6 @@ impl Story {
         }
     }
 
-    // Counts what a reply tells, and keeps its cookie.
     fn count_ops(&mut self, reply: &PullReply) {
         for op in reply.ops.as_slice() {
             match op {
@@ -246,6 +246,7 @@ impl Story {
         }
     }
 
+    // Counts what a reply tells, and keeps its cookie.
     fn count_reply(&mut self, reply: &PullReply, user: u64, group: u64) -> Option<()> {
         self.count_ops(reply);
         if reply.same {
