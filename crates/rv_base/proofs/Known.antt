@@ -1,10 +1,14 @@
 -- Steps over known bytes.
-use Rattle.std.proofs.Common.{◌≡◌, ℕ, ◌+◌, ◌-◌, ◌<◌, min, List, [], ◌++◌, length, take, drop, Some, None, sym, ap, ◌∙◌, arith, append_assoc, append-nil}
+use Rattle.std.proofs.Common.{◌≡◌, ◌≢◌, ℕ, ◌+◌, ◌-◌, ◌<◌, min, true, false, List, [], ◌∷◌, ◌++◌, length, take, drop, Some, None, refl, sym, ap, ◌∙◌, arith, append_assoc, append-nil}
+use Rattle.std.specs.List.{AllByRecursion}
+use Rattle.std.proofs.lemmas.Grind.{common_steps}
 use Rattle.std.specs.declared.option.Option.{Option}
 use Rattle.std.proofs.lemmas.List.{drop_min, drop-drop, take-append-drop, nil_from_length, length-drop, take_rest}
 use Rattle.std.specs.Io.KnownBytes.{Appends, Keeps}
 use Rattle.std.proofs.KnownBytes.{Appends-trans}
-use Rattle.rv_base.specs.Writes.{AppendsFront}
+use Rattle.rv_base.specs.Writes.{AppendsFront, appends_keeps}
+use Rattle.rv_base.specs.Outside.{OutputState, counted}
+use Rattle.rv_base.specs.InMemory.{FailsNoMore, fails_next}
 
 -- what a read of n bytes at a place gives, and what it leaves
 pub read_front : (items piece : List ℕ) (old at n : ℕ) → at ≡ min old (length items) → take n piece ≡ take n (take (length items - at) (drop at items)) → drop old items ≡ take n piece ++ drop (at + n) items
@@ -21,15 +25,31 @@ pub write_more : (text done rest : List ℕ) (n : ℕ) (old mid new : Option (Li
 write_more text done rest n old mid new e f g =
     (done ++ take n rest, e ∙ ap (λ l. done ++ l) (sym (take-append-drop n rest)) ∙ sym (append_assoc done (take n rest) (drop n rest)) ∙ ap (λ l. (done ++ take n rest) ++ l) (sym (take_rest rest n)), Appends-trans _ _ _ _ _ f g)
 
+-- how far a text is written: a front of it, with no fault
+pub record Goes (old now : OutputState) (steady : Type 0) (text rest : List ℕ) : Type 0 where
+  pub done : List ℕ
+  pub split : text ≡ done ++ rest
+  pub appended : Appends old.written now.written done
+  pub faults : now.faults ≡ old.faults
+  pub refusals : now.refusals ≡ old.refusals
+  pub goes_on : steady
+
 -- nothing is left of the text
 pub write_done : (text done rest : List ℕ) (old new : Option (List ℕ)) → text ≡ done ++ rest → length rest ≡ 0 → Appends old new done → Appends old new text
 write_done text done rest old new e none f = rw (e, nil_from_length rest none, append-nil done) f
 
-pub appends_keeps : (old mid new : Option (List ℕ)) (bs : List ℕ) → Appends old mid bs → Keeps mid new → Appends old new bs
-appends_keeps None mid new bs f g = tt
-appends_keeps (Some x) None new bs f g = absurd f
-appends_keeps (Some x) (Some y) None bs f g = absurd g
-appends_keeps (Some x) (Some y) (Some z) bs f g = g ∙ f
+pub write_stopped : (text done rest : List ℕ) (old mid new : Option (List ℕ)) → text ≡ done ++ rest → 0 < length rest → Appends old mid done → Keeps mid new → AppendsFront old new text
+write_stopped text done rest old mid new e lt f g = (done, (rest, e, lt), appends_keeps old mid new done f g)
 
-pub write_stopped : (text done rest : List ℕ) (old mid new : Option (List ℕ)) → text ≡ done ++ rest → Appends old mid done → Keeps mid new → AppendsFront old new text
-write_stopped text done rest old mid new e f g = (done, (rest, e), appends_keeps old mid new done f g)
+-- the next call of a list fails only where its number is on the list
+no_next : (calls : ℕ) (failing : List ℕ) → AllByRecursion (λ call. call < counted calls) failing → fails_next calls failing ≡ false
+no_next calls [] h = refl
+no_next calls (call ∷ failing) h = rw (no_next calls failing h.1) (let ne : call ≢ counted calls = omega (arith, h.0) in grind (arith, common_steps))
+
+-- each number of the list is below the next call's, and so below the one after
+pub fails_no_more_later : (calls : ℕ) (failing : List ℕ) → FailsNoMore calls failing → FailsNoMore (counted calls) failing
+fails_no_more_later calls [] h = tt
+fails_no_more_later calls (call ∷ failing) h = (omega (arith, h.0), fails_no_more_later calls failing h.1)
+
+pub not_next : (calls : ℕ) (failing : List ℕ) → FailsNoMore calls failing → fails_next calls failing ≡ false
+not_next calls failing h = no_next calls failing h

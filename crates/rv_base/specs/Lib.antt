@@ -1,5 +1,8 @@
 pub mod Causes
+pub mod Outside
+pub mod InMemory
 pub mod Writes
+pub mod WritesLaws
 pub mod Texts
 pub mod Sorted
 pub mod Places

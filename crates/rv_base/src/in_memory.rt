@@ -1,11 +1,7 @@
 // A source and a sink in memory, which fail at the calls of a list.
-ghost use Rattle.std.specs.Prelude.{◌≡◌, ◌≤◌, ◌<◌, ◌+◌, ◌-◌, ◌^◌, ◌==◌, true, [], min, max, length, take, drop, Some, IfOk, is_err, OnErr};
-ghost use Rattle.std.specs.List.{list_any};
-ghost use Rattle.std.specs.Io.{ReadsAtMost, WritesAtMost};
-ghost use Rattle.std.specs.Io.KnownBytes.{ReadConsumes, WriteAppends};
-ghost use Rattle.rv_base.specs.Causes.{HasCause};
+ghost use Rattle.std.specs.Prelude.{◌≡◌, ◌≤◌, ◌<◌, [], min, max, length, take};
 
-use crate::outside::{Failed, Sink, Source};
+use crate::outside::{Failed, Sink, Source, ends_after};
 use std::alloc::Global;
 
 /// Gives its bytes in pieces, and fails at the calls of a list. It tells what is left.
@@ -23,17 +19,14 @@ pub struct MemorySource {
     pub calls: u64,
     /// How many of them failed.
     pub faults: u64,
+    /// How many of them told the end.
+    pub ends: u64,
 }
 
 impl MemorySource {
     /// A source of these bytes.
     pub fn new(bytes: Vec<u8>, most: usize, failing: Vec<u64>) -> Self
-        ensures bytes { result.bytes.items ≡ bytes.items }
-        ensures start { result.at ≡ 0 }
-        ensures most { result.most ≡ most }
-        ensures failing { result.failing.items ≡ failing.items }
-        ensures calls { result.calls ≡ 0 }
-        ensures faults { result.faults ≡ 0 }
+        ensures { result ≡ record { bytes = bytes; at = 0; most = most; failing = failing; calls = 0; faults = 0; ends = 0 } }
     {
         MemorySource {
             bytes,
@@ -42,6 +35,7 @@ impl MemorySource {
             failing,
             calls: 0,
             faults: 0,
+            ends: 0,
         }
     }
 }
@@ -60,18 +54,28 @@ fn copy_front(from: &[u8], to: &mut [u8], most: usize) -> usize
 }
 
 impl Source for MemorySource {
-    ghost left = { λ s. Some (drop s.at s.bytes.items) };
+    ghost use Rattle.std.specs.Prelude.{◌≡◌, ◌-◌, ◌≤◌, min, length, IfOk, IsOk, is_err};
+    ghost use Rattle.std.specs.Io.{ReadsAtMost};
+    ghost use Rattle.rv_base.specs.Outside.{Reads, counted, counted_if, tells_end};
+    ghost use Rattle.rv_base.specs.InMemory.{source_state, fails_next, FailsNoMore, moved, place_after};
 
-    ghost faults = { λ s. s.faults };
+    ghost state = { source_state };
 
+    // No number of a call to come is on the list.
+    ghost fails_no_more = { λ s. FailsNoMore s.calls s.failing.items };
+
+    #[tactic(auto, using(crate::proofs::Known::not_next, crate::proofs::Known::fails_no_more_later))]
     fn read(&mut self, piece: &mut [u8]) -> Result<usize, Failed>
         ensures bound { ReadsAtMost result piece.new }
-        ensures bytes { ReadConsumes (Some (drop self.old.at self.old.bytes.items)) (Some (drop self.new.at self.new.bytes.items)) result piece.new }
-        ensures cause { HasCause self.old.faults self.new.faults result }
-        ensures calls { self.new.calls ≡ min (self.old.calls + 1) (2 ^ 64 - 1) }
-        ensures fails { is_err result ≡ list_any (λ call. call == self.new.calls) self.old.failing.items }
-        ensures count { IfOk result (λ n. n ≡ min (min (max self.old.most 1) (length self.old.bytes.items - self.old.at)) (length piece.new)) }
-        ensures list { self.new.failing.items ≡ self.old.failing.items }
+        ensures reads { Reads (source_state self.old) (source_state self.new) result piece.new }
+        ensures steady { FailsNoMore self.old.calls self.old.failing.items → IsOk result × FailsNoMore self.new.calls self.new.failing.items }
+
+        // It fails exactly at the calls of its list, and else gives as much as it may and there is room for.
+        ensures fails { is_err result ≡ fails_next self.old.calls self.old.failing.items }
+        ensures count { IfOk result (λ n. n ≡ min (moved self.old.most (length self.old.bytes.items - self.old.at)) (length piece.new)) }
+
+        // Nothing else changes.
+        ensures after { self.new ≡ record self.old { at = place_after self.old.at (length self.old.bytes.items) result; calls = counted self.old.calls; faults = counted_if (is_err result) self.old.faults; ends = counted_if (tells_end result piece.new) self.old.ends } }
     {
         self.calls = self.calls.saturating_add(1);
         if self.failing.contains(&self.calls) {
@@ -80,6 +84,7 @@ impl Source for MemorySource {
         }
         let at = self.at.min(self.bytes.len());
         let count = copy_front(&self.bytes[at..], piece, self.most);
+        self.ends = ends_after(self.ends, count, piece);
         self.at = at + count;
         Ok(count)
     }
@@ -98,16 +103,15 @@ pub struct MemorySink {
     pub calls: u64,
     /// How many of them failed.
     pub faults: u64,
+    /// How many of them failed because memory was refused.
+    pub refusals: u64,
 }
 
 impl MemorySink {
     /// A sink that has nothing yet.
     pub fn new(alloc: Global, most: usize, failing: Vec<u64>) -> Self
         ensures bytes { result.bytes.items ≡ [] }
-        ensures most { result.most ≡ most }
-        ensures failing { result.failing.items ≡ failing.items }
-        ensures calls { result.calls ≡ 0 }
-        ensures faults { result.faults ≡ 0 }
+        ensures others { result ≡ record { bytes = result.bytes; most = most; failing = failing; calls = 0; faults = 0; refusals = 0 } }
     {
         MemorySink {
             bytes: Vec::new(alloc),
@@ -115,30 +119,46 @@ impl MemorySink {
             failing,
             calls: 0,
             faults: 0,
+            refusals: 0,
         }
     }
 }
 
 impl Sink for MemorySink {
-    ghost written = { λ s. Some s.bytes.items };
+    ghost use Rattle.std.specs.Prelude.{◌≡◌, ◌+◌, ◌<◌, ◌⊎◌, ◌&&◌, not, true, length, vec_len, vec_capacity, IfOk, is_err};
+    ghost use Rattle.std.specs.Io.{WritesAtMost};
+    ghost use Rattle.rv_base.specs.Outside.{WritesSome, IsSteady, counted, counted_if};
+    ghost use Rattle.rv_base.specs.InMemory.{sink_state, fails_next, FailsNoMore, moved};
 
-    ghost faults = { λ s. s.faults };
+    ghost state = { sink_state };
 
+    // No number of a call to come is on the list.
+    ghost fails_no_more = { λ s. FailsNoMore s.calls s.failing.items };
+
+    #[tactic(auto, using(crate::proofs::Known::not_next, crate::proofs::Known::fails_no_more_later))]
     fn write(&mut self, piece: &[u8]) -> Result<usize, Failed>
         ensures bound { WritesAtMost result piece.now }
         ensures some { 0 < length piece.now → IfOk result (λ n. 0 < n) }
-        ensures bytes { WriteAppends (Some self.old.bytes.items) (Some self.new.bytes.items) result piece.now }
-        ensures cause { HasCause self.old.faults self.new.faults result }
-        ensures calls { self.new.calls ≡ min (self.old.calls + 1) (2 ^ 64 - 1) }
-        ensures fails { list_any (λ call. call == self.new.calls) self.old.failing.items ≡ true → is_err result ≡ true }
-        ensures count { IfOk result (λ n. n ≡ min (max self.old.most 1) (length piece.now)) }
-        ensures list { self.new.failing.items ≡ self.old.failing.items }
+        ensures writes { WritesSome (sink_state self.old) (sink_state self.new) result piece.now }
+        ensures steady { FailsNoMore self.old.calls self.old.failing.items → IsSteady (FailsNoMore self.new.calls self.new.failing.items) (sink_state self.old) (sink_state self.new) result }
+
+        // It fails at the calls of its list, and else only where it has to grow.
+        ensures fails { fails_next self.old.calls self.old.failing.items ≡ true → is_err result ≡ true }
+        ensures only { is_err result ≡ true → (fails_next self.old.calls self.old.failing.items ≡ true) ⊎ (vec_capacity self.old.bytes < vec_len self.old.bytes + moved self.old.most (length piece.now)) }
+        ensures count { IfOk result (λ n. n ≡ moved self.old.most (length piece.now)) }
+
+        // Nothing else changes.
+        ensures after { self.new ≡ record self.old { bytes = self.new.bytes; calls = counted self.old.calls; faults = counted_if (is_err result) self.old.faults; refusals = counted_if (is_err result && not (fails_next self.old.calls self.old.failing.items)) self.old.refusals } }
     {
         self.calls = self.calls.saturating_add(1);
-        let count = self.most.max(1).min(piece.len());
-        let fails = self.failing.contains(&self.calls);
-        if fails || self.bytes.extend_from_slice(&piece[..count]).is_err() {
+        if self.failing.contains(&self.calls) {
             self.faults = self.faults.saturating_add(1);
+            return Err(Failed);
+        }
+        let count = self.most.max(1).min(piece.len());
+        if self.bytes.extend_from_slice(&piece[..count]).is_err() {
+            self.faults = self.faults.saturating_add(1);
+            self.refusals = self.refusals.saturating_add(1);
             return Err(Failed);
         }
         Ok(count)

@@ -23,6 +23,3 @@ pub use number::{Num, TooBig};
 pub use outside::{Failed, Sink, Source};
 pub use sequence::{Bytes, Sequence};
 pub use writing::write_all;
-
-#[cfg(test)]
-mod tests;

@@ -1,12 +1,12 @@
-ghost use Rattle.rv_base.specs.Causes.{HasCause};
-ghost use Rattle.rv_base.specs.Writes.{WritesText};
+ghost use Rattle.rv_base.specs.Outside.{Writes, IsSteady};
 
 use crate::outside::{Failed, Sink};
 
-/// Writes the whole text, in as many writes as it takes. After a write that fails the sink has a front of it.
+/// Writes the whole text, in as many writes as it takes. After a write that fails the sink has a front of it, and nothing
+/// more is written.
 pub fn write_all<O: Sink>(out: &mut O, text: &[u8]) -> Result<(), Failed>
-    ensures bytes { WritesText (O.written out.old) (O.written out.new) result text.now }
-    ensures cause { HasCause (O.faults out.old) (O.faults out.new) result }
+    ensures writes { Writes (O.state out.old) (O.state out.new) result text.now }
+    ensures steady { O.fails_no_more out.old → IsSteady (O.fails_no_more out.new) (O.state out.old) (O.state out.new) result }
 {
     let mut rest = text;
     while !rest.is_empty() {

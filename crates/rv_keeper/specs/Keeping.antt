@@ -1,5 +1,5 @@
 -- What a keeper answers, and what it holds afterwards.
-use Rattle.std.specs.Prelude.{◌≡◌, ℕ, ◌+◌, ◌≤◌, ◌⊎◌, List, Option, Some, None, Result, Ok, Err, option_map, IsErrOf}
+use Rattle.std.specs.Prelude.{◌≡◌, ℕ, ◌+◌, ◌≤◌, ◌⊎◌, List, Option, Some, None, Result, Ok, Err, option_map, IsErrOf, OnErr}
 use Rattle.rv_base.specs.Causes.{Rose}
 use Rattle.rv_keeper.specs.declared.cell.Cell.{Cell}
 use Rattle.rv_keeper.specs.declared.change.Change.{Change}
@@ -31,3 +31,9 @@ Commits from changes old new (Err Memory) = new ≡ old
 pub record HasKeepCause {T : Type 0} (before now : ℕ) (result : Result T KeepFault) : Type 0 where
   pub later : before ≤ now
   pub failed : IsErrOf result Failed → Rose before now
+
+-- Of a question for the generation the count hasn't fallen, and it has risen at an `Err`. At an answer it rises where that is
+-- neither of the two that may come.
+pub record HasGenerationCause {T E : Type 0} (before now : ℕ) (result : Result T E) : Type 0 where
+  pub later : before ≤ now
+  pub failed : OnErr result (Rose before now)

@@ -1,9 +1,9 @@
 ghost use Rattle.std.specs.Prelude.{◌≡◌, ◌<◌, ◌+◌, ◌-◌, ◌^◌, ◌⊎◌, ℕ, IfOk, option_map};
 ghost use Rattle.std.specs.declared.option.Option.{Option};
-ghost use Rattle.rv_base.specs.Causes.{HasCause, Rose};
+ghost use Rattle.rv_base.specs.Causes.{Rose};
 ghost use Rattle.rv_keeper.specs.declared.loaded.Loaded.{Loaded};
 ghost use Rattle.rv_keeper.specs.Cells.{AreCells, AreChanges};
-ghost use Rattle.rv_keeper.specs.Keeping.{IsTold, Commits, HasKeepCause};
+ghost use Rattle.rv_keeper.specs.Keeping.{IsTold, Commits, HasKeepCause, HasGenerationCause};
 
 use crate::change::Change;
 use crate::fault::KeepFault;
@@ -33,7 +33,7 @@ pub trait Keeper {
         ensures held { held self.new ≡ held self.old }
         ensures told { IfOk result (λ n. IsTold n (option_map (λ h. h.generation) (held self.old))) }
         ensures near { IfOk result (λ n. (n ≡ from) ⊎ (n ≡ from + 1) ⊎ Rose (faults self.old) (faults self.new)) }
-        ensures cause { HasCause (faults self.old) (faults self.new) result };
+        ensures cause { HasGenerationCause (faults self.old) (faults self.new) result };
 
     /// Makes all the changes, and the generation is the one after `from`. Each place is named once. At `Failed` all is as
     /// before or as after `Ok`, and at `Memory` as before.

@@ -23,6 +23,3 @@ pub use keeper::Keeper;
 pub use loaded::Loaded;
 pub use memory_keeper::MemoryKeeper;
 pub use shelves::Shelves;
-
-#[cfg(test)]
-mod tests;

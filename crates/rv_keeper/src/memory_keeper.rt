@@ -1,10 +1,10 @@
 // A keeper in memory, which fails at the calls of a schedule.
 ghost use Rattle.std.specs.Prelude.{◌≡◌, ◌≤◌, ◌<◌, ◌+◌, ◌-◌, ◌^◌, ◌||◌, ◌⊎◌, [], Some, IfOk, OnOk, OnErr, vec_len, is_err, if◌then◌else◌};
 ghost use Rattle.std.specs.List.{AllByRecursion};
-ghost use Rattle.rv_base.specs.Causes.{HasCause, Rose};
+ghost use Rattle.rv_base.specs.Causes.{Rose};
 ghost use Rattle.rv_keeper.specs.declared.fails.Fails.TheVariants as calls;
 ghost use Rattle.rv_keeper.specs.Cells.{AreCells, AreChanges, changed, changed_by, change_shelf};
-ghost use Rattle.rv_keeper.specs.Keeping.{IsTold, Commits, HasKeepCause, holding};
+ghost use Rattle.rv_keeper.specs.Keeping.{IsTold, Commits, HasKeepCause, HasGenerationCause, holding};
 ghost use Rattle.rv_keeper.specs.Schedules.{fails_at, one_more, counted, is_strange, has_failed, IsLoad, IsCommit};
 
 use crate::cell::Cell;
@@ -134,7 +134,7 @@ impl Keeper for MemoryKeeper {
         ensures held { Some (holding self.new.shelves.cells self.new.generation) ≡ Some (holding self.old.shelves.cells self.old.generation) }
         ensures told { IfOk result (λ n. IsTold n (Some self.old.generation)) }
         ensures near { IfOk result (λ n. (n ≡ from) ⊎ (n ≡ from + 1) ⊎ Rose self.old.faults self.new.faults) }
-        ensures cause { HasCause self.old.faults self.new.faults result }
+        ensures cause { HasGenerationCause self.old.faults self.new.faults result }
         ensures fails { is_err result ≡ fails_at (calls.Generation self.new.questions) self.old.schedule.items }
         ensures after { self.new ≡ record self.old { questions = one_more self.old.questions; faults = counted (is_err result || is_strange from self.old.generation) self.old.faults } }
     {

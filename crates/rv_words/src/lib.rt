@@ -11,6 +11,3 @@ mod table;
 
 pub use command::Command;
 pub use reading::command_of;
-
-#[cfg(test)]
-mod tests;

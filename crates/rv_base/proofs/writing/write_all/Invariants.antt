@@ -1,9 +1,10 @@
 use Rattle.std.proofs.Common.{◌≡◌, ◌≤◌, List, ℕ, ◌++◌, length}
 use Rattle.std.specs.Io.KnownBytes.{Appends}
+use Rattle.rv_base.proofs.Known.{Goes}
 use Rattle.rv_base.proofs.writing.write_all.Given as goal
 
 abbrev pub invariant-loop-rest : goal.invariant-loop-rest
-invariant-loop-rest g l = (done : List ℕ) × (l.text ≡ done ++ l.rest) × Appends (g.O.Sink.written l.fn.out) (g.O.Sink.written l.out) done × (g.O.Sink.faults l.fn.out ≤ g.O.Sink.faults l.out)
+invariant-loop-rest g l = Goes (g.O.Sink.state l.fn.out) (g.O.Sink.state l.out) (g.O.Sink.fails_no_more l.fn.out → g.O.Sink.fails_no_more l.out) l.text l.rest
 
 abbrev pub decreases-loop-rest : goal.decreases-loop-rest
 decreases-loop-rest g l = length l.rest

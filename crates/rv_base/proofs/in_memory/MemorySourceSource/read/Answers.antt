@@ -2,12 +2,16 @@ use Rattle.std.proofs.Common.{rules, ◌≡◌, ◌-◌, length, take, drop, min
 use Rattle.rv_base.proofs.Known.{read_front, read_none}
 use Rattle.rv_base.proofs.in_memory.MemorySourceSource.read.Goals as goal
 
-pub returns-clause-bytes : goal.returns-clause-bytes
-returns-clause-bytes c =
+pub returns-clause-reads : goal.returns-clause-reads
+returns-clause-reads c =
     let items = c.args.self.now.bytes.items in
     let piece = c.copy_front-count.new.to in
     let at = c.min-at.result in
     let n = c.copy_front-count.result in
     let f : take n piece ≡ take n (take (length items - at) (drop at items)) = search rules in
     let e : at ≡ min c.args.self.now.at (length items) = search rules in
-    (read_front items piece c.args.self.now.at at n e f, λ none room. read_none items at n none (λ some. search rules))
+    record {
+      bytes = (read_front items piece c.args.self.now.at at n e f, λ none room. read_none items at n none (λ some. search rules));
+      cause = search rules;
+      ends = search rules;
+    }
