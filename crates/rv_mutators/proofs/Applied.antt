@@ -12,20 +12,12 @@ use Rattle.rv_rows.specs.declared.key.Key.{Key}
 use Rattle.rv_rows.specs.declared.row.Row.{Row}
 use Rattle.rv_rows.specs.Keys.{key_text, row_key, row_text, has_row, in_key_order}
 use Rattle.rv_rows.specs.Held.{Stored, stored_key, rows_in, AreRows, find, put, remove}
+use Rattle.rv_rows.specs.HeldLaws.{in_order-rows}
 use Rattle.rv_rows.specs.Changes.{same_row, is_new, is_gone, written, lost, version_after}
 use Rattle.rv_mutators.specs.Staging.{applied}
 use Rattle.rv_rows.specs.EffectLaws.{same_row-Decides}
 use Rattle.rv_mutators.proofs.Picked.{by_flag, find-key, none_after}
 use Rattle.rv_mutators.proofs.Changed.{changes, any_same}
-
--- the stored rows in order are rows in order
-above-rows : (k : List ℕ) (stored : List Stored) → Above stored_key k stored → Above row_text k (rows_in stored)
-above-rows k [] h = tt
-above-rows k (s ∷ stored) h = (h.0, above-rows k stored h.1)
-
-pub in_order-rows : (stored : List Stored) → AreRows stored → InOrder row_text (rows_in stored)
-in_order-rows [] h = tt
-in_order-rows (s ∷ stored) h = (above-rows (row_text s.0) stored h.0, in_order-rows stored h.1)
 
 -- rows in order with any versions are stored rows in order
 module _ (version : Row → ℕ) where

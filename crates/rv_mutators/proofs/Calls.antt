@@ -13,13 +13,11 @@ use Rattle.rv_rows.specs.declared.row.Row.{Row}
 use Rattle.rv_rows.specs.declared.row.Row.TheVariants as variants
 use Rattle.rv_rows.specs.declared.call.Call.TheVariants.{CreateList, DeleteList, CreateShare, DeleteShare, CreateTodo, UpdateTodo, DeleteTodo}
 use Rattle.rv_rows.specs.Keys.{key_text, row_key, row_text, has_row}
-use Rattle.rv_rows.specs.Held.{Stored, rows_in, find, AreRows}
+use Rattle.rv_rows.specs.Held.{Stored, rows_in, find}
 use Rattle.rv_rows.specs.Sharing.{owns, shares, may, sees, list_of}
 use Rattle.rv_rows.specs.Effects.{is_outside, is_other, is_unchanged, may_change, ends, may_end, with_fields, after_update, next_sort}
 use Rattle.rv_rows.specs.Changes.{same_row}
 use Rattle.rv_rows.specs.EffectLaws.{same_row-Decides}
-use Rattle.rv_sharing.specs.Owners.{owner_of}
-use Rattle.rv_sharing.specs.OwnerLaws.{owns-owner, distinct-rows}
 use Rattle.rv_mutators.specs.declared.staged.Staged.{Staged}
 use Rattle.rv_mutators.specs.Staging.{staged, written_if, removed_if}
 use Rattle.rv_mutators.proofs.Picked.{by_flag, by_found, find-key, filter-at, any-at}
@@ -50,10 +48,6 @@ row_found k stored s e = sym (find-map row_text (λ s. s.0) k stored) ∙ ap (op
 
 pub row_absent : (k : List ℕ) (stored : List Stored) → None ≡ find k stored → find_by row_text k (rows_in stored) ≡ None
 row_absent k stored e = sym (find-map row_text (λ s. s.0) k stored) ∙ ap (option_map (λ s. s.0)) (sym e)
-
-pub owns_is : (user list : List ℕ) (stored : List Stored) (owner : Option (List ℕ)) → AreRows stored → owner ≡ owner_of list (rows_in stored)
-    → option_map_or (λ owner. bytes_eq owner user) owner false ≡ list_any (owns user list) (rows_in stored)
-owns_is user list stored owner h e = ap (λ (o : Option (List ℕ)). option_map_or (λ owner. bytes_eq owner user) o false) e ∙ sym (owns-owner user list (rows_in stored) (distinct-rows stored h))
 
 module _ (rows : List Row) (h : InOrder row_text rows) where
   -- a row is added where the test holds

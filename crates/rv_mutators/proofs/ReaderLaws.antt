@@ -1,9 +1,8 @@
 -- The users who see rows that are written.
-use Rattle.std.proofs.Common.{◌≡◌, ℕ, ◌+◌, ◌<◌, Bool, true, false, ◌&&◌, ◌||◌, List, [], ◌∷◌, ◌++◌, length, take, get_or, Option, Some, None, Result, Ok, Err, refl, sym, ap, ◌∙◌}
+use Rattle.std.proofs.Common.{◌≡◌, ℕ, ◌+◌, ◌<◌, Bool, true, false, ◌&&◌, ◌||◌, List, [], ◌∷◌, ◌++◌, length, take, get_or, Result, Ok, Err, refl, sym, ap, ◌∙◌}
 use Rattle.std.specs.Prelude.{IfOk}
 use Rattle.std.specs.Str.{bytes_eq}
 use Rattle.std.specs.List.{list_any}
-use Rattle.std.specs.Option.{option_map, is_some}
 use Rattle.std.proofs.lemmas.List.{take_more}
 use Rattle.rv_base.specs.Places.{equals, not_same}
 use Rattle.rv_rows.specs.declared.row.Row.{Row}
@@ -12,9 +11,7 @@ use Rattle.rv_rows.specs.declared.row.ShareRow.{ShareRow}
 use Rattle.rv_rows.specs.declared.row.TodoRow.{TodoRow}
 use Rattle.rv_rows.specs.declared.row.Row.TheVariants as variants
 use Rattle.rv_rows.specs.Sharing.{is_list, owns, shares, list_of}
-use Rattle.rv_sharing.specs.Owners.{owner_of}
-use Rattle.rv_sharing.specs.OwnerLaws.{is_list-owner}
-use Rattle.rv_sharing.specs.Texts.{AreInOrder, Adds}
+use Rattle.rv_sharing.specs.Texts.{Adds}
 use Rattle.rv_sharing.specs.Sharers.{AddsSharers}
 use Rattle.rv_sharing.specs.Affected.{AddsViewers}
 use Rattle.rv_mutators.specs.Touched.{sees_with, AddsReaders}
@@ -78,14 +75,6 @@ readers_lost rows row users viewers absent seen = record { order = seen.order; e
 
 pub readers_todo : (rows : List Row) (row : TodoRow) (users viewers : List (List ℕ)) → AddsViewers rows row.list users viewers → AddsViewers (variants.Todo row ∷ rows) row.list users viewers
 readers_todo rows row users viewers seen = record { order = seen.order; each = seen.each }
-
--- the list is there where it has an owner
-pub list_there : {X : Type 0} (view : X → List ℕ) (o : Option X) (list : List ℕ) (rows : List Row) → option_map view o ≡ owner_of list rows → list_any (is_list list) rows ≡ is_some o
-list_there view o list rows e = is_list-owner list rows ∙ ap is_some (sym e) ∙ sym (seen o)
-  where
-    seen : (o : Option _) → is_some o ≡ is_some (option_map view o)
-    seen None = refl
-    seen (Some x) = refl
 
 -- one more row
 pub readers_more : (rows added : List Row) (i : ℕ) (row : Row) (users readers after : List (List ℕ)) → i < length added → row ≡ get_or added i row

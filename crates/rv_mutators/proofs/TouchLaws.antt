@@ -26,7 +26,8 @@ use Rattle.rv_mutators.specs.Touched.{touched, AreTouched, sees_with, AddsReader
 use Rattle.rv_rows.specs.declared.row.TodoRow.{TodoRow}
 use Rattle.rv_mutators.proofs.Picked.{by_flag, by_found, find-key}
 use Rattle.rv_mutators.proofs.Changed.{changes, at_own, changes-none, changes-push, changes-filter, changes-map}
-use Rattle.rv_mutators.proofs.Applied.{applied-changes, in_order-rows}
+use Rattle.rv_rows.specs.HeldLaws.{in_order-rows}
+use Rattle.rv_mutators.proofs.Applied.{applied-changes}
 use Rattle.rv_mutators.proofs.Calls.{free_first, free_second, keeps, set_if, update_todo-is}
 use Rattle.rv_mutators.proofs.ReaderLaws.{list_any-push}
 

@@ -14,6 +14,3 @@ mod todos;
 
 pub use staged::Staged;
 pub use staging::stage;
-
-#[cfg(test)]
-mod tests;

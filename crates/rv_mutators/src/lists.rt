@@ -9,10 +9,11 @@ ghost use Rattle.rv_rows.specs.declared.call.Call.TheVariants.{CreateList, Delet
 ghost use Rattle.rv_rows.specs.declared.key.Kind.TheVariants.{List as ListKind};
 ghost use Rattle.rv_mutators.specs.Staging.{staged};
 
-use crate::lookups::{has_row, key_of, owns};
+use crate::lookups::has_row;
 use crate::staged::Staged;
 use rv_base::{Id, Memory, Text, User};
-use rv_rows::{Keys, Kind, ListRow, Row, Rows, RowsInOrder, Tables};
+use rv_rows::{Keys, Kind, ListRow, Row, Rows, Tables};
+use rv_sharing::owns;
 use std::alloc::Global;
 
 // A list that is not there, for the user.
@@ -50,16 +51,14 @@ fn may_create(tables: &Tables, user: &User, id: &Id, owner: &User) -> bool
 pub(crate) fn delete_list(
     alloc: Global,
     tables: &Tables,
-    rows: RowsInOrder<'_>,
     user: &User,
     id: &Id,
 ) -> Result<Staged, Memory>
-    requires order { AreRows tables.now.rows }
-    requires rows { rows.rows.now ≡ tables.now.rows }
+    requires { AreRows tables.now.rows }
     ensures { IfOk result (λ s. s ≡ staged (rows_in tables.now.rows) user.now (DeleteList id.now)) }
 {
     if owns(tables, user, id) {
-        let keys = keys_of(alloc, rows, id)?;
+        let keys = keys_of(alloc, tables, id)?;
         Ok(Staged {
             rows: Rows::new(alloc),
             keys,
@@ -70,13 +69,13 @@ pub(crate) fn delete_list(
 }
 
 // The keys of a list, of its shares and of its todos.
-fn keys_of(alloc: Global, rows: RowsInOrder<'_>, list: &Id) -> Result<Keys, Memory>
-    ensures { IfOk result (λ keys. keys ≡ map row_key (filter (λ row. bytes_eq (list_of row) list.now) (rows_in rows.entry.rows.now))) }
+fn keys_of(alloc: Global, tables: &Tables, list: &Id) -> Result<Keys, Memory>
+    ensures { IfOk result (λ keys. keys ≡ map row_key (filter (λ row. bytes_eq (list_of row) list.now) (rows_in tables.now.rows))) }
 {
     let mut keys = Keys::new(alloc);
-    for (row, _version) in rows {
+    for (row, _version) in tables.iter() {
         if row.list() == list {
-            keys.push(key_of(alloc, row)?)?;
+            keys.push(row.key(alloc)?)?;
         }
     }
     Ok(keys)

@@ -8,7 +8,7 @@ ghost use Rattle.rv_mutators.specs.Touched.{AddsReaders};
 
 use rv_base::Memory;
 use rv_rows::{Row, Tables, Users};
-use rv_sharing::{add_sharers, add_user, add_viewers, owner_of};
+use rv_sharing::{add_sharers, add_user, add_viewers, has_list};
 use std::alloc::Global;
 
 // The users and those who see one of the rows, where it stands beside those of the tables.
@@ -37,10 +37,10 @@ fn add_readers_of(alloc: Global, users: Users, tables: &Tables, row: &Row) -> Re
     match row {
         Row::List(list) => {
             let owned = add_user(alloc, viewers, &list.owner)?;
-            add_sharers(alloc, owned, tables.iter(), &list.id)
+            add_sharers(alloc, owned, tables, &list.id)
         }
         Row::Share(share) => {
-            if owner_of(tables, &share.list).is_some() {
+            if has_list(tables, &share.list) {
                 add_user(alloc, viewers, &share.user)
             } else {
                 Ok(viewers)

@@ -10,28 +10,26 @@ ghost use Rattle.rv_rows.specs.declared.call.Call.TheVariants.{CreateShare, Dele
 ghost use Rattle.rv_rows.specs.declared.key.Kind.TheVariants.{Share as ShareKind};
 ghost use Rattle.rv_mutators.specs.Staging.{staged, removed_if};
 
-use crate::lookups::{has_row, key_of, owns};
+use crate::lookups::has_row;
 use crate::staged::Staged;
 use rv_base::{Id, Memory, User};
-use rv_rows::{Kind, Row, RowsInOrder, ShareRow, Tables};
-use rv_sharing::has_share;
+use rv_rows::{Kind, Row, ShareRow, Tables};
+use rv_sharing::{has_share, owns};
 use std::alloc::Global;
 
 // A share of the user's list with another, who has none of it.
 pub(crate) fn create_share(
     alloc: Global,
     tables: &Tables,
-    rows: RowsInOrder<'_>,
     user: &User,
     id: &Id,
     list: &Id,
     other: &User,
 ) -> Result<Staged, Memory>
-    requires order { AreRows tables.now.rows }
-    requires rows { rows.rows.now ≡ tables.now.rows }
+    requires { AreRows tables.now.rows }
     ensures { IfOk result (λ s. s ≡ staged (rows_in tables.now.rows) user.now (CreateShare id.now list.now other.now)) }
 {
-    if may_create(tables, rows, user, id, list, other) {
+    if may_create(tables, user, id, list, other) {
         let row = ShareRow {
             id: id.copy(alloc)?,
             list: list.copy(alloc)?,
@@ -44,21 +42,13 @@ pub(crate) fn create_share(
 }
 
 // Whether the user owns the list, no share has the id, and the other is not the owner and has no share of the list.
-fn may_create(
-    tables: &Tables,
-    rows: RowsInOrder<'_>,
-    user: &User,
-    id: &Id,
-    list: &Id,
-    other: &User,
-) -> bool
-    requires { AreRows tables.now.rows }
-    ensures { result ≡ (list_any (owns user.now list.now) (rows_in tables.now.rows) && not (has_row (key_text (record { kind = ShareKind; id = id.now })) (rows_in tables.now.rows)) && not (bytes_eq other.now user.now) && not (list_any (shares other.now list.now) (rows_in rows.entry.rows.now))) }
+fn may_create(tables: &Tables, user: &User, id: &Id, list: &Id, other: &User) -> bool
+    ensures { result ≡ (list_any (owns user.now list.now) (rows_in tables.now.rows) && not (has_row (key_text (record { kind = ShareKind; id = id.now })) (rows_in tables.now.rows)) && not (bytes_eq other.now user.now) && not (list_any (shares other.now list.now) (rows_in tables.now.rows))) }
 {
     owns(tables, user, list)
         && !has_row(tables, Kind::Share, id)
         && other != user
-        && !has_share(rows, other, list)
+        && !has_share(tables, other, list)
 }
 
 // A share that the user may end goes.
@@ -79,11 +69,10 @@ pub(crate) fn delete_share(
 
 // The share goes where the user may end it.
 fn end_share(alloc: Global, tables: &Tables, user: &User, row: &Row) -> Result<Staged, Memory>
-    requires { AreRows tables.now.rows }
     ensures { IfOk result (λ s. s ≡ removed_if (may_end user.now (rows_in tables.now.rows) row.now) row.now) }
 {
     if may_end(tables, user, row) {
-        Staged::removes(alloc, key_of(alloc, row)?)
+        Staged::removes(alloc, row.key(alloc)?)
     } else {
         Ok(Staged::nothing(alloc))
     }
@@ -91,7 +80,6 @@ fn end_share(alloc: Global, tables: &Tables, user: &User, row: &Row) -> Result<S
 
 // Whether the row is a share that the user may end: the user owns its list, or is the one whom it names.
 fn may_end(tables: &Tables, user: &User, row: &Row) -> bool
-    requires { AreRows tables.now.rows }
     ensures { result ≡ may_end user.now (rows_in tables.now.rows) row.now }
 {
     match row {

@@ -8,7 +8,7 @@ use crate::shares::{create_share, delete_share};
 use crate::staged::Staged;
 use crate::todos::{create_todo, delete_todo, update_todo};
 use rv_base::{Memory, User};
-use rv_rows::{Call, RowsInOrder, Tables};
+use rv_rows::{Call, Tables};
 use std::alloc::Global;
 
 /// What the user's call writes and removes. Of the tables it changes nothing but the room that they have, which is enough
@@ -20,38 +20,33 @@ pub fn stage(alloc: Global, tables: &mut Tables, user: &User, call: &Call) -> Re
     ensures staged { IfOk result (λ s. s ≡ staged (rows_in tables.old.rows) user.now call.now) }
     ensures effect { IfOk result (λ s. (version : ℕ) → applied version s tables.old.rows ≡ after tables.old.rows user.now call.now version) }
 {
-    let staged = changes(alloc, tables, tables.iter(), user, call)?;
+    // `iter` tells that the rows stand in order
+    let _in_order = tables.iter();
+    let staged = changes(alloc, tables, user, call)?;
     tables.reserve(staged.rows.len())?;
     Ok(staged)
 }
 
 // What the user's call writes and removes.
-fn changes(
-    alloc: Global,
-    tables: &Tables,
-    rows: RowsInOrder<'_>,
-    user: &User,
-    call: &Call,
-) -> Result<Staged, Memory>
-    requires order { AreRows tables.now.rows }
-    requires rows { rows.rows.now ≡ tables.now.rows }
+fn changes(alloc: Global, tables: &Tables, user: &User, call: &Call) -> Result<Staged, Memory>
+    requires { AreRows tables.now.rows }
     ensures { IfOk result (λ s. s ≡ staged (rows_in tables.now.rows) user.now call.now) }
 {
     match call {
         Call::CreateList { id, name, owner } => create_list(alloc, tables, user, id, name, owner),
-        Call::DeleteList { id } => delete_list(alloc, tables, rows, user, id),
+        Call::DeleteList { id } => delete_list(alloc, tables, user, id),
         Call::CreateShare {
             id,
             list,
             user: other,
-        } => create_share(alloc, tables, rows, user, id, list, other),
+        } => create_share(alloc, tables, user, id, list, other),
         Call::DeleteShare { id } => delete_share(alloc, tables, user, id),
         Call::CreateTodo {
             id,
             list,
             text,
             complete,
-        } => create_todo(alloc, tables, rows, user, id, list, text, *complete),
+        } => create_todo(alloc, tables, user, id, list, text, *complete),
         Call::UpdateTodo {
             id,
             text,

@@ -3,17 +3,17 @@ ghost use Rattle.std.specs.Prelude.{◌≡◌, IfOk, ◌&&◌, not};
 ghost use Rattle.rv_rows.specs.Held.{rows_in, AreRows};
 ghost use Rattle.rv_rows.specs.Keys.{key_text, has_row};
 ghost use Rattle.rv_rows.specs.Sharing.{may};
-ghost use Rattle.rv_rows.specs.Effects.{sort_in, greatest_sort, next_sort, with_fields};
+ghost use Rattle.rv_rows.specs.Effects.{greatest_sort, with_fields};
 ghost use Rattle.rv_rows.specs.Changes.{same_row};
 ghost use Rattle.rv_rows.specs.declared.call.Call.TheVariants.{CreateTodo, UpdateTodo, DeleteTodo};
 ghost use Rattle.rv_rows.specs.declared.row.Row.TheVariants.{Todo};
 ghost use Rattle.rv_rows.specs.declared.key.Kind.TheVariants.{Todo as TodoKind};
 ghost use Rattle.rv_mutators.specs.Staging.{staged, written_if, removed_if};
 
-use crate::lookups::{has_row, key_of};
+use crate::lookups::has_row;
 use crate::staged::Staged;
 use rv_base::{Id, Memory, Num, Text, User};
-use rv_rows::{Kind, Row, RowsInOrder, Tables, TodoRow};
+use rv_rows::{Kind, Row, Tables, TodoRow};
 use rv_sharing::may;
 use std::alloc::Global;
 
@@ -21,15 +21,13 @@ use std::alloc::Global;
 pub(crate) fn create_todo(
     alloc: Global,
     tables: &Tables,
-    rows: RowsInOrder<'_>,
     user: &User,
     id: &Id,
     list: &Id,
     text: &Text,
     complete: bool,
 ) -> Result<Staged, Memory>
-    requires order { AreRows tables.now.rows }
-    requires rows { rows.rows.now ≡ tables.now.rows }
+    requires { AreRows tables.now.rows }
     ensures { IfOk result (λ s. s ≡ staged (rows_in tables.now.rows) user.now (CreateTodo id.now list.now text.now complete)) }
 {
     if may_create(tables, user, id, list) {
@@ -38,7 +36,7 @@ pub(crate) fn create_todo(
             list: list.copy(alloc)?,
             text: text.copy(alloc)?,
             complete,
-            sort: next_sort(rows, list),
+            sort: TodoRow::sort_after(greatest_sort(tables, list)),
         };
         Staged::writes(alloc, Row::Todo(row))
     } else {
@@ -53,41 +51,18 @@ fn may_create(tables: &Tables, user: &User, id: &Id, list: &Id) -> bool
     !has_row(tables, Kind::Todo, id) && may(tables, user, list)
 }
 
-// The sort of the next todo of a list: one more than the greatest, and at most the greatest number.
-fn next_sort(rows: RowsInOrder<'_>, list: &Id) -> Num
-    ensures { result ≡ next_sort list.now (rows_in rows.entry.rows.now) }
-{
-    let greatest = greatest_sort(rows, list);
-    if greatest < Num::MAX {
-        Num::from_u64(greatest + 1)
-    } else {
-        Num::from_u64(Num::MAX)
-    }
-}
-
 // The greatest sort in a list, and 0 where it has no todo.
-fn greatest_sort(rows: RowsInOrder<'_>, list: &Id) -> u64
-    ensures { result ≡ greatest_sort list.now (rows_in rows.entry.rows.now) }
+fn greatest_sort(tables: &Tables, list: &Id) -> u64
+    ensures { result ≡ greatest_sort list.now (rows_in tables.now.rows) }
 {
     let mut most = 0;
-    for (row, _version) in rows {
-        let sort = sort_in(list, row);
+    for (row, _version) in tables.iter() {
+        let sort = row.sort_in(list);
         if most < sort {
             most = sort;
         }
     }
     most
-}
-
-// The sort of a todo of this list, and 0 of any other row.
-fn sort_in(list: &Id, row: &Row) -> u64
-    ensures { result ≡ sort_in list.now row.now }
-{
-    match row {
-        Row::List(_) => 0,
-        Row::Share(_) => 0,
-        Row::Todo(row) => { if row.list == *list { row.sort.get() } else { 0 } }
-    }
 }
 
 // The fields that are named, of a todo whose list the user may see.
@@ -134,7 +109,7 @@ fn set_fields(
             } else {
                 Staged::writes(
                     alloc,
-                    Row::Todo(with_fields(alloc, row, text, complete, sort)?),
+                    Row::Todo(row.with_fields(alloc, text, complete, sort)?),
                 )
             }
         }
@@ -150,25 +125,6 @@ fn has_fields(row: &TodoRow, text: &Option<Text>, complete: Option<bool>, sort: 
         && sort.unwrap_or(row.sort) == row.sort
 }
 
-// The todo with the fields that are named.
-fn with_fields(
-    alloc: Global,
-    row: &TodoRow,
-    text: &Option<Text>,
-    complete: Option<bool>,
-    sort: Option<Num>,
-) -> Result<TodoRow, Memory>
-    ensures { IfOk result (λ new. Todo new ≡ with_fields text.now complete sort (Todo row.now)) }
-{
-    Ok(TodoRow {
-        id: row.id.copy(alloc)?,
-        list: row.list.copy(alloc)?,
-        text: text.as_ref().unwrap_or(&row.text).copy(alloc)?,
-        complete: complete.unwrap_or(row.complete),
-        sort: sort.unwrap_or(row.sort),
-    })
-}
-
 // A todo goes, whose list the user may see.
 pub(crate) fn delete_todo(
     alloc: Global,
@@ -182,7 +138,7 @@ pub(crate) fn delete_todo(
     match tables.row(Kind::Todo, id) {
         Some((row, _version)) => {
             if may(tables, user, row.list()) {
-                Staged::removes(alloc, key_of(alloc, row)?)
+                Staged::removes(alloc, row.key(alloc)?)
             } else {
                 Ok(Staged::nothing(alloc))
             }

@@ -1,5 +1,5 @@
 -- What a call does does not depend on the order of the rows, where no two have one key; and it leaves no two with one key.
-use Rattle.std.proofs.Common.{◌≡◌, ℕ, ◌+◌, ◌-◌, ◌^◌, Bool, true, false, cond, List, [], ◌∷◌, ◌++◌, map, Option, refl, sym, ap, ◌∙◌, subst, not, ◌&&◌, ◌||◌, nat_lt, arith}
+use Rattle.std.proofs.Common.{◌≡◌, ℕ, Bool, true, false, cond, List, [], ◌∷◌, ◌++◌, map, Option, refl, sym, ap, ◌∙◌, subst, not, ◌&&◌, ◌||◌, nat_lt, arith}
 use Rattle.std.specs.List.{filter, fold, list_any}
 use Rattle.std.specs.Str.{bytes_eq}
 use Rattle.std.specs.Bool.{Decides}
@@ -15,7 +15,7 @@ use Rattle.rv_rows.specs.declared.call.Call.{Call}
 use Rattle.rv_rows.specs.declared.call.Call.TheVariants.{CreateList, DeleteList, CreateShare, DeleteShare, CreateTodo, UpdateTodo, DeleteTodo, Void}
 use Rattle.rv_rows.specs.Keys.{key_text, row_text, has_row, in_key_order}
 use Rattle.rv_rows.specs.Sharing.{owns, shares, is_list, list_of, may, sees}
-use Rattle.rv_rows.specs.Effects.{effect, is_at, may_change, may_end, ends, is_unchanged, is_outside, is_other, greater_sort, greatest_sort, next_sort, sort_in, with_fields, after_update}
+use Rattle.rv_rows.specs.Effects.{effect, is_at, may_change, may_end, ends, is_unchanged, is_outside, is_other, greater_sort, greatest_sort, next_sort, sort_after, sort_in, with_fields, after_update}
 use Rattle.rv_rows.specs.Changes.{same_row, same_flag}
 
 -- what is told of the rows in the order of their keys
@@ -74,7 +74,7 @@ greatest_sort-sorted list rows h =
     (λ n. above_fold n list 0 (in_key_order rows) ∙ ap (λ (b : Bool). nat_lt n 0 || b) (list_any-sorted row_text (λ row. nat_lt n (sort_in list row)) rows h) ∙ sym (above_fold n list 0 rows))
 
 next_sort-sorted : (list : List ℕ) (rows : List Row) → Distinct row_text rows → next_sort list (in_key_order rows) ≡ next_sort list rows
-next_sort-sorted list rows h = ap (λ (most : ℕ). cond (nat_lt (most + 1) (2 ^ 53)) (most + 1) (2 ^ 53 - 1)) (greatest_sort-sorted list rows h)
+next_sort-sorted list rows h = ap sort_after (greatest_sort-sorted list rows h)
 
 -- the key of a row whose fields are set
 with_fields-key : (text : Option (List ℕ)) (complete : Option Bool) (sort : Option ℕ) (row : Row) → row_text (with_fields text complete sort row) ≡ row_text row
@@ -82,7 +82,7 @@ with_fields-key text complete sort (variants.List row) = refl
 with_fields-key text complete sort (variants.Share row) = refl
 with_fields-key text complete sort (variants.Todo row) = refl
 
-pub after_update-key : (user : List ℕ) (rows : List Row) (id : List ℕ) (text : Option (List ℕ)) (complete : Option Bool) (sort : Option ℕ) (row : Row) → row_text (after_update user rows id text complete sort row) ≡ row_text row
+after_update-key : (user : List ℕ) (rows : List Row) (id : List ℕ) (text : Option (List ℕ)) (complete : Option Bool) (sort : Option ℕ) (row : Row) → row_text (after_update user rows id text complete sort row) ≡ row_text row
 after_update-key user rows id text complete sort row = elim (may_change user rows id row) as (λ b. row_text (cond b (with_fields text complete sort row) row) ≡ row_text row) [ true ↦ with_fields-key text complete sort row | false ↦ refl ]
 
 -- keys stay distinct: one more row with a new key, rows that are filtered, and rows that keep their keys
@@ -160,10 +160,6 @@ effect-sorted rows user (DeleteTodo id) h =
     ap (λ (p : Row → Bool). in_key_order (filter (λ row. not (p row)) (in_key_order rows))) (may_change-sorted user rows id h)
     ∙ left-sorted rows (is_unchanged user rows id) h
 effect-sorted rows user (Void reason) h = sorted-sorted row_text rows
-
--- so calls on rows that are the same in order leave rows that are
-pub effect-same : (rows others : List Row) (user : List ℕ) (call : Call) → Distinct row_text rows → Distinct row_text others → in_key_order rows ≡ in_key_order others → in_key_order (effect rows user call) ≡ in_key_order (effect others user call)
-effect-same rows others user call h g same = sym (effect-sorted rows user call h) ∙ ap (λ (r : List Row). in_key_order (effect r user call)) same ∙ effect-sorted others user call g
 
 same_flag-is : (a b : Bool) → same_flag a b ≡ true → a ≡ b
 same_flag-is true b e = sym e

@@ -55,9 +55,13 @@ greater_sort list most row = if nat_lt most (sort_in list row) then sort_in list
 abbrev pub greatest_sort : List ℕ → List Row → ℕ
 greatest_sort list rows = fold (greater_sort list) 0 rows
 
--- the sort of the next todo of a list: one more than the greatest, and at most 2^53 - 1
+-- the sort that comes after: one more, and at most 2^53 - 1
+abbrev pub sort_after : ℕ → ℕ
+sort_after sort = if nat_lt (sort + 1) (2 ^ 53) then sort + 1 else 2 ^ 53 - 1
+
+-- the sort of the next todo of a list comes after the greatest
 abbrev pub next_sort : List ℕ → List Row → ℕ
-next_sort list rows = if nat_lt (greatest_sort list rows + 1) (2 ^ 53) then greatest_sort list rows + 1 else 2 ^ 53 - 1
+next_sort list rows = sort_after (greatest_sort list rows)
 
 -- the todo with the fields that are named
 abbrev pub with_fields : Option (List ℕ) → Option Bool → Option ℕ → Row → Row

@@ -1,5 +1,6 @@
 pub mod Keys
 pub mod Held
+pub mod HeldLaws
 pub mod Sharing
 pub mod Effects
 pub mod RowTexts

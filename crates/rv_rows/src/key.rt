@@ -49,22 +49,29 @@ impl Kind {
     }
 }
 
+// How the key of this kind and id stands to another, by the bytes of their texts.
+pub(crate) fn compare_keys(kind: Kind, id: &Id, other_kind: Kind, other_id: &Id) -> Ordering
+    ensures { result ≡ slice_cmp nat_cmp (key_text (record { kind = kind; id = id.now })) (key_text (record { kind = other_kind; id = other_id.now })) }
+{
+    match (kind, other_kind) {
+        (Kind::List, Kind::List) => id.cmp(other_id),
+        (Kind::List, Kind::Share) => Ordering::Less,
+        (Kind::List, Kind::Todo) => Ordering::Less,
+        (Kind::Share, Kind::List) => Ordering::Greater,
+        (Kind::Share, Kind::Share) => id.cmp(other_id),
+        (Kind::Share, Kind::Todo) => Ordering::Less,
+        (Kind::Todo, Kind::List) => Ordering::Greater,
+        (Kind::Todo, Kind::Share) => Ordering::Greater,
+        (Kind::Todo, Kind::Todo) => id.cmp(other_id),
+    }
+}
+
 impl Key {
     /// How the key stands to another, by the bytes of their texts.
     pub fn compare(&self, other: &Key) -> Ordering
         ensures { result ≡ slice_cmp nat_cmp (key_text self.now) (key_text other.now) }
     {
-        match (self.kind, other.kind) {
-            (Kind::List, Kind::List) => self.id.cmp(&other.id),
-            (Kind::List, Kind::Share) => Ordering::Less,
-            (Kind::List, Kind::Todo) => Ordering::Less,
-            (Kind::Share, Kind::List) => Ordering::Greater,
-            (Kind::Share, Kind::Share) => self.id.cmp(&other.id),
-            (Kind::Share, Kind::Todo) => Ordering::Less,
-            (Kind::Todo, Kind::List) => Ordering::Greater,
-            (Kind::Todo, Kind::Share) => Ordering::Greater,
-            (Kind::Todo, Kind::Todo) => self.id.cmp(&other.id),
-        }
+        compare_keys(self.kind, &self.id, other.kind, &other.id)
     }
 
     /// The same key, in memory of its own.

@@ -2,14 +2,13 @@
 //! each row as JSON.
 //!
 //! Contracts see rows, keys and calls as plain data. What speaks of lists of rows alone is defined in `specs/`: the key
-//! of a row, who sees it, and the effect of a call. [`plain`] computes those definitions slowly, apart from the table.
+//! of a row, who sees it, and the effect of a call.
 #![tactic(auto)]
 
 mod call;
 mod key;
 mod lists;
 mod members;
-pub mod plain;
 mod row;
 mod row_json;
 mod row_reading;
@@ -23,6 +22,3 @@ pub use row::{ListRow, Row, ShareRow, TodoRow};
 pub use row_json::row_value;
 pub use row_reading::read_row;
 pub use tables::{RowsInOrder, Tables};
-
-#[cfg(test)]
-mod tests;

@@ -2,9 +2,11 @@ ghost use Rattle.std.specs.Prelude.{◌≡◌, IfOk};
 ghost use Rattle.std.specs.Cmp.Lexicographic.{slice_cmp};
 ghost use Rattle.std.specs.Ordering.{nat_cmp};
 ghost use Rattle.rv_rows.specs.Keys.{key_text, row_key, row_text};
-ghost use Rattle.rv_rows.specs.Sharing.{list_of};
+ghost use Rattle.rv_rows.specs.Sharing.{list_of, shares};
+ghost use Rattle.rv_rows.specs.Effects.{sort_after, sort_in, with_fields};
+ghost use Rattle.rv_rows.specs.declared.row.Row.TheVariants.{Todo};
 
-use crate::key::Kind;
+use crate::key::{Key, Kind, compare_keys};
 use rv_base::{Id, Memory, Num, Text, User};
 use std::alloc::Global;
 use std::cmp::Ordering;
@@ -91,20 +93,42 @@ impl Row {
         }
     }
 
+    /// The row's key, in memory of its own.
+    pub fn key(&self, alloc: Global) -> Result<Key, Memory>
+        ensures { IfOk result (λ key. key ≡ row_key self.now) }
+    {
+        Ok(Key {
+            kind: self.kind(),
+            id: self.id().copy(alloc)?,
+        })
+    }
+
     /// How the row's key stands to another, by the bytes of their texts.
     pub fn compare_key(&self, kind: Kind, id: &Id) -> Ordering
         ensures { result ≡ slice_cmp nat_cmp (row_text self.now) (key_text (record { kind = kind; id = id.now })) }
     {
-        match (self, kind) {
-            (Row::List(row), Kind::List) => row.id.cmp(id),
-            (Row::List(_), Kind::Share) => Ordering::Less,
-            (Row::List(_), Kind::Todo) => Ordering::Less,
-            (Row::Share(_), Kind::List) => Ordering::Greater,
-            (Row::Share(row), Kind::Share) => row.id.cmp(id),
-            (Row::Share(_), Kind::Todo) => Ordering::Less,
-            (Row::Todo(_), Kind::List) => Ordering::Greater,
-            (Row::Todo(_), Kind::Share) => Ordering::Greater,
-            (Row::Todo(row), Kind::Todo) => row.id.cmp(id),
+        compare_keys(self.kind(), self.id(), kind, id)
+    }
+
+    /// Whether the row is a share of the list that names the user.
+    pub fn shares(&self, user: &User, list: &Id) -> bool
+        ensures { result ≡ shares user.now list.now self.now }
+    {
+        match self {
+            Row::List(_) => false,
+            Row::Share(row) => row.list == *list && row.user == *user,
+            Row::Todo(_) => false,
+        }
+    }
+
+    /// The sort of a todo of the list, and 0 of any other row.
+    pub fn sort_in(&self, list: &Id) -> u64
+        ensures { result ≡ sort_in list.now self.now }
+    {
+        match self {
+            Row::List(_) => 0,
+            Row::Share(_) => 0,
+            Row::Todo(row) => { if row.list == *list { row.sort.get() } else { 0 } }
         }
     }
 
@@ -158,5 +182,35 @@ impl TodoRow {
             complete: self.complete,
             sort: self.sort,
         })
+    }
+
+    /// The todo with the fields that are named, in memory of its own.
+    pub fn with_fields(
+        &self,
+        alloc: Global,
+        text: &Option<Text>,
+        complete: Option<bool>,
+        sort: Option<Num>,
+    ) -> Result<TodoRow, Memory>
+        ensures { IfOk result (λ new. Todo new ≡ with_fields text.now complete sort (Todo self.now)) }
+    {
+        Ok(TodoRow {
+            id: self.id.copy(alloc)?,
+            list: self.list.copy(alloc)?,
+            text: text.as_ref().unwrap_or(&self.text).copy(alloc)?,
+            complete: complete.unwrap_or(self.complete),
+            sort: sort.unwrap_or(self.sort),
+        })
+    }
+
+    /// The sort of a todo that comes after one with this sort: one more, and at most 2^53 - 1.
+    pub fn sort_after(sort: u64) -> Num
+        ensures { result ≡ sort_after sort }
+    {
+        if sort < Num::MAX {
+            Num::from_u64(sort + 1)
+        } else {
+            Num::from_u64(Num::MAX)
+        }
     }
 }

@@ -48,7 +48,8 @@ impl Tables {
 
     /// The row of this kind and id, with its version. Takes no memory.
     pub fn row(&self, kind: Kind, id: &Id) -> Option<(&Row, u32)>
-        ensures { option_map (λ r. (r.0.now, r.1)) result ≡ find (key_text (record { kind = kind; id = id.now })) self.now.rows }
+        ensures found { option_map (λ r. (r.0.now, r.1)) result ≡ find (key_text (record { kind = kind; id = id.now })) self.now.rows }
+        ensures order { AreRows self.now.rows }
     {
         match place(&self.rows, kind, id) {
             Ok(at) => {
@@ -101,7 +102,7 @@ impl Tables {
 
     /// The rows with their versions, in the order of their keys.
     pub fn iter(&self) -> RowsInOrder<'_>
-        ensures rows { result.rows.now ≡ self.now.rows }
+        ensures rows { result ≡ self.now.rows }
         ensures order { AreRows self.now.rows }
     {
         RowsInOrder { rows: &self.rows }
@@ -117,17 +118,28 @@ fn place(rows: &[(Row, u32)], kind: Kind, id: &Id) -> Result<usize, usize>
 }
 
 /// The rows of [`Tables`] that are still to come, in the order of their keys.
+///
+/// A contract sees the list of those that are left, each with its version.
 #[derive(Drop)]
 pub struct RowsInOrder<'a> {
     rows: &'a [(Row, u32)],
 }
 
+impl<'a> Model for RowsInOrder<'a> {
+    ghost use Rattle.std.specs.Prelude.{List};
+    ghost use Rattle.rv_rows.specs.Held.{Stored};
+
+    ghost Value = { List Stored };
+
+    ghost view = { λ left. left.rows.now };
+}
+
 impl<'a> Iterator for RowsInOrder<'a> {
     type Item = (&'a Row, u32);
 
-    ghost next_gives = { YieldsFirstBy (λ item. (item.0.now, item.1)) (λ s. s.rows.now) };
+    ghost next_gives = { YieldsFirstBy (λ item. (item.0.now, item.1)) (λ left. left) };
 
-    ghost remaining = { item_count (λ s. s.rows.now) };
+    ghost remaining = { item_count (λ left. left) };
 
     fn next(&mut self) -> Option<(&'a Row, u32)> {
         let (first, others) = self.rows.split_first()?;

@@ -1,3 +1,4 @@
+pub mod OwnerLaws
 pub mod TextLaws
 pub mod OpenedLaws
 pub mod VisibleLaws

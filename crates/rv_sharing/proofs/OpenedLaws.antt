@@ -8,7 +8,7 @@ use Rattle.rv_rows.specs.declared.row.Row.{Row}
 use Rattle.rv_rows.specs.declared.row.Row.TheVariants as variants
 use Rattle.rv_rows.specs.Held.{Stored, rows_in}
 use Rattle.rv_rows.specs.Sharing.{is_list, owns, shares, may}
-use Rattle.rv_sharing.specs.OwnerLaws.{same_either_way}
+use Rattle.rv_sharing.proofs.OwnerLaws.{same_either_way}
 use Rattle.rv_sharing.specs.Texts.{AreInOrder, Adds}
 use Rattle.rv_sharing.proofs.TextLaws.{or_moved, or_false}
 use Rattle.rv_sharing.specs.Opened.{opened, AreOpened}

@@ -1,5 +1,5 @@
 -- Laws of the users who may see a list, collected row by row and list by list.
-use Rattle.std.proofs.Common.{◌≡◌, ℕ, ◌+◌, ◌<◌, ◌≤◌, Bool, true, false, cond, List, [], ◌∷◌, take, get_or, length, Option, Some, None, Result, Ok, Err, refl, sym, ap, ◌∙◌, subst, ◌||◌, ◌&&◌}
+use Rattle.std.proofs.Common.{◌≡◌, ℕ, ◌+◌, ◌<◌, ◌≤◌, Bool, true, false, cond, List, [], ◌∷◌, take, get_or, length, Option, Some, None, Result, Ok, Err, refl, sym, ap, ◌∙◌, ◌||◌, ◌&&◌}
 use Rattle.std.specs.Prelude.{IfOk}
 use Rattle.std.specs.List.{list_any}
 use Rattle.std.specs.Option.{option_map, option_map_or}
@@ -14,7 +14,7 @@ use Rattle.rv_rows.specs.Keys.{key_text, row_text}
 use Rattle.rv_rows.specs.Held.{Stored, rows_in, find, AreRows}
 use Rattle.rv_rows.specs.Sharing.{shares, may, list_of, sees}
 use Rattle.rv_sharing.specs.Owners.{owner_of}
-use Rattle.rv_sharing.specs.OwnerLaws.{same_either_way, may-owned, may-absent}
+use Rattle.rv_sharing.proofs.OwnerLaws.{same_either_way, may-owned, may-absent}
 use Rattle.rv_sharing.specs.Texts.{AreInOrder, Adds}
 use Rattle.rv_sharing.proofs.TextLaws.{or_moved, or_false}
 use Rattle.rv_sharing.specs.Opened.{list_passes, AreListsOf}
@@ -76,10 +76,10 @@ viewers_owned list owner stored before owned after rows is adds shared = record 
       ∙ ap (λ (b : Bool). list_any (bytes_eq u) before || b) (sym (may-owned u list owner stored rows is));
 }
 
-pub viewers_shared : {E : Type 0} (list owner : List ℕ) (stored rest : List Stored) (before owned : List (List ℕ)) (r : Result (List (List ℕ)) E) → AreRows stored → Some owner ≡ owner_of list (rows_in stored) → Adds owner before owned
-    → rest ≡ stored → IfOk r (AddsSharers (rows_in rest) list owned) → IfOk r (AddsViewers (rows_in stored) list before)
-viewers_shared list owner stored rest before owned (Ok after) rows is adds same shared = viewers_owned list owner stored before owned after rows is adds (subst (λ (ss : List Stored). AddsSharers (rows_in ss) list owned after) same shared)
-viewers_shared list owner stored rest before owned (Err e) rows is adds same shared = tt
+pub viewers_shared : {E : Type 0} (list owner : List ℕ) (stored : List Stored) (before owned : List (List ℕ)) (r : Result (List (List ℕ)) E) → AreRows stored → Some owner ≡ owner_of list (rows_in stored) → Adds owner before owned
+    → IfOk r (AddsSharers (rows_in stored) list owned) → IfOk r (AddsViewers (rows_in stored) list before)
+viewers_shared list owner stored before owned (Ok after) rows is adds shared = viewers_owned list owner stored before owned after rows is adds shared
+viewers_shared list owner stored before owned (Err e) rows is adds shared = tt
 
 pub viewers_absent : (list : List ℕ) (stored : List Stored) (before : List (List ℕ)) → AreRows stored → None ≡ owner_of list (rows_in stored) → AreInOrder before → AddsViewers (rows_in stored) list before before
 viewers_absent list stored before rows is order = record {

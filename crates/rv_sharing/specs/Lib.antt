@@ -1,5 +1,4 @@
 pub mod Owners
-pub mod OwnerLaws
 pub mod Texts
 pub mod Opened
 pub mod Sharers

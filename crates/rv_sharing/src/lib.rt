@@ -9,9 +9,6 @@ mod texts;
 mod viewers;
 mod views;
 
-pub use lists::{has_share, may, owner_of};
+pub use lists::{has_list, has_share, may, owner_of, owns};
 pub use viewers::{add_sharers, add_user, add_viewers, affected};
 pub use views::visible;
-
-#[cfg(test)]
-mod tests;

@@ -1,12 +1,12 @@
 // What a user may see of a list.
 ghost use Rattle.std.specs.Prelude.{◌≡◌, option_map};
 ghost use Rattle.std.specs.List.{list_any};
-ghost use Rattle.rv_rows.specs.Held.{rows_in};
-ghost use Rattle.rv_rows.specs.Sharing.{is_list, may, shares};
+ghost use Rattle.rv_rows.specs.Held.{rows_in, AreRows};
+ghost use Rattle.rv_rows.specs.Sharing.{is_list, may, owns, shares};
 ghost use Rattle.rv_sharing.specs.Owners.{row_owner, owner_of};
 
 use rv_base::{Id, User};
-use rv_rows::{Kind, Row, RowsInOrder, Tables};
+use rv_rows::{Kind, Row, Tables};
 
 // Whose the row is, where it is a list.
 fn row_owner(row: &Row) -> Option<&User>
@@ -21,7 +21,8 @@ fn row_owner(row: &Row) -> Option<&User>
 
 /// The owner of a list, where the list is there. Takes no memory.
 pub fn owner_of<'t>(tables: &'t Tables, list: &Id) -> Option<&'t User>
-    ensures { option_map (λ owner. owner.now) result ≡ owner_of list.now (rows_in tables.now.rows) }
+    ensures owner { option_map (λ owner. owner.now) result ≡ owner_of list.now (rows_in tables.now.rows) }
+    ensures order { AreRows tables.now.rows }
 {
     match tables.row(Kind::List, list) {
         Some((row, _version)) => row_owner(row),
@@ -29,33 +30,29 @@ pub fn owner_of<'t>(tables: &'t Tables, list: &Id) -> Option<&'t User>
     }
 }
 
-// Whether the list is there.
-pub(crate) fn is_there(tables: &Tables, list: &Id) -> bool
+/// Whether the list is there. Takes no memory.
+pub fn has_list(tables: &Tables, list: &Id) -> bool
     ensures { result ≡ list_any (is_list list.now) (rows_in tables.now.rows) }
 {
+    owner_of(tables, list).is_some()
+}
+
+/// Whether the list is there, and the user owns it. Takes no memory.
+pub fn owns(tables: &Tables, user: &User, list: &Id) -> bool
+    ensures { result ≡ list_any (owns user.now list.now) (rows_in tables.now.rows) }
+{
     match owner_of(tables, list) {
-        Some(_) => true,
+        Some(owner) => owner == user,
         None => false,
     }
 }
 
-// Whether the row is a share of this list that names the user.
-fn shares(user: &User, list: &Id, row: &Row) -> bool
-    ensures { result ≡ shares user.now list.now row.now }
+/// Whether a share of the list names the user. Takes no memory.
+pub fn has_share(tables: &Tables, user: &User, list: &Id) -> bool
+    ensures { result ≡ list_any (shares user.now list.now) (rows_in tables.now.rows) }
 {
-    match row {
-        Row::List(_) => false,
-        Row::Share(row) => row.list == *list && row.user == *user,
-        Row::Todo(_) => false,
-    }
-}
-
-/// Whether one of the rows is a share of the list that names the user. Takes no memory.
-pub fn has_share(rows: RowsInOrder<'_>, user: &User, list: &Id) -> bool
-    ensures { result ≡ list_any (shares user.now list.now) (rows_in rows.entry.rows.now) }
-{
-    for (row, _version) in rows {
-        if shares(user, list, row) {
+    for (row, _version) in tables.iter() {
+        if row.shares(user, list) {
             return true;
         }
     }
@@ -66,9 +63,8 @@ pub fn has_share(rows: RowsInOrder<'_>, user: &User, list: &Id) -> bool
 pub fn may(tables: &Tables, user: &User, list: &Id) -> bool
     ensures { result ≡ may user.now list.now (rows_in tables.now.rows) }
 {
-    let rows = tables.iter();
     match owner_of(tables, list) {
-        Some(owner) => owner == user || has_share(rows, user, list),
+        Some(owner) => owner == user || has_share(tables, user, list),
         None => false,
     }
 }

@@ -9,7 +9,7 @@ ghost use Rattle.rv_sharing.specs.Affected.{AddsViewers, AreAffected};
 use crate::lists::owner_of;
 use crate::texts::add;
 use rv_base::{Id, Memory, Sequence, User};
-use rv_rows::{Key, Row, RowsInOrder, Tables, Users};
+use rv_rows::{Key, Row, Tables, Users};
 use std::alloc::Global;
 
 /// The users and this one. They stand in the order of their bytes, each once.
@@ -37,19 +37,13 @@ fn sharer<'r>(row: &'r Row, list: &Id) -> Option<&'r User>
     }
 }
 
-/// The users and those whom one of the rows names as a share of the list. They stand in the order of their bytes, each
-/// once.
-pub fn add_sharers(
-    alloc: Global,
-    users: Users,
-    rows: RowsInOrder<'_>,
-    list: &Id,
-) -> Result<Users, Memory>
+/// The users and those whom a share of the list names. They stand in the order of their bytes, each once.
+pub fn add_sharers(alloc: Global, users: Users, tables: &Tables, list: &Id) -> Result<Users, Memory>
     requires { AreInOrder users }
-    ensures { IfOk result (AddsSharers (rows_in rows.entry.rows.now) list.now users) }
+    ensures { IfOk result (AddsSharers (rows_in tables.now.rows) list.now users) }
 {
     let mut users = users.into_vec();
-    for (row, _version) in rows {
+    for (row, _version) in tables.iter() {
         if let Some(user) = sharer(row, list) {
             add(alloc, &mut users, user)?;
         }
@@ -62,11 +56,10 @@ pub fn add_viewers(alloc: Global, users: Users, tables: &Tables, list: &Id) -> R
     requires { AreInOrder users }
     ensures { IfOk result (AddsViewers (rows_in tables.now.rows) list.now users) }
 {
-    let rows = tables.iter();
     match owner_of(tables, list) {
         Some(owner) => {
             let owned = add_user(alloc, users, owner)?;
-            add_sharers(alloc, owned, rows, list)
+            add_sharers(alloc, owned, tables, list)
         }
         None => Ok(users),
     }

@@ -6,7 +6,7 @@ ghost use Rattle.rv_rows.specs.Held.{rows_in};
 ghost use Rattle.rv_sharing.specs.Opened.{opened, AreOpened};
 ghost use Rattle.rv_sharing.specs.Visible.{visible};
 
-use crate::lists::is_there;
+use crate::lists::has_list;
 use crate::texts::{add, holds};
 use rv_base::{Id, Memory, Sequence, User};
 use rv_rows::{Key, Row, Tables, Visible};
@@ -23,7 +23,7 @@ fn opened<'r>(tables: &Tables, user: &User, row: &'r Row) -> Option<&'r Id>
             None
         },
         Row::Share(row) => {
-            if row.user == *user && is_there(tables, &row.list) {
+            if row.user == *user && has_list(tables, &row.list) {
                 Some(&row.list)
             } else {
                 None
@@ -46,16 +46,6 @@ fn lists_opened(alloc: Global, tables: &Tables, user: &User) -> Result<Vec<Id>, 
     Ok(lists)
 }
 
-// The key of a row, in memory of its own.
-fn key_of(alloc: Global, row: &Row) -> Result<Key, Memory>
-    ensures { IfOk result (λ key. key ≡ row_key row.now) }
-{
-    Ok(Key {
-        kind: row.kind(),
-        id: row.id().copy(alloc)?,
-    })
-}
-
 /// The keys that the user sees, in order, each with the version of its row.
 pub fn visible(alloc: Global, tables: &Tables, user: &User) -> Result<Visible, Memory>
     ensures visible { IfOk result (λ v. v ≡ visible user.now tables.now.rows) }
@@ -65,7 +55,7 @@ pub fn visible(alloc: Global, tables: &Tables, user: &User) -> Result<Visible, M
     let mut keys = Sequence::new(alloc);
     for (row, version) in tables.iter() {
         if holds(&lists, row.list()) {
-            keys.push((key_of(alloc, row)?, version))?;
+            keys.push((row.key(alloc)?, version))?;
         }
     }
     Ok(keys)

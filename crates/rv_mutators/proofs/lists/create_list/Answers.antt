@@ -1,6 +1,6 @@
 use Rattle.std.proofs.Common.{◌∙◌, sym}
 use Rattle.rv_rows.specs.Held.{rows_in}
-use Rattle.rv_mutators.proofs.Applied.{in_order-rows}
+use Rattle.rv_rows.specs.HeldLaws.{in_order-rows}
 use Rattle.rv_mutators.proofs.Calls.{ok_is, then_is, else_is, create_list-is}
 use Rattle.rv_mutators.proofs.lists.create_list.Goals as goal
 

@@ -2,7 +2,7 @@ use Rattle.std.proofs.Common.{◌∙◌}
 use Rattle.rv_rows.specs.Held.{rows_in}
 use Rattle.rv_rows.specs.Keys.{key_text}
 use Rattle.rv_rows.specs.declared.key.Kind.TheVariants.{Share}
-use Rattle.rv_mutators.proofs.Applied.{in_order-rows}
+use Rattle.rv_rows.specs.HeldLaws.{in_order-rows}
 use Rattle.rv_mutators.proofs.Calls.{ok_is, row_found, row_absent, delete_share-found, delete_share-absent}
 use Rattle.rv_mutators.proofs.shares.delete_share.Goals as goal
 
@@ -10,10 +10,10 @@ pub returns-in-Some : goal.returns-in-Some
 returns-in-Some c =
     let stored = c.args.tables.now.rows in
     let k = key_text (record { kind = Share; id = c.args.id.now }) in
-    ok_is _ _ _ c.end_share.ensures (delete_share-found (rows_in stored) (in_order-rows stored c.requires) c.args.user.now c.args.id.now c.in-Some.row.now (row_found k stored (c.in-Some.row.now, c.in-Some._version) c.in-Some.ensures))
+    ok_is _ _ _ c.end_share.ensures (delete_share-found (rows_in stored) (in_order-rows stored c.requires) c.args.user.now c.args.id.now c.in-Some.row.now (row_found k stored (c.in-Some.row.now, c.in-Some._version) c.in-Some.ensures.found))
 
 pub returns-in-None : goal.returns-in-None
 returns-in-None c =
     let stored = c.args.tables.now.rows in
     let k = key_text (record { kind = Share; id = c.args.id.now }) in
-    c.nothing.ensures ∙ delete_share-absent (rows_in stored) (in_order-rows stored c.requires) c.args.user.now c.args.id.now (row_absent k stored c.in-None.ensures)
+    c.nothing.ensures ∙ delete_share-absent (rows_in stored) (in_order-rows stored c.requires) c.args.user.now c.args.id.now (row_absent k stored c.in-None.ensures.found)

@@ -8,5 +8,5 @@ abbrev pub invariant-loop-row : goal.invariant-loop-row
 invariant-loop-row l = record {
   can_next : (goal.iterator-loop-row).can_next l.row-iterator;
   is_finite : (goal.iterator-loop-row).is_finite l.row-iterator;
-  rest : fold (greater_sort l.list) l.most (rows_in l.row-iterator.rows.now) ≡ greatest_sort l.list (rows_in l.fn.rows.rows.now);
+  rest : fold (greater_sort l.list) l.most (rows_in l.row-iterator) ≡ greatest_sort l.list (rows_in l.tables.rows);
 }

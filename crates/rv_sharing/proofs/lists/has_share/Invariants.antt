@@ -8,5 +8,5 @@ abbrev pub invariant-loop-row : goal.invariant-loop-row
 invariant-loop-row l = record {
   can_next : (goal.iterator-loop-row).can_next l.row-iterator;
   is_finite : (goal.iterator-loop-row).is_finite l.row-iterator;
-  same : list_any (shares l.user l.list) (rows_in l.row-iterator.rows.now) ≡ list_any (shares l.user l.list) (rows_in l.fn.rows.rows.now);
+  same : list_any (shares l.user l.list) (rows_in l.row-iterator) ≡ list_any (shares l.user l.list) (rows_in l.tables.rows);
 }

@@ -6,5 +6,5 @@ abbrev pub invariant-loop-row : goal.invariant-loop-row
 invariant-loop-row l = record {
   can_next : (goal.iterator-loop-row).can_next l.row-iterator;
   is_finite : (goal.iterator-loop-row).is_finite l.row-iterator;
-  adding : Adding l.list (rows_in l.fn.rows.rows.now) l.fn.users l.users.items l.row-iterator.rows.now;
+  adding : Adding l.list (rows_in l.tables.rows) l.fn.users l.users.items l.row-iterator;
 }

@@ -9,13 +9,13 @@ found : (b r : Bool) (l k : List ℕ) (xs ys : List (List ℕ)) → r ≡ b → 
 found b r l k xs ys is held same all = sym is ∙ held ∙ ap (λ (m : List ℕ). list_any (bytes_eq m) xs) same ∙ ap (λ (zs : List (List ℕ)). list_any (bytes_eq k) zs) all
 
 pub loop-row-init : goal.loop-row-init
-loop-row-init c = record { can_next = tt; is_finite = tt; showing = showing_begins _ _ _ _ _ c.in_ok-lists.ensures c.new-keys.ensures (ap (λ i. i.rows.now) c.into_iter-row-iterator.ensures.into_iter_gives ∙ c.iter-row-items.ensures.rows) }
+loop-row-init c = record { can_next = tt; is_finite = tt; showing = showing_begins _ _ _ _ _ c.in_ok-lists.ensures c.new-keys.ensures (c.into_iter-row-iterator.ensures.into_iter_gives ∙ c.iter-row-items.ensures.rows) }
 
 pub loop-row-preserved-in_ok-push : goal.loop-row-preserved-in_ok-push
 loop-row-preserved-in_ok-push c = record {
   can_next = tt;
   is_finite = tt;
-  showing = showing_more _ _ _ _ _ _ _ _ _ _ c.in-Some.ensures.steps (found true _ _ _ _ _ c.if-holds.true c.holds.ensures c.list.ensures c.deref.ensures.value) c.in_ok-key_of.ensures c.in_ok-push.ensures.ok c.loop-row.invariant.showing;
+  showing = showing_more _ _ _ _ _ _ _ _ _ _ c.in-Some.ensures.steps (found true _ _ _ _ _ c.if-holds.true c.holds.ensures c.list.ensures c.deref.ensures.value) c.in_ok-key.ensures c.in_ok-push.ensures.ok c.loop-row.invariant.showing;
 }
 
 pub loop-row-preserved : goal.loop-row-preserved

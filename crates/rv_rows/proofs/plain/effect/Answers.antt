@@ -1,7 +1,0 @@
-use Rattle.rv_rows.proofs.plain.effect.Goals as goal
-
-pub returns-in-CreateShare : goal.returns-in-CreateShare
-returns-in-CreateShare c = rw (c.in-CreateShare.is) c.create_share.ensures
-
-pub returns-in-CreateTodo : goal.returns-in-CreateTodo
-returns-in-CreateTodo c = rw (c.in-CreateTodo.is) c.create_todo.ensures

@@ -1,7 +1,0 @@
-use Rattle.std.proofs.Common.{◌≡◌, take}
-use Rattle.std.specs.List.{filter}
-use Rattle.rv_rows.specs.Effects.{is_outside}
-use Rattle.rv_rows.proofs.plain.without_list.Given as goal
-
-abbrev pub invariant-loop-row : goal.invariant-loop-row
-invariant-loop-row l = l.kept.items ≡ filter (is_outside l.list) (take l.row-index l.rows)

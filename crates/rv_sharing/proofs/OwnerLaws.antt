@@ -1,0 +1,107 @@
+-- Laws of owners: among rows of which no two have one key, the owner of a list decides whether the list is there, who owns
+-- it, and who may see it.
+use Rattle.std.proofs.Common.{◌≡◌, ℕ, Bool, true, false, cond, List, [], ◌∷◌, Option, Some, None, refl, sym, ap, ◌∙◌, subst, ◌||◌, ◌&&◌}
+use Rattle.std.specs.List.{list_any}
+use Rattle.std.specs.Option.{is_some, option_map, option_map_or, option_and_then}
+use Rattle.std.specs.Str.{bytes_eq}
+use Rattle.std.proofs.lemmas.Slice.Eq.{bytes_eq-Decides}
+use Rattle.rv_base.specs.Sorted.{Distinct}
+use Rattle.rv_base.specs.Places.{not_same}
+use Rattle.rv_base.specs.Arranged.{find-map}
+use Rattle.rv_rows.specs.declared.key.Kind.TheVariants as kinds
+use Rattle.rv_rows.specs.declared.row.Row.{Row}
+use Rattle.rv_rows.specs.declared.row.Row.TheVariants as variants
+use Rattle.rv_rows.specs.Keys.{key_text, row_text, row_at}
+use Rattle.rv_rows.specs.Held.{Stored, rows_in, find, AreRows}
+use Rattle.rv_rows.specs.HeldLaws.{distinct-rows}
+use Rattle.rv_rows.specs.Sharing.{is_list, owns, shares, may}
+use Rattle.rv_sharing.specs.Owners.{row_owner, owner_of}
+
+-- the text of a list's key
+abbrev list_key : List ℕ → List ℕ
+list_key list = key_text (record { kind = kinds.List; id = list })
+
+-- texts are compared the same either way
+pub same_either_way : (a b : List ℕ) → bytes_eq a b ≡ bytes_eq b a
+same_either_way a b =
+    elim (bytes_eq a b) as (λ t. bytes_eq a b ≡ t → t ≡ bytes_eq b a) [
+      | true ↦ λ e. let same : a ≡ b = (bytes_eq-Decides a b).0 e in sym ((bytes_eq-Decides b a).1 (sym same))
+      | false ↦ λ e. sym (not_same a b e)
+    ] refl
+
+-- the list is there exactly where it has an owner
+pub is_list-owner : (list : List ℕ) (rows : List Row) → list_any (is_list list) rows ≡ is_some (owner_of list rows)
+is_list-owner list [] = refl
+is_list-owner list (variants.List row ∷ rows) =
+    ap (λ (b : Bool). b || list_any (is_list list) rows) (same_either_way row.id list)
+    ∙ elim (bytes_eq list row.id) as (λ b. (b || list_any (is_list list) rows) ≡ is_some (option_and_then row_owner (cond b (Some (variants.List row)) (row_at (list_key list) rows)))) [
+      | true ↦ refl
+      | false ↦ is_list-owner list rows
+    ]
+is_list-owner list (variants.Share row ∷ rows) = is_list-owner list rows
+is_list-owner list (variants.Todo row ∷ rows) = is_list-owner list rows
+
+pub is_list-found : {X : Type 0} (view : X → List ℕ) (o : Option X) (list : List ℕ) (rows : List Row) → option_map view o ≡ owner_of list rows → is_some o ≡ list_any (is_list list) rows
+is_list-found view o list rows is = seen o ∙ ap is_some is ∙ sym (is_list-owner list rows)
+  where
+    seen : (o : Option _) → is_some o ≡ is_some (option_map view o)
+    seen None = refl
+    seen (Some x) = refl
+
+-- the user owns it exactly where the user is that owner
+none_owns : (user list : List ℕ) (rows : List Row) → row_at (list_key list) rows ≡ None → list_any (owns user list) rows ≡ false
+none_owns user list [] h = refl
+none_owns user list (variants.List row ∷ rows) h =
+    ap (λ (b : Bool). (b && bytes_eq row.owner user) || list_any (owns user list) rows) (same_either_way row.id list)
+    ∙ elim (bytes_eq list row.id) as (λ b. cond b (Some (variants.List row)) (row_at (list_key list) rows) ≡ None → ((b && bytes_eq row.owner user) || list_any (owns user list) rows) ≡ false) [
+      | true ↦ λ e. absurd (cc)
+      | false ↦ λ e. none_owns user list rows e
+    ] h
+none_owns user list (variants.Share row ∷ rows) h = none_owns user list rows h
+none_owns user list (variants.Todo row ∷ rows) h = none_owns user list rows h
+
+or_none : (b c : Bool) → c ≡ false → (b || c) ≡ b
+or_none true c h = refl
+or_none false c h = h
+
+pub owns-owner : (user list : List ℕ) (rows : List Row) → Distinct row_text rows → list_any (owns user list) rows ≡ option_map_or (λ owner. bytes_eq owner user) (owner_of list rows) false
+owns-owner user list [] apart = refl
+owns-owner user list (variants.List row ∷ rows) apart =
+    ap (λ (b : Bool). (b && bytes_eq row.owner user) || list_any (owns user list) rows) (same_either_way row.id list)
+    ∙ elim (bytes_eq list row.id) as (λ b. bytes_eq list row.id ≡ b → ((b && bytes_eq row.owner user) || list_any (owns user list) rows) ≡ option_map_or (λ owner. bytes_eq owner user) (option_and_then row_owner (cond b (Some (variants.List row)) (row_at (list_key list) rows))) false) [
+      | true ↦ λ e. or_none (bytes_eq row.owner user) _ (none_owns user list rows (subst (λ (id : List ℕ). row_at (list_key id) rows ≡ None) (sym ((bytes_eq-Decides list row.id).0 e)) apart.0))
+      | false ↦ λ e. owns-owner user list rows apart.1
+    ] refl
+owns-owner user list (variants.Share row ∷ rows) apart = owns-owner user list rows apart.1
+owns-owner user list (variants.Todo row ∷ rows) apart = owns-owner user list rows apart.1
+
+-- who may see a list, by its owner
+pub may-owner : (user list : List ℕ) (rows : List Row) → Distinct row_text rows → may user list rows ≡ option_map_or (λ owner. bytes_eq owner user || list_any (shares user list) rows) (owner_of list rows) false
+may-owner user list rows apart =
+    ap (λ (b : Bool). b || (list_any (is_list list) rows && list_any (shares user list) rows)) (owns-owner user list rows apart)
+    ∙ ap (λ (b : Bool). option_map_or (λ owner. bytes_eq owner user) (owner_of list rows) false || (b && list_any (shares user list) rows)) (is_list-owner list rows)
+    ∙ joined (owner_of list rows)
+  where
+    joined : (o : Option (List ℕ)) → (option_map_or (λ owner. bytes_eq owner user) o false || (is_some o && list_any (shares user list) rows)) ≡ option_map_or (λ owner. bytes_eq owner user || list_any (shares user list) rows) o false
+    joined None = refl
+    joined (Some owner) = refl
+
+-- the owner of a list, by what is found in a table
+pub owner-found : (list : List ℕ) (stored : List Stored) → option_and_then (λ (s : Stored). row_owner s.0) (find (list_key list) stored) ≡ owner_of list (rows_in stored)
+owner-found list stored = joined (find (list_key list) stored) ∙ ap (λ (o : Option Row). option_and_then row_owner o) (find-map row_text (λ (s : Stored). s.0) (list_key list) stored)
+  where
+    joined : (o : Option Stored) → option_and_then (λ (s : Stored). row_owner s.0) o ≡ option_and_then row_owner (option_map (λ (s : Stored). s.0) o)
+    joined None = refl
+    joined (Some s) = refl
+
+-- who may see a list of a table, by what is known of its owner
+pub may-owned : (user list owner : List ℕ) (stored : List Stored) → AreRows stored → Some owner ≡ owner_of list (rows_in stored) → may user list (rows_in stored) ≡ (bytes_eq owner user || list_any (shares user list) (rows_in stored))
+may-owned user list owner stored order is = may-owner user list (rows_in stored) (distinct-rows stored order) ∙ ap (λ (o : Option (List ℕ)). option_map_or (λ owner. bytes_eq owner user || list_any (shares user list) (rows_in stored)) o false) (sym is)
+
+pub may-absent : (user list : List ℕ) (stored : List Stored) → AreRows stored → None ≡ owner_of list (rows_in stored) → may user list (rows_in stored) ≡ false
+may-absent user list stored order is = may-owner user list (rows_in stored) (distinct-rows stored order) ∙ ap (λ (o : Option (List ℕ)). option_map_or (λ owner. bytes_eq owner user || list_any (shares user list) (rows_in stored)) o false) (sym is)
+
+-- who owns a list of a table, by what is known of its owner
+pub owns-found : (user list : List ℕ) (stored : List Stored) (owner : Option (List ℕ)) → AreRows stored → owner ≡ owner_of list (rows_in stored)
+    → option_map_or (λ owner. bytes_eq owner user) owner false ≡ list_any (owns user list) (rows_in stored)
+owns-found user list stored owner order is = ap (λ (o : Option (List ℕ)). option_map_or (λ owner. bytes_eq owner user) o false) is ∙ sym (owns-owner user list (rows_in stored) (distinct-rows stored order))
