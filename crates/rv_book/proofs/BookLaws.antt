@@ -1,20 +1,11 @@
 -- A book goes on by one entry: what becomes of places in it and of what is counted.
-use Rattle.std.proofs.Common.{◌≡◌, ℕ, zero, suc, ◌+◌, ◌<◌, Bool, true, false, cond, List, [], ◌∷◌, ◌++◌, length, Option, Some, None, refl, ap, ◌∙◌, arith}
+use Rattle.std.proofs.Common.{◌≡◌, ℕ, suc, ◌+◌, Bool, true, false, cond, List, [], ◌∷◌, ◌++◌, Option, Some, None, refl, ap, ◌∙◌, arith}
 use Rattle.std.specs.List.{slice_get, count_by}
 use Rattle.std.specs.Option.{option_map, option_or, option_and_then}
 use Rattle.std.proofs.lemmas.List.Sums.{sum_by-append, fold_push}
 use Rattle.rv_book.specs.declared.entry.Entry.{Entry}
-use Rattle.rv_book.specs.Book.{Book}
+use Rattle.rv_book.specs.Book.{Book, size, with_entry}
 use Rattle.rv_book.specs.Indexes.{first_where}
-
-pub at_before : {A : Type 0} (xs : List A) (x : A) (i : ℕ) → i < length xs → slice_get (xs ++ x ∷ []) i ≡ slice_get xs i
-at_before [] x i lt = absurd (omega arith)
-at_before (y ∷ ys) x zero lt = refl
-at_before (y ∷ ys) x (suc i) lt = at_before ys x i (omega arith)
-
-pub at_end : {A : Type 0} (xs : List A) (x : A) → slice_get (xs ++ x ∷ []) (length xs) ≡ Some x
-at_end [] x = refl
-at_end (y ∷ ys) x = at_end ys x
 
 pub count-push : {A : Type 0} (p : A → Bool) (xs : List A) (x : A) → count_by p (xs ++ x ∷ []) ≡ count_by p xs + cond (p x) 1 0
 count-push p xs x = fold_push _ _ xs x
@@ -24,12 +15,12 @@ later None true n = refl
 later None false n = refl
 later (Some i) b n = refl
 
-pub first-push : (p : Entry → Bool) (book : Book) (entry : Entry) → first_where p (book ++ entry ∷ []) ≡ option_or (first_where p book) (cond (p entry) (Some (length book)) None)
+pub first-push : (p : Entry → Bool) (book : Book) (entry : Entry) → first_where p (with_entry book entry) ≡ option_or (first_where p book) (cond (p entry) (Some (size book)) None)
 first-push p [] entry = refl
 first-push p (e ∷ book) entry =
-    elim (p e) as (λ b. cond b (Some 0) (option_map suc (first_where p (book ++ entry ∷ []))) ≡ option_or (cond b (Some 0) (option_map suc (first_where p book))) (cond (p entry) (Some (suc (length book))) None)) [
+    elim (p e) as (λ b. cond b (Some 0) (option_map suc (first_where p (with_entry book entry))) ≡ option_or (cond b (Some 0) (option_map suc (first_where p book))) (cond (p entry) (Some (suc (size book))) None)) [
       | true ↦ refl
-      | false ↦ ap (option_map suc) (first-push p book entry) ∙ later (first_where p book) (p entry) (length book)
+      | false ↦ ap (option_map suc) (first-push p book entry) ∙ later (first_where p book) (p entry) (size book)
     ]
 
 pub none_later : (o : Option ℕ) → option_map suc o ≡ None → o ≡ None

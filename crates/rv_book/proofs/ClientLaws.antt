@@ -4,21 +4,21 @@ use Rattle.std.specs.List.{slice_get}
 use Rattle.std.specs.Option.{option_map, option_or, option_map_or, option_and_then}
 use Rattle.std.specs.Str.{bytes_eq}
 use Rattle.std.proofs.lemmas.Slice.Eq.{bytes_eq-Decides}
-use Rattle.std.proofs.lemmas.List.{length_push}
 use Rattle.std.proofs.lemmas.List.Sums.{count_by-le-length}
 use Rattle.std.proofs.lemmas.Option.{same_Some}
 use Rattle.rv_base.specs.Sorted.{Settles}
 use Rattle.rv_book.specs.declared.entry.Entry.{Entry}
 use Rattle.rv_book.specs.declared.entry.Entry.TheVariants.{Act, Look, Retire}
 use Rattle.rv_book.specs.declared.clients.ClientRow.{ClientRow}
-use Rattle.rv_book.specs.Book.{Book, is_act_of, last, group_of}
-use Rattle.rv_book.specs.Indexes.{first_where, actor, client_key, client_row, AreClientRows, acted_in}
+use Rattle.rv_book.specs.Book.{Book, is_act_of, last, group_of, size, with_entry}
+use Rattle.rv_book.specs.BookWords.{at_before, at_end, size-with_entry}
+use Rattle.rv_book.specs.Indexes.{first_where, actor, client_of_row, row_from, client_row, AreClientRows, acted_in}
 use Rattle.rv_book.proofs.IndexLaws.{bytes_eq_back, index-same, index-again, index-first, Changes}
-use Rattle.rv_book.proofs.BookLaws.{read_later, at_before, at_end, count-push, first-push, none_counted}
+use Rattle.rv_book.proofs.BookLaws.{read_later, count-push, first-push, none_counted}
 
-pub client_key-before : (book : Book) (e : Entry) (row : ClientRow) → row.first < length book → client_key book row ≡ client_key (book ++ e ∷ []) row
-unfolding client_key
-client_key-before book e row lt = ap (λ (o : Option Entry). option_map_or actor o []) (sym (at_before book e row.first lt))
+pub client_of_row-before : (book : Book) (e : Entry) (row : ClientRow) → row.first < size book → client_of_row book row ≡ client_of_row (with_entry book e) row
+unfolding client_of_row
+client_of_row-before book e row lt = ap (λ (o : Option Entry). option_map_or actor o []) (sym (at_before book e row.first lt))
 
 -- the row after one more act of its client
 abbrev pub one_more : ℕ → Option ClientRow → ClientRow
@@ -32,11 +32,11 @@ row_after (Some i) false index acts none = let same : acts + 0 ≡ acts = omega 
 row_after None true index acts none = let same : acts + 1 ≡ 1 = omega (arith, none refl) in ap (λ (n : ℕ). Some (record { first = index; acts = n })) same
 row_after None false index acts none = refl
 
-client_row-push : (book : Book) (e : Entry) (k : List ℕ) → client_row (book ++ e ∷ []) k ≡ cond (is_act_of k e) (Some (one_more (length book) (client_row book k))) (client_row book k)
+pub client_row-push : (book : Book) (e : Entry) (k : List ℕ) → client_row (with_entry book e) k ≡ cond (is_act_of k e) (Some (one_more (size book) (client_row book k))) (client_row book k)
 unfolding client_row
 client_row-push book e k =
     (λ i. option_map (λ index. record { first = index; acts = count-push (is_act_of k) book e i }) (first-push (is_act_of k) book e i))
-    ∙ row_after (first_where (is_act_of k) book) (is_act_of k e) (length book) (last k book) (none_counted (is_act_of k) book)
+    ∙ row_after (first_where (is_act_of k) book) (is_act_of k e) (size book) (last k book) (none_counted (is_act_of k) book)
 
 pub act_is : (c : List ℕ) (e : Entry) → is_act_of c e ≡ true → (actor e ≡ c) × ((k : List ℕ) → is_act_of k e ≡ bytes_eq k c)
 act_is c (Act user group client id call) is =
@@ -46,42 +46,45 @@ act_is c (Look user group order base) is = absurd (cc)
 act_is c (Retire group) is = absurd (cc)
 
 -- an entry that is no act
-pub clients-same : (book : Book) (e : Entry) (rows : List ClientRow) → ((k : List ℕ) → is_act_of k e ≡ false) → AreClientRows book rows → AreClientRows (book ++ e ∷ []) rows
+pub clients-same : (book : Book) (e : Entry) (rows : List ClientRow) → ((k : List ℕ) → is_act_of k e ≡ false) → AreClientRows book rows → AreClientRows (with_entry book e) rows
 clients-same book e rows other h =
-    index-same (client_key book) (client_key (book ++ e ∷ [])) (λ (row : ClientRow). row.first) (length book) (length (book ++ e ∷ [])) (client_row book) (client_row (book ++ e ∷ [])) rows
-    (client_key-before book e) (omega (arith, length_push book e)) (λ k. client_row-push book e k ∙ ap (λ (b : Bool). cond b (Some (one_more (length book) (client_row book k))) (client_row book k)) (other k)) h
+    index-same (client_of_row book) (client_of_row (with_entry book e)) (λ (row : ClientRow). row.first) (size book) (length (with_entry book e)) (client_row book) (client_row (with_entry book e)) rows
+    (client_of_row-before book e) (omega (arith, size-with_entry book e)) (λ k. client_row-push book e k ∙ ap (λ (b : Bool). cond b (Some (one_more (size book) (client_row book k))) (client_row book k)) (other k)) h
 
-act_changes : (book : Book) (e : Entry) (c : List ℕ) → is_act_of c e ≡ true → Changes (client_key book) (client_key (book ++ e ∷ [])) (λ (row : ClientRow). row.first) (length book) (length (book ++ e ∷ [])) (client_row book) (client_row (book ++ e ∷ [])) c (one_more (length book))
-unfolding client_key
+act_changes : (book : Book) (e : Entry) (c : List ℕ) → is_act_of c e ≡ true → Changes (client_of_row book) (client_of_row (with_entry book e)) (λ (row : ClientRow). row.first) (size book) (length (with_entry book e)) (client_row book) (client_row (with_entry book e)) c (one_more (size book))
+unfolding client_of_row
 act_changes book e c is = record {
-  same = client_key-before book e;
-  grows = omega (arith, length_push book e);
-  by_name = λ x y same. ap (λ (i : ℕ). option_map_or actor (slice_get (book ++ e ∷ []) i) []) same;
+  same = client_of_row-before book e;
+  grows = omega (arith, size-with_entry book e);
+  by_name = λ x y same. ap (λ (i : ℕ). option_map_or actor (slice_get (with_entry book e) i) []) same;
   keeps = λ row. refl;
-  fresh = ap (λ (o : Option Entry). option_map_or actor o []) (at_end book e) ∙ (act_is c e is).0;
-  fresh_within = omega (arith, length_push book e);
-  next = λ q. client_row-push book e q ∙ ap (λ (b : Bool). cond b (Some (one_more (length book) (client_row book q))) (client_row book q)) ((act_is c e is).1 q);
+  fresh = λ none. ap (λ (o : Option Entry). option_map_or actor o []) (at_end book e) ∙ (act_is c e is).0;
+  fresh_within = omega (arith, size-with_entry book e);
+  next = λ q. client_row-push book e q ∙ ap (λ (b : Bool). cond b (Some (one_more (size book) (client_row book q))) (client_row book q)) ((act_is c e is).1 q);
 }
 
 -- an act
-pub act_again : (book : Book) (e : Entry) (c : List ℕ) (rows seen : List ClientRow) (at : ℕ) (row : ClientRow) → is_act_of c e ≡ true → AreClientRows book rows → seen ≡ rows → Settles (client_key (book ++ e ∷ [])) c seen (Ok at) → row ≡ get_or rows at row
-    → AreClientRows (book ++ e ∷ []) (set rows at (record { first = row.first; acts = row.acts + 1 }))
-act_again book e c rows seen at row is h same there read = index-again _ _ _ _ _ _ _ c (one_more (length book)) rows seen at row (act_changes book e c is) h same there read
+pub act_again : (book : Book) (e : Entry) (c : List ℕ) (rows seen : List ClientRow) (at : ℕ) (row : ClientRow) → is_act_of c e ≡ true → AreClientRows book rows → seen ≡ rows → Settles (client_of_row (with_entry book e)) c seen (Ok at) → row ≡ get_or rows at row
+    → AreClientRows (with_entry book e) (set rows at (record { first = row.first; acts = row.acts + 1 }))
+act_again book e c rows seen at row is h same there read = index-again _ _ _ _ _ _ _ c (one_more (size book)) rows seen at row (act_changes book e c is) h same there read
 
-pub act_first : (book : Book) (e : Entry) (c : List ℕ) (rows seen : List ClientRow) (at : ℕ) → is_act_of c e ≡ true → AreClientRows book rows → seen ≡ rows → Settles (client_key (book ++ e ∷ [])) c seen (Err at)
-    → AreClientRows (book ++ e ∷ []) (take at rows ++ record { first = length book; acts = 1 } ∷ drop at rows)
-act_first book e c rows seen at is h same there = index-first _ _ _ _ _ _ _ c (one_more (length book)) rows seen at (act_changes book e c is) h same there
-
-row_acts : (o : Option ℕ) (acts : ℕ) (row : ClientRow) → option_map (λ i. record { first = i; acts = acts }) o ≡ Some row → row.acts ≡ acts
-row_acts None acts row h = absurd (cc)
-row_acts (Some i) acts row h = sym (ap (λ (r : ClientRow). r.acts) (same_Some _ _ h))
+pub act_first : (book : Book) (e : Entry) (c : List ℕ) (rows seen : List ClientRow) (at : ℕ) → is_act_of c e ≡ true → AreClientRows book rows → seen ≡ rows → Settles (client_of_row (with_entry book e)) c seen (Err at)
+    → AreClientRows (with_entry book e) (take at rows ++ record { first = size book; acts = 1 } ∷ drop at rows)
+act_first book e c rows seen at is h same there = index-first _ _ _ _ _ _ _ c (one_more (size book)) rows seen at (act_changes book e c is) h same there
 
 -- a row counts no more acts than there are entries
-pub acts_bound : (book : Book) (c : List ℕ) (rows seen : List ClientRow) (at : ℕ) (row : ClientRow) → AreClientRows book rows → seen ≡ rows → Settles (client_key book) c seen (Ok at) → row ≡ get_or rows at row → row.acts ≤ length book
+pub row_acts : (book : Book) (c : List ℕ) (row : ClientRow) → client_row book c ≡ Some row → row.acts ≤ size book
 unfolding client_row
+row_acts book c row is =
+    elim (first_where (is_act_of c) book) as (λ o. option_map (row_from book c) o ≡ Some row → row.acts ≤ size book) [
+      | None ↦ λ h. absurd (cc)
+      | Some i ↦ λ h. let all : last c book ≡ row.acts = ap (λ (r : ClientRow). r.acts) (same_Some _ _ h) in omega (arith, count_by-le-length (is_act_of c) book, all)
+    ] is
+
+pub acts_bound : (book : Book) (c : List ℕ) (rows seen : List ClientRow) (at : ℕ) (row : ClientRow) → AreClientRows book rows → seen ≡ rows → Settles (client_of_row book) c seen (Ok at) → row ≡ get_or rows at row → row.acts ≤ size book
 acts_bound book c rows seen at row h same found read =
-    let settled = subst (λ (xs : List ClientRow). Settles (client_key book) c xs (Ok at)) same found in
-    omega (arith, row_acts (first_where (is_act_of c) book) (last c book) row (sym (h.found c) ∙ settled.found row ∙ ap Some (sym read)), count_by-le-length (is_act_of c) book)
+    let settled = subst (λ (xs : List ClientRow). Settles (client_of_row book) c xs (Ok at)) same found in
+    row_acts book c row (sym (h.found c) ∙ settled.found row ∙ ap Some (sym read))
 
 pub none_yet : AreClientRows [] []
 unfolding client_row
@@ -92,7 +95,7 @@ pub first_of : (book : Book) (c : List ℕ) (o : Option ClientRow) → o ≡ cli
 unfolding client_row
 first_of book c o is = ap (option_map (λ row. row.first)) is ∙ same (first_where (is_act_of c) book)
   where
-    same : (p : Option ℕ) → option_map (λ (row : ClientRow). row.first) (option_map (λ i. record { first = i; acts = last c book }) p) ≡ p
+    same : (p : Option ℕ) → option_map (λ (row : ClientRow). row.first) (option_map (row_from book c) p) ≡ p
     same None = refl
     same (Some i) = refl
 
@@ -100,7 +103,7 @@ pub acts_of : (book : Book) (c : List ℕ) (o : Option ClientRow) → o ≡ clie
 unfolding client_row
 acts_of book c o is = ap (λ (p : Option ClientRow). option_map_or (λ row. row.acts) p 0) is ∙ same (first_where (is_act_of c) book) (none_counted (is_act_of c) book)
   where
-    same : (p : Option ℕ) → (p ≡ None → last c book ≡ 0) → option_map_or (λ (row : ClientRow). row.acts) (option_map (λ i. record { first = i; acts = last c book }) p) 0 ≡ last c book
+    same : (p : Option ℕ) → (p ≡ None → last c book ≡ 0) → option_map_or (λ (row : ClientRow). row.acts) (option_map (row_from book c) p) 0 ≡ last c book
     same None none = sym (none refl)
     same (Some i) none = refl
 
@@ -117,3 +120,45 @@ group_of-first c (Retire group ∷ book) = group_of-first c book ∙ sym (read_l
 
 pub group_of-found : (c : List ℕ) (book : Book) (o : Option ℕ) → o ≡ first_where (is_act_of c) book → option_and_then (λ i. option_and_then acted_in (slice_get book i)) o ≡ group_of c book
 group_of-found c book o is = ap (option_and_then (λ i. option_and_then acted_in (slice_get book i))) is ∙ sym (group_of-first c book)
+
+-- a client has a row exactly where it has a group
+no_act : (c : List ℕ) (book : Book) → group_of c book ≡ None → first_where (is_act_of c) book ≡ None
+no_act c [] none = refl
+no_act c (Act user group client id call ∷ book) none =
+    elim (bytes_eq client c) as (λ b. cond b (Some group) (group_of c book) ≡ None → cond b (Some 0) (option_map suc (first_where (is_act_of c) book)) ≡ None) [
+      | true ↦ λ h. absurd (cc)
+      | false ↦ λ h. ap (option_map suc) (no_act c book h)
+    ] none
+no_act c (Look user group order base ∷ book) none = ap (option_map suc) (no_act c book none)
+no_act c (Retire group ∷ book) none = ap (option_map suc) (no_act c book none)
+
+pub no_acts : (c : List ℕ) (book : Book) → group_of c book ≡ None → last c book ≡ 0
+no_acts c book none = none_counted (is_act_of c) book (no_act c book none)
+
+pub no_row : (c : List ℕ) (book : Book) → group_of c book ≡ None → client_row book c ≡ None
+unfolding client_row
+no_row c book none = ap (option_map (row_from book c)) (no_act c book none)
+
+pub no_group : (c : List ℕ) (book : Book) → client_row book c ≡ None → group_of c book ≡ None
+unfolding client_row
+no_group c book none =
+    elim (first_where (is_act_of c) book) as (λ o. first_where (is_act_of c) book ≡ o → option_map (row_from book c) o ≡ None → group_of c book ≡ None) [
+      | None ↦ λ e h. sym (group_of-found c book None (sym e))
+      | Some i ↦ λ e h. absurd (cc)
+    ] refl none
+
+-- what a row tells: the group of the act that it names, and the number of its acts
+pub record TellsClient (book : Book) (c : List ℕ) (row : ClientRow) : Type 0 where
+  pub group : option_and_then acted_in (slice_get book row.first) ≡ group_of c book
+  pub acts : row.acts ≡ last c book
+  pub bound : row.acts ≤ size book
+
+pub tells_client : (book : Book) (c : List ℕ) (row : ClientRow) → Some row ≡ client_row book c → TellsClient book c row
+tells_client book c row is = record {
+  group = group_of-found c book (Some row.first) (first_of book c (Some row) is);
+  acts = acts_of book c (Some row) is;
+  bound = row_acts book c row (sym is);
+}
+
+pub tells_none : (book : Book) (c : List ℕ) → None ≡ client_row book c → (None ≡ group_of c book) × (0 ≡ last c book)
+tells_none book c is = (sym (no_group c book (sym is)), acts_of book c None is)

@@ -3,7 +3,6 @@ use Rattle.std.proofs.Common.{◌≡◌, ℕ, suc, ◌+◌, ◌<◌, ◌≤◌, 
 use Rattle.std.specs.List.{slice_get, count_by, fold, list_any, AllByRecursion}
 use Rattle.std.specs.Option.{option_map, option_or, option_map_or, option_and_then, unwrap_or}
 use Rattle.std.specs.Str.{bytes_eq}
-use Rattle.std.proofs.lemmas.List.{length_push}
 use Rattle.std.proofs.lemmas.List.Folds.{list_any-append}
 use Rattle.std.proofs.lemmas.List.Sums.{count_by-le-length, fold_push}
 use Rattle.std.proofs.lemmas.Option.{same_Some}
@@ -11,19 +10,21 @@ use Rattle.rv_base.specs.Sorted.{Settles}
 use Rattle.rv_book.specs.declared.entry.Entry.{Entry}
 use Rattle.rv_book.specs.declared.entry.Entry.TheVariants.{Act, Look, Retire}
 use Rattle.rv_book.specs.declared.groups.GroupRow.{GroupRow}
-use Rattle.rv_book.specs.Book.{Book, bound, order_after, last_order, retires, retired}
-use Rattle.rv_book.specs.Kept.{is_look_of}
-use Rattle.rv_book.specs.Indexes.{first_where, named_in, names, binds, user_of, group_key, group_row, new_row, row_after, AreGroupRows}
+use Rattle.rv_book.specs.Book.{Book, bound, order_after, last_order, retires, retired, size, with_entry}
+use Rattle.rv_book.specs.BookWords.{at_before, at_end, size-with_entry}
+use Rattle.rv_book.specs.Kept.{is_look_of, last_look}
+use Rattle.rv_book.specs.LookWalks.{last_look-with_entry, no_look}
+use Rattle.rv_book.specs.Indexes.{first_where, named_in, names_group, binds, user_of, group_of_row, group_row, new_row, row_after, AreGroupRows}
 use Rattle.rv_book.proofs.IndexLaws.{bytes_eq_back, index-again, index-first, Changes}
-use Rattle.rv_book.proofs.BookLaws.{read_later, at_before, at_end, count-push, first-push, none_counted, none_later}
+use Rattle.rv_book.proofs.BookLaws.{read_later, count-push, first-push, none_counted, none_later}
 
-pub group_key-before : (book : Book) (e : Entry) (row : GroupRow) → row.named < length book → group_key book row ≡ group_key (book ++ e ∷ []) row
-unfolding group_key
-group_key-before book e row lt = ap (λ (o : Option Entry). option_map_or named_in o []) (sym (at_before book e row.named lt))
+pub group_of_row-before : (book : Book) (e : Entry) (row : GroupRow) → row.named < size book → group_of_row book row ≡ group_of_row (with_entry book e) row
+unfolding group_of_row
+group_of_row-before book e row lt = ap (λ (o : Option Entry). option_map_or named_in o []) (sym (at_before book e row.named lt))
 
 -- the row of a group, by the index of an entry that names it
 abbrev row_at : Book → List ℕ → ℕ → GroupRow
-row_at book k index = record { named = index; bound = first_where (binds k) book; order = last_order k book; looks = count_by (is_look_of k) book; retired = retired k book }
+row_at book k index = record { named = index; bound = first_where (binds k) book; order = last_order k book; looks = count_by (is_look_of k) book; last_look = last_look k book; retired = retired k book }
 
 -- what an entry leaves as it is where it names another group
 record Leaves (k : List ℕ) (e : Entry) : Type 0 where
@@ -32,17 +33,17 @@ record Leaves (k : List ℕ) (e : Entry) : Type 0 where
   looks : is_look_of k e ≡ false
   retires : retires k e ≡ false
 
-leaves : (k : List ℕ) (e : Entry) → names k e ≡ false → Leaves k e
+leaves : (k : List ℕ) (e : Entry) → names_group k e ≡ false → Leaves k e
 leaves k (Act user group client id call) h = record { binds = h; order = λ before. refl; looks = refl; retires = refl }
 leaves k (Look user group order base) h = record { binds = h; order = λ before. ap (λ (b : Bool). cond b order before) h; looks = h; retires = refl }
 leaves k (Retire group) h = record { binds = refl; order = λ before. refl; looks = refl; retires = h }
 
-none_names : (k : List ℕ) (book : Book) → first_where (names k) book ≡ None → AllByRecursion (λ e. names k e ≡ false) book
+none_names : (k : List ℕ) (book : Book) → first_where (names_group k) book ≡ None → AllByRecursion (λ e. names_group k e ≡ false) book
 none_names k [] h = tt
 none_names k (e ∷ book) h =
-    elim (names k e) as (λ b. names k e ≡ b → cond b (Some 0) (option_map suc (first_where (names k) book)) ≡ None → AllByRecursion (λ e. names k e ≡ false) (e ∷ book)) [
+    elim (names_group k e) as (λ b. names_group k e ≡ b → cond b (Some 0) (option_map suc (first_where (names_group k) book)) ≡ None → AllByRecursion (λ e. names_group k e ≡ false) (e ∷ book)) [
       | true ↦ λ f g. absurd (cc)
-      | false ↦ λ f g. (f, none_names k book (none_later (first_where (names k) book) g))
+      | false ↦ λ f g. (f, none_names k book (none_later (first_where (names_group k) book) g))
     ] refl h
 
 none_first : (p : Entry → Bool) (book : Book) → AllByRecursion (λ e. p e ≡ false) book → first_where p book ≡ None
@@ -53,23 +54,24 @@ none_any : (p : Entry → Bool) (book : Book) → AllByRecursion (λ e. p e ≡ 
 none_any p [] h = refl
 none_any p (e ∷ book) h = rw h.0 (none_any p book h.1)
 
-all_leave : (k : List ℕ) (P : Entry → Type 0) (book : Book) → ((e : Entry) → Leaves k e → P e) → AllByRecursion (λ e. names k e ≡ false) book → AllByRecursion P book
+all_leave : (k : List ℕ) (P : Entry → Type 0) (book : Book) → ((e : Entry) → Leaves k e → P e) → AllByRecursion (λ e. names_group k e ≡ false) book → AllByRecursion P book
 all_leave k P [] each h = tt
 all_leave k P (e ∷ book) each h = (each e (leaves k e h.0), all_leave k P book each h.1)
 
-none_order : (k : List ℕ) (before : ℕ) (book : Book) → AllByRecursion (λ e. names k e ≡ false) book → fold (order_after k) before book ≡ before
+none_order : (k : List ℕ) (before : ℕ) (book : Book) → AllByRecursion (λ e. names_group k e ≡ false) book → fold (order_after k) before book ≡ before
 none_order k before [] h = refl
 none_order k before (e ∷ book) h = ap (λ (n : ℕ). fold (order_after k) n book) ((leaves k e h.0).order before) ∙ none_order k before book h.1
 
 -- the row of a group that no entry names
-unnamed : (book : Book) (k : List ℕ) (index : ℕ) → first_where (names k) book ≡ None → row_at book k index ≡ new_row index
+unnamed : (book : Book) (k : List ℕ) (index : ℕ) → first_where (names_group k) book ≡ None → row_at book k index ≡ new_row index
 unnamed book k index h =
     let all = none_names k book h in
     let w = none_first (binds k) book (all_leave k (λ e. binds k e ≡ false) book (λ e l. l.binds) all) in
     let order = none_order k 0 book all in
     let looks = none_counted (is_look_of k) book (none_first (is_look_of k) book (all_leave k (λ e. is_look_of k e ≡ false) book (λ e l. l.looks) all)) in
+    let last = no_look k book looks in
     let gone = none_any (retires k) book (all_leave k (λ e. retires k e ≡ false) book (λ e l. l.retires) all) in
-    (λ i. record { named = index; bound = w i; order = order i; looks = looks i; retired = gone i })
+    (λ i. record { named = index; bound = w i; order = order i; looks = looks i; last_look = last i; retired = gone i })
 
 or_false : (b : Bool) → (b || false) ≡ b
 or_false true = refl
@@ -84,40 +86,43 @@ or_none None = refl
 or_none (Some i) = refl
 
 -- the fields after one more entry
-row_at-push : (book : Book) (e : Entry) (k : List ℕ) (index : ℕ) → row_at (book ++ e ∷ []) k index
-    ≡ record { named = index; bound = option_or (first_where (binds k) book) (cond (binds k e) (Some (length book)) None); order = order_after k (last_order k book) e; looks = count_by (is_look_of k) book + cond (is_look_of k e) 1 0; retired = retired k book || (retires k e || false) }
+row_at-push : (book : Book) (e : Entry) (k : List ℕ) (index : ℕ) → row_at (with_entry book e) k index
+    ≡ record { named = index; bound = option_or (first_where (binds k) book) (cond (binds k e) (Some (size book)) None); order = order_after k (last_order k book) e; looks = count_by (is_look_of k) book + cond (is_look_of k e) 1 0; last_look = cond (is_look_of k e) (Some (size book + 1)) (last_look k book); retired = retired k book || (retires k e || false) }
 row_at-push book e k index =
     let w = first-push (binds k) book e in
     let order = fold_push (order_after k) 0 book e in
     let looks = count-push (is_look_of k) book e in
+    let last = last_look-with_entry k book e in
     let gone = list_any-append (retires k) book (e ∷ []) in
-    (λ i. record { named = index; bound = w i; order = order i; looks = looks i; retired = gone i })
+    (λ i. record { named = index; bound = w i; order = order i; looks = looks i; last_look = last i; retired = gone i })
 
-row_at-same : (book : Book) (e : Entry) (k : List ℕ) (index : ℕ) → names k e ≡ false → row_at (book ++ e ∷ []) k index ≡ row_at book k index
+row_at-same : (book : Book) (e : Entry) (k : List ℕ) (index : ℕ) → names_group k e ≡ false → row_at (with_entry book e) k index ≡ row_at book k index
 row_at-same book e k index h =
     let l = leaves k e h in
-    let w : option_or (first_where (binds k) book) (cond (binds k e) (Some (length book)) None) ≡ first_where (binds k) book = rw l.binds (or_none (first_where (binds k) book)) in
+    let w : option_or (first_where (binds k) book) (cond (binds k e) (Some (size book)) None) ≡ first_where (binds k) book = rw l.binds (or_none (first_where (binds k) book)) in
     let looks : count_by (is_look_of k) book + cond (is_look_of k e) 1 0 ≡ count_by (is_look_of k) book = rw l.looks (omega arith) in
+    let last : cond (is_look_of k e) (Some (size book + 1)) (last_look k book) ≡ last_look k book = rw l.looks refl in
     let gone : (retired k book || (retires k e || false)) ≡ retired k book = rw l.retires (or_false (retired k book)) in
-    row_at-push book e k index ∙ (λ i. record { named = index; bound = w i; order = l.order (last_order k book) i; looks = looks i; retired = gone i })
+    row_at-push book e k index ∙ (λ i. record { named = index; bound = w i; order = l.order (last_order k book) i; looks = looks i; last_look = last i; retired = gone i })
 
-row_at-more : (book : Book) (e : Entry) (k : List ℕ) (index : ℕ) → names k e ≡ true → row_at (book ++ e ∷ []) k index ≡ row_after (length book) e (row_at book k index)
+row_at-more : (book : Book) (e : Entry) (k : List ℕ) (index : ℕ) → names_group k e ≡ true → row_at (with_entry book e) k index ≡ row_after (size book) e (row_at book k index)
 row_at-more book (Act user group client id call) k index h =
-    let w : option_or (first_where (binds k) book) (cond (bytes_eq group k) (Some (length book)) None) ≡ option_or (first_where (binds k) book) (Some (length book)) = rw h refl in
+    let w : option_or (first_where (binds k) book) (cond (bytes_eq group k) (Some (size book)) None) ≡ option_or (first_where (binds k) book) (Some (size book)) = rw h refl in
     let looks : count_by (is_look_of k) book + 0 ≡ count_by (is_look_of k) book = omega arith in
     let gone = or_false (retired k book) in
-    row_at-push book (Act user group client id call) k index ∙ (λ i. record { named = index; bound = w i; order = last_order k book; looks = looks i; retired = gone i })
+    row_at-push book (Act user group client id call) k index ∙ (λ i. record { named = index; bound = w i; order = last_order k book; looks = looks i; last_look = last_look k book; retired = gone i })
 row_at-more book (Look user group order base) k index h =
-    let w : option_or (first_where (binds k) book) (cond (bytes_eq group k) (Some (length book)) None) ≡ option_or (first_where (binds k) book) (Some (length book)) = rw h refl in
+    let w : option_or (first_where (binds k) book) (cond (bytes_eq group k) (Some (size book)) None) ≡ option_or (first_where (binds k) book) (Some (size book)) = rw h refl in
     let o : cond (bytes_eq group k) order (last_order k book) ≡ order = rw h refl in
     let looks : count_by (is_look_of k) book + cond (bytes_eq group k) 1 0 ≡ count_by (is_look_of k) book + 1 = rw h refl in
+    let last : cond (bytes_eq group k) (Some (size book + 1)) (last_look k book) ≡ Some (size book + 1) = rw h refl in
     let gone = or_false (retired k book) in
-    row_at-push book (Look user group order base) k index ∙ (λ i. record { named = index; bound = w i; order = o i; looks = looks i; retired = gone i })
+    row_at-push book (Look user group order base) k index ∙ (λ i. record { named = index; bound = w i; order = o i; looks = looks i; last_look = last i; retired = gone i })
 row_at-more book (Retire group) k index h =
     let w = or_none (first_where (binds k) book) in
     let looks : count_by (is_look_of k) book + 0 ≡ count_by (is_look_of k) book = omega arith in
     let gone : (retired k book || (bytes_eq group k || false)) ≡ true = rw h (or_true (retired k book)) in
-    row_at-push book (Retire group) k index ∙ (λ i. record { named = index; bound = w i; order = last_order k book; looks = looks i; retired = gone i })
+    row_at-push book (Retire group) k index ∙ (λ i. record { named = index; bound = w i; order = last_order k book; looks = looks i; last_look = last_look k book; retired = gone i })
 
 -- one more entry, over plain values: the first index that names the group, whether the entry does, and the row by an index
 change : (o : Option ℕ) (b : Bool) (index : ℕ) (before after : ℕ → GroupRow) (left : GroupRow → GroupRow)
@@ -132,43 +137,43 @@ change None false index before after left same more none = refl
 abbrev pub left_row : ℕ → Entry → Option GroupRow → GroupRow
 left_row index e o = row_after index e (unwrap_or o (new_row index))
 
-group_row-push : (book : Book) (e : Entry) (k : List ℕ) → group_row (book ++ e ∷ []) k ≡ cond (names k e) (Some (left_row (length book) e (group_row book k))) (group_row book k)
+group_row-push : (book : Book) (e : Entry) (k : List ℕ) → group_row (with_entry book e) k ≡ cond (names_group k e) (Some (left_row (size book) e (group_row book k))) (group_row book k)
 unfolding group_row
 group_row-push book e k =
-    ap (option_map (row_at (book ++ e ∷ []) k)) (first-push (names k) book e)
-    ∙ change (first_where (names k) book) (names k e) (length book) (row_at book k) (row_at (book ++ e ∷ []) k) (row_after (length book) e)
-    (λ h i. row_at-same book e k i h) (λ h i. row_at-more book e k i h) (λ h. unnamed book k (length book) h)
+    ap (option_map (row_at (with_entry book e) k)) (first-push (names_group k) book e)
+    ∙ change (first_where (names_group k) book) (names_group k e) (size book) (row_at book k) (row_at (with_entry book e) k) (row_after (size book) e)
+    (λ h i. row_at-same book e k i h) (λ h i. row_at-more book e k i h) (λ h. unnamed book k (size book) h)
 
 left_row-named : (index : ℕ) (e : Entry) (row : GroupRow) → (row_after index e row).named ≡ row.named
 left_row-named index (Act user group client id call) row = refl
 left_row-named index (Look user group order base) row = refl
 left_row-named index (Retire group) row = refl
 
-enter_changes : (book : Book) (e : Entry) → Changes (group_key book) (group_key (book ++ e ∷ [])) (λ (row : GroupRow). row.named) (length book) (length (book ++ e ∷ [])) (group_row book) (group_row (book ++ e ∷ [])) (named_in e) (left_row (length book) e)
-unfolding group_key
+enter_changes : (book : Book) (e : Entry) → Changes (group_of_row book) (group_of_row (with_entry book e)) (λ (row : GroupRow). row.named) (size book) (length (with_entry book e)) (group_row book) (group_row (with_entry book e)) (named_in e) (left_row (size book) e)
+unfolding group_of_row
 enter_changes book e =
-    let new = left_row-named (length book) e (new_row (length book)) in
+    let new = left_row-named (size book) e (new_row (size book)) in
     record {
-      same = group_key-before book e;
-      grows = omega (arith, length_push book e);
-      by_name = λ x y same. ap (λ (i : ℕ). option_map_or named_in (slice_get (book ++ e ∷ []) i) []) same;
-      keeps = λ row. left_row-named (length book) e row;
-      fresh = ap (λ (i : ℕ). option_map_or named_in (slice_get (book ++ e ∷ []) i) []) new ∙ ap (λ (o : Option Entry). option_map_or named_in o []) (at_end book e);
-      fresh_within = omega (arith, new, length_push book e);
-      next = λ q. group_row-push book e q ∙ ap (λ (b : Bool). cond b (Some (left_row (length book) e (group_row book q))) (group_row book q)) (bytes_eq_back (named_in e) q);
+      same = group_of_row-before book e;
+      grows = omega (arith, size-with_entry book e);
+      by_name = λ x y same. ap (λ (i : ℕ). option_map_or named_in (slice_get (with_entry book e) i) []) same;
+      keeps = λ row. left_row-named (size book) e row;
+      fresh = λ none. ap (λ (i : ℕ). option_map_or named_in (slice_get (with_entry book e) i) []) new ∙ ap (λ (o : Option Entry). option_map_or named_in o []) (at_end book e);
+      fresh_within = omega (arith, new, size-with_entry book e);
+      next = λ q. group_row-push book e q ∙ ap (λ (b : Bool). cond b (Some (left_row (size book) e (group_row book q))) (group_row book q)) (bytes_eq_back (named_in e) q);
     }
 
-pub enter_again : (book : Book) (e : Entry) (k : List ℕ) (rows seen : List GroupRow) (at : ℕ) (row left : GroupRow) → k ≡ named_in e → AreGroupRows book rows → seen ≡ rows → Settles (group_key (book ++ e ∷ [])) k seen (Ok at) → row ≡ get_or rows at row → left ≡ row_after (length book) e row
-    → AreGroupRows (book ++ e ∷ []) (set rows at left)
+pub enter_again : (book : Book) (e : Entry) (k : List ℕ) (rows seen : List GroupRow) (at : ℕ) (row left : GroupRow) → k ≡ named_in e → AreGroupRows book rows → seen ≡ rows → Settles (group_of_row (with_entry book e)) k seen (Ok at) → row ≡ get_or rows at row → left ≡ row_after (size book) e row
+    → AreGroupRows (with_entry book e) (set rows at left)
 enter_again book e k rows seen at row left is h same there read after =
-    let settled = subst (λ (t : List ℕ). Settles (group_key (book ++ e ∷ [])) t seen (Ok at)) is there in
-    subst (λ (r : GroupRow). AreGroupRows (book ++ e ∷ []) (set rows at r)) (sym after) (index-again _ _ _ _ _ _ _ (named_in e) (left_row (length book) e) rows seen at row (enter_changes book e) h same settled read)
+    let settled = subst (λ (t : List ℕ). Settles (group_of_row (with_entry book e)) t seen (Ok at)) is there in
+    subst (λ (r : GroupRow). AreGroupRows (with_entry book e) (set rows at r)) (sym after) (index-again _ _ _ _ _ _ _ (named_in e) (left_row (size book) e) rows seen at row (enter_changes book e) h same settled read)
 
-pub enter_first : (book : Book) (e : Entry) (k : List ℕ) (rows seen : List GroupRow) (at : ℕ) (row left : GroupRow) → k ≡ named_in e → AreGroupRows book rows → seen ≡ rows → Settles (group_key (book ++ e ∷ [])) k seen (Err at) → row ≡ new_row (length book) → left ≡ row_after (length book) e row
-    → AreGroupRows (book ++ e ∷ []) (take at rows ++ left ∷ drop at rows)
+pub enter_first : (book : Book) (e : Entry) (k : List ℕ) (rows seen : List GroupRow) (at : ℕ) (row left : GroupRow) → k ≡ named_in e → AreGroupRows book rows → seen ≡ rows → Settles (group_of_row (with_entry book e)) k seen (Err at) → row ≡ new_row (size book) → left ≡ row_after (size book) e row
+    → AreGroupRows (with_entry book e) (take at rows ++ left ∷ drop at rows)
 enter_first book e k rows seen at row left is h same there new after =
-    let settled = subst (λ (t : List ℕ). Settles (group_key (book ++ e ∷ [])) t seen (Err at)) is there in
-    subst (λ (r : GroupRow). AreGroupRows (book ++ e ∷ []) (take at rows ++ r ∷ drop at rows)) (sym (after ∙ ap (row_after (length book) e) new)) (index-first _ _ _ _ _ _ _ (named_in e) (left_row (length book) e) rows seen at (enter_changes book e) h same settled)
+    let settled = subst (λ (t : List ℕ). Settles (group_of_row (with_entry book e)) t seen (Err at)) is there in
+    subst (λ (r : GroupRow). AreGroupRows (with_entry book e) (take at rows ++ r ∷ drop at rows)) (sym (after ∙ ap (row_after (size book) e) new)) (index-first _ _ _ _ _ _ _ (named_in e) (left_row (size book) e) rows seen at (enter_changes book e) h same settled)
 
 pub none_named : AreGroupRows [] []
 unfolding group_row
@@ -179,15 +184,16 @@ pub record Tells (book : Book) (k : List ℕ) (row : GroupRow) : Type 0 where
   pub bound : row.bound ≡ first_where (binds k) book
   pub order : row.order ≡ last_order k book
   pub looks : row.looks ≡ count_by (is_look_of k) book
+  pub last_look : row.last_look ≡ last_look k book
   pub retired : row.retired ≡ retired k book
 
 tells : (book : Book) (k : List ℕ) (index : ℕ) (row : GroupRow) → row_at book k index ≡ row → Tells book k row
-tells book k index row is = record { bound = sym (ap (λ (r : GroupRow). r.bound) is); order = sym (ap (λ (r : GroupRow). r.order) is); looks = sym (ap (λ (r : GroupRow). r.looks) is); retired = sym (ap (λ (r : GroupRow). r.retired) is) }
+tells book k index row is = record { bound = sym (ap (λ (r : GroupRow). r.bound) is); order = sym (ap (λ (r : GroupRow). r.order) is); looks = sym (ap (λ (r : GroupRow). r.looks) is); last_look = sym (ap (λ (r : GroupRow). r.last_look) is); retired = sym (ap (λ (r : GroupRow). r.retired) is) }
 
 pub row_tells : (book : Book) (k : List ℕ) (row : GroupRow) → Some row ≡ group_row book k → Tells book k row
 unfolding group_row
 row_tells book k row is =
-    elim (first_where (names k) book) as (λ o. Some row ≡ option_map (row_at book k) o → Tells book k row) [
+    elim (first_where (names_group k) book) as (λ o. Some row ≡ option_map (row_at book k) o → Tells book k row) [
       | None ↦ λ f. absurd (cc)
       | Some i ↦ λ f. tells book k i row (same_Some (row_at book k i) row (sym f))
     ] is
@@ -195,15 +201,15 @@ row_tells book k row is =
 pub none_tells : (book : Book) (k : List ℕ) (index : ℕ) → None ≡ group_row book k → Tells book k (new_row index)
 unfolding group_row
 none_tells book k index is =
-    elim (first_where (names k) book) as (λ o. first_where (names k) book ≡ o → None ≡ option_map (row_at book k) o → Tells book k (new_row index)) [
+    elim (first_where (names_group k) book) as (λ o. first_where (names_group k) book ≡ o → None ≡ option_map (row_at book k) o → Tells book k (new_row index)) [
       | None ↦ λ e f. tells book k index (new_row index) (unnamed book k index e)
       | Some i ↦ λ e f. absurd (cc)
     ] refl is
 
 -- a row counts no more looks than there are entries
-pub looks_bound : (book : Book) (k : List ℕ) (rows seen : List GroupRow) (at : ℕ) (row : GroupRow) → AreGroupRows book rows → seen ≡ rows → Settles (group_key book) k seen (Ok at) → row ≡ get_or rows at row → row.looks ≤ length book
+pub looks_bound : (book : Book) (k : List ℕ) (rows seen : List GroupRow) (at : ℕ) (row : GroupRow) → AreGroupRows book rows → seen ≡ rows → Settles (group_of_row book) k seen (Ok at) → row ≡ get_or rows at row → row.looks ≤ size book
 looks_bound book k rows seen at row h same there read =
-    let settled = subst (λ (xs : List GroupRow). Settles (group_key book) k xs (Ok at)) same there in
+    let settled = subst (λ (xs : List GroupRow). Settles (group_of_row book) k xs (Ok at)) same there in
     omega (arith, (row_tells book k row (ap Some read ∙ sym (settled.found row) ∙ h.found k)).looks, count_by-le-length (is_look_of k) book)
 
 -- the user of a group is that of its first act or look

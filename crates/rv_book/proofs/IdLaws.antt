@@ -1,23 +1,24 @@
--- The rows of the client index whose client is of a group are the group's clients with their last mutation ids.
-use Rattle.std.proofs.Common.{◌≡◌, ℕ, suc, ◌+◌, ◌<◌, ◌≤◌, Bool, true, false, cond, List, [], ◌∷◌, ◌++◌, length, get_or, take, map, Option, Some, None, refl, sym, ap, ◌∙◌, ◌&&◌, ◌||◌}
+-- What is told by the rows of a group's clients is the group's clients with their last mutation ids, in order.
+use Rattle.std.proofs.Common.{◌≡◌, ℕ, suc, ◌+◌, ◌<◌, ◌≤◌, Bool, true, false, cond, List, [], ◌∷◌, ◌++◌, length, get_or, take, map, Option, Some, None, refl, sym, ap, subst, ◌∙◌, ◌&&◌, ◌||◌}
 use Rattle.std.specs.List.{slice_get, filter, filter_map, cons_option, fold, list_any, AllByRecursion}
 use Rattle.std.specs.Option.{option_map, option_map_or, option_and_then, is_some}
 use Rattle.std.specs.Str.{bytes_eq}
 use Rattle.std.proofs.lemmas.List.{take_more, take_all}
 use Rattle.std.proofs.lemmas.List.Elements.{filter_map-append}
-use Rattle.std.proofs.lemmas.Map.Entries.{option_filter}
-use Rattle.std.proofs.lemmas.Option.{same_Some}
+use Rattle.std.proofs.lemmas.Option.{none-some, same_Some}
 use Rattle.std.proofs.lemmas.Slice.Eq.{bytes_eq-Decides}
 use Rattle.rv_base.specs.Sorted.{find_by, put_by, InOrder}
-use Rattle.rv_base.specs.Places.{Above, in_order-sorted, in_order-filter, found-sorted, all-put}
-use Rattle.rv_base.specs.Arranged.{distinct-in_order, in_order-same, find-filter, find-map}
+use Rattle.rv_base.specs.Places.{Above, equals, differs_back, in_order-sorted, in_order-filter, found-sorted, all-put}
+use Rattle.rv_base.specs.Arranged.{in_order-same, find-map}
 use Rattle.rv_book.specs.declared.entry.Entry.{Entry}
 use Rattle.rv_book.specs.declared.entry.Entry.TheVariants.{Act, Look, Retire}
 use Rattle.rv_book.specs.declared.clients.ClientRow.{ClientRow}
 use Rattle.rv_book.specs.Book.{Book, is_act_of, last, group_of, belongs, client_in, ids}
-use Rattle.rv_book.specs.Indexes.{first_where, actor, acted_in, act_in, row_in, client_key, client_row, AreClientRows}
+use Rattle.rv_book.specs.Indexes.{first_where, actor, client_of_row, row_from, client_row}
+use Rattle.rv_book.specs.Members.{member_key, client_of_key, acting_client, group_of_member, key_of_member, is_member, told_by, row_with_key, member_row, AreMemberRows}
 use Rattle.rv_book.proofs.IndexLaws.{bytes_eq_back, found_key, found_all}
-use Rattle.rv_book.proofs.ClientLaws.{act_is, group_of-found}
+use Rattle.rv_book.proofs.ClientLaws.{act_is, no_group}
+use Rattle.rv_book.proofs.MemberKeys.{same-member_key, client-member_key, in_order-group}
 
 abbrev Pair : Type 0
 Pair = List ℕ × ℕ
@@ -92,39 +93,8 @@ find_ids k group book =
     found_own book k (ids group book) (all_after (Own book) pairs [] (own_client group book book) tt)
     ∙ ap (λ (b : Bool). cond b (Some (k, last k book)) None) (found-sorted first k pairs ∙ any_act k group book book ∙ belongs_acts k group book)
 
--- the rows of the group
-abbrev of_group : List ℕ → Book → ClientRow → Bool
-of_group group book row = option_map_or (λ other. bytes_eq other group) (option_and_then acted_in (slice_get book row.first)) false
-
 abbrev pair_of : Book → ClientRow → Pair
-pair_of book row = (client_key book row, row.acts)
-
-row_in-is : (group : List ℕ) (book : Book) (row : ClientRow) → row_in group book row ≡ cond (of_group group book row) (Some (pair_of book row)) None
-unfolding client_key
-row_in-is group book row = each (slice_get book row.first)
-  where
-    each : (o : Option Entry) → option_and_then (act_in group row.acts) o ≡ cond (option_map_or (λ other. bytes_eq other group) (option_and_then acted_in o) false) (Some (option_map_or actor o [], row.acts)) None
-    each None = refl
-    each (Some (Act user other client id call)) = refl
-    each (Some (Look user other order base)) = refl
-    each (Some (Retire other)) = refl
-
-filter_map-split : {X Y : Type 0} (h : X → Option Y) (p : X → Bool) (f : X → Y) (xs : List X) → ((x : X) → h x ≡ cond (p x) (Some (f x)) None) → filter_map h xs ≡ map f (filter p xs)
-filter_map-split h p f [] is = refl
-filter_map-split h p f (x ∷ xs) is =
-    ap (λ o. cons_option o (filter_map h xs)) (is x)
-    ∙ (elim (p x) as (λ b. cons_option (cond b (Some (f x)) None) (filter_map h xs) ≡ map f (cond b (x ∷ filter p xs) (filter p xs))) [
-      | true ↦ ap (λ ys. f x ∷ ys) (filter_map-split h p f xs is)
-      | false ↦ filter_map-split h p f xs is
-    ])
-
-above-view : {X Y : Type 0} (key : X → List ℕ) (view : Y → X) (k : List ℕ) (ys : List Y) → Above (λ y. key (view y)) k ys → Above key k (map view ys)
-above-view key view k [] h = tt
-above-view key view k (y ∷ ys) h = (h.0, above-view key view k ys h.1)
-
-in_order-view : {X Y : Type 0} (key : X → List ℕ) (view : Y → X) (ys : List Y) → InOrder (λ y. key (view y)) ys → InOrder key (map view ys)
-in_order-view key view [] h = tt
-in_order-view key view (y ∷ ys) h = (above-view key view (key (view y)) ys h.0, in_order-view key view ys h.1)
+pair_of book row = (client_of_row book row, row.acts)
 
 first_at : (p : Entry → Bool) (book : Book) (i : ℕ) → first_where p book ≡ Some i → (e : Entry) × (slice_get book i ≡ Some e) × (p e ≡ true)
 first_at p [] i h = absurd (cc)
@@ -137,37 +107,135 @@ first_at p (x ∷ book) i h =
       ] refl f
     ] refl h
 
--- what is found in the rows of the group
-found_row : (k group : List ℕ) (book : Book) → option_map (pair_of book) (option_filter (of_group group book) (client_row book k)) ≡ cond (belongs k group book) (Some (k, last k book)) None
-unfolding client_row client_key
-found_row k group book =
-    elim (first_where (is_act_of k) book) as (λ o. first_where (is_act_of k) book ≡ o → option_map (pair_of book) (option_filter (of_group group book) (option_map (λ i. record { first = i; acts = last k book }) o)) ≡ cond (belongs k group book) (Some (k, last k book)) None) [
-      | None ↦ λ e. ap (λ (o : Option (List ℕ)). cond (option_map_or (λ other. bytes_eq other group) o false) (Some (k, last k book)) None) (group_of-found k book None (sym e))
-      | Some i ↦ λ e. ap (λ (b : Bool). option_map (pair_of book) (cond b (Some (record { first = i; acts = last k book })) None)) (ap (λ (o : Option (List ℕ)). option_map_or (λ other. bytes_eq other group) o false) (group_of-found k book (Some i) (sym e))) ∙ told i e (belongs k group book)
-    ] refl
-  where
-    told : (i : ℕ) → first_where (is_act_of k) book ≡ Some i → (b : Bool) → option_map (pair_of book) (cond b (Some (record { first = i; acts = last k book })) None) ≡ cond b (Some (k, last k book)) None
-    told i e true =
-        let there = first_at (is_act_of k) book i e in
-        let is : client_key book (record { first = i; acts = last k book }) ≡ k = ap (λ (o : Option Entry). option_map_or actor o []) there.1 ∙ (act_is k there.0 there.2).0 in
-        (λ j. Some (is j, last k book))
-    told i e false = refl
+-- the row of a client names an act of it, and tells its last mutation id
+act_told : (c : List ℕ) (acts : ℕ) (e : Entry) → is_act_of c e ≡ true → option_map {U = Pair} (λ client. (client, acts)) (acting_client e) ≡ Some (actor e, acts)
+act_told c acts (Act user group client id call) is = refl
+act_told c acts (Look user group order base) is = absurd (cc)
+act_told c acts (Retire group) is = absurd (cc)
 
-pub ids-rows : (group : List ℕ) (book : Book) (rows : List ClientRow) → AreClientRows book rows → filter_map (row_in group book) rows ≡ ids group book
-ids-rows group book rows h =
-    split ∙ in_order-same first (map (pair_of book) kept) (ids group book) (in_order-view first (pair_of book) kept (in_order-filter (client_key book) (of_group group book) rows h.order)) (in_order-sorted first (filter_map (client_in group book) book)) same
+row_names : (c : List ℕ) (book : Book) (row : ClientRow) → client_row book c ≡ Some row → (told_by book row ≡ Some (pair_of book row)) × (pair_of book row ≡ (c, last c book))
+unfolding client_row client_of_row
+row_names c book row is =
+    elim (first_where (is_act_of c) book) as (λ o. first_where (is_act_of c) book ≡ o → option_map (row_from book c) o ≡ Some row → (told_by book row ≡ Some (pair_of book row)) × (pair_of book row ≡ (c, last c book))) [
+      | None ↦ λ e h. absurd (cc)
+      | Some i ↦ λ e h. subst (λ (r : ClientRow). (told_by book r ≡ Some (pair_of book r)) × (pair_of book r ≡ (c, last c book))) (same_Some (row_from book c i) row h) (told i (first_at (is_act_of c) book i e))
+    ] refl is
+  where
+    told : (i : ℕ) → (e : Entry) × (slice_get book i ≡ Some e) × (is_act_of c e ≡ true) → (told_by book (row_from book c i) ≡ Some (pair_of book (row_from book c i))) × (pair_of book (row_from book c i) ≡ (c, last c book))
+    told i there =
+        let acts = last c book in
+        let actor_is : option_map_or actor (slice_get book i) [] ≡ actor there.0 = ap (λ (o : Option Entry). option_map_or actor o []) there.1 in (
+          ap (λ (o : Option Entry). option_map {U = Pair} (λ client. (client, acts)) (option_and_then acting_client o)) there.1 ∙ act_told c acts there.0 there.2 ∙ (λ j. Some (sym actor_is j, acts)),
+          (λ j. ((actor_is ∙ (act_is c there.0 there.2).0) j, acts)),
+        )
+
+-- each item of items in order is what is found at its key
+finds_itself : {X : Type 0} (key : X → List ℕ) (xs : List X) → InOrder key xs → AllByRecursion (λ x. find_by key (key x) xs ≡ Some x) xs
+finds_itself key [] sorted = tt
+finds_itself {X} key (x ∷ xs) sorted = (rw (equals (key x)) refl, after xs sorted.0 (finds_itself key xs sorted.1))
+  where
+    after : (ys : List X) → Above key (key x) ys → AllByRecursion (λ y. find_by key (key y) xs ≡ Some y) ys → AllByRecursion (λ y. find_by key (key y) (x ∷ xs) ≡ Some y) ys
+    after [] all h = tt
+    after (y ∷ ys) all h = (rw (differs_back (key x) (key y) all.0) h.0, after ys all.1 h.1)
+
+all_weaker : {X : Type 0} (P Q : X → Type 0) (xs : List X) → ((x : X) → P x → Q x) → AllByRecursion P xs → AllByRecursion Q xs
+all_weaker P Q [] each h = tt
+all_weaker P Q (x ∷ xs) each h = (each x h.0, all_weaker P Q xs each h.1)
+
+all-filter : {X : Type 0} (P : X → Type 0) (p : X → Bool) (xs : List X) → AllByRecursion P xs → AllByRecursion P (filter p xs)
+all-filter P p [] h = tt
+all-filter P p (x ∷ xs) h = elim (p x) as (λ b. AllByRecursion P (cond b (x ∷ filter p xs) (filter p xs))) [ true ↦ (h.0, all-filter P p xs h.1) | false ↦ all-filter P p xs h.1 ]
+
+all_pass : {X : Type 0} (p : X → Bool) (xs : List X) → AllByRecursion (λ x. p x ≡ true) (filter p xs)
+all_pass p [] = tt
+all_pass p (x ∷ xs) = elim (p x) as (λ b. p x ≡ b → AllByRecursion (λ x. p x ≡ true) (cond b (x ∷ filter p xs) (filter p xs))) [ true ↦ λ e. (e, all_pass p xs) | false ↦ λ e. all_pass p xs ] refl
+
+-- each row by group is that of its client
+member_told : (book : Book) (rows : List ClientRow) → AreMemberRows book rows → AllByRecursion (λ row. told_by book row ≡ Some (pair_of book row)) rows
+unfolding member_row
+member_told book rows h = all_weaker _ _ rows (λ row found. told row (sym (h.found (key_of_member book row)) ∙ found)) (finds_itself (key_of_member book) rows h.order)
+  where
+    of_client : (c : List ℕ) (row : ClientRow) (b : Bool) → cond b (client_row book c) None ≡ Some row → told_by book row ≡ Some (pair_of book row)
+    of_client c row true is = (row_names c book row is).0
+    of_client c row false is = absurd (none-some row is)
+
+    go : (k c : List ℕ) (row : ClientRow) (o : Option (List ℕ)) → option_and_then (λ g. cond (bytes_eq k (member_key g c)) (client_row book c) None) o ≡ Some row → told_by book row ≡ Some (pair_of book row)
+    go k c row None is = absurd (none-some row is)
+    go k c row (Some g) is = of_client c row (bytes_eq k (member_key g c)) is
+
+    told : (row : ClientRow) → row_with_key (key_of_member book row) book (client_of_key (key_of_member book row)) ≡ Some row → told_by book row ≡ Some (pair_of book row)
+    told row is = go (key_of_member book row) (client_of_key (key_of_member book row)) row (group_of (client_of_key (key_of_member book row)) book) is
+
+filter_map-told : {X Y : Type 0} (h : X → Option Y) (f : X → Y) (xs : List X) → AllByRecursion (λ x. h x ≡ Some (f x)) xs → filter_map h xs ≡ map f xs
+filter_map-told h f [] all = refl
+filter_map-told h f (x ∷ xs) all = ap (λ o. cons_option o (filter_map h xs)) all.0 ∙ ap (λ ys. f x ∷ ys) (filter_map-told h f xs all.1)
+
+above-view : {X Y : Type 0} (key : X → List ℕ) (view : Y → X) (k : List ℕ) (ys : List Y) → Above (λ y. key (view y)) k ys → Above key k (map view ys)
+above-view key view k [] h = tt
+above-view key view k (y ∷ ys) h = (h.0, above-view key view k ys h.1)
+
+in_order-view : {X Y : Type 0} (key : X → List ℕ) (view : Y → X) (ys : List Y) → InOrder (λ y. key (view y)) ys → InOrder key (map view ys)
+in_order-view key view [] h = tt
+in_order-view key view (y ∷ ys) h = (above-view key view (key (view y)) ys h.0, in_order-view key view ys h.1)
+
+-- what is found among the rows of the group
+found_member : (k group : List ℕ) (book : Book) (rows : List ClientRow) → find_by (client_of_row book) k (filter (is_member group book) rows) ≡ find_by (key_of_member book) (member_key group k) rows
+found_member k group book [] = refl
+found_member k group book (row ∷ rows) =
+    let mine = bytes_eq (group_of_member book row) group in
+    let named = bytes_eq k (client_of_row book row) in
+    let same : bytes_eq (member_key group k) (key_of_member book row) ≡ (mine && named) = same-member_key group (group_of_member book row) k (client_of_row book row) ∙ ap (λ (b : Bool). b && named) (bytes_eq_back group (group_of_member book row)) in
+    (elim mine as (λ b. find_by (client_of_row book) k (cond b (row ∷ filter (is_member group book) rows) (filter (is_member group book) rows)) ≡ cond (b && named) (Some row) (find_by (key_of_member book) (member_key group k) rows)) [
+      | true ↦ ap (cond named (Some row)) (found_member k group book rows)
+      | false ↦ found_member k group book rows
+    ])
+    ∙ ap (λ (b : Bool). cond b (Some row) (find_by (key_of_member book) (member_key group k) rows)) (sym same)
+
+row_found : (k group : List ℕ) (book : Book) → option_map (pair_of book) (member_row book (member_key group k)) ≡ cond (belongs k group book) (Some (k, last k book)) None
+unfolding member_row
+row_found k group book =
+    ap (λ (c : List ℕ). option_map (pair_of book) (row_with_key (member_key group k) book c)) (client-member_key group k)
+    ∙ (elim (group_of k book) as (λ o. group_of k book ≡ o → option_map (pair_of book) (option_and_then (λ g. cond (bytes_eq (member_key group k) (member_key g k)) (client_row book k) None) o) ≡ cond (option_map_or (λ other. bytes_eq other group) o false) (Some (k, last k book)) None) [
+      | None ↦ λ e. refl
+      | Some g ↦ λ e. ap (λ (b : Bool). option_map (pair_of book) (cond b (client_row book k) None)) (same g) ∙ told g e (bytes_eq g group)
+    ] refl)
+  where
+    and_true : (b : Bool) → (b && true) ≡ b
+    and_true true = refl
+    and_true false = refl
+
+    same : (g : List ℕ) → bytes_eq (member_key group k) (member_key g k) ≡ bytes_eq g group
+    same g = same-member_key group g k k ∙ ap (λ (b : Bool). bytes_eq group g && b) (equals k) ∙ and_true (bytes_eq group g) ∙ bytes_eq_back group g
+
+    has_row : (g : List ℕ) → group_of k book ≡ Some g → option_map (pair_of book) (client_row book k) ≡ Some (k, last k book)
+    has_row g e =
+        elim (client_row book k) as (λ o. client_row book k ≡ o → option_map (pair_of book) o ≡ Some (k, last k book)) [
+          | None ↦ λ f. absurd (none-some g (sym (no_group k book f) ∙ e))
+          | Some row ↦ λ f. ap Some (row_names k book row f).1
+        ] refl
+
+    told : (g : List ℕ) → group_of k book ≡ Some g → (b : Bool) → option_map (pair_of book) (cond b (client_row book k) None) ≡ cond b (Some (k, last k book)) None
+    told g e true = has_row g e
+    told g e false = refl
+
+pub ids-members : (group : List ℕ) (book : Book) (rows : List ClientRow) → AreMemberRows book rows → filter_map (told_by book) (filter (is_member group book) rows) ≡ ids group book
+ids-members group book rows h =
+    filter_map-told (told_by book) (pair_of book) kept (all-filter _ (is_member group book) rows (member_told book rows h))
+    ∙ in_order-same first (map (pair_of book) kept) (ids group book) (in_order-view first (pair_of book) kept order) (in_order-sorted first (filter_map (client_in group book) book)) same
   where
     kept : List ClientRow
-    kept = filter (of_group group book) rows
+    kept = filter (is_member group book) rows
 
-    split : filter_map (row_in group book) rows ≡ map (pair_of book) kept
-    split = filter_map-split (row_in group book) (of_group group book) (pair_of book) rows (row_in-is group book)
+    order : InOrder (client_of_row book) (filter (is_member group book) rows)
+    order = in_order-group (group_of_member book) (client_of_row book) group (filter (is_member group book) rows)
+        (all_weaker _ _ (filter (is_member group book) rows) (λ row is. (bytes_eq-Decides (group_of_member book row) group).0 is) (all_pass (is_member group book) rows))
+        (in_order-filter (key_of_member book) (is_member group book) rows h.order)
 
-    same : (k : List ℕ) → find_by first k (map (pair_of book) kept) ≡ find_by first k (ids group book)
+    same : (k : List ℕ) → find_by first k (map (pair_of book) (filter (is_member group book) rows)) ≡ find_by first k (ids group book)
     same k =
-        sym (find-map first (pair_of book) k kept)
-        ∙ ap (option_map (pair_of book)) (find-filter (client_key book) (of_group group book) k rows (distinct-in_order (client_key book) rows h.order) ∙ ap (option_filter (of_group group book)) (h.found k))
-        ∙ found_row k group book
+        sym (find-map first (pair_of book) k (filter (is_member group book) rows))
+        ∙ ap (option_map (pair_of book)) (found_member k group book rows ∙ h.found (member_key group k))
+        ∙ row_found k group book
         ∙ sym (find_ids k group book)
 
 pub ids-in_order : (group : List ℕ) (book : Book) → InOrder first (ids group book)

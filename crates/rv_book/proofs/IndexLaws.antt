@@ -119,7 +119,7 @@ module _ {X : Type 0} (key other : X → List ℕ) (named : X → ℕ) (count mo
     pub grows : count ≤ more
     pub by_name : (x y : X) → named x ≡ named y → other x ≡ other y
     pub keeps : (x : X) → named (left (Some x)) ≡ named x
-    pub fresh : other (left None) ≡ k
+    pub fresh : row_of k ≡ None → other (left None) ≡ k
     pub fresh_within : named (left None) < more
     pub next : (q : List ℕ) → next_of q ≡ cond (bytes_eq q k) (Some (left (row_of q))) (row_of q)
 
@@ -151,4 +151,5 @@ module _ {X : Type 0} (key other : X → List ℕ) (named : X → ℕ) (count mo
   index-first k left rows seen at w h same there =
       let settled = subst (λ (xs : List X). Settles other k xs (Err at)) same there in
       let was : row_of k ≡ None = sym (found_before k rows w.same h) ∙ settled.absent in
-      subst (IsIndex other named more next_of) (settled.inserted (left None) w.fresh) (changed k left None rows w was w.fresh w.fresh_within h)
+      let is : other (left None) ≡ k = w.fresh was in
+      subst (IsIndex other named more next_of) (settled.inserted (left None) is) (changed k left None rows w was is w.fresh_within h)

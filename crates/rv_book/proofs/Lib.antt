@@ -2,5 +2,8 @@ pub mod IndexLaws
 pub mod BookLaws
 pub mod ClientLaws
 pub mod GroupLaws
-pub mod NumberLaws
+pub mod MarkLaws
 pub mod IdLaws
+pub mod MemberKeys
+pub mod MemberLaws
+pub mod LookBack

@@ -1,5 +1,5 @@
 -- A book is a list of entries; places count from 1. What is looked up in it.
-use Rattle.std.specs.Prelude.{ℕ, ◌-◌, ◌==◌, List, [], ◌∷◌, Bool, false, Option, Some, None, fold, count_by, slice_get, if◌then◌else◌}
+use Rattle.std.specs.Prelude.{ℕ, ◌-◌, ◌==◌, List, [], ◌∷◌, ◌++◌, length, take, drop, Bool, false, Option, Some, None, fold, count_by, slice_get, if◌then◌else◌}
 use Rattle.std.specs.Option.{option_map_or}
 use Rattle.std.specs.List.{filter_map, list_any}
 use Rattle.std.specs.Str.{bytes_eq}
@@ -9,6 +9,21 @@ use Rattle.rv_book.specs.declared.entry.Entry.TheVariants.{Act, Look, Retire}
 
 abbrev pub Book : Type 0
 Book = List Entry
+
+-- how many entries there are
+abbrev pub size : Book → ℕ
+size book = length book
+
+-- the entries up to a place, and those since
+abbrev pub up_to : ℕ → Book → Book
+up_to place book = take place book
+
+abbrev pub since : ℕ → Book → Book
+since place book = drop place book
+
+-- the book with one more entry
+abbrev pub with_entry : Book → Entry → Book
+with_entry book entry = book ++ entry ∷ []
 
 -- the entry at a place
 abbrev pub entry_at : ℕ → Book → Option Entry

@@ -1,4 +1,9 @@
 pub mod Book
+pub mod BookWords
 pub mod Kept
+pub mod LookLaws
+pub mod LookWalks
 pub mod Recorded
 pub mod Indexes
+pub mod Members
+pub mod Indexed

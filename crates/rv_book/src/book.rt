@@ -1,15 +1,16 @@
-ghost use Rattle.std.specs.Prelude.{◌≡◌, ◌≤◌, ◌<◌, ◌+◌, ◌++◌, ◌^◌, ◌∷◌, [], ◌↔◌, IsTrue, length, option_map, IfOk, OnOk, Err};
+ghost use Rattle.std.specs.Prelude.{◌≡◌, ◌≤◌, ◌<◌, ◌+◌, ◌^◌, [], ◌↔◌, IsTrue, option_map, IfOk, OnOk, Err, IfSome};
+ghost use Rattle.std.specs.Option.{option_map_or};
 ghost use Rattle.rv_base.specs.Sorted.{InOrder};
-ghost use Rattle.rv_book.specs.Book.{bound, entry_at, group_of, ids, last, last_order, retired};
-ghost use Rattle.rv_book.specs.Kept.{kept, look_at};
+ghost use Rattle.rv_book.specs.Book.{bound, entry_at, group_of, ids, last, last_order, retired, size, with_entry};
+ghost use Rattle.rv_book.specs.Kept.{falls_out, kept, last_look, look_at, look_before};
 ghost use Rattle.rv_book.specs.declared.fault.BookFault.TheVariants as BookFault;
 
-use crate::clients::ClientRow;
+use crate::clients::{ClientRef, ClientRow};
 use crate::entry::{Entry, entry_at};
 use crate::fault::BookFault;
-use crate::groups::GroupRow;
-use crate::look::{LookRef, look_at};
-use crate::{clients, groups, look};
+use crate::groups::{GroupRef, GroupRow};
+use crate::look::{LookMark, LookRef, look_at};
+use crate::{clients, groups, look, members};
 use rv_base::{Id, Memory, Num, User};
 use rv_rows::Clients;
 use std::alloc::Global;
@@ -19,10 +20,12 @@ use std::marker::Model;
 #[derive(Debug, Drop)]
 pub struct Book {
     entries: Vec<Entry>,
-    // Of each look its number among the looks of its group, from 1; and 0 of another entry.
-    numbers: Vec<u32>,
+    // Of each entry its mark, by which looks are counted and followed back.
+    marks: Vec<LookMark>,
     groups: Vec<GroupRow>,
     clients: Vec<ClientRow>,
+    // The same rows by group: in the order of the groups of the clients' first acts, and then of the clients.
+    members: Vec<ClientRow>,
     limit: u32,
     alloc: Global,
 }
@@ -30,13 +33,13 @@ pub struct Book {
 impl Model for Book {
     ghost use Rattle.std.specs.Prelude.{◌-◌, min, vec_len, vec_capacity};
     ghost use Rattle.rv_book.specs.Recorded.{Recorded};
-    ghost use Rattle.rv_book.specs.Indexes.{IsIndexed};
+    ghost use Rattle.rv_book.specs.Indexed.{IsIndexed};
 
     ghost Value = { Recorded };
 
-    ghost view = { λ b. record { entries = b.entries.items; limit = b.limit; room = min (min (vec_capacity b.entries - vec_len b.entries) (vec_capacity b.numbers - vec_len b.numbers)) (min (vec_capacity b.groups - vec_len b.groups) (vec_capacity b.clients - vec_len b.clients)) } };
+    ghost view = { λ b. record { entries = b.entries.items; limit = b.limit; room = min (min (vec_capacity b.entries - vec_len b.entries) (vec_capacity b.marks - vec_len b.marks)) (min (vec_capacity b.groups - vec_len b.groups) (min (vec_capacity b.clients - vec_len b.clients) (vec_capacity b.members - vec_len b.members))) } };
 
-    ghost invariant = { λ b. IsIndexed b.entries.items b.limit b.numbers.items b.groups.items b.clients.items };
+    ghost invariant = { λ b. IsIndexed b.entries.items b.limit b.marks.items b.groups.items b.clients.items b.members.items };
 }
 
 impl Book {
@@ -47,9 +50,10 @@ impl Book {
     {
         Book {
             entries: Vec::new(alloc),
-            numbers: Vec::new(alloc),
+            marks: Vec::new(alloc),
             groups: Vec::new(alloc),
             clients: Vec::new(alloc),
+            members: Vec::new(alloc),
             limit,
             alloc,
         }
@@ -57,8 +61,8 @@ impl Book {
 
     /// How many entries there are.
     pub fn len(&self) -> u32
-        ensures value { result ≡ length self.now.entries }
-        ensures bound { length self.now.entries ≤ self.now.limit }
+        ensures value { result ≡ size self.now.entries }
+        ensures bound { size self.now.entries ≤ self.now.limit }
         ensures range { self.now.limit < 2 ^ 32 }
     {
         let _limit = self.limit;
@@ -67,8 +71,8 @@ impl Book {
 
     /// Whether there are as many entries as there may be.
     pub fn is_full(&self) -> bool
-        ensures value { IsTrue result ↔ (length self.now.entries ≡ self.now.limit) }
-        ensures bound { length self.now.entries ≤ self.now.limit }
+        ensures value { IsTrue result ↔ (size self.now.entries ≡ self.now.limit) }
+        ensures bound { size self.now.entries ≤ self.now.limit }
     {
         self.len() == self.limit
     }
@@ -97,7 +101,7 @@ impl Book {
     /// The last mutation id of a client: the number of its acts.
     pub fn last(&self, client: &Id) -> Num
         ensures value { result ≡ last client.now self.now.entries }
-        ensures bound { result ≤ length self.now.entries }
+        ensures bound { result ≤ size self.now.entries }
     {
         Num::from_u64(clients::acts(&self.entries, &self.clients, client) as u64)
     }
@@ -116,12 +120,31 @@ impl Book {
         groups::row(&self.entries, &self.groups, group).retired
     }
 
+    /// All that the book tells of a group for a mutation, found by one search.
+    pub fn group(&self, group: &Id) -> GroupRef<'_>
+        ensures user { option_map (λ user. user.now) result.user ≡ bound group.now self.now.entries }
+        ensures retired { result.retired ≡ retired group.now self.now.entries }
+        ensures last_order { result.last_order ≡ last_order group.now self.now.entries }
+    {
+        groups::told(&self.entries, &self.groups, group)
+    }
+
+    /// All that the book tells of a client for a mutation, found by one search. Of a client without an act there is nothing to
+    /// tell: it has no group, and its last mutation id is 0.
+    pub fn client(&self, client: &Id) -> Option<ClientRef<'_>>
+        ensures group { option_map (λ told. told.group.now) result ≡ group_of client.now self.now.entries }
+        ensures last { option_map_or (λ told. told.last) result 0 ≡ last client.now self.now.entries }
+        ensures bound { IfSome result (λ told. told.last ≤ size self.now.entries) }
+    {
+        clients::told(&self.entries, &self.clients, client)
+    }
+
     /// The clients of a group with their last mutation ids, in the order of the clients' bytes.
     pub fn clients(&self, group: &Id) -> Result<Clients, Memory>
         ensures ids { IfOk result (λ v. v ≡ ids group.now self.now.entries) }
         ensures order { IfOk result (λ v. InOrder (λ pair. pair.0) v) }
     {
-        clients::of_group(self.alloc, &self.entries, &self.clients, group)
+        members::of_group(self.alloc, &self.entries, &self.members, group)
     }
 
     /// The look at a place.
@@ -136,7 +159,29 @@ impl Book {
     pub fn kept(&self, place: u32) -> bool
         ensures { result ≡ kept place self.now.entries }
     {
-        look::kept(&self.entries, &self.groups, &self.numbers, place)
+        look::kept(&self.entries, &self.groups, &self.marks, place)
+    }
+
+    /// The place of a group's last look.
+    pub fn last_look(&self, group: &Id) -> Option<u32>
+        ensures { result ≡ last_look group.now self.now.entries }
+    {
+        groups::row(&self.entries, &self.groups, group).last_look
+    }
+
+    /// Of the look at a place: the place of its group's look before it.
+    pub fn look_before(&self, place: u32) -> Option<u32>
+        ensures { result ≡ look_before place self.now.entries }
+    {
+        look::before(&self.entries, &self.marks, place)
+    }
+
+    /// The place of the look that falls out with a group's next look: it is of the group and kept, and would not be kept any
+    /// more if one more look of the group stood at the end of the book.
+    pub fn falls_out(&self, group: &Id) -> Option<u32>
+        ensures { result ≡ falls_out group.now self.now.entries }
+    {
+        look::falls_out(&self.entries, &self.groups, &self.marks, group)
     }
 
     /// Makes room for one more entry, and for what is looked up by it.
@@ -144,33 +189,35 @@ impl Book {
         ensures entries { self.new.entries ≡ self.old.entries }
         ensures limit { self.new.limit ≡ self.old.limit }
         ensures room { self.old.room ≤ self.new.room }
-        ensures ok { OnOk result ((1 ≤ self.new.room) × (length self.old.entries < self.old.limit)) }
-        ensures full { (result ≡ Err BookFault.Full) ↔ (length self.old.entries ≡ self.old.limit) }
+        ensures ok { OnOk result ((1 ≤ self.new.room) × (size self.old.entries < self.old.limit)) }
+        ensures full { (result ≡ Err BookFault.Full) ↔ (size self.old.entries ≡ self.old.limit) }
     {
         if self.is_full() {
             return Err(BookFault::Full);
         }
         self.entries.reserve(1)?;
-        self.numbers.reserve(1)?;
+        self.marks.reserve(1)?;
         self.groups.reserve(1)?;
         self.clients.reserve(1)?;
+        self.members.reserve(1)?;
         Ok(())
     }
 
     /// Enters an entry at the next place. It can't fail, and takes no memory.
     pub fn push_entry(&mut self, entry: Entry)
         requires room { 1 ≤ self.old.room }
-        requires limit { length self.old.entries < self.old.limit }
-        ensures entries { self.new.entries ≡ self.old.entries ++ entry ∷ [] }
+        requires limit { size self.old.entries < self.old.limit }
+        ensures entries { self.new.entries ≡ with_entry self.old.entries entry }
         ensures limit { self.new.limit ≡ self.old.limit }
         ensures room { self.old.room ≤ self.new.room + 1 }
     {
-        let number = look::number(&self.entries, &self.groups, &entry);
-        match self.numbers.push(number) {
+        let mark = look::mark(&self.entries, &self.groups, &entry);
+        match self.marks.push(mark) {
             Ok(()) => {}
             Err(_) => unreachable!(),
         }
         groups::enter(&self.entries, &mut self.groups, &entry);
+        members::enter(&self.entries, &self.clients, &mut self.members, &entry);
         clients::enter(&self.entries, &mut self.clients, &entry);
         match self.entries.push(entry) {
             Ok(()) => {}

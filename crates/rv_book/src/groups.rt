@@ -1,21 +1,33 @@
-ghost use Rattle.std.specs.Prelude.{◌≡◌, ◌≤◌, ◌<◌, ◌+◌, ◌-◌, ◌^◌, ◌++◌, ◌∷◌, [], length, count_by, option_map, option_and_then, slice_get, vec_len, vec_capacity};
+ghost use Rattle.std.specs.Prelude.{◌≡◌, ◌≤◌, ◌<◌, ◌+◌, ◌-◌, ◌^◌, length, count_by, option_map, option_and_then, slice_get, vec_len, vec_capacity};
 ghost use Rattle.rv_base.specs.Sorted.{Settles};
 ghost use Rattle.rv_book.specs.declared.entry.Entry.{Entry};
-ghost use Rattle.rv_book.specs.Book.{bound, last_order, retired};
-ghost use Rattle.rv_book.specs.Kept.{is_look_of};
-ghost use Rattle.rv_book.specs.Indexes.{AreGroupRows, binds, first_where, group_key, group_row, named_in, new_row, row_after, user_of};
+ghost use Rattle.rv_book.specs.Book.{bound, last_order, retired, size, with_entry};
+ghost use Rattle.rv_book.specs.Kept.{is_look_of, last_look};
+ghost use Rattle.rv_book.specs.Indexes.{AreGroupRows, binds, first_where, group_of_row, group_row, named_in, new_row, row_after, user_of};
 
 use crate::entry::Entry;
 use rv_base::{Id, Num, User};
 
+/// A client group as the book has it: whose it is, whether it is retired, and the order of its last look.
+#[derive(Clone, Copy, Debug)]
+pub struct GroupRef<'a> {
+    /// The user whom the group is bound to: that of the first act or look that names it.
+    pub user: Option<&'a User>,
+    /// Whether the group is retired.
+    pub retired: bool,
+    /// The order of the group's last look, or 0.
+    pub last_order: Num,
+}
+
 // Of a group that an entry names: the index of such an entry, the index of the first act or look of the group, the order of
-// its last look, the number of its looks, and whether it is retired.
+// its last look, the number of its looks, the place of the last one, and whether it is retired.
 #[derive(Clone, Copy, Debug)]
 pub(crate) struct GroupRow {
     named: u32,
     bound: Option<u32>,
     pub(crate) order: Num,
     pub(crate) looks: u32,
+    pub(crate) last_look: Option<u32>,
     pub(crate) retired: bool,
 }
 
@@ -29,13 +41,15 @@ impl GroupRow {
             bound: None,
             order: Num::from_u64(0),
             looks: 0,
+            last_look: None,
             retired: false,
         }
     }
 
     // The row after one more entry of the group.
     fn after(self, index: u32, entry: &Entry) -> GroupRow
-        requires { self.looks + 1 < 2 ^ 32 }
+        requires looks { self.looks + 1 < 2 ^ 32 }
+        requires place { index + 1 < 2 ^ 32 }
         ensures { result ≡ row_after index entry.now self }
     {
         let bound = self.bound.or(Some(index));
@@ -45,6 +59,7 @@ impl GroupRow {
                 bound,
                 order: *order,
                 looks: self.looks + 1,
+                last_look: Some(index + 1),
                 ..self
             },
             Entry::Retire { .. } => GroupRow {
@@ -67,9 +82,9 @@ fn named(entry: &Entry) -> &Id
 }
 
 // The group of a row, and an empty text where the row names no entry.
-#[tactic(auto, unfolding(crate::specs::Indexes::group_key))]
+#[tactic(auto, unfolding(crate::specs::Indexes::group_of_row))]
 fn key<'b>(entries: &'b [Entry], row: &GroupRow) -> &'b str
-    ensures { result.now ≡ group_key entries.now row.now }
+    ensures { result.now ≡ group_of_row entries.now row.now }
 {
     match entries.get(row.named as usize) {
         Some(entry) => named(entry).as_str(),
@@ -80,8 +95,8 @@ fn key<'b>(entries: &'b [Entry], row: &GroupRow) -> &'b str
 // Where the row of a group stands, or where it would go.
 fn place(entries: &[Entry], rows: &[GroupRow], group: &Id) -> Result<usize, usize>
     requires { AreGroupRows entries.now rows.now }
-    ensures now { Settles (group_key entries.now) group.now rows.now result }
-    ensures next { (entry : Entry) → Settles (group_key (entries.now ++ entry ∷ [])) group.now rows.now result }
+    ensures now { Settles (group_of_row entries.now) group.now rows.now result }
+    ensures next { (entry : Entry) → Settles (group_of_row (with_entry entries.now entry)) group.now rows.now result }
 {
     rows.binary_search_by(|row| key(entries, row).cmp(group.as_str()))
 }
@@ -103,8 +118,9 @@ pub(crate) fn row(entries: &[Entry], rows: &[GroupRow], group: &Id) -> GroupRow
     ensures bound { result.bound ≡ first_where (binds group.now) entries.now }
     ensures order { result.order ≡ last_order group.now entries.now }
     ensures looks { result.looks ≡ count_by (is_look_of group.now) entries.now }
+    ensures last_look { result.last_look ≡ last_look group.now entries.now }
     ensures retired { result.retired ≡ retired group.now entries.now }
-    ensures looks_bound { result.looks ≤ length entries.now }
+    ensures looks_bound { result.looks ≤ size entries.now }
 {
     match find(entries, rows, group) {
         Some(row) => row,
@@ -123,14 +139,36 @@ fn user_at(entries: &[Entry], index: u32) -> Option<&User>
     }
 }
 
+// The user whom the group of a row is bound to.
+fn user_of<'b>(entries: &'b [Entry], row: &GroupRow) -> Option<&'b User>
+    ensures { option_map (λ user. user.now) result ≡ option_and_then (λ index. option_and_then user_of (slice_get entries.now index)) row.now.bound }
+{
+    match row.bound {
+        Some(index) => user_at(entries, index),
+        None => None,
+    }
+}
+
 // The user whom a group is bound to.
 pub(crate) fn bound<'b>(entries: &'b [Entry], rows: &[GroupRow], group: &Id) -> Option<&'b User>
     requires { AreGroupRows entries.now rows.now }
     ensures { option_map (λ user. user.now) result ≡ bound group.now entries.now }
 {
-    match row(entries, rows, group).bound {
-        Some(index) => user_at(entries, index),
-        None => None,
+    told(entries, rows, group).user
+}
+
+// What is told of a group.
+pub(crate) fn told<'b>(entries: &'b [Entry], rows: &[GroupRow], group: &Id) -> GroupRef<'b>
+    requires { AreGroupRows entries.now rows.now }
+    ensures user { option_map (λ user. user.now) result.user ≡ bound group.now entries.now }
+    ensures retired { result.retired ≡ retired group.now entries.now }
+    ensures last_order { result.last_order ≡ last_order group.now entries.now }
+{
+    let row = row(entries, rows, group);
+    GroupRef {
+        user: user_of(entries, &row),
+        retired: row.retired,
+        last_order: row.order,
     }
 }
 
@@ -138,8 +176,8 @@ pub(crate) fn bound<'b>(entries: &'b [Entry], rows: &[GroupRow], group: &Id) -> 
 pub(crate) fn enter(entries: &[Entry], rows: &mut Vec<GroupRow>, entry: &Entry)
     requires rows { AreGroupRows entries.now rows.old.items }
     requires room { 1 ≤ vec_capacity rows.old - vec_len rows.old }
-    requires length { length entries.now + 1 < 2 ^ 32 }
-    ensures rows { AreGroupRows (entries.now ++ entry.now ∷ []) rows.new.items }
+    requires length { size entries.now + 1 < 2 ^ 32 }
+    ensures rows { AreGroupRows (with_entry entries.now entry.now) rows.new.items }
     ensures room { vec_capacity rows.old - vec_len rows.old ≤ (vec_capacity rows.new - vec_len rows.new) + 1 }
 {
     let index = entries.len() as u32;

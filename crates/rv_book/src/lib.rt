@@ -10,11 +10,11 @@ mod entry;
 mod fault;
 mod groups;
 mod look;
+mod members;
 
 pub use book::Book;
+pub use clients::ClientRef;
 pub use entry::Entry;
 pub use fault::BookFault;
+pub use groups::GroupRef;
 pub use look::{KEPT_LOOKS, LookRef};
-
-#[cfg(test)]
-mod tests;

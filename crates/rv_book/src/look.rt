@@ -1,6 +1,7 @@
-ghost use Rattle.std.specs.Prelude.{◌≡◌, ◌<◌, ◌+◌, ◌^◌, ◌++◌, ◌∷◌, [], length, option_map};
-ghost use Rattle.rv_book.specs.Kept.{kept, look_at};
-ghost use Rattle.rv_book.specs.Indexes.{AreGroupRows, AreNumbers, number_at};
+ghost use Rattle.std.specs.Prelude.{◌≡◌, ◌<◌, ◌+◌, ◌^◌, length, option_map};
+ghost use Rattle.rv_book.specs.Book.{size, with_entry};
+ghost use Rattle.rv_book.specs.Kept.{falls_out, kept, look_at, look_before};
+ghost use Rattle.rv_book.specs.Indexes.{AreGroupRows, AreMarks, mark_at};
 
 use crate::entry::{Entry, entry_at};
 use crate::groups;
@@ -41,31 +42,83 @@ pub(crate) fn look_at(entries: &[Entry], place: u32) -> Option<LookRef<'_>>
     }
 }
 
-// Of a look that follows the entries: its number among the looks of its group, from 1; and 0 of another entry.
-pub(crate) fn number(entries: &[Entry], groups: &[GroupRow], entry: &Entry) -> u32
+// Of a look: its number among the looks of its group, from 1, and the place of the one before it; 0 and none of another entry.
+#[derive(Clone, Copy, Debug)]
+pub(crate) struct LookMark {
+    number: u32,
+    before: Option<u32>,
+}
+
+// The mark of an entry that follows the entries.
+pub(crate) fn mark(entries: &[Entry], groups: &[GroupRow], entry: &Entry) -> LookMark
     requires groups { AreGroupRows entries.now groups.now }
-    requires length { length entries.now + 1 < 2 ^ 32 }
-    ensures { result ≡ number_at (length entries.now) (entries.now ++ entry.now ∷ []) }
+    requires length { size entries.now + 1 < 2 ^ 32 }
+    ensures { result ≡ mark_at (size entries.now) (with_entry entries.now entry.now) }
 {
     match entry {
-        Entry::Act { .. } => 0,
-        Entry::Look { group, .. } => groups::row(entries, groups, group).looks + 1,
-        Entry::Retire { .. } => 0,
+        Entry::Act { .. } => LookMark {
+            number: 0,
+            before: None,
+        },
+        Entry::Look { group, .. } => {
+            let row = groups::row(entries, groups, group);
+            LookMark {
+                number: row.looks + 1,
+                before: row.last_look,
+            }
+        }
+        Entry::Retire { .. } => LookMark {
+            number: 0,
+            before: None,
+        },
     }
 }
 
 // Whether the look at a place is kept.
-pub(crate) fn kept(entries: &[Entry], groups: &[GroupRow], numbers: &[u32], place: u32) -> bool
+pub(crate) fn kept(entries: &[Entry], groups: &[GroupRow], marks: &[LookMark], place: u32) -> bool
     requires groups { AreGroupRows entries.now groups.now }
-    requires numbers { AreNumbers entries.now numbers.now }
+    requires marks { AreMarks entries.now marks.now }
     ensures { result ≡ kept place entries.now }
 {
     match look_at(entries, place) {
         Some(look) => {
             let row = groups::row(entries, groups, look.group);
-            let later = row.looks - numbers[place as usize - 1];
+            let later = row.looks - marks[place as usize - 1].number;
             !row.retired && later < KEPT_LOOKS
         }
         None => false,
     }
+}
+
+// Of the look at a place: the place of its group's look before it.
+pub(crate) fn before(entries: &[Entry], marks: &[LookMark], place: u32) -> Option<u32>
+    requires { AreMarks entries.now marks.now }
+    ensures { result ≡ look_before place entries.now }
+{
+    if place == 0 || place as usize > entries.len() {
+        return None;
+    }
+    marks[place as usize - 1].before
+}
+
+// The place of the look of a group that falls out with the group's next look.
+pub(crate) fn falls_out(
+    entries: &[Entry],
+    groups: &[GroupRow],
+    marks: &[LookMark],
+    group: &Id,
+) -> Option<u32>
+    requires groups { AreGroupRows entries.now groups.now }
+    requires marks { AreMarks entries.now marks.now }
+    ensures { result ≡ falls_out group.now entries.now }
+{
+    let row = groups::row(entries, groups, group);
+    if row.retired {
+        return None;
+    }
+    let mut place = row.last_look;
+    for _step in 1..KEPT_LOOKS {
+        place = before(entries, marks, place?);
+    }
+    place
 }

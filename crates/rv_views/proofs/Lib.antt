@@ -1,3 +1,3 @@
 pub mod Merges
 pub mod Changes
-pub mod Orders
+pub mod DifferenceOrder

@@ -8,8 +8,8 @@ use Rattle.rv_rows.specs.Keys.{key_text}
 abbrev pub seen_key : Key × ℕ → List ℕ
 seen_key pair = key_text pair.0
 
-abbrev pub client_key : List ℕ × ℕ → List ℕ
-client_key pair = pair.0
+abbrev pub client_of_pair : List ℕ × ℕ → List ℕ
+client_of_pair pair = pair.0
 
 pub record Viewed : Type 0 where
   pub rows : List (Key × ℕ)
@@ -19,4 +19,4 @@ abbrev pub AreSeen : List (Key × ℕ) → Type 0
 AreSeen = InOrder seen_key
 
 abbrev pub AreClients : List (List ℕ × ℕ) → Type 0
-AreClients = InOrder client_key
+AreClients = InOrder client_of_pair

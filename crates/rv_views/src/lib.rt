@@ -15,6 +15,3 @@ pub use cookie::Cookie;
 pub use diff::Diff;
 pub use record::{ViewRecord, record_now};
 pub use walks::difference;
-
-#[cfg(test)]
-mod tests;

@@ -23,7 +23,8 @@ impl Model for ViewRecord {
     ghost invariant = { λ r. AreSeen r.rows × AreClients r.clients };
 }
 
-/// The record of what is seen now. It keeps both lists as they are.
+/// The record of what is seen now. It keeps both lists as they are. It takes no memory, so it always answers a record: the
+/// `Result` is that of its signature.
 pub fn record_now(visible: Visible, clients: Clients) -> Result<ViewRecord, Memory>
     requires rows { AreSeen visible }
     requires clients { AreClients clients }

@@ -4,9 +4,8 @@ ghost use Rattle.std.specs.Cmp.Lexicographic.{slice_cmp};
 ghost use Rattle.std.specs.Ordering.{nat_cmp, is_lt};
 ghost use Rattle.std.specs.Str.{bytes_eq};
 ghost use Rattle.rv_rows.specs.Keys.{key_text};
-ghost use Rattle.rv_views.specs.Viewed.{AreSeen, AreClients, seen_key, client_key};
-ghost use Rattle.rv_views.specs.Difference.{lost_keys, touched_keys, changed_ids, difference};
-ghost use Rattle.rv_views.specs.DifferenceLaws.{Arranged};
+ghost use Rattle.rv_views.specs.Viewed.{AreSeen, AreClients, seen_key, client_of_pair};
+ghost use Rattle.rv_views.specs.Difference.{Arranged, lost_keys, touched_keys, changed_ids, difference};
 ghost use Rattle.rv_views.specs.Walks.{rest_from, begins_with};
 
 use crate::diff::Diff;
@@ -147,7 +146,7 @@ fn changed(alloc: Global, base: &[(Id, Num)], now: &[(Id, Num)]) -> Result<Clien
 
 // The clients from the first on whose id is not below this one.
 fn clients_from<'c>(clients: &'c [(Id, Num)], id: &Id) -> &'c [(Id, Num)]
-    ensures { result.now ≡ rest_from client_key id.now clients.now }
+    ensures { result.now ≡ rest_from client_of_pair id.now clients.now }
 {
     let mut rest = clients;
     while let Some((first, others)) = rest.split_first() {

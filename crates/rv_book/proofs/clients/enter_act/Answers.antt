@@ -1,4 +1,5 @@
-use Rattle.std.proofs.Common.{◌∷◌, [], ◌++◌, arith, subst, sym}
+use Rattle.std.proofs.Common.{arith, subst, sym}
+use Rattle.rv_book.specs.Book.{with_entry}
 use Rattle.rv_book.specs.Indexes.{AreClientRows}
 use Rattle.rv_book.proofs.ClientLaws.{act_again, act_first, acts_bound}
 use Rattle.rv_book.proofs.clients.enter_act.Goals as goal
@@ -11,5 +12,5 @@ returns-in-Ok-clause-rows c = λ entry is. act_again c.args.entries.now entry c.
 
 pub returns-in-Ok-insert-clause-rows : goal.returns-in-Ok-insert-clause-rows
 returns-in-Ok-insert-clause-rows c = λ entry is.
-    subst (AreClientRows (c.args.entries.now ++ entry ∷ [])) (sym c.in-Ok-insert.ensures.items)
+    subst (AreClientRows (with_entry c.args.entries.now entry)) (sym c.in-Ok-insert.ensures.items)
     (act_first c.args.entries.now entry c.args.client.now c.args.rows.now.items _ c.in-Err.at is c.requires.rows c.deref.ensures.value (c.in-Err.ensures.next entry))

@@ -31,3 +31,9 @@ returns-in-None-clause-retired c = ap (λ (r : GroupRow). r.retired) c.new.ensur
 
 pub returns-in-Some-clause-looks_bound : goal.returns-in-Some-clause-looks_bound
 returns-in-Some-clause-looks_bound c = omega (arith, (row_tells c.args.entries.now c.args.group.now c.in-Some.row c.in-Some.ensures).looks, count_by-le-length (is_look_of c.args.group.now) c.args.entries.now)
+
+pub returns-in-Some-clause-last_look : goal.returns-in-Some-clause-last_look
+returns-in-Some-clause-last_look c = (row_tells c.args.entries.now c.args.group.now c.in-Some.row c.in-Some.ensures).last_look
+
+pub returns-in-None-clause-last_look : goal.returns-in-None-clause-last_look
+returns-in-None-clause-last_look c = ap (λ (r : GroupRow). r.last_look) c.new.ensures ∙ (none_tells c.args.entries.now c.args.group.now 0 c.in-None.ensures).last_look

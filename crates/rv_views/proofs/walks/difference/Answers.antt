@@ -1,4 +1,4 @@
-use Rattle.rv_views.specs.DifferenceLaws.{in_order-keys, in_order-lost, in_order-touched, in_order-changed}
+use Rattle.rv_views.proofs.DifferenceOrder.{in_order-keys, in_order-lost, in_order-touched, in_order-changed}
 use Rattle.rv_views.proofs.walks.difference.Goals as goal
 
 pub returns-in_ok-changed-in-Some-clause-arranged : goal.returns-in_ok-changed-in-Some-clause-arranged

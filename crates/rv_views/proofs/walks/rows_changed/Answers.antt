@@ -2,12 +2,12 @@ use Rattle.std.proofs.Common.{◌≡◌, ◌==◌, ◌&&◌, [], drop, refl, ari
 use Rattle.std.specs.Str.{bytes_eq}
 use Rattle.std.proofs.lemmas.List.{drop_all}
 use Rattle.rv_views.specs.Viewed.{seen_key}
-use Rattle.rv_views.specs.Difference.{is_seen, is_untouched}
+use Rattle.rv_views.specs.Difference.{is_absent, is_untouched}
 use Rattle.rv_views.proofs.Changes.{IsStep, next_order, lost_step, touched_step, lost_all}
 use Rattle.rv_views.proofs.walks.rows_changed.Goals as goal
 
 pub loop-row-preserved : goal.loop-row-preserved
-unfolding is_seen is_untouched
+unfolding is_absent is_untouched
 loop-row-preserved c =
     let step : IsStep seen_key c.args.now.now c.loop-row.rest.now c.in_ok-rest.rest.now c.after_key-rest.result.now c.loop-row.row-index c.row-item.result = record {
       in_range = omega arith;
@@ -24,7 +24,7 @@ loop-row-preserved c =
     }
 
 pub returns-clause-dels : goal.returns-clause-dels
-unfolding is_seen
+unfolding is_absent
 returns-clause-dels c =
     let none_left : drop c.loop-row.row-index c.args.now.now ≡ [] = drop_all c.loop-row.row-index c.args.now.now (omega arith) in
     rw (c.in_ok-add_keys.ensures, ← lost_all seen_key c.loop-row.rest.now) (rw none_left at c.loop-row.invariant.dels)

@@ -1,0 +1,171 @@
+// The clients of each group: the rows of the clients in the order of the groups of their first acts, and then of the clients.
+ghost use Rattle.std.specs.Prelude.{◌≡◌, true, ◌≤◌, ◌<◌, ◌+◌, ◌-◌, ◌^◌, ◌++◌, Some, [], option_map, IfOk, OnOk, vec_len, vec_capacity};
+ghost use Rattle.std.specs.List.{cons_option, filter};
+ghost use Rattle.std.specs.Option.{option_or};
+ghost use Rattle.std.specs.Cmp.Lexicographic.{slice_cmp};
+ghost use Rattle.std.specs.Ordering.{nat_cmp};
+ghost use Rattle.rv_base.specs.Sorted.{InOrder, Settles};
+ghost use Rattle.rv_book.specs.declared.entry.Entry.{Entry};
+ghost use Rattle.rv_book.specs.Book.{group_of, ids, is_act_of, size, with_entry};
+ghost use Rattle.rv_book.specs.Indexes.{AreClientRows};
+ghost use Rattle.rv_book.specs.Members.{AreMemberRows, group_of_member, is_member, key_of_member, member_key, told_by};
+
+use crate::clients;
+use crate::clients::ClientRow;
+use crate::entry::Entry;
+use rv_base::{Id, Memory, Num, Sequence};
+use rv_rows::Clients;
+use std::alloc::Global;
+use std::cmp::Ordering;
+
+// The group of a row: that of the act that it names, and an empty text where it names no act.
+#[tactic(auto, unfolding(crate::specs::Members::group_of_member))]
+fn group<'b>(entries: &'b [Entry], row: &ClientRow) -> &'b str
+    ensures { result.now ≡ group_of_member entries.now row.now }
+{
+    match entries.get(row.first as usize) {
+        Some(Entry::Act { group, .. }) => group.as_str(),
+        Some(Entry::Look { .. }) => "",
+        Some(Entry::Retire { .. }) => "",
+        None => "",
+    }
+}
+
+// How a row stands to a client of a group.
+fn compare(entries: &[Entry], row: &ClientRow, other: &Id, client: &Id) -> Ordering
+    ensures { result ≡ slice_cmp nat_cmp (key_of_member entries.now row.now) (member_key other.now client.now) }
+{
+    match group(entries, row).cmp(other.as_str()) {
+        Ordering::Less => Ordering::Less,
+        Ordering::Equal => clients::key(entries, row).cmp(client.as_str()),
+        Ordering::Greater => Ordering::Greater,
+    }
+}
+
+// Where the row of a client of a group stands, or where it would go.
+fn place(entries: &[Entry], rows: &[ClientRow], group: &Id, client: &Id) -> Result<usize, usize>
+    requires { AreMemberRows entries.now rows.now }
+    ensures now { Settles (key_of_member entries.now) (member_key group.now client.now) rows.now result }
+    ensures next { (entry : Entry) → Settles (key_of_member (with_entry entries.now entry)) (member_key group.now client.now) rows.now result }
+{
+    rows.binary_search_by(|row| compare(entries, row, group, client))
+}
+
+// The rows of a group, found by two searches.
+fn of<'r>(entries: &[Entry], rows: &'r [ClientRow], other: &Id) -> &'r [ClientRow]
+    requires { AreMemberRows entries.now rows.now }
+    ensures { result.now ≡ filter (is_member other.now entries.now) rows.now }
+{
+    let from = rows.partition_point(|row| group(entries, row).cmp(other.as_str()).is_lt());
+    let rest = &rows[from..];
+    let count = rest.partition_point(|row| group(entries, row).cmp(other.as_str()).is_le());
+    &rest[..count]
+}
+
+// The client of a row, with its last mutation id.
+fn told<'b>(entries: &'b [Entry], row: &ClientRow) -> Option<(&'b Id, Num)>
+    ensures { option_map (λ pair. (pair.0.now, pair.1)) result ≡ told_by entries.now row.now }
+{
+    match entries.get(row.first as usize)? {
+        Entry::Act { client, .. } => Some((client, Num::from_u64(row.acts as u64))),
+        Entry::Look { .. } => None,
+        Entry::Retire { .. } => None,
+    }
+}
+
+// Adds the client of a row.
+fn add(
+    alloc: Global,
+    clients: &mut Vec<(Id, Num)>,
+    entries: &[Entry],
+    row: &ClientRow,
+) -> Result<(), Memory>
+    ensures { OnOk result (clients.new.items ≡ clients.old.items ++ cons_option (told_by entries.now row.now) []) }
+{
+    match told(entries, row) {
+        Some((client, last)) => {
+            clients.push((client.copy(alloc)?, last))?;
+            Ok(())
+        }
+        None => Ok(()),
+    }
+}
+
+// The clients of a group with their last mutation ids, in the order of the clients' bytes.
+pub(crate) fn of_group(
+    alloc: Global,
+    entries: &[Entry],
+    rows: &[ClientRow],
+    group: &Id,
+) -> Result<Clients, Memory>
+    requires { AreMemberRows entries.now rows.now }
+    ensures ids { IfOk result (λ v. v ≡ ids group.now entries.now) }
+    ensures order { IfOk result (λ v. InOrder (λ pair. pair.0) v) }
+{
+    let members = of(entries, rows, group);
+    let mut clients = Vec::with_capacity(alloc, members.len())?;
+    for row in members {
+        add(alloc, &mut clients, entries, row)?;
+    }
+    Ok(Sequence::from_vec(clients))
+}
+
+// The group that a client is of, where it acts in one.
+fn group_with<'b>(entries: &'b [Entry], rows: &[ClientRow], group: &'b Id, client: &Id) -> &'b Id
+    requires { AreClientRows entries.now rows.now }
+    ensures { Some result.now ≡ option_or (group_of client.now entries.now) (Some group.now) }
+{
+    match clients::group_of(entries, rows, client) {
+        Some(first) => first,
+        None => group,
+    }
+}
+
+// Enters an act of a client of a group, which follows the entries.
+fn enter_act(entries: &[Entry], rows: &mut Vec<ClientRow>, group: &Id, client: &Id)
+    requires rows { AreMemberRows entries.now rows.old.items }
+    requires room { 1 ≤ vec_capacity rows.old - vec_len rows.old }
+    requires length { size entries.now + 1 < 2 ^ 32 }
+    ensures rows { (entry : Entry) → is_act_of client.now entry ≡ true → group_of client.now (with_entry entries.now entry) ≡ Some group.now → AreMemberRows (with_entry entries.now entry) rows.new.items }
+    ensures room { vec_capacity rows.old - vec_len rows.old ≤ (vec_capacity rows.new - vec_len rows.new) + 1 }
+{
+    match place(entries, rows, group, client) {
+        Ok(at) => rows[at].acts += 1,
+        Err(at) => {
+            let row = ClientRow {
+                first: entries.len() as u32,
+                acts: 1,
+            };
+            match rows.insert(at, row) {
+                Ok(()) => {}
+                Err(_) => unreachable!(),
+            }
+        }
+    }
+}
+
+// Enters an entry, which follows the others. The rows of the clients are those before it.
+pub(crate) fn enter(
+    entries: &[Entry],
+    clients: &[ClientRow],
+    rows: &mut Vec<ClientRow>,
+    entry: &Entry,
+)
+    requires clients { AreClientRows entries.now clients.now }
+    requires rows { AreMemberRows entries.now rows.old.items }
+    requires room { 1 ≤ vec_capacity rows.old - vec_len rows.old }
+    requires length { size entries.now + 1 < 2 ^ 32 }
+    ensures rows { AreMemberRows (with_entry entries.now entry.now) rows.new.items }
+    ensures room { vec_capacity rows.old - vec_len rows.old ≤ (vec_capacity rows.new - vec_len rows.new) + 1 }
+{
+    match entry {
+        Entry::Act { group, client, .. } => enter_act(
+            entries,
+            rows,
+            group_with(entries, clients, group, client),
+            client,
+        ),
+        Entry::Look { .. } => {}
+        Entry::Retire { .. } => {}
+    }
+}
