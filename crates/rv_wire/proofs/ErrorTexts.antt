@@ -11,7 +11,8 @@ use Rattle.rv_wire.specs.declared.fault.FieldName.TheVariants as fields
 use Rattle.rv_wire.specs.declared.fault.VersionKind.{VersionKind}
 use Rattle.rv_wire.specs.declared.fault.VersionKind.TheVariants as versions
 use Rattle.rv_wire.specs.Answers.{retired_data}
-use Rattle.rv_wire.specs.Errors.{field_text, version_text, which_text, error_data}
+use Rattle.rv_wire.specs.Members.{field_text}
+use Rattle.rv_wire.specs.Errors.{version_text, which_text, error_data}
 
 pub future_text : (e g : ℕ) → (((codes "{\"error\":\"Future\",\"expected\":" ++ decimal e) ++ codes ",\"got\":") ++ decimal g) ++ codes "}" ≡ compact_text (error_data (Future e g))
 unfolding serde_json_on_literals

@@ -18,11 +18,11 @@ use Rattle.rv_views.specs.declared.cookie.Cookie.TheVariants.{Null, Bare, Named}
 use Rattle.rv_wire.specs.declared.push.Mutation.{Mutation}
 use Rattle.rv_wire.specs.declared.push.Push.{Push}
 use Rattle.rv_wire.specs.declared.pull.PullRequest.{PullRequest}
-use Rattle.rv_wire.specs.Members.{text_member, string_member, num_member, array_member}
+use Rattle.rv_wire.specs.Members.{field_text, text_member, string_member, num_member, array_member}
 use Rattle.rv_rows.specs.Members.{num_in}
 use Rattle.rv_wire.specs.Calls.{call_in}
 
--- the answer is this fault, or memory was refused
+-- what is read has this fault; want of memory may come at any body
 abbrev pub Fails : {Y : Type 0} → WireFault → Result Y WireFault → Type 0
 Fails Memory read = Unit {0}
 Fails fault read = read ≡ Err fault
@@ -32,6 +32,7 @@ abbrev pub GivesAll : {X Y : Type 0} → (X → Y) → Result X WireFault → Re
 GivesAll view (Ok answer) read = read ≡ Ok (view answer)
 GivesAll view (Err fault) read = Fails fault read
 
+-- the same of an answer that is seen as it is
 abbrev pub Gives : {X : Type 0} → Result X WireFault → Result X WireFault → Type 0
 Gives = GivesAll (λ answer. answer)
 
@@ -40,23 +41,17 @@ abbrev pub is_served : List (String Global) → List ℕ → Bool
 is_served schemas schema = list_any (λ served. bytes_eq (string_bytes served) schema) schemas
 
 -- what both bodies begin with: an object, its version 1, a served schema, a profile, and the client group
-unfoldable pub group_in : VersionKind → List ℕ → FieldName → (List ℕ → Bool) → Data → Result (List ℕ) WireFault
-group_in kind version field served body = do
+unfoldable pub group_in : VersionKind → FieldName → (List ℕ → Bool) → Data → Result (List ℕ) WireFault
+group_in kind version served body = do
   members ← need NotJson (as_object body)
-  found ← need (Field field) (num_member version body)
+  found ← need (Field version) (num_member (field_text version) body)
   right ← hold (Version kind) (found == 1)
   schema ← need (Field fields.SchemaVersion) (string_member (codes "schemaVersion") body)
   known ← hold (Version versions.Schema) (served schema)
   profile ← need (Field fields.ProfileId) (string_member (codes "profileID") body)
   need (Field fields.ClientGroupId) (text_member 1 128 (codes "clientGroupID") body)
 
-unfoldable pub push_group_in : (List ℕ → Bool) → Data → Result (List ℕ) WireFault
-push_group_in served body = group_in versions.Push (codes "pushVersion") fields.PushVersion served body
-
-unfoldable pub pull_group_in : (List ℕ → Bool) → Data → Result (List ℕ) WireFault
-pull_group_in served body = group_in versions.Pull (codes "pullVersion") fields.PullVersion served body
-
--- one mutation; absent arguments are null
+-- one mutation: an object with a client, a number and a name; absent arguments are null
 unfoldable pub mutation_in : Data → Result Mutation WireFault
 mutation_in value = do
   members ← need (Field fields.Mutations) (as_object value)
@@ -70,22 +65,25 @@ abbrev pub datas : Items → List Data
 datas no_items = []
 datas (item value values) = value ∷ datas values
 
+-- the mutations of a body, up to the first that is wrong
 unfoldable pub mutations_in : Data → Result (List Mutation) WireFault
 mutations_in body = do
   values ← need (Field fields.Mutations) (array_member (codes "mutations") body)
   each mutation_in (datas values)
 
+-- a push: what both bodies begin with, and then its mutations
 unfoldable pub push_in : (List ℕ → Bool) → Data → Result Push WireFault
 push_in served body = do
-  group ← push_group_in served body
+  group ← group_in versions.Push fields.PushVersion served body
   mutations ← mutations_in body
   Ok (record { group = group; mutations = mutations })
 
--- a cookie: null, a number, or an object with a text `cvrID` and a number `order`
+-- the cookie of a place and an order, where both are there
 abbrev pub named_cookie : Option (List ℕ) → Option ℕ → Option Cookie
 named_cookie (Some place) (Some order) = Some (Named place order)
 named_cookie place order = None
 
+-- a cookie: null, a number, or an object with a text `cvrID` and a number `order`
 abbrev pub cookie_at : Data → Option Cookie
 cookie_at null = Some Null
 cookie_at (number n) = option_map (λ order. Bare order) (num_in (number n))
@@ -98,19 +96,20 @@ cookie_at (array values) = None
 abbrev pub cookie_in : Data → Result Cookie WireFault
 cookie_in body = need (Field fields.Cookie) (cookie_at (unwrap_or (get (codes "cookie") body) null))
 
+-- a pull: what both bodies begin with, and then its cookie
 unfoldable pub pull_in : (List ℕ → Bool) → Data → Result PullRequest WireFault
 pull_in served body = do
-  group ← pull_group_in served body
+  group ← group_in versions.Pull fields.PullVersion served body
   cookie ← cookie_in body
   Ok (record { group = group; cookie = cookie })
 
--- the JSON value of a text that is UTF-8
+-- the JSON value of a text that is UTF-8; JSON that nests deeper than 127 is none
 unfoldable pub json_in : List ℕ → Option Data
 json_in text = if is_utf8 text then read text else None
 
 -- the push and the pull of a body's bytes
-abbrev pub push_text : (List ℕ → Bool) → List ℕ → Result Push WireFault
-push_text served text = need NotJson (json_in text) >>= push_in served
+abbrev pub push_body : (List ℕ → Bool) → List ℕ → Result Push WireFault
+push_body served text = need NotJson (json_in text) >>= push_in served
 
 abbrev pub pull_body : (List ℕ → Bool) → List ℕ → Result PullRequest WireFault
 pull_body served text = need NotJson (json_in text) >>= pull_in served

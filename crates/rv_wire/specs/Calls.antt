@@ -1,6 +1,6 @@
 -- The call that a mutation's name and arguments spell. Members that are not named here are ignored; where one that is
 -- named is missing or of another kind or size, null included, the arguments are bad.
-use Rattle.std.specs.Prelude.{ℕ, List, Option, Some, None, codes, unwrap_or, option_map, if◌then◌else◌}
+use Rattle.std.specs.Prelude.{ℕ, List, Option, Some, codes, unwrap_or, option_map, if◌then◌else◌}
 use Rattle.std.specs.Str.{bytes_eq}
 use Rattle.serde_json.specs.Data.{Data}
 use Rattle.serde_json.specs.Find.{get, as_bool}
@@ -45,6 +45,7 @@ update_todo_in args = do
   sort ← optional num_in (get (codes "sort") args)
   Some (UpdateTodo id text complete sort)
 
+-- the call of a name, where its arguments are not bad; an id alone ends a list, a share or a todo
 abbrev pub call_with : List ℕ → Data → Option Call
 call_with name args =
     if bytes_eq name (codes "createList") then create_list_in args
@@ -56,5 +57,6 @@ call_with name args =
     else if bytes_eq name (codes "deleteTodo") then option_map (λ id. DeleteTodo id) (text_in 1 128 args)
     else Some (Void UnknownName)
 
+-- the call of a name; bad arguments spell none
 abbrev pub call_in : List ℕ → Data → Call
 call_in name args = unwrap_or (call_with name args) (Void BadArgs)

@@ -7,32 +7,22 @@ use Rattle.rv_wire.specs.declared.error_body.ErrorBody.{ErrorBody}
 use Rattle.rv_wire.specs.declared.error_body.ErrorBody.TheVariants.{ClientStateNotFound, VersionNotSupported, NotJson, Field, GroupOfOther, ClientOfOther, NoGroup, Future, Limit, Memory}
 use Rattle.rv_wire.specs.declared.fault.WireFault.{WireFault}
 use Rattle.rv_wire.specs.declared.fault.WireFault.TheVariants as faults
-use Rattle.rv_wire.specs.declared.fault.FieldName.{FieldName}
-use Rattle.rv_wire.specs.declared.fault.FieldName.TheVariants as fields
 use Rattle.rv_wire.specs.declared.fault.VersionKind.{VersionKind}
 use Rattle.rv_wire.specs.declared.fault.VersionKind.TheVariants as versions
+use Rattle.rv_wire.specs.Members.{field_text}
 
+-- the word for what is full
 abbrev pub which_text : Which → List ℕ
 which_text Book = codes "book"
 which_text Order = codes "order"
 
-abbrev pub field_text : FieldName → List ℕ
-field_text fields.PushVersion = codes "pushVersion"
-field_text fields.PullVersion = codes "pullVersion"
-field_text fields.SchemaVersion = codes "schemaVersion"
-field_text fields.ProfileId = codes "profileID"
-field_text fields.ClientGroupId = codes "clientGroupID"
-field_text fields.Mutations = codes "mutations"
-field_text fields.ClientId = codes "clientID"
-field_text fields.Id = codes "id"
-field_text fields.Name = codes "name"
-field_text fields.Cookie = codes "cookie"
-
+-- the word for what a version is of
 abbrev pub version_text : VersionKind → List ℕ
 version_text versions.Push = codes "push"
 version_text versions.Pull = codes "pull"
 version_text versions.Schema = codes "schema"
 
+-- the body: `error` is the refusal's name, beside what it tells
 abbrev pub error_data : ErrorBody → Data
 error_data ClientStateNotFound = object (member (codes "error") (string (codes "ClientStateNotFound")) no_members)
 error_data (VersionNotSupported kind) = object (member (codes "error") (string (codes "VersionNotSupported")) (member (codes "versionType") (string (version_text kind)) no_members))
@@ -45,6 +35,8 @@ error_data (Future expected got) = object (member (codes "error") (string (codes
 error_data (Limit which at) = object (member (codes "at") (number (unsigned at)) (member (codes "error") (string (codes "Limit")) (member (codes "which") (string (which_text which)) no_members)))
 error_data Memory = object (member (codes "error") (string (codes "memory")) no_members)
 
+-- 200 where the client's reference names the answer, 400 for a body that can't be read, 403 where another owns what is named,
+-- 404 where nothing has the name, 409 for a mutation from the future, 503 for want of memory, and 507 where something is full
 abbrev pub error_status : ErrorBody → ℕ
 error_status ClientStateNotFound = 200
 error_status (VersionNotSupported kind) = 200

@@ -1,8 +1,23 @@
--- What the members of a body are read as. A number with a fraction or an exponent is none here.
-use Rattle.std.specs.Prelude.{ℕ, Bool, List, Option, Some, None, option_and_then, option_map}
+-- The members of a body, and what they are read as. A number with a fraction or an exponent is none here.
+use Rattle.std.specs.Prelude.{ℕ, Bool, List, Option, Some, None, codes, option_and_then, option_map}
 use Rattle.serde_json.specs.Data.{Data, Items}
 use Rattle.serde_json.specs.Find.{get, as_str, as_bool, as_array}
 use Rattle.rv_rows.specs.Members.{text_in, num_in}
+use Rattle.rv_wire.specs.declared.fault.FieldName.{FieldName}
+use Rattle.rv_wire.specs.declared.fault.FieldName.TheVariants as fields
+
+-- the name of a member that a fault may name
+abbrev pub field_text : FieldName → List ℕ
+field_text fields.PushVersion = codes "pushVersion"
+field_text fields.PullVersion = codes "pullVersion"
+field_text fields.SchemaVersion = codes "schemaVersion"
+field_text fields.ProfileId = codes "profileID"
+field_text fields.ClientGroupId = codes "clientGroupID"
+field_text fields.Mutations = codes "mutations"
+field_text fields.ClientId = codes "clientID"
+field_text fields.Id = codes "id"
+field_text fields.Name = codes "name"
+field_text fields.Cookie = codes "cookie"
 
 -- a member that is a text of at least low and at most high bytes
 abbrev pub text_member : ℕ → ℕ → List ℕ → Data → Option (List ℕ)

@@ -1,4 +1,3 @@
-// The call of a mutation's name and arguments.
 ghost use Rattle.std.specs.Prelude.{◌≡◌, IfOk, IfSome, option_map};
 ghost use Rattle.serde_json.specs.Find.{as_bool, get};
 ghost use Rattle.serde_json.specs.View.{view};

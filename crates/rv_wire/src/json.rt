@@ -1,11 +1,7 @@
-// The JSON of bytes.
 ghost use Rattle.std.specs.Prelude.{◌≡◌, IfOk, IfSome, IfNone, option_map};
 ghost use Rattle.serde_json.specs.View.{view};
-ghost use Rattle.rv_base.specs.Chains.{need};
-ghost use Rattle.rv_wire.specs.declared.fault.WireFault.TheVariants.{NotJson};
-ghost use Rattle.rv_wire.specs.Bodies.{GivesAll, json_in};
+ghost use Rattle.rv_wire.specs.Bodies.{json_in};
 
-use crate::fault::WireFault;
 use rv_base::Memory;
 use serde_json::Value;
 use std::alloc::Global;
@@ -24,15 +20,5 @@ pub fn read_json(alloc: Global, text: &[u8]) -> Result<Option<Value>, Memory>
                 Ok(None)
             }
         }
-    }
-}
-
-pub(crate) fn json_of_body(alloc: Global, body: &[u8]) -> Result<Value, WireFault>
-    ensures { GivesAll (λ v. view v) result (need NotJson (json_in body.now)) }
-{
-    match read_json(alloc, body) {
-        Ok(Some(value)) => Ok(value),
-        Ok(None) => Err(WireFault::NotJson),
-        Err(Memory) => Err(WireFault::Memory),
     }
 }

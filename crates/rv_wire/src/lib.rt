@@ -18,9 +18,9 @@ mod push;
 mod push_body;
 mod refusal;
 mod retirement;
+mod schema_versions;
 
 pub use answer::pull_text;
-pub use body::Schemas;
 pub use calls::read_call;
 pub use error_body::{ErrorBody, Which};
 pub use fault::{FieldName, VersionKind, WireFault};
@@ -33,6 +33,4 @@ pub use push_body::{push_of_value, read_push};
 pub use refusal::error_text;
 pub use retirement::retired_text;
 pub use rv_views::Cookie;
-
-#[cfg(test)]
-mod tests;
+pub use schema_versions::{SchemaVersions, Schemas};

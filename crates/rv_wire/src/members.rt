@@ -1,4 +1,3 @@
-// Members of a body.
 ghost use Rattle.std.specs.Prelude.{◌≡◌, IfOk, option_map};
 ghost use Rattle.serde_json.specs.View.{view, items_view};
 ghost use Rattle.rv_wire.specs.Members.{text_member, string_member, bool_member, num_member, array_member};

@@ -3,11 +3,12 @@ ghost use Rattle.serde_json.specs.View.{view};
 ghost use Rattle.rv_wire.specs.Bodies.{Gives, is_served, named_cookie, cookie_at, cookie_in, pull_in, pull_body};
 ghost use Rattle.rv_wire.specs.Members.{text_member, num_member};
 
-use crate::body::{Schemas, pull_group};
-use crate::fault::{FieldName, WireFault};
-use crate::json::json_of_body;
+use crate::body::group_of_value;
+use crate::fault::{FieldName, VersionKind, WireFault};
+use crate::json::read_json;
 use crate::members::{num_member, text_member};
 use crate::pull::PullRequest;
+use crate::schema_versions::SchemaVersions;
 use rv_base::Memory;
 use rv_rows::num_of_value;
 use rv_views::Cookie;
@@ -45,11 +46,7 @@ fn cookie_of(alloc: Global, value: &Value) -> Result<Cookie, WireFault>
     let Some(cookie) = value.get("cookie") else {
         return Ok(Cookie::Null);
     };
-    match cookie_at(alloc, cookie) {
-        Ok(Some(cookie)) => Ok(cookie),
-        Ok(None) => Err(WireFault::Field(FieldName::Cookie)),
-        Err(Memory) => Err(WireFault::Memory),
-    }
+    cookie_at(alloc, cookie)?.ok_or(WireFault::Field(FieldName::Cookie))
 }
 
 /// The pull that a value is, or the first thing that is wrong with it, in this order: no JSON object; `pullVersion` no
@@ -57,29 +54,27 @@ fn cookie_of(alloc: Global, value: &Value) -> Result<Cookie, WireFault>
 /// `cookie`, which is absent, null, a `Num`, or an object with a `Text` at `cvrID` and a `Num` at `order`. Other members
 /// are ignored.
 #[tactic(auto, unfolding(crate::specs::Bodies::pull_in))]
-pub fn pull_of_value(
+pub fn pull_of_value<S: SchemaVersions>(
     alloc: Global,
     value: &Value,
-    schemas: &Schemas,
+    schemas: &S,
 ) -> Result<PullRequest, WireFault>
-    ensures { Gives result (pull_in (is_served schemas.now) (view value.now)) }
+    ensures { Gives result (pull_in (S.serves schemas.now) (view value.now)) }
 {
-    let group = match pull_group(alloc, value, schemas) {
-        Ok(group) => group,
-        Err(fault) => return Err(fault),
-    };
-    match cookie_of(alloc, value) {
-        Ok(cookie) => Ok(PullRequest { group, cookie }),
-        Err(fault) => Err(fault),
-    }
+    let kind = VersionKind::Pull;
+    let group = group_of_value(alloc, value, kind, FieldName::PullVersion, schemas)?;
+    let cookie = cookie_of(alloc, value)?;
+    Ok(PullRequest { group, cookie })
 }
 
 /// The pull that a body's bytes are. Bytes that are not UTF-8, are no JSON or nest deeper than 127 are `NotJson`.
-pub fn read_pull(alloc: Global, body: &[u8], schemas: &Schemas) -> Result<PullRequest, WireFault>
-    ensures { Gives result (pull_body (is_served schemas.now) body.now) }
+pub fn read_pull<S: SchemaVersions>(
+    alloc: Global,
+    body: &[u8],
+    schemas: &S,
+) -> Result<PullRequest, WireFault>
+    ensures { Gives result (pull_body (S.serves schemas.now) body.now) }
 {
-    match json_of_body(alloc, body) {
-        Ok(value) => pull_of_value(alloc, &value, schemas),
-        Err(fault) => Err(fault),
-    }
+    let value = read_json(alloc, body)?.ok_or(WireFault::NotJson)?;
+    pull_of_value(alloc, &value, schemas)
 }

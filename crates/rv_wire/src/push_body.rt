@@ -3,15 +3,16 @@ ghost use Rattle.serde_json.specs.Data.{null};
 ghost use Rattle.serde_json.specs.Find.{get};
 ghost use Rattle.serde_json.specs.View.{view};
 ghost use Rattle.rv_base.specs.Chains.{each};
-ghost use Rattle.rv_wire.specs.Bodies.{Gives, GivesAll, is_served, mutation_in, mutations_in, push_in, push_text};
+ghost use Rattle.rv_wire.specs.Bodies.{Gives, GivesAll, is_served, mutation_in, mutations_in, push_in, push_body};
 ghost use Rattle.rv_wire.specs.Calls.{call_in};
 
-use crate::body::{Schemas, push_group};
+use crate::body::group_of_value;
 use crate::calls::read_call;
-use crate::fault::{FieldName, WireFault};
-use crate::json::json_of_body;
+use crate::fault::{FieldName, VersionKind, WireFault};
+use crate::json::read_json;
 use crate::members::{array_member, num_member, string_member, text_member};
 use crate::push::{Mutation, Push};
+use crate::schema_versions::SchemaVersions;
 use rv_base::{Memory, Sequence};
 use rv_rows::Call;
 use serde_json::Value;
@@ -34,21 +35,13 @@ fn mutation_of(alloc: Global, value: &Value) -> Result<Mutation, WireFault>
     if !value.is_object() {
         return Err(WireFault::Field(FieldName::Mutations));
     }
-    let client = match text_member(alloc, value, "clientID") {
-        Ok(Some(client)) => client,
-        Ok(None) => return Err(WireFault::Field(FieldName::ClientId)),
-        Err(_) => return Err(WireFault::Memory),
-    };
-    let Some(id) = num_member(value, "id") else {
-        return Err(WireFault::Field(FieldName::Id));
-    };
-    let Some(name) = string_member(value, "name") else {
-        return Err(WireFault::Field(FieldName::Name));
-    };
-    match call_of_mutation(alloc, name, value) {
-        Ok(call) => Ok(Mutation { client, id, call }),
-        Err(Memory) => Err(WireFault::Memory),
-    }
+    let client = text_member(alloc, value, "clientID")?.ok_or(WireFault::Field(
+        FieldName::ClientId,
+    ))?;
+    let id = num_member(value, "id").ok_or(WireFault::Field(FieldName::Id))?;
+    let name = string_member(value, "name").ok_or(WireFault::Field(FieldName::Name))?;
+    let call = call_of_mutation(alloc, name, value)?;
+    Ok(Mutation { client, id, call })
 }
 
 fn mutations_of(alloc: Global, values: &[Value]) -> Result<Vec<Mutation>, WireFault>
@@ -68,15 +61,12 @@ fn mutations_of(alloc: Global, values: &[Value]) -> Result<Vec<Mutation>, WireFa
     Ok(mutations)
 }
 
-// The mutations of a body.
 #[tactic(auto, using(crate::proofs::Each::datas_views), unfolding(crate::specs::Bodies::mutations_in))]
 fn mutations_of_body(alloc: Global, value: &Value) -> Result<Vec<Mutation>, WireFault>
     ensures { GivesAll (λ v. v.items) result (mutations_in (view value.now)) }
 {
-    match array_member(value, "mutations") {
-        None => Err(WireFault::Field(FieldName::Mutations)),
-        Some(values) => mutations_of(alloc, values),
-    }
+    let values = array_member(value, "mutations").ok_or(WireFault::Field(FieldName::Mutations))?;
+    mutations_of(alloc, values)
 }
 
 /// The push that a value is, or the first thing that is wrong with it, in this order: no JSON object; `pushVersion` no
@@ -84,28 +74,30 @@ fn mutations_of_body(alloc: Global, value: &Value) -> Result<Vec<Mutation>, Wire
 /// `mutations` no array; then of each mutation in turn: no object, `clientID` no `Id`, `id` no `Num`, `name` no text.
 /// Other members are ignored, and arguments that are absent are null.
 #[tactic(auto, unfolding(crate::specs::Bodies::push_in))]
-pub fn push_of_value(alloc: Global, value: &Value, schemas: &Schemas) -> Result<Push, WireFault>
-    ensures { Gives result (push_in (is_served schemas.now) (view value.now)) }
+pub fn push_of_value<S: SchemaVersions>(
+    alloc: Global,
+    value: &Value,
+    schemas: &S,
+) -> Result<Push, WireFault>
+    ensures { Gives result (push_in (S.serves schemas.now) (view value.now)) }
 {
-    let group = match push_group(alloc, value, schemas) {
-        Ok(group) => group,
-        Err(fault) => return Err(fault),
-    };
-    match mutations_of_body(alloc, value) {
-        Ok(mutations) => Ok(Push {
-            group,
-            mutations: Sequence::from_vec(mutations),
-        }),
-        Err(fault) => Err(fault),
-    }
+    let kind = VersionKind::Push;
+    let group = group_of_value(alloc, value, kind, FieldName::PushVersion, schemas)?;
+    let mutations = mutations_of_body(alloc, value)?;
+    Ok(Push {
+        group,
+        mutations: Sequence::from_vec(mutations),
+    })
 }
 
 /// The push that a body's bytes are. Bytes that are not UTF-8, are no JSON or nest deeper than 127 are `NotJson`.
-pub fn read_push(alloc: Global, body: &[u8], schemas: &Schemas) -> Result<Push, WireFault>
-    ensures { Gives result (push_text (is_served schemas.now) body.now) }
+pub fn read_push<S: SchemaVersions>(
+    alloc: Global,
+    body: &[u8],
+    schemas: &S,
+) -> Result<Push, WireFault>
+    ensures { Gives result (push_body (S.serves schemas.now) body.now) }
 {
-    match json_of_body(alloc, body) {
-        Ok(value) => push_of_value(alloc, &value, schemas),
-        Err(fault) => Err(fault),
-    }
+    let value = read_json(alloc, body)?.ok_or(WireFault::NotJson)?;
+    push_of_value(alloc, &value, schemas)
 }

@@ -1,9 +1,9 @@
 ghost use Rattle.std.specs.Prelude.{◌≡◌, ◌≤◌, ◌+◌, ◌++◌, ◌<◌, length, take, decimal, codes};
 ghost use Rattle.serde_json.specs.Written.{compact_text};
-ghost use Rattle.rv_wire.specs.Errors.{field_text, version_text, which_text, error_data, error_status, fault_error};
+ghost use Rattle.rv_wire.specs.Errors.{which_text, error_data, error_status, fault_error};
 
 use crate::error_body::{ErrorBody, Which};
-use crate::fault::{FieldName, VersionKind, WireFault};
+use crate::fault::WireFault;
 use itoa::Buffer;
 
 // Copies a text into the buffer from a place on, and answers the place after it.
@@ -36,41 +36,6 @@ fn put_which(out: &mut [u8; 128], at: usize, which: Which) -> usize
     match which {
         Which::Book => put(out, at, b",\"error\":\"Limit\",\"which\":\"book\"}"),
         Which::Order => put(out, at, b",\"error\":\"Limit\",\"which\":\"order\"}"),
-    }
-}
-
-impl FieldName {
-    /// The member's name.
-    pub fn name(self) -> &'static str
-        ensures name { result.now ≡ field_text self }
-        ensures bound { length result.now ≤ 13 }
-    {
-        match self {
-            FieldName::PushVersion => "pushVersion",
-            FieldName::PullVersion => "pullVersion",
-            FieldName::SchemaVersion => "schemaVersion",
-            FieldName::ProfileId => "profileID",
-            FieldName::ClientGroupId => "clientGroupID",
-            FieldName::Mutations => "mutations",
-            FieldName::ClientId => "clientID",
-            FieldName::Id => "id",
-            FieldName::Name => "name",
-            FieldName::Cookie => "cookie",
-        }
-    }
-}
-
-impl VersionKind {
-    /// The name of what the version is of.
-    pub fn name(self) -> &'static str
-        ensures name { result.now ≡ version_text self }
-        ensures bound { length result.now ≤ 6 }
-    {
-        match self {
-            VersionKind::Push => "push",
-            VersionKind::Pull => "pull",
-            VersionKind::Schema => "schema",
-        }
     }
 }
 
