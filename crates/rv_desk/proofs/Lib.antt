@@ -1,15 +1,1 @@
-pub mod BaseLaws
-pub mod Based
-pub mod Difference
-pub mod GroupLaws
-pub mod KeptLaws
-pub mod KeptRecords
-pub mod LawfulBooks
-pub mod NewsLaws
-pub mod RecordLaws
-pub mod RecordTables
-pub mod Replays
-pub mod Shown
-pub mod Since
-pub mod Told
-pub mod Versions
+pub mod Entered

@@ -1,12 +1,3 @@
-pub mod Groups
-pub mod Replay
-pub mod Lawful
-pub mod Patches
-pub mod Machine
-pub mod Served
-pub mod Laws
-pub mod Shows
-pub mod History
-pub mod Bases
-pub mod Records
-pub mod News
+pub mod Standing
+pub mod Changes
+pub mod Falling

@@ -1,78 +1,39 @@
-ghost use Rattle.std.specs.Prelude.{◌≡◌, ◌≤◌, ◌<◌, ◌+◌, ◌^◌, ◌∷◌, [], ◌++◌, length, option_map, IfOk, OnOk, OnErr};
-ghost use Rattle.rv_desk.specs.Groups.{Admits};
-ghost use Rattle.rv_desk.specs.News.{IsBaseRecord, IsNews};
-ghost use Rattle.rv_book.specs.declared.entry.Entry.TheVariants.{Act, Look, Retire};
+ghost use Rattle.std.specs.Prelude.{◌≡◌, ◌≤◌, ◌<◌, ◌+◌, ◌∷◌, [], ◌++◌, length, IfOk, OnOk, OnErr};
+ghost use Rattle.rv_book.specs.Book.{last};
+ghost use Rattle.rv_history.specs.Groups.{Admits};
+ghost use Rattle.rv_book.specs.declared.entry.Entry.TheVariants.{Act, Retire};
 
-use crate::base::base_of;
-use crate::entries;
-use crate::groups::{is_elsewhere, is_of_other};
-use crate::news::{News, news_since, view_now};
-use crate::records::Records;
-use crate::reply::{next_order, reply, same_reply};
-use crate::turn::{PullAnswer, PullReply, RetireAnswer, Turn};
+use crate::state::State;
 use rv_base::{Id, Memory, Num, User};
-use rv_book::{Book, BookFault, Entry};
-use rv_mutators::stage;
+use rv_book::Book;
+use rv_history::{PullAnswer, PullReply, RetireAnswer, Turn, Turns, next_order};
+use rv_news::{Admission, Numbering, Records, admits, last_of};
 use rv_rows::{Call, Tables};
-use rv_views::ViewRecord;
 use rv_wire::{PullRequest, Which};
 use std::alloc::Global;
 use std::marker::Model;
 
-/// One sequential server in memory: its book, and beside it the tables, which are the book's replay, and the view records of
-/// the looks that the book keeps.
+/// One sequential server in memory. Each of its turns is a step of the machine: what is to be entered is prepared, and then
+/// entered.
 #[derive(Debug, Drop)]
 pub struct Desk {
-    book: Book,
-    tables: Tables,
-    records: Records,
+    state: State,
     alloc: Global,
 }
 
 impl Model for Desk {
-    ghost use Rattle.rv_desk.specs.Served.{Served};
-    ghost use Rattle.rv_desk.specs.Lawful.{IsLawful};
-    ghost use Rattle.rv_desk.specs.Replay.{IsReplay};
-    ghost use Rattle.rv_desk.specs.Records.{AreRecords};
+    ghost use Rattle.rv_history.specs.Served.{Served};
 
     ghost Value = { Served };
 
-    ghost view = { λ d. record { book = d.book.entries; limit = d.book.limit } };
-
-    ghost invariant = { λ d. IsLawful d.book.entries × IsReplay d.book.entries d.tables.rows × AreRecords d.book.entries d.records };
-}
-
-// Makes room for an entry.
-fn reserve(book: &mut Book, entry: &Entry) -> Result<(), Memory>
-    requires { length book.old.entries < book.old.limit }
-    ensures room { OnOk result (1 ≤ book.new.room) }
-    ensures entries { book.new.entries ≡ book.old.entries }
-    ensures limit { book.new.limit ≡ book.old.limit }
-{
-    match book.reserve(entry) {
-        Ok(()) => Ok(()),
-        Err(BookFault::Memory) => Err(Memory),
-        Err(BookFault::Full) => unreachable!(),
-    }
-}
-
-// Enters an entry in the book.
-fn enter(book: &mut Book, entry: Entry) -> Result<(), Memory>
-    requires { length book.old.entries < book.old.limit }
-    ensures ok { OnOk result (book.new.entries ≡ book.old.entries ++ entry ∷ []) }
-    ensures err { OnErr result (book.new.entries ≡ book.old.entries) }
-    ensures limit { book.new.limit ≡ book.old.limit }
-{
-    reserve(book, &entry)?;
-    book.push_entry(entry);
-    Ok(())
+    ghost view = { λ d. record { book = d.state.book; limit = d.state.limit } };
 }
 
 impl Desk {
-    ghost use Rattle.rv_desk.specs.Lawful.{IsLawful, IsLawfulAfter};
-    ghost use Rattle.rv_desk.specs.Replay.{IsReplay};
-    ghost use Rattle.rv_desk.specs.Bases.{base_of};
-    ghost use Rattle.rv_desk.specs.Machine.{Mutates, Pulls, Retires, next_order, reply_to};
+    ghost use Rattle.rv_history.specs.Lawful.{IsLawful, IsLawfulAfter};
+    ghost use Rattle.rv_history.specs.Replay.{IsReplay};
+    ghost use Rattle.rv_history.specs.Machine.{Mutates, Pulls, Retires, Takes};
+    ghost use Rattle.rv_news.specs.Records.{AreRecords};
 
     /// A desk with the empty book, which takes at most so many entries.
     pub fn new(alloc: Global, limit: u32) -> Desk
@@ -80,9 +41,7 @@ impl Desk {
         ensures limit { result.limit ≡ limit }
     {
         Desk {
-            book: Book::new(alloc, limit),
-            tables: Tables::new(alloc),
-            records: Records::new(alloc),
+            state: State::new(alloc, limit),
             alloc,
         }
     }
@@ -93,14 +52,21 @@ impl Desk {
         ensures limit { result.now.limit ≡ self.now.limit }
         ensures lawful { IsLawful self.now.book }
     {
-        &self.book
+        self.state.book()
     }
 
     /// The rows that the book leaves, each with the place of its last write. Takes no memory.
     pub fn tables(&self) -> &Tables
         ensures { IsReplay self.now.book result.now.rows }
     {
-        &self.tables
+        self.state.tables()
+    }
+
+    /// The view records of the looks that the book keeps. Takes no memory.
+    pub fn records(&self) -> &Records
+        ensures { AreRecords self.now.book result.now.records }
+    {
+        self.state.records()
     }
 
     /// One mutation of a client. Takes no memory unless it is run, and after every refusal all is as before.
@@ -108,16 +74,43 @@ impl Desk {
         ensures turn { Mutates self.old.limit (record { user = user.now; group = group.now }) (record { client = client.now; id = id; call = call }) self.old.book result self.new.book }
         ensures limit { self.new.limit ≡ self.old.limit }
     {
-        if is_of_other(&self.book, user, group) {
-            return Turn::GroupOfOther;
+        match admits(self.state.book(), user, group) {
+            Admission::OfOther => Turn::GroupOfOther,
+            Admission::Retired => Turn::NotFound,
+            Admission::Open => self.mutate_admitted(user, group, client, id, call),
         }
-        if self.book.retired(group) {
-            return Turn::NotFound;
+    }
+
+    // A mutation of a group that its user may use.
+    fn mutate_admitted(&mut self, user: &User, group: &Id, client: &Id, id: Num, call: Call) -> Turn
+        requires { Admits user.now group.now self.old.book }
+        ensures turn { Mutates self.old.limit (record { user = user.now; group = group.now }) (record { client = client.now; id = id; call = call }) self.old.book result self.new.book }
+        ensures limit { self.new.limit ≡ self.old.limit }
+    {
+        match last_of(self.state.book(), client, group) {
+            Numbering::Elsewhere => Turn::ClientOfOther,
+            Numbering::Last(last) => self.mutate_after(user, group, client, id, call, last),
         }
-        if is_elsewhere(&self.book, client, group) {
-            return Turn::ClientOfOther;
-        }
-        let last = self.book.last(client).get();
+    }
+
+    // A mutation of a client of the group, after its last one.
+    fn mutate_after(
+        &mut self,
+        user: &User,
+        group: &Id,
+        client: &Id,
+        id: Num,
+        call: Call,
+        previous: Num,
+    ) -> Turn
+        requires takes { Takes (record { user = user.now; group = group.now }) client.now self.old.book }
+        requires previous { previous ≡ last client.now self.old.book }
+        requires below { previous ≤ length self.old.book }
+        ensures turn { Mutates self.old.limit (record { user = user.now; group = group.now }) (record { client = client.now; id = id; call = call }) self.old.book result self.new.book }
+        ensures limit { self.new.limit ≡ self.old.limit }
+    {
+        let book = self.state.book();
+        let last = previous.get();
         if id.get() <= last {
             return Turn::Skipped(Num::from_u64(last));
         }
@@ -127,8 +120,8 @@ impl Desk {
                 got: id,
             };
         }
-        if self.book.is_full() {
-            return Turn::Limit(Which::Book, Num::from_u64(u64::from(self.book.len())));
+        if book.is_full() {
+            return Turn::Limit(Which::Book, Num::from_u64(u64::from(book.len())));
         }
         match self.act(user, group, client, id, call) {
             Ok(place) => Turn::Acted(place),
@@ -136,7 +129,7 @@ impl Desk {
         }
     }
 
-    // Enters an act, and writes what it stages.
+    // Enters an act.
     fn act(
         &mut self,
         user: &User,
@@ -152,11 +145,9 @@ impl Desk {
         ensures err { OnErr result (self.new.book ≡ self.old.book) }
         ensures limit { self.new.limit ≡ self.old.limit }
     {
-        let place = self.book.len() + 1;
-        let staged = stage(self.alloc, &mut self.tables, user, &call)?;
-        let entry = entries::act(self.alloc, user, group, client, id, call)?;
-        enter(&mut self.book, entry)?;
-        staged.apply(&mut self.tables, place);
+        let place = self.state.book().len() + 1;
+        let prepared = self.state.prepare_act(user, group, client, id, call)?;
+        self.state.enter(prepared);
         Ok(place)
     }
 
@@ -165,12 +156,19 @@ impl Desk {
         ensures answer { Pulls self.old.limit user.now request.now self.old.book result self.new.book }
         ensures limit { self.new.limit ≡ self.old.limit }
     {
-        if is_of_other(&self.book, user, &request.group) {
-            return PullAnswer::GroupOfOther;
+        match admits(self.state.book(), user, &request.group) {
+            Admission::OfOther => PullAnswer::GroupOfOther,
+            Admission::Retired => PullAnswer::NotFound,
+            Admission::Open => self.pull_admitted(user, request),
         }
-        if self.book.retired(&request.group) {
-            return PullAnswer::NotFound;
-        }
+    }
+
+    // A pull of a group that its user may use.
+    fn pull_admitted(&mut self, user: &User, request: &PullRequest) -> PullAnswer
+        requires { Admits user.now request.now.group self.old.book }
+        ensures answer { Pulls self.old.limit user.now request.now self.old.book result self.new.book }
+        ensures limit { self.new.limit ≡ self.old.limit }
+    {
         match self.answer(user, request) {
             Ok(answer) => answer,
             Err(Memory) => PullAnswer::Memory,
@@ -184,72 +182,22 @@ impl Desk {
         ensures err { OnErr result (self.new.book ≡ self.old.book) }
         ensures limit { self.new.limit ≡ self.old.limit }
     {
-        let news = self.news(user, request)?;
+        let news = self.state.news(user, request)?;
         if news.is_empty() {
-            return Ok(PullAnswer::Pulled(same_reply(self.alloc, request)?));
+            return Ok(PullAnswer::Pulled(PullReply::of_request(self.alloc, request)?));
         }
-        let order = next_order(&request.cookie, self.book.last_order(&request.group));
+        let book = self.state.book();
+        let order = next_order(&request.cookie, book.last_order(&request.group));
         if order > Num::MAX {
             return Ok(PullAnswer::Limit(Which::Order, Num::from_u64(Num::MAX)));
         }
-        if self.book.is_full() {
-            return Ok(PullAnswer::Limit(Which::Book, Num::from_u64(u64::from(self.book.len()))));
+        if book.is_full() {
+            return Ok(PullAnswer::Limit(Which::Book, Num::from_u64(u64::from(book.len()))));
         }
-        let reply = self.look(user, request, Num::from_u64(order), news)?;
+        let order = Num::from_u64(order);
+        let (reply, prepared) = self.state.prepare_look(user, request, order, news)?;
+        self.state.enter(prepared);
         Ok(PullAnswer::Pulled(reply))
-    }
-
-    // What a pull is told.
-    fn news(&self, user: &User, request: &PullRequest) -> Result<News, Memory>
-        ensures { IfOk result (λ news. IsNews self.now.book user.now request.now news) }
-    {
-        let base = base_of(&self.book, user, &request.cookie);
-        let view = view_now(self.alloc, &self.book, &self.tables, user, &request.group)?;
-        news_since(self.alloc, &self.tables, base, self.base_record(base), view)
-    }
-
-    // The record of a base.
-    fn base_record(&self, base: Option<u32>) -> Option<&ViewRecord>
-        ensures { IsBaseRecord self.now.book base (option_map (λ r. r.now) result) }
-    {
-        let place = base?;
-        match self.book.look(place) {
-            Some(look) => self.records.get(look.group, place),
-            None => None,
-        }
-    }
-
-    // Makes the reply, and then enters the look with its record. The records that are not kept any more go.
-    fn look(
-        &mut self,
-        user: &User,
-        request: &PullRequest,
-        order: Num,
-        news: News,
-    ) -> Result<PullReply, Memory>
-        requires room { length self.old.book < self.old.limit }
-        requires order { order ≡ next_order request.now self.old.book }
-        requires news { IsNews self.old.book user.now request.now news }
-        requires lawful { IsLawfulAfter self.old.book (Look user.now request.now.group order news.base) }
-        ensures reply { IfOk result (λ reply. reply ≡ reply_to user.now request.now self.old.book) }
-        ensures ok { OnOk result (self.new.book ≡ self.old.book ++ Look user.now request.now.group order (base_of user.now request.now.cookie self.old.book) ∷ []) }
-        ensures err { OnErr result (self.new.book ≡ self.old.book) }
-        ensures limit { self.new.limit ≡ self.old.limit }
-    {
-        let News {
-            base,
-            view,
-            ops,
-            ids,
-        } = news;
-        let place = self.book.len() + 1;
-        let reply = reply(self.alloc, place, order, ids, ops)?;
-        let entry = entries::look(self.alloc, user, &request.group, order, base)?;
-        reserve(&mut self.book, &entry)?;
-        self.records.add(&request.group, place, view)?;
-        self.book.push_entry(entry);
-        self.records.keep(&request.group, &self.book);
-        Ok(reply)
     }
 
     /// Retires a client group, for good. A refusal leaves all as it was.
@@ -257,14 +205,15 @@ impl Desk {
         ensures answer { Retires self.old.limit group.now self.old.book result self.new.book }
         ensures limit { self.new.limit ≡ self.old.limit }
     {
-        if self.book.bound(group).is_none() {
+        let book = self.state.book();
+        if book.bound(group).is_none() {
             return RetireAnswer::NoGroup;
         }
-        if self.book.retired(group) {
+        if book.retired(group) {
             return RetireAnswer::NotFound;
         }
-        if self.book.is_full() {
-            return RetireAnswer::Limit(Which::Book, Num::from_u64(u64::from(self.book.len())));
+        if book.is_full() {
+            return RetireAnswer::Limit(Which::Book, Num::from_u64(u64::from(book.len())));
         }
         match self.enter_retirement(group) {
             Ok(place) => RetireAnswer::Retired(place),
@@ -272,7 +221,7 @@ impl Desk {
         }
     }
 
-    // Enters a retirement. The group's records go.
+    // Enters a retirement.
     fn enter_retirement(&mut self, group: &Id) -> Result<u32, Memory>
         requires room { length self.old.book < self.old.limit }
         requires lawful { IsLawfulAfter self.old.book (Retire group.now) }
@@ -281,10 +230,31 @@ impl Desk {
         ensures err { OnErr result (self.new.book ≡ self.old.book) }
         ensures limit { self.new.limit ≡ self.old.limit }
     {
-        let place = self.book.len() + 1;
-        let entry = entries::retirement(self.alloc, group)?;
-        enter(&mut self.book, entry)?;
-        self.records.forget(group);
+        let place = self.state.book().len() + 1;
+        let prepared = self.state.prepare_retirement(group)?;
+        self.state.enter(prepared);
         Ok(place)
+    }
+}
+
+impl Turns for Desk {
+    ghost use Rattle.rv_history.specs.Served.{ServedMutates, ServedPulls, ServedRetires};
+
+    ghost mutates = { ServedMutates };
+
+    ghost pulls = { ServedPulls };
+
+    ghost retires = { ServedRetires };
+
+    fn mutate(&mut self, user: &User, group: &Id, client: &Id, id: Num, call: Call) -> Turn {
+        Desk::mutate(self, user, group, client, id, call)
+    }
+
+    fn pull(&mut self, user: &User, request: &PullRequest) -> PullAnswer {
+        Desk::pull(self, user, request)
+    }
+
+    fn retire(&mut self, group: &Id) -> RetireAnswer {
+        Desk::retire(self, group)
     }
 }

@@ -1,22 +1,14 @@
-//! The server in memory: a book of entries, and the tables that are its replay.
+//! The server in memory: a book of entries, and the tables and view records that are its replay.
 //!
-//! Each call is one step of the machine that `specs/` defines over plain lists (`Machine.antt`): the book alone says
-//! what a call is answered. [`plain`] computes those definitions slowly, apart from the desk.
+//! [`State`] is the state of one server: an entry is prepared, which takes memory, and then entered, which can't fail. Each
+//! call of [`Desk`] is one step of the machine that `rv_history` defines over plain lists: the book alone says what a call is
+//! answered.
 #![tactic(auto)]
 
-mod base;
 mod desk;
-mod entries;
-mod groups;
-pub mod laws;
-mod news;
-pub mod plain;
-mod records;
-mod reply;
-mod turn;
+mod prepared;
+mod state;
 
 pub use desk::Desk;
-pub use turn::{PullAnswer, PullReply, RetireAnswer, Turn};
-
-#[cfg(test)]
-mod tests;
+pub use prepared::{Change, Prepared};
+pub use state::State;

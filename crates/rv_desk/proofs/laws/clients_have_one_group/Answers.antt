@@ -1,5 +1,0 @@
-use Rattle.rv_desk.proofs.GroupLaws.{clients_have_one_group}
-use Rattle.rv_desk.proofs.laws.clients_have_one_group.Goals as goal
-
-pub returns : goal.returns
-returns c = clients_have_one_group

@@ -1,5 +1,0 @@
-use Rattle.rv_desk.proofs.GroupLaws.{retired_groups_rest}
-use Rattle.rv_desk.proofs.laws.retired_groups_rest.Goals as goal
-
-pub returns : goal.returns
-returns c = retired_groups_rest

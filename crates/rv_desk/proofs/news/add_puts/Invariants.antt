@@ -1,7 +1,0 @@
-use Rattle.std.proofs.Common.{◌≡◌, ◌++◌, take}
-use Rattle.std.specs.List.{filter_map}
-use Rattle.rv_desk.specs.Shows.{put_of}
-use Rattle.rv_desk.proofs.news.add_puts.Given as goal
-
-abbrev pub invariant-loop-key : goal.invariant-loop-key
-invariant-loop-key l = l.ops ≡ l.fn.ops ++ filter_map (put_of l.tables.rows) (take l.key-index l.keys)

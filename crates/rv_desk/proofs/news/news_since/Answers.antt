@@ -1,4 +1,0 @@
-use Rattle.rv_desk.proofs.news.news_since.Goals as goal
-
-pub returns-clause-order : goal.returns-clause-order
-returns-clause-order c = c.in_ok-clear.ensures.arranged.ids

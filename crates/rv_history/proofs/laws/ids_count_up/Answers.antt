@@ -1,0 +1,5 @@
+use Rattle.rv_history.specs.LawfulBooks.{ids_count_up}
+use Rattle.rv_history.proofs.laws.ids_count_up.Goals as goal
+
+pub returns : goal.returns
+returns c = ids_count_up

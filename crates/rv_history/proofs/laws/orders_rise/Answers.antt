@@ -1,0 +1,5 @@
+use Rattle.rv_history.specs.LawfulBooks.{orders_rise}
+use Rattle.rv_history.proofs.laws.orders_rise.Goals as goal
+
+pub returns : goal.returns
+returns c = orders_rise

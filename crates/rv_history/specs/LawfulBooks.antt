@@ -1,0 +1,153 @@
+-- Lawful books, entry by entry.
+use Rattle.std.proofs.Common.{◌≡◌, ℕ, zero, suc, ◌+◌, ◌<◌, ◌≤◌, Bool, true, false, cond, List, [], ◌∷◌, ◌++◌, length, get_or, Some, None, refl, sym, ap, ◌∙◌, subst, arith, append_assoc, append-nil, add-zero, inl, inr, ◌⊎◌}
+use Rattle.std.specs.List.{cons_option, range_with_len}
+use Rattle.std.specs.List.Sorted.{IsStrictlyIncreasing}
+use Rattle.std.specs.Str.{bytes_eq}
+use Rattle.std.proofs.lemmas.List.Sums.{fold_push, sum_by-append, sum_by-cons}
+use Rattle.std.proofs.lemmas.Slice.Eq.{bytes_eq-Decides}
+use Rattle.rv_book.specs.declared.entry.Entry.{Entry}
+use Rattle.rv_book.specs.declared.entry.Entry.TheVariants.{Act, Look, Retire}
+use Rattle.rv_book.specs.Book.{Book, is_act_of, last, order_after, last_order}
+use Rattle.rv_history.specs.Lawful.{IsLawfulAfter, IsLawful}
+use Rattle.rv_history.specs.Laws.{act_ids, look_orders}
+
+pub lawful_none : IsLawful []
+lawful_none [] after entry e = absurd (cc)
+lawful_none (b ∷ before) after entry e = absurd (cc)
+
+-- where the one entry more stands in a split of the longer book
+last_split : (book before after : Book) (e entry : Entry) → book ++ e ∷ [] ≡ before ++ entry ∷ after
+    → ((book ≡ before) × (e ≡ entry)) ⊎ ((more : Book) × (book ≡ before ++ entry ∷ more))
+last_split [] [] after e entry h = inl (refl, cc)
+last_split [] (b ∷ []) after e entry h = absurd (cc)
+last_split [] (b ∷ c ∷ before) after e entry h = absurd (cc)
+last_split (x ∷ book) [] after e entry h = let same : x ≡ entry = cc in inr (book, ap (λ (y : Entry). y ∷ book) same)
+last_split (x ∷ book) (b ∷ before) after e entry h =
+    let same : x ≡ b = cc in
+    let rest : book ++ e ∷ [] ≡ before ++ entry ∷ after = cc in
+    elim (last_split book before after e entry rest) as (λ _. ((x ∷ book ≡ b ∷ before) × (e ≡ entry)) ⊎ ((more : Book) × (x ∷ book ≡ b ∷ (before ++ entry ∷ more)))) [
+      | inl here ↦ inl ((λ i. same i ∷ here.0 i), here.1)
+      | inr there ↦ inr (there.0, (λ i. same i ∷ there.1 i))
+    ]
+
+pub lawful_more : (book : Book) (e : Entry) → IsLawful book → IsLawfulAfter book e → IsLawful (book ++ e ∷ [])
+lawful_more book e lawful next before after entry h =
+    elim (last_split book before after e entry h) as (λ _. IsLawfulAfter before entry) [
+      | inl here ↦ (let b : IsLawfulAfter before e = subst (λ (x : Book). IsLawfulAfter x e) here.0 next in subst (λ (x : Entry). IsLawfulAfter before x) here.1 b)
+      | inr there ↦ lawful before there.0 entry there.1
+    ]
+
+-- the front of a lawful book is lawful
+pub lawful_front : (book more : Book) → IsLawful (book ++ more) → IsLawful book
+lawful_front book more lawful = λ before after entry h.
+    lawful before (after ++ more) entry (ap (λ (b : Book). b ++ more) h ∙ append_assoc before (entry ∷ after) more)
+
+-- an entry, and what comes after it
+pub here : (before rest : Book) (e : Entry) → IsLawful (before ++ e ∷ rest) → IsLawfulAfter before e
+here before rest e lawful = lawful before rest e refl
+
+pub onward : (before rest : Book) (e : Entry) → IsLawful (before ++ e ∷ rest) → IsLawful ((before ++ e ∷ []) ++ rest)
+onward before rest e lawful = subst (λ (b : Book). IsLawful b) (sym (append_assoc before (e ∷ []) rest)) lawful
+
+abbrev pub one : (client : List ℕ) (e : Entry) → ℕ
+one client e = cond (is_act_of client e) 1 0
+
+pub last_push : (client : List ℕ) (before : Book) (e : Entry) → last client (before ++ e ∷ []) ≡ last client before + one client e
+last_push client before e = sum_by-append (λ (x : Entry). cond (is_act_of client x) 1 0) before (e ∷ []) ∙ ap (λ (n : ℕ). last client before + n) (sum_by-cons (λ (x : Entry). cond (is_act_of client x) 1 0) e [] ∙ add-zero _)
+
+pub last_cons : (client : List ℕ) (rest : Book) (e : Entry) → last client (e ∷ rest) ≡ one client e + last client rest
+last_cons client rest e = sum_by-cons (λ (x : Entry). cond (is_act_of client x) 1 0) e rest
+
+-- the ids of the acts that are still to come
+ids_from : (client : List ℕ) (before rest : Book) → IsLawful (before ++ rest) → act_ids client rest ≡ range_with_len (last client before + 1) (last client rest)
+ids_from client before [] lawful = refl
+ids_from client before (Act user group actor id call ∷ rest) lawful =
+    let e : Entry = Act user group actor id call in
+    let next = ids_from client (before ++ e ∷ []) rest (onward before rest e lawful) in
+    let mine : id ≡ last actor before + 1 = (here before rest e lawful).2 in
+    elim (bytes_eq actor client) as (λ b. bytes_eq actor client ≡ b → cons_option (cond b (Some id) None) (act_ids client rest) ≡ range_with_len (last client before + 1) (last client (e ∷ rest))) [
+      | true ↦ λ same.
+          let is : actor ≡ client = (bytes_eq-Decides actor client).0 same in
+          let first : id ≡ last client before + 1 = mine ∙ ap (λ (c : List ℕ). last c before + 1) is in
+          let count : last client (e ∷ rest) ≡ suc (last client rest) = last_cons client rest e ∙ ap (λ (b : Bool). cond b 1 0 + last client rest) same ∙ omega arith in
+          let grown : last client (before ++ e ∷ []) ≡ last client before + 1 = last_push client before e ∙ ap (λ (b : Bool). last client before + cond b 1 0) same in
+          rw count ((λ i. first i ∷ next i) ∙ ap (λ (n : ℕ). (last client before + 1) ∷ range_with_len (n + 1) (last client rest)) grown)
+      | false ↦ λ other.
+          let count : last client (e ∷ rest) ≡ last client rest = last_cons client rest e ∙ ap (λ (b : Bool). cond b 1 0 + last client rest) other ∙ omega arith in
+          let grown : last client (before ++ e ∷ []) ≡ last client before = last_push client before e ∙ ap (λ (b : Bool). last client before + cond b 1 0) other ∙ omega arith in
+          rw count (next ∙ ap (λ (n : ℕ). range_with_len (n + 1) (last client rest)) grown)
+    ] refl
+ids_from client before (Look user group order base ∷ rest) lawful =
+    let e : Entry = Look user group order base in
+    let next = ids_from client (before ++ e ∷ []) rest (onward before rest e lawful) in
+    let count : last client (e ∷ rest) ≡ last client rest = last_cons client rest e ∙ omega arith in
+    let grown : last client (before ++ e ∷ []) ≡ last client before = last_push client before e ∙ omega arith in
+    rw count (next ∙ ap (λ (n : ℕ). range_with_len (n + 1) (last client rest)) grown)
+ids_from client before (Retire group ∷ rest) lawful =
+    let e : Entry = Retire group in
+    let next = ids_from client (before ++ e ∷ []) rest (onward before rest e lawful) in
+    let count : last client (e ∷ rest) ≡ last client rest = last_cons client rest e ∙ omega arith in
+    let grown : last client (before ++ e ∷ []) ≡ last client before = last_push client before e ∙ omega arith in
+    rw count (next ∙ ap (λ (n : ℕ). range_with_len (n + 1) (last client rest)) grown)
+
+pub ids_count_up : (book : Book) (client : List ℕ) → IsLawful book → act_ids client book ≡ range_with_len 1 (last client book)
+ids_count_up book client lawful = ids_from client [] book lawful
+
+-- each number is above the one before it
+abbrev Climbs : ℕ → List ℕ → Type 0
+Climbs low [] = Unit {0}
+Climbs low (x ∷ xs) = (low < x) × Climbs x xs
+
+climbs : (group : List ℕ) (before rest : Book) → IsLawful (before ++ rest) → Climbs (last_order group before) (look_orders group rest)
+climbs group before [] lawful = tt
+climbs group before (Act user other client id call ∷ rest) lawful =
+    let e : Entry = Act user other client id call in
+    subst (λ (n : ℕ). Climbs n (look_orders group rest)) (fold_push (order_after group) 0 before e) (climbs group (before ++ e ∷ []) rest (onward before rest e lawful))
+climbs group before (Look user other order base ∷ rest) lawful =
+    let e : Entry = Look user other order base in
+    let next : Climbs (order_after group (last_order group before) e) (look_orders group rest) =
+    subst (λ (n : ℕ). Climbs n (look_orders group rest)) (fold_push (order_after group) 0 before e) (climbs group (before ++ e ∷ []) rest (onward before rest e lawful)) in
+    let mine : last_order other before < order = (here before rest e lawful).1 in
+    elim (bytes_eq other group) as (λ b. bytes_eq other group ≡ b → Climbs (cond b order (last_order group before)) (look_orders group rest) → Climbs (last_order group before) (cons_option (cond b (Some order) None) (look_orders group rest))) [
+      | true ↦ λ same next. (subst (λ (g : List ℕ). last_order g before < order) ((bytes_eq-Decides other group).0 same) mine, next)
+      | false ↦ λ different next. next
+    ] refl next
+climbs group before (Retire other ∷ rest) lawful =
+    let e : Entry = Retire other in
+    subst (λ (n : ℕ). Climbs n (look_orders group rest)) (fold_push (order_after group) 0 before e) (climbs group (before ++ e ∷ []) rest (onward before rest e lawful))
+
+step_up : (low : ℕ) (xs : List ℕ) → Climbs low xs → (k : ℕ) → suc k < length xs → get_or xs k 0 < get_or xs (suc k) 0
+step_up low [] c k lt = absurd (omega arith)
+step_up low (x ∷ []) c k lt = absurd (omega arith)
+step_up low (x ∷ y ∷ ys) c zero lt = c.1.0
+step_up low (x ∷ y ∷ ys) c (suc k) lt = step_up x (y ∷ ys) c.1 k (omega arith)
+
+pub orders_rise : (book : Book) (group : List ℕ) → IsLawful book → IsStrictlyIncreasing (look_orders group book)
+orders_rise book group lawful = λ k lt.
+    let orders : List ℕ = look_orders group book in
+    let n : suc k ≡ k + 1 = omega arith in
+    subst (λ (m : ℕ). get_or orders k 0 < get_or orders m 0) n (step_up 0 orders (climbs group [] book lawful) k (omega (arith, lt)))
+
+order_step : (group : List ℕ) (before : Book) (e : Entry) → IsLawfulAfter before e → last_order group before ≤ order_after group (last_order group before) e
+order_step group before (Act user other client id call) next = omega arith
+order_step group before (Look user other order base) next =
+    let mine : last_order other before < order = next.1 in
+    elim (bytes_eq other group) as (λ b. bytes_eq other group ≡ b → last_order group before ≤ cond b order (last_order group before)) [
+      | true ↦ λ same. (let up : last_order group before < order = subst (λ (g : List ℕ). last_order g before < order) ((bytes_eq-Decides other group).0 same) mine in omega arith)
+      | false ↦ λ different. omega arith
+    ] refl
+order_step group before (Retire other) next = omega arith
+
+-- a group's last order never falls
+pub orders_stay : (group : List ℕ) (before rest : Book) → IsLawful (before ++ rest) → last_order group before ≤ last_order group (before ++ rest)
+orders_stay group before [] lawful = rw append-nil (omega arith)
+orders_stay group before (e ∷ rest) lawful =
+    let next : last_order group before ≤ order_after group (last_order group before) e = order_step group before e (here before rest e lawful) in
+    let push : last_order group (before ++ e ∷ []) ≡ order_after group (last_order group before) e = fold_push (order_after group) 0 before e in
+    let more : last_order group (before ++ e ∷ []) ≤ last_order group ((before ++ e ∷ []) ++ rest) = orders_stay group (before ++ e ∷ []) rest (onward before rest e lawful) in
+    let joined : last_order group ((before ++ e ∷ []) ++ rest) ≡ last_order group (before ++ e ∷ rest) = ap (last_order group) (append_assoc before (e ∷ []) rest) in
+    omega arith
+
+-- a client's last id after more entries
+pub last_append : (client : List ℕ) (before more : Book) → last client (before ++ more) ≡ last client before + last client more
+last_append client before more = sum_by-append (λ (x : Entry). cond (is_act_of client x) 1 0) before more

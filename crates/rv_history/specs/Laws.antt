@@ -1,0 +1,144 @@
+-- What follows from the machine, for every book that it makes.
+use Rattle.std.specs.Prelude.{◌≡◌, ℕ, ◌<◌, ◌≤◌, ◌⊎◌, Bool, true, false, List, [], ◌∷◌, ◌++◌, take, Option, Some, None, Contains, option_and_then, if◌then◌else◌}
+use Rattle.std.specs.List.{filter_map, list_any, range_with_len}
+use Rattle.std.specs.Option.{option_map_or}
+use Rattle.std.specs.List.Sorted.{IsStrictlyIncreasing}
+use Rattle.std.specs.Str.{bytes_eq}
+use Rattle.serde_json.specs.Written.{compact_text}
+use Rattle.rv_wire.specs.Answers.{pull_data}
+use Rattle.rv_wire.specs.declared.op.Op.{Op}
+use Rattle.rv_wire.specs.declared.op.Op.TheVariants.{Clear, Del, Put}
+use Rattle.rv_wire.specs.declared.error_body.ErrorBody.{ErrorBody}
+use Rattle.rv_wire.specs.declared.push.Mutation.{Mutation}
+use Rattle.rv_wire.specs.declared.pull.PullRequest.{PullRequest}
+use Rattle.rv_book.specs.declared.entry.Entry.{Entry}
+use Rattle.rv_book.specs.declared.entry.Entry.TheVariants.{Act, Look, Retire}
+use Rattle.rv_history.specs.declared.pull_answer.PullAnswer.{PullAnswer}
+use Rattle.rv_history.specs.declared.pull_answer.PullAnswer.TheVariants.{Pulled}
+use Rattle.rv_history.specs.declared.pull_reply.PullReply.{PullReply}
+use Rattle.rv_history.specs.declared.retire_answer.RetireAnswer.{RetireAnswer}
+use Rattle.rv_book.specs.Book.{Book, bound, group_of, last, last_order, ids}
+use Rattle.rv_history.specs.Bases.{base_of, base_group}
+use Rattle.rv_history.specs.Lawful.{IsLawful}
+use Rattle.rv_history.specs.Patches.{ClientView, client_view, apply}
+use Rattle.rv_history.specs.History.{patch_since}
+use Rattle.rv_history.specs.Machine.{Sender, Pulls, Retires, Pushes, cookie_order}
+use Rattle.rv_history.specs.Served.{Served, ServedMutates}
+
+abbrev pub act_id : List ℕ → Entry → Option ℕ
+act_id client (Act user group actor id call) = if bytes_eq actor client then Some id else None
+act_id client (Look user group order base) = None
+act_id client (Retire group) = None
+
+-- the ids of a client's acts, in the order of the book
+abbrev pub act_ids : List ℕ → Book → List ℕ
+act_ids client book = filter_map (act_id client) book
+
+abbrev pub look_order : List ℕ → Entry → Option ℕ
+look_order group (Act user other client id call) = None
+look_order group (Look user other order base) = if bytes_eq other group then Some order else None
+look_order group (Retire other) = None
+
+-- the orders of a group's looks, in the order of the book
+abbrev pub look_orders : List ℕ → Book → List ℕ
+look_orders group book = filter_map (look_order group) book
+
+-- Each client's acts have the ids 1, 2, 3 and so on.
+abbrev pub IdsCountUp : Type 0
+IdsCountUp = (book : Book) (client : List ℕ) → IsLawful book → act_ids client book ≡ range_with_len 1 (last client book)
+
+-- The orders of each group's looks rise.
+abbrev pub OrdersRise : Type 0
+OrdersRise = (book : Book) (group : List ℕ) → IsLawful book → IsStrictlyIncreasing (look_orders group book)
+
+-- the entry names the group, as an act, a look or a retirement
+abbrev pub is_of_group : List ℕ → Entry → Bool
+is_of_group group (Act user other client id call) = bytes_eq other group
+is_of_group group (Look user other order base) = bytes_eq other group
+is_of_group group (Retire other) = bytes_eq other group
+
+-- the user of an act or a look that names the group
+abbrev pub user_in : List ℕ → Entry → Option (List ℕ)
+user_in group (Act user other client id call) = if bytes_eq other group then Some user else None
+user_in group (Look user other order base) = if bytes_eq other group then Some user else None
+user_in group (Retire other) = None
+
+-- the group of an act of the client
+abbrev pub group_in : List ℕ → Entry → Option (List ℕ)
+group_in client (Act user group actor id call) = if bytes_eq actor client then Some group else None
+group_in client (Look user group order base) = None
+group_in client (Retire group) = None
+
+-- No group has two users: each act and each look of a group is by the user whom the group is bound to.
+abbrev pub GroupsHaveOneUser : Type 0
+GroupsHaveOneUser = (book : Book) (group user : List ℕ) (entry : Entry) → IsLawful book → Contains book entry → user_in group entry ≡ Some user → bound group book ≡ Some user
+
+-- No client has two groups: each of its acts is of the group of its first.
+abbrev pub ClientsHaveOneGroup : Type 0
+ClientsHaveOneGroup = (book : Book) (client group : List ℕ) (entry : Entry) → IsLawful book → Contains book entry → group_in client entry ≡ Some group → group_of client book ≡ Some group
+
+-- Nothing of a group follows its retirement.
+abbrev pub RetiredGroupsRest : Type 0
+RetiredGroupsRest = (book before after : Book) (group : List ℕ) (entry : Entry) → IsLawful book → book ≡ before ++ Retire group ∷ after → Contains after entry → is_of_group group entry ≡ false
+
+-- No entry stands twice.
+abbrev pub EntriesStandOnce : Type 0
+EntriesStandOnce = (book before between after : Book) (entry : Entry) → IsLawful book → book ≡ before ++ entry ∷ (between ++ entry ∷ after) → ⊥
+
+-- A push of a desk keeps its book lawful, only adds to it, and leaves its limit.
+abbrev pub PushesKeepLaw : Type 0
+PushesKeepLaw = (from : Sender) (mutations : List Mutation) (old new : Served) (answer : Option ErrorBody) → Pushes ServedMutates from mutations old answer new → IsLawful old.book → IsLawful new.book × ((more : Book) × (new.book ≡ old.book ++ more)) × (new.limit ≡ old.limit)
+
+-- So does a pull.
+abbrev pub PullsKeepLaw : Type 0
+PullsKeepLaw = (limit : ℕ) (user : List ℕ) (request : PullRequest) (book new : Book) (answer : PullAnswer) → Pulls limit user request book answer new → IsLawful book → IsLawful new × ((more : Book) × (new ≡ book ++ more))
+
+-- So does a retirement.
+abbrev pub RetirementsKeepLaw : Type 0
+RetirementsKeepLaw = (limit : ℕ) (group : List ℕ) (book new : Book) (answer : RetireAnswer) → Retires limit group book answer new → IsLawful book → IsLawful new × ((more : Book) × (new ≡ book ++ more))
+
+-- A patch shows what the user sees: since any place, and so since each kept look of the user, it makes of the view at that place
+-- the view at the book's end; and without a base it does so of any view.
+abbrev pub PatchesShow : Type 0
+PatchesShow =
+    (book : Book) (user : List ℕ) → ((place : ℕ) → apply (patch_since user book (Some place)) (client_view user (take place book)) ≡ client_view user book)
+    × ((view : ClientView) → apply (patch_since user book None) view ≡ client_view user book)
+
+-- the view that a base names: what the user saw there; without a base it may be any view
+abbrev pub IsBaseView : List ℕ → Book → Option ℕ → ClientView → Type 0
+IsBaseView user book None view = Unit {0}
+IsBaseView user book (Some place) view = view ≡ client_view user (take place book)
+
+abbrev pub is_clear : Op → Bool
+is_clear Clear = true
+is_clear (Del key) = false
+is_clear (Put row) = false
+
+-- without a base a patch begins with its one clear, and with a base it has none
+abbrev pub ClearsWithoutBase : Option ℕ → List Op → Type 0
+ClearsWithoutBase None ops = (others : List Op) × (ops ≡ Clear ∷ others) × (list_any is_clear others ≡ false)
+ClearsWithoutBase (Some place) ops = list_any is_clear ops ≡ false
+
+-- the last mutation ids that a client has by its cookie: those of the base look's own group there, and none without a base
+abbrev pub known_ids : List ℕ → PullRequest → Book → List (List ℕ × ℕ)
+known_ids user request book = option_map_or (λ base. ids base.1 (take base.0 book)) (option_and_then (base_group book) (base_of user request.cookie book)) []
+
+-- What the reply to a pull tells at a book. Its patch, applied to the view that the cookie names, gives exactly what the
+-- user sees; it begins with a clear exactly where there is no base. Each last mutation id of the group is known by the
+-- cookie or told, and nothing else is told; what is told was not known. The order is not below the request's. A reply of
+-- the same cookie has an empty patch and no ids, and leaves the book as it is; any other has an order above the group's last
+-- and the request's. The text is the compact JSON of the cookie, the ids and the patch.
+pub record Tells (user : List ℕ) (request : PullRequest) (book new : Book) (reply : PullReply) : Type 0 where
+  pub shows : (view : ClientView) → IsBaseView user book (base_of user request.cookie book) view → apply reply.ops view ≡ client_view user book
+  pub clears : ClearsWithoutBase (base_of user request.cookie book) reply.ops
+  pub complete : (pair : List ℕ × ℕ) → Contains (ids request.group book) pair → Contains (known_ids user request book) pair ⊎ Contains reply.ids pair
+  pub sound : (pair : List ℕ × ℕ) → Contains reply.ids pair → Contains (ids request.group book) pair
+  pub news : (pair : List ℕ × ℕ) → Contains reply.ids pair → ¬ Contains (known_ids user request book) pair
+  pub no_lower : cookie_order request.cookie ≤ cookie_order reply.cookie
+  pub same : reply.same ≡ true → (reply.ops ≡ []) × (reply.ids ≡ []) × (reply.cookie ≡ request.cookie) × (new ≡ book)
+  pub text : reply.text ≡ compact_text (pull_data reply.cookie reply.ids reply.ops)
+  pub above : reply.same ≡ false → (last_order request.group book < cookie_order reply.cookie) × (cookie_order request.cookie < cookie_order reply.cookie)
+
+-- So does each reply that the machine gives.
+abbrev pub PullsShow : Type 0
+PullsShow = (limit : ℕ) (user : List ℕ) (request : PullRequest) (book new : Book) (reply : PullReply) → Pulls limit user request book (Pulled reply) new → Tells user request book new reply

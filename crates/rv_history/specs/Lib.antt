@@ -1,0 +1,14 @@
+pub mod Groups
+pub mod Replay
+pub mod ReplayLaws
+pub mod Lawful
+pub mod LawfulBooks
+pub mod GroupLaws
+pub mod Bases
+pub mod Based
+pub mod History
+pub mod Patches
+pub mod PatchLaws
+pub mod Machine
+pub mod Served
+pub mod Laws

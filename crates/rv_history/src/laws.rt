@@ -1,0 +1,61 @@
+//! What follows from the machine, as contracts of functions that do nothing: a check of the crate proves them.
+ghost use Rattle.rv_history.specs.Laws.{IdsCountUp, OrdersRise, GroupsHaveOneUser, ClientsHaveOneGroup, RetiredGroupsRest, EntriesStandOnce, PushesKeepLaw, PullsKeepLaw, RetirementsKeepLaw, PullsShow, PatchesShow};
+
+/// In a lawful book each client's acts have the ids 1, 2, 3 and so on.
+pub fn ids_count_up()
+    ensures { IdsCountUp }
+{}
+
+/// In a lawful book the orders of each group's looks rise.
+pub fn orders_rise()
+    ensures { OrdersRise }
+{}
+
+/// In a lawful book no group has two users.
+pub fn groups_have_one_user()
+    ensures { GroupsHaveOneUser }
+{}
+
+/// In a lawful book no client has two groups.
+pub fn clients_have_one_group()
+    ensures { ClientsHaveOneGroup }
+{}
+
+/// In a lawful book nothing of a group follows its retirement.
+pub fn retired_groups_rest()
+    ensures { RetiredGroupsRest }
+{}
+
+/// In a lawful book no entry stands twice.
+pub fn entries_stand_once()
+    ensures { EntriesStandOnce }
+{}
+
+/// A push of a desk keeps its book lawful, only adds to it, and leaves its limit.
+pub fn pushes_keep_law()
+    ensures { PushesKeepLaw }
+{}
+
+/// A pull keeps a book lawful, and only adds to it.
+pub fn pulls_keep_law()
+    ensures { PullsKeepLaw }
+{}
+
+/// A retirement keeps a book lawful, and only adds to it.
+pub fn retirements_keep_law()
+    ensures { RetirementsKeepLaw }
+{}
+
+/// The patch since a place of a book, applied to what the user saw there, gives exactly what the user sees at its end; and the
+/// patch without a base does so of any view.
+pub fn patches_show()
+    ensures { PatchesShow }
+{}
+
+/// The patch of a pull's reply, applied to the view that the request's cookie names, gives exactly what the user sees; where
+/// the cookie names no kept look of the user, it begins with a clear and may be applied to any view. Each last mutation id of
+/// the group is told or known by the cookie. A reply of the request's own cookie tells nothing and leaves the book; the order
+/// of any other is above the request's and above the group's last. The reply's text is its JSON.
+pub fn pulls_show()
+    ensures { PullsShow }
+{}

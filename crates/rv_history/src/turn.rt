@@ -1,0 +1,50 @@
+ghost use Rattle.std.specs.Prelude.{◌≡◌};
+
+use rv_base::Num;
+use rv_wire::{ErrorBody, Which};
+
+/// What became of a mutation.
+#[derive(Clone, Copy, Debug, PartialEq, Eq)]
+pub enum Turn {
+    /// It was run, and stands in the book at this place.
+    Acted(u32),
+    /// Its id is not above this last mutation id of its client.
+    Skipped(Num),
+    /// Its id is from the future.
+    Future {
+        /// The last mutation id of its client + 1.
+        expected: Num,
+        /// Its id.
+        got: Num,
+    },
+    /// Its group is bound to another user.
+    GroupOfOther,
+    /// Its client is of another group.
+    ClientOfOther,
+    /// Its group is retired.
+    NotFound,
+    /// This is full, at this number.
+    Limit(Which, Num),
+    /// Memory was refused.
+    Memory,
+}
+
+impl Turn {
+    ghost use Rattle.rv_history.specs.Machine.{refusal};
+
+    /// The refusal that it is told as. That the mutation was run or skipped is none.
+    pub fn refusal(self) -> Option<ErrorBody>
+        ensures { result ≡ refusal self }
+    {
+        match self {
+            Turn::Acted(_) => None,
+            Turn::Skipped(_) => None,
+            Turn::Future { expected, got } => Some(ErrorBody::Future { expected, got }),
+            Turn::GroupOfOther => Some(ErrorBody::GroupOfOther),
+            Turn::ClientOfOther => Some(ErrorBody::ClientOfOther),
+            Turn::NotFound => Some(ErrorBody::ClientStateNotFound),
+            Turn::Limit(which, at) => Some(ErrorBody::Limit(which, at)),
+            Turn::Memory => Some(ErrorBody::Memory),
+        }
+    }
+}

@@ -1,0 +1,7 @@
+pub mod BaseLaws
+pub mod Difference
+pub mod NewsLaws
+pub mod RecordLaws
+pub mod Searched
+pub mod Told
+pub mod Versions

@@ -1,0 +1,6 @@
+pub mod Records
+pub mod RecordLaws
+pub mod KeptRecords
+pub mod Shows
+pub mod News
+pub mod Admission

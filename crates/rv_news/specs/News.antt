@@ -1,0 +1,24 @@
+-- What a pull is told, and where that comes from.
+use Rattle.std.specs.Prelude.{◌≡◌, ℕ, List, true, Option, Some, None}
+use Rattle.rv_base.specs.Sorted.{InOrder}
+use Rattle.rv_wire.specs.declared.pull.PullRequest.{PullRequest}
+use Rattle.rv_views.specs.Viewed.{Viewed}
+use Rattle.rv_book.specs.Book.{Book}
+use Rattle.rv_book.specs.Kept.{kept}
+use Rattle.rv_news.specs.declared.news.News.{News}
+use Rattle.rv_history.specs.Bases.{base_of}
+use Rattle.rv_news.specs.Records.{IsViewAt, IsRecord}
+use Rattle.rv_history.specs.Machine.{patch_for, ids_for}
+
+-- what is found for a base: the record of its look, where the look is kept
+abbrev pub IsBaseRecord : Book → Option ℕ → Option Viewed → Type 0
+IsBaseRecord book None found = found ≡ None
+IsBaseRecord book (Some place) found = kept place book ≡ true → (viewed : Viewed) × (found ≡ Some viewed) × IsRecord book place viewed
+
+-- this is what a pull is told at the book, with its base and what its user and its group see
+pub record IsNews (book : Book) (user : List ℕ) (request : PullRequest) (news : News) : Type 0 where
+  pub base : news.base ≡ base_of user request.cookie book
+  pub view : IsViewAt book user request.group news.view
+  pub ops : news.ops ≡ patch_for user request book
+  pub ids : news.ids ≡ ids_for user request book
+  pub order : InOrder (λ pair. pair.0) news.ids

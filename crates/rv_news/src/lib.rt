@@ -1,0 +1,15 @@
+//! What a pull is told: the base that its cookie names, the view records of kept looks, and the operations and the last
+//! mutation ids that are news since a base.
+#![tactic(auto)]
+
+mod base;
+mod groups;
+mod news;
+mod pull;
+mod records;
+
+pub use base::base_of;
+pub use groups::{Admission, Numbering, admits, last_of};
+pub use news::{News, news_since, view_now};
+pub use pull::news_for;
+pub use records::Records;

@@ -1,0 +1,120 @@
+// What a pull is told: the operations and the last mutation ids that are news since its base.
+ghost use Rattle.std.specs.Prelude.{◌≡◌, ◌++◌, ◌∷◌, [], ◌↔◌, IsTrue, IfOk, OnOk, map, option_map};
+ghost use Rattle.std.specs.List.{filter_map};
+ghost use Rattle.rv_base.specs.Sorted.{InOrder};
+ghost use Rattle.rv_wire.specs.declared.op.Op.TheVariants.{Del};
+ghost use Rattle.rv_sharing.specs.Visible.{visible};
+ghost use Rattle.rv_book.specs.Book.{ids};
+ghost use Rattle.rv_views.specs.Difference.{difference};
+ghost use Rattle.rv_news.specs.Shows.{put_of, clears, tells};
+
+use rv_base::{Id, Memory, Sequence, User};
+use rv_book::Book;
+use rv_rows::{Clients, Key, Keys, Tables};
+use rv_sharing::visible;
+use rv_views::{Diff, ViewRecord, difference, record_now};
+use rv_wire::{Op, Ops};
+use std::alloc::Global;
+
+// What a pull is told, with the place of its base and what its user and its group see now.
+#[derive(Debug, Drop)]
+pub struct News {
+    pub base: Option<u32>,
+    pub view: ViewRecord,
+    pub ops: Ops,
+    pub ids: Clients,
+}
+
+impl News {
+    /// Whether there is nothing to tell.
+    pub fn is_empty(&self) -> bool
+        ensures { IsTrue result ↔ ((self.now.ops ≡ []) × (self.now.ids ≡ [])) }
+    {
+        self.ops.as_slice().is_empty() && self.ids.as_slice().is_empty()
+    }
+}
+
+/// What a user and a group see now.
+pub fn view_now(
+    alloc: Global,
+    book: &Book,
+    tables: &Tables,
+    user: &User,
+    group: &Id,
+) -> Result<ViewRecord, Memory>
+    ensures rows { IfOk result (λ view. view.rows ≡ visible user.now tables.now.rows) }
+    ensures clients { IfOk result (λ view. view.clients ≡ ids group.now book.now.entries) }
+{
+    let clients = book.clients(group)?;
+    record_now(visible(alloc, tables, user)?, clients)
+}
+
+/// What is news in a view since the record of a base, or without one.
+pub fn news_since(
+    alloc: Global,
+    tables: &Tables,
+    base: Option<u32>,
+    found: Option<&ViewRecord>,
+    view: ViewRecord,
+) -> Result<News, Memory>
+    ensures base { IfOk result (λ news. news.base ≡ base) }
+    ensures view { IfOk result (λ news. news.view ≡ view) }
+    ensures ops { IfOk result (λ news. news.ops ≡ tells tables.now.rows (difference (option_map (λ r. r.now) found.entry) view)) }
+    ensures ids { IfOk result (λ news. news.ids ≡ (difference (option_map (λ r. r.now) found.entry) view).ids) }
+    ensures order { IfOk result (λ news. InOrder (λ pair. pair.0) news.ids) }
+{
+    let Diff {
+        clear,
+        dels,
+        puts,
+        ids,
+    } = difference(alloc, found, &view)?;
+    let ops = operations(alloc, tables, clear, dels, puts.as_slice())?;
+    Ok(News {
+        base,
+        view,
+        ops,
+        ids,
+    })
+}
+
+// Everything goes, where it does; then each key that is gone, and then the row of each key that is put.
+fn operations(
+    alloc: Global,
+    tables: &Tables,
+    clear: bool,
+    dels: Keys,
+    puts: &[Key],
+) -> Result<Ops, Memory>
+    ensures { IfOk result (λ ops. ops ≡ clears clear ++ (map (λ key. Del key) dels ++ filter_map (put_of tables.now.rows) puts.now)) }
+{
+    let mut ops = Sequence::new(alloc);
+    if clear {
+        ops.push(Op::Clear)?;
+    }
+    add_dels(&mut ops, dels)?;
+    add_puts(alloc, &mut ops, tables, puts)?;
+    Ok(ops)
+}
+
+// Adds the del of each key.
+fn add_dels(ops: &mut Ops, keys: Keys) -> Result<(), Memory>
+    ensures { OnOk result (ops.new ≡ ops.old ++ map (λ key. Del key) keys) }
+{
+    for key in keys.into_vec() {
+        ops.push(Op::Del(key))?;
+    }
+    Ok(())
+}
+
+// Adds the put of each key's row.
+fn add_puts(alloc: Global, ops: &mut Ops, tables: &Tables, keys: &[Key]) -> Result<(), Memory>
+    ensures { OnOk result (ops.new ≡ ops.old ++ filter_map (put_of tables.now.rows) keys.now) }
+{
+    for key in keys {
+        if let Some((row, _)) = tables.get(key) {
+            ops.push(Op::Put(row.copy(alloc)?))?;
+        }
+    }
+    Ok(())
+}

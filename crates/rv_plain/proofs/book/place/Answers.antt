@@ -1,0 +1,12 @@
+use Rattle.std.proofs.Common.{rules, ℕ, List}
+use Rattle.std.specs.Ordering.{nat_cmp}
+use Rattle.std.specs.Cmp.Lexicographic.{slice_cmp}
+use Rattle.std.proofs.lemmas.Fn.{always_returns_same}
+use Rattle.rv_base.specs.Places.{settles}
+use Rattle.rv_plain.proofs.book.place.Goals as goal
+
+pub returns : goal.returns
+returns c =
+    let k = c.args.client.now in
+    let facts = c.binary_search_by.ensures in
+    settles (λ (pair : List ℕ × ℕ). pair.0) k _ _ c.requires facts.bound (facts.position (λ (y : List ℕ × ℕ). slice_cmp nat_cmp y.0 k) (always_returns_same _ _ _ (λ a r f called. search rules)))

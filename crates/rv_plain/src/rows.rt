@@ -1,0 +1,378 @@
+//! Lists of rows: their order, who sees which of them, and what a call makes of them. Nothing here is a sorted table.
+ghost use Rattle.std.specs.Prelude.{◌≡◌, IfOk, OnOk, map};
+ghost use Rattle.rv_base.specs.Sorted.{InOrder, put_by, Settles};
+ghost use Rattle.rv_rows.specs.Keys.{key_text, row_text, has_row, in_key_order};
+ghost use Rattle.rv_rows.specs.Sharing.{is_list, owns, shares, may, sees, seen};
+ghost use Rattle.rv_rows.specs.Effects.{is_at, is_other, is_outside, may_change, is_unchanged, may_end, ends, sort_in, greatest_sort, next_sort, with_fields, after_update, effect};
+ghost use Rattle.rv_rows.specs.declared.call.Call.TheVariants.{CreateList, CreateShare, CreateTodo};
+ghost use Rattle.std.specs.List.{filter, list_any};
+
+use rv_base::{Id, Memory, Num, Text, User};
+use rv_rows::{Call, Kind, ListRow, Row, ShareRow, TodoRow};
+use std::alloc::Global;
+
+// Whether the row has the key of this kind and id.
+fn is_at(kind: Kind, id: &Id, row: &Row) -> bool
+    ensures { result ≡ is_at kind id.now row.now }
+{
+    row.kind() == kind && row.id() == id
+}
+
+/// Whether some row has the key of this kind and id.
+pub fn has_row(rows: &[Row], kind: Kind, id: &Id) -> bool
+    ensures { result ≡ has_row (key_text (record { kind = kind; id = id.now })) rows.now }
+{
+    rows.iter().any(|row| is_at(kind, id, row))
+}
+
+// Whether the row is this list.
+fn is_list(list: &Id, row: &Row) -> bool
+    ensures { result ≡ is_list list.now row.now }
+{
+    match row {
+        Row::List(row) => row.id == *list,
+        Row::Share(_) => false,
+        Row::Todo(_) => false,
+    }
+}
+
+// Whether the row is this list, and the user owns it.
+fn owns(user: &User, list: &Id, row: &Row) -> bool
+    ensures { result ≡ owns user.now list.now row.now }
+{
+    match row {
+        Row::List(row) => row.id == *list && row.owner == *user,
+        Row::Share(_) => false,
+        Row::Todo(_) => false,
+    }
+}
+
+fn owns_list(user: &User, list: &Id, rows: &[Row]) -> bool
+    ensures { result ≡ list_any (owns user.now list.now) rows.now }
+{
+    rows.iter().any(|row| owns(user, list, row))
+}
+
+fn has_share(user: &User, list: &Id, rows: &[Row]) -> bool
+    ensures { result ≡ list_any (shares user.now list.now) rows.now }
+{
+    rows.iter().any(|row| row.shares(user, list))
+}
+
+fn has_list(list: &Id, rows: &[Row]) -> bool
+    ensures { result ≡ list_any (is_list list.now) rows.now }
+{
+    rows.iter().any(|row| is_list(list, row))
+}
+
+/// Whether the user may see the list: it is there, and the user owns it or a share of it names the user.
+pub fn may(user: &User, list: &Id, rows: &[Row]) -> bool
+    ensures { result ≡ may user.now list.now rows.now }
+{
+    owns_list(user, list, rows) || (has_list(list, rows) && has_share(user, list, rows))
+}
+
+/// Whether the user sees the row, as one of these: the user may see the list that it is or belongs to.
+#[tactic(auto, unfolding(rv_rows::specs::Sharing::sees))]
+pub fn sees(user: &User, rows: &[Row], row: &Row) -> bool
+    ensures { result ≡ sees user.now rows.now row.now }
+{
+    may(user, row.list(), rows)
+}
+
+// The rows that neither are the list nor belong to it.
+#[tactic(auto, using(std::proofs::lemmas::List::Elements::filter_more))]
+fn without_list(alloc: Global, rows: &[Row], list: &Id) -> Result<Vec<Row>, Memory>
+    ensures { IfOk result (λ v. v.items ≡ filter (is_outside list.now) rows.now) }
+{
+    let mut kept = Vec::new(alloc);
+    for row in rows {
+        if row.list() != list {
+            kept.push(row.copy(alloc)?)?;
+        }
+    }
+    Ok(kept)
+}
+
+// The rows but for the one of this key.
+#[tactic(auto, using(std::proofs::lemmas::List::Elements::filter_more))]
+fn without_row(alloc: Global, rows: &[Row], kind: Kind, id: &Id) -> Result<Vec<Row>, Memory>
+    ensures { IfOk result (λ v. v.items ≡ filter (is_other kind id.now) rows.now) }
+{
+    let mut kept = Vec::new(alloc);
+    for row in rows {
+        if !is_at(kind, id, row) {
+            kept.push(row.copy(alloc)?)?;
+        }
+    }
+    Ok(kept)
+}
+
+// Whether the row is this todo, and the user may see its list.
+#[tactic(auto, unfolding(rv_rows::specs::Effects::may_change))]
+fn may_change(user: &User, rows: &[Row], id: &Id, row: &Row) -> bool
+    ensures { result ≡ may_change user.now rows.now id.now row.now }
+{
+    is_at(Kind::Todo, id, row) && sees(user, rows, row)
+}
+
+// The rows but for this todo, where the user may see its list.
+#[tactic(auto, using(std::proofs::lemmas::List::Elements::filter_more))]
+fn without_todo(alloc: Global, rows: &[Row], user: &User, id: &Id) -> Result<Vec<Row>, Memory>
+    ensures { IfOk result (λ v. v.items ≡ filter (is_unchanged user.now rows.now id.now) rows.now) }
+{
+    let mut kept = Vec::new(alloc);
+    for row in rows {
+        if !may_change(user, rows, id, row) {
+            kept.push(row.copy(alloc)?)?;
+        }
+    }
+    Ok(kept)
+}
+
+// Whether the user may end the share: the user owns its list, or is the one whom it names.
+fn may_end(user: &User, rows: &[Row], row: &Row) -> bool
+    ensures { result ≡ may_end user.now rows.now row.now }
+{
+    match row {
+        Row::List(_) => false,
+        Row::Share(row) => owns_list(user, &row.list, rows) || row.user == *user,
+        Row::Todo(_) => false,
+    }
+}
+
+#[tactic(auto, unfolding(rv_rows::specs::Effects::ends))]
+fn ends(user: &User, rows: &[Row], id: &Id, row: &Row) -> bool
+    ensures { result ≡ ends user.now rows.now id.now row.now }
+{
+    is_at(Kind::Share, id, row) && may_end(user, rows, row)
+}
+
+fn ends_any(user: &User, rows: &[Row], id: &Id) -> bool
+    ensures { result ≡ list_any (ends user.now rows.now id.now) rows.now }
+{
+    rows.iter().any(|row| ends(user, rows, id, row))
+}
+
+// The greatest sort in a list, and 0 where it has no todo.
+#[tactic(auto, using(std::proofs::lemmas::List::Sums::fold_more))]
+fn greatest_sort(list: &Id, rows: &[Row]) -> u64
+    ensures { result ≡ greatest_sort list.now rows.now }
+{
+    let mut most = 0;
+    for row in rows {
+        let sort = row.sort_in(list);
+        if most < sort {
+            most = sort;
+        }
+    }
+    most
+}
+
+// The row with the fields that are named, where it is a todo.
+fn with_fields(
+    alloc: Global,
+    text: &Option<Text>,
+    complete: Option<bool>,
+    sort: Option<Num>,
+    row: &Row,
+) -> Result<Row, Memory>
+    ensures { IfOk result (λ new. new ≡ with_fields text.now complete sort row.now) }
+{
+    match row {
+        Row::List(row) => Ok(Row::List(row.copy(alloc)?)),
+        Row::Share(row) => Ok(Row::Share(row.copy(alloc)?)),
+        Row::Todo(row) => Ok(Row::Todo(row.with_fields(alloc, text, complete, sort)?)),
+    }
+}
+
+// The rows after a list was asked for.
+fn create_list(
+    alloc: Global,
+    mut rows: Vec<Row>,
+    user: &User,
+    id: &Id,
+    name: &Text,
+    owner: &User,
+) -> Result<Vec<Row>, Memory>
+    ensures { IfOk result (λ new. new.items ≡ effect rows.items user.now (CreateList id.now name.now owner.now)) }
+{
+    if !has_row(&rows, Kind::List, id) && owner == user {
+        rows.push(Row::List(ListRow {
+            id: id.copy(alloc)?,
+            name: name.copy(alloc)?,
+            owner: owner.copy(alloc)?,
+        }))?;
+    }
+    Ok(rows)
+}
+
+// The rows after a share was asked for.
+fn create_share(
+    alloc: Global,
+    mut rows: Vec<Row>,
+    user: &User,
+    id: &Id,
+    list: &Id,
+    other: &User,
+) -> Result<Vec<Row>, Memory>
+    ensures { IfOk result (λ new. new.items ≡ effect rows.items user.now (CreateShare id.now list.now other.now)) }
+{
+    if owns_list(user, list, &rows)
+        && !has_row(&rows, Kind::Share, id)
+        && other != user
+        && !has_share(other, list, &rows)
+    {
+        rows.push(Row::Share(ShareRow {
+            id: id.copy(alloc)?,
+            list: list.copy(alloc)?,
+            user: other.copy(alloc)?,
+        }))?;
+    }
+    Ok(rows)
+}
+
+// The rows after a todo was asked for.
+fn create_todo(
+    alloc: Global,
+    mut rows: Vec<Row>,
+    user: &User,
+    id: &Id,
+    list: &Id,
+    text: &Text,
+    complete: bool,
+) -> Result<Vec<Row>, Memory>
+    ensures { IfOk result (λ new. new.items ≡ effect rows.items user.now (CreateTodo id.now list.now text.now complete)) }
+{
+    if !has_row(&rows, Kind::Todo, id) && may(user, list, &rows) {
+        let sort = TodoRow::sort_after(greatest_sort(list, &rows));
+        rows.push(Row::Todo(TodoRow {
+            id: id.copy(alloc)?,
+            list: list.copy(alloc)?,
+            text: text.copy(alloc)?,
+            complete,
+            sort,
+        }))?;
+    }
+    Ok(rows)
+}
+
+// The rows after an update was asked for.
+#[tactic(auto, using(std::proofs::lemmas::List::map_more))]
+fn update_todo(
+    alloc: Global,
+    rows: &[Row],
+    user: &User,
+    id: &Id,
+    text: &Option<Text>,
+    complete: Option<bool>,
+    sort: Option<Num>,
+) -> Result<Vec<Row>, Memory>
+    ensures { IfOk result (λ v. v.items ≡ map (after_update user.now rows.now id.now text.now complete sort) rows.now) }
+{
+    let mut updated = Vec::new(alloc);
+    for row in rows {
+        if may_change(user, rows, id, row) {
+            updated.push(with_fields(alloc, text, complete, sort, row)?)?;
+        } else {
+            updated.push(row.copy(alloc)?)?;
+        }
+    }
+    Ok(updated)
+}
+
+/// The rows after a call of the user.
+pub fn effect(alloc: Global, rows: Vec<Row>, user: &User, call: &Call) -> Result<Vec<Row>, Memory>
+    ensures { IfOk result (λ new. new.items ≡ effect rows.items user.now call.now) }
+{
+    match call {
+        Call::CreateList { id, name, owner } => create_list(alloc, rows, user, id, name, owner),
+        Call::DeleteList { id } => {
+            if owns_list(user, id, &rows) {
+                without_list(alloc, &rows, id)
+            } else {
+                Ok(rows)
+            }
+        }
+        Call::CreateShare {
+            id,
+            list,
+            user: other,
+        } => create_share(alloc, rows, user, id, list, other),
+        Call::DeleteShare { id } => {
+            if ends_any(user, &rows, id) {
+                without_row(alloc, &rows, Kind::Share, id)
+            } else {
+                Ok(rows)
+            }
+        }
+        Call::CreateTodo {
+            id,
+            list,
+            text,
+            complete,
+        } => create_todo(alloc, rows, user, id, list, text, *complete),
+        Call::UpdateTodo {
+            id,
+            text,
+            complete,
+            sort,
+        } => update_todo(alloc, &rows, user, id, text, *complete, *sort),
+        Call::DeleteTodo { id } => without_todo(alloc, &rows, user, id),
+        Call::Void(_) => Ok(rows),
+    }
+}
+
+// Where the row of a key stands, or where it would go.
+fn place(rows: &[Row], row: &Row) -> Result<usize, usize>
+    requires { InOrder row_text rows.now }
+    ensures { Settles row_text (row_text row.now) rows.now result }
+{
+    rows.binary_search_by(|other| other.compare_key(row.kind(), row.id()))
+}
+
+// Writes a row into rows that stand in the order of their keys.
+fn put(rows: &mut Vec<Row>, row: Row) -> Result<(), Memory>
+    requires { InOrder row_text rows.old.items }
+    ensures rows { OnOk result (rows.new.items ≡ put_by row_text row rows.old.items) }
+    ensures order { OnOk result (InOrder row_text rows.new.items) }
+{
+    match place(rows, &row) {
+        Ok(at) => {
+            rows[at] = row;
+            Ok(())
+        }
+        Err(at) => {
+            rows.insert(at, row)?;
+            Ok(())
+        }
+    }
+}
+
+/// The rows in the order of their keys.
+#[tactic(auto, using(std::proofs::lemmas::List::Sums::fold_more))]
+pub fn in_key_order(alloc: Global, rows: &[Row]) -> Result<Vec<Row>, Memory>
+    ensures rows { IfOk result (λ v. v.items ≡ in_key_order rows.now) }
+    ensures order { IfOk result (λ v. InOrder row_text v.items) }
+{
+    let mut sorted = Vec::new(alloc);
+    for row in rows {
+        put(&mut sorted, row.copy(alloc)?)?;
+    }
+    Ok(sorted)
+}
+
+/// The rows that the user sees, in the order of their keys.
+#[tactic(auto, using(std::proofs::lemmas::List::Elements::filter_more))]
+pub fn seen(alloc: Global, rows: &[Row], user: &User) -> Result<Vec<Row>, Memory>
+    ensures { IfOk result (λ v. v.items ≡ seen user.now rows.now) }
+{
+    let sorted = in_key_order(alloc, rows)?;
+    let mut seen = Vec::new(alloc);
+    for row in &sorted {
+        if sees(user, rows, row) {
+            seen.push(row.copy(alloc)?)?;
+        }
+    }
+    Ok(seen)
+}
