@@ -22,13 +22,7 @@ fn main(rt: HostRuntime) -> ExitCode {
         Ok(words) => words,
         Err(_) => Vec::new(alloc),
     };
-    let mut input = Reading {
-        inner: rt.reader(),
-        faults: 0,
-    };
-    let mut output = Writing {
-        inner: io::writer(&rt),
-        faults: 0,
-    };
+    let mut input = Reading::new(rt.reader());
+    let mut output = Writing::new(io::writer(&rt));
     ExitCode::from(run(alloc, &words, &mut input, &mut output))
 }

@@ -1,259 +1,263 @@
--- A feed that goes on, and how it ends.
-use Rattle.std.proofs.Common.{◌≡◌, inl, inr, ℕ, ◌+◌, ◌^◌, ◌<◌, ◌≤◌, ◌≢◌, List, [], ◌∷◌, ◌++◌, length, Option, Some, None, Ok, refl, sym, ap, ◌∙◌, append_assoc, append-nil}
-use Rattle.std.specs.Io.KnownBytes.{Keeps, Consumes, Appends, IsAtEnd, prepend_known}
-use Rattle.std.proofs.KnownBytes.{Consumes-trans, Consumes-kept, Appends-trans, Appends-nil}
+-- Lines that are taken and answered one by one, and how that ends.
+use Rattle.std.proofs.Common.{◌≡◌, ◌⊎◌, inl, inr, ℕ, ◌+◌, ◌^◌, ◌<◌, ◌≤◌, List, [], ◌∷◌, ◌++◌, length, Option, Some, None, IfSome, true, false, refl, sym, ap, ◌∙◌, subst, append-nil, arith}
+use Rattle.std.specs.Io.KnownBytes.{Keeps, Consumes, Appends, IsAtEnd}
+use Rattle.std.proofs.KnownBytes.{Appends-trans, Appends-nil}
 use Rattle.std.proofs.lemmas.List.{length_push}
-use Rattle.rv_base.specs.Writes.{AppendsFront, appends_keeps}
-use Rattle.rv_cli.specs.Lines.{lines_of, ended_lines_of, HasNoLf, BeginsLong}
-use Rattle.rv_cli.proofs.LineLaws.{lines_of_line, ended_lines_of_line, no_ended_line, last_line, begins_long}
-use Rattle.rv_book.specs.Book.{Book}
-use Rattle.rv_cli.specs.declared.answer.Answer.{Answer}
-use Rattle.rv_cli.specs.declared.feed.Ending.TheVariants.{Done, Read, Write, Memory, Malformed}
+use Rattle.rv_base.specs.Outside.{InputState, OutputState, counted}
+use Rattle.rv_base.specs.Writes.{IsFront}
+use Rattle.rv_lines.specs.Lines.{lines_of, HasNoLf, BeginsLong, longest_line}
+use Rattle.rv_lines.specs.Reading.{Reading, unread, ReadsFor}
+use Rattle.rv_lines.specs.Taken.{Taken, ReadOn}
+use Rattle.rv_lines.specs.TakenLaws.{taken_none, taken_line, read_on, read_to_end, read_to_fault, read_too_long, read_line, read_last}
+use Rattle.rv_history.specs.Served.{Served}
+use Rattle.rv_answering.specs.declared.answer.Answer.{Answer}
+use Rattle.rv_answering.specs.Requests.{Asked, asked_of}
+use Rattle.rv_cli.specs.declared.ending.Ending.{Ending}
+use Rattle.rv_cli.specs.declared.ending.Ending.TheVariants.{Done, Read, Write, Memory, Malformed}
+use Rattle.rv_cli.specs.declared.line.Outcome.{Outcome}
+use Rattle.rv_cli.specs.declared.line.Outcome.TheVariants as outcomes
 use Rattle.rv_cli.specs.Texts.{text_of}
-use Rattle.rv_cli.specs.declared.turn.Turn.{Turn}
-use Rattle.rv_cli.specs.declared.turn.Turn.TheVariants as turns
-use Rattle.rv_cli.specs.Turn.{LineStep, AnswersLine}
-use Rattle.rv_cli.specs.Reading.{Reading, GivesNext, unread}
-use Rattle.rv_cli.specs.declared.reader.Next.{Next}
-use Rattle.rv_cli.specs.declared.reader.Next.TheVariants as nexts
-use Rattle.rv_cli.specs.Feed.{Answered, book_limit, Fed, Feeds, IsMalformed, ending_after}
-use Rattle.rv_cli.proofs.Runs.{answered_more, answered_none}
+use Rattle.rv_cli.specs.Headline.{asked_at, fresh, Answered, Step, IsCutOff}
+use Rattle.rv_cli.specs.Feeding.{LineStep, Stays, WritesAnswer, CutsAnswer, AnswersLine, FedAnswers, Feeds, ending_after}
+use Rattle.rv_cli.proofs.Runs.{asked_as, too_long, too_late, answered_more, answered_none}
 
--- The lines so far were ended and answered; now is what isn't taken yet of what was left at the start.
-pub record Going (first : Book) (start now wrote written : Option (List ℕ)) (number : ℕ) (book : Book) : Type 0 where
-  pub whole : List ℕ
+-- All lines so far were ended and answered, and no fault rose.
+pub record Going (start input : InputState) (first out : OutputState) (pending : List ℕ) (number : ℕ) (now : Served) : Type 0 where
   pub lines : List (List ℕ)
   pub text : List ℕ
-  pub taken : Consumes start now whole
-  pub are : (more : List ℕ) → lines_of (whole ++ more) ≡ lines ++ lines_of more
-  pub ended : (more : List ℕ) → ended_lines_of (whole ++ more) ≡ lines ++ ended_lines_of more
-  pub answered : Answered first lines text book
-  pub appended : Appends wrote written text
+  pub taken : Taken start.left pending input.left lines
+  pub answered : Answered fresh lines text now
+  pub appended : Appends first.written out.written text
   pub count : number ≡ length lines + 1
+  pub faults : input.faults ≡ start.faults
+  pub ends : input.ends ≡ start.ends
+  pub stays : Stays first out
 
-none_taken : (start : Option (List ℕ)) → Consumes start (prepend_known [] start) []
-none_taken None = tt
-none_taken (Some xs) = refl
-
-pub going_first : (first : Book) (start wrote : Option (List ℕ)) (pending : List ℕ) (book : Book) → pending ≡ [] → book ≡ first → Going first start (prepend_known pending start) wrote wrote 1 book
-going_first first start wrote pending book p b = record {
-  whole = [];
+pub going_first : (start : InputState) (first : OutputState) (pending : List ℕ) (now : Served) → pending ≡ [] → now ≡ fresh → Going start start first first pending 1 now
+going_first start first pending now e same = record {
   lines = [];
   text = [];
-  taken = rw p (none_taken start);
-  are = λ more. refl;
-  ended = λ more. refl;
-  answered = rw b (answered_none first);
-  appended = Appends-nil wrote;
+  taken = taken_none start.left pending e;
+  answered = subst (λ (s : Served). Answered fresh [] [] s) (sym same) (answered_none fresh);
+  appended = Appends-nil first.written;
   count = refl;
+  faults = refl;
+  ends = refl;
+  stays = record { faults = refl; refusals = refl };
 }
 
-pub going_more : (first : Book) (start now next wrote written written' : Option (List ℕ)) (number : ℕ) (line : List ℕ) (book new : Book) (answer : Answer)
-    → Going first start now wrote written number book → HasNoLf line → Consumes now next (line ++ 10 ∷ []) → LineStep book_limit book line new answer → Appends written written' (text_of answer)
-    → Going first start next wrote written' (number + 1) new
-going_more first start now next wrote written written' number line book new answer w h c s a = record {
-  whole = w.whole ++ (line ++ 10 ∷ []);
+-- a line that asks something and is answered
+asks_at : (number : ℕ) (line : List ℕ) (o : Option Asked) → length line ≤ longest_line → number < 2 ^ 32 → asked_of line ≡ o → asked_at number line ≡ o
+asks_at number line o le lt e = asked_as number line le lt ∙ e
+
+pub going_more : (start old new : InputState) (first out out' : OutputState) (pending pending' line : List ℕ) (number : ℕ) (now next : Served)
+    → Going start old first out pending number now → ReadsFor pending old new false false → HasNoLf line → length line ≤ longest_line → Consumes (unread pending old.left) (unread pending' new.left) (line ++ 10 ∷ [])
+    → number < 2 ^ 32 → WritesAnswer now line next out out' → Going start new first out' pending' (number + 1) next
+going_more start old new first out out' pending pending' line number now next w r h le c lt a = record {
   lines = w.lines ++ line ∷ [];
-  text = w.text ++ text_of answer;
-  taken = Consumes-trans _ _ _ _ _ w.taken c;
-  are = λ more. ap lines_of (append_assoc w.whole (line ++ 10 ∷ []) more) ∙ w.are ((line ++ 10 ∷ []) ++ more) ∙ ap (λ l. w.lines ++ l) (lines_of_line line more h) ∙ sym (append_assoc w.lines (line ∷ []) (lines_of more));
-  ended = λ more. ap ended_lines_of (append_assoc w.whole (line ++ 10 ∷ []) more) ∙ w.ended ((line ++ 10 ∷ []) ++ more) ∙ ap (λ l. w.lines ++ l) (ended_lines_of_line line more h) ∙ sym (append_assoc w.lines (line ∷ []) (ended_lines_of more));
-  answered = answered_more first w.lines line w.text book new answer w.answered s;
-  appended = Appends-trans _ _ _ _ _ w.appended a;
+  text = w.text ++ text_of a.answer;
+  taken = taken_line start.left pending pending' old new w.lines line w.taken r.ahead h c;
+  answered = answered_more fresh w.lines line w.text now next number a.step.asked a.answer w.count w.answered (asks_at number line (Some a.step.asked) le lt a.step.asks) a.step.step;
+  appended = Appends-trans first.written out.written out'.written w.text (text_of a.answer) w.appended a.appended;
   count = ap (λ n. n + 1) (w.count ∙ sym (length_push w.lines line));
+  faults = r.faults ∙ w.faults;
+  ends = r.ends ∙ w.ends;
+  stays = record { faults = a.counts.faults ∙ w.stays.faults; refusals = a.counts.refusals ∙ w.stays.refusals };
 }
 
--- what was taken, and what waits in the buffer, was read
-read_of : (bytes whole pending : List ℕ) (left : Option (List ℕ)) → Consumes (Some bytes) (prepend_known pending left) whole → Consumes (Some bytes) left (whole ++ pending)
-read_of bytes whole pending None c = absurd c
-read_of bytes whole pending (Some ys) c = c ∙ sym (append_assoc whole pending ys)
+-- what holds of bytes that are told holds where they are
+known : (o : Option (List ℕ)) (P : List ℕ → Type 0) → ((bytes : List ℕ) → o ≡ Some bytes → P bytes) → IfSome o P
+known None P f = tt
+known (Some bytes) P f = f bytes refl
 
-told : (bytes whole pending : List ℕ) (left : Option (List ℕ)) → Consumes (Some bytes) (prepend_known pending left) whole → (rest : List ℕ) × (bytes ≡ whole ++ (pending ++ rest))
-told bytes whole pending None c = absurd c
-told bytes whole pending (Some ys) c = (ys, c)
+of_bytes : (o : Option (List ℕ)) (bytes pending : List ℕ) (left : Option (List ℕ)) (lines : List (List ℕ)) → o ≡ Some bytes → Taken o pending left lines → Taken (Some bytes) pending left lines
+of_bytes o bytes pending left lines is t = subst (λ (s : Option (List ℕ)). Taken s pending left lines) is t
 
-nil_parts : (xs ys : List ℕ) → xs ++ ys ≡ [] → (xs ≡ []) × (ys ≡ [])
-nil_parts [] ys e = (refl, e)
-nil_parts (x ∷ xs) ys e = absurd (cc)
-
-all_read : (bytes whole pending : List ℕ) (left : Option (List ℕ)) → Consumes (Some bytes) (prepend_known pending left) whole → IsAtEnd (prepend_known pending left) → (whole ++ pending ≡ bytes) × (whole ≡ bytes)
-all_read bytes whole pending None c e = absurd c
-all_read bytes whole pending (Some ys) c e =
-    let none = nil_parts pending ys e in
-    let same : whole ≡ bytes = sym (c ∙ ap (λ l. whole ++ l) e ∙ append-nil whole) in
-    (ap (λ l. whole ++ l) none.0 ∙ append-nil whole ∙ same, same)
-
--- the input ends
-pub feeds_done : (first : Book) (start now left wrote written : Option (List ℕ)) (pending : List ℕ) (number : ℕ) (book : Book)
-    → Going first start now wrote written number book → Keeps now (prepend_known pending left) → IsAtEnd (prepend_known pending left) → Feeds first start left wrote written Done
-feeds_done first None now left wrote written pending number book w k e = tt
-feeds_done first (Some bytes) now left wrote written pending number book w k e =
-    let c = Consumes-kept (Some bytes) now (prepend_known pending left) w.whole w.taken k in
-    let all = all_read bytes w.whole pending left c e in
-    let lines : lines_of bytes ≡ w.lines = ap lines_of (sym all.1 ∙ sym (append-nil w.whole)) ∙ w.are [] ∙ append-nil w.lines in
-    record { read = w.whole ++ pending; text = w.text; book = book; consumed = read_of bytes w.whole pending left c; appended = w.appended; ends = (all.0, rw lines w.answered) }
+-- the input has ended
+pub ends_done : (start old new : InputState) (first out : OutputState) (pending pending' : List ℕ) (number : ℕ) (now : Served)
+    → Going start old first out pending number now → ReadsFor pending old new true false → Keeps (unread pending old.left) (unread pending' new.left) → IsAtEnd (unread pending' new.left) → Feeds fresh start new first out Done
+ends_done start old new first out pending pending' number now w r k e = record {
+  reads = (r.faults ∙ w.faults, r.ends ∙ ap counted w.ends);
+  writes = w.stays.faults;
+  fed = known start.left (λ bytes. FedAnswers fresh bytes new first out Done) (λ bytes is.
+      let on = read_to_end bytes pending pending' old new w.lines (of_bytes start.left bytes pending old.left w.lines is w.taken) r.ahead k e in
+      record { read = bytes; text = w.text; now = now; consumed = on.consumed; appended = w.appended; ends = (refl, subst (λ (ls : List (List ℕ)). Answered fresh ls w.text now) (sym (on.are ∙ append-nil w.lines)) w.answered) });
+}
 
 -- a read failed
-pub feeds_read : (first : Book) (start now left wrote written : Option (List ℕ)) (pending : List ℕ) (number : ℕ) (book : Book)
-    → Going first start now wrote written number book → Keeps now (prepend_known pending left) → HasNoLf pending → Feeds first start left wrote written Read
-feeds_read first None now left wrote written pending number book w k h = tt
-feeds_read first (Some bytes) now left wrote written pending number book w k h =
-    let c = Consumes-kept (Some bytes) now (prepend_known pending left) w.whole w.taken k in
-    let lines : ended_lines_of (w.whole ++ pending) ≡ w.lines = w.ended pending ∙ ap (λ l. w.lines ++ l) (no_ended_line pending h) ∙ append-nil w.lines in
-    record { read = w.whole ++ pending; text = w.text; book = book; consumed = read_of bytes w.whole pending left c; appended = w.appended; ends = rw lines w.answered }
-
--- memory is wanting
-pub feeds_memory : (first : Book) (start now left wrote written : Option (List ℕ)) (pending : List ℕ) (number : ℕ) (book : Book)
-    → Going first start now wrote written number book → Keeps now (prepend_known pending left) → Feeds first start left wrote written Memory
-feeds_memory first None now left wrote written pending number book w k = tt
-feeds_memory first (Some bytes) now left wrote written pending number book w k =
-    let c = Consumes-kept (Some bytes) now (prepend_known pending left) w.whole w.taken k in
-    let (rest, e) = told bytes w.whole pending left c in
-    record {
-      read = w.whole ++ pending;
-      text = w.text;
-      book = book;
-      consumed = read_of bytes w.whole pending left c;
-      appended = w.appended;
-      ends = (w.lines, lines_of (pending ++ rest), ap lines_of e ∙ w.are (pending ++ rest), w.answered);
-    }
-
--- what is next of the lines, and where it is
-record NextLine (bytes : List ℕ) (lines : List (List ℕ)) (line : List ℕ) : Type 0 where
-  others : List (List ℕ)
-  are : lines_of bytes ≡ lines ++ line ∷ others
-
-ended_next : (bytes whole line : List ℕ) (lines : List (List ℕ)) (pending : List ℕ) (left : Option (List ℕ)) → ((more : List ℕ) → lines_of (whole ++ more) ≡ lines ++ lines_of more)
-    → HasNoLf line → Consumes (Some bytes) (prepend_known pending left) (whole ++ (line ++ 10 ∷ [])) → NextLine bytes lines line
-ended_next bytes whole line lines pending left are h c =
-    let (rest, e) = told bytes (whole ++ (line ++ 10 ∷ [])) pending left c in
-    record { others = lines_of (pending ++ rest); are = ap lines_of (e ∙ append_assoc whole (line ++ 10 ∷ []) (pending ++ rest)) ∙ are ((line ++ 10 ∷ []) ++ (pending ++ rest)) ∙ ap (λ l. lines ++ l) (lines_of_line line (pending ++ rest) h) }
-
-last_next : (bytes whole line : List ℕ) (lines : List (List ℕ)) (pending : List ℕ) (left : Option (List ℕ)) → ((more : List ℕ) → lines_of (whole ++ more) ≡ lines ++ lines_of more)
-    → HasNoLf line → 0 < length line → Consumes (Some bytes) (prepend_known pending left) (whole ++ line) → IsAtEnd (prepend_known pending left) → NextLine bytes lines line
-last_next bytes whole line lines pending left are h lt c e =
-    let all = all_read bytes (whole ++ line) pending left c e in
-    record { others = []; are = ap lines_of (sym all.1) ∙ are line ∙ ap (λ l. lines ++ l) (last_line line h lt) }
-
--- a line that isn't of the form
-fed_malformed : (first : Book) (bytes : List ℕ) (now left wrote written written' : Option (List ℕ)) (number : ℕ) (line read : List ℕ) (book : Book) (w : Going first (Some bytes) now wrote written number book)
-    → NextLine bytes w.lines line → Consumes (Some bytes) left read → IsMalformed number line → Keeps written written' → Fed first bytes left wrote written' (Malformed number)
-fed_malformed first bytes now left wrote written written' number line read book w next c m k = record {
-  read = read;
-  text = w.text;
-  book = book;
-  consumed = c;
-  appended = appends_keeps _ _ _ _ w.appended k;
-  ends = (w.lines, next.others, line, next.are, w.count, m, w.answered);
+pub ends_read : (start old new : InputState) (first out : OutputState) (pending pending' : List ℕ) (number : ℕ) (now : Served)
+    → Going start old first out pending number now → ReadsFor pending old new false true → Keeps (unread pending old.left) (unread pending' new.left) → HasNoLf pending' → Feeds fresh start new first out Read
+ends_read start old new first out pending pending' number now w r k h = record {
+  reads = (rw (← w.faults) r.faults, r.ends ∙ w.ends);
+  writes = w.stays.faults;
+  fed = known start.left (λ bytes. FedAnswers fresh bytes new first out Read) (λ bytes is.
+      let (read, others, on, count) = read_to_fault bytes pending pending' old new w.lines (of_bytes start.left bytes pending old.left w.lines is w.taken) r.ahead k h in
+      record { read = read; text = w.text; now = now; consumed = on.consumed; appended = w.appended; ends = (rw count w.answered, rw count on.needed) });
 }
 
--- memory is refused before it is known what the line asks
-fed_memory : (first : Book) (bytes : List ℕ) (now left wrote written written' : Option (List ℕ)) (number : ℕ) (line read : List ℕ) (book : Book) (w : Going first (Some bytes) now wrote written number book)
-    → NextLine bytes w.lines line → Consumes (Some bytes) left read → Keeps written written' → Fed first bytes left wrote written' Memory
-fed_memory first bytes now left wrote written written' number line read book w next c k = record {
-  read = read;
-  text = w.text;
-  book = book;
-  consumed = c;
-  appended = appends_keeps _ _ _ _ w.appended k;
-  ends = (w.lines, line ∷ next.others, next.are, w.answered);
+-- memory was refused in reading
+pub ends_memory : (start old new : InputState) (first out : OutputState) (pending pending' : List ℕ) (number : ℕ) (now : Served)
+    → Going start old first out pending number now → ReadsFor pending old new false false → Keeps (unread pending old.left) (unread pending' new.left) → Feeds fresh start new first out Memory
+ends_memory start old new first out pending pending' number now w r k = record {
+  reads = (r.faults ∙ w.faults, inl (r.ends ∙ w.ends));
+  writes = w.stays.faults;
+  fed = known start.left (λ bytes. FedAnswers fresh bytes new first out Memory) (λ bytes is.
+      let (read, others, on) = read_on bytes pending pending' old new w.lines (of_bytes start.left bytes pending old.left w.lines is w.taken) r.ahead k in
+      record { read = read; text = w.text; now = now; consumed = on.consumed; appended = w.appended; ends = record { lines = w.lines; others = others; are = on.are; needed = on.needed; answered = w.answered } });
 }
 
--- the answer was written in part
-fed_write : (first : Book) (bytes : List ℕ) (now left wrote written written' : Option (List ℕ)) (number : ℕ) (line read : List ℕ) (book new : Book) (answer : Answer) (w : Going first (Some bytes) now wrote written number book)
-    → NextLine bytes w.lines line → Consumes (Some bytes) left read → LineStep book_limit book line new answer → AppendsFront written written' (text_of answer) → Fed first bytes left wrote written' Write
-fed_write first bytes now left wrote written written' number line read book new answer w next c s (part, (rest, e), a) = record {
-  read = read;
-  text = w.text ++ part;
-  book = new;
-  consumed = c;
-  appended = Appends-trans _ _ _ _ _ w.appended a;
-  ends = (
-    w.lines ++ line ∷ [],
-    next.others,
-    w.text ++ text_of answer,
-    next.are ∙ sym (append_assoc w.lines (line ∷ []) next.others),
-    answered_more first w.lines line w.text book new answer w.answered s,
-    (rest, ap (λ l. w.text ++ l) e ∙ sym (append_assoc w.text part rest)),
-  );
+-- a line is too long
+pub ends_long : (start old new : InputState) (first out : OutputState) (pending pending' : List ℕ) (number : ℕ) (now : Served)
+    → Going start old first out pending number now → ReadsFor pending old new false false → Keeps (unread pending old.left) (unread pending' new.left) → BeginsLong pending' → Feeds fresh start new first out (Malformed number)
+ends_long start old new first out pending pending' number now w r k h = record {
+  reads = (r.faults ∙ w.faults, inl (r.ends ∙ w.ends));
+  writes = w.stays.faults;
+  fed = known start.left (λ bytes. FedAnswers fresh bytes new first out (Malformed number)) (λ bytes is.
+      let (read, line, others, on, lt) = read_too_long bytes pending pending' old new w.lines (of_bytes start.left bytes pending old.left w.lines is w.taken) r.ahead k h in
+      record { read = read; text = w.text; now = now; consumed = on.consumed; appended = w.appended; ends = record { lines = w.lines; line = line; others = others; are = on.are; count = w.count; asks = too_long number line lt; needed = on.needed; answered = w.answered } });
 }
 
-pub feeds_line_malformed : (first : Book) (start now left wrote written written' : Option (List ℕ)) (pending : List ℕ) (number : ℕ) (line : List ℕ) (book : Book)
-    → Going first start now wrote written number book → HasNoLf line → Consumes now (prepend_known pending left) (line ++ 10 ∷ []) → IsMalformed number line → Keeps written written' → Feeds first start left wrote written' (Malformed number)
-feeds_line_malformed first None now left wrote written written' pending number line book w h c m k = tt
-feeds_line_malformed first (Some bytes) now left wrote written written' pending number line book w h c m k =
-    let d = Consumes-trans (Some bytes) now (prepend_known pending left) w.whole (line ++ 10 ∷ []) w.taken c in
-    fed_malformed first bytes now left wrote written written' number line _ book w (ended_next bytes w.whole line w.lines pending left w.are h d) (read_of bytes _ pending left d) m k
+-- What was looked at: a line that ends at an LF, or with the input.
+pub record Looked (start old new : InputState) (line : List ℕ) (lines : List (List ℕ)) : Type 0 where
+  pub ends : (new.ends ≡ old.ends) ⊎ (new.ends ≡ counted old.ends)
+  pub on : (bytes : List ℕ) → start.left ≡ Some bytes → (read : List ℕ) × (others more : List (List ℕ)) × ReadOn bytes new.left read lines (line ∷ others) × (lines_of read ≡ lines ++ line ∷ more)
 
-pub feeds_line_write : (first : Book) (start now left wrote written written' : Option (List ℕ)) (pending : List ℕ) (number : ℕ) (line : List ℕ) (book new : Book) (answer : Answer)
-    → Going first start now wrote written number book → HasNoLf line → Consumes now (prepend_known pending left) (line ++ 10 ∷ []) → LineStep book_limit book line new answer → AppendsFront written written' (text_of answer) → Feeds first start left wrote written' Write
-feeds_line_write first None now left wrote written written' pending number line book new answer w h c s a = tt
-feeds_line_write first (Some bytes) now left wrote written written' pending number line book new answer w h c s a =
-    let d = Consumes-trans (Some bytes) now (prepend_known pending left) w.whole (line ++ 10 ∷ []) w.taken c in
-    fed_write first bytes now left wrote written written' number line _ book new answer w (ended_next bytes w.whole line w.lines pending left w.are h d) (read_of bytes _ pending left d) s a
+pub looked_line : (start old new : InputState) (pending pending' line : List ℕ) (lines : List (List ℕ)) → Taken start.left pending old.left lines → ReadsFor pending old new false false → HasNoLf line
+    → Consumes (unread pending old.left) (unread pending' new.left) (line ++ 10 ∷ []) → Looked start old new line lines
+looked_line start old new pending pending' line lines t r h c = record {
+  ends = inl r.ends;
+  on = λ bytes is. read_line bytes pending pending' old new lines line (of_bytes start.left bytes pending old.left lines is t) r.ahead h c;
+}
 
--- the last line has no LF
-pub feeds_last : (first : Book) (start now left wrote written written' : Option (List ℕ)) (pending : List ℕ) (number : ℕ) (line : List ℕ) (book new : Book) (turn : Turn)
-    → Going first start now wrote written number book → HasNoLf line → 0 < length line → Consumes now (prepend_known pending left) line → IsAtEnd (prepend_known pending left)
-    → AnswersLine book_limit book line new written written' turn → Feeds first start left wrote written' (ending_after turn number)
-feeds_last first None now left wrote written written' pending number line book new turn w h lt c e t = tt
-feeds_last first (Some bytes) now left wrote written written' pending number line book new turns.Answered w h lt c e (answer, s, a) =
-    let d = Consumes-trans (Some bytes) now (prepend_known pending left) w.whole line w.taken c in
-    let all = all_read bytes (w.whole ++ line) pending left d e in
-    let lines : lines_of bytes ≡ w.lines ++ line ∷ [] = ap lines_of (sym all.1) ∙ w.are line ∙ ap (λ l. w.lines ++ l) (last_line line h lt) in
-    record {
-      read = (w.whole ++ line) ++ pending;
-      text = w.text ++ text_of answer;
-      book = new;
-      consumed = read_of bytes _ pending left d;
-      appended = Appends-trans _ _ _ _ _ w.appended a;
-      ends = (all.0, rw lines (answered_more first w.lines line w.text book new answer w.answered s));
-    }
-feeds_last first (Some bytes) now left wrote written written' pending number line book new turns.Malformed w h lt c e (none, same, k) =
-    let d = Consumes-trans (Some bytes) now (prepend_known pending left) w.whole line w.taken c in
-    fed_malformed first bytes now left wrote written written' number line _ book w (last_next bytes w.whole line w.lines pending left w.are h lt d e) (read_of bytes _ pending left d) (inl none) k
-feeds_last first (Some bytes) now left wrote written written' pending number line book new turns.WriteFault w h lt c e (answer, s, a) =
-    let d = Consumes-trans (Some bytes) now (prepend_known pending left) w.whole line w.taken c in
-    fed_write first bytes now left wrote written written' number line _ book new answer w (last_next bytes w.whole line w.lines pending left w.are h lt d e) (read_of bytes _ pending left d) s a
--- memory is refused for the last line
-feeds_last first (Some bytes) now left wrote written written' pending number line book new turns.Memory w h lt c e (same, k) =
-    let d = Consumes-trans (Some bytes) now (prepend_known pending left) w.whole line w.taken c in
-    fed_memory first bytes now left wrote written written' number line _ book w (last_next bytes w.whole line w.lines pending left w.are h lt d e) (read_of bytes _ pending left d) k
+pub looked_last : (start old new : InputState) (pending pending' line : List ℕ) (lines : List (List ℕ)) → Taken start.left pending old.left lines → ReadsFor pending old new true false → HasNoLf line → 0 < length line
+    → Consumes (unread pending old.left) (unread pending' new.left) line → IsAtEnd (unread pending' new.left) → Looked start old new line lines
+looked_last start old new pending pending' line lines t r h lt c e = record {
+  ends = inr r.ends;
+  on = λ bytes is. let on = read_last bytes pending pending' old new lines line (of_bytes start.left bytes pending old.left lines is t) r.ahead h lt c e in (bytes, [], [], on, on.are);
+}
 
--- memory is refused for a line
-pub feeds_line_memory : (first : Book) (start now left wrote written written' : Option (List ℕ)) (pending : List ℕ) (number : ℕ) (line : List ℕ) (book : Book)
-    → Going first start now wrote written number book → HasNoLf line → Consumes now (prepend_known pending left) (line ++ 10 ∷ []) → Keeps written written' → Feeds first start left wrote written' Memory
-feeds_line_memory first None now left wrote written written' pending number line book w h c k = tt
-feeds_line_memory first (Some bytes) now left wrote written written' pending number line book w h c k =
-    let d = Consumes-trans (Some bytes) now (prepend_known pending left) w.whole (line ++ 10 ∷ []) w.taken c in
-    fed_memory first bytes now left wrote written written' number line _ book w (ended_next bytes w.whole line w.lines pending left w.are h d) (read_of bytes _ pending left d) k
+ends_as : (start old new : InputState) → old.ends ≡ start.ends → (new.ends ≡ old.ends) ⊎ (new.ends ≡ counted old.ends) → (new.ends ≡ start.ends) ⊎ (new.ends ≡ counted start.ends)
+ends_as start old new e (inl same) = inl (same ∙ e)
+ends_as start old new e (inr more) = inr (more ∙ ap counted e)
 
-keeps_same : (written : Option (List ℕ)) → Keeps written written
-keeps_same None = tt
-keeps_same (Some xs) = refl
+-- the line isn't of the form
+pub line_malformed : (start old new : InputState) (first out : OutputState) (pending line : List ℕ) (number : ℕ) (now : Served) (w : Going start old first out pending number now)
+    → Looked start old new line w.lines → new.faults ≡ old.faults → asked_at number line ≡ None → Feeds fresh start new first out (Malformed number)
+line_malformed start old new first out pending line number now w l still none = record {
+  reads = (still ∙ w.faults, ends_as start old new w.ends l.ends);
+  writes = w.stays.faults;
+  fed = known start.left (λ bytes. FedAnswers fresh bytes new first out (Malformed number)) (λ bytes is.
+      let (read, others, more, on, within) = l.on bytes is in
+      record { read = read; text = w.text; now = now; consumed = on.consumed; appended = w.appended; ends = record { lines = w.lines; line = line; others = others; are = on.are; count = w.count; asks = none; needed = on.needed; answered = w.answered } });
+}
 
--- a line that is too long
-pub feeds_long : (first : Book) (start now left wrote written : Option (List ℕ)) (pending : List ℕ) (number : ℕ) (book : Book)
-    → Going first start now wrote written number book → Keeps now (prepend_known pending left) → BeginsLong pending → Feeds first start left wrote written (Malformed number)
-feeds_long first None now left wrote written pending number book w k long = tt
-feeds_long first (Some bytes) now left wrote written pending number book w k long =
-    let c = Consumes-kept (Some bytes) now (prepend_known pending left) w.whole w.taken k in
-    let (rest, e) = told bytes w.whole pending left c in
-    let (line, more, begins, lt) = begins_long pending rest long in
-    fed_malformed first bytes now left wrote written written number line _ book w (record { others = more; are = ap lines_of e ∙ w.are (pending ++ rest) ∙ ap (λ l. w.lines ++ l) begins }) (read_of bytes w.whole pending left c) (inr (inl lt)) (keeps_same written)
+-- memory was refused before it was known what the line asks
+pub line_memory : (start old new : InputState) (first out : OutputState) (pending line : List ℕ) (number : ℕ) (now : Served) (w : Going start old first out pending number now)
+    → Looked start old new line w.lines → new.faults ≡ old.faults → Feeds fresh start new first out Memory
+line_memory start old new first out pending line number now w l still = record {
+  reads = (still ∙ w.faults, ends_as start old new w.ends l.ends);
+  writes = w.stays.faults;
+  fed = known start.left (λ bytes. FedAnswers fresh bytes new first out Memory) (λ bytes is.
+      let (read, others, more, on, within) = l.on bytes is in
+      record { read = read; text = w.text; now = now; consumed = on.consumed; appended = w.appended; ends = record { lines = w.lines; others = line ∷ others; are = on.are; needed = on.needed; answered = w.answered } });
+}
 
--- a line too many
-pub feeds_beyond : (first : Book) (start now left wrote written : Option (List ℕ)) (reading : Reading) (number : ℕ) (book : Book) (next : Next)
-    → Going first start now wrote written number book → GivesNext now (unread reading left) reading (Ok next) → next ≢ nexts.End → 2 ^ 32 ≤ number → Feeds first start left wrote written (Malformed number)
-feeds_beyond first start now left wrote written reading number book nexts.Line w (h, lt, c) d le = feeds_line_malformed first start now left wrote written written reading.pending number reading.line book w h c (inr (inr le)) (keeps_same written)
-feeds_beyond first None now left wrote written reading number book nexts.Last w (h, lt, fits, c, e) d le = tt
-feeds_beyond first (Some bytes) now left wrote written reading number book nexts.Last w (h, lt, fits, c, e) d le =
-    let t = Consumes-trans (Some bytes) now (prepend_known reading.pending left) w.whole reading.line w.taken c in
-    fed_malformed first bytes now left wrote written written number reading.line _ book w (last_next bytes w.whole reading.line w.lines reading.pending left w.are h lt t e) (read_of bytes _ reading.pending left t) (inr (inr le)) (keeps_same written)
-feeds_beyond first start now left wrote written reading number book nexts.End w g d le = absurd (d refl)
-feeds_beyond first start now left wrote written reading number book nexts.TooLong w (k, long) d le = feeds_long first start now left wrote written reading.pending number book w k long
+-- a write of the answer failed
+pub line_cut : (start old new : InputState) (first out out' : OutputState) (pending line : List ℕ) (number : ℕ) (now next : Served) (w : Going start old first out pending number now)
+    → Looked start old new line w.lines → new.faults ≡ old.faults → length line ≤ longest_line → number < 2 ^ 32 → CutsAnswer now line next out out' → Feeds fresh start new first out' Write
+line_cut start old new first out out' pending line number now next w l still le lt a = record {
+  reads = (still ∙ w.faults, ends_as start old new w.ends l.ends);
+  writes = rw (← w.stays.faults) a.rose;
+  fed = known start.left (λ bytes. FedAnswers fresh bytes new first out' Write) (λ bytes is.
+      let (read, others, more, on, within) = l.on bytes is in
+      let (part, front, appended) = a.front in
+      record {
+        read = read;
+        text = w.text ++ part;
+        now = next;
+        consumed = on.consumed;
+        appended = Appends-trans first.written out.written out'.written w.text part w.appended appended;
+        ends = record {
+          lines = w.lines;
+          line = line;
+          others = others;
+          are = on.are;
+          within = (more, within);
+          needed = on.needed;
+          before = w.text;
+          mid = now;
+          answered = w.answered;
+          asked = a.step.asked;
+          asks = subst (λ (n : ℕ). asked_at n line ≡ Some a.step.asked) w.count (asks_at number line (Some a.step.asked) le lt a.step.asks);
+          answer = a.answer;
+          step = a.step.step;
+          part = part;
+          told = refl;
+          front = front;
+        };
+      });
+}
 
--- nothing was read
-pub feeds_nothing : (first : Book) (start wrote : Option (List ℕ)) → Feeds first start start wrote wrote Memory
-feeds_nothing first None wrote = tt
-feeds_nothing first (Some bytes) wrote = record { read = []; text = []; book = first; consumed = refl; appended = Appends-nil wrote; ends = ([], lines_of bytes, refl, answered_none first) }
+-- the last line was answered
+last_answered : (start old new : InputState) (first out out' : OutputState) (pending pending' line : List ℕ) (number : ℕ) (now next : Served)
+    → Going start old first out pending number now → ReadsFor pending old new true false → HasNoLf line → 0 < length line → length line ≤ longest_line → Consumes (unread pending old.left) (unread pending' new.left) line → IsAtEnd (unread pending' new.left)
+    → number < 2 ^ 32 → WritesAnswer now line next out out' → Feeds fresh start new first out' Done
+last_answered start old new first out out' pending pending' line number now next w r h some le c e lt a = record {
+  reads = (r.faults ∙ w.faults, r.ends ∙ ap counted w.ends);
+  writes = a.counts.faults ∙ w.stays.faults;
+  fed = known start.left (λ bytes. FedAnswers fresh bytes new first out' Done) (λ bytes is.
+      let on = read_last bytes pending pending' old new w.lines line (of_bytes start.left bytes pending old.left w.lines is w.taken) r.ahead h some c e in
+      let more = answered_more fresh w.lines line w.text now next number a.step.asked a.answer w.count w.answered (asks_at number line (Some a.step.asked) le lt a.step.asks) a.step.step in
+      record { read = bytes; text = w.text ++ text_of a.answer; now = next; consumed = on.consumed; appended = Appends-trans first.written out.written out'.written w.text (text_of a.answer) w.appended a.appended; ends = (refl, subst (λ (ls : List (List ℕ)). Answered fresh ls (w.text ++ text_of a.answer) next) (sym on.are) more) });
+}
+
+-- how the last line ends the run
+pub ends_last : (start old new : InputState) (first out out' : OutputState) (pending pending' line : List ℕ) (number : ℕ) (now next : Served) (outcome : Outcome)
+    → Going start old first out pending number now → ReadsFor pending old new true false → HasNoLf line → 0 < length line → length line ≤ longest_line → Consumes (unread pending old.left) (unread pending' new.left) line → IsAtEnd (unread pending' new.left)
+    → number < 2 ^ 32 → AnswersLine now line next out out' outcome → Feeds fresh start new first out' (ending_after outcome number)
+ends_last start old new first out out' pending pending' line number now next outcomes.Answered w r h some le c e lt a = last_answered start old new first out out' pending pending' line number now next w r h some le c e lt a
+ends_last start old new first out out' pending pending' line number now next outcomes.Malformed w r h some le c e lt (none, same, kept) =
+    let l = looked_last start old new pending pending' line w.lines w.taken r h some c e in
+    subst (λ (o : OutputState). Feeds fresh start new first o (Malformed number)) (sym kept) (line_malformed start old new first out pending line number now w l r.faults (asks_at number line None le lt none))
+ends_last start old new first out out' pending pending' line number now next outcomes.WriteFault w r h some le c e lt a =
+    let l = looked_last start old new pending pending' line w.lines w.taken r h some c e in line_cut start old new first out out' pending line number now next w l r.faults le lt a
+ends_last start old new first out out' pending pending' line number now next outcomes.Memory w r h some le c e lt (same, kept) =
+    let l = looked_last start old new pending pending' line w.lines w.taken r h some c e in
+    subst (λ (o : OutputState). Feeds fresh start new first o Memory) (sym kept) (line_memory start old new first out pending line number now w l r.faults)
+
+-- the same of a line that ends at an LF
+pub ends_line_malformed : (start old new : InputState) (first out : OutputState) (pending pending' line : List ℕ) (number : ℕ) (now : Served)
+    → Going start old first out pending number now → ReadsFor pending old new false false → HasNoLf line → Consumes (unread pending old.left) (unread pending' new.left) (line ++ 10 ∷ [])
+    → asked_at number line ≡ None → Feeds fresh start new first out (Malformed number)
+ends_line_malformed start old new first out pending pending' line number now w r h c none =
+    line_malformed start old new first out pending line number now w (looked_line start old new pending pending' line w.lines w.taken r h c) r.faults none
+
+pub ends_line_none : (start old new : InputState) (first out out' : OutputState) (pending pending' line : List ℕ) (number : ℕ) (now : Served)
+    → Going start old first out pending number now → ReadsFor pending old new false false → HasNoLf line → length line ≤ longest_line → Consumes (unread pending old.left) (unread pending' new.left) (line ++ 10 ∷ [])
+    → number < 2 ^ 32 → asked_of line ≡ None → out' ≡ out → Feeds fresh start new first out' (Malformed number)
+ends_line_none start old new first out out' pending pending' line number now w r h le c lt none kept =
+    subst (λ (o : OutputState). Feeds fresh start new first o (Malformed number)) (sym kept) (ends_line_malformed start old new first out pending pending' line number now w r h c (asks_at number line None le lt none))
+
+pub ends_line_memory : (start old new : InputState) (first out out' : OutputState) (pending pending' line : List ℕ) (number : ℕ) (now : Served)
+    → Going start old first out pending number now → ReadsFor pending old new false false → HasNoLf line → Consumes (unread pending old.left) (unread pending' new.left) (line ++ 10 ∷ [])
+    → out' ≡ out → Feeds fresh start new first out' Memory
+ends_line_memory start old new first out out' pending pending' line number now w r h c kept =
+    subst (λ (o : OutputState). Feeds fresh start new first o Memory) (sym kept) (line_memory start old new first out pending line number now w (looked_line start old new pending pending' line w.lines w.taken r h c) r.faults)
+
+pub ends_line_cut : (start old new : InputState) (first out out' : OutputState) (pending pending' line : List ℕ) (number : ℕ) (now next : Served)
+    → Going start old first out pending number now → ReadsFor pending old new false false → HasNoLf line → length line ≤ longest_line → Consumes (unread pending old.left) (unread pending' new.left) (line ++ 10 ∷ [])
+    → number < 2 ^ 32 → CutsAnswer now line next out out' → Feeds fresh start new first out' Write
+ends_line_cut start old new first out out' pending pending' line number now next w r h le c lt a =
+    line_cut start old new first out out' pending line number now next w (looked_line start old new pending pending' line w.lines w.taken r h c) r.faults le lt a
+
+-- a line whose number is too high
+pub ends_late_line : (start old new : InputState) (first out : OutputState) (pending pending' line : List ℕ) (number : ℕ) (now : Served)
+    → Going start old first out pending number now → ReadsFor pending old new false false → HasNoLf line → Consumes (unread pending old.left) (unread pending' new.left) (line ++ 10 ∷ [])
+    → 2 ^ 32 ≤ number → Feeds fresh start new first out (Malformed number)
+ends_late_line start old new first out pending pending' line number now w r h c late = ends_line_malformed start old new first out pending pending' line number now w r h c (too_late number line late)
+
+pub ends_late_last : (start old new : InputState) (first out : OutputState) (pending pending' line : List ℕ) (number : ℕ) (now : Served)
+    → Going start old first out pending number now → ReadsFor pending old new true false → HasNoLf line → 0 < length line → Consumes (unread pending old.left) (unread pending' new.left) line → IsAtEnd (unread pending' new.left)
+    → 2 ^ 32 ≤ number → Feeds fresh start new first out (Malformed number)
+ends_late_last start old new first out pending pending' line number now w r h some c e late =
+    line_malformed start old new first out pending line number now w (looked_last start old new pending pending' line w.lines w.taken r h some c e) r.faults (too_late number line late)

@@ -1,109 +1,102 @@
 -- Runs keep the law, and each pull is shown.
-use Rattle.std.proofs.Common.{◌≡◌, ℕ, List, [], ◌∷◌, ◌++◌, length, Some, None, refl, sym, ap, ◌∙◌, subst, append_assoc, append-nil, inl, inr, arith}
+use Rattle.std.proofs.Common.{◌≡◌, ℕ, List, [], ◌∷◌, ◌++◌, length, Option, Some, None, Result, Ok, Err, refl, sym, ap, ◌∙◌, subst, append_assoc, append-nil, inl, inr, arith}
 use Rattle.std.specs.List.{range_with_len}
 use Rattle.std.specs.List.Sorted.{IsStrictlyIncreasing}
-use Rattle.rv_wire.specs.declared.error_body.ErrorBody.TheVariants as errors
-use Rattle.rv_desk.specs.declared.turn.PullReply.{PullReply}
-use Rattle.rv_desk.specs.declared.turn.PullAnswer.TheVariants as pulls
-use Rattle.rv_desk.specs.declared.turn.RetireAnswer.TheVariants as retires
+use Rattle.rv_wire.specs.declared.error_body.ErrorBody.{ErrorBody}
 use Rattle.rv_book.specs.Book.{Book, last}
-use Rattle.rv_desk.specs.Lawful.{IsLawful}
-use Rattle.rv_desk.specs.Laws.{act_ids, look_orders, IdsCountUp, OrdersRise, PushesKeepLaw, PullsKeepLaw, RetirementsKeepLaw, PullsShow}
-use Rattle.rv_cli.specs.declared.answer.Answer.{Answer}
-use Rattle.rv_cli.specs.declared.answer.Answer.TheVariants.{Pushed, Pulled, Retired, Refused}
-use Rattle.rv_cli.specs.declared.request.Request.{Request}
-use Rattle.rv_cli.specs.declared.request.Request.TheVariants.{Push, Pull, Retire}
-use Rattle.rv_cli.specs.Requests.{Asked}
-use Rattle.rv_cli.specs.Steps.{Answers, Step, Run}
-use Rattle.rv_cli.specs.Laws.{ShowsAt}
+use Rattle.rv_history.specs.declared.pull_reply.PullReply.{PullReply}
+use Rattle.rv_history.specs.declared.pull_answer.PullAnswer.{PullAnswer}
+use Rattle.rv_history.specs.declared.pull_answer.PullAnswer.TheVariants as pulls
+use Rattle.rv_history.specs.declared.retire_answer.RetireAnswer.{RetireAnswer}
+use Rattle.rv_history.specs.Machine.{Pulls, pull_outcome, retire_outcome}
+use Rattle.rv_history.specs.Served.{Served, ServedMutates, ServedPulls, ServedRetires}
+use Rattle.rv_history.specs.Lawful.{IsLawful}
+use Rattle.rv_history.specs.Laws.{act_ids, look_orders, IdsCountUp, OrdersRise, PushesKeepLaw, PullsKeepLaw, RetirementsKeepLaw, PullsShow}
+use Rattle.rv_answering.specs.declared.answer.Answer.{Answer}
+use Rattle.rv_answering.specs.declared.answer.Answer.TheVariants.{Pushed, Pulled, Retired, Refused}
+use Rattle.rv_answering.specs.declared.request.Request.{Request}
+use Rattle.rv_answering.specs.declared.request.Request.TheVariants.{Push, Pull, Retire}
+use Rattle.rv_answering.specs.Requests.{Asked}
+use Rattle.rv_answering.specs.Steps.{Answers, push_answer, pull_answer, retire_answer}
+use Rattle.rv_cli.specs.Headline.{Step, Run, ShowsAt}
 
-abbrev Kept : Book → Book → Type 0
-Kept book new = IsLawful new × ((more : Book) × (new ≡ book ++ more))
+abbrev Kept : Served → Served → Type 0
+Kept old new = IsLawful new.book × ((more : Book) × (new.book ≡ old.book ++ more))
 
-lawful_none : IsLawful []
-lawful_none [] after entry e = absurd (cc)
-lawful_none (b ∷ before) after entry e = absurd (cc)
+kept_same : (old new : Served) → new ≡ old → IsLawful old.book → Kept old new
+kept_same old new same lawful = subst (λ (s : Served). Kept old s) (sym same) (lawful, ([], sym (append-nil old.book)))
 
-kept_same : (book new : Book) → new ≡ book → IsLawful book → Kept book new
-kept_same book new same lawful = (subst (λ (b : Book). IsLawful b) (sym same) lawful, ([], same ∙ sym (append-nil book)))
+kept_on : (old mid new : Served) → Kept old mid → Kept mid new → Kept old new
+kept_on old mid new (_, (some, p)) (lawful, (more, q)) = (lawful, (some ++ more, q ∙ ap (λ (b : Book). b ++ more) p ∙ append_assoc old.book some more))
 
-kept_on : (book mid new : Book) → Kept book mid → Kept mid new → Kept book new
-kept_on book mid new (_, (some, p)) (lawful, (more, q)) = (lawful, (some ++ more, q ∙ ap (λ (b : Book). b ++ more) p ∙ append_assoc book some more))
+answers_keep : PushesKeepLaw → PullsKeepLaw → RetirementsKeepLaw → (old new : Served) (request : Request) (answer : Answer) → Answers ServedMutates ServedPulls ServedRetires old request answer new → IsLawful old.book → Kept old new
+answers_keep pushes pulled retired old new (Push user push) answer (refused, h, is) lawful = let kept = pushes (record { user = user; group = push.group }) push.mutations old new refused h lawful in (kept.0, kept.1)
+answers_keep pushes pulled retired old new (Pull user pull) answer (outcome, h, is) lawful = pulled old.limit user pull old.book new.book outcome h.0 lawful
+answers_keep pushes pulled retired old new (Retire group) answer (outcome, h, is) lawful = retired old.limit group old.book new.book outcome h.0 lawful
 
-answers_keep : PushesKeepLaw → PullsKeepLaw → RetirementsKeepLaw → (limit : ℕ) (book new : Book) (request : Request) (answer : Answer) → Answers limit book request answer new → IsLawful book → Kept book new
-answers_keep pushes pulled retired limit book new (Push user push) Pushed h lawful = pushes limit (record { user = user; group = push.group }) push.mutations book new None h lawful
-answers_keep pushes pulled retired limit book new (Push user push) (Refused refusal) h lawful = pushes limit (record { user = user; group = push.group }) push.mutations book new (Some refusal) h lawful
-answers_keep pushes pulled retired limit book new (Push user push) (Pulled reply) h lawful = absurd h
-answers_keep pushes pulled retired limit book new (Push user push) (Retired place) h lawful = absurd h
-answers_keep pushes pulled retired limit book new (Pull user pull) (Pulled reply) h lawful = pulled limit user pull book new (pulls.Pulled reply) h lawful
-answers_keep pushes pulled retired limit book new (Pull user pull) (Refused errors.GroupOfOther) h lawful = pulled limit user pull book new pulls.GroupOfOther h lawful
-answers_keep pushes pulled retired limit book new (Pull user pull) (Refused errors.ClientStateNotFound) h lawful = pulled limit user pull book new pulls.NotFound h lawful
-answers_keep pushes pulled retired limit book new (Pull user pull) (Refused (errors.Limit what at)) h lawful = pulled limit user pull book new (pulls.Limit what at) h lawful
-answers_keep pushes pulled retired limit book new (Pull user pull) (Refused errors.Memory) h lawful = pulled limit user pull book new pulls.Memory h lawful
-answers_keep pushes pulled retired limit book new (Pull user pull) (Refused (errors.Future expected got)) h lawful = absurd h
-answers_keep pushes pulled retired limit book new (Pull user pull) (Refused errors.NotJson) h lawful = absurd h
-answers_keep pushes pulled retired limit book new (Pull user pull) (Refused (errors.Field field)) h lawful = absurd h
-answers_keep pushes pulled retired limit book new (Pull user pull) (Refused (errors.VersionNotSupported kind)) h lawful = absurd h
-answers_keep pushes pulled retired limit book new (Pull user pull) (Refused errors.ClientOfOther) h lawful = absurd h
-answers_keep pushes pulled retired limit book new (Pull user pull) (Refused errors.NoGroup) h lawful = absurd h
-answers_keep pushes pulled retired limit book new (Pull user pull) Pushed h lawful = absurd h
-answers_keep pushes pulled retired limit book new (Pull user pull) (Retired place) h lawful = absurd h
-answers_keep pushes pulled retired limit book new (Retire group) (Retired place) h lawful = retired limit group book new (retires.Retired place) h lawful
-answers_keep pushes pulled retired limit book new (Retire group) (Refused errors.NoGroup) h lawful = retired limit group book new retires.NoGroup h lawful
-answers_keep pushes pulled retired limit book new (Retire group) (Refused errors.ClientStateNotFound) h lawful = retired limit group book new retires.NotFound h lawful
-answers_keep pushes pulled retired limit book new (Retire group) (Refused (errors.Limit what at)) h lawful = retired limit group book new (retires.Limit what at) h lawful
-answers_keep pushes pulled retired limit book new (Retire group) (Refused errors.Memory) h lawful = retired limit group book new retires.Memory h lawful
-answers_keep pushes pulled retired limit book new (Retire group) (Refused (errors.Future expected got)) h lawful = absurd h
-answers_keep pushes pulled retired limit book new (Retire group) (Refused errors.NotJson) h lawful = absurd h
-answers_keep pushes pulled retired limit book new (Retire group) (Refused (errors.Field field)) h lawful = absurd h
-answers_keep pushes pulled retired limit book new (Retire group) (Refused (errors.VersionNotSupported kind)) h lawful = absurd h
-answers_keep pushes pulled retired limit book new (Retire group) (Refused errors.ClientOfOther) h lawful = absurd h
-answers_keep pushes pulled retired limit book new (Retire group) (Refused errors.GroupOfOther) h lawful = absurd h
-answers_keep pushes pulled retired limit book new (Retire group) Pushed h lawful = absurd h
-answers_keep pushes pulled retired limit book new (Retire group) (Pulled reply) h lawful = absurd h
+step_keeps : PushesKeepLaw → PullsKeepLaw → RetirementsKeepLaw → (old new : Served) (asked : Asked) (answer : Answer) → Step old asked answer new → IsLawful old.book → Kept old new
+step_keeps pushes pulled retired old new (Ok (Push user push)) answer (inl wants) lawful = kept_same old new wants.1 lawful
+step_keeps pushes pulled retired old new (Ok (Push user push)) answer (inr h) lawful = answers_keep pushes pulled retired old new (Push user push) answer h lawful
+step_keeps pushes pulled retired old new (Ok (Pull user pull)) answer (inl wants) lawful = kept_same old new wants.1 lawful
+step_keeps pushes pulled retired old new (Ok (Pull user pull)) answer (inr h) lawful = answers_keep pushes pulled retired old new (Pull user pull) answer h lawful
+step_keeps pushes pulled retired old new (Ok (Retire group)) answer h lawful = answers_keep pushes pulled retired old new (Retire group) answer h lawful
+step_keeps pushes pulled retired old new (Err fault) answer (inl wants) lawful = kept_same old new wants.1 lawful
+step_keeps pushes pulled retired old new (Err fault) answer (inr told) lawful = kept_same old new told.1 lawful
 
-step_keeps : PushesKeepLaw → PullsKeepLaw → RetirementsKeepLaw → (limit : ℕ) (book new : Book) (asked : Asked) (answer : Answer) → Step limit book asked answer new → IsLawful book → Kept book new
-step_keeps pushes pulled retired limit book new asked answer (inl refused) lawful = kept_same book new refused.1 lawful
-step_keeps pushes pulled retired limit book new asked answer (inr (inl (fault, is, told, same))) lawful = kept_same book new same lawful
-step_keeps pushes pulled retired limit book new asked answer (inr (inr (request, is, h))) lawful = answers_keep pushes pulled retired limit book new request answer h lawful
+run_keeps : PushesKeepLaw → PullsKeepLaw → RetirementsKeepLaw → (first now : Served) (askeds : List Asked) (answers : List Answer) → Run first askeds answers now → IsLawful first.book → Kept first now
+run_keeps pushes pulled retired first now [] [] same lawful = kept_same first now same lawful
+run_keeps pushes pulled retired first now [] (answer ∷ answers) h lawful = absurd h
+run_keeps pushes pulled retired first now (asked ∷ askeds) [] h lawful = absurd h
+run_keeps pushes pulled retired first now (asked ∷ askeds) (answer ∷ answers) (mid, step, rest) lawful =
+    let kept = step_keeps pushes pulled retired first mid asked answer step lawful in kept_on first mid now kept (run_keeps pushes pulled retired mid now askeds answers rest kept.0)
 
-run_keeps : PushesKeepLaw → PullsKeepLaw → RetirementsKeepLaw → (limit : ℕ) (first : Book) (askeds : List Asked) (answers : List Answer) (book : Book) → Run limit first askeds answers book → IsLawful first → Kept first book
-run_keeps pushes pulled retired limit first [] [] book same lawful = kept_same first book same lawful
-run_keeps pushes pulled retired limit first [] (answer ∷ answers) book h lawful = absurd h
-run_keeps pushes pulled retired limit first (asked ∷ askeds) [] book h lawful = absurd h
-run_keeps pushes pulled retired limit first (asked ∷ askeds) (answer ∷ answers) book (mid, step, rest) lawful =
-    let kept = step_keeps pushes pulled retired limit first mid asked answer step lawful in kept_on first mid book kept (run_keeps pushes pulled retired limit mid askeds answers book rest kept.0)
+pub books_are_lawful : PushesKeepLaw → PullsKeepLaw → RetirementsKeepLaw → IdsCountUp → OrdersRise → (first now : Served) (askeds : List Asked) (answers : List Answer) → Run first askeds answers now → IsLawful first.book
+    → IsLawful now.book × ((more : Book) × (now.book ≡ first.book ++ more)) × ((client : List ℕ) → act_ids client now.book ≡ range_with_len 1 (last client now.book)) × ((group : List ℕ) → IsStrictlyIncreasing (look_orders group now.book))
+books_are_lawful pushes pulled retired ids orders first now askeds answers run lawful =
+    let kept = run_keeps pushes pulled retired first now askeds answers run lawful in
+    (kept.0, kept.1, λ client. ids now.book client kept.0, λ group. orders now.book group kept.0)
 
-pub books_are_lawful : PushesKeepLaw → PullsKeepLaw → RetirementsKeepLaw → IdsCountUp → OrdersRise → (limit : ℕ) (askeds : List Asked) (answers : List Answer) (book : Book) → Run limit [] askeds answers book
-    → IsLawful book × ((client : List ℕ) → act_ids client book ≡ range_with_len 1 (last client book)) × ((group : List ℕ) → IsStrictlyIncreasing (look_orders group book))
-books_are_lawful pushes pulled retired ids orders limit askeds answers book run =
-    let lawful : IsLawful book = (run_keeps pushes pulled retired limit [] askeds answers book run lawful_none).0 in
-    (lawful, λ client. ids book client lawful, λ group. orders book group lawful)
+-- no push and no retirement is answered by a reply
+no_push : (reply : PullReply) (refused : Option ErrorBody) → Pulled reply ≡ push_answer refused → ⊥
+no_push reply None e = cc
+no_push reply (Some refusal) e = cc
 
-shown_at : PullsShow → (limit : ℕ) (point new : Book) (asked : Asked) (reply : PullReply) → Step limit point asked (Pulled reply) new → ShowsAt asked reply point new
-shown_at show limit point new asked reply (inl refused) = absurd (let no = refused.0 in cc)
-shown_at show limit point new asked reply (inr (inl (fault, is, told, same))) = absurd (let no = told in cc)
-shown_at show limit point new asked reply (inr (inr (Push user push, is, h))) = absurd h
-shown_at show limit point new asked reply (inr (inr (Retire group, is, h))) = absurd h
-shown_at show limit point new asked reply (inr (inr (Pull user pull, is, h))) = record { user = user; request = pull; asks = is; tells = show limit user pull point new reply h }
+no_retirement : (reply : PullReply) (outcome : Result ℕ ErrorBody) → Pulled reply ≡ retire_answer outcome → ⊥
+no_retirement reply (Ok place) e = cc
+no_retirement reply (Err refusal) e = cc
 
--- of a pull that is answered after these: its point, the step there, the book that it leaves, and the books going on
-abbrev Shown : ℕ → Book → List Asked → List Answer → Asked → PullReply → Book → Type 0
-Shown limit first before answered asked reply book =
-    (point : Book) × (new : Book) × Run limit first before answered point × Step limit point asked (Pulled reply) new × ShowsAt asked reply point new × ((more : Book) × (new ≡ point ++ more)) × ((more : Book) × (book ≡ new ++ more))
+-- the reply is the machine's
+same_reply : (reply : PullReply) (outcome : PullAnswer) → Pulled reply ≡ pull_answer (pull_outcome outcome) → outcome ≡ pulls.Pulled reply
+same_reply reply (pulls.Pulled other) e = let same : other ≡ reply = cc in ap (λ (r : PullReply). pulls.Pulled r) same
+same_reply reply pulls.GroupOfOther e = absurd (cc)
+same_reply reply pulls.NotFound e = absurd (cc)
+same_reply reply (pulls.Limit what at) e = absurd (cc)
+same_reply reply pulls.Memory e = absurd (cc)
 
-shown_from : PushesKeepLaw → PullsKeepLaw → RetirementsKeepLaw → PullsShow → (limit : ℕ) (first : Book) (before after : List Asked) (answered answers : List Answer) (asked : Asked) (reply : PullReply) (book : Book) → length before ≡ length answered → IsLawful first
-    → Run limit first (before ++ asked ∷ after) (answered ++ Pulled reply ∷ answers) book → Shown limit first before answered asked reply book
-shown_from pushes pulled retired show limit first [] after [] answers asked reply book same lawful (mid, step, rest) =
-    let kept = step_keeps pushes pulled retired limit first mid asked (Pulled reply) step lawful in
-    (first, mid, refl, step, shown_at show limit first mid asked reply step, kept.1, (run_keeps pushes pulled retired limit mid after answers book rest kept.0).1)
-shown_from pushes pulled retired show limit first [] after (x ∷ answered) answers asked reply book same lawful run = absurd (omega (arith, same))
-shown_from pushes pulled retired show limit first (a ∷ before) after [] answers asked reply book same lawful run = absurd (omega (arith, same))
-shown_from pushes pulled retired show limit first (a ∷ before) after (x ∷ answered) answers asked reply book same lawful (mid, step, rest) =
-    let kept = step_keeps pushes pulled retired limit first mid a x step lawful in
-    let (point, new, run, own, shows, here, more) = shown_from pushes pulled retired show limit mid before after answered answers asked reply book (omega (arith, same)) kept.0 rest in
+shown_at : PullsShow → (point new : Served) (asked : Asked) (reply : PullReply) → Step point asked (Pulled reply) new → ShowsAt asked reply point.book new.book
+shown_at show point new (Ok (Push user push)) reply (inl wants) = absurd (let no = wants.0 in cc)
+shown_at show point new (Ok (Push user push)) reply (inr (refused, h, is)) = absurd (no_push reply refused is)
+shown_at show point new (Ok (Pull user pull)) reply (inl wants) = absurd (let no = wants.0 in cc)
+shown_at show point new (Ok (Pull user pull)) reply (inr (outcome, h, is)) =
+    let step : Pulls point.limit user pull point.book (pulls.Pulled reply) new.book = subst (λ (o : PullAnswer). Pulls point.limit user pull point.book o new.book) (same_reply reply outcome is) h.0 in
+    record { user = user; request = pull; asks = refl; tells = show point.limit user pull point.book new.book reply step }
+shown_at show point new (Ok (Retire group)) reply (outcome, h, is) = absurd (no_retirement reply (retire_outcome outcome) is)
+shown_at show point new (Err fault) reply (inl wants) = absurd (let no = wants.0 in cc)
+shown_at show point new (Err fault) reply (inr told) = absurd (let no = told.0 in cc)
+
+-- of a pull that is answered after these: its point, the step there, the state that it leaves, and the books going on
+abbrev Shown : Served → List Asked → List Answer → Asked → PullReply → Served → Type 0
+Shown first before answered asked reply now =
+    (point new : Served) × Run first before answered point × Step point asked (Pulled reply) new × ShowsAt asked reply point.book new.book × ((more : Book) × (new.book ≡ point.book ++ more)) × ((more : Book) × (now.book ≡ new.book ++ more))
+
+pub pulls_are_shown : PushesKeepLaw → PullsKeepLaw → RetirementsKeepLaw → PullsShow → (first now : Served) (before after : List Asked) (answered answers : List Answer) (asked : Asked) (reply : PullReply) → IsLawful first.book → length before ≡ length answered
+    → Run first (before ++ asked ∷ after) (answered ++ Pulled reply ∷ answers) now → Shown first before answered asked reply now
+pulls_are_shown pushes pulled retired show first now [] after [] answers asked reply lawful same (mid, step, rest) =
+    let kept = step_keeps pushes pulled retired first mid asked (Pulled reply) step lawful in
+    (first, mid, refl, step, shown_at show first mid asked reply step, kept.1, (run_keeps pushes pulled retired mid now after answers rest kept.0).1)
+pulls_are_shown pushes pulled retired show first now [] after (x ∷ answered) answers asked reply lawful same run = absurd (omega (arith, same))
+pulls_are_shown pushes pulled retired show first now (a ∷ before) after [] answers asked reply lawful same run = absurd (omega (arith, same))
+pulls_are_shown pushes pulled retired show first now (a ∷ before) after (x ∷ answered) answers asked reply lawful same (mid, step, rest) =
+    let kept = step_keeps pushes pulled retired first mid a x step lawful in
+    let (point, new, run, own, shows, here, more) = pulls_are_shown pushes pulled retired show mid now before after answered answers asked reply kept.0 (omega (arith, same)) rest in
     (point, new, (mid, step, run), own, shows, here, more)
-
-pub pulls_are_shown : PushesKeepLaw → PullsKeepLaw → RetirementsKeepLaw → PullsShow → (limit : ℕ) (before after : List Asked) (answered answers : List Answer) (asked : Asked) (reply : PullReply) (book : Book) → length before ≡ length answered
-    → Run limit [] (before ++ asked ∷ after) (answered ++ Pulled reply ∷ answers) book → Shown limit [] before answered asked reply book
-pulls_are_shown pushes pulled retired show limit before after answered answers asked reply book same run = shown_from pushes pulled retired show limit [] before after answered answers asked reply book same lawful_none run

@@ -1,11 +1,3 @@
-pub mod Lines
-pub mod Found
-pub mod Reading
-pub mod Requests
-pub mod Steps
 pub mod Texts
-pub mod Turn
-pub mod Feed
-pub mod Run
-pub mod Laws
-pub mod Asking
+pub mod Headline
+pub mod Feeding

@@ -1,22 +1,16 @@
--- The texts of answers and of statuses.
+-- The texts that a run writes: the lines of answers, and the text of each status.
 use Rattle.std.specs.Prelude.{ℕ, List, [], ◌++◌, codes, decimal}
-use Rattle.serde_json.specs.Written.{compact_text}
-use Rattle.rv_wire.specs.Answers.{retired_data}
-use Rattle.rv_wire.specs.Errors.{error_data, error_status}
-use Rattle.rv_cli.specs.declared.answer.Answer.{Answer}
-use Rattle.rv_cli.specs.declared.answer.Answer.TheVariants.{Pushed, Pulled, Retired, Refused}
-use Rattle.rv_cli.specs.declared.feed.Ending.{Ending}
-use Rattle.rv_cli.specs.declared.feed.Ending.TheVariants.{Done, Read, Write, Memory, Malformed}
+use Rattle.rv_answering.specs.declared.answer.Answer.{Answer}
+use Rattle.rv_answering.specs.Texts.{answer_status, answer_body}
+use Rattle.rv_cli.specs.declared.ending.Ending.{Ending}
+use Rattle.rv_cli.specs.declared.ending.Ending.TheVariants.{Done, Read, Write, Memory, Malformed}
 
 -- STATUS BODY, and LF
 abbrev pub line_text : ℕ → List ℕ → List ℕ
 line_text status body = decimal status ++ (codes " " ++ (body ++ codes "\n"))
 
 abbrev pub text_of : Answer → List ℕ
-text_of Pushed = line_text 200 (codes "{}")
-text_of (Pulled reply) = line_text 200 reply.text
-text_of (Retired place) = line_text 200 (compact_text (retired_data place))
-text_of (Refused refusal) = line_text (error_status refusal) (compact_text (error_data refusal))
+text_of answer = line_text (answer_status answer) (answer_body answer)
 
 abbrev pub status_of : Ending → ℕ
 status_of Done = 0

@@ -1,17 +1,17 @@
 //! What follows from the clause of [`run`](crate::run), as contracts of functions that do nothing: a check of the crate
 //! proves them.
-ghost use Rattle.rv_cli.specs.Laws.{BooksAreLawful, PullsAreShown};
+ghost use Rattle.rv_cli.specs.Headline.{BooksAreLawful, PullsAreShown};
 
-/// In the book of a run from the empty book each client's acts have the ids 1, 2, 3 and so on, and the orders of each
+/// In the book of a run from the lawful book each client's acts have the ids 1, 2, 3 and so on, and the orders of each
 /// group's looks rise.
 pub fn books_are_lawful()
     ensures { BooksAreLawful }
 {
-    rv_desk::laws::pushes_keep_law();
-    rv_desk::laws::pulls_keep_law();
-    rv_desk::laws::retirements_keep_law();
-    rv_desk::laws::ids_count_up();
-    rv_desk::laws::orders_rise();
+    rv_history::laws::pushes_keep_law();
+    rv_history::laws::pulls_keep_law();
+    rv_history::laws::retirements_keep_law();
+    rv_history::laws::ids_count_up();
+    rv_history::laws::orders_rise();
 }
 
 /// The patch of each pull that a run answers, applied to the view that its cookie names, gives exactly what the user sees at
@@ -19,8 +19,8 @@ pub fn books_are_lawful()
 pub fn pulls_are_shown()
     ensures { PullsAreShown }
 {
-    rv_desk::laws::pushes_keep_law();
-    rv_desk::laws::pulls_keep_law();
-    rv_desk::laws::retirements_keep_law();
-    rv_desk::laws::pulls_show();
+    rv_history::laws::pushes_keep_law();
+    rv_history::laws::pulls_keep_law();
+    rv_history::laws::retirements_keep_law();
+    rv_history::laws::pulls_show();
 }

@@ -1,19 +1,18 @@
 // The texts that are written.
 ghost use Rattle.std.specs.Prelude.{◌++◌, decimal, codes};
-ghost use Rattle.rv_base.specs.Causes.{HasCause};
-ghost use Rattle.rv_base.specs.Writes.{WritesText};
-ghost use Rattle.rv_cli.specs.declared.answer.Answer.TheVariants.{Refused, Retired};
-ghost use Rattle.rv_cli.specs.Texts.{line_text, text_of, status_text};
+ghost use Rattle.rv_base.specs.Outside.{Writes, IsSteady};
+ghost use Rattle.rv_answering.specs.declared.answer.Answer.TheVariants.{Refused, Retired};
+ghost use Rattle.rv_cli.specs.Texts.{line_text, text_of, status_text, usage_text};
 
-use crate::answer::Answer;
-use crate::feed::Ending;
+use crate::ending::Ending;
 use itoa::Buffer;
+use rv_answering::Answer;
 use rv_base::{Failed, Sink, write_all};
 use rv_wire::{ErrorBody, error_text, retired_text};
 
 fn write_number<O: Sink>(out: &mut O, number: u64) -> Result<(), Failed>
-    ensures bytes { WritesText (O.written out.old) (O.written out.new) result (decimal number) }
-    ensures cause { HasCause (O.faults out.old) (O.faults out.new) result }
+    ensures writes { Writes (O.state out.old) (O.state out.new) result (decimal number) }
+    ensures steady { O.fails_no_more out.old → IsSteady (O.fails_no_more out.new) (O.state out.old) (O.state out.new) result }
 {
     let mut buffer = Buffer::new();
     write_all(out, buffer.format(number).as_bytes())
@@ -21,8 +20,8 @@ fn write_number<O: Sink>(out: &mut O, number: u64) -> Result<(), Failed>
 
 // A text, and LF.
 fn write_ended<O: Sink>(out: &mut O, text: &[u8]) -> Result<(), Failed>
-    ensures bytes { WritesText (O.written out.old) (O.written out.new) result (text.now ++ codes "\n") }
-    ensures cause { HasCause (O.faults out.old) (O.faults out.new) result }
+    ensures writes { Writes (O.state out.old) (O.state out.new) result (text.now ++ codes "\n") }
+    ensures steady { O.fails_no_more out.old → IsSteady (O.fails_no_more out.new) (O.state out.old) (O.state out.new) result }
 {
     write_all(out, text)?;
     write_all(out, b"\n")
@@ -30,8 +29,8 @@ fn write_ended<O: Sink>(out: &mut O, text: &[u8]) -> Result<(), Failed>
 
 // A space, a text, and LF.
 fn write_body<O: Sink>(out: &mut O, body: &[u8]) -> Result<(), Failed>
-    ensures bytes { WritesText (O.written out.old) (O.written out.new) result (codes " " ++ (body.now ++ codes "\n")) }
-    ensures cause { HasCause (O.faults out.old) (O.faults out.new) result }
+    ensures writes { Writes (O.state out.old) (O.state out.new) result (codes " " ++ (body.now ++ codes "\n")) }
+    ensures steady { O.fails_no_more out.old → IsSteady (O.fails_no_more out.new) (O.state out.old) (O.state out.new) result }
 {
     match write_all(out, b" ") {
         Ok(()) => write_ended(out, body),
@@ -40,16 +39,16 @@ fn write_body<O: Sink>(out: &mut O, body: &[u8]) -> Result<(), Failed>
 }
 
 fn write_line<O: Sink>(out: &mut O, status: u16, body: &[u8]) -> Result<(), Failed>
-    ensures bytes { WritesText (O.written out.old) (O.written out.new) result (line_text status body.now) }
-    ensures cause { HasCause (O.faults out.old) (O.faults out.new) result }
+    ensures writes { Writes (O.state out.old) (O.state out.new) result (line_text status body.now) }
+    ensures steady { O.fails_no_more out.old → IsSteady (O.fails_no_more out.new) (O.state out.old) (O.state out.new) result }
 {
     write_number(out, u64::from(status))?;
     write_body(out, body)
 }
 
 fn write_refusal<O: Sink>(out: &mut O, refusal: &ErrorBody) -> Result<(), Failed>
-    ensures bytes { WritesText (O.written out.old) (O.written out.new) result (text_of (Refused refusal.now)) }
-    ensures cause { HasCause (O.faults out.old) (O.faults out.new) result }
+    ensures writes { Writes (O.state out.old) (O.state out.new) result (text_of (Refused refusal.now)) }
+    ensures steady { O.fails_no_more out.old → IsSteady (O.fails_no_more out.new) (O.state out.old) (O.state out.new) result }
 {
     let mut buffer = [0; 128];
     let length = error_text(refusal, &mut buffer);
@@ -57,8 +56,8 @@ fn write_refusal<O: Sink>(out: &mut O, refusal: &ErrorBody) -> Result<(), Failed
 }
 
 fn write_retired<O: Sink>(out: &mut O, place: u32) -> Result<(), Failed>
-    ensures bytes { WritesText (O.written out.old) (O.written out.new) result (text_of (Retired place)) }
-    ensures cause { HasCause (O.faults out.old) (O.faults out.new) result }
+    ensures writes { Writes (O.state out.old) (O.state out.new) result (text_of (Retired place)) }
+    ensures steady { O.fails_no_more out.old → IsSteady (O.fails_no_more out.new) (O.state out.old) (O.state out.new) result }
 {
     let mut buffer = [0; 128];
     let length = retired_text(place, &mut buffer);
@@ -66,9 +65,9 @@ fn write_retired<O: Sink>(out: &mut O, place: u32) -> Result<(), Failed>
 }
 
 /// Writes the line of an answer: its status, a space, its body, and LF.
-pub fn write_answer<O: Sink>(out: &mut O, answer: &Answer) -> Result<(), Failed>
-    ensures bytes { WritesText (O.written out.old) (O.written out.new) result (text_of answer.now) }
-    ensures cause { HasCause (O.faults out.old) (O.faults out.new) result }
+pub(crate) fn write_answer<O: Sink>(out: &mut O, answer: &Answer) -> Result<(), Failed>
+    ensures writes { Writes (O.state out.old) (O.state out.new) result (text_of answer.now) }
+    ensures steady { O.fails_no_more out.old → IsSteady (O.fails_no_more out.new) (O.state out.old) (O.state out.new) result }
 {
     match answer {
         Answer::Pushed => write_line(out, 200, b"{}"),
@@ -79,8 +78,8 @@ pub fn write_answer<O: Sink>(out: &mut O, answer: &Answer) -> Result<(), Failed>
 }
 
 fn write_malformed<O: Sink>(out: &mut O, number: u64) -> Result<(), Failed>
-    ensures bytes { WritesText (O.written out.old) (O.written out.new) result (codes "line " ++ (decimal number ++ codes "\n")) }
-    ensures cause { HasCause (O.faults out.old) (O.faults out.new) result }
+    ensures writes { Writes (O.state out.old) (O.state out.new) result (codes "line " ++ (decimal number ++ codes "\n")) }
+    ensures steady { O.fails_no_more out.old → IsSteady (O.fails_no_more out.new) (O.state out.old) (O.state out.new) result }
 {
     let mut buffer = Buffer::new();
     match write_all(out, b"line ") {
@@ -90,9 +89,9 @@ fn write_malformed<O: Sink>(out: &mut O, number: u64) -> Result<(), Failed>
 }
 
 /// Writes the text of a feed's ending.
-pub fn write_ending<O: Sink>(out: &mut O, ending: Ending) -> Result<(), Failed>
-    ensures bytes { WritesText (O.written out.old) (O.written out.new) result (status_text ending) }
-    ensures cause { HasCause (O.faults out.old) (O.faults out.new) result }
+pub(crate) fn write_ending<O: Sink>(out: &mut O, ending: Ending) -> Result<(), Failed>
+    ensures writes { Writes (O.state out.old) (O.state out.new) result (status_text ending) }
+    ensures steady { O.fails_no_more out.old → IsSteady (O.fails_no_more out.new) (O.state out.old) (O.state out.new) result }
 {
     match ending {
         Ending::Done => Ok(()),
@@ -101,4 +100,15 @@ pub fn write_ending<O: Sink>(out: &mut O, ending: Ending) -> Result<(), Failed>
         Ending::Memory => write_all(out, b"memory\n"),
         Ending::Malformed(number) => write_malformed(out, number),
     }
+}
+
+/// Writes the text of words that are no line of the command set.
+pub(crate) fn write_usage<O: Sink>(out: &mut O) -> Result<(), Failed>
+    ensures writes { Writes (O.state out.old) (O.state out.new) result usage_text }
+    ensures steady { O.fails_no_more out.old → IsSteady (O.fails_no_more out.new) (O.state out.old) (O.state out.new) result }
+{
+    write_all(
+        out,
+        b"usage: rv feed|serve|retire|lists|activity|check|make\n",
+    )
 }

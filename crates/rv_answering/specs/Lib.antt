@@ -1,0 +1,5 @@
+pub mod Requests
+pub mod Reads
+pub mod Steps
+pub mod Texts
+pub mod Lines

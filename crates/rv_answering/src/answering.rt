@@ -1,0 +1,80 @@
+// What is asked, answered by turns.
+ghost use Rattle.std.specs.Prelude.{◌≡◌};
+ghost use Rattle.rv_answering.specs.Requests.{Asked};
+ghost use Rattle.rv_answering.specs.Reads.{IsReading};
+ghost use Rattle.rv_answering.specs.Steps.{Answers, Step};
+ghost use Rattle.rv_answering.specs.declared.request.Request.TheVariants as requests;
+ghost use Rattle.rv_answering.specs.Lines.{AnswersLine};
+
+use crate::answer::Answer;
+use crate::asking::asked_of;
+use crate::request::Request;
+use rv_base::{Id, Memory, User};
+use rv_history::{Turns, push};
+use rv_wire::{PullRequest, Push, WireFault};
+use std::alloc::Global;
+
+fn run_push<T: Turns>(turns: &mut T, user: &User, body: Push) -> Answer
+    ensures { Answers T.mutates T.pulls T.retires turns.old (requests.Push user.now body) result turns.new }
+{
+    match push(turns, user, body) {
+        None => Answer::Pushed,
+        Some(refusal) => Answer::Refused(refusal),
+    }
+}
+
+fn run_pull<T: Turns>(turns: &mut T, user: &User, body: &PullRequest) -> Answer
+    ensures { Answers T.mutates T.pulls T.retires turns.old (requests.Pull user.now body.now) result turns.new }
+{
+    match turns.pull(user, body).outcome() {
+        Ok(reply) => Answer::Pulled(reply),
+        Err(refusal) => Answer::Refused(refusal),
+    }
+}
+
+/// Retires a client group.
+pub fn retire_group<T: Turns>(turns: &mut T, group: &Id) -> Answer
+    ensures { Answers T.mutates T.pulls T.retires turns.old (requests.Retire group.now) result turns.new }
+{
+    match turns.retire(group).outcome() {
+        Ok(place) => Answer::Retired(place),
+        Err(refusal) => Answer::Refused(refusal),
+    }
+}
+
+/// Answers a request by its turns.
+pub fn serve_request<T: Turns>(turns: &mut T, request: Request) -> Answer
+    ensures { Answers T.mutates T.pulls T.retires turns.old request result turns.new }
+{
+    match request {
+        Request::Push { user, push } => run_push(turns, &user, push),
+        Request::Pull { user, pull } => run_pull(turns, &user, &pull),
+        Request::Retire { group } => retire_group(turns, &group),
+    }
+}
+
+// Answers what was read of a line.
+fn serve_reading<T: Turns>(turns: &mut T, read: Result<Request, WireFault>) -> Answer
+    ensures { (asked : Asked) → IsReading asked read → Step T.mutates T.pulls T.retires turns.old asked result turns.new }
+{
+    match read {
+        Ok(request) => serve_request(turns, request),
+        Err(fault) => Answer::Refused(fault.refusal()),
+    }
+}
+
+/// The answer to a line, where it is of the form.
+///
+/// Memory that is refused before it is known what the line asks is the error, and nothing has changed then.
+pub fn answer_line<T: Turns>(
+    alloc: Global,
+    turns: &mut T,
+    line: &[u8],
+) -> Result<Option<Answer>, Memory>
+    ensures { AnswersLine T.mutates T.pulls T.retires turns.old line.now result turns.new }
+{
+    let Some(read) = asked_of(alloc, line)? else {
+        return Ok(None);
+    };
+    Ok(Some(serve_reading(turns, read)))
+}

@@ -1,0 +1,136 @@
+// From the bytes of a line to what it asks.
+ghost use Rattle.std.specs.Prelude.{◌≡◌, IfOk, option_map};
+ghost use Rattle.serde_json.specs.View.{view, members_view};
+ghost use Rattle.rv_answering.specs.Requests.{verb_of, body_asks, one_member, two_members, retire_asked, body_asked, members_ask, value_asks, asked_of};
+ghost use Rattle.rv_answering.specs.Reads.{IsReading, AreReadings};
+
+use crate::request::Request;
+use crate::schemas::FeedSchemas;
+use rv_base::{Memory, User};
+use rv_rows::text_of_value;
+use rv_wire::{WireFault, pull_of_value, push_of_value, read_json};
+use serde_json::Value;
+use std::alloc::Global;
+use std::collections::BTreeMap;
+
+/// What a line of the form asks: a request, or the first thing that is wrong with its body.
+pub type Asked = Result<Request, WireFault>;
+
+// What the user of a line does.
+#[derive(Clone, Copy, Debug, PartialEq, Eq)]
+enum Verb {
+    // A push.
+    Push,
+    // A pull.
+    Pull,
+}
+
+fn verb_of(name: &str) -> Option<Verb>
+    ensures { result ≡ verb_of name.now }
+{
+    match name {
+        "push" => Some(Verb::Push),
+        "pull" => Some(Verb::Pull),
+        _ => None,
+    }
+}
+
+// The request of a user's body.
+fn body_asks(alloc: Global, verb: Verb, user: User, body: &Value) -> Asked
+    ensures { IsReading (body_asks verb user (view body.now)) result }
+{
+    match verb {
+        Verb::Push => match push_of_value(alloc, body, &FeedSchemas) {
+            Ok(push) => Ok(Request::Push { user, push }),
+            Err(fault) => Err(fault),
+        },
+        Verb::Pull => match pull_of_value(alloc, body, &FeedSchemas) {
+            Ok(pull) => Ok(Request::Pull { user, pull }),
+            Err(fault) => Err(fault),
+        },
+    }
+}
+
+// The names and values of an object's members, where it has two.
+fn two_members(members: &BTreeMap<String, Value>) -> Option<(&str, &Value, &str, &Value)>
+    ensures { option_map (λ t. ((t.0.now, view t.1.now), (t.2.now, view t.3.now))) result ≡ two_members (members_view members.now.entries) }
+{
+    let mut left = members.iter();
+    let (first, first_value) = left.next()?;
+    let (second, second_value) = left.next()?;
+    if left.next().is_some() {
+        return None;
+    }
+    Some((first.as_str(), first_value, second.as_str(), second_value))
+}
+
+// A push or a pull, where the members are those of one up to its body.
+#[tactic(auto, unfolding(crate::specs::Requests::body_asked))]
+fn body_asked(alloc: Global, members: &BTreeMap<String, Value>) -> Result<Option<Asked>, Memory>
+    ensures { IfOk result (λ read. AreReadings (body_asked (members_view members.now.entries)) read) }
+{
+    let Some((name, body, second, user)) = two_members(members) else {
+        return Ok(None);
+    };
+    let Some(verb) = verb_of(name) else {
+        return Ok(None);
+    };
+    if second != "user" {
+        return Ok(None);
+    }
+    match text_of_value(alloc, user)? {
+        Some(user) => Ok(Some(body_asks(alloc, verb, user, body))),
+        None => Ok(None),
+    }
+}
+
+// A retirement, where this is the one member of one.
+fn retire_asked(alloc: Global, name: &str, group: &Value) -> Result<Option<Asked>, Memory>
+    ensures { IfOk result (λ read. AreReadings (retire_asked name.now (view group.now)) read) }
+{
+    if name != "retire" {
+        return Ok(None);
+    }
+    match text_of_value(alloc, group)? {
+        Some(group) => Ok(Some(Ok(Request::Retire { group }))),
+        None => Ok(None),
+    }
+}
+
+// The name and the value of an object's member, where it has one.
+fn one_member(members: &BTreeMap<String, Value>) -> Option<(&str, &Value)>
+    ensures { option_map (λ t. (t.0.now, view t.1.now)) result ≡ one_member (members_view members.now.entries) }
+{
+    let mut left = members.iter();
+    let (name, value) = left.next()?;
+    if left.next().is_some() {
+        return None;
+    }
+    Some((name.as_str(), value))
+}
+
+// What an object's members ask.
+fn members_ask(alloc: Global, members: &BTreeMap<String, Value>) -> Result<Option<Asked>, Memory>
+    ensures { IfOk result (λ read. AreReadings (members_ask (members_view members.now.entries)) read) }
+{
+    match one_member(members) {
+        Some((name, group)) => retire_asked(alloc, name, group),
+        None => body_asked(alloc, members),
+    }
+}
+
+/// What a line asks, where it is of the form up to its body.
+///
+/// Memory that is refused in reading the line's JSON or its user is the error; memory that is refused in reading a body from
+/// its JSON value is [`WireFault::Memory`], which is answered like other faults.
+pub fn asked_of(alloc: Global, line: &[u8]) -> Result<Option<Asked>, Memory>
+    ensures { IfOk result (λ read. AreReadings (asked_of line.now) read) }
+{
+    let Some(value) = read_json(alloc, line)? else {
+        return Ok(None);
+    };
+    match value.as_object() {
+        Some(members) => members_ask(alloc, members),
+        None => Ok(None),
+    }
+}

@@ -1,0 +1,10 @@
+use Rattle.rv_cli.proofs.Going.{Going}
+use Rattle.rv_cli.proofs.feed.feed.Given as goal
+
+-- all lines so far are ended and answered, and what fails no more goes on so
+abbrev pub invariant-loop-number : goal.invariant-loop-number
+invariant-loop-number g l = record {
+  going : Going (g.S.Source.state l.fn.input) (g.S.Source.state l.input) (g.O.Sink.state l.fn.out) (g.O.Sink.state l.out) l.reader.pending l.number l.desk;
+  input : g.S.Source.fails_no_more l.fn.input → g.S.Source.fails_no_more l.input;
+  output : g.O.Sink.fails_no_more l.fn.out → g.O.Sink.fails_no_more l.out;
+}

@@ -1,0 +1,157 @@
+-- Steps of a buffer of lines.
+use Rattle.std.proofs.Common.{◌≡◌, ℕ, suc, zero, ◌+◌, ◌<◌, ◌≤◌, List, [], ◌∷◌, ◌++◌, length, take, drop, get_or, Some, None, refl, sym, ap, ◌∙◌, subst, append_assoc, Bool, true, false, ◌||◌, ◌==◌, nat_lt, Ok, Err, inl, inr, arith, length-append, append-nil}
+use Rattle.std.specs.declared.option.Option.{Option}
+use Rattle.std.proofs.lemmas.List.{take-take, take-append-drop, drop_more, drop_all}
+use Rattle.std.specs.List.{list_any}
+use Rattle.std.specs.Io.KnownBytes.{Keeps, Consumes, IsAtEnd, prepend_known}
+use Rattle.std.proofs.KnownBytes.{Consumes-nil, Consumes-trans, Consumes-kept, Keeps-refl}
+use Rattle.std.proofs.lemmas.List.Folds.{list_any-append}
+use Rattle.std.proofs.lemmas.Grind.{common_steps}
+use Rattle.rv_base.specs.Outside.{InputState}
+use Rattle.rv_lines.specs.Lines.{HasNoLf, has_lf, holds_line, longest_line}
+use Rattle.rv_lines.specs.Found.{Adds, KeepsUnread}
+use Rattle.rv_lines.specs.Reading.{ReadsAhead}
+use Rattle.rv_lines.specs.declared.line_fault.LineFault.{LineFault}
+
+or_left : (a b : Bool) → (a || b) ≡ false → a ≡ false
+or_left true b e = e
+or_left false b e = refl
+
+or_right : (a b : Bool) → (a || b) ≡ false → b ≡ false
+or_right true b e = absurd (cc)
+or_right false b e = e
+
+or_both : (a b : Bool) → a ≡ false → b ≡ false → (a || b) ≡ false
+or_both true b e f = e
+or_both false b e f = f
+
+-- a front of bytes without an LF has none
+pub no_lf_take : (m : ℕ) (xs : List ℕ) → HasNoLf xs → HasNoLf (take m xs)
+no_lf_take zero xs h = refl
+no_lf_take (suc m) [] h = refl
+no_lf_take (suc m) (x ∷ xs) h = or_both (x == 10) _ (or_left (x == 10) _ h) (no_lf_take m xs (or_right (x == 10) _ h))
+
+pub no_lf_front : (m n : ℕ) (xs : List ℕ) → m ≤ n → HasNoLf (take n xs) → HasNoLf (take m xs)
+no_lf_front m n xs le h = let P : List ℕ → Type 0 = λ ys. HasNoLf ys in subst P (take-take m n xs le) (no_lf_take m (take n xs) h)
+
+split_at : (buffer : List ℕ) (at : ℕ) → at < length buffer → get_or buffer at 0 ≡ 10 → buffer ≡ (take at buffer ++ 10 ∷ []) ++ drop (at + 1) buffer
+split_at buffer at lt e =
+    sym (take-append-drop at buffer) ∙ ap (λ l. take at buffer ++ l) (drop_more buffer at 0 lt ∙ ap (λ b. b ∷ drop (at + 1) buffer) e) ∙ sym (append_assoc (take at buffer) (10 ∷ []) (drop (at + 1) buffer))
+
+-- a line that ends at an LF is taken off the buffer
+pub took_line : (pending buffer : List ℕ) (before now : Option (List ℕ)) (start : List ℕ) (at : ℕ) → pending ≡ start → Keeps (prepend_known start before) (prepend_known buffer now) → at < length buffer → get_or buffer at 0 ≡ 10
+    → Consumes (prepend_known pending before) (prepend_known (drop (at + 1) buffer) now) (take at buffer ++ 10 ∷ [])
+took_line pending buffer None now start at p k lt e = tt
+took_line pending buffer (Some xs) None start at p k lt e = absurd k
+took_line pending buffer (Some xs) (Some ys) start at p k lt e =
+    ap (λ l. l ++ xs) p ∙ sym k ∙ ap (λ l. l ++ ys) (split_at buffer at lt e) ∙ append_assoc (take at buffer ++ 10 ∷ []) (drop (at + 1) buffer) ys
+
+-- the rest is taken
+pub took_rest : (pending buffer : List ℕ) (before now : Option (List ℕ)) (start : List ℕ) (n : ℕ) → pending ≡ start → Keeps (prepend_known start before) (prepend_known buffer now) → length buffer ≤ n
+    → Consumes (prepend_known pending before) (prepend_known (drop n buffer) now) (take n buffer)
+took_rest pending buffer None now start n p k le = tt
+took_rest pending buffer (Some xs) None start n p k le = absurd k
+took_rest pending buffer (Some xs) (Some ys) start n p k le =
+    ap (λ l. l ++ xs) p ∙ sym k ∙ ap (λ l. l ++ ys) (sym (take-append-drop n buffer)) ∙ append_assoc (take n buffer) (drop n buffer) ys
+
+pub at_end : (buffer : List ℕ) (now : Option (List ℕ)) (n : ℕ) → length buffer ≤ n → IsAtEnd now → IsAtEnd (prepend_known (drop n buffer) now)
+at_end buffer None n le e = tt
+at_end buffer (Some ys) n le e = ap (λ l. l ++ ys) (drop_all n buffer le) ∙ e
+
+pub kept : (pending buffer : List ℕ) (before now : Option (List ℕ)) (start : List ℕ) → pending ≡ start → Keeps (prepend_known start before) (prepend_known buffer now) → Keeps (prepend_known pending before) (prepend_known buffer now)
+kept pending buffer before now start p k = rw p k
+
+pub kept_none : (pending buffer : List ℕ) (before now : Option (List ℕ)) (start : List ℕ) (n : ℕ) → pending ≡ start → Keeps (prepend_known start before) (prepend_known buffer now) → length buffer ≤ n → n ≡ 0 → Keeps (prepend_known pending before) (prepend_known (drop n buffer) now)
+kept_none pending buffer before now start n p k le e = rw (p, e) k
+
+-- How far a buffer is filled: it has grown by what was taken of the source, no read failed and none told the end.
+pub record Fills (first : List ℕ) (start : InputState) (buffer : List ℕ) (now : InputState) : Type 0 where
+  pub more : List ℕ
+  pub grown : buffer ≡ first ++ more
+  pub taken : Consumes start.left now.left more
+  pub faults : now.faults ≡ start.faults
+  pub ends : now.ends ≡ start.ends
+  pub ahead : ReadsAhead first start now
+
+pub fills_first : (first : List ℕ) (start : InputState) → Fills first start first start
+fills_first first start = record {
+  more = [];
+  grown = sym (append-nil first);
+  taken = Consumes-nil start.left;
+  faults = refl;
+  ends = refl;
+  ahead = inl (Keeps-refl start.left);
+}
+
+-- what follows has no LF where the whole has none
+pub no_lf_before : (first more : List ℕ) → HasNoLf (first ++ more) → HasNoLf first
+no_lf_before first more h = or_left (has_lf first) (has_lf more) (sym (list_any-append (λ byte. byte == 10) first more) ∙ h)
+
+not_longer : (n : ℕ) → n ≤ longest_line → nat_lt longest_line n ≡ false
+not_longer n le = grind (arith, common_steps)
+
+-- a buffer that has no whole line began with none
+pub not_held : (first start' : List ℕ) (more : List ℕ) → start' ≡ first ++ more → HasNoLf start' → length start' ≤ longest_line → holds_line first ≡ false
+not_held first start' more e h le =
+    let P : List ℕ → Type 0 = λ l. HasNoLf l in
+    let none = no_lf_before first more (subst P e h) in
+    let short : length first ≤ longest_line = omega (arith, length-append first more, ap length e, le) in
+    or_both (has_lf first) (nat_lt longest_line (length first)) none (not_longer (length first) short)
+
+ahead_more : (first more piece : List ℕ) (start now next : InputState) (buffer : List ℕ) → buffer ≡ first ++ more → Consumes start.left now.left more → Consumes now.left next.left piece → length piece ≤ 4096 → HasNoLf buffer → length buffer ≤ longest_line → ReadsAhead first start next
+ahead_more first more piece start now next buffer e c d le h short =
+    let P : List ℕ → Type 0 = λ l. HasNoLf l in
+    let Q : List ℕ → Type 0 = λ l. length l ≤ longest_line in
+    inr (more, piece, Consumes-trans _ _ _ _ _ c d, le, subst P e h, subst Q e short)
+
+-- one more piece
+pub fills_more : (first : List ℕ) (start : InputState) (buffer : List ℕ) (now : InputState) (buffer' : List ℕ) (next : InputState) (count : ℕ)
+    → Fills first start buffer now → HasNoLf buffer → length buffer ≤ longest_line → Adds buffer now buffer' next (Ok count) → next.faults ≡ now.faults → next.ends ≡ now.ends → Fills first start buffer' next
+fills_more first start buffer now buffer' next count f h le (piece, e, size, most, c, at_end) faults ends = record {
+  more = f.more ++ piece;
+  grown = e ∙ ap (λ l. l ++ piece) f.grown ∙ append_assoc first f.more piece;
+  taken = Consumes-trans _ _ _ _ _ f.taken c;
+  faults = faults ∙ f.faults;
+  ends = ends ∙ f.ends;
+  ahead = ahead_more first f.more piece start now next buffer f.grown f.taken c (omega (arith, size, most)) h le;
+}
+
+-- a read that told the end
+pub ahead_at_end : (first : List ℕ) (start : InputState) (buffer : List ℕ) (now : InputState) (buffer' : List ℕ) (next : InputState) (count : ℕ)
+    → Fills first start buffer now → HasNoLf buffer → length buffer ≤ longest_line → Adds buffer now buffer' next (Ok count) → ReadsAhead first start next
+ahead_at_end first start buffer now buffer' next count f h le (piece, e, size, most, c, at_end) =
+    ahead_more first f.more piece start now next buffer f.grown f.taken c (omega (arith, size, most)) h le
+
+-- a read that added nothing
+keeps_ahead : (first : List ℕ) (start now next : InputState) → ReadsAhead first start now → Keeps now.left next.left → ReadsAhead first start next
+keeps_ahead first start now next (inl k) g = inl (keeps_both start.left now.left next.left k g)
+  where
+    keeps_both : (a b c : Option (List ℕ)) → Keeps a b → Keeps b c → Keeps a c
+    keeps_both None b c p q = tt
+    keeps_both (Some x) None c p q = absurd p
+    keeps_both (Some x) (Some y) None p q = absurd q
+    keeps_both (Some x) (Some y) (Some z) p q = q ∙ p
+keeps_ahead first start now next (inr (more, piece, c, le, h, short)) g = inr (more, piece, Consumes-kept _ _ _ _ c g, le, h, short)
+
+pub ahead_at_fault : (first : List ℕ) (start : InputState) (buffer : List ℕ) (now : InputState) (buffer' : List ℕ) (next : InputState) (fault : LineFault)
+    → Fills first start buffer now → Adds buffer now buffer' next (Err fault) → ReadsAhead first start next
+ahead_at_fault first start buffer now buffer' next fault f a = keeps_ahead first start now next f.ahead a.1
+
+keeps_unread : (first more buffer : List ℕ) (start now : Option (List ℕ)) → buffer ≡ first ++ more → Consumes start now more → Keeps (prepend_known first start) (prepend_known buffer now)
+keeps_unread first more buffer None now e c = tt
+keeps_unread first more buffer (Some xs) None e c = absurd c
+keeps_unread first more buffer (Some xs) (Some ys) e c = ap (λ l. l ++ ys) e ∙ append_assoc first more ys ∙ ap (λ l. first ++ l) (sym c)
+
+-- nothing is lost of what was taken
+pub fills_unread : (first : List ℕ) (start : InputState) (buffer : List ℕ) (now : InputState) → Fills first start buffer now → KeepsUnread first start.left buffer now.left
+fills_unread first start buffer now f = keeps_unread first f.more buffer start.left now.left f.grown f.taken
+
+pub unread_at_end : (first : List ℕ) (start : InputState) (buffer : List ℕ) (now : InputState) (buffer' : List ℕ) (next : InputState) (count : ℕ)
+    → Fills first start buffer now → Adds buffer now buffer' next (Ok count) → KeepsUnread first start.left buffer' next.left
+unread_at_end first start buffer now buffer' next count f (piece, e, size, most, c, at_end) =
+    keeps_unread first (f.more ++ piece) buffer' start.left next.left (e ∙ ap (λ l. l ++ piece) f.grown ∙ append_assoc first f.more piece) (Consumes-trans _ _ _ _ _ f.taken c)
+
+pub unread_at_fault : (first : List ℕ) (start : InputState) (buffer : List ℕ) (now : InputState) (buffer' : List ℕ) (next : InputState) (fault : LineFault)
+    → Fills first start buffer now → Adds buffer now buffer' next (Err fault) → KeepsUnread first start.left buffer' next.left
+unread_at_fault first start buffer now buffer' next fault f (same, k) =
+    keeps_unread first f.more buffer' start.left next.left (same ∙ f.grown) (Consumes-kept _ _ _ _ f.taken k)

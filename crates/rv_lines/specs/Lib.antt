@@ -1,0 +1,6 @@
+pub mod Lines
+pub mod Reading
+pub mod Found
+pub mod LineLaws
+pub mod Taken
+pub mod TakenLaws

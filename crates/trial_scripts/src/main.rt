@@ -1,0 +1,59 @@
+//! Scripts through `run`, case by case, over a source and a sink in memory.
+//!
+//! A line `== NAME` begins a case, with the words `rv feed memory` and no input. A line that begins with `#` is none, one
+//! that begins with `{` is a line of the input, and any other line is a command.
+#![tactic(auto)]
+
+mod books;
+mod case;
+mod faults;
+mod runs;
+
+use case::Case;
+use rv_base::Memory;
+use std::alloc::Global;
+use std::io::{BufRead, BufReader};
+
+// What a command prints, where it is one.
+fn printed(alloc: Global, case: &mut Case, line: &str) -> Result<Option<String>, Memory> {
+    let (word, rest) = line.split_once(' ').unwrap_or((line, ""));
+    if let Some(text) = case.command(alloc, word, rest)? {
+        return Ok(Some(text));
+    }
+    if let Some(text) = runs::command(alloc, case, word)? {
+        return Ok(Some(text));
+    }
+    if let Some(text) = faults::command(alloc, case, word)? {
+        return Ok(Some(text));
+    }
+    books::command(alloc, case, word)
+}
+
+// What a line prints, each with LF at its end.
+fn answer(alloc: Global, case: &mut Case, line: &str) -> Result<String, Memory> {
+    if line.starts_with("== ") {
+        *case = Case::new(alloc)?;
+        return Ok(format!(in alloc; "{line}\n")?);
+    }
+    if line.starts_with('{') {
+        case.add_line(line)?;
+        return Ok(String::new(alloc));
+    }
+    match printed(alloc, case, line)? {
+        Some(text) => Ok(text),
+        None => Ok(format!(in alloc; "?? {line}\n")?),
+    }
+}
+
+fn main(rt: HostRuntime) -> anyhow::Result<()> {
+    let alloc = rt.alloc();
+    let mut case = Case::new(alloc)?;
+    for line in BufReader::new(alloc, rt.reader())?.lines(alloc) {
+        let line = line?;
+        if !line.starts_with('#') {
+            let text = answer(alloc, &mut case, &line)?;
+            print!(rt; "{text}")?;
+        }
+    }
+    Ok(())
+}
