@@ -93,6 +93,17 @@ def print_pulls(label, times):
     print(f"pull, {label}: unchanged {same:8.3f} ms, one row changed {changed:8.3f} ms, without base {new:8.3f} ms")
 
 
+def strangers(count):
+    """One void mutation of each of so many clients, each of a group and a user of its own."""
+    return [push(f"x{number}", 1, "paint", None, f"u{number}", f"h{number}") for number in range(count)]
+
+
+def looks(count):
+    """A pull without a base of each of so many groups of users who see nothing: each leaves a kept look with its record."""
+    body = {"pullVersion": 1, "profileID": "p", "schemaVersion": "", "cookie": None}
+    return [json.dumps({"user": f"v{number}", "pull": dict(body, clientGroupID=f"k{number}")}) for number in range(count)]
+
+
 def main():
     program = sys.argv[1]
     print(f"a turn at 100,000 entries against 1,000: {a_turn(program, 100000) / a_turn(program, 1000):.2f} times")
@@ -105,6 +116,12 @@ def main():
         print_pulls(f"10 rows seen, a book of {count:6}", pull_times(program, rows(10) + void, count + 10, count + 10, 2000))
     others = rows(10000, "c2", "bob", "g2", "l2")
     print_pulls("10 rows seen, 10,000 of others", pull_times(program, others + rows(10), 10010, 10, 200))
+    for count in (1000, 100000):
+        before = strangers(count) + rows(10)
+        print_pulls(f"10 rows seen, {count:6} other clients", pull_times(program, before, count + 10, 10, 1000))
+    for count in (1000, 100000):
+        before = looks(count) + rows(10)
+        print_pulls(f"10 rows seen, {count:6} other kept looks", pull_times(program, before, count + 10, 10, 1000))
 
 
 if __name__ == "__main__":
