@@ -2,8 +2,8 @@
 use crate::desks::{Desks, both};
 use crate::words;
 use rv_base::{Id, Memory, User};
+use rv_plain::rows::seen;
 use rv_plain::{row_at, rows_of, same_row};
-use rv_rows::plain::seen;
 use rv_rows::{Key, Kind, Row, TodoRow};
 use rv_sharing::{affected, visible};
 use std::alloc::Global;
