@@ -65,6 +65,7 @@ impl Book {
         ensures bound { size self.now.entries ≤ self.now.limit }
         ensures range { self.now.limit < 2 ^ 32 }
     {
+        // The limit is read so that its type's bound, which the length has by the invariant, is known here.
         let _limit = self.limit;
         self.entries.len() as u32
     }

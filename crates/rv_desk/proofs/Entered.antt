@@ -1,10 +1,10 @@
 -- What is entered with its change leaves the state of the longer book.
-use Rattle.std.proofs.Common.{◌≡◌, ◌+◌, List, [], ◌∷◌, ◌++◌, length, not, subst, sym}
+use Rattle.std.proofs.Common.{◌≡◌, ◌+◌, List, [], ◌∷◌, ◌++◌, not, subst, sym}
 use Rattle.std.specs.List.{filter}
 use Rattle.rv_rows.specs.Held.{Stored}
 use Rattle.rv_book.specs.declared.entry.Entry.{Entry}
 use Rattle.rv_book.specs.declared.entry.Entry.TheVariants.{Act, Look, Retire}
-use Rattle.rv_book.specs.Book.{Book}
+use Rattle.rv_book.specs.Book.{Book, size, with_entry}
 use Rattle.rv_book.specs.Kept.{kept}
 use Rattle.rv_book.specs.LookLaws.{is_place}
 use Rattle.rv_views.specs.Viewed.{Viewed}
@@ -32,24 +32,24 @@ none_stands = (lawful_none, replay_none, records_none)
 
 -- the records after a look that is entered with its record: that of the look that falls out has gone
 abbrev pub with_record : Book → Entry → Viewed → List Placed → List Placed
-with_record book entry viewed records = filter (λ r. not (is_place r.0 (falling entry book))) records ++ (length book + 1, viewed) ∷ []
+with_record book entry viewed records = filter (λ r. not (is_place r.0 (falling entry book))) records ++ (size book + 1, viewed) ∷ []
 
 -- the records of those looks that are kept after the entry
 abbrev pub left : Book → Entry → List Placed → List Placed
-left book entry records = filter (λ r. kept r.0 (book ++ entry ∷ [])) records
+left book entry records = filter (λ r. kept r.0 (with_entry book entry)) records
 
 after_rows : (s : Standing) (entry : Entry) (staged : Staged) → Stands s.book s.rows s.records → IsLawfulAfter s.book entry → IsChangeOf s entry (Rows staged)
-    → Stands (s.book ++ entry ∷ []) (applied (length s.book + 1) staged s.rows) s.records
+    → Stands (with_entry s.book entry) (applied (size s.book + 1) staged s.rows) s.records
 after_rows s (Act user group client id call) staged (lawful, replay, records) next (room, effect) = (
   lawful_more s.book (Act user group client id call) lawful next,
-  subst (λ (rows : List Stored). IsReplay (s.book ++ Act user group client id call ∷ []) rows) (sym (effect (length s.book + 1))) (replay_act s.book s.rows user group client id call replay),
+  subst (λ (rows : List Stored). IsReplay (with_entry s.book (Act user group client id call)) rows) (sym (effect (size s.book + 1))) (replay_act s.book s.rows user group client id call replay),
   records_act s.book user group client id call s.records records,
 )
 after_rows s (Look user group order base) staged stands next change = absurd change
 after_rows s (Retire group) staged stands next change = absurd change
 
 after_record : (s : Standing) (entry : Entry) (viewed : Viewed) → Stands s.book s.rows s.records → IsLawfulAfter s.book entry → IsChangeOf s entry (Record viewed)
-    → Stands (s.book ++ entry ∷ []) s.rows (with_record s.book entry viewed s.records)
+    → Stands (with_entry s.book entry) s.rows (with_record s.book entry viewed s.records)
 after_record s (Act user group client id call) viewed stands next change = absurd change
 after_record s (Look user group order base) viewed (lawful, replay, records) next (room, shown) = (
   lawful_more s.book (Look user group order base) lawful next,
@@ -58,7 +58,7 @@ after_record s (Look user group order base) viewed (lawful, replay, records) nex
 )
 after_record s (Retire group) viewed stands next change = absurd change
 
-after_nothing : (s : Standing) (entry : Entry) → Stands s.book s.rows s.records → IsLawfulAfter s.book entry → IsChangeOf s entry Nothing → Stands (s.book ++ entry ∷ []) s.rows (left s.book entry s.records)
+after_nothing : (s : Standing) (entry : Entry) → Stands s.book s.rows s.records → IsLawfulAfter s.book entry → IsChangeOf s entry Nothing → Stands (with_entry s.book entry) s.rows (left s.book entry s.records)
 after_nothing s (Act user group client id call) stands next change = absurd change
 after_nothing s (Look user group order base) stands next change = absurd change
 after_nothing s (Retire group) (lawful, replay, records) next change = (
@@ -75,11 +75,11 @@ module _ (t s : Standing) (p : Prepared) (same : t ≡ s) (stands : Stands t.boo
   change : (c : Change) → p.change ≡ c → IsChangeOf t p.entry c
   change c is = subst (λ (v : Standing). IsChangeOf v p.entry c) (sym same) (subst (λ (d : Change). IsChangeOf s p.entry d) is prepared.change)
 
-  pub rows_entered : (staged : Staged) → p.change ≡ Rows staged → Stands (t.book ++ p.entry ∷ []) (applied (length t.book + 1) staged t.rows) t.records
+  pub rows_entered : (staged : Staged) → p.change ≡ Rows staged → Stands (with_entry t.book p.entry) (applied (size t.book + 1) staged t.rows) t.records
   rows_entered staged is = after_rows t p.entry staged stands lawful (change (Rows staged) is)
 
-  pub record_entered : (viewed : Viewed) → p.change ≡ Record viewed → Stands (t.book ++ p.entry ∷ []) t.rows (with_record t.book p.entry viewed t.records)
+  pub record_entered : (viewed : Viewed) → p.change ≡ Record viewed → Stands (with_entry t.book p.entry) t.rows (with_record t.book p.entry viewed t.records)
   record_entered viewed is = after_record t p.entry viewed stands lawful (change (Record viewed) is)
 
-  pub nothing_entered : p.change ≡ Nothing → Stands (t.book ++ p.entry ∷ []) t.rows (left t.book p.entry t.records)
+  pub nothing_entered : p.change ≡ Nothing → Stands (with_entry t.book p.entry) t.rows (left t.book p.entry t.records)
   nothing_entered is = after_nothing t p.entry stands lawful (change Nothing is)

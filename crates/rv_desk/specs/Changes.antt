@@ -3,6 +3,7 @@ use Rattle.std.specs.Prelude.{◌≡◌, ℕ, ◌<◌, ◌≤◌, length}
 use Rattle.rv_rows.specs.Changes.{after}
 use Rattle.rv_book.specs.declared.entry.Entry.{Entry}
 use Rattle.rv_book.specs.declared.entry.Entry.TheVariants.{Act, Look, Retire}
+use Rattle.rv_book.specs.Book.{size}
 use Rattle.rv_mutators.specs.Staging.{applied}
 use Rattle.rv_history.specs.Lawful.{IsLawfulAfter}
 use Rattle.rv_news.specs.Records.{IsViewAt}
@@ -23,6 +24,6 @@ IsChangeOf s entry change = ⊥
 -- it may be entered at the state
 pub record IsPrepared (s : Standing) (p : Prepared) : Type 0 where
   pub lawful : IsLawfulAfter s.book p.entry
-  pub below : length s.book < s.limit
+  pub below : size s.book < s.limit
   pub room : 1 ≤ s.room
   pub change : IsChangeOf s p.entry p.change

@@ -1,5 +1,5 @@
-ghost use Rattle.std.specs.Prelude.{◌≡◌, ◌≤◌, ◌<◌, ◌+◌, ◌∷◌, [], ◌++◌, length, IfOk, OnOk, OnErr};
-ghost use Rattle.rv_book.specs.Book.{last};
+ghost use Rattle.std.specs.Prelude.{◌≡◌, ◌≤◌, ◌<◌, ◌+◌, [], IfOk, OnOk, OnErr};
+ghost use Rattle.rv_book.specs.Book.{last, size, with_entry};
 ghost use Rattle.rv_history.specs.Groups.{Admits};
 ghost use Rattle.rv_book.specs.declared.entry.Entry.TheVariants.{Act, Retire};
 
@@ -105,7 +105,7 @@ impl Desk {
     ) -> Turn
         requires takes { Takes (record { user = user.now; group = group.now }) client.now self.old.book }
         requires previous { previous ≡ last client.now self.old.book }
-        requires below { previous ≤ length self.old.book }
+        requires below { previous ≤ size self.old.book }
         ensures turn { Mutates self.old.limit (record { user = user.now; group = group.now }) (record { client = client.now; id = id; call = call }) self.old.book result self.new.book }
         ensures limit { self.new.limit ≡ self.old.limit }
     {
@@ -138,10 +138,10 @@ impl Desk {
         id: Num,
         call: Call,
     ) -> Result<u32, Memory>
-        requires room { length self.old.book < self.old.limit }
+        requires room { size self.old.book < self.old.limit }
         requires lawful { IsLawfulAfter self.old.book (Act user.now group.now client.now id call) }
-        ensures ok { OnOk result (self.new.book ≡ self.old.book ++ Act user.now group.now client.now id call ∷ []) }
-        ensures place { IfOk result (λ place. place ≡ length self.old.book + 1) }
+        ensures ok { OnOk result (self.new.book ≡ with_entry self.old.book (Act user.now group.now client.now id call)) }
+        ensures place { IfOk result (λ place. place ≡ size self.old.book + 1) }
         ensures err { OnErr result (self.new.book ≡ self.old.book) }
         ensures limit { self.new.limit ≡ self.old.limit }
     {
@@ -223,10 +223,10 @@ impl Desk {
 
     // Enters a retirement.
     fn enter_retirement(&mut self, group: &Id) -> Result<u32, Memory>
-        requires room { length self.old.book < self.old.limit }
+        requires room { size self.old.book < self.old.limit }
         requires lawful { IsLawfulAfter self.old.book (Retire group.now) }
-        ensures ok { OnOk result (self.new.book ≡ self.old.book ++ Retire group.now ∷ []) }
-        ensures place { IfOk result (λ place. place ≡ length self.old.book + 1) }
+        ensures ok { OnOk result (self.new.book ≡ with_entry self.old.book (Retire group.now)) }
+        ensures place { IfOk result (λ place. place ≡ size self.old.book + 1) }
         ensures err { OnErr result (self.new.book ≡ self.old.book) }
         ensures limit { self.new.limit ≡ self.old.limit }
     {

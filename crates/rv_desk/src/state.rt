@@ -1,5 +1,6 @@
-ghost use Rattle.std.specs.Prelude.{◌≡◌, ◌≤◌, ◌<◌, ◌∷◌, [], ◌++◌, length, IfOk, OnOk};
+ghost use Rattle.std.specs.Prelude.{◌≡◌, ◌≤◌, ◌<◌, [], IfOk, OnOk};
 ghost use Rattle.rv_book.specs.declared.entry.Entry.TheVariants.{Act, Look, Retire};
+ghost use Rattle.rv_book.specs.Book.{size, with_entry};
 ghost use Rattle.rv_news.specs.News.{IsNews};
 ghost use Rattle.rv_desk.specs.Falling.{falling};
 
@@ -42,7 +43,7 @@ impl Model for State {
 
 // Makes room for an entry.
 fn reserve(book: &mut Book, entry: &Entry) -> Result<(), Memory>
-    requires { length book.old.entries < book.old.limit }
+    requires { size book.old.entries < book.old.limit }
     ensures room { OnOk result (1 ≤ book.new.room) }
     ensures entries { book.new.entries ≡ book.old.entries }
     ensures limit { book.new.limit ≡ book.old.limit }
@@ -132,7 +133,7 @@ impl State {
         id: Num,
         call: Call,
     ) -> Result<Prepared, Memory>
-        requires room { length self.old.book < self.old.limit }
+        requires room { size self.old.book < self.old.limit }
         requires lawful { IsLawfulAfter self.old.book (Act user.now group.now client.now id call) }
         ensures prepared { IfOk result (λ prepared. IsPrepared self.new prepared) }
         ensures entry { IfOk result (λ prepared. prepared.entry ≡ Act user.now group.now client.now id call) }
@@ -156,7 +157,7 @@ impl State {
         order: Num,
         news: News,
     ) -> Result<(PullReply, Prepared), Memory>
-        requires room { length self.old.book < self.old.limit }
+        requires room { size self.old.book < self.old.limit }
         requires order { order ≡ next_order request.now self.old.book }
         requires news { IsNews self.old.book user.now request.now news }
         requires lawful { IsLawfulAfter self.old.book (Look user.now request.now.group order news.base) }
@@ -183,7 +184,7 @@ impl State {
 
     /// Prepares the retirement of a client group.
     pub fn prepare_retirement(&mut self, group: &Id) -> Result<Prepared, Memory>
-        requires room { length self.old.book < self.old.limit }
+        requires room { size self.old.book < self.old.limit }
         requires lawful { IsLawfulAfter self.old.book (Retire group.now) }
         ensures prepared { IfOk result (λ prepared. IsPrepared self.new prepared) }
         ensures entry { IfOk result (λ prepared. prepared.entry ≡ Retire group.now) }
@@ -202,7 +203,7 @@ impl State {
     /// more go.
     pub fn enter(&mut self, prepared: Prepared)
         requires { IsPrepared self.old prepared }
-        ensures book { self.new.book ≡ self.old.book ++ prepared.entry ∷ [] }
+        ensures book { self.new.book ≡ with_entry self.old.book prepared.entry }
         ensures limit { self.new.limit ≡ self.old.limit }
     {
         let Prepared { entry, change } = prepared;

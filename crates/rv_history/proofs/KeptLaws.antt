@@ -7,7 +7,7 @@ use Rattle.rv_wire.specs.declared.push.Mutation.{Mutation}
 use Rattle.rv_wire.specs.declared.pull.PullRequest.{PullRequest}
 use Rattle.rv_book.specs.declared.entry.Entry.{Entry}
 use Rattle.rv_book.specs.declared.entry.Entry.TheVariants.{Act, Look, Retire}
-use Rattle.rv_book.specs.Book.{Book, last_order}
+use Rattle.rv_book.specs.Book.{Book, last_order, with_entry}
 use Rattle.rv_history.specs.declared.turn.Turn.{Turn}
 use Rattle.rv_history.specs.declared.turn.Turn.TheVariants.{Acted, Skipped, Future, GroupOfOther, ClientOfOther, NotFound, Limit, Memory}
 use Rattle.rv_history.specs.declared.pull_reply.PullReply.{PullReply}
@@ -30,7 +30,7 @@ Kept book new = IsLawful new × ((more : Book) × (new ≡ book ++ more))
 kept_same : (book new : Book) → new ≡ book → IsLawful book → Kept book new
 kept_same book new same lawful = (subst (λ (b : Book). IsLawful b) (sym same) lawful, ([], same ∙ sym (append-nil book)))
 
-kept_more : (book new : Book) (e : Entry) → new ≡ book ++ e ∷ [] → IsLawfulAfter book e → IsLawful book → Kept book new
+kept_more : (book new : Book) (e : Entry) → new ≡ with_entry book e → IsLawfulAfter book e → IsLawful book → Kept book new
 kept_more book new e is next lawful = (subst (λ (b : Book). IsLawful b) (sym is) (lawful_more book e lawful next), (e ∷ [], is))
 
 kept_on : (book mid new : Book) → Kept book mid → Kept mid new → Kept book new

@@ -1,5 +1,5 @@
 -- What the reply to a pull tells.
-use Rattle.std.proofs.Common.{◌≡◌, ℕ, zero, suc, ◌<◌, ◌≤◌, ◌==◌, ◌&&◌, ◌⊎◌, inl, inr, Bool, true, false, cond, not, List, [], ◌∷◌, map, take, drop, Option, Some, None, refl, sym, ap, ◌∙◌, subst, arith}
+use Rattle.std.proofs.Common.{◌≡◌, ℕ, zero, suc, ◌<◌, ◌≤◌, ◌==◌, ◌&&◌, ◌⊎◌, inl, inr, Bool, true, false, cond, not, List, [], ◌∷◌, map, Option, Some, None, refl, sym, ap, ◌∙◌, subst, arith}
 use Rattle.std.specs.Prelude.{option_and_then}
 use Rattle.std.specs.List.{Contains, filter, list_any}
 use Rattle.std.specs.Option.{option_map_or}
@@ -19,7 +19,7 @@ use Rattle.rv_wire.specs.declared.op.Op.TheVariants.{Del, Put}
 use Rattle.rv_wire.specs.declared.pull.PullRequest.{PullRequest}
 use Rattle.rv_history.specs.declared.pull_reply.PullReply.{PullReply}
 use Rattle.rv_history.specs.declared.pull_answer.PullAnswer.TheVariants.{Pulled}
-use Rattle.rv_book.specs.Book.{Book, last_order, ids}
+use Rattle.rv_book.specs.Book.{Book, last_order, ids, since, up_to}
 use Rattle.rv_history.specs.Replay.{rows_of}
 use Rattle.rv_history.specs.Bases.{base_of, base_group}
 use Rattle.rv_history.specs.Patches.{ClientView, client_view, apply}
@@ -31,7 +31,7 @@ use Rattle.rv_history.specs.Based.{next_above}
 use Rattle.rv_history.specs.PatchLaws.{patch_applies, patch_anew}
 
 -- a patch shows what the user sees
-pub patches_show : (book : Book) (user : List ℕ) → ((place : ℕ) → apply (patch_since user book (Some place)) (client_view user (take place book)) ≡ client_view user book)
+pub patches_show : (book : Book) (user : List ℕ) → ((place : ℕ) → apply (patch_since user book (Some place)) (client_view user (up_to place book)) ≡ client_view user book)
     × ((view : ClientView) → apply (patch_since user book None) view ≡ client_view user book)
 patches_show book user = (patch_applies user book, patch_anew user book)
 
@@ -51,11 +51,11 @@ dels_clear_nothing (row ∷ rows) = dels_clear_nothing rows
 patch_clears : (user : List ℕ) (book : Book) (base : Option ℕ) → ClearsWithoutBase base (patch_since user book base)
 patch_clears user book None = (map (λ row. Put row) (seen user (rows_of book)), refl, puts_clear_nothing (seen user (rows_of book)))
 patch_clears user book (Some place) =
-    let rows : List Row = rows_of (take place book) in
+    let rows : List Row = rows_of (up_to place book) in
     let base : List Row = seen user rows in
     let now : List Row = seen user (rows_of book) in
     let gone : List Row = filter (is_absent now) base in
-    let news : List Row = filter (is_news base rows (drop place book)) now in
+    let news : List Row = filter (is_news base rows (since place book)) now in
     list_any-append is_clear (map (λ row. Del (row_key row)) gone) (map (λ row. Put row) news)
     ∙ rw (dels_clear_nothing gone) (puts_clear_nothing news)
 
@@ -86,10 +86,10 @@ among_contains pairs pair is = Contains-from_any {eq = λ a b. bytes_eq b.0 a.0 
 
 -- each pair of the book is one of the base's or is told
 ids_complete : (group : List ℕ) (book : Book) (base : Option (ℕ × List ℕ)) (pair : List ℕ × ℕ) → Contains (ids group book) pair
-    → Contains (option_map_or (λ base. ids base.1 (take base.0 book)) base []) pair ⊎ Contains (ids_since group book base) pair
+    → Contains (option_map_or (λ base. ids base.1 (up_to base.0 book)) base []) pair ⊎ Contains (ids_since group book base) pair
 ids_complete group book None pair there = inr there
 ids_complete group book (Some base) pair there =
-    let known : List (List ℕ × ℕ) = ids base.1 (take base.0 book) in
+    let known : List (List ℕ × ℕ) = ids base.1 (up_to base.0 book) in
     elim (is_among known pair) as (λ b. is_among known pair ≡ b → Contains known pair ⊎ Contains (ids_since group book (Some base)) pair) [
       | true ↦ λ e. inl (among_contains known pair e)
       | false ↦ λ e. inr (filter_contains (λ other. not (is_among known other)) (ids group book) pair (ap not e) there)
@@ -98,7 +98,7 @@ ids_complete group book (Some base) pair there =
 -- and each pair that is told is of the book
 ids_sound : (group : List ℕ) (book : Book) (base : Option (ℕ × List ℕ)) (pair : List ℕ × ℕ) → Contains (ids_since group book base) pair → Contains (ids group book) pair
 ids_sound group book None pair there = there
-ids_sound group book (Some base) pair there = filter_from (λ other. not (is_among (ids base.1 (take base.0 book)) other)) (ids group book) pair there
+ids_sound group book (Some base) pair there = filter_from (λ other. not (is_among (ids base.1 (up_to base.0 book)) other)) (ids group book) pair there
 
 contains_among : (pairs : List (List ℕ × ℕ)) (pair : List ℕ × ℕ) → Contains pairs pair → is_among pairs pair ≡ true
 unfolding is_among
@@ -108,12 +108,12 @@ contains_among pairs pair (k, lt, is) =
     list_any_at alike pairs k pair lt (ap alike is ∙ itself)
 
 -- and no pair that is told is one of the base's
-ids_news : (group : List ℕ) (book : Book) (base : Option (ℕ × List ℕ)) (pair : List ℕ × ℕ) → Contains (ids_since group book base) pair → ¬ Contains (option_map_or (λ base. ids base.1 (take base.0 book)) base []) pair
+ids_news : (group : List ℕ) (book : Book) (base : Option (ℕ × List ℕ)) (pair : List ℕ × ℕ) → Contains (ids_since group book base) pair → ¬ Contains (option_map_or (λ base. ids base.1 (up_to base.0 book)) base []) pair
 ids_news group book None pair there (k, lt, is) = omega arith
 ids_news group book (Some base) pair there known =
-    let others : List ℕ × ℕ → Bool = λ other. not (is_among (ids base.1 (take base.0 book)) other) in
+    let others : List ℕ × ℕ → Bool = λ other. not (is_among (ids base.1 (up_to base.0 book)) other) in
     let passes : others pair ≡ true = All-contains (λ other. others other ≡ true) (filter others (ids group book)) pair (filter_passes others (ids group book)) there in
-    let among : others pair ≡ false = ap not (contains_among (ids base.1 (take base.0 book)) pair known) in
+    let among : others pair ≡ false = ap not (contains_among (ids base.1 (up_to base.0 book)) pair known) in
     let both : true ≡ false = sym passes ∙ among in
     cc
 

@@ -1,5 +1,5 @@
 -- The base that a cookie names is a kept look by the user, of the cookie's order.
-use Rattle.std.proofs.Common.{◌≡◌, ℕ, ◌+◌, ◌<◌, ◌^◌, ◌==◌, ◌&&◌, max, Bool, true, false, cond, List, [], ◌∷◌, length, Option, Some, None, refl, sym, ap, ◌∙◌, arith}
+use Rattle.std.proofs.Common.{◌≡◌, ℕ, ◌+◌, ◌<◌, ◌^◌, ◌==◌, ◌&&◌, max, Bool, true, false, cond, List, [], ◌∷◌, Option, Some, None, refl, sym, ap, ◌∙◌, arith}
 use Rattle.std.specs.Prelude.{find, decimal}
 use Rattle.std.specs.List.{range_with_len}
 use Rattle.std.specs.Option.{option_map_or}
@@ -10,9 +10,9 @@ use Rattle.std.proofs.lemmas.Slice.Eq.{bytes_eq-Decides}
 use Rattle.rv_views.specs.declared.cookie.Cookie.{Cookie}
 use Rattle.rv_views.specs.declared.cookie.Cookie.TheVariants.{Null, Bare, Named}
 use Rattle.rv_wire.specs.declared.pull.PullRequest.{PullRequest}
-use Rattle.rv_book.specs.Book.{Book, last_order}
+use Rattle.rv_book.specs.Book.{Book, last_order, size}
 use Rattle.rv_book.specs.Kept.{look_at, kept}
-use Rattle.rv_history.specs.Bases.{is_base, base_of}
+use Rattle.rv_history.specs.Bases.{names_base, base_of}
 use Rattle.rv_book.specs.declared.entry.Entry.TheVariants.{Look}
 use Rattle.rv_history.specs.Groups.{Admits}
 use Rattle.rv_history.specs.Lawful.{IsBase, IsLawfulAfter}
@@ -56,8 +56,8 @@ named_look user order found is =
     let look = some_look test found is in
     (look.0.1, look.1 ∙ ap Some (same_look user order look.0 (sym (ap (λ (o : Option (List ℕ × List ℕ × ℕ)). option_map_or test o false) look.1) ∙ is)))
 
-base_is_look : (user text : List ℕ) (order : ℕ) (book : Book) (place : ℕ) → is_base user text order book place ≡ true → (group : List ℕ) × (look_at place book ≡ Some (user, group, order)) × (kept place book ≡ true)
-unfolding is_base
+base_is_look : (user text : List ℕ) (order : ℕ) (book : Book) (place : ℕ) → names_base user text order book place ≡ true → (group : List ℕ) × (look_at place book ≡ Some (user, group, order)) × (kept place book ≡ true)
+unfolding names_base
 base_is_look user text order book place is =
     let spelled : Bool = bytes_eq (decimal place) text in
     let look = named_look user order (look_at place book) (last_and (spelled && kept place book) (by_look user order book place) is) in
@@ -67,7 +67,7 @@ base_is_look user text order book place is =
 pub base_look : (user : List ℕ) (cookie : Cookie) (book : Book) (place : ℕ) → base_of user cookie book ≡ Some place → (group : List ℕ) × (look_at place book ≡ Some (user, group, cookie_order cookie)) × (kept place book ≡ true)
 base_look user Null book place e = absurd (cc)
 base_look user (Bare order) book place e = absurd (cc)
-base_look user (Named text order) book place e = base_is_look user text order book place (found_passes (is_base user text order book) (range_with_len 1 (length book)) place e)
+base_look user (Named text order) book place e = base_is_look user text order book place (found_passes (names_base user text order book) (range_with_len 1 (size book)) place e)
 
 -- the next order is above the cookie's and above the group's last
 pub next_above : (cookie last next : ℕ) → next ≡ max cookie last + 1 → (cookie < next) × (last < next)

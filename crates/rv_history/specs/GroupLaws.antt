@@ -1,14 +1,14 @@
 -- Groups and clients of lawful books, and why no entry stands twice.
-use Rattle.std.proofs.Common.{◌≡◌, ℕ, zero, suc, ◌+◌, ◌<◌, ◌≤◌, Bool, true, false, not, cond, List, [], ◌∷◌, ◌++◌, ◌||◌, length, Some, None, refl, sym, ap, ◌∙◌, subst, arith, append_assoc}
+use Rattle.std.proofs.Common.{◌≡◌, ℕ, zero, suc, ◌+◌, ◌<◌, ◌≤◌, Bool, true, false, not, cond, List, [], ◌∷◌, ◌++◌, ◌||◌, Some, None, refl, sym, ap, ◌∙◌, subst, arith, append_assoc}
 use Rattle.std.specs.Option.{option_map_or}
 use Rattle.std.specs.List.{Contains}
 use Rattle.std.specs.Str.{bytes_eq}
 use Rattle.std.proofs.lemmas.List.Folds.{list_any-append}
-use Rattle.std.proofs.lemmas.List.Sums.{fold_push}
 use Rattle.std.proofs.lemmas.Slice.Eq.{bytes_eq-Decides}
 use Rattle.rv_book.specs.declared.entry.Entry.{Entry}
 use Rattle.rv_book.specs.declared.entry.Entry.TheVariants.{Act, Look, Retire}
-use Rattle.rv_book.specs.Book.{Book, bound, retires, retired, group_of, last, order_after, last_order}
+use Rattle.rv_book.specs.Book.{Book, bound, retires, retired, group_of, last, order_after, last_order, size, with_entry}
+use Rattle.rv_book.specs.BookWords.{last_order-with_entry, with_entry-append}
 use Rattle.rv_history.specs.Groups.{is_of_other, is_elsewhere}
 use Rattle.rv_history.specs.Lawful.{IsLawfulAfter, IsLawful}
 use Rattle.rv_history.specs.Laws.{is_of_group, user_in, group_in}
@@ -19,7 +19,7 @@ pub split_at : (book : Book) (entry : Entry) → Contains book entry → (before
 split_at [] entry (k, lt, is) = absurd (omega arith)
 split_at (x ∷ book) entry (zero, lt, is) = ([], book, ap (λ (y : Entry). y ∷ book) is)
 split_at (x ∷ book) entry (suc k, lt, is) =
-    let less : k < length book = omega arith in
+    let less : k < size book = omega arith in
     let rest = split_at book entry (k, less, is) in
     (x ∷ rest.0, rest.1, ap (λ (b : Book). x ∷ b) rest.2)
 
@@ -180,10 +180,10 @@ once before between (Act user group client id call) lawful first again =
     omega arith
 once before between (Look user group order base) lawful first again =
     let e : Entry = Look user group order base in
-    let push : last_order group (before ++ e ∷ []) ≡ order_after group (last_order group before) e = fold_push (order_after group) 0 before e in
+    let push : last_order group (with_entry before e) ≡ order_after group (last_order group before) e = last_order-with_entry group before e in
     let itself : order_after group (last_order group before) e ≡ order = ap (λ (b : Bool). cond b order (last_order group before)) ((bytes_eq-Decides group group).1 refl) in
-    let stays : last_order group (before ++ e ∷ []) ≤ last_order group ((before ++ e ∷ []) ++ between) = orders_stay group (before ++ e ∷ []) between (onward before between e lawful) in
-    let joined : last_order group ((before ++ e ∷ []) ++ between) ≡ last_order group (before ++ e ∷ between) = ap (last_order group) (append_assoc before (e ∷ []) between) in
+    let stays : last_order group (with_entry before e) ≤ last_order group (with_entry before e ++ between) = orders_stay group (with_entry before e) between (onward before between e lawful) in
+    let joined : last_order group (with_entry before e ++ between) ≡ last_order group (before ++ e ∷ between) = ap (last_order group) (with_entry-append before between e) in
     let above : last_order group (before ++ e ∷ between) < order = again.1 in
     omega arith
 once before between (Retire group) lawful first again =

@@ -1,6 +1,6 @@
 -- What was written since a place of the book, and the patch and the last mutation ids that tell it. These replay the book:
 -- they know no version and no record.
-use Rattle.std.specs.Prelude.{ℕ, Bool, true, false, List, [], ◌∷◌, ◌++◌, ◌&&◌, ◌||◌, ◌==◌, not, map, take, drop, Option, Some, None}
+use Rattle.std.specs.Prelude.{ℕ, Bool, true, false, List, [], ◌∷◌, ◌++◌, ◌&&◌, ◌||◌, ◌==◌, not, map, Option, Some, None}
 use Rattle.std.specs.List.{filter, list_any}
 use Rattle.std.specs.Option.{option_map_or}
 use Rattle.std.specs.Str.{bytes_eq}
@@ -10,7 +10,7 @@ use Rattle.rv_rows.specs.Changes.{same_row}
 use Rattle.rv_rows.specs.Sharing.{seen}
 use Rattle.rv_wire.specs.declared.op.Op.{Op}
 use Rattle.rv_wire.specs.declared.op.Op.TheVariants.{Clear, Del, Put}
-use Rattle.rv_book.specs.Book.{Book, ids}
+use Rattle.rv_book.specs.Book.{Book, ids, since, up_to}
 use Rattle.rv_history.specs.Replay.{rows_after, rows_of}
 
 -- the row of the key is there afterwards, and was not, or was another, before
@@ -35,10 +35,10 @@ is_news base rows since row = is_absent base row || is_touched (row_text row) ro
 -- each row that is seen now is put.
 abbrev pub patch_since : List ℕ → Book → Option ℕ → List Op
 patch_since user book (Some place) =
-    let base = seen user (rows_of (take place book)) in
+    let base = seen user (rows_of (up_to place book)) in
     let now = seen user (rows_of book) in
     map (λ row. Del (row_key row)) (filter (is_absent now) base)
-    ++ map (λ row. Put row) (filter (is_news base (rows_of (take place book)) (drop place book)) now)
+    ++ map (λ row. Put row) (filter (is_news base (rows_of (up_to place book)) (since place book)) now)
 patch_since user book None = Clear ∷ map (λ row. Put row) (seen user (rows_of book))
 
 -- the pair is among these
@@ -47,5 +47,5 @@ is_among pairs pair = list_any (λ other. bytes_eq other.0 pair.0 && (other.1 ==
 
 -- The last mutation ids of a group's clients that the base look's own group did not have at the base; all without a base.
 abbrev pub ids_since : List ℕ → Book → Option (ℕ × List ℕ) → List (List ℕ × ℕ)
-ids_since group book (Some base) = filter (λ pair. not (is_among (ids base.1 (take base.0 book)) pair)) (ids group book)
+ids_since group book (Some base) = filter (λ pair. not (is_among (ids base.1 (up_to base.0 book)) pair)) (ids group book)
 ids_since group book None = ids group book

@@ -1,13 +1,14 @@
 -- Lawful books, entry by entry.
-use Rattle.std.proofs.Common.{◌≡◌, ℕ, zero, suc, ◌+◌, ◌<◌, ◌≤◌, Bool, true, false, cond, List, [], ◌∷◌, ◌++◌, length, get_or, Some, None, refl, sym, ap, ◌∙◌, subst, arith, append_assoc, append-nil, add-zero, inl, inr, ◌⊎◌}
+use Rattle.std.proofs.Common.{◌≡◌, ℕ, zero, suc, ◌+◌, ◌<◌, ◌≤◌, Bool, true, false, cond, List, [], ◌∷◌, ◌++◌, length, get_or, Some, None, refl, sym, ap, ◌∙◌, subst, arith, append_assoc, append-nil, inl, inr, ◌⊎◌}
 use Rattle.std.specs.List.{cons_option, range_with_len}
 use Rattle.std.specs.List.Sorted.{IsStrictlyIncreasing}
 use Rattle.std.specs.Str.{bytes_eq}
-use Rattle.std.proofs.lemmas.List.Sums.{fold_push, sum_by-append, sum_by-cons}
+use Rattle.std.proofs.lemmas.List.Sums.{sum_by-append, sum_by-cons}
 use Rattle.std.proofs.lemmas.Slice.Eq.{bytes_eq-Decides}
 use Rattle.rv_book.specs.declared.entry.Entry.{Entry}
 use Rattle.rv_book.specs.declared.entry.Entry.TheVariants.{Act, Look, Retire}
-use Rattle.rv_book.specs.Book.{Book, is_act_of, last, order_after, last_order}
+use Rattle.rv_book.specs.Book.{Book, is_act_of, last, order_after, last_order, with_entry}
+use Rattle.rv_book.specs.BookWords.{last-with_entry, last_order-with_entry, with_entry-append}
 use Rattle.rv_history.specs.Lawful.{IsLawfulAfter, IsLawful}
 use Rattle.rv_history.specs.Laws.{act_ids, look_orders}
 
@@ -16,7 +17,7 @@ lawful_none [] after entry e = absurd (cc)
 lawful_none (b ∷ before) after entry e = absurd (cc)
 
 -- where the one entry more stands in a split of the longer book
-last_split : (book before after : Book) (e entry : Entry) → book ++ e ∷ [] ≡ before ++ entry ∷ after
+last_split : (book before after : Book) (e entry : Entry) → with_entry book e ≡ before ++ entry ∷ after
     → ((book ≡ before) × (e ≡ entry)) ⊎ ((more : Book) × (book ≡ before ++ entry ∷ more))
 last_split [] [] after e entry h = inl (refl, cc)
 last_split [] (b ∷ []) after e entry h = absurd (cc)
@@ -24,13 +25,13 @@ last_split [] (b ∷ c ∷ before) after e entry h = absurd (cc)
 last_split (x ∷ book) [] after e entry h = let same : x ≡ entry = cc in inr (book, ap (λ (y : Entry). y ∷ book) same)
 last_split (x ∷ book) (b ∷ before) after e entry h =
     let same : x ≡ b = cc in
-    let rest : book ++ e ∷ [] ≡ before ++ entry ∷ after = cc in
+    let rest : with_entry book e ≡ before ++ entry ∷ after = cc in
     elim (last_split book before after e entry rest) as (λ _. ((x ∷ book ≡ b ∷ before) × (e ≡ entry)) ⊎ ((more : Book) × (x ∷ book ≡ b ∷ (before ++ entry ∷ more)))) [
       | inl here ↦ inl ((λ i. same i ∷ here.0 i), here.1)
       | inr there ↦ inr (there.0, (λ i. same i ∷ there.1 i))
     ]
 
-pub lawful_more : (book : Book) (e : Entry) → IsLawful book → IsLawfulAfter book e → IsLawful (book ++ e ∷ [])
+pub lawful_more : (book : Book) (e : Entry) → IsLawful book → IsLawfulAfter book e → IsLawful (with_entry book e)
 lawful_more book e lawful next before after entry h =
     elim (last_split book before after e entry h) as (λ _. IsLawfulAfter before entry) [
       | inl here ↦ (let b : IsLawfulAfter before e = subst (λ (x : Book). IsLawfulAfter x e) here.0 next in subst (λ (x : Entry). IsLawfulAfter before x) here.1 b)
@@ -46,14 +47,11 @@ lawful_front book more lawful = λ before after entry h.
 pub here : (before rest : Book) (e : Entry) → IsLawful (before ++ e ∷ rest) → IsLawfulAfter before e
 here before rest e lawful = lawful before rest e refl
 
-pub onward : (before rest : Book) (e : Entry) → IsLawful (before ++ e ∷ rest) → IsLawful ((before ++ e ∷ []) ++ rest)
-onward before rest e lawful = subst (λ (b : Book). IsLawful b) (sym (append_assoc before (e ∷ []) rest)) lawful
+pub onward : (before rest : Book) (e : Entry) → IsLawful (before ++ e ∷ rest) → IsLawful (with_entry before e ++ rest)
+onward before rest e lawful = subst (λ (b : Book). IsLawful b) (sym (with_entry-append before rest e)) lawful
 
 abbrev pub one : (client : List ℕ) (e : Entry) → ℕ
 one client e = cond (is_act_of client e) 1 0
-
-pub last_push : (client : List ℕ) (before : Book) (e : Entry) → last client (before ++ e ∷ []) ≡ last client before + one client e
-last_push client before e = sum_by-append (λ (x : Entry). cond (is_act_of client x) 1 0) before (e ∷ []) ∙ ap (λ (n : ℕ). last client before + n) (sum_by-cons (λ (x : Entry). cond (is_act_of client x) 1 0) e [] ∙ add-zero _)
 
 pub last_cons : (client : List ℕ) (rest : Book) (e : Entry) → last client (e ∷ rest) ≡ one client e + last client rest
 last_cons client rest e = sum_by-cons (λ (x : Entry). cond (is_act_of client x) 1 0) e rest
@@ -63,31 +61,31 @@ ids_from : (client : List ℕ) (before rest : Book) → IsLawful (before ++ rest
 ids_from client before [] lawful = refl
 ids_from client before (Act user group actor id call ∷ rest) lawful =
     let e : Entry = Act user group actor id call in
-    let next = ids_from client (before ++ e ∷ []) rest (onward before rest e lawful) in
+    let next = ids_from client (with_entry before e) rest (onward before rest e lawful) in
     let mine : id ≡ last actor before + 1 = (here before rest e lawful).2 in
     elim (bytes_eq actor client) as (λ b. bytes_eq actor client ≡ b → cons_option (cond b (Some id) None) (act_ids client rest) ≡ range_with_len (last client before + 1) (last client (e ∷ rest))) [
       | true ↦ λ same.
           let is : actor ≡ client = (bytes_eq-Decides actor client).0 same in
           let first : id ≡ last client before + 1 = mine ∙ ap (λ (c : List ℕ). last c before + 1) is in
           let count : last client (e ∷ rest) ≡ suc (last client rest) = last_cons client rest e ∙ ap (λ (b : Bool). cond b 1 0 + last client rest) same ∙ omega arith in
-          let grown : last client (before ++ e ∷ []) ≡ last client before + 1 = last_push client before e ∙ ap (λ (b : Bool). last client before + cond b 1 0) same in
+          let grown : last client (with_entry before e) ≡ last client before + 1 = last-with_entry client before e ∙ ap (λ (b : Bool). last client before + cond b 1 0) same in
           rw count ((λ i. first i ∷ next i) ∙ ap (λ (n : ℕ). (last client before + 1) ∷ range_with_len (n + 1) (last client rest)) grown)
       | false ↦ λ other.
           let count : last client (e ∷ rest) ≡ last client rest = last_cons client rest e ∙ ap (λ (b : Bool). cond b 1 0 + last client rest) other ∙ omega arith in
-          let grown : last client (before ++ e ∷ []) ≡ last client before = last_push client before e ∙ ap (λ (b : Bool). last client before + cond b 1 0) other ∙ omega arith in
+          let grown : last client (with_entry before e) ≡ last client before = last-with_entry client before e ∙ ap (λ (b : Bool). last client before + cond b 1 0) other ∙ omega arith in
           rw count (next ∙ ap (λ (n : ℕ). range_with_len (n + 1) (last client rest)) grown)
     ] refl
 ids_from client before (Look user group order base ∷ rest) lawful =
     let e : Entry = Look user group order base in
-    let next = ids_from client (before ++ e ∷ []) rest (onward before rest e lawful) in
+    let next = ids_from client (with_entry before e) rest (onward before rest e lawful) in
     let count : last client (e ∷ rest) ≡ last client rest = last_cons client rest e ∙ omega arith in
-    let grown : last client (before ++ e ∷ []) ≡ last client before = last_push client before e ∙ omega arith in
+    let grown : last client (with_entry before e) ≡ last client before = last-with_entry client before e ∙ omega arith in
     rw count (next ∙ ap (λ (n : ℕ). range_with_len (n + 1) (last client rest)) grown)
 ids_from client before (Retire group ∷ rest) lawful =
     let e : Entry = Retire group in
-    let next = ids_from client (before ++ e ∷ []) rest (onward before rest e lawful) in
+    let next = ids_from client (with_entry before e) rest (onward before rest e lawful) in
     let count : last client (e ∷ rest) ≡ last client rest = last_cons client rest e ∙ omega arith in
-    let grown : last client (before ++ e ∷ []) ≡ last client before = last_push client before e ∙ omega arith in
+    let grown : last client (with_entry before e) ≡ last client before = last-with_entry client before e ∙ omega arith in
     rw count (next ∙ ap (λ (n : ℕ). range_with_len (n + 1) (last client rest)) grown)
 
 pub ids_count_up : (book : Book) (client : List ℕ) → IsLawful book → act_ids client book ≡ range_with_len 1 (last client book)
@@ -102,11 +100,11 @@ climbs : (group : List ℕ) (before rest : Book) → IsLawful (before ++ rest) �
 climbs group before [] lawful = tt
 climbs group before (Act user other client id call ∷ rest) lawful =
     let e : Entry = Act user other client id call in
-    subst (λ (n : ℕ). Climbs n (look_orders group rest)) (fold_push (order_after group) 0 before e) (climbs group (before ++ e ∷ []) rest (onward before rest e lawful))
+    subst (λ (n : ℕ). Climbs n (look_orders group rest)) (last_order-with_entry group before e) (climbs group (with_entry before e) rest (onward before rest e lawful))
 climbs group before (Look user other order base ∷ rest) lawful =
     let e : Entry = Look user other order base in
     let next : Climbs (order_after group (last_order group before) e) (look_orders group rest) =
-    subst (λ (n : ℕ). Climbs n (look_orders group rest)) (fold_push (order_after group) 0 before e) (climbs group (before ++ e ∷ []) rest (onward before rest e lawful)) in
+    subst (λ (n : ℕ). Climbs n (look_orders group rest)) (last_order-with_entry group before e) (climbs group (with_entry before e) rest (onward before rest e lawful)) in
     let mine : last_order other before < order = (here before rest e lawful).1 in
     elim (bytes_eq other group) as (λ b. bytes_eq other group ≡ b → Climbs (cond b order (last_order group before)) (look_orders group rest) → Climbs (last_order group before) (cons_option (cond b (Some order) None) (look_orders group rest))) [
       | true ↦ λ same next. (subst (λ (g : List ℕ). last_order g before < order) ((bytes_eq-Decides other group).0 same) mine, next)
@@ -114,7 +112,7 @@ climbs group before (Look user other order base ∷ rest) lawful =
     ] refl next
 climbs group before (Retire other ∷ rest) lawful =
     let e : Entry = Retire other in
-    subst (λ (n : ℕ). Climbs n (look_orders group rest)) (fold_push (order_after group) 0 before e) (climbs group (before ++ e ∷ []) rest (onward before rest e lawful))
+    subst (λ (n : ℕ). Climbs n (look_orders group rest)) (last_order-with_entry group before e) (climbs group (with_entry before e) rest (onward before rest e lawful))
 
 step_up : (low : ℕ) (xs : List ℕ) → Climbs low xs → (k : ℕ) → suc k < length xs → get_or xs k 0 < get_or xs (suc k) 0
 step_up low [] c k lt = absurd (omega arith)
@@ -143,9 +141,9 @@ pub orders_stay : (group : List ℕ) (before rest : Book) → IsLawful (before +
 orders_stay group before [] lawful = rw append-nil (omega arith)
 orders_stay group before (e ∷ rest) lawful =
     let next : last_order group before ≤ order_after group (last_order group before) e = order_step group before e (here before rest e lawful) in
-    let push : last_order group (before ++ e ∷ []) ≡ order_after group (last_order group before) e = fold_push (order_after group) 0 before e in
-    let more : last_order group (before ++ e ∷ []) ≤ last_order group ((before ++ e ∷ []) ++ rest) = orders_stay group (before ++ e ∷ []) rest (onward before rest e lawful) in
-    let joined : last_order group ((before ++ e ∷ []) ++ rest) ≡ last_order group (before ++ e ∷ rest) = ap (last_order group) (append_assoc before (e ∷ []) rest) in
+    let push : last_order group (with_entry before e) ≡ order_after group (last_order group before) e = last_order-with_entry group before e in
+    let more : last_order group (with_entry before e) ≤ last_order group (with_entry before e ++ rest) = orders_stay group (with_entry before e) rest (onward before rest e lawful) in
+    let joined : last_order group (with_entry before e ++ rest) ≡ last_order group (before ++ e ∷ rest) = ap (last_order group) (with_entry-append before rest e) in
     omega arith
 
 -- a client's last id after more entries

@@ -1,5 +1,5 @@
 -- What follows from the machine, for every book that it makes.
-use Rattle.std.specs.Prelude.{◌≡◌, ℕ, ◌<◌, ◌≤◌, ◌⊎◌, Bool, true, false, List, [], ◌∷◌, ◌++◌, take, Option, Some, None, Contains, option_and_then, if◌then◌else◌}
+use Rattle.std.specs.Prelude.{◌≡◌, ℕ, ◌<◌, ◌≤◌, ◌⊎◌, Bool, true, false, List, [], ◌∷◌, ◌++◌, Option, Some, None, Contains, option_and_then, if◌then◌else◌}
 use Rattle.std.specs.List.{filter_map, list_any, range_with_len}
 use Rattle.std.specs.Option.{option_map_or}
 use Rattle.std.specs.List.Sorted.{IsStrictlyIncreasing}
@@ -17,7 +17,7 @@ use Rattle.rv_history.specs.declared.pull_answer.PullAnswer.{PullAnswer}
 use Rattle.rv_history.specs.declared.pull_answer.PullAnswer.TheVariants.{Pulled}
 use Rattle.rv_history.specs.declared.pull_reply.PullReply.{PullReply}
 use Rattle.rv_history.specs.declared.retire_answer.RetireAnswer.{RetireAnswer}
-use Rattle.rv_book.specs.Book.{Book, bound, group_of, last, last_order, ids}
+use Rattle.rv_book.specs.Book.{Book, bound, group_of, last, last_order, ids, up_to}
 use Rattle.rv_history.specs.Bases.{base_of, base_group}
 use Rattle.rv_history.specs.Lawful.{IsLawful}
 use Rattle.rv_history.specs.Patches.{ClientView, client_view, apply}
@@ -101,13 +101,13 @@ RetirementsKeepLaw = (limit : ℕ) (group : List ℕ) (book new : Book) (answer 
 -- the view at the book's end; and without a base it does so of any view.
 abbrev pub PatchesShow : Type 0
 PatchesShow =
-    (book : Book) (user : List ℕ) → ((place : ℕ) → apply (patch_since user book (Some place)) (client_view user (take place book)) ≡ client_view user book)
+    (book : Book) (user : List ℕ) → ((place : ℕ) → apply (patch_since user book (Some place)) (client_view user (up_to place book)) ≡ client_view user book)
     × ((view : ClientView) → apply (patch_since user book None) view ≡ client_view user book)
 
 -- the view that a base names: what the user saw there; without a base it may be any view
 abbrev pub IsBaseView : List ℕ → Book → Option ℕ → ClientView → Type 0
 IsBaseView user book None view = Unit {0}
-IsBaseView user book (Some place) view = view ≡ client_view user (take place book)
+IsBaseView user book (Some place) view = view ≡ client_view user (up_to place book)
 
 abbrev pub is_clear : Op → Bool
 is_clear Clear = true
@@ -121,7 +121,7 @@ ClearsWithoutBase (Some place) ops = list_any is_clear ops ≡ false
 
 -- the last mutation ids that a client has by its cookie: those of the base look's own group there, and none without a base
 abbrev pub known_ids : List ℕ → PullRequest → Book → List (List ℕ × ℕ)
-known_ids user request book = option_map_or (λ base. ids base.1 (take base.0 book)) (option_and_then (base_group book) (base_of user request.cookie book)) []
+known_ids user request book = option_map_or (λ base. ids base.1 (up_to base.0 book)) (option_and_then (base_group book) (base_of user request.cookie book)) []
 
 -- What the reply to a pull tells at a book. Its patch, applied to the view that the cookie names, gives exactly what the
 -- user sees; it begins with a clear exactly where there is no base. Each last mutation id of the group is known by the

@@ -1,8 +1,8 @@
 -- The machine: what a mutation, a pull, a retirement and a push may be answered at a book, and which book is left.
-use Rattle.std.specs.Prelude.{◌≡◌, ℕ, ◌+◌, ◌-◌, ◌^◌, ◌<◌, ◌≤◌, Bool, true, false, max, List, [], ◌∷◌, ◌++◌, length, Option, Some, None, IsSome, MatchOption, option_and_then, decimal, Result, Ok, Err}
+use Rattle.std.specs.Prelude.{◌≡◌, ℕ, ◌+◌, ◌-◌, ◌^◌, ◌<◌, ◌≤◌, Bool, true, false, max, List, [], ◌∷◌, Option, Some, None, IsSome, MatchOption, option_and_then, decimal, Result, Ok, Err}
 use Rattle.serde_json.specs.Written.{compact_text}
 use Rattle.rv_book.specs.declared.entry.Entry.TheVariants.{Act, Look, Retire}
-use Rattle.rv_book.specs.Book.{Book, bound, retired, last, last_order}
+use Rattle.rv_book.specs.Book.{Book, bound, retired, last, last_order, size, with_entry}
 use Rattle.rv_wire.specs.Answers.{pull_data}
 use Rattle.rv_wire.specs.declared.op.Op.{Op}
 use Rattle.rv_views.specs.declared.cookie.Cookie.{Cookie}
@@ -43,9 +43,9 @@ Mutates limit from m book NotFound new = (is_of_other from.user from.group book 
 Mutates limit from m book ClientOfOther new = Admits from.user from.group book × (is_elsewhere m.client from.group book ≡ true) × (new ≡ book)
 Mutates limit from m book (Skipped number) new = Takes from m.client book × (m.id ≤ last m.client book) × (number ≡ last m.client book) × (new ≡ book)
 Mutates limit from m book (Future expected got) new = Takes from m.client book × (last m.client book + 1 < m.id) × (expected ≡ last m.client book + 1) × (got ≡ m.id) × (new ≡ book)
-Mutates limit from m book (Limit what at) new = Takes from m.client book × (m.id ≡ last m.client book + 1) × (length book ≡ limit) × (what ≡ which.Book) × (at ≡ limit) × (new ≡ book)
-Mutates limit from m book (Acted place) new = Takes from m.client book × (m.id ≡ last m.client book + 1) × (length book < limit) × (place ≡ length book + 1) × (new ≡ book ++ Act from.user from.group m.client m.id m.call ∷ [])
-Mutates limit from m book Memory new = Takes from m.client book × (m.id ≡ last m.client book + 1) × (length book < limit) × (new ≡ book)
+Mutates limit from m book (Limit what at) new = Takes from m.client book × (m.id ≡ last m.client book + 1) × (size book ≡ limit) × (what ≡ which.Book) × (at ≡ limit) × (new ≡ book)
+Mutates limit from m book (Acted place) new = Takes from m.client book × (m.id ≡ last m.client book + 1) × (size book < limit) × (place ≡ size book + 1) × (new ≡ with_entry book (Act from.user from.group m.client m.id m.call))
+Mutates limit from m book Memory new = Takes from m.client book × (m.id ≡ last m.client book + 1) × (size book < limit) × (new ≡ book)
 
 abbrev pub cookie_order : Cookie → ℕ
 cookie_order Null = 0
@@ -77,15 +77,15 @@ answered cookie ids ops = record { cookie = cookie; same = false; ids = ids; ops
 
 -- The reply that is entered at the next place: the cookie has that place and the next order.
 abbrev pub reply_to : List ℕ → PullRequest → Book → PullReply
-reply_to user request book = answered (Named (decimal (length book + 1)) (next_order request book)) (ids_for user request book) (patch_for user request book)
+reply_to user request book = answered (Named (decimal (size book + 1)) (next_order request book)) (ids_for user request book) (patch_for user request book)
 
 -- A pull is answered: by its own cookie where there is nothing to tell, whatever the limits, and then nothing is entered; and
 -- else as one entry, a look with its base.
 abbrev pub Replies : ℕ → List ℕ → PullRequest → Book → Bool → PullReply → Book → Type 0
 Replies limit user request book true reply new = IsUnchanged user request book × (reply ≡ same_reply request) × (new ≡ book)
 Replies limit user request book false reply new =
-    ¬ IsUnchanged user request book × (next_order request book < 2 ^ 53) × (length book < limit) × (reply ≡ reply_to user request book)
-    × (new ≡ book ++ Look user request.group (next_order request book) (base_of user request.cookie book) ∷ [])
+    ¬ IsUnchanged user request book × (next_order request book < 2 ^ 53) × (size book < limit) × (reply ≡ reply_to user request book)
+    × (new ≡ with_entry book (Look user request.group (next_order request book) (base_of user request.cookie book)))
 
 -- The first case that holds: the group is bound to another user; it is retired; there is nothing to tell, and the pull is
 -- answered; the next order is above 2^53 - 1; the book is full; and else the pull is answered, and becomes one entry. Memory
@@ -94,7 +94,7 @@ abbrev pub Pulls : ℕ → List ℕ → PullRequest → Book → PullAnswer → 
 Pulls limit user request book pulls.GroupOfOther new = (is_of_other user request.group book ≡ true) × (new ≡ book)
 Pulls limit user request book pulls.NotFound new = (is_of_other user request.group book ≡ false) × (retired request.group book ≡ true) × (new ≡ book)
 Pulls limit user request book (pulls.Limit which.Order at) new = Admits user request.group book × ¬ IsUnchanged user request book × (2 ^ 53 ≤ next_order request book) × (at ≡ 2 ^ 53 - 1) × (new ≡ book)
-Pulls limit user request book (pulls.Limit which.Book at) new = Admits user request.group book × ¬ IsUnchanged user request book × (next_order request book < 2 ^ 53) × (length book ≡ limit) × (at ≡ limit) × (new ≡ book)
+Pulls limit user request book (pulls.Limit which.Book at) new = Admits user request.group book × ¬ IsUnchanged user request book × (next_order request book < 2 ^ 53) × (size book ≡ limit) × (at ≡ limit) × (new ≡ book)
 Pulls limit user request book (pulls.Pulled reply) new = Admits user request.group book × Replies limit user request book reply.same reply new
 Pulls limit user request book pulls.Memory new = Admits user request.group book × (new ≡ book)
 
@@ -103,9 +103,9 @@ Pulls limit user request book pulls.Memory new = Admits user request.group book 
 abbrev pub Retires : ℕ → List ℕ → Book → RetireAnswer → Book → Type 0
 Retires limit group book retires.NoGroup new = (bound group book ≡ None) × (new ≡ book)
 Retires limit group book retires.NotFound new = IsSome (bound group book) × (retired group book ≡ true) × (new ≡ book)
-Retires limit group book (retires.Limit what at) new = IsSome (bound group book) × (retired group book ≡ false) × (length book ≡ limit) × (what ≡ which.Book) × (at ≡ limit) × (new ≡ book)
-Retires limit group book (retires.Retired place) new = IsSome (bound group book) × (retired group book ≡ false) × (length book < limit) × (place ≡ length book + 1) × (new ≡ book ++ Retire group ∷ [])
-Retires limit group book retires.Memory new = IsSome (bound group book) × (retired group book ≡ false) × (length book < limit) × (new ≡ book)
+Retires limit group book (retires.Limit what at) new = IsSome (bound group book) × (retired group book ≡ false) × (size book ≡ limit) × (what ≡ which.Book) × (at ≡ limit) × (new ≡ book)
+Retires limit group book (retires.Retired place) new = IsSome (bound group book) × (retired group book ≡ false) × (size book < limit) × (place ≡ size book + 1) × (new ≡ with_entry book (Retire group))
+Retires limit group book retires.Memory new = IsSome (bound group book) × (retired group book ≡ false) × (size book < limit) × (new ≡ book)
 
 -- What a turn of a mutation is told as: the refusal that ends its push, or none.
 abbrev pub refusal : Turn → Option ErrorBody

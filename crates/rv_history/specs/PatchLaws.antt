@@ -1,5 +1,5 @@
 -- The patch since a base, applied to what the user saw there, gives what the user sees now.
-use Rattle.std.proofs.Common.{◌≡◌, ℕ, Bool, true, false, cond, not, ◌||◌, List, [], ◌∷◌, map, take, drop, Option, Some, None, refl, sym, ap, ◌∙◌, subst}
+use Rattle.std.proofs.Common.{◌≡◌, ℕ, Bool, true, false, cond, not, ◌||◌, List, [], ◌∷◌, map, Option, Some, None, refl, sym, ap, ◌∙◌, subst}
 use Rattle.std.specs.declared.cmp.Ordering.TheVariants.{Less}
 use Rattle.std.specs.Ordering.{nat_cmp}
 use Rattle.std.specs.Cmp.Lexicographic.{slice_cmp}
@@ -7,7 +7,6 @@ use Rattle.std.specs.List.{AllByRecursion, filter, fold}
 use Rattle.std.specs.Option.{is_some, option_map, option_map_or, option_or}
 use Rattle.std.specs.Str.{bytes_eq}
 use Rattle.std.proofs.lemmas.Option.{same_Some}
-use Rattle.std.proofs.lemmas.List.{take-append-drop}
 use Rattle.std.proofs.lemmas.List.Sums.{fold-append}
 use Rattle.std.proofs.lemmas.Map.Entries.{option_filter}
 use Rattle.std.proofs.lemmas.Slice.Eq.{bytes_eq-Decides}
@@ -21,7 +20,8 @@ use Rattle.rv_rows.specs.Changes.{same_row}
 use Rattle.rv_rows.specs.EffectLaws.{same_row-Decides}
 use Rattle.rv_wire.specs.declared.op.Op.{Op}
 use Rattle.rv_wire.specs.declared.op.Op.TheVariants.{Clear, Del, Put}
-use Rattle.rv_book.specs.Book.{Book}
+use Rattle.rv_book.specs.Book.{Book, since, up_to}
+use Rattle.rv_book.specs.BookWords.{up_to-since}
 use Rattle.rv_history.specs.Replay.{rows_after, rows_of}
 use Rattle.rv_history.specs.Patches.{ClientView, KeyValue, key_value, client_view, applied}
 use Rattle.rv_history.specs.History.{is_written, is_touched, is_absent, is_news, patch_since}
@@ -187,21 +187,21 @@ difference_finds k base now rows since h g was stands =
     ∙ find-map key key_value k now
 
 -- the rows at a place, and the entries after it, make the rows of the book
-pub replayed : (book : Book) (place : ℕ) → fold rows_after (rows_of (take place book)) (drop place book) ≡ rows_of book
-replayed book place = sym (fold-append rows_after [] (take place book) (drop place book)) ∙ ap rows_of (take-append-drop place book)
+pub replayed : (book : Book) (place : ℕ) → fold rows_after (rows_of (up_to place book)) (since place book) ≡ rows_of book
+replayed book place = sym (fold-append rows_after [] (up_to place book) (since place book)) ∙ ap rows_of (up_to-since place book)
 
-pub patch_applies : (user : List ℕ) (book : Book) (place : ℕ) → fold applied (client_view user (take place book)) (patch_since user book (Some place)) ≡ client_view user book
+pub patch_applies : (user : List ℕ) (book : Book) (place : ℕ) → fold applied (client_view user (up_to place book)) (patch_since user book (Some place)) ≡ client_view user book
 patch_applies user book place =
-    let front : Book = take place book in
+    let front : Book = up_to place book in
     let base : List Row = seen user (rows_of front) in
     let now : List Row = seen user (rows_of book) in
     let dels : List Op = map (λ row. Del (row_key row)) (filter (is_absent now) base) in
-    let puts : List Op = map (λ row. Put row) (filter (is_news base (rows_of front) (drop place book)) now) in
+    let puts : List Op = map (λ row. Put row) (filter (is_news base (rows_of front) (since place book)) now) in
     fold-append applied (client_view user front) dels puts
     ∙ in_order-same key (fold applied (fold applied (client_view user front) dels) puts) (client_view user book)
     (applied_in_order (fold applied (client_view user front) dels) puts (applied_in_order (client_view user front) dels (shown_in_order base (seen_in_order user (rows_of front)))))
     (shown_in_order now (seen_in_order user (rows_of book)))
-    (λ k. difference_finds k base now (rows_of front) (drop place book) (seen_distinct user (rows_of front)) (seen_distinct user (rows_of book))
+    (λ k. difference_finds k base now (rows_of front) (since place book) (seen_distinct user (rows_of front)) (seen_distinct user (rows_of book))
     (λ row is. row_of_seen user (rows_of front) k row (distinct-rows_of front) is)
     (λ row is. ap (row_at k) (replayed book place) ∙ row_of_seen user (rows_of book) k row (distinct-rows_of book) is))
 

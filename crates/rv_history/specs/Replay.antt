@@ -1,5 +1,5 @@
 -- The rows of a book: its acts replayed, one after another.
-use Rattle.std.specs.Prelude.{◌≡◌, ℕ, ◌-◌, ◌<◌, ◌≤◌, List, [], IsSome, fold, length, map, take}
+use Rattle.std.specs.Prelude.{◌≡◌, ℕ, ◌-◌, ◌<◌, ◌≤◌, List, [], IsSome, fold, map}
 use Rattle.std.specs.List.{AllByRecursion}
 use Rattle.rv_rows.specs.declared.row.Row.{Row}
 use Rattle.rv_rows.specs.Effects.{effect}
@@ -7,7 +7,7 @@ use Rattle.rv_rows.specs.Keys.{row_text, row_at, in_key_order}
 use Rattle.rv_rows.specs.Held.{Stored}
 use Rattle.rv_book.specs.declared.entry.Entry.{Entry}
 use Rattle.rv_book.specs.declared.entry.Entry.TheVariants.{Act, Look, Retire}
-use Rattle.rv_book.specs.Book.{Book}
+use Rattle.rv_book.specs.Book.{Book, size, up_to}
 
 -- the rows after one more entry
 abbrev pub rows_after : List Row → Entry → List Row
@@ -21,9 +21,9 @@ rows_of book = fold rows_after [] book
 -- The entry at the place wrote the key: the row stands after it, and was absent or another before it.
 pub record Wrote (book : Book) (key : List ℕ) (place : ℕ) : Type 0 where
   pub first : 1 ≤ place
-  pub within : place ≤ length book
-  pub stands : IsSome (row_at key (rows_of (take place book)))
-  pub differs : ¬ (row_at key (rows_of (take place book)) ≡ row_at key (rows_of (take (place - 1) book)))
+  pub within : place ≤ size book
+  pub stands : IsSome (row_at key (rows_of (up_to place book)))
+  pub differs : ¬ (row_at key (rows_of (up_to place book)) ≡ row_at key (rows_of (up_to (place - 1) book)))
 
 -- the place is the greatest that wrote the key
 pub record IsLastWrite (book : Book) (key : List ℕ) (place : ℕ) : Type 0 where

@@ -1,5 +1,5 @@
 -- A book goes on by one entry: what becomes of the last writes and of the stored rows.
-use Rattle.std.proofs.Common.{◌≡◌, ℕ, ◌+◌, ◌-◌, ◌<◌, ◌≤◌, true, false, cond, List, [], ◌∷◌, ◌++◌, length, take, Option, Some, None, refl, sym, ap, ◌∙◌, subst, arith, map, inl, inr}
+use Rattle.std.proofs.Common.{◌≡◌, ℕ, ◌+◌, ◌-◌, ◌<◌, ◌≤◌, true, false, cond, List, [], ◌∷◌, ◌++◌, Option, Some, None, refl, sym, ap, ◌∙◌, subst, arith, map, inl, inr}
 use Rattle.std.specs.Option.{is_some, IsSome, option_map, option_map_or}
 use Rattle.std.specs.declared.cmp.Ordering.TheVariants.{Less}
 use Rattle.std.specs.Ordering.{nat_cmp}
@@ -8,7 +8,6 @@ use Rattle.std.proofs.lemmas.Option.{same_Some}
 use Rattle.std.specs.List.{AllByRecursion, fold}
 use Rattle.std.specs.Str.{bytes_eq}
 use Rattle.std.proofs.lemmas.Bool.{cases_lt}
-use Rattle.std.proofs.lemmas.List.{take-append-le, take_all, length-append}
 use Rattle.std.proofs.lemmas.List.Sums.{fold_push}
 use Rattle.std.proofs.lemmas.Slice.Eq.{bytes_eq-Decides}
 use Rattle.rv_base.specs.Sorted.{find_by, InOrder, Distinct}
@@ -23,61 +22,58 @@ use Rattle.rv_base.specs.Arranged.{find-map, find-sorted}
 use Rattle.rv_rows.specs.EffectLaws.{distinct-effect, effect-sorted, same_row-Decides}
 use Rattle.rv_book.specs.declared.entry.Entry.{Entry}
 use Rattle.rv_book.specs.declared.entry.Entry.TheVariants.{Act, Look, Retire}
-use Rattle.rv_book.specs.Book.{Book}
+use Rattle.rv_book.specs.Book.{Book, size, with_entry}
+use Rattle.rv_book.specs.BookWords.{size-append, size-with_entry, up_to-append, up_to-before, up_to-end}
 use Rattle.rv_history.specs.Replay.{rows_after, rows_of, Wrote, IsLastWrite, IsReplay}
 
 -- the row of a key at a book
 abbrev pub At : List ℕ → Book → Option Row
 At k book = row_at k (rows_of book)
 
-pub whole : (book : Book) (e : Entry) → take (length book + 1) (book ++ e ∷ []) ≡ book ++ e ∷ []
-whole book e = take_all (length book + 1) (book ++ e ∷ []) (omega (arith, length-append book (e ∷ [])))
-
-pub before : (book : Book) (e : Entry) → take ((length book + 1) - 1) (book ++ e ∷ []) ≡ book
-before book e =
-    let n : (length book + 1) - 1 ≡ length book = omega arith in
-    ap (λ (m : ℕ). take m (book ++ e ∷ [])) n ∙ take-append-le (length book) book (e ∷ []) (omega arith) ∙ take_all (length book) book (omega arith)
+-- the rows after one more entry are the entry's step from those before
+pub rows_of-with_entry : (book : Book) (e : Entry) → rows_of (with_entry book e) ≡ rows_after (rows_of book) e
+rows_of-with_entry book e = fold_push _ _ book e
 
 -- more entries leave what was written in the front
 pub wrote_more : (book more : Book) (k : List ℕ) (p : ℕ) → Wrote book k p → Wrote (book ++ more) k p
 wrote_more book more k p w = record {
   first = w.first;
-  within = omega (arith, w.within, length-append book more);
-  stands = subst (λ (b : Book). IsSome (At k b)) (sym (take-append-le p book more w.within)) w.stands;
-  differs = λ same. w.differs (ap (At k) (sym (take-append-le p book more w.within)) ∙ same ∙ ap (At k) (take-append-le (p - 1) book more (omega (arith, w.within))));
+  within = omega (arith, w.within, size-append book more);
+  stands = subst (λ (b : Book). IsSome (At k b)) (sym (up_to-append p book more w.within)) w.stands;
+  differs = λ same. w.differs (ap (At k) (sym (up_to-append p book more w.within)) ∙ same ∙ ap (At k) (up_to-append (p - 1) book more (omega (arith, w.within))));
 }
 
-pub wrote_less : (book more : Book) (k : List ℕ) (p : ℕ) → Wrote (book ++ more) k p → p ≤ length book → Wrote book k p
+pub wrote_less : (book more : Book) (k : List ℕ) (p : ℕ) → Wrote (book ++ more) k p → p ≤ size book → Wrote book k p
 wrote_less book more k p w le = record {
   first = w.first;
   within = le;
-  stands = subst (λ (b : Book). IsSome (At k b)) (take-append-le p book more le) w.stands;
-  differs = λ same. w.differs (ap (At k) (take-append-le p book more le) ∙ same ∙ ap (At k) (sym (take-append-le (p - 1) book more (omega (arith, le)))));
+  stands = subst (λ (b : Book). IsSome (At k b)) (up_to-append p book more le) w.stands;
+  differs = λ same. w.differs (ap (At k) (up_to-append p book more le) ∙ same ∙ ap (At k) (sym (up_to-append (p - 1) book more (omega (arith, le)))));
 }
 
-at_end : (book : Book) (e : Entry) (k : List ℕ) → Wrote (book ++ e ∷ []) k (length book + 1) → At k (book ++ e ∷ []) ≡ At k book → ⊥
-at_end book e k w same = w.differs (ap (At k) (whole book e) ∙ same ∙ ap (At k) (sym (before book e)))
+at_end : (book : Book) (e : Entry) (k : List ℕ) → Wrote (with_entry book e) k (size book + 1) → At k (with_entry book e) ≡ At k book → ⊥
+at_end book e k w same = w.differs (ap (At k) (up_to-end book e) ∙ same ∙ ap (At k) (sym (up_to-before book e)))
 
 -- a key that the entry leaves alone keeps its last write
-kept_write : (book : Book) (e : Entry) (k : List ℕ) (p : ℕ) → At k (book ++ e ∷ []) ≡ At k book → IsLastWrite book k p → IsLastWrite (book ++ e ∷ []) k p
+kept_write : (book : Book) (e : Entry) (k : List ℕ) (p : ℕ) → At k (with_entry book e) ≡ At k book → IsLastWrite book k p → IsLastWrite (with_entry book e) k p
 kept_write book e k p same w = record {
   wrote = wrote_more book (e ∷ []) k p w.wrote;
-  last = λ later lt h. elim (cases_lt (length book) later) as (λ _. ⊥) [
-    | inl above ↦ (let is : later ≡ length book + 1 = omega (arith, above, h.within, length-append book (e ∷ [])) in at_end book e k (subst (λ (n : ℕ). Wrote (book ++ e ∷ []) k n) is h) same)
+  last = λ later lt h. elim (cases_lt (size book) later) as (λ _. ⊥) [
+    | inl above ↦ (let is : later ≡ size book + 1 = omega (arith, above, h.within, size-with_entry book e) in at_end book e k (subst (λ (n : ℕ). Wrote (with_entry book e) k n) is h) same)
     | inr le ↦ w.last later lt (wrote_less book (e ∷ []) k later h le)
   ];
 }
 
 -- a key whose row is another afterwards has the entry as its last write
-new_write : (book : Book) (e : Entry) (k : List ℕ) (row : Row) → At k (book ++ e ∷ []) ≡ Some row → ¬ (Some row ≡ At k book) → IsLastWrite (book ++ e ∷ []) k (length book + 1)
+new_write : (book : Book) (e : Entry) (k : List ℕ) (row : Row) → At k (with_entry book e) ≡ Some row → ¬ (Some row ≡ At k book) → IsLastWrite (with_entry book e) k (size book + 1)
 new_write book e k row is differs = record {
   wrote = record {
     first = omega arith;
-    within = omega (arith, length-append book (e ∷ []));
-    stands = ap is_some (ap (At k) (whole book e) ∙ is);
-    differs = λ same. differs (sym is ∙ ap (At k) (sym (whole book e)) ∙ same ∙ ap (At k) (before book e));
+    within = omega (arith, size-with_entry book e);
+    stands = ap is_some (ap (At k) (up_to-end book e) ∙ is);
+    differs = λ same. differs (sym is ∙ ap (At k) (sym (up_to-end book e)) ∙ same ∙ ap (At k) (up_to-before book e));
   };
-  last = λ later lt h. absurd (omega (arith, lt, h.within, length-append book (e ∷ [])));
+  last = λ later lt h. absurd (omega (arith, lt, h.within, size-with_entry book e));
 }
 
 all_same : (book new : Book) (xs : List Stored) → ((q : List ℕ) (p : ℕ) → IsLastWrite book q p → IsLastWrite new q p)
@@ -86,10 +82,10 @@ all_same book new [] keeps all = tt
 all_same book new (x ∷ xs) keeps all = (keeps (row_text x.0) x.1 all.0, all_same book new xs keeps all.1)
 
 -- an entry that leaves all rows as they are
-pub replay_same : (book : Book) (e : Entry) (stored : List Stored) → rows_of (book ++ e ∷ []) ≡ rows_of book → IsReplay book stored → IsReplay (book ++ e ∷ []) stored
+pub replay_same : (book : Book) (e : Entry) (stored : List Stored) → rows_of (with_entry book e) ≡ rows_of book → IsReplay book stored → IsReplay (with_entry book e) stored
 replay_same book e stored same r = record {
   rows = r.rows ∙ ap in_key_order (sym same);
-  versions = all_same book (book ++ e ∷ []) stored (λ q p w. kept_write book e q p (ap (row_at q) same) w) r.versions;
+  versions = all_same book (with_entry book e) stored (λ q p w. kept_write book e q p (ap (row_at q) same) w) r.versions;
 }
 
 -- no two rows of a book have one key
@@ -138,24 +134,24 @@ each_found {X = X} key (x ∷ xs) h = (rw (equals (key x)) refl, behind xs h.0 (
     behind (y ∷ ys) low all = (rw (differs_back (key x) (key y) low.0) all.0, behind ys low.1 all.1)
 
 -- a row that stands after an act has the version of its last write
-version_is : (book : Book) (e : Entry) (stored : List Stored) (row : Row) → IsReplay book stored → At (row_text row) (book ++ e ∷ []) ≡ Some row
-    → IsLastWrite (book ++ e ∷ []) (row_text row) (version_after (length book + 1) stored row)
+version_is : (book : Book) (e : Entry) (stored : List Stored) (row : Row) → IsReplay book stored → At (row_text row) (with_entry book e) ≡ Some row
+    → IsLastWrite (with_entry book e) (row_text row) (version_after (size book + 1) stored row)
 version_is book e stored row r is =
-    elim (find (row_text row) stored) as (λ o. find (row_text row) stored ≡ o → IsLastWrite (book ++ e ∷ []) (row_text row) (option_map_or (λ s. cond (same_row s.0 row) s.1 (length book + 1)) o (length book + 1))) [
+    elim (find (row_text row) stored) as (λ o. find (row_text row) stored ≡ o → IsLastWrite (with_entry book e) (row_text row) (option_map_or (λ s. cond (same_row s.0 row) s.1 (size book + 1)) o (size book + 1))) [
       | None ↦ λ f. new_write book e (row_text row) row is (λ same. let none : row_at (row_text row) (rows_of book) ≡ None = sym (stored_is book stored (row_text row) r) ∙ ap (option_map (λ (s : Stored). s.0)) f in let both : Some row ≡ None = same ∙ none in cc)
       | Some s ↦ λ f. stood s f (sym (stored_is book stored (row_text row) r) ∙ ap (option_map (λ (s : Stored). s.0)) f)
     ] refl
   where
-    stood : (s : Stored) → find (row_text row) stored ≡ Some s → At (row_text row) book ≡ Some s.0 → IsLastWrite (book ++ e ∷ []) (row_text row) (cond (same_row s.0 row) s.1 (length book + 1))
+    stood : (s : Stored) → find (row_text row) stored ≡ Some s → At (row_text row) book ≡ Some s.0 → IsLastWrite (with_entry book e) (row_text row) (cond (same_row s.0 row) s.1 (size book + 1))
     stood s f was =
-        elim (same_row s.0 row) as (λ b. same_row s.0 row ≡ b → IsLastWrite (book ++ e ∷ []) (row_text row) (cond b s.1 (length book + 1))) [
+        elim (same_row s.0 row) as (λ b. same_row s.0 row ≡ b → IsLastWrite (with_entry book e) (row_text row) (cond b s.1 (size book + 1))) [
           | true ↦ λ g. kept_write book e (row_text row) s.1 (is ∙ ap (λ (x : Row). Some x) (sym ((same_row-Decides s.0 row).0 g)) ∙ sym was)
               (let w = all_found stored_key (λ (t : Stored). IsLastWrite book (row_text t.0) t.1) (row_text row) stored s r.versions f in subst (λ (k : List ℕ). IsLastWrite book k s.1) (sym w.1) w.0)
           | false ↦ λ g. new_write book e (row_text row) row is (λ same. let t : row ≡ s.0 = same_Some row s.0 (same ∙ was) in let u : same_row s.0 row ≡ true = (same_row-Decides s.0 row).1 (sym t) in let both : true ≡ false = sym u ∙ g in cc)
         ] refl
 
-all_versions : (book : Book) (e : Entry) (stored : List Stored) (rows : List Row) → IsReplay book stored → AllByRecursion (λ row. At (row_text row) (book ++ e ∷ []) ≡ Some row) rows
-    → AllByRecursion (λ (s : Stored). IsLastWrite (book ++ e ∷ []) (row_text s.0) s.1) (map (λ row. (row, version_after (length book + 1) stored row)) rows)
+all_versions : (book : Book) (e : Entry) (stored : List Stored) (rows : List Row) → IsReplay book stored → AllByRecursion (λ row. At (row_text row) (with_entry book e) ≡ Some row) rows
+    → AllByRecursion (λ (s : Stored). IsLastWrite (with_entry book e) (row_text s.0) s.1) (map (λ row. (row, version_after (size book + 1) stored row)) rows)
 all_versions book e stored [] r all = tt
 all_versions book e stored (row ∷ rows) r all = (version_is book e stored row r all.0, all_versions book e stored rows r all.1)
 
@@ -174,31 +170,28 @@ each_at book = all_at (in_key_order (rows_of book)) (rows_of book) (in_key_order
 
 -- the rows in key order after an act
 rows_next : (book : Book) (stored : List Stored) (user group client : List ℕ) (id : ℕ) (call : Call) → IsReplay book stored
-    → in_key_order (effect (rows_in stored) user call) ≡ in_key_order (rows_of (book ++ Act user group client id call ∷ []))
+    → in_key_order (effect (rows_in stored) user call) ≡ in_key_order (rows_of (with_entry book (Act user group client id call)))
 rows_next book stored user group client id call r =
     ap (λ (rows : List Row). in_key_order (effect rows user call)) r.rows ∙ effect-sorted (rows_of book) user call (distinct-rows_of book)
-    ∙ ap in_key_order (sym (fold_push _ _ book (Act user group client id call)))
+    ∙ ap in_key_order (sym (rows_of-with_entry book (Act user group client id call)))
 
 -- an act
 pub replay_act : (book : Book) (stored : List Stored) (user group client : List ℕ) (id : ℕ) (call : Call) → IsReplay book stored
-    → IsReplay (book ++ Act user group client id call ∷ []) (after stored user call (length book + 1))
+    → IsReplay (with_entry book (Act user group client id call)) (after stored user call (size book + 1))
 replay_act book stored user group client id call r =
     let e : Entry = Act user group client id call in
     let next = rows_next book stored user group client id call r in
     record {
-      rows = rows_kept (length book + 1) stored (in_key_order (effect (rows_in stored) user call)) ∙ next;
+      rows = rows_kept (size book + 1) stored (in_key_order (effect (rows_in stored) user call)) ∙ next;
       versions = all_versions book e stored (in_key_order (effect (rows_in stored) user call)) r
-          (subst (λ (rows : List Row). AllByRecursion (λ row. At (row_text row) (book ++ e ∷ []) ≡ Some row) rows) (sym next) (each_at (book ++ e ∷ [])));
+          (subst (λ (rows : List Row). AllByRecursion (λ row. At (row_text row) (with_entry book e) ≡ Some row) rows) (sym next) (each_at (with_entry book e)));
     }
 
-pub replay_look : (book : Book) (stored : List Stored) (user group : List ℕ) (order : ℕ) (base : Option ℕ) → IsReplay book stored → IsReplay (book ++ Look user group order base ∷ []) stored
-replay_look book stored user group order base r = replay_same book (Look user group order base) stored (fold_push _ _ book _) r
+pub replay_look : (book : Book) (stored : List Stored) (user group : List ℕ) (order : ℕ) (base : Option ℕ) → IsReplay book stored → IsReplay (with_entry book (Look user group order base)) stored
+replay_look book stored user group order base r = replay_same book (Look user group order base) stored (rows_of-with_entry book _) r
 
-pub replay_retire : (book : Book) (stored : List Stored) (group : List ℕ) → IsReplay book stored → IsReplay (book ++ Retire group ∷ []) stored
-replay_retire book stored group r = replay_same book (Retire group) stored (fold_push _ _ book _) r
+pub replay_retire : (book : Book) (stored : List Stored) (group : List ℕ) → IsReplay book stored → IsReplay (with_entry book (Retire group)) stored
+replay_retire book stored group r = replay_same book (Retire group) stored (rows_of-with_entry book _) r
 
 pub replay_none : IsReplay [] []
 replay_none = record { rows = refl; versions = tt }
-
-pub length_push_le : (book : Book) (e : Entry) (limit : ℕ) → length book < limit → length (book ++ e ∷ []) ≤ limit
-length_push_le book e limit lt = omega (arith, length-append book (e ∷ []))

@@ -1,5 +1,5 @@
 -- A text spells at most one place, so the search for a base comes down to that place.
-use Rattle.std.proofs.Common.{◌≡◌, ℕ, zero, suc, ◌+◌, ◌-◌, ◌≤◌, ◌<◌, ◌^◌, ◌==◌, ◌&&◌, ◌≢◌, List, Bool, true, false, cond, Option, Some, None, length, refl, sym, ap, ◌∙◌, arith}
+use Rattle.std.proofs.Common.{◌≡◌, ℕ, zero, suc, ◌+◌, ◌-◌, ◌≤◌, ◌<◌, ◌^◌, ◌==◌, ◌&&◌, ◌≢◌, List, Bool, true, false, cond, Option, Some, None, refl, sym, ap, ◌∙◌, arith}
 use Rattle.std.specs.Prelude.{find, decimal, slice_get, option_and_then, Result, Ok, Err}
 use Rattle.std.specs.List.{range_with_len}
 use Rattle.std.specs.Str.{bytes_eq}
@@ -9,9 +9,9 @@ use Rattle.std.proofs.lemmas.Fmt.{decimal_injective, parse-decimal}
 use Rattle.std.proofs.lemmas.Option.{slice_get_within}
 use Rattle.std.proofs.lemmas.Slice.Eq.{bytes_eq-Decides}
 use Rattle.rv_book.specs.declared.entry.Entry.{Entry}
-use Rattle.rv_book.specs.Book.{Book}
+use Rattle.rv_book.specs.Book.{Book, size}
 use Rattle.rv_book.specs.Kept.{kept, look_at, look_of}
-use Rattle.rv_history.specs.Bases.{is_base}
+use Rattle.rv_history.specs.Bases.{names_base}
 use Rattle.rv_history.specs.Based.{first_and, last_and, by_look, some_look}
 
 -- where no number of the range does
@@ -33,8 +33,8 @@ find_alone p a (suc n) at alone is least most =
     ] refl
 
 -- what a text spells
-spelled : (user text : List ℕ) (order : ℕ) (book : Book) (place : ℕ) → is_base user text order book place ≡ true → text ≡ decimal place
-unfolding is_base
+spelled : (user text : List ℕ) (order : ℕ) (book : Book) (place : ℕ) → names_base user text order book place ≡ true → text ≡ decimal place
+unfolding names_base
 spelled user text order book place is =
     let both : (bytes_eq (decimal place) text && kept place book) ≡ true = first_and (bytes_eq (decimal place) text && kept place book) (by_look user order book place) is in
     sym ((bytes_eq-Decides (decimal place) text).0 (first_and (bytes_eq (decimal place) text) (kept place book) both))
@@ -44,25 +44,25 @@ some_entry None look h = absurd (cc)
 some_entry (Some e) look h = (e, refl)
 
 -- a look is within the book
-look_within : (place : ℕ) (book : Book) (look : List ℕ × List ℕ × ℕ) → look_at place book ≡ Some look → (1 ≤ place) × (place < 1 + length book)
+look_within : (place : ℕ) (book : Book) (look : List ℕ × List ℕ × ℕ) → look_at place book ≡ Some look → (1 ≤ place) × (place < 1 + size book)
 look_within place book look there =
-    elim (place == 0) as (λ b. place == 0 ≡ b → option_and_then look_of (cond b None (slice_get book (place - 1))) ≡ Some look → (1 ≤ place) × (place < 1 + length book)) [
+    elim (place == 0) as (λ b. place == 0 ≡ b → option_and_then look_of (cond b None (slice_get book (place - 1))) ≡ Some look → (1 ≤ place) × (place < 1 + size book)) [
       | true ↦ λ e f. absurd (cc)
       | false ↦ λ e f.
           let other : place ≢ 0 = (λ same. let both : true ≡ false = sym ((Decides-eqb place 0).1 same) ∙ e in cc) in
           let entry = some_entry (slice_get book (place - 1)) look f in
-          let lt : place - 1 < length book = slice_get_within book (place - 1) entry.0 entry.1 in
+          let lt : place - 1 < size book = slice_get_within book (place - 1) entry.0 entry.1 in
           (omega arith, omega arith)
     ] refl there
 
 -- a base is within the book
-within : (user text : List ℕ) (order : ℕ) (book : Book) (place : ℕ) → is_base user text order book place ≡ true → (1 ≤ place) × (place < 1 + length book)
-unfolding is_base
+within : (user text : List ℕ) (order : ℕ) (book : Book) (place : ℕ) → names_base user text order book place ≡ true → (1 ≤ place) × (place < 1 + size book)
+unfolding names_base
 within user text order book place is =
     let look = some_look (λ look. bytes_eq look.0 user && (look.2 == order)) (look_at place book) (last_and (bytes_eq (decimal place) text && kept place book) (by_look user order book place) is) in
     look_within place book look.0 look.1
 
-one_place : (user text : List ℕ) (order place : ℕ) (book : Book) → length book < 2 ^ 32 → place < 2 ^ 32 → text ≡ decimal place → (k : ℕ) → 1 ≤ k → k < 1 + length book → is_base user text order book k ≡ true → k ≡ place
+one_place : (user text : List ℕ) (order place : ℕ) (book : Book) → size book < 2 ^ 32 → place < 2 ^ 32 → text ≡ decimal place → (k : ℕ) → 1 ≤ k → k < 1 + size book → names_base user text order book k ≡ true → k ≡ place
 one_place user text order place book short fits spells k least most is = decimal_injective k place (omega arith) (omega arith) (sym (spelled user text order book k is) ∙ spells)
 
 no_base : (p : ℕ → Bool) (k at : ℕ) → (p k ≡ true → k ≡ at) → p at ≡ false → p k ≡ false
@@ -76,28 +76,28 @@ no_base p k at alone not =
 abbrev kept_by : List ℕ → ℕ → Book → ℕ → Bool
 kept_by user order book place = kept place book && by_look user order book place
 
-base_is : (user text : List ℕ) (order place : ℕ) (book : Book) → text ≡ decimal place → is_base user text order book place ≡ kept_by user order book place
-unfolding is_base
+base_is : (user text : List ℕ) (order place : ℕ) (book : Book) → text ≡ decimal place → names_base user text order book place ≡ kept_by user order book place
+unfolding names_base
 base_is user text order place book spells = rw ((bytes_eq-Decides (decimal place) text).1 (sym spells)) refl
 
-pub base_found : (user text : List ℕ) (order place : ℕ) (book : Book) → length book < 2 ^ 32 → place < 2 ^ 32 → text ≡ decimal place → kept_by user order book place ≡ true
-    → find (is_base user text order book) (range_with_len 1 (length book)) ≡ Some place
+pub base_found : (user text : List ℕ) (order place : ℕ) (book : Book) → size book < 2 ^ 32 → place < 2 ^ 32 → text ≡ decimal place → kept_by user order book place ≡ true
+    → find (names_base user text order book) (range_with_len 1 (size book)) ≡ Some place
 base_found user text order place book short fits spells by =
-    let is : is_base user text order book place ≡ true = base_is user text order place book spells ∙ by in
+    let is : names_base user text order book place ≡ true = base_is user text order place book spells ∙ by in
     let range = within user text order book place is in
-    find_alone (is_base user text order book) 1 (length book) place (one_place user text order place book short fits spells) is range.0 range.1
+    find_alone (names_base user text order book) 1 (size book) place (one_place user text order place book short fits spells) is range.0 range.1
 
-pub base_refused : (user text : List ℕ) (order place : ℕ) (book : Book) → length book < 2 ^ 32 → place < 2 ^ 32 → text ≡ decimal place → kept_by user order book place ≡ false
-    → find (is_base user text order book) (range_with_len 1 (length book)) ≡ None
+pub base_refused : (user text : List ℕ) (order place : ℕ) (book : Book) → size book < 2 ^ 32 → place < 2 ^ 32 → text ≡ decimal place → kept_by user order book place ≡ false
+    → find (names_base user text order book) (range_with_len 1 (size book)) ≡ None
 base_refused user text order place book short fits spells by =
-    find_nowhere (is_base user text order book) 1 (length book) (λ k least most.
-    no_base (is_base user text order book) k place (one_place user text order place book short fits spells k least most) (base_is user text order place book spells ∙ by))
+    find_nowhere (names_base user text order book) 1 (size book) (λ k least most.
+    no_base (names_base user text order book) k place (one_place user text order place book short fits spells k least most) (base_is user text order place book spells ∙ by))
 
-pub base_unspelled : (user text : List ℕ) (order : ℕ) (book : Book) → length book < 2 ^ 32 → ((k : ℕ) → k < 2 ^ 32 → text ≡ decimal k → ⊥)
-    → find (is_base user text order book) (range_with_len 1 (length book)) ≡ None
+pub base_unspelled : (user text : List ℕ) (order : ℕ) (book : Book) → size book < 2 ^ 32 → ((k : ℕ) → k < 2 ^ 32 → text ≡ decimal k → ⊥)
+    → find (names_base user text order book) (range_with_len 1 (size book)) ≡ None
 base_unspelled user text order book short none =
-    find_nowhere (is_base user text order book) 1 (length book) (λ k least most.
-    elim (is_base user text order book k) as (λ b. is_base user text order book k ≡ b → b ≡ false) [
+    find_nowhere (names_base user text order book) 1 (size book) (λ k least most.
+    elim (names_base user text order book k) as (λ b. names_base user text order book k ≡ b → b ≡ false) [
       | true ↦ λ e. absurd (none k (omega arith) (spelled user text order book k e))
       | false ↦ λ e. refl
     ] refl)

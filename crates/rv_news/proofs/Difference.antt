@@ -1,5 +1,5 @@
 -- The patch since a place is told by the keys that the user sees there and now, with the versions of their rows.
-use Rattle.std.proofs.Common.{◌≡◌, ℕ, Bool, true, false, cond, not, ◌&&◌, ◌||◌, ◌==◌, List, [], ◌∷◌, ◌++◌, map, take, drop, Option, Some, None, refl, sym, ap, ◌∙◌, subst}
+use Rattle.std.proofs.Common.{◌≡◌, ℕ, Bool, true, false, cond, not, ◌&&◌, ◌||◌, ◌==◌, List, [], ◌∷◌, ◌++◌, map, Option, Some, None, refl, sym, ap, ◌∙◌, subst}
 use Rattle.std.specs.List.{AllByRecursion, filter, filter_map, list_any}
 use Rattle.std.specs.Option.{option_map, option_map_or}
 use Rattle.std.specs.Str.{bytes_eq}
@@ -16,7 +16,7 @@ use Rattle.rv_rows.specs.EffectLaws.{sees-sorted}
 use Rattle.rv_wire.specs.declared.op.Op.{Op}
 use Rattle.rv_wire.specs.declared.op.Op.TheVariants.{Clear, Del, Put}
 use Rattle.rv_sharing.specs.Visible.{visible}
-use Rattle.rv_book.specs.Book.{Book}
+use Rattle.rv_book.specs.Book.{Book, since, up_to}
 use Rattle.rv_history.specs.Replay.{rows_of, IsReplay}
 use Rattle.rv_news.specs.Shows.{put_of}
 use Rattle.rv_history.specs.History.{is_touched, is_absent, is_news, patch_since}
@@ -113,28 +113,28 @@ news_tells rows since base s h told =
     ] refl
 
 -- the keys of the dels
-pub dels_tell : (user : List ℕ) (book : Book) (place : ℕ) (stored earlier : List Stored) → IsReplay book stored → IsReplay (take place book) earlier
-    → gone_keys (visible user earlier) (visible user stored) ≡ map row_key (filter (is_absent (seen user (rows_of book))) (seen user (rows_of (take place book))))
+pub dels_tell : (user : List ℕ) (book : Book) (place : ℕ) (stored earlier : List Stored) → IsReplay book stored → IsReplay (up_to place book) earlier
+    → gone_keys (visible user earlier) (visible user stored) ≡ map row_key (filter (is_absent (seen user (rows_of book))) (seen user (rows_of (up_to place book))))
 dels_tell user book place stored earlier r q =
     keys_filter (λ pair. not (list_any (λ other. bytes_eq (key_text other.0) (key_text pair.0)) (visible user stored))) (is_absent (rows_in (sighted user stored))) (sighted user earlier)
     (all_each _ (sighted user earlier) (λ s. key_absent (sighted user stored) s))
-    ∙ (λ i. map row_key (filter (is_absent (sighted_rows user book stored r i)) (sighted_rows user (take place book) earlier q i)))
+    ∙ (λ i. map row_key (filter (is_absent (sighted_rows user book stored r i)) (sighted_rows user (up_to place book) earlier q i)))
 
 -- the keys of the puts
-pub puts_tell : (user : List ℕ) (book : Book) (place : ℕ) (stored earlier : List Stored) → IsReplay book stored → IsReplay (take place book) earlier
-    → news_keys (visible user earlier) (visible user stored) ≡ map row_key (filter (is_news (seen user (rows_of (take place book))) (rows_of (take place book)) (drop place book)) (seen user (rows_of book)))
+pub puts_tell : (user : List ℕ) (book : Book) (place : ℕ) (stored earlier : List Stored) → IsReplay book stored → IsReplay (up_to place book) earlier
+    → news_keys (visible user earlier) (visible user stored) ≡ map row_key (filter (is_news (seen user (rows_of (up_to place book))) (rows_of (up_to place book)) (since place book)) (seen user (rows_of book)))
 puts_tell user book place stored earlier r q =
-    let rows : List Row = rows_of (take place book) in
-    let since : Book = drop place book in
+    let rows : List Row = rows_of (up_to place book) in
+    let since : Book = since place book in
     let base : List Stored = sighted user earlier in
-    let apart : Distinct stored_key earlier = distinct-in_order stored_key earlier (stored_in_order (take place book) earlier q) in
+    let apart : Distinct stored_key earlier = distinct-in_order stored_key earlier (stored_in_order (up_to place book) earlier q) in
     let sight : Stored → Bool = λ (s : Stored). sees_row user (rows_in earlier) s.0 in
     keys_filter (λ pair. not (list_any (λ other. bytes_eq (key_text other.0) (key_text pair.0) && (other.1 == pair.1)) (visible user earlier))) (is_news (rows_in base) rows since) (sighted user stored)
     (all_to (λ (s : Stored). find (stored_key s) stored ≡ Some s) _ (sighted user stored)
     (λ s found. news_tells rows since base s (distinct-filter stored_key sight earlier apart)
     (λ was e. versions_tell book place stored earlier (row_text s.0) s was r q found (passed sight (find (row_text s.0) earlier) was (sym (find-filter stored_key sight (row_text s.0) earlier apart) ∙ e))))
     (all_filter (λ (s : Stored). find (stored_key s) stored ≡ Some s) (λ (s : Stored). sees_row user (rows_in stored) s.0) stored (each_found stored_key stored (stored_in_order book stored r))))
-    ∙ (λ i. map row_key (filter (is_news (sighted_rows user (take place book) earlier q i) rows since) (sighted_rows user book stored r i)))
+    ∙ (λ i. map row_key (filter (is_news (sighted_rows user (up_to place book) earlier q i) rows since) (sighted_rows user book stored r i)))
 
 -- the dels and the puts of keys are those of their rows
 dels_of : (rows : List Row) → map (λ (row : Row). Del (row_key row)) rows ≡ map (λ (key : Key). Del key) (map row_key rows)
@@ -157,12 +157,12 @@ seen_stored user book stored r =
     (all_filter (λ (row : Row). row_at (row_text row) (rows_of book) ≡ Some row) (sees_row user (rows_of book)) (in_key_order (rows_of book)) (each_at book))
 
 -- the whole patch since a place, by the keys and versions there and now, and the rows that are stored now
-pub patch_told : (user : List ℕ) (book : Book) (place : ℕ) (stored earlier : List Stored) → IsReplay book stored → IsReplay (take place book) earlier
+pub patch_told : (user : List ℕ) (book : Book) (place : ℕ) (stored earlier : List Stored) → IsReplay book stored → IsReplay (up_to place book) earlier
     → patch_since user book (Some place) ≡ map (λ key. Del key) (gone_keys (visible user earlier) (visible user stored)) ++ filter_map (put_of stored) (news_keys (visible user earlier) (visible user stored))
 patch_told user book place stored earlier r q =
-    let base : List Row = seen user (rows_of (take place book)) in
+    let base : List Row = seen user (rows_of (up_to place book)) in
     let now : List Row = seen user (rows_of book) in
-    let news : Row → Bool = is_news base (rows_of (take place book)) (drop place book) in
+    let news : Row → Bool = is_news base (rows_of (up_to place book)) (since place book) in
     let dels = dels_of (filter (is_absent now) base) ∙ ap (map (λ (key : Key). Del key)) (sym (dels_tell user book place stored earlier r q)) in
     let puts = sym (puts_of stored (filter news now) (all_filter _ news now (seen_stored user book stored r))) ∙ ap (filter_map (put_of stored)) (sym (puts_tell user book place stored earlier r q)) in
     (λ i. dels i ++ puts i)

@@ -1,22 +1,21 @@
 -- What the versions of stored rows tell of the entries since a place: a key was touched since exactly where its version is
 -- another.
-use Rattle.std.proofs.Common.{◌≡◌, ℕ, ◌+◌, ◌<◌, Bool, true, false, not, ◌||◌, ◌==◌, List, [], ◌∷◌, ◌++◌, length, take, drop, Option, Some, None, refl, sym, ap, ◌∙◌, subst, arith, append_assoc, length-append, inl, inr}
+use Rattle.std.proofs.Common.{◌≡◌, ℕ, ◌+◌, ◌<◌, Bool, true, false, not, ◌||◌, ◌==◌, List, [], ◌∷◌, ◌++◌, length, Option, Some, None, refl, sym, ap, ◌∙◌, subst, arith, inl, inr}
 use Rattle.std.specs.Option.{option_map_or, IsSome}
 use Rattle.std.proofs.lemmas.Bool.{cases_lt}
 use Rattle.std.proofs.lemmas.Bool.Decides.{nat_tests}
 use Rattle.std.proofs.lemmas.Option.{same_Some}
-use Rattle.std.proofs.lemmas.List.{take-append-drop}
-use Rattle.std.proofs.lemmas.List.Sums.{fold_push}
 use Rattle.rv_rows.specs.declared.row.Row.{Row}
 use Rattle.rv_rows.specs.Keys.{row_text}
 use Rattle.rv_rows.specs.Held.{Stored, stored_key, find}
 use Rattle.rv_rows.specs.Changes.{same_row}
 use Rattle.rv_rows.specs.EffectLaws.{same_row-Decides}
 use Rattle.rv_book.specs.declared.entry.Entry.{Entry}
-use Rattle.rv_book.specs.Book.{Book}
+use Rattle.rv_book.specs.Book.{Book, since, size, up_to, with_entry}
+use Rattle.rv_book.specs.BookWords.{size-append, size-with_entry, up_to-before, up_to-end, up_to-since, with_entry-append}
 use Rattle.rv_history.specs.Replay.{rows_of, Wrote, IsLastWrite, IsReplay}
 use Rattle.rv_history.specs.History.{is_written, is_touched}
-use Rattle.rv_history.specs.ReplayLaws.{At, whole, before, wrote_more, wrote_less, all_found}
+use Rattle.rv_history.specs.ReplayLaws.{At, rows_of-with_entry, wrote_more, wrote_less, all_found}
 use Rattle.rv_history.specs.PatchLaws.{first_false, second_false}
 
 -- the row is there afterwards, and was not, or was another, before
@@ -39,20 +38,20 @@ differs_changed (Some w) (Some row) stands differs =
     ] refl
 
 -- the entry at the end of a book wrote a key exactly where its row is another afterwards
-step_wrote : (book : Book) (e : Entry) (k : List ℕ) → is_written k (rows_of book) (rows_of (book ++ e ∷ [])) ≡ true → Wrote (book ++ e ∷ []) k (length book + 1)
+step_wrote : (book : Book) (e : Entry) (k : List ℕ) → is_written k (rows_of book) (rows_of (with_entry book e)) ≡ true → Wrote (with_entry book e) k (size book + 1)
 step_wrote book e k h =
-    let both = changed_differs (At k book) (At k (book ++ e ∷ [])) h in
+    let both = changed_differs (At k book) (At k (with_entry book e)) h in
     record {
       first = omega arith;
-      within = omega (arith, length-append book (e ∷ []));
-      stands = subst (λ (b : Book). IsSome (At k b)) (sym (whole book e)) both.0;
-      differs = λ same. both.1 (ap (At k) (sym (whole book e)) ∙ same ∙ ap (At k) (before book e));
+      within = omega (arith, size-with_entry book e);
+      stands = subst (λ (b : Book). IsSome (At k b)) (sym (up_to-end book e)) both.0;
+      differs = λ same. both.1 (ap (At k) (sym (up_to-end book e)) ∙ same ∙ ap (At k) (up_to-before book e));
     }
 
-wrote_step : (book : Book) (e : Entry) (k : List ℕ) → Wrote (book ++ e ∷ []) k (length book + 1) → is_written k (rows_of book) (rows_of (book ++ e ∷ [])) ≡ true
+wrote_step : (book : Book) (e : Entry) (k : List ℕ) → Wrote (with_entry book e) k (size book + 1) → is_written k (rows_of book) (rows_of (with_entry book e)) ≡ true
 wrote_step book e k w =
-    differs_changed (At k book) (At k (book ++ e ∷ [])) (subst (λ (b : Book). IsSome (At k b)) (whole book e) w.stands)
-    (λ same. w.differs (ap (At k) (whole book e) ∙ same ∙ ap (At k) (sym (before book e))))
+    differs_changed (At k book) (At k (with_entry book e)) (subst (λ (b : Book). IsSome (At k b)) (up_to-end book e) w.stands)
+    (λ same. w.differs (ap (At k) (up_to-end book e) ∙ same ∙ ap (At k) (sym (up_to-before book e))))
 
 -- some place after this one wrote the key
 record IsWrittenAfter (book : Book) (key : List ℕ) (floor : ℕ) : Type 0 where
@@ -61,44 +60,44 @@ record IsWrittenAfter (book : Book) (key : List ℕ) (floor : ℕ) : Type 0 wher
   wrote : Wrote book key place
 
 -- the test of one more entry, over the rows of the book with it
-next_touched : (front : Book) (e : Entry) (since : Book) (k : List ℕ) → is_touched k (rows_of front) (e ∷ since) ≡ (is_written k (rows_of front) (rows_of (front ++ e ∷ [])) || is_touched k (rows_of (front ++ e ∷ [])) since)
+next_touched : (front : Book) (e : Entry) (since : Book) (k : List ℕ) → is_touched k (rows_of front) (e ∷ since) ≡ (is_written k (rows_of front) (rows_of (with_entry front e)) || is_touched k (rows_of (with_entry front e)) since)
 unfolding is_touched
-next_touched front e since k = ap (λ (rows : List Row). is_written k (rows_of front) rows || is_touched k rows since) (sym (fold_push _ _ front e))
+next_touched front e since k = ap (λ (rows : List Row). is_written k (rows_of front) rows || is_touched k rows since) (sym (rows_of-with_entry front e))
 
 none_touched : (rows : List Row) (k : List ℕ) → is_touched k rows [] ≡ false
 unfolding is_touched
 none_touched rows k = refl
 
-touched_after : (front since : Book) (k : List ℕ) → is_touched k (rows_of front) since ≡ true → IsWrittenAfter (front ++ since) k (length front)
+touched_after : (front since : Book) (k : List ℕ) → is_touched k (rows_of front) since ≡ true → IsWrittenAfter (front ++ since) k (size front)
 touched_after front [] k h = absurd (let e : false ≡ true = sym (none_touched (rows_of front) k) ∙ h in cc)
 touched_after front (e ∷ since) k h =
-    let longer : Book = front ++ e ∷ [] in
-    let same : longer ++ since ≡ front ++ e ∷ since = append_assoc front (e ∷ []) since in
-    elim (is_written k (rows_of front) (rows_of longer)) as (λ b. is_written k (rows_of front) (rows_of longer) ≡ b → (b || is_touched k (rows_of longer) since) ≡ true → IsWrittenAfter (front ++ e ∷ since) k (length front)) [
+    let longer : Book = with_entry front e in
+    let same : longer ++ since ≡ front ++ e ∷ since = with_entry-append front since e in
+    elim (is_written k (rows_of front) (rows_of longer)) as (λ b. is_written k (rows_of front) (rows_of longer) ≡ b → (b || is_touched k (rows_of longer) since) ≡ true → IsWrittenAfter (front ++ e ∷ since) k (size front)) [
       | true ↦ λ f g. record {
-        place = length front + 1;
+        place = size front + 1;
         above = omega arith;
-        wrote = subst (λ (b : Book). Wrote b k (length front + 1)) same (wrote_more longer since k (length front + 1) (step_wrote front e k f));
+        wrote = subst (λ (b : Book). Wrote b k (size front + 1)) same (wrote_more longer since k (size front + 1) (step_wrote front e k f));
       }
       | false ↦ λ f g. (let w : IsWrittenAfter (longer ++ since) k (length longer) = touched_after longer since k g in record {
         place = w.place;
-        above = omega (arith, w.above, length-append front (e ∷ []));
+        above = omega (arith, w.above, size-with_entry front e);
         wrote = subst (λ (b : Book). Wrote b k w.place) same w.wrote;
       })
     ] refl (sym (next_touched front e since k) ∙ h)
 
-untouched_after : (front since : Book) (k : List ℕ) → is_touched k (rows_of front) since ≡ false → (p : ℕ) → length front < p → Wrote (front ++ since) k p → ⊥
-untouched_after front [] k h p lt w = absurd (omega (arith, lt, w.within, length-append front []))
+untouched_after : (front since : Book) (k : List ℕ) → is_touched k (rows_of front) since ≡ false → (p : ℕ) → size front < p → Wrote (front ++ since) k p → ⊥
+untouched_after front [] k h p lt w = absurd (omega (arith, lt, w.within, size-append front []))
 untouched_after front (e ∷ since) k h p lt w =
-    let longer : Book = front ++ e ∷ [] in
-    let same : front ++ e ∷ since ≡ longer ++ since = sym (append_assoc front (e ∷ []) since) in
+    let longer : Book = with_entry front e in
+    let same : front ++ e ∷ since ≡ longer ++ since = sym (with_entry-append front since e) in
     let both : (is_written k (rows_of front) (rows_of longer) || is_touched k (rows_of longer) since) ≡ false = sym (next_touched front e since k) ∙ h in
     let further : Wrote (longer ++ since) k p = subst (λ (b : Book). Wrote b k p) same w in
-    elim (cases_lt (length front + 1) p) as (λ _. ⊥) [
-      | inl above ↦ untouched_after longer since k (second_false (is_written k (rows_of front) (rows_of longer)) (is_touched k (rows_of longer) since) both) p (omega (arith, above, length-append front (e ∷ []))) further
+    elim (cases_lt (size front + 1) p) as (λ _. ⊥) [
+      | inl above ↦ untouched_after longer since k (second_false (is_written k (rows_of front) (rows_of longer)) (is_touched k (rows_of longer) since) both) p (omega (arith, above, size-with_entry front e)) further
       | inr le ↦ (
-          let is : p ≡ length front + 1 = omega (arith, le, lt) in
-          let here : Wrote longer k (length front + 1) = wrote_less longer since k (length front + 1) (subst (λ (n : ℕ). Wrote (longer ++ since) k n) is further) (omega (arith, length-append front (e ∷ []))) in
+          let is : p ≡ size front + 1 = omega (arith, le, lt) in
+          let here : Wrote longer k (size front + 1) = wrote_less longer since k (size front + 1) (subst (λ (n : ℕ). Wrote (longer ++ since) k n) is further) (omega (arith, size-with_entry front e)) in
           let clash : true ≡ false = sym (wrote_step front e k here) ∙ first_false (is_written k (rows_of front) (rows_of longer)) (is_touched k (rows_of longer) since) both in
           absurd (cc)
           )
@@ -116,7 +115,7 @@ last_once book k v w a b =
 pub last_stays : (front since : Book) (k : List ℕ) (v : ℕ) → is_touched k (rows_of front) since ≡ false → IsLastWrite front k v → IsLastWrite (front ++ since) k v
 last_stays front since k v h a = record {
   wrote = wrote_more front since k v a.wrote;
-  last = λ later lt w. elim (cases_lt (length front) later) as (λ _. ⊥) [
+  last = λ later lt w. elim (cases_lt (size front) later) as (λ _. ⊥) [
     | inl above ↦ untouched_after front since k h later above w
     | inr le ↦ a.last later lt (wrote_less front since k later w le)
   ];
@@ -125,7 +124,7 @@ last_stays front since k v h a = record {
 -- entries that touch it give it a later one
 pub last_rises : (front since : Book) (k : List ℕ) (v w : ℕ) → is_touched k (rows_of front) since ≡ true → IsLastWrite front k v → IsLastWrite (front ++ since) k w → v < w
 last_rises front since k v w h a b =
-    let t : IsWrittenAfter (front ++ since) k (length front) = touched_after front since k h in
+    let t : IsWrittenAfter (front ++ since) k (size front) = touched_after front since k h in
     elim (cases_lt w t.place) as (λ _. v < w) [
       | inl lt ↦ absurd (b.last t.place lt t.wrote)
       | inr le ↦ omega (arith, le, t.above, a.wrote.within)
@@ -151,8 +150,8 @@ stored_write book stored k s r is =
     subst (λ (q : List ℕ). IsLastWrite book q s.1) (sym w.1) w.0
 
 -- two rows of one key, stored at a book and at a place of it, have one version exactly where the key was not touched since
-pub versions_tell : (book : Book) (place : ℕ) (stored earlier : List Stored) (k : List ℕ) (now was : Stored) → IsReplay book stored → IsReplay (take place book) earlier → find k stored ≡ Some now → find k earlier ≡ Some was
-    → is_touched k (rows_of (take place book)) (drop place book) ≡ not (was.1 == now.1)
+pub versions_tell : (book : Book) (place : ℕ) (stored earlier : List Stored) (k : List ℕ) (now was : Stored) → IsReplay book stored → IsReplay (up_to place book) earlier → find k stored ≡ Some now → find k earlier ≡ Some was
+    → is_touched k (rows_of (up_to place book)) (since place book) ≡ not (was.1 == now.1)
 versions_tell book place stored earlier k now was r q is stood =
-    touched_tells (take place book) (drop place book) k was.1 now.1 (stored_write (take place book) earlier k was q stood)
-    (subst (λ (b : Book). IsLastWrite b k now.1) (sym (take-append-drop place book)) (stored_write book stored k now r is))
+    touched_tells (up_to place book) (since place book) k was.1 now.1 (stored_write (up_to place book) earlier k was q stood)
+    (subst (λ (b : Book). IsLastWrite b k now.1) (sym (up_to-since place book)) (stored_write book stored k now r is))

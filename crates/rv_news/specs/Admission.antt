@@ -1,6 +1,6 @@
 -- Whether a user may use a group, and where a client of a group stands.
-use Rattle.std.specs.Prelude.{ℕ, ◌≡◌, ◌≤◌, List, length, true, false}
-use Rattle.rv_book.specs.Book.{Book, last, retired}
+use Rattle.std.specs.Prelude.{ℕ, ◌≡◌, ◌≤◌, List, true, false}
+use Rattle.rv_book.specs.Book.{Book, last, retired, size}
 use Rattle.rv_history.specs.Groups.{is_of_other, is_elsewhere, Admits}
 use Rattle.rv_news.specs.declared.groups.Admission.{Admission}
 use Rattle.rv_news.specs.declared.groups.Admission.TheVariants.{OfOther, Retired, Open}
@@ -16,4 +16,4 @@ IsAdmission user group book Open = Admits user group book
 -- the client is of another group; or this is its last mutation id
 abbrev pub IsNumbering : List ℕ → List ℕ → Book → Numbering → Type 0
 IsNumbering client group book Elsewhere = is_elsewhere client group book ≡ true
-IsNumbering client group book (Last number) = (is_elsewhere client group book ≡ false) × (number ≡ last client book) × (number ≤ length book)
+IsNumbering client group book (Last number) = (is_elsewhere client group book ≡ false) × (number ≡ last client book) × (number ≤ size book)

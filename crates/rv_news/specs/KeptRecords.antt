@@ -1,18 +1,17 @@
 -- The records of the kept looks when the book goes on: those of looks that are not kept any more go, and a new look's comes.
-use Rattle.std.proofs.Common.{◌≡◌, ℕ, ◌+◌, ◌≤◌, ◌<◌, ◌==◌, Bool, true, false, cond, not, ◌&&◌, ◌||◌, nat_lt, count_by, List, [], ◌∷◌, ◌++◌, length, find, Option, Some, None, refl, sym, ap, ◌∙◌, subst, arith, ◌⊎◌, inl, inr, append-nil}
+use Rattle.std.proofs.Common.{◌≡◌, ℕ, ◌+◌, ◌≤◌, ◌<◌, ◌==◌, Bool, true, false, cond, not, ◌&&◌, ◌||◌, nat_lt, count_by, List, [], ◌∷◌, ◌++◌, find, Option, Some, None, refl, sym, ap, ◌∙◌, subst, arith, ◌⊎◌, inl, inr, append-nil}
 use Rattle.std.specs.Prelude.{IsSome, option_map, option_and_then}
 use Rattle.std.specs.List.{AllByRecursion, filter}
 use Rattle.std.proofs.Math.Nat.{eq-or-lt_of_le}
-use Rattle.std.proofs.lemmas.List.{length_push}
 use Rattle.std.proofs.lemmas.List.Elements.{filter-append}
 use Rattle.std.proofs.lemmas.Bool.Decides.{Decides-eqb}
 use Rattle.rv_rows.specs.declared.call.Call.{Call}
 use Rattle.rv_views.specs.Viewed.{Viewed}
 use Rattle.rv_book.specs.declared.entry.Entry.{Entry}
 use Rattle.rv_book.specs.declared.entry.Entry.TheVariants.{Act, Look, Retire}
-use Rattle.rv_book.specs.Book.{Book, retired}
+use Rattle.rv_book.specs.Book.{Book, retired, size, with_entry}
 use Rattle.rv_book.specs.Kept.{look_of, look_at, is_look_of, later_looks, kept, falls_out}
-use Rattle.rv_book.specs.BookWords.{retired-with_entry, since-end}
+use Rattle.rv_book.specs.BookWords.{retired-with_entry, since-end, size-with_entry}
 use Rattle.rv_book.specs.LookLaws.{look_at-end, kept-look, kept-next_look, is_place}
 use Rattle.rv_news.specs.Records.{IsViewAt, IsRecord, Placed, Rise, record_at, AreRecords}
 use Rattle.rv_news.specs.RecordLaws.{look_within, look_last, record_more, record_new, kept_act, kept_nowhere, kept_after}
@@ -108,69 +107,69 @@ records_none = record {
 }
 
 -- a look that is kept stands within the book
-kept_within : (place : ℕ) (book : Book) → kept place book ≡ true → place ≤ length book
+kept_within : (place : ℕ) (book : Book) → kept place book ≡ true → place ≤ size book
 kept_within place book stays =
-    elim (look_at place book) as (λ o. look_at place book ≡ o → place ≤ length book) [
+    elim (look_at place book) as (λ o. look_at place book ≡ o → place ≤ size book) [
       | None ↦ λ none. absurd (let both : true ≡ false = sym stays ∙ kept_nowhere place book none in cc)
       | Some look ↦ λ there. look_within place book look there
     ] refl
 
 -- a look that is kept after one more entry was kept before, or is that entry
-kept_more : (book : Book) (e : Entry) (place : ℕ) → kept place (book ++ e ∷ []) ≡ true → ((place ≤ length book) × (kept place book ≡ true)) ⊎ (place ≡ length book + 1)
-kept_more book e place stays = go (eq-or-lt_of_le (omega (arith, kept_within place (book ++ e ∷ []) stays, length_push book e)))
+kept_more : (book : Book) (e : Entry) (place : ℕ) → kept place (with_entry book e) ≡ true → ((place ≤ size book) × (kept place book ≡ true)) ⊎ (place ≡ size book + 1)
+kept_more book e place stays = go (eq-or-lt_of_le (omega (arith, kept_within place (with_entry book e) stays, size-with_entry book e)))
   where
-    go : (place ≡ length book + 1) ⊎ (place < length book + 1) → ((place ≤ length book) × (kept place book ≡ true)) ⊎ (place ≡ length book + 1)
+    go : (place ≡ size book + 1) ⊎ (place < size book + 1) → ((place ≤ size book) × (kept place book ≡ true)) ⊎ (place ≡ size book + 1)
     go (inl last) = inr last
-    go (inr lt) = let le : place ≤ length book = omega arith in inl (le, kept_after place book e le stays)
+    go (inr lt) = let le : place ≤ size book = omega arith in inl (le, kept_after place book e le stays)
 
 -- After one more entry with its records, which stand at its place, those records stay whose looks are kept.
 module _ (book : Book) (e : Entry) (records : List Placed) (are : AreRecords book records) where
   abbrev Stays : Placed → Type 0
-  Stays r = kept r.0 (book ++ e ∷ []) ≡ true → IsRecord (book ++ e ∷ []) r.0 r.1
+  Stays r = kept r.0 (with_entry book e) ≡ true → IsRecord (with_entry book e) r.0 r.1
 
   abbrev still : Placed → Bool
-  still r = kept r.0 (book ++ e ∷ [])
+  still r = kept r.0 (with_entry book e)
 
-  within : (r : Placed) → IsRecord book r.0 r.1 → r.0 ≤ length book
+  within : (r : Placed) → IsRecord book r.0 r.1 → r.0 ≤ size book
   within r is = look_within r.0 book (is.user, is.group, is.order) is.looked
 
-  records_next : (added : List Placed) → Rise added → All (λ r. length book < r.0) added → All Stays added
-      → (kept (length book + 1) (book ++ e ∷ []) ≡ true → IsSome (record_at (length book + 1) added))
-      → AreRecords (book ++ e ∷ []) (filter still (records ++ added))
+  records_next : (added : List Placed) → Rise added → All (λ r. size book < r.0) added → All Stays added
+      → (kept (size book + 1) (with_entry book e) ≡ true → IsSome (record_at (size book + 1) added))
+      → AreRecords (with_entry book e) (filter still (records ++ added))
   records_next added rise above new own = record {
-    rise = rise_filter still (records ++ added) (rise_append (length book) records added are.rise (all_weaker (λ r. IsRecord book r.0 r.1) (λ r. r.0 ≤ length book) within records are.each) rise above);
-    each = all_filter (λ r. IsRecord (book ++ e ∷ []) r.0 r.1) still (records ++ added)
+    rise = rise_filter still (records ++ added) (rise_append (size book) records added are.rise (all_weaker (λ r. IsRecord book r.0 r.1) (λ r. r.0 ≤ size book) within records are.each) rise above);
+    each = all_filter (λ r. IsRecord (with_entry book e) r.0 r.1) still (records ++ added)
         (all_append Stays records added (all_weaker (λ r. IsRecord book r.0 r.1) Stays (λ r is stays. record_more book e r.0 r.1 stays is) records are.each) new);
-    all = λ place stays. found_filter place still (records ++ added) (λ r is. ap (λ (p : ℕ). kept p (book ++ e ∷ [])) is ∙ stays) (go place stays (kept_more book e place stays));
+    all = λ place stays. found_filter place still (records ++ added) (λ r is. ap (λ (p : ℕ). kept p (with_entry book e)) is ∙ stays) (go place stays (kept_more book e place stays));
   }
     where
-      go : (place : ℕ) → kept place (book ++ e ∷ []) ≡ true → ((place ≤ length book) × (kept place book ≡ true)) ⊎ (place ≡ length book + 1) → IsSome (record_at place (records ++ added))
+      go : (place : ℕ) → kept place (with_entry book e) ≡ true → ((place ≤ size book) × (kept place book ≡ true)) ⊎ (place ≡ size book + 1) → IsSome (record_at place (records ++ added))
       go place stays (inl (le, was)) = found_front place records added (are.all place was)
-      go place stays (inr last) = found_back place records added (subst (λ (p : ℕ). IsSome (record_at p added)) (sym last) (own (subst (λ (p : ℕ). kept p (book ++ e ∷ []) ≡ true) last stays)))
+      go place stays (inr last) = found_back place records added (subst (λ (p : ℕ). IsSome (record_at p added)) (sym last) (own (subst (λ (p : ℕ). kept p (with_entry book e) ≡ true) last stays)))
 
   -- an entry that is no look has no record
-  pub records_stay : look_of e ≡ None → AreRecords (book ++ e ∷ []) (filter still records)
+  pub records_stay : look_of e ≡ None → AreRecords (with_entry book e) (filter still records)
   records_stay none =
-      subst (λ (rs : List Placed). AreRecords (book ++ e ∷ []) (filter still rs)) (append-nil records)
-      (records_next [] tt tt tt (λ stays. absurd (let both : true ≡ false = sym stays ∙ kept_nowhere (length book + 1) (book ++ e ∷ []) (look_last book e ∙ none) in cc)))
+      subst (λ (rs : List Placed). AreRecords (with_entry book e) (filter still rs)) (append-nil records)
+      (records_next [] tt tt tt (λ stays. absurd (let both : true ≡ false = sym stays ∙ kept_nowhere (size book + 1) (with_entry book e) (look_last book e ∙ none) in cc)))
 
 -- an act leaves the records
-pub records_act : (book : Book) (user group client : List ℕ) (id : ℕ) (call : Call) (records : List Placed) → AreRecords book records → AreRecords (book ++ Act user group client id call ∷ []) records
+pub records_act : (book : Book) (user group client : List ℕ) (id : ℕ) (call : Call) (records : List Placed) → AreRecords book records → AreRecords (with_entry book (Act user group client id call)) records
 records_act book user group client id call records are =
     let e : Entry = Act user group client id call in
-    subst (λ (rs : List Placed). AreRecords (book ++ e ∷ []) rs)
-    (keeps_all (λ r. kept r.0 (book ++ e ∷ [])) records (all_weaker (λ r. IsRecord book r.0 r.1) (λ r. kept r.0 (book ++ e ∷ []) ≡ true) (λ r is. kept_act r.0 book user group client id call (look_within r.0 book (is.user, is.group, is.order) is.looked) ∙ is.kept) records are.each))
+    subst (λ (rs : List Placed). AreRecords (with_entry book e) rs)
+    (keeps_all (λ r. kept r.0 (with_entry book e)) records (all_weaker (λ r. IsRecord book r.0 r.1) (λ r. kept r.0 (with_entry book e) ≡ true) (λ r is. kept_act r.0 book user group client id call (look_within r.0 book (is.user, is.group, is.order) is.looked) ∙ is.kept) records are.each))
     (records_stay book e records are refl)
 
 -- a look adds its record, and those go that are not kept any more
 pub records_look : (book : Book) (user group : List ℕ) (order : ℕ) (base : Option ℕ) (viewed : Viewed) (records : List Placed) → AreRecords book records → IsViewAt book user group viewed
-    → AreRecords (book ++ Look user group order base ∷ []) (filter (λ r. kept r.0 (book ++ Look user group order base ∷ [])) (records ++ (length book + 1, viewed) ∷ []))
+    → AreRecords (with_entry book (Look user group order base)) (filter (λ r. kept r.0 (with_entry book (Look user group order base))) (records ++ (size book + 1, viewed) ∷ []))
 records_look book user group order base viewed records are view =
-    records_next book (Look user group order base) records are ((length book + 1, viewed) ∷ []) (tt, tt) (omega arith, tt) (record_new book user group order base viewed view, tt)
-    (λ stays. rw ((Decides-eqb (length book + 1) (length book + 1)).1 refl) refl)
+    records_next book (Look user group order base) records are ((size book + 1, viewed) ∷ []) (tt, tt) (omega arith, tt) (record_new book user group order base viewed view, tt)
+    (λ stays. rw ((Decides-eqb (size book + 1) (size book + 1)).1 refl) refl)
 
 -- a retirement lets those of its group go
-pub records_retire : (book : Book) (group : List ℕ) (records : List Placed) → AreRecords book records → AreRecords (book ++ Retire group ∷ []) (filter (λ r. kept r.0 (book ++ Retire group ∷ [])) records)
+pub records_retire : (book : Book) (group : List ℕ) (records : List Placed) → AreRecords book records → AreRecords (with_entry book (Retire group)) (filter (λ r. kept r.0 (with_entry book (Retire group))) records)
 records_retire book group records are = records_stay book (Retire group) records are refl
 
 -- the record of a kept look is found
@@ -178,29 +177,29 @@ pub record_found : (book : Book) (records : List Placed) (place : ℕ) → AreRe
 record_found book records place are stays = found_all (λ r. IsRecord book r.0 r.1) place records are.each (are.all place stays)
 
 -- a look that is entered is kept
-kept_new : (book : Book) (user group : List ℕ) (order : ℕ) (base : Option ℕ) → retired group book ≡ false → kept (length book + 1) (book ++ Look user group order base ∷ []) ≡ true
+kept_new : (book : Book) (user group : List ℕ) (order : ℕ) (base : Option ℕ) → retired group book ≡ false → kept (size book + 1) (with_entry book (Look user group order base)) ≡ true
 kept_new book user group order base stands =
     let e : Entry = Look user group order base in
-    let new : Book = book ++ e ∷ [] in
+    let new : Book = with_entry book e in
     let open_group : retired group new ≡ false = retired-with_entry group book e ∙ ap (λ b. b || false) stands in
-    let none : later_looks group (length book + 1) new ≡ 0 = ap (λ (rest : Book). count_by (is_look_of group) rest) (since-end book e) in
-    kept-look (length book + 1) new (user, group, order) (look_at-end book e) ∙ (λ i. not (open_group i) && nat_lt (none i) 16)
+    let none : later_looks group (size book + 1) new ≡ 0 = ap (λ (rest : Book). count_by (is_look_of group) rest) (since-end book e) in
+    kept-look (size book + 1) new (user, group, order) (look_at-end book e) ∙ (λ i. not (open_group i) && nat_lt (none i) 16)
 
 -- of the records that there are, just that of the look that falls out goes
 one_goes : (book : Book) (user group : List ℕ) (order : ℕ) (base : Option ℕ) (records : List Placed) → All (λ r. IsRecord book r.0 r.1) records
-    → filter (λ r. kept r.0 (book ++ Look user group order base ∷ [])) records ≡ filter (λ r. not (is_place r.0 (falls_out group book))) records
+    → filter (λ r. kept r.0 (with_entry book (Look user group order base))) records ≡ filter (λ r. not (is_place r.0 (falls_out group book))) records
 one_goes book user group order base [] all = refl
 one_goes book user group order base (x ∷ xs) all =
-    let same : kept x.0 (book ++ Look user group order base ∷ []) ≡ not (is_place x.0 (falls_out group book)) =
+    let same : kept x.0 (with_entry book (Look user group order base)) ≡ not (is_place x.0 (falls_out group book)) =
     kept-next_look x.0 book user group order base (look_within x.0 book (all.0.user, all.0.group, all.0.order) all.0.looked) ∙ ap (λ b. b && not (is_place x.0 (falls_out group book))) all.0.kept in
     let rest = one_goes book user group order base xs all.1 in
     (λ i. cond (same i) (x ∷ rest i) (rest i))
 
 -- where a look is entered the record of the look that falls out goes, and the new look's comes
 pub records_look_in_place : (book : Book) (user group : List ℕ) (order : ℕ) (base : Option ℕ) (viewed : Viewed) (records : List Placed) → AreRecords book records → IsViewAt book user group viewed → retired group book ≡ false
-    → AreRecords (book ++ Look user group order base ∷ []) (filter (λ r. not (is_place r.0 (falls_out group book))) records ++ (length book + 1, viewed) ∷ [])
+    → AreRecords (with_entry book (Look user group order base)) (filter (λ r. not (is_place r.0 (falls_out group book))) records ++ (size book + 1, viewed) ∷ [])
 records_look_in_place book user group order base viewed records are view stands =
-    let new : Book = book ++ Look user group order base ∷ [] in
-    let own : filter (λ r. kept r.0 new) ((length book + 1, viewed) ∷ []) ≡ (length book + 1, viewed) ∷ [] = ap (λ b. cond b ((length book + 1, viewed) ∷ []) []) (kept_new book user group order base stands) in
+    let new : Book = with_entry book (Look user group order base) in
+    let own : filter (λ r. kept r.0 new) ((size book + 1, viewed) ∷ []) ≡ (size book + 1, viewed) ∷ [] = ap (λ b. cond b ((size book + 1, viewed) ∷ []) []) (kept_new book user group order base stands) in
     let parts = one_goes book user group order base records are.each in
-    subst (λ (rs : List Placed). AreRecords new rs) (filter-append (λ r. kept r.0 new) records ((length book + 1, viewed) ∷ []) ∙ (λ i. parts i ++ own i)) (records_look book user group order base viewed records are view)
+    subst (λ (rs : List Placed). AreRecords new rs) (filter-append (λ r. kept r.0 new) records ((size book + 1, viewed) ∷ []) ∙ (λ i. parts i ++ own i)) (records_look book user group order base viewed records are view)

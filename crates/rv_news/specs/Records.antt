@@ -1,8 +1,8 @@
 -- The view records of kept looks: what each was shown, in the order of the looks' places.
-use Rattle.std.specs.Prelude.{◌≡◌, ℕ, ◌==◌, ◌<◌, List, [], ◌∷◌, true, take, find, length, slice_index_or, Option, Some, None, IsSome, option_map, Result, Ok, Err}
+use Rattle.std.specs.Prelude.{◌≡◌, ℕ, ◌==◌, ◌<◌, List, [], ◌∷◌, true, find, length, slice_index_or, Option, Some, None, IsSome, option_map, Result, Ok, Err}
 use Rattle.std.specs.List.{AllByRecursion}
 use Rattle.rv_rows.specs.Held.{Stored}
-use Rattle.rv_book.specs.Book.{Book, ids}
+use Rattle.rv_book.specs.Book.{Book, ids, up_to}
 use Rattle.rv_book.specs.Kept.{look_at, kept}
 use Rattle.rv_sharing.specs.Visible.{visible}
 use Rattle.rv_views.specs.Viewed.{Viewed}
@@ -23,7 +23,7 @@ pub record IsRecord (book : Book) (place : ℕ) (viewed : Viewed) : Type 0 where
   pub order : ℕ
   pub looked : look_at place book ≡ Some (user, group, order)
   pub kept : kept place book ≡ true
-  pub shown : IsViewAt (take place book) user group viewed
+  pub shown : IsViewAt (up_to place book) user group viewed
 
 -- a record with the place of its look
 abbrev pub Placed : Type 0

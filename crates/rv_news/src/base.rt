@@ -1,10 +1,11 @@
 // The base of a pull: the kept look that its cookie names.
-ghost use Rattle.std.specs.Prelude.{◌≡◌, ◌<◌, ◌^◌, ◌==◌, ◌&&◌, ℕ, false, length, find, decimal, IfSome, IfNone};
+ghost use Rattle.std.specs.Prelude.{◌≡◌, ◌<◌, ◌^◌, ◌==◌, ◌&&◌, ℕ, false, find, decimal, IfSome, IfNone};
 ghost use Rattle.std.specs.List.{range_with_len};
 ghost use Rattle.std.specs.Option.{option_map_or};
 ghost use Rattle.std.specs.Str.{bytes_eq};
 ghost use Rattle.rv_book.specs.Kept.{kept, look_at};
-ghost use Rattle.rv_history.specs.Bases.{base_of, is_base};
+ghost use Rattle.rv_book.specs.Book.{size};
+ghost use Rattle.rv_history.specs.Bases.{base_of, names_base};
 
 use itoa::Buffer;
 use rv_base::{Num, User};
@@ -46,7 +47,7 @@ fn is_kept(book: &Book, user: &User, order: Num, place: u32) -> bool
 
 // The base that a place's text and an order name.
 fn named(book: &Book, user: &User, text: &str, order: Num) -> Option<u32>
-    ensures { result ≡ find (is_base user.now text.now order book.now.entries) (range_with_len 1 (length book.now.entries)) }
+    ensures { result ≡ find (names_base user.now text.now order book.now.entries) (range_with_len 1 (size book.now.entries)) }
 {
     // so that the book's length is known to be below 2^32, as a place is
     let _length = book.len();

@@ -1,7 +1,7 @@
 ghost use Rattle.std.specs.Prelude.{◌≡◌, ◌≤◌, ◌<◌, ◌^◌, length, IfOk, OnOk, option_map};
 ghost use Rattle.std.specs.Option.{option_map_or};
 ghost use Rattle.rv_base.specs.Sorted.{InOrder, put_by, Settles};
-ghost use Rattle.rv_book.specs.Book.{bound, retires, retired, is_act_of, last, group_of, order_after, last_order, belongs, client_in, ids};
+ghost use Rattle.rv_book.specs.Book.{bound, retires, retired, is_act_of, last, group_of, order_after, last_order, belongs, client_in, ids, size};
 ghost use Rattle.rv_history.specs.Replay.{rows_after, rows_of};
 
 use rv_base::{Id, Memory, Num, Sequence, User};
@@ -69,7 +69,7 @@ fn is_act_of(entry: &Entry, actor: &Id) -> bool
 /// The last mutation id of a client: the number of its acts.
 pub fn last(book: &[Entry], client: &Id) -> u64
     ensures value { result ≡ last client.now book.now }
-    ensures bound { result ≤ length book.now }
+    ensures bound { result ≤ size book.now }
 {
     book.iter().filter(|entry| is_act_of(entry, client)).count() as u64
 }
@@ -130,7 +130,7 @@ fn belongs(book: &[Entry], client: &Id, group: &Id) -> bool
 
 // Of an act by a client of the group: the client, with its last mutation id.
 fn client_in<'b>(book: &'b [Entry], group: &Id, entry: &'b Entry) -> Option<(&'b Id, Num)>
-    requires { length book.now < 2 ^ 53 }
+    requires { size book.now < 2 ^ 53 }
     ensures { option_map (λ pair. (pair.0.now, pair.1)) result ≡ client_in group.now book.now entry.now }
 {
     match entry {
@@ -181,7 +181,7 @@ fn enter(
     entry: &Entry,
 ) -> Result<(), Memory>
     requires order { InOrder (λ pair. pair.0) clients.old.items }
-    requires length { length book.now < 2 ^ 53 }
+    requires length { size book.now < 2 ^ 53 }
     ensures clients { OnOk result (clients.new.items ≡ option_map_or (λ pair. put_by (λ p. p.0) pair clients.old.items) (client_in group.now book.now entry.now) clients.old.items) }
     ensures order { OnOk result (InOrder (λ pair. pair.0) clients.new.items) }
 {
@@ -193,7 +193,7 @@ fn enter(
 
 /// The clients of a group with their last mutation ids, in the order of the clients' bytes.
 pub fn ids(alloc: Global, book: &[Entry], group: &Id) -> Result<Clients, Memory>
-    requires { length book.now < 2 ^ 53 }
+    requires { size book.now < 2 ^ 53 }
     ensures ids { IfOk result (λ v. v ≡ ids group.now book.now) }
     ensures order { IfOk result (λ v. InOrder (λ pair. pair.0) v) }
 {

@@ -1,4 +1,4 @@
-ghost use Rattle.std.specs.Prelude.{◌≡◌, ◌<◌, ◌^◌, ◌++◌, ◌∷◌, map, length, not, option_map, option_and_then, Some, IfOk, OnOk};
+ghost use Rattle.std.specs.Prelude.{◌≡◌, ◌<◌, ◌^◌, ◌++◌, ◌∷◌, map, not, option_map, option_and_then, Some, IfOk, OnOk};
 ghost use Rattle.std.specs.List.{filter};
 ghost use Rattle.std.specs.Str.{bytes_eq};
 ghost use Rattle.rv_base.specs.Sorted.{InOrder};
@@ -7,6 +7,7 @@ ghost use Rattle.rv_rows.specs.Keys.{key_text, row_at, row_key, row_text};
 ghost use Rattle.rv_rows.specs.Sharing.{seen};
 ghost use Rattle.rv_rows.specs.declared.row.Row.TheVariants.{Todo};
 ghost use Rattle.rv_wire.specs.declared.op.Op.TheVariants.{Clear, Del, Put};
+ghost use Rattle.rv_book.specs.Book.{since, size};
 ghost use Rattle.rv_history.specs.Replay.{rows_after, rows_of};
 ghost use Rattle.rv_history.specs.Bases.{base_group};
 ghost use Rattle.rv_history.specs.History.{ids_since, is_absent, is_among, is_news, is_touched, is_written, patch_since};
@@ -267,7 +268,7 @@ fn ids_after(
     place: u32,
     other: &Id,
 ) -> Result<Clients, Memory>
-    requires { length book.now < 2 ^ 53 }
+    requires { size book.now < 2 ^ 53 }
     ensures ids { IfOk result (λ v. v ≡ ids_since group.now book.now (Some (place, other.now))) }
     ensures order { IfOk result (λ v. InOrder (λ pair. pair.0) v) }
 {
@@ -284,7 +285,7 @@ pub fn ids_since(
     group: &Id,
     base: Option<u32>,
 ) -> Result<Clients, Memory>
-    requires { length book.now < 2 ^ 53 }
+    requires { size book.now < 2 ^ 53 }
     ensures ids { IfOk result (λ v. v ≡ ids_since group.now book.now (option_and_then (base_group book.now) base)) }
     ensures order { IfOk result (λ v. InOrder (λ pair. pair.0) v) }
 {

@@ -1,10 +1,10 @@
-ghost use Rattle.std.specs.Prelude.{◌≡◌, ◌<◌, ◌^◌, ◌==◌, ◌&&◌, false, length, count_by, take, drop, find, decimal, option_map};
+ghost use Rattle.std.specs.Prelude.{◌≡◌, ◌<◌, ◌^◌, ◌==◌, ◌&&◌, false, count_by, find, decimal, option_map};
 ghost use Rattle.std.specs.List.{range_with_len};
 ghost use Rattle.std.specs.Option.{option_map_or};
 ghost use Rattle.std.specs.Str.{bytes_eq};
-ghost use Rattle.rv_book.specs.Book.{entry_at};
+ghost use Rattle.rv_book.specs.Book.{entry_at, since, size, up_to};
 ghost use Rattle.rv_book.specs.Kept.{is_look_of, kept, look_at};
-ghost use Rattle.rv_history.specs.Bases.{base_of, is_base};
+ghost use Rattle.rv_history.specs.Bases.{base_of, names_base};
 
 use crate::book::retired;
 use itoa::Buffer;
@@ -44,8 +44,8 @@ pub fn look_at(book: &[Entry], place: u32) -> Option<LookRef<'_>>
 
 // The book up to a place, and the entries after it.
 pub(crate) fn split(book: &[Entry], place: u32) -> (&[Entry], &[Entry])
-    ensures before { result.0.now ≡ take place book.now }
-    ensures after { result.1.now ≡ drop place book.now }
+    ensures before { result.0.now ≡ up_to place book.now }
+    ensures after { result.1.now ≡ since place book.now }
 {
     book.split_at((place as usize).min(book.len()))
 }
@@ -62,7 +62,7 @@ fn is_look_of(entry: &Entry, group: &Id) -> bool
 
 // How many looks of a group stand after a place.
 fn later_looks(book: &[Entry], group: &Id, place: u32) -> usize
-    ensures { result ≡ count_by (is_look_of group.now) (drop place book.now) }
+    ensures { result ≡ count_by (is_look_of group.now) (since place book.now) }
 {
     let (_, after) = split(book, place);
     after
@@ -102,20 +102,20 @@ fn is_by(book: &[Entry], user: &User, order: Num, place: u32) -> bool
 }
 
 /// Whether a text spells the place in decimal, and the look there is kept, by this user and of this order.
-#[tactic(auto, unfolding(rv_history::specs::Bases::is_base))]
-pub fn is_base(book: &[Entry], user: &User, text: &str, order: Num, place: u32) -> bool
-    ensures { result ≡ is_base user.now text.now order book.now place }
+#[tactic(auto, unfolding(rv_history::specs::Bases::names_base))]
+pub fn names_base(book: &[Entry], user: &User, text: &str, order: Num, place: u32) -> bool
+    ensures { result ≡ names_base user.now text.now order book.now place }
 {
     spells(text, place) && kept(book, place) && is_by(book, user, order, place)
 }
 
 // The base that a place's text and an order name.
 fn named(book: &[Entry], user: &User, text: &str, order: Num) -> Option<u32>
-    requires { length book.now < 2 ^ 32 }
-    ensures { result ≡ find (is_base user.now text.now order book.now) (range_with_len 1 (length book.now)) }
+    requires { size book.now < 2 ^ 32 }
+    ensures { result ≡ find (names_base user.now text.now order book.now) (range_with_len 1 (size book.now)) }
 {
     for index in 0..book.len() as u32 {
-        if is_base(book, user, text, order, index + 1) {
+        if names_base(book, user, text, order, index + 1) {
             return Some(index + 1);
         }
     }
@@ -124,7 +124,7 @@ fn named(book: &[Entry], user: &User, text: &str, order: Num) -> Option<u32>
 
 /// The place of the kept look that a cookie names, where it names one.
 pub fn base_of(book: &[Entry], user: &User, cookie: &Cookie) -> Option<u32>
-    requires { length book.now < 2 ^ 32 }
+    requires { size book.now < 2 ^ 32 }
     ensures { result ≡ base_of user.now cookie.now book.now }
 {
     match cookie {

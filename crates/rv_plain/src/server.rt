@@ -1,6 +1,7 @@
-ghost use Rattle.std.specs.Prelude.{◌≡◌, ◌≤◌, ◌<◌, ◌+◌, ◌^◌, ◌∷◌, [], ◌++◌, ◌↔◌, IsTrue, length, IfOk, OnOk, OnErr};
+ghost use Rattle.std.specs.Prelude.{◌≡◌, ◌≤◌, ◌<◌, ◌+◌, ◌^◌, [], ◌↔◌, IsTrue, length, IfOk, OnOk, OnErr};
 ghost use Rattle.rv_base.specs.Sorted.{InOrder};
 ghost use Rattle.rv_book.specs.declared.entry.Entry.TheVariants.{Act, Look, Retire};
+ghost use Rattle.rv_book.specs.Book.{size, with_entry};
 ghost use Rattle.rv_history.specs.Groups.{is_of_other, is_elsewhere, Admits};
 ghost use Rattle.rv_history.specs.Bases.{base_of};
 ghost use Rattle.rv_history.specs.Machine.{patch_for, ids_for};
@@ -58,7 +59,7 @@ fn told_at(
     user: &User,
     request: &PullRequest,
 ) -> Result<Told, Memory>
-    requires { length book.now < 2 ^ 32 }
+    requires { size book.now < 2 ^ 32 }
     ensures base { IfOk result (λ told. told.base ≡ base_of user.now request.now.cookie book.now) }
     ensures ops { IfOk result (λ told. told.ops ≡ patch_for user.now request.now book.now) }
     ensures ids { IfOk result (λ told. told.ids ≡ ids_for user.now request.now book.now) }
@@ -109,6 +110,7 @@ impl PlainDesk {
         ensures book { result.now ≡ self.now.book }
         ensures bound { length result.now < 2 ^ 32 }
     {
+        // The limit is read so that its type's bound, which the length has by the invariant, is known here.
         let _limit = self.limit;
         &self.entries
     }
@@ -154,8 +156,8 @@ impl PlainDesk {
         id: Num,
         call: Call,
     ) -> Result<(), Memory>
-        requires { length self.old.book < self.old.limit }
-        ensures ok { OnOk result (self.new.book ≡ self.old.book ++ Act user.now group.now client.now id call ∷ []) }
+        requires { size self.old.book < self.old.limit }
+        ensures ok { OnOk result (self.new.book ≡ with_entry self.old.book (Act user.now group.now client.now id call)) }
         ensures err { OnErr result (self.new.book ≡ self.old.book) }
         ensures limit { self.new.limit ≡ self.old.limit }
     {
@@ -211,14 +213,14 @@ impl PlainDesk {
         order: Num,
         told: Told,
     ) -> Result<PullReply, Memory>
-        requires room { length self.old.book < self.old.limit }
+        requires room { size self.old.book < self.old.limit }
         requires order { order ≡ next_order request.now self.old.book }
         requires base { told.base ≡ base_of user.now request.now.cookie self.old.book }
         requires ops { told.ops ≡ patch_for user.now request.now self.old.book }
         requires ids { told.ids ≡ ids_for user.now request.now self.old.book }
         requires ids_order { InOrder (λ pair. pair.0) told.ids }
         ensures reply { IfOk result (λ reply. reply ≡ reply_to user.now request.now self.old.book) }
-        ensures ok { OnOk result (self.new.book ≡ self.old.book ++ Look user.now request.now.group order (base_of user.now request.now.cookie self.old.book) ∷ []) }
+        ensures ok { OnOk result (self.new.book ≡ with_entry self.old.book (Look user.now request.now.group order (base_of user.now request.now.cookie self.old.book))) }
         ensures err { OnErr result (self.new.book ≡ self.old.book) }
         ensures limit { self.new.limit ≡ self.old.limit }
     {
@@ -251,8 +253,8 @@ impl PlainDesk {
     }
 
     fn enter_retirement(&mut self, group: &Id) -> Result<(), Memory>
-        requires { length self.old.book < self.old.limit }
-        ensures ok { OnOk result (self.new.book ≡ self.old.book ++ Retire group.now ∷ []) }
+        requires { size self.old.book < self.old.limit }
+        ensures ok { OnOk result (self.new.book ≡ with_entry self.old.book (Retire group.now)) }
         ensures err { OnErr result (self.new.book ≡ self.old.book) }
         ensures limit { self.new.limit ≡ self.old.limit }
     {

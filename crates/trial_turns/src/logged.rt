@@ -6,7 +6,7 @@ use rv_wire::{Op, PullRequest};
 use std::alloc::Global;
 
 /// How much came of what.
-#[derive(Default, Drop)]
+#[derive(Drop)]
 pub struct Tally {
     /// Mutations that were run.
     pub acted: u64,
@@ -33,6 +33,20 @@ fn more(count: &mut u64) {
 }
 
 impl Tally {
+    fn new() -> Tally {
+        Tally {
+            acted: 0,
+            skipped: 0,
+            refused: 0,
+            looks: 0,
+            same: 0,
+            clears: 0,
+            dels: 0,
+            puts: 0,
+            retirements: 0,
+        }
+    }
+
     fn count_turn(&mut self, turn: &Turn) {
         match turn {
             Turn::Acted(_) => more(&mut self.acted),
@@ -92,7 +106,7 @@ impl<T> Logged<T> {
         Logged {
             turns,
             taken: Vec::new(alloc),
-            tally: Tally::default(),
+            tally: Tally::new(),
         }
     }
 

@@ -1,0 +1,48 @@
+// Command lines.
+use crate::texts::quoted;
+use rv_base::Memory;
+use rv_words::{Command, command_of};
+use std::alloc::Global;
+
+// The words between bars. An empty text has none.
+fn words(alloc: Global, line: &str) -> Result<Vec<String>, Memory> {
+    let mut words = Vec::new(alloc);
+    if line.is_empty() {
+        return Ok(words);
+    }
+    for word in line.split('|') {
+        words.push(String::from_str(alloc, word)?)?;
+    }
+    Ok(words)
+}
+
+// What the words ask for.
+fn asked(alloc: Global, words: &[String]) -> Result<String, Memory> {
+    match command_of(alloc, words)? {
+        Some(Command::Feed) => Ok(String::from_str(alloc, "feed")?),
+        Some(Command::Retire { group }) => {
+            let group = quoted(alloc, group.as_str())?;
+            Ok(format!(in alloc; "retire {group}")?)
+        }
+        None => Ok(String::from_str(alloc, "nothing")?),
+    }
+}
+
+// `N`: a group whose name has N letters is to be retired.
+fn long_group(alloc: Global, word: &str) -> Result<Option<String>, Memory> {
+    let Ok(count) = word.parse::<usize>() else {
+        return Ok(None);
+    };
+    let mut words = words(alloc, "rv|retire|memory")?;
+    words.push("g".repeat(alloc, count)?)?;
+    Ok(Some(asked(alloc, &words)?))
+}
+
+/// `words WORD|WORD|..` and `retire-of N`.
+pub fn command(alloc: Global, word: &str, rest: &str) -> Result<Option<String>, Memory> {
+    match word {
+        "words" => Ok(Some(asked(alloc, &words(alloc, rest)?)?)),
+        "retire-of" => long_group(alloc, rest),
+        _ => Ok(None),
+    }
+}
