@@ -1,15 +1,15 @@
 -- Steps of a buffer of lines.
 use Rattle.std.proofs.Common.{◌≡◌, ℕ, suc, zero, ◌+◌, ◌<◌, ◌≤◌, List, [], ◌∷◌, ◌++◌, length, take, drop, get_or, Some, None, refl, sym, ap, ◌∙◌, subst, append_assoc, Bool, true, false, ◌||◌, ◌==◌, nat_lt, Ok, Err, inl, inr, arith, length-append, append-nil}
 use Rattle.std.specs.declared.option.Option.{Option}
-use Rattle.std.proofs.lemmas.List.{take-take, take-append-drop, drop_more, drop_all}
-use Rattle.std.specs.List.{list_any}
+use Rattle.std.proofs.lemmas.List.{take-take, take-append-drop, drop_more, drop_all, drop-take, drop-drop, length-take-le}
 use Rattle.std.specs.Io.KnownBytes.{Keeps, Consumes, IsAtEnd, prepend_known}
 use Rattle.std.proofs.KnownBytes.{Consumes-nil, Consumes-trans, Consumes-kept, Keeps-refl}
 use Rattle.std.proofs.lemmas.List.Folds.{list_any-append}
 use Rattle.std.proofs.lemmas.Grind.{common_steps}
 use Rattle.rv_base.specs.Outside.{InputState}
 use Rattle.rv_lines.specs.Lines.{HasNoLf, has_lf, holds_line, longest_line}
-use Rattle.rv_lines.specs.Found.{Adds, KeepsUnread}
+use Rattle.rv_lines.specs.Found.{Adds, KeepsUnread, Finds}
+use Rattle.rv_lines.specs.declared.buffer.Found.TheVariants.{At}
 use Rattle.rv_lines.specs.Reading.{ReadsAhead}
 use Rattle.rv_lines.specs.declared.line_fault.LineFault.{LineFault}
 
@@ -155,3 +155,14 @@ pub unread_at_fault : (first : List ℕ) (start : InputState) (buffer : List ℕ
     → Fills first start buffer now → Adds buffer now buffer' next (Err fault) → KeepsUnread first start.left buffer' next.left
 unread_at_fault first start buffer now buffer' next fault f (same, k) =
     keeps_unread first f.more buffer' start.left next.left (same ∙ f.grown) (Consumes-kept _ _ _ _ f.taken k)
+
+-- a whole line that is held, from an index on: it is given, and what comes after its LF waits
+pub held : (pending buffer : List ℕ) (left : Option (List ℕ)) (next n after : ℕ) (line : List ℕ) → pending ≡ drop next buffer → Finds (drop next buffer) None (Ok (At n)) → line ≡ drop next (take (next + n) buffer) → after ≡ next + n + 1
+    → HasNoLf line × (length line ≤ longest_line) × Consumes (prepend_known pending left) (prepend_known (drop after buffer) left) (line ++ 10 ∷ [])
+held pending buffer left next n after line waits found is goes_on =
+    let begins : line ≡ take n (drop next buffer) = is ∙ drop-take next n buffer in
+    let short : length (take n (drop next buffer)) ≤ n = omega (arith, length-take-le n (drop next buffer) (omega (arith, found.0))) in
+    let rest : drop (n + 1) (drop next buffer) ≡ drop after buffer = drop-drop (n + 1) next buffer ∙ ap (λ k. drop k buffer) (omega (arith, goes_on)) in
+    let taken = took_line pending (drop next buffer) left left (drop next buffer) n waits (Keeps-refl (prepend_known (drop next buffer) left)) found.0 found.3 in
+    subst (λ l. HasNoLf l × (length l ≤ longest_line) × Consumes (prepend_known pending left) (prepend_known (drop after buffer) left) (l ++ 10 ∷ [])) (sym begins)
+    (found.2, omega (arith, short, found.1), subst (λ l. Consumes (prepend_known pending left) (prepend_known l left) (take n (drop next buffer) ++ 10 ∷ [])) rest taken)

@@ -1,9 +1,10 @@
 // A buffer that is filled from a source until a line is in it.
-ghost use Rattle.std.specs.Prelude.{◌≡◌, ◌≤◌, ◌<◌, ◌++◌, ℕ, List, length, take, drop, slice_index, true, false, OnErr, IfOk, MatchOption};
+ghost use Rattle.std.specs.Prelude.{◌≡◌, ◌≤◌, ◌<◌, ◌++◌, ℕ, List, length, take, drop, slice_index, true, false, OnErr, IfOk, IfSome, MatchOption, None, Ok};
 ghost use Rattle.std.specs.Io.KnownBytes.{Keeps, Consumes, IsAtEnd};
 ghost use Rattle.rv_lines.specs.Lines.{HasNoLf, holds_line};
 ghost use Rattle.rv_lines.specs.Found.{Finds, KeepsUnread, ReadsPiece, finds_end};
 ghost use Rattle.rv_lines.specs.Reading.{ReadsFor, read_failed, IsSteady};
+ghost use Rattle.rv_lines.specs.declared.buffer.Found.TheVariants.{At};
 
 use crate::line_fault::LineFault;
 use rv_base::Source;
@@ -49,6 +50,17 @@ fn read_more<S: Source>(buffer: &mut Vec<u8>, source: &mut S) -> Result<usize, L
     let count = source.read(&mut piece)?;
     buffer.extend_from_slice(&piece[..count])?;
     Ok(count)
+}
+
+/// The length of the line that begins at this index, where the buffer holds its LF and it is no longer than a line may be.
+pub(crate) fn held_line(buffer: &[u8], start: usize) -> Option<usize>
+    requires { start ≤ length buffer.now }
+    ensures { IfSome result (λ n. Finds (drop start buffer.now) None (Ok (At n))) }
+{
+    match find_lf(&buffer[start..], 0) {
+        Some(at) if at <= LINE_LIMIT => Some(at),
+        _ => None,
+    }
 }
 
 /// Fills the buffer until the end of its first line is known.

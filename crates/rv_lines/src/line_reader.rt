@@ -1,6 +1,6 @@
 ghost use Rattle.std.specs.Prelude.{◌≡◌, [], true};
 
-use crate::buffer::{Found, find_line, forget};
+use crate::buffer::{Found, find_line, forget, held_line};
 use crate::line_fault::LineFault;
 use crate::next::Next;
 use rv_base::Source;
@@ -11,7 +11,8 @@ use std::marker::Model;
 #[derive(Drop)]
 pub struct LineReader {
     buffer: Vec<u8>,
-    // the end of the line, and where the bytes after it begin
+    // where the line begins and ends, and where the bytes after it begin
+    start: usize,
     end: usize,
     next: usize,
 }
@@ -22,9 +23,9 @@ impl Model for LineReader {
 
     ghost Value = { Reading };
 
-    ghost view = { λ r. record { line = take r.end r.buffer.items; pending = drop r.next r.buffer.items } };
+    ghost view = { λ r. record { line = drop r.start (take r.end r.buffer.items); pending = drop r.next r.buffer.items } };
 
-    ghost invariant = { λ r. (r.end ≤ r.next) × (r.next ≤ length r.buffer.items) };
+    ghost invariant = { λ r. (r.start ≤ r.end) × (r.end ≤ r.next) × (r.next ≤ length r.buffer.items) };
 }
 
 impl LineReader {
@@ -38,6 +39,7 @@ impl LineReader {
     {
         LineReader {
             buffer: Vec::new(alloc),
+            start: 0,
             end: 0,
             next: 0,
         }
@@ -53,7 +55,27 @@ impl LineReader {
         ensures reads { ReadsFor self.old.pending (S.state source.old) (S.state source.new) (gives_end result) (read_failed result) }
         ensures steady { S.fails_no_more source.old → IsSteady (S.fails_no_more source.new) result }
     {
+        let Some(length) = held_line(&self.buffer, self.next) else {
+            return self.fill(source);
+        };
+        self.start = self.next;
+        self.end = self.start + length;
+        self.next = self.end + 1;
+        Ok(Next::Line)
+    }
+
+    // Goes to the next line, where no whole one is held or it is too long. What was given goes first, so that it goes once
+    // for each piece that is read and not once for each line.
+    fn fill<S: Source>(&mut self, source: &mut S) -> Result<Next, LineFault>
+        ensures gives { GivesNext (unread self.old.pending (S.state source.old).left) (unread self.new.pending (S.state source.new).left) self.new result }
+
+        // Nothing is read while a whole line is held, and no more than one piece that the line did not need.
+        ensures idle { holds_line self.old.pending ≡ true → source.new ≡ source.old }
+        ensures reads { ReadsFor self.old.pending (S.state source.old) (S.state source.new) (gives_end result) (read_failed result) }
+        ensures steady { S.fails_no_more source.old → IsSteady (S.fails_no_more source.new) result }
+    {
         forget(&mut self.buffer, self.next);
+        self.start = 0;
         self.end = 0;
         self.next = 0;
         match find_line(&mut self.buffer, source)? {
@@ -79,6 +101,6 @@ impl LineReader {
     pub fn line(&self) -> &[u8]
         ensures { result.now ≡ self.now.line }
     {
-        &self.buffer[..self.end]
+        &self.buffer[self.start..self.end]
     }
 }
