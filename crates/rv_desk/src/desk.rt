@@ -182,6 +182,9 @@ impl Desk {
         ensures err { OnErr result (self.new.book ≡ self.old.book) }
         ensures limit { self.new.limit ≡ self.old.limit }
     {
+        if self.state.is_unchanged(user, request)? {
+            return Ok(PullAnswer::Pulled(PullReply::of_request(self.alloc, request)?));
+        }
         let news = self.state.news(user, request)?;
         if news.is_empty() {
             return Ok(PullAnswer::Pulled(PullReply::of_request(self.alloc, request)?));

@@ -1,4 +1,4 @@
-ghost use Rattle.std.specs.Prelude.{◌≡◌, ◌≤◌, ◌<◌, [], IfOk, OnOk};
+ghost use Rattle.std.specs.Prelude.{◌≡◌, ◌≤◌, ◌<◌, [], IsTrue, IfOk, OnOk};
 ghost use Rattle.rv_book.specs.declared.entry.Entry.TheVariants.{Act, Look, Retire};
 ghost use Rattle.rv_book.specs.Book.{size, with_entry};
 ghost use Rattle.rv_news.specs.News.{IsNews};
@@ -9,7 +9,7 @@ use rv_base::{Id, Memory, Num, User};
 use rv_book::{Book, BookFault, Entry};
 use rv_history::{PullReply, entries};
 use rv_mutators::stage;
-use rv_news::{News, Records, news_for};
+use rv_news::{News, Records, is_unchanged, news_for};
 use rv_rows::{Call, Tables};
 use rv_wire::PullRequest;
 use std::alloc::Global;
@@ -70,7 +70,7 @@ impl State {
     ghost use Rattle.rv_history.specs.Lawful.{IsLawful, IsLawfulAfter};
     ghost use Rattle.rv_history.specs.Replay.{IsReplay};
     ghost use Rattle.rv_history.specs.Bases.{base_of};
-    ghost use Rattle.rv_history.specs.Machine.{next_order, reply_to};
+    ghost use Rattle.rv_history.specs.Machine.{IsUnchanged, next_order, reply_to};
     ghost use Rattle.rv_news.specs.Records.{AreRecords};
     ghost use Rattle.rv_desk.specs.Changes.{IsPrepared};
 
@@ -108,6 +108,21 @@ impl State {
         ensures { AreRecords self.now.book result.now.records }
     {
         &self.records
+    }
+
+    /// Whether the record of a pull's base shows what its user sees now, so that there is nothing to tell. No key that is
+    /// seen is copied for it; what is found otherwise is told by [`State::news`].
+    pub fn is_unchanged(&self, user: &User, request: &PullRequest) -> Result<bool, Memory>
+        ensures { IfOk result (λ same. IsTrue same → IsUnchanged user.now request.now self.now.book) }
+    {
+        is_unchanged(
+            self.alloc,
+            &self.book,
+            &self.tables,
+            &self.records,
+            user,
+            request,
+        )
     }
 
     /// What a pull is told.

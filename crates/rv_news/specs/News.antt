@@ -1,5 +1,7 @@
 -- What a pull is told, and where that comes from.
-use Rattle.std.specs.Prelude.{◌≡◌, ℕ, List, true, Option, Some, None}
+use Rattle.std.specs.Prelude.{◌≡◌, ℕ, List, [], true, Option, Some, None, option_and_then}
+use Rattle.rv_rows.specs.declared.key.Key.{Key}
+use Rattle.rv_views.specs.Difference.{changed_ids}
 use Rattle.rv_base.specs.Sorted.{InOrder}
 use Rattle.rv_wire.specs.declared.pull.PullRequest.{PullRequest}
 use Rattle.rv_views.specs.Viewed.{Viewed}
@@ -7,7 +9,7 @@ use Rattle.rv_book.specs.Book.{Book}
 use Rattle.rv_book.specs.Kept.{kept}
 use Rattle.rv_news.specs.declared.news.News.{News}
 use Rattle.rv_history.specs.Bases.{base_of}
-use Rattle.rv_news.specs.Records.{IsViewAt, IsRecord}
+use Rattle.rv_news.specs.Records.{IsViewAt, IsRecord, Placed, record_at}
 use Rattle.rv_history.specs.Machine.{patch_for, ids_for}
 
 -- what is found for a base: the record of its look, where the look is kept
@@ -22,3 +24,12 @@ pub record IsNews (book : Book) (user : List ℕ) (request : PullRequest) (news 
   pub ops : news.ops ≡ patch_for user request book
   pub ids : news.ids ≡ ids_for user request book
   pub order : InOrder (λ pair. pair.0) news.ids
+
+-- the record of the look that a pull's cookie names
+abbrev pub found_for : List ℕ → PullRequest → Book → List Placed → Option Viewed
+found_for user request book records = option_and_then (λ place. record_at place records) (base_of user request.cookie book)
+
+-- there is a record, it shows these rows, and has each of these last mutation ids
+abbrev pub ShowsSame : Option Viewed → List (Key × ℕ) → List (List ℕ × ℕ) → Type 0
+ShowsSame None rows ids = ⊥
+ShowsSame (Some viewed) rows ids = (viewed.rows ≡ rows) × (changed_ids viewed.clients ids ≡ [])

@@ -11,5 +11,5 @@ mod records;
 pub use base::base_of;
 pub use groups::{Admission, Numbering, admits, last_of};
 pub use news::{News, news_since, view_now};
-pub use pull::news_for;
+pub use pull::{is_unchanged, news_for};
 pub use records::Records;

@@ -1,8 +1,11 @@
 // What a pull is told at a book, by the book's rows and records.
-ghost use Rattle.std.specs.Prelude.{◌≡◌, option_map, option_and_then, IfOk};
+ghost use Rattle.std.specs.Prelude.{◌≡◌, ◌↔◌, IsTrue, Some, option_map, option_and_then, IfOk};
 ghost use Rattle.rv_history.specs.Replay.{IsReplay};
 ghost use Rattle.rv_news.specs.Records.{AreRecords, Rise, record_at};
-ghost use Rattle.rv_news.specs.News.{IsNews};
+ghost use Rattle.rv_history.specs.Machine.{IsUnchanged};
+ghost use Rattle.rv_book.specs.Book.{ids};
+ghost use Rattle.rv_sharing.specs.Visible.{visible};
+ghost use Rattle.rv_news.specs.News.{IsNews, ShowsSame, found_for};
 
 use crate::base::base_of;
 use crate::news::{News, news_since, view_now};
@@ -10,6 +13,7 @@ use crate::records::Records;
 use rv_base::{Memory, User};
 use rv_book::Book;
 use rv_rows::Tables;
+use rv_sharing::sees_exactly;
 use rv_views::ViewRecord;
 use rv_wire::PullRequest;
 use std::alloc::Global;
@@ -38,4 +42,45 @@ fn base_record(records: &Records, base: Option<u32>) -> Option<&ViewRecord>
     ensures { option_map (λ r. r.now) result ≡ option_and_then (λ place. record_at place records.now.records) base }
 {
     records.get(base?)
+}
+
+/// Whether the record of the base shows just what the user sees now, and has each last mutation id of the group, so that
+/// there is nothing to tell. It is found without copying a key that is seen. The tables are the book's replay, and the
+/// records those of its kept looks.
+pub fn is_unchanged(
+    alloc: Global,
+    book: &Book,
+    tables: &Tables,
+    records: &Records,
+    user: &User,
+    request: &PullRequest,
+) -> Result<bool, Memory>
+    requires replay { IsReplay book.now.entries tables.now.rows }
+    requires records { AreRecords book.now.entries records.now.records }
+    ensures value { IfOk result (λ same. IsTrue same ↔ ShowsSame (found_for user.now request.now book.now.entries records.now.records) (visible user.now tables.now.rows) (ids request.now.group book.now.entries)) }
+    ensures unchanged { IfOk result (λ same. IsTrue same → IsUnchanged user.now request.now book.now.entries) }
+{
+    let base = base_of(book, user, &request.cookie);
+    match base_record(records, base) {
+        Some(found) => shows_same(alloc, book, tables, found, user, request),
+        None => Ok(false),
+    }
+}
+
+// Whether a record shows just what the user sees now, and has each last mutation id of the group.
+fn shows_same(
+    alloc: Global,
+    book: &Book,
+    tables: &Tables,
+    found: &ViewRecord,
+    user: &User,
+    request: &PullRequest,
+) -> Result<bool, Memory>
+    ensures { IfOk result (λ same. IsTrue same ↔ ShowsSame (Some found.now) (visible user.now tables.now.rows) (ids request.now.group book.now.entries)) }
+{
+    if !sees_exactly(alloc, tables, user, found.rows())? {
+        return Ok(false);
+    }
+    let clients = book.clients(&request.group)?;
+    Ok(found.ids_since(alloc, &clients)?.as_slice().is_empty())
 }

@@ -3,3 +3,4 @@ pub mod TextLaws
 pub mod OpenedLaws
 pub mod VisibleLaws
 pub mod ViewerLaws
+pub mod Matching

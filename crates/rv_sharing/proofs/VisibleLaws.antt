@@ -13,7 +13,7 @@ use Rattle.rv_sharing.specs.Opened.{AreOpened}
 use Rattle.rv_sharing.specs.Visible.{visible}
 
 -- the keys that the user sees among the rest of the rows
-abbrev shown : List ℕ → List Row → List Stored → List (Key × ℕ)
+abbrev pub shown : List ℕ → List Row → List Stored → List (Key × ℕ)
 shown user rows rest = map (λ s. (row_key s.0, s.1)) (filter (λ s. sees user rows s.0) rest)
 
 -- the keys so far, with those of the rest, are all that the user sees
@@ -22,9 +22,13 @@ pub record Showing (user : List ℕ) (stored : List Stored) (lists : List (List 
   pub keys_are : keys ++ shown user (rows_in stored) rest ≡ visible user stored
 
 -- among the lists that the user sees is a row's exactly where the user sees the row
-seen_so : (user : List ℕ) (rows : List Row) (lists : List (List ℕ)) (row : Row) → AreOpened user rows lists → sees user rows row ≡ list_any (bytes_eq (list_of row)) lists
+pub seen_so : (user : List ℕ) (rows : List Row) (lists : List (List ℕ)) (row : Row) → AreOpened user rows lists → sees user rows row ≡ list_any (bytes_eq (list_of row)) lists
 unfolding sees
 seen_so user rows lists row are = sym (are.each (list_of row))
+
+-- what the look-up says of the row's list
+pub found : (b r : Bool) (l k : List ℕ) (xs ys : List (List ℕ)) → r ≡ b → r ≡ list_any (bytes_eq l) xs → l ≡ k → xs ≡ ys → b ≡ list_any (bytes_eq k) ys
+found b r l k xs ys is held same all = sym is ∙ held ∙ ap (λ (m : List ℕ). list_any (bytes_eq m) xs) same ∙ ap (λ (zs : List (List ℕ)). list_any (bytes_eq k) zs) all
 
 pub showing_begins : (user : List ℕ) (stored rest : List Stored) (lists : List (List ℕ)) (keys : List (Key × ℕ)) → AreOpened user (rows_in stored) lists → keys ≡ [] → rest ≡ stored → Showing user stored lists keys rest
 showing_begins user stored rest lists keys are none all = rw (none, all) (record { lists_are = are; keys_are = refl })

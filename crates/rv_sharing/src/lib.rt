@@ -11,4 +11,4 @@ mod views;
 
 pub use lists::{has_list, has_share, may, owner_of, owns};
 pub use viewers::{add_sharers, add_user, add_viewers, affected};
-pub use views::visible;
+pub use views::{sees_exactly, visible};

@@ -1,10 +1,10 @@
 // What a user sees of a table.
-ghost use Rattle.std.specs.Prelude.{◌≡◌, IfOk, OnOk, option_map};
+ghost use Rattle.std.specs.Prelude.{◌≡◌, ◌∷◌, ◌↔◌, IsTrue, IfOk, OnOk, MatchOption, option_map};
 ghost use Rattle.rv_base.specs.Sorted.{InOrder};
 ghost use Rattle.rv_rows.specs.Keys.{key_text, row_key};
 ghost use Rattle.rv_rows.specs.Held.{rows_in};
 ghost use Rattle.rv_sharing.specs.Opened.{opened, AreOpened};
-ghost use Rattle.rv_sharing.specs.Visible.{visible};
+ghost use Rattle.rv_sharing.specs.Visible.{visible, BeginsOtherwise};
 
 use crate::lists::has_list;
 use crate::texts::{add, holds};
@@ -59,4 +59,38 @@ pub fn visible(alloc: Global, tables: &Tables, user: &User) -> Result<Visible, M
         }
     }
     Ok(keys)
+}
+
+/// Whether these are the keys that the user sees, in order, each with the version of its row. No key is copied for it.
+pub fn sees_exactly(
+    alloc: Global,
+    tables: &Tables,
+    user: &User,
+    keys: &[(Key, u32)],
+) -> Result<bool, Memory>
+    ensures { IfOk result (λ same. IsTrue same ↔ (keys.now ≡ visible user.now tables.now.rows)) }
+{
+    let lists = lists_opened(alloc, tables, user)?;
+    let mut rest = keys;
+    for (row, version) in tables.iter() {
+        if holds(&lists, row.list()) {
+            match after_row(rest, row, version) {
+                Some(others) => rest = others,
+                None => return Ok(false),
+            }
+        }
+    }
+    Ok(rest.is_empty())
+}
+
+// The keys after the first, where that is the row's with this version.
+fn after_row<'k>(keys: &'k [(Key, u32)], row: &Row, version: u32) -> Option<&'k [(Key, u32)]>
+    ensures { MatchOption result (BeginsOtherwise (row_key row.now, version) keys.now) (λ others. keys.now ≡ (row_key row.now, version) ∷ others.now) }
+{
+    let (first, others) = keys.split_first()?;
+    if first.1 == version && first.0.kind == row.kind() && first.0.id == *row.id() {
+        Some(others)
+    } else {
+        None
+    }
 }

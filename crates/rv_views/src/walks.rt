@@ -42,6 +42,16 @@ pub fn difference(
     }
 }
 
+impl ViewRecord {
+    /// The clients that were not there, or had another last mutation id, in order.
+    pub fn ids_since(&self, alloc: Global, clients: &Clients) -> Result<Clients, Memory>
+        requires { AreClients clients.now }
+        ensures { IfOk result (λ ids. ids ≡ changed_ids self.now.clients clients.now) }
+    {
+        changed(alloc, self.clients(), clients.as_slice())
+    }
+}
+
 // The keys of the rows that have changed.
 #[derive(Drop)]
 struct RowChanges {

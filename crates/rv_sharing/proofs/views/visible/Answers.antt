@@ -1,12 +1,6 @@
-use Rattle.std.proofs.Common.{List, ℕ, Bool, ◌≡◌, true, false, sym, ap, ◌∙◌}
-use Rattle.std.specs.List.{list_any}
-use Rattle.std.specs.Str.{bytes_eq}
-use Rattle.rv_sharing.proofs.VisibleLaws.{showing_begins, showing_more, showing_same, showing_ends, visible_in_order}
+use Rattle.std.proofs.Common.{true, false, ◌∙◌}
+use Rattle.rv_sharing.proofs.VisibleLaws.{found, showing_begins, showing_more, showing_same, showing_ends, visible_in_order}
 use Rattle.rv_sharing.proofs.views.visible.Goals as goal
-
--- what the look-up says of the row's list
-found : (b r : Bool) (l k : List ℕ) (xs ys : List (List ℕ)) → r ≡ b → r ≡ list_any (bytes_eq l) xs → l ≡ k → xs ≡ ys → b ≡ list_any (bytes_eq k) ys
-found b r l k xs ys is held same all = sym is ∙ held ∙ ap (λ (m : List ℕ). list_any (bytes_eq m) xs) same ∙ ap (λ (zs : List (List ℕ)). list_any (bytes_eq k) zs) all
 
 pub loop-row-init : goal.loop-row-init
 loop-row-init c = record { can_next = tt; is_finite = tt; showing = showing_begins _ _ _ _ _ c.in_ok-lists.ensures c.new-keys.ensures (c.into_iter-row-iterator.ensures.into_iter_gives ∙ c.iter-row-items.ensures.rows) }
