@@ -1,11 +1,15 @@
 -- Steps of a buffer of lines.
-use Rattle.std.proofs.Common.{◌≡◌, ℕ, suc, zero, ◌+◌, ◌<◌, ◌≤◌, List, [], ◌∷◌, ◌++◌, length, take, drop, get_or, Some, None, refl, sym, ap, ◌∙◌, subst, append_assoc, Bool, true, false, ◌||◌, ◌==◌, nat_lt, Ok, Err, inl, inr, arith, length-append, append-nil}
+use Rattle.std.proofs.Common.{◌≡◌, ℕ, suc, zero, ◌+◌, ◌-◌, ◌<◌, ◌≤◌, List, [], ◌∷◌, ◌++◌, length, take, drop, get_or, Some, None, refl, sym, ap, ◌∙◌, subst, append_assoc, Bool, true, false, ◌||◌, ◌==◌, nat_lt, Ok, Err, inl, inr, arith, length-append, append-nil}
 use Rattle.std.specs.declared.option.Option.{Option}
-use Rattle.std.proofs.lemmas.List.{take-take, take-append-drop, drop_more, drop_all, drop-take, drop-drop, length-take-le}
+use Rattle.std.proofs.lemmas.List.{take-take, take-append-drop, drop_more, drop_all, drop-take, drop-drop, length-take-le, take_all, length-drop, get_or-drop, take_rest}
 use Rattle.std.specs.Io.KnownBytes.{Keeps, Consumes, IsAtEnd, prepend_known}
 use Rattle.std.proofs.KnownBytes.{Consumes-nil, Consumes-trans, Consumes-kept, Keeps-refl}
 use Rattle.std.proofs.lemmas.List.Folds.{list_any-append}
 use Rattle.std.proofs.lemmas.Grind.{common_steps}
+use Rattle.std.specs.Option.{MatchOption}
+use Rattle.std.proofs.Math.Seq.{take-add}
+use Rattle.std.proofs.lemmas.Bool.Decides.{Decides-eqb}
+use Rattle.memchr.specs.Find.{Nowhere, Passes, IsFirstByte, is_byte}
 use Rattle.rv_base.specs.Outside.{InputState}
 use Rattle.rv_lines.specs.Lines.{HasNoLf, has_lf, holds_line, longest_line}
 use Rattle.rv_lines.specs.Found.{Adds, KeepsUnread, Finds}
@@ -166,3 +170,29 @@ held pending buffer left next n after line waits found is goes_on =
     let taken = took_line pending (drop next buffer) left left (drop next buffer) n waits (Keeps-refl (prepend_known (drop next buffer) left)) found.0 found.3 in
     subst (λ l. HasNoLf l × (length l ≤ longest_line) × Consumes (prepend_known pending left) (prepend_known (drop after buffer) left) (l ++ 10 ∷ [])) (sym begins)
     (found.2, omega (arith, short, found.1), subst (λ l. Consumes (prepend_known pending left) (prepend_known l left) (take n (drop next buffer) ++ 10 ∷ [])) rest taken)
+
+-- bytes none of which is an LF
+none_is_lf : (xs : List ℕ) (n : ℕ) → Nowhere (Passes (is_byte 10) xs) 0 n → HasNoLf (take n xs)
+none_is_lf xs zero none = refl
+none_is_lf [] (suc n) none = refl
+none_is_lf (x ∷ xs) (suc n) none = or_both (x == 10) (has_lf (take n xs)) (first (x == 10) refl) (none_is_lf xs n (λ k low high is. none (suc k) (omega arith) (omega (arith, high)) is))
+  where
+    first : (b : Bool) → x == 10 ≡ b → b ≡ false
+    first false e = refl
+    first true e = absurd (none 0 (omega arith) (omega arith) e)
+
+-- the first LF from an index on, before which there is none
+pub searched : (bytes : List ℕ) (from : ℕ) (found : Option ℕ) → from ≤ length bytes → HasNoLf (take from bytes) → IsFirstByte (is_byte 10) (drop from bytes) found
+    → MatchOption found (HasNoLf bytes) (λ at. (from + at < length bytes) × HasNoLf (take (from + at) bytes) × (get_or bytes (from + at) 0 ≡ 10))
+searched bytes from None within before none =
+    let after : HasNoLf (drop from bytes) = subst (λ l. HasNoLf l) (take_all (length (drop from bytes)) (drop from bytes) (omega arith)) (none_is_lf (drop from bytes) (length (drop from bytes)) none) in
+    subst (λ l. HasNoLf l) (take-append-drop from bytes) (list_any-append (λ byte. byte == 10) (take from bytes) (drop from bytes) ∙ or_both _ _ before after)
+searched bytes from (Some at) within before (first, is) = (
+  omega (arith, first.high, length-drop from bytes, within),
+  subst (λ l. HasNoLf l) (sym (take-add from at bytes)) (list_any-append (λ byte. byte == 10) (take from bytes) (take at (drop from bytes)) ∙ or_both _ _ before (none_is_lf (drop from bytes) at first.before)),
+  sym (get_or-drop from bytes at 0) ∙ (Decides-eqb _ _).0 is,
+)
+
+pub searched_rest : (bytes : List ℕ) (from : ℕ) (found : Option ℕ) → from ≤ length bytes → HasNoLf (take from bytes) → IsFirstByte (is_byte 10) (take (length bytes - from) (drop from bytes)) found
+    → MatchOption found (HasNoLf bytes) (λ at. (from + at < length bytes) × HasNoLf (take (from + at) bytes) × (get_or bytes (from + at) 0 ≡ 10))
+searched_rest bytes from found within before is = searched bytes from found within before (subst (λ l. IsFirstByte (is_byte 10) l found) (take_rest bytes from) is)

@@ -7,6 +7,7 @@ ghost use Rattle.rv_lines.specs.Reading.{ReadsFor, read_failed, IsSteady};
 ghost use Rattle.rv_lines.specs.declared.buffer.Found.TheVariants.{At};
 
 use crate::line_fault::LineFault;
+use memchr::memchr;
 use rv_base::Source;
 
 /// The most bytes of a line, its LF not counted.
@@ -32,12 +33,10 @@ fn find_lf(bytes: &[u8], from: usize) -> Option<usize>
     requires searched { HasNoLf (take from bytes.now) }
     ensures { MatchOption result (HasNoLf bytes.now) (λ i. (i < length bytes.now) × HasNoLf (take i bytes.now) × (slice_index bytes.now i ≡ 10)) }
 {
-    for i in from..bytes.len() {
-        if bytes[i] == b'\n' {
-            return Some(i);
-        }
+    match memchr(b'\n', &bytes[from..]) {
+        Some(at) => Some(from + at),
+        None => None,
     }
-    None
 }
 
 // Takes some bytes from the source, none only at its end. The room is made first, so that nothing that was read is lost.
