@@ -16,7 +16,6 @@ mod values;
 
 use rv_base::Memory;
 use std::alloc::Global;
-use std::io::{BufRead, BufReader};
 
 // What the commands are of.
 #[derive(Clone, Copy)]
@@ -89,15 +88,19 @@ fn answer(alloc: Global, parts: &mut Parts, line: &str) -> Result<String, Memory
     Ok(String::from_str(alloc, line)?)
 }
 
+// Prints what a line prints.
+fn print_answer(rt: &HostRuntime, parts: &mut Parts, line: &str) -> anyhow::Result<()> {
+    if !line.starts_with('#') {
+        let text = answer(rt.alloc(), parts, line)?;
+        println!(rt; "{text}")?;
+    }
+    Ok(())
+}
+
 fn main(rt: HostRuntime) -> anyhow::Result<()> {
-    let alloc = rt.alloc();
-    let mut parts = Parts::new(alloc, Subject::Values)?;
-    for line in BufReader::new(alloc, rt.reader())?.lines(alloc) {
-        let line = line?;
-        if !line.starts_with('#') {
-            let text = answer(alloc, &mut parts, &line)?;
-            println!(rt; "{text}")?;
-        }
+    let mut parts = Parts::new(rt.alloc(), Subject::Values)?;
+    for line in rt.lines(rt.alloc()) {
+        print_answer(&rt, &mut parts, line?.as_str())?;
     }
     Ok(())
 }

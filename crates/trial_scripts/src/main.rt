@@ -12,7 +12,6 @@ mod runs;
 use case::Case;
 use rv_base::Memory;
 use std::alloc::Global;
-use std::io::{BufRead, BufReader};
 
 // What a command prints, where it is one.
 fn printed(alloc: Global, case: &mut Case, line: &str) -> Result<Option<String>, Memory> {
@@ -45,15 +44,19 @@ fn answer(alloc: Global, case: &mut Case, line: &str) -> Result<String, Memory> 
     }
 }
 
+// Prints what a line prints.
+fn print_answer(rt: &HostRuntime, case: &mut Case, line: &str) -> anyhow::Result<()> {
+    if !line.starts_with('#') {
+        let text = answer(rt.alloc(), case, line)?;
+        print!(rt; "{text}")?;
+    }
+    Ok(())
+}
+
 fn main(rt: HostRuntime) -> anyhow::Result<()> {
-    let alloc = rt.alloc();
-    let mut case = Case::new(alloc)?;
-    for line in BufReader::new(alloc, rt.reader())?.lines(alloc) {
-        let line = line?;
-        if !line.starts_with('#') {
-            let text = answer(alloc, &mut case, &line)?;
-            print!(rt; "{text}")?;
-        }
+    let mut case = Case::new(rt.alloc())?;
+    for line in rt.lines(rt.alloc()) {
+        print_answer(&rt, &mut case, line?.as_str())?;
     }
     Ok(())
 }

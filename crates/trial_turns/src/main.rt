@@ -20,7 +20,6 @@ mod words;
 use desks::Desks;
 use rv_base::Memory;
 use std::alloc::Global;
-use std::io::{BufRead, BufReader};
 
 // What a command prints, where it is one.
 fn printed(alloc: Global, desks: &mut Desks, line: &str) -> Result<Option<String>, Memory> {
@@ -47,15 +46,19 @@ fn answer(alloc: Global, desks: &mut Desks, line: &str) -> Result<String, Memory
     }
 }
 
+// Prints what a line prints.
+fn print_answer(rt: &HostRuntime, desks: &mut Desks, line: &str) -> anyhow::Result<()> {
+    if !line.starts_with('#') {
+        let text = answer(rt.alloc(), desks, line)?;
+        println!(rt; "{text}")?;
+    }
+    Ok(())
+}
+
 fn main(rt: HostRuntime) -> anyhow::Result<()> {
-    let alloc = rt.alloc();
-    let mut desks = Desks::new(alloc, 100);
-    for line in BufReader::new(alloc, rt.reader())?.lines(alloc) {
-        let line = line?;
-        if !line.starts_with('#') {
-            let text = answer(alloc, &mut desks, &line)?;
-            println!(rt; "{text}")?;
-        }
+    let mut desks = Desks::new(rt.alloc(), 100);
+    for line in rt.lines(rt.alloc()) {
+        print_answer(&rt, &mut desks, line?.as_str())?;
     }
     Ok(())
 }

@@ -10,10 +10,19 @@ use rv_plain::rows::in_key_order;
 use rv_rows::{Key, Row};
 use std::alloc::Global;
 
+// Where the row with the key of this one stands.
+fn place_of(rows: &[Row], row: &Row) -> Option<usize> {
+    for at in 0..rows.len() {
+        if rows[at].kind() == row.kind() && rows[at].id() == row.id() {
+            return Some(at);
+        }
+    }
+    None
+}
+
 // Writes the row among the rows, in the place of the one that has its key.
 fn put_plain(rows: &mut Vec<Row>, row: Row) -> Result<(), Memory> {
-    let found = rows.iter().position(|other| other.kind() == row.kind() && other.id() == row.id());
-    match found {
+    match place_of(rows, &row) {
         Some(at) => rows[at] = row,
         None => rows.push(row)?,
     }
