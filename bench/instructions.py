@@ -1,5 +1,5 @@
 #!/usr/bin/env python3
-"""Counts the instructions of one pull, outside the gate: bench/instructions.py PROGRAM
+"""Counts the instructions of turns, outside the gate: bench/instructions.py PROGRAM
 
 PROGRAM is the program `rv` as it was built (after `rt ci`, `crates/rv/out/rv`). Needs valgrind, whose
 callgrind counts the same on a busy machine. Each count is the difference of two runs, by the pulls that one has more.
@@ -8,7 +8,7 @@ import re
 import subprocess
 import sys
 
-from feed import anew, looks, one_changed, pull, rows, strangers, unchanged
+from feed import anew, looks, one_changed, pull, rows, strangers, unchanged, voids
 
 
 def instructions(program, lines):
@@ -34,8 +34,34 @@ def print_pulls(program, label, before, entries, pulls=20):
         print(f"{label}, {name}: {(instructions(program, before + lines) - start) // pulls} instructions")
 
 
+def others(count):
+    """Lines that leave a hundred rows in each of so many lists of another user."""
+    lines = []
+    for number in range(count):
+        lines += rows(100, f"d{number}", "bob", f"h{number}", f"m{number}")
+    return lines
+
+
+def print_table(program, count=1000, pulls=20, turns=100):
+    """Prints what a row costs in a pull, and what a mutation costs."""
+    before = rows(count) + [pull()]
+    start = instructions(program, before)
+    for name, lines in (("without a base", anew(pulls)), ("with nothing changed", unchanged(count + 1, pulls))):
+        each = (instructions(program, before + lines) - start) // (pulls * count)
+        print(f"a pull {name}, a row of {count}: {each} instructions")
+    each = (instructions(program, voids(turns + 1)) - instructions(program, voids(1))) // turns
+    print(f"a line with a mutation that has no effect: {each} instructions")
+    for lists in (0, 100):
+        before = others(lists)
+        more = instructions(program, before + rows(count + turns)) - instructions(program, before + rows(count))
+        print(f"a line with a todo for a list of {count} rows, beside {lists * 100} rows of others: {more // turns} instructions")
+        more = instructions(program, before + rows(10 + turns)) - instructions(program, before + rows(10))
+        print(f"a line with a todo for a list of 10 to {10 + turns} rows, beside {lists * 100} rows of others: {more // turns} instructions")
+
+
 def main():
     program = sys.argv[1]
+    print_table(program)
     for count in (0, 1000, 100000):
         print_pulls(program, f"{count:6} other clients", strangers(count), count)
     for count in (1000, 10000):
