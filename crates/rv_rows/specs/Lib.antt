@@ -5,5 +5,6 @@ pub mod Sharing
 pub mod Effects
 pub mod RowTexts
 pub mod Members
+pub mod Additions
 pub mod Changes
 pub mod EffectLaws

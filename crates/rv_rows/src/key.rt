@@ -1,4 +1,4 @@
-ghost use Rattle.std.specs.Prelude.{◌≡◌, IfOk, string_bytes};
+ghost use Rattle.std.specs.Prelude.{◌≡◌, IfOk, OnOk, string_bytes};
 ghost use Rattle.std.specs.Cmp.Lexicographic.{slice_cmp};
 ghost use Rattle.std.specs.Ordering.{nat_cmp};
 ghost use Rattle.rv_rows.specs.Keys.{prefix, key_text};
@@ -46,6 +46,16 @@ impl Kind {
         let mut text = String::from_str(alloc, self.prefix())?;
         text.push_str(id.as_str())?;
         Ok(text)
+    }
+
+    /// Makes the buffer hold the text of the key of this kind and this id, and nothing else.
+    pub fn put_key_text(self, out: &mut String, id: &Id) -> Result<(), Memory>
+        ensures { OnOk result (string_bytes out.new ≡ key_text (record { kind = self; id = id.now })) }
+    {
+        out.clear();
+        out.push_str(self.prefix())?;
+        out.push_str(id.as_str())?;
+        Ok(())
     }
 }
 

@@ -1,0 +1,16 @@
+-- What a writer of JSON adds to the tokens that it has written.
+use Rattle.std.specs.Prelude.{◌≡◌, List, ◌++◌, OnOk, Result}
+use Rattle.json.specs.Token.{Token}
+use Rattle.json.specs.Tree.{json_tokens}
+use Rattle.json.specs.Written.{Written}
+use Rattle.serde_json.specs.Data.{Data}
+use Rattle.serde_json.specs.Written.{outline}
+
+-- At Ok the tokens stand behind those that were there; at Err this says nothing of the tokens. What the buffer held before
+-- the first token stays either way.
+abbrev pub AddsTokens : {E : Type 0} → Result (Unit {0}) E → Written → Written → List Token → Type 0
+AddsTokens result old new tokens = (new.before ≡ old.before) × OnOk result (new.tokens ≡ old.tokens ++ tokens)
+
+-- At Ok the value, whole, stands behind what was there.
+abbrev pub Adds : {E : Type 0} → Result (Unit {0}) E → Written → Written → Data → Type 0
+Adds result old new value = AddsTokens result old new (json_tokens (outline value))
