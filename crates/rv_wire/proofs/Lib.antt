@@ -1,4 +1,4 @@
 pub mod Each
-pub mod Answered
 pub mod ErrorTexts
 pub mod JsonTexts
+pub mod Writing

@@ -19,10 +19,14 @@ cookie_data (Named place order) = object (member (codes "cvrID") (string place) 
 abbrev pub put_data : List ℕ → Data → Data
 put_data key value = object (member (codes "key") (string key) (member (codes "op") (string (codes "put")) (member (codes "value") value no_members)))
 
+-- {"key":K,"op":"del"}
+abbrev pub del_data : List ℕ → Data
+del_data key = object (member (codes "key") (string key) (member (codes "op") (string (codes "del")) no_members))
+
 -- {"op":"clear"}, {"key":K,"op":"del"} and {"key":K,"op":"put","value":ROW}
 abbrev pub op_data : Op → Data
 op_data Clear = object (member (codes "op") (string (codes "clear")) no_members)
-op_data (Del key) = object (member (codes "key") (string (key_text key)) (member (codes "op") (string (codes "del")) no_members))
+op_data (Del key) = del_data (key_text key)
 op_data (Put row) = put_data (row_text row) (row_data row)
 
 -- each client with its last mutation id

@@ -1,101 +1,139 @@
 ghost use Rattle.std.specs.Prelude.{◌≡◌, IfOk, map};
-ghost use Rattle.serde_json.specs.View.{view, members_view};
+ghost use Rattle.serde_json.specs.Data.{object, array};
+ghost use Rattle.serde_json.specs.View.{items_of};
 ghost use Rattle.serde_json.specs.Written.{compact_text};
 ghost use Rattle.rv_base.specs.Sorted.{InOrder};
-ghost use Rattle.rv_wire.specs.Answers.{cookie_data, id_members, put_data, op_data, answer_data, pull_data};
+ghost use Rattle.rv_rows.specs.Additions.{Adds};
+ghost use Rattle.rv_rows.specs.RowTexts.{row_data};
+ghost use Rattle.rv_views.specs.declared.cookie.Cookie.TheVariants.{Named};
+ghost use Rattle.rv_wire.specs.declared.op.Op.TheVariants.{Clear};
+ghost use Rattle.rv_wire.specs.Answers.{cookie_data, id_members, del_data, put_data, op_data, pull_data};
 
 use crate::op::{Op, Ops};
-use rv_base::{Bytes, Id, Memory, Num, Sequence};
-use rv_rows::{Clients, row_value};
+use json::Writer;
+use rv_base::{Bytes, Id, Memory, Num, Sequence, Text};
+use rv_rows::{Clients, Row, write_num_member, write_row, write_text_member};
 use rv_views::Cookie;
-use serde_json::{Map, Value, json};
-use std::alloc::{AllocError, Global};
+use std::alloc::Global;
 
-fn cookie_value(alloc: Global, cookie: &Cookie) -> Result<Value, Memory>
-    ensures { IfOk result (λ v. view v ≡ cookie_data cookie.now) }
+fn write_named_cookie(out: &mut Writer, place_text: &Text, order: Num) -> Result<(), Memory>
+    ensures { Adds result out.old out.new (cookie_data (Named place_text.now order)) }
+{
+    out.begin_object()?;
+    write_text_member(out, "cvrID", place_text.as_str())?;
+    write_num_member(out, "order", order)?;
+    out.end_object()?;
+    Ok(())
+}
+
+fn write_cookie(out: &mut Writer, cookie: &Cookie) -> Result<(), Memory>
+    ensures { Adds result out.old out.new (cookie_data cookie.now) }
 {
     match cookie {
-        Cookie::Null => Ok(Value::Null),
-        Cookie::Bare(order) => Ok(Value::from(order.get())),
-        Cookie::Named { place_text, order } => {
-            Ok(json!(in alloc; {"cvrID": place_text.as_str(), "order": order.get()})?)
-        }
+        Cookie::Null => Ok(out.null()?),
+        Cookie::Bare(order) => Ok(out.u64(order.get())?),
+        Cookie::Named { place_text, order } => write_named_cookie(out, place_text, *order),
     }
 }
 
-fn put_value(alloc: Global, key: &str, value: Value) -> Result<Value, AllocError>
-    ensures { IfOk result (λ v. view v ≡ put_data key.now (view value)) }
+fn write_id_changes(out: &mut Writer, ids: &[(Id, Num)]) -> Result<(), Memory>
+    ensures { Adds result out.old out.new (object (id_members ids.now)) }
 {
-    json!(in alloc; {"key": key, "op": "put", "value": value})
+    out.begin_object()?;
+    for (id, last) in ids {
+        write_num_member(out, id.as_str(), *last)?;
+    }
+    out.end_object()?;
+    Ok(())
 }
 
-fn op_value(alloc: Global, op: &Op) -> Result<Value, Memory>
-    ensures { IfOk result (λ v. view v ≡ op_data op.now) }
+fn write_clear(out: &mut Writer) -> Result<(), Memory>
+    ensures { Adds result out.old out.new (op_data Clear) }
+{
+    out.begin_object()?;
+    write_text_member(out, "op", "clear")?;
+    out.end_object()?;
+    Ok(())
+}
+
+fn write_del(out: &mut Writer, key: &str) -> Result<(), Memory>
+    ensures { Adds result out.old out.new (del_data key.now) }
+{
+    out.begin_object()?;
+    write_text_member(out, "key", key)?;
+    write_text_member(out, "op", "del")?;
+    out.end_object()?;
+    Ok(())
+}
+
+fn write_put(out: &mut Writer, key: &str, row: &Row) -> Result<(), Memory>
+    ensures { Adds result out.old out.new (put_data key.now (row_data row.now)) }
+{
+    out.begin_object()?;
+    write_text_member(out, "key", key)?;
+    write_text_member(out, "op", "put")?;
+    out.key("value")?;
+    write_row(out, row)?;
+    out.end_object()?;
+    Ok(())
+}
+
+// Each key is spelled in the same buffer, so that no operation takes memory for it.
+fn write_op(out: &mut Writer, key_text: &mut String, op: &Op) -> Result<(), Memory>
+    ensures { Adds result out.old out.new (op_data op.now) }
 {
     match op {
-        Op::Clear => Ok(json!(in alloc; {"op": "clear"})?),
+        Op::Clear => write_clear(out),
         Op::Del(key) => {
-            let text = key.kind.key_text(alloc, &key.id)?;
-            Ok(json!(in alloc; {"key": text.as_str(), "op": "del"})?)
+            key.kind.put_key_text(key_text, &key.id)?;
+            write_del(out, key_text.as_str())
         }
         Op::Put(row) => {
-            let key = row.kind().key_text(alloc, row.id())?;
-            let value = row_value(alloc, row)?;
-            Ok(put_value(alloc, &key, value)?)
+            row.kind().put_key_text(key_text, row.id())?;
+            write_put(out, key_text.as_str(), row)
         }
     }
 }
 
-fn patch_values(alloc: Global, ops: &[Op]) -> Result<Vec<Value>, Memory>
-    ensures { IfOk result (λ v. map view v.items ≡ map op_data ops.now) }
+fn write_patch(out: &mut Writer, key_text: &mut String, ops: &[Op]) -> Result<(), Memory>
+    ensures { Adds result out.old out.new (array (items_of (map op_data ops.now))) }
 {
-    let mut patch = Vec::new(alloc);
+    out.begin_array()?;
     for op in ops {
-        serde_json::push(&mut patch, op_value(alloc, op)?)?;
+        write_op(out, key_text, op)?;
     }
-    Ok(patch)
+    out.end_array()?;
+    Ok(())
 }
 
-fn id_changes(alloc: Global, ids: &[(Id, Num)]) -> Result<Map<String, Value>, Memory>
-    requires { InOrder (λ p. p.0) ids.now }
-    ensures { IfOk result (λ m. members_view m.entries ≡ id_members ids.now) }
+fn write_pull(
+    out: &mut Writer,
+    key_text: &mut String,
+    cookie: &Cookie,
+    ids: &Clients,
+    ops: &Ops,
+) -> Result<(), Memory>
+    ensures { Adds result out.old out.new (pull_data cookie.now ids.now ops.now) }
 {
-    let mut changes = Map::new(alloc);
-    for (id, last) in ids {
-        serde_json::put(&mut changes, alloc, id.as_str(), Value::from(last.get()))?;
-    }
-    Ok(changes)
-}
-
-fn answer_value(
-    alloc: Global,
-    cookie: Value,
-    changes: Value,
-    patch: Value,
-) -> Result<Value, AllocError>
-    ensures { IfOk result (λ v. view v ≡ answer_data (view cookie) (view changes) (view patch)) }
-{
-    json!(in alloc; {"cookie": cookie, "lastMutationIDChanges": changes, "patch": patch})
-}
-
-fn pull_value(alloc: Global, cookie: &Cookie, ids: &Clients, ops: &Ops) -> Result<Value, Memory>
-    requires { InOrder (λ p. p.0) ids.now }
-    ensures { IfOk result (λ v. view v ≡ pull_data cookie.now ids.now ops.now) }
-{
-    let cookie = cookie_value(alloc, cookie)?;
-    let changes = Value::Object(id_changes(alloc, ids.as_slice())?);
-    let patch = Value::Array(patch_values(alloc, ops.as_slice())?);
-    Ok(answer_value(alloc, cookie, changes, patch)?)
+    out.begin_object()?;
+    out.key("cookie")?;
+    write_cookie(out, cookie)?;
+    out.key("lastMutationIDChanges")?;
+    write_id_changes(out, ids.as_slice())?;
+    out.key("patch")?;
+    write_patch(out, key_text, ops.as_slice())?;
+    out.end_object()?;
+    Ok(())
 }
 
 /// The JSON text of the answer to a pull: its cookie, the last mutation ids of clients, which are in the order of their
 /// bytes and each once, and the patch.
-#[tactic(auto, using(crate::proofs::Answered::no_float))]
 pub fn pull_text(alloc: Global, cookie: &Cookie, ids: &Clients, ops: &Ops) -> Result<Bytes, Memory>
     requires { InOrder (λ p. p.0) ids.now }
     ensures { IfOk result (λ s. s ≡ compact_text (pull_data cookie.now ids.now ops.now)) }
 {
-    let value = pull_value(alloc, cookie, ids, ops)?;
-    let text = value.to_string(alloc)?;
-    Ok(Sequence::from_vec(text.into_bytes()))
+    let mut key_text = String::new(alloc);
+    let mut out = Writer::new(Vec::with_capacity(alloc, 128)?);
+    write_pull(&mut out, &mut key_text, cookie, ids, ops)?;
+    Ok(Sequence::from_vec(out.into_inner()))
 }

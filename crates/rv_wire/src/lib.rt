@@ -1,7 +1,8 @@
 //! The JSON that clients send and get: the bodies of pushes and pulls, the answer to a pull, and the texts of refusals.
 //!
 //! The bodies are those of version 1 of the push and the pull of Replicache's reference ("Replicache Server: Push" and
-//! "Pull"). JSON is read and written by `serde_json`.
+//! "Pull"). JSON is read by `serde_json`. An answer is written by `json`'s writer,
+//! from left to right, with no value of it between.
 #![tactic(auto)]
 
 mod answer;
@@ -9,7 +10,7 @@ mod body;
 mod calls;
 mod error_body;
 mod fault;
-mod json;
+mod json_reading;
 mod members;
 mod op;
 mod pull;
@@ -24,7 +25,7 @@ pub use answer::pull_text;
 pub use calls::read_call;
 pub use error_body::{ErrorBody, Which};
 pub use fault::{FieldName, VersionKind, WireFault};
-pub use json::read_json;
+pub use json_reading::read_json;
 pub use op::{Op, Ops};
 pub use pull::PullRequest;
 pub use pull_body::{pull_of_value, read_pull};

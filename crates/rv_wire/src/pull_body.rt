@@ -5,7 +5,7 @@ ghost use Rattle.rv_wire.specs.Members.{text_member, num_member};
 
 use crate::body::group_of_value;
 use crate::fault::{FieldName, VersionKind, WireFault};
-use crate::json::read_json;
+use crate::json_reading::read_json;
 use crate::members::{num_member, text_member};
 use crate::pull::PullRequest;
 use crate::schema_versions::SchemaVersions;

@@ -9,7 +9,7 @@ ghost use Rattle.rv_wire.specs.Calls.{call_in};
 use crate::body::group_of_value;
 use crate::calls::read_call;
 use crate::fault::{FieldName, VersionKind, WireFault};
-use crate::json::read_json;
+use crate::json_reading::read_json;
 use crate::members::{array_member, num_member, string_member, text_member};
 use crate::push::{Mutation, Push};
 use crate::schema_versions::SchemaVersions;
