@@ -1,5 +1,5 @@
 -- The puts of keys, one after another.
-use Rattle.std.proofs.Common.{◌≡◌, ℕ, ◌+◌, ◌<◌, get_or, take, ◌++◌, List, [], ◌∷◌, Option, Some, None, length, sym, ap, ◌∙◌, append_assoc, append-nil}
+use Rattle.std.proofs.Common.{◌≡◌, ℕ, zero, suc, ◌+◌, ◌<◌, get_or, take, map, arith, ◌++◌, List, [], ◌∷◌, Option, Some, None, length, sym, ap, ◌∙◌, append_assoc, append-nil}
 use Rattle.std.specs.List.{filter_map, cons_option}
 use Rattle.std.proofs.lemmas.List.{take_more}
 use Rattle.std.proofs.lemmas.List.Elements.{filter_map-append}
@@ -24,3 +24,9 @@ pub put_same : (stored : List Stored) (keys : List Key) (i : ℕ) (x : Key) (sta
     → new ≡ ops → put_of stored x ≡ None → new ≡ start ++ filter_map (put_of stored) (take (i + 1) keys)
 put_same stored keys i x start ops new lt is before same put =
     same ∙ before ∙ ap (λ (t : List Op). start ++ t) (sym (append-nil (filter_map (put_of stored) (take i keys))) ∙ ap (λ (o : Option Op). filter_map (put_of stored) (take i keys) ++ cons_option o []) (sym put) ∙ sym (puts_more stored keys i x lt is))
+
+-- a key that is seen is one of the keys
+pub seen_at : (seen : List (Key × ℕ)) (i : ℕ) (x : Key × ℕ) → i < length seen → x ≡ get_or seen i x → (i < length (map (λ pair. pair.0) seen)) × (x.0 ≡ get_or (map (λ pair. pair.0) seen) i x.0)
+seen_at [] i x lt is = absurd (omega (arith, lt))
+seen_at (y ∷ seen) zero x lt is = (omega arith, ap (λ (pair : Key × ℕ). pair.0) is)
+seen_at (y ∷ seen) (suc i) x lt is = let rest = seen_at seen i x (omega (arith, lt)) is in (omega (arith, rest.0), rest.1)

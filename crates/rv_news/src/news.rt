@@ -1,5 +1,5 @@
 // What a pull is told: the operations and the last mutation ids that are news since its base.
-ghost use Rattle.std.specs.Prelude.{◌≡◌, ◌++◌, ◌∷◌, [], ◌↔◌, IsTrue, IfOk, OnOk, map, option_map};
+ghost use Rattle.std.specs.Prelude.{◌≡◌, ◌++◌, ◌∷◌, [], ◌↔◌, IsTrue, IfOk, OnOk, map, option_map, Some, None};
 ghost use Rattle.std.specs.List.{filter_map};
 ghost use Rattle.rv_base.specs.Sorted.{InOrder};
 ghost use Rattle.rv_wire.specs.declared.op.Op.TheVariants.{Del};
@@ -63,12 +63,32 @@ pub fn news_since(
     ensures ids { IfOk result (λ news. news.ids ≡ (difference (option_map (λ r. r.now) found.entry) view).ids) }
     ensures order { IfOk result (λ news. InOrder (λ pair. pair.0) news.ids) }
 {
+    match found {
+        Some(found) => news_of(alloc, tables, base, found, view),
+        None => news_anew(alloc, tables, base, view),
+    }
+}
+
+// What is news in a view since the record of a base.
+fn news_of(
+    alloc: Global,
+    tables: &Tables,
+    base: Option<u32>,
+    found: &ViewRecord,
+    view: ViewRecord,
+) -> Result<News, Memory>
+    ensures base { IfOk result (λ news. news.base ≡ base) }
+    ensures view { IfOk result (λ news. news.view ≡ view) }
+    ensures ops { IfOk result (λ news. news.ops ≡ tells tables.now.rows (difference (Some found.now) view)) }
+    ensures ids { IfOk result (λ news. news.ids ≡ (difference (Some found.now) view).ids) }
+    ensures order { IfOk result (λ news. InOrder (λ pair. pair.0) news.ids) }
+{
     let Diff {
         clear,
         dels,
         puts,
         ids,
-    } = difference(alloc, found, &view)?;
+    } = difference(alloc, Some(found), &view)?;
     let ops = operations(alloc, tables, clear, dels, puts.as_slice())?;
     Ok(News {
         base,
@@ -76,6 +96,48 @@ pub fn news_since(
         ops,
         ids,
     })
+}
+
+// What is news in a view without a base: everything goes, and the row of each key that is seen is put.
+fn news_anew(
+    alloc: Global,
+    tables: &Tables,
+    base: Option<u32>,
+    view: ViewRecord,
+) -> Result<News, Memory>
+    ensures base { IfOk result (λ news. news.base ≡ base) }
+    ensures view { IfOk result (λ news. news.view ≡ view) }
+    ensures ops { IfOk result (λ news. news.ops ≡ tells tables.now.rows (difference None view)) }
+    ensures ids { IfOk result (λ news. news.ids ≡ (difference None view).ids) }
+    ensures order { IfOk result (λ news. InOrder (λ pair. pair.0) news.ids) }
+{
+    let mut ops = Sequence::new(alloc);
+    ops.push(Op::Clear)?;
+    add_seen(alloc, &mut ops, tables, view.rows())?;
+    let ids = view.copy_clients(alloc)?;
+    Ok(News {
+        base,
+        view,
+        ops,
+        ids,
+    })
+}
+
+// Adds the put of each row that is seen.
+fn add_seen(
+    alloc: Global,
+    ops: &mut Ops,
+    tables: &Tables,
+    seen: &[(Key, u32)],
+) -> Result<(), Memory>
+    ensures { OnOk result (ops.new ≡ ops.old ++ filter_map (put_of tables.now.rows) (map (λ pair. pair.0) seen.now)) }
+{
+    for (key, _version) in seen {
+        if let Some((row, _)) = tables.get(key) {
+            ops.push(Op::Put(row.copy(alloc)?))?;
+        }
+    }
+    Ok(())
 }
 
 // Everything goes, where it does; then each key that is gone, and then the row of each key that is put.

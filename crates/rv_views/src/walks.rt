@@ -50,6 +50,13 @@ impl ViewRecord {
     {
         changed(alloc, self.clients(), clients.as_slice())
     }
+
+    /// The group's clients, in memory of their own.
+    pub fn copy_clients(&self, alloc: Global) -> Result<Clients, Memory>
+        ensures { IfOk result (λ copy. copy ≡ self.now.clients) }
+    {
+        copy_of(alloc, self.clients())
+    }
 }
 
 // The keys of the rows that have changed.
