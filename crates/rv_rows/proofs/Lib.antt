@@ -1,1 +1,4 @@
 pub mod RowLaws
+pub mod ListedLaws
+pub mod SlotLaws
+pub mod RowSlots

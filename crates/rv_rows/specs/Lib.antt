@@ -2,6 +2,8 @@ pub mod Keys
 pub mod Held
 pub mod HeldLaws
 pub mod Sharing
+pub mod Listed
+pub mod Slots
 pub mod Effects
 pub mod RowTexts
 pub mod Members

@@ -3,6 +3,7 @@ ghost use Rattle.std.specs.Cmp.Lexicographic.{slice_cmp};
 ghost use Rattle.std.specs.Ordering.{nat_cmp};
 ghost use Rattle.rv_rows.specs.Keys.{key_text, row_key, row_text};
 ghost use Rattle.rv_rows.specs.Sharing.{list_of, shares};
+ghost use Rattle.rv_rows.specs.Listed.{listed};
 ghost use Rattle.rv_rows.specs.Effects.{sort_after, sort_in, with_fields};
 ghost use Rattle.rv_rows.specs.declared.row.Row.TheVariants.{Todo};
 
@@ -108,6 +109,17 @@ impl Row {
         ensures { result ≡ slice_cmp nat_cmp (row_text self.now) (key_text (record { kind = kind; id = id.now })) }
     {
         compare_keys(self.kind(), self.id(), kind, id)
+    }
+
+    // How the row stands to another: by the lists, and within a list by the texts of the keys.
+    pub(crate) fn compare_listed(&self, other: &Row) -> Ordering
+        ensures { result ≡ slice_cmp nat_cmp (listed (list_of self.now) (row_text self.now)) (listed (list_of other.now) (row_text other.now)) }
+    {
+        match self.list().cmp(other.list()) {
+            Ordering::Less => Ordering::Less,
+            Ordering::Equal => self.compare_key(other.kind(), other.id()),
+            Ordering::Greater => Ordering::Greater,
+        }
     }
 
     /// Whether the row is a share of the list that names the user.

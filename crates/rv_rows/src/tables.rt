@@ -1,10 +1,14 @@
-ghost use Rattle.std.specs.Prelude.{◌≡◌, ◌≤◌, ◌+◌, ◌-◌, [], option_map, OnOk, OnErr, is_some};
+ghost use Rattle.std.specs.Prelude.{◌≡◌, ◌≤◌, ◌<◌, ◌+◌, length, [], option_map, OnOk, is_some, slice_set};
+ghost use Rattle.std.specs.List.{insert, remove as removed};
 ghost use Rattle.std.specs.Iterator.{YieldsFirstBy, item_count};
 ghost use Rattle.rv_base.specs.Sorted.{Settles};
-ghost use Rattle.rv_rows.specs.Keys.{key_text};
+ghost use Rattle.rv_rows.specs.Keys.{key_text, row_text};
 ghost use Rattle.rv_rows.specs.Held.{find, put, remove, AreRows, stored_key};
 
 use crate::key::{Key, Kind};
+use crate::places::{
+    gap_by_list, insert, place_by_key, place_by_slot, push, rewrite, strike, vacate,
+};
 use crate::row::Row;
 use rv_base::{Id, Memory};
 use std::alloc::Global;
@@ -15,18 +19,26 @@ use std::marker::Model;
 /// A contract sees the list of rows and versions, and a lower bound of the room that is left, `spare`.
 #[derive(Debug, Drop)]
 pub struct Tables {
-    rows: Vec<(Row, u32)>,
+    // the rows, each in a slot of its own, in no order
+    slots: Vec<(Row, u32)>,
+    // the slots in the order of their rows' keys
+    by_key: Vec<u32>,
+    // the slots in the order of their rows' lists, and within a list in that of their keys
+    by_list: Vec<u32>,
+    // each of the three has room for so many more
+    spare: usize,
 }
 
 impl Model for Tables {
-    ghost use Rattle.std.specs.Prelude.{◌-◌, vec_len, vec_capacity};
-    ghost use Rattle.rv_rows.specs.Held.{Held, AreRows};
+    ghost use Rattle.std.specs.Prelude.{◌≤◌, ◌<◌, ◌+◌, ◌^◌, vec_len, vec_capacity};
+    ghost use Rattle.rv_rows.specs.Held.{Held};
+    ghost use Rattle.rv_rows.specs.Slots.{standing, IsIndexed};
 
     ghost Value = { Held };
 
-    ghost view = { λ t. record { rows = t.rows.items; spare = vec_capacity t.rows - vec_len t.rows } };
+    ghost view = { λ t. record { rows = standing t.slots.items t.by_key.items; spare = t.spare } };
 
-    ghost invariant = { λ t. AreRows t.rows.items };
+    ghost invariant = { λ t. IsIndexed t.slots.items t.by_key.items t.by_list.items × (vec_len t.slots + t.spare ≤ vec_capacity t.slots) × (vec_len t.by_key + t.spare ≤ vec_capacity t.by_key) × (vec_len t.by_list + t.spare ≤ vec_capacity t.by_list) × (vec_len t.slots + t.spare < 2 ^ 32) };
 }
 
 impl Tables {
@@ -35,7 +47,10 @@ impl Tables {
         ensures { result.rows ≡ [] }
     {
         Tables {
-            rows: Vec::new(alloc),
+            slots: Vec::new(alloc),
+            by_key: Vec::new(alloc),
+            by_list: Vec::new(alloc),
+            spare: 0,
         }
     }
 
@@ -51,9 +66,9 @@ impl Tables {
         ensures found { option_map (λ r. (r.0.now, r.1)) result ≡ find (key_text (record { kind = kind; id = id.now })) self.now.rows }
         ensures order { AreRows self.now.rows }
     {
-        match place(&self.rows, kind, id) {
+        match place_by_key(&self.slots, &self.by_key, kind, id) {
             Ok(at) => {
-                let stored = &self.rows[at];
+                let stored = &self.slots[self.by_key[at] as usize];
                 Some((&stored.0, stored.1))
             }
             Err(_) => None,
@@ -66,7 +81,17 @@ impl Tables {
         ensures ok { OnOk result (more ≤ self.new.spare) }
         ensures spare { self.old.spare ≤ self.new.spare }
     {
-        self.rows.reserve(more)?;
+        if more <= self.spare {
+            return Ok(());
+        }
+        // a slot's number is a `u32`
+        if more > u32::MAX as usize - self.slots.len() {
+            return Err(Memory);
+        }
+        self.slots.reserve(more)?;
+        self.by_key.reserve(more)?;
+        self.by_list.reserve(more)?;
+        self.spare = more;
         Ok(())
     }
 
@@ -76,12 +101,9 @@ impl Tables {
         ensures rows { self.new.rows ≡ put (row, version) self.old.rows }
         ensures spare { self.old.spare ≤ self.new.spare + 1 }
     {
-        match place(&self.rows, row.kind(), row.id()) {
-            Ok(at) => self.rows[at] = (row, version),
-            Err(at) => match self.rows.insert(at, (row, version)) {
-                Ok(()) => {}
-                Err(_) => unreachable!(),
-            },
+        match place_by_key(&self.slots, &self.by_key, row.kind(), row.id()) {
+            Ok(at) => self.write_at(at, row, version),
+            Err(at) => self.put_at(at, row, version),
         }
     }
 
@@ -91,13 +113,60 @@ impl Tables {
         ensures found { result ≡ is_some (find (key_text key.now) self.old.rows) }
         ensures spare { self.old.spare ≤ self.new.spare }
     {
-        match place(&self.rows, key.kind, &key.id) {
+        match place_by_key(&self.slots, &self.by_key, key.kind, &key.id) {
             Ok(at) => {
-                let _removed = self.rows.remove(at);
+                self.remove_at(at);
                 true
             }
             Err(_) => false,
         }
+    }
+
+    // Writes a row in the place of the one that has its key, which stands at this place in the order of the keys.
+    fn write_at(&mut self, at: usize, row: Row, version: u32)
+        requires room { 1 ≤ self.old.spare }
+        requires place { Settles stored_key (row_text row) self.old.rows (Ok at) }
+        ensures rows { self.new.rows ≡ slice_set self.old.rows at (row, version) }
+        ensures spare { self.old.spare ≤ self.new.spare + 1 }
+    {
+        let slot = self.by_key[at];
+        if self.slots[slot as usize].0.list() == row.list() {
+            rewrite(&mut self.slots, slot, row, version);
+        } else {
+            self.remove_at(at);
+            self.put_at(at, row, version);
+        }
+    }
+
+    // Puts a row whose key no row has, at its place in the order of the keys.
+    fn put_at(&mut self, at: usize, row: Row, version: u32)
+        requires room { 1 ≤ self.old.spare }
+        requires place { at ≤ length self.old.rows }
+        requires absent { find (row_text row) self.old.rows ≡ None }
+        requires order { AreRows (insert self.old.rows at (row, version)) }
+        ensures rows { self.new.rows ≡ insert self.old.rows at (row, version) }
+        ensures spare { self.old.spare ≤ self.new.spare + 1 }
+    {
+        let slot = self.slots.len() as u32;
+        let in_list = gap_by_list(&self.slots, &self.by_list, &row);
+        push(&mut self.slots, row, version);
+        insert(&mut self.by_key, at, slot);
+        insert(&mut self.by_list, in_list, slot);
+        self.spare -= 1;
+    }
+
+    // Removes the row at this place in the order of the keys. The row of the last slot moves to the slot that it leaves.
+    fn remove_at(&mut self, at: usize)
+        requires { at < length self.old.rows }
+        ensures rows { self.new.rows ≡ removed self.old.rows at }
+        ensures spare { self.old.spare ≤ self.new.spare }
+    {
+        let slot = self.by_key[at];
+        let in_list = place_by_slot(&self.slots, &self.by_list, slot);
+        let last = (self.slots.len() - 1) as u32;
+        strike(&mut self.by_key, at, last, slot);
+        strike(&mut self.by_list, in_list, last, slot);
+        vacate(&mut self.slots, slot);
     }
 
     /// The rows with their versions, in the order of their keys.
@@ -105,16 +174,11 @@ impl Tables {
         ensures rows { result ≡ self.now.rows }
         ensures order { AreRows self.now.rows }
     {
-        RowsInOrder { rows: &self.rows }
+        RowsInOrder {
+            slots: &self.slots,
+            order: &self.by_key,
+        }
     }
-}
-
-// Where the row of a key stands, or where it would go.
-fn place(rows: &[(Row, u32)], kind: Kind, id: &Id) -> Result<usize, usize>
-    requires { AreRows rows.now }
-    ensures { Settles stored_key (key_text (record { kind = kind; id = id.now })) rows.now result }
-{
-    rows.binary_search_by(|stored| stored.0.compare_key(kind, id))
 }
 
 /// The rows of [`Tables`] that are still to come, in the order of their keys.
@@ -122,16 +186,21 @@ fn place(rows: &[(Row, u32)], kind: Kind, id: &Id) -> Result<usize, usize>
 /// A contract sees the list of those that are left, each with its version.
 #[derive(Drop)]
 pub struct RowsInOrder<'a> {
-    rows: &'a [(Row, u32)],
+    slots: &'a [(Row, u32)],
+    // the slots of those that are left
+    order: &'a [u32],
 }
 
 impl<'a> Model for RowsInOrder<'a> {
-    ghost use Rattle.std.specs.Prelude.{List};
+    ghost use Rattle.std.specs.Prelude.{List, length};
     ghost use Rattle.rv_rows.specs.Held.{Stored};
+    ghost use Rattle.rv_rows.specs.Slots.{standing, AreSlots};
 
     ghost Value = { List Stored };
 
-    ghost view = { λ left. left.rows.now };
+    ghost view = { λ left. standing left.slots.now left.order.now };
+
+    ghost invariant = { λ left. AreSlots (length left.slots.now) left.order.now };
 }
 
 impl<'a> Iterator for RowsInOrder<'a> {
@@ -142,8 +211,9 @@ impl<'a> Iterator for RowsInOrder<'a> {
     ghost remaining = { item_count (λ left. left) };
 
     fn next(&mut self) -> Option<(&'a Row, u32)> {
-        let (first, others) = self.rows.split_first()?;
-        self.rows = others;
-        Some((&first.0, first.1))
+        let (first, others) = self.order.split_first()?;
+        let stored = &self.slots[*first as usize];
+        self.order = others;
+        Some((&stored.0, stored.1))
     }
 }
