@@ -5,9 +5,11 @@ use Rattle.std.specs.declared.cmp.Ordering.{Ordering}
 use Rattle.std.specs.declared.cmp.Ordering.TheVariants.{Less}
 use Rattle.std.specs.Ordering.{nat_cmp}
 use Rattle.std.specs.Cmp.Lexicographic.{slice_cmp}
+use Rattle.std.specs.Str.{bytes_eq}
 use Rattle.rv_base.specs.Sorted.{InOrder}
 use Rattle.rv_rows.specs.declared.row.Row.TheVariants.{List as ListRow}
 use Rattle.rv_rows.specs.Held.{Stored, AreRows}
+use Rattle.rv_rows.specs.Sharing.{list_of}
 use Rattle.rv_rows.specs.Listed.{list_key}
 
 -- what stands for the row of a slot that is not there
@@ -41,6 +43,10 @@ pub record IsIndexed (slots : List Stored) (by_key by_list : List ℕ) : Type 0 
 -- how the row in the slot stands to the key k; a slot that is not there stands below
 abbrev pub by_slot : (Stored → List ℕ) → List ℕ → List Stored → ℕ → Ordering
 by_slot key k slots i = if nat_lt i (length slots) then slice_cmp nat_cmp (key (row_of slots i)) k else Less
+
+-- the row in the slot is the list, or belongs to it
+abbrev pub in_list : List ℕ → List Stored → ℕ → Bool
+in_list list slots i = bytes_eq (list_of (row_of slots i).0) list
 
 -- the slot, under the number `to` where it had the number `from`
 abbrev pub relabelled : ℕ → ℕ → ℕ → ℕ

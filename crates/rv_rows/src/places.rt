@@ -1,12 +1,12 @@
 // Rows in slots, and places in orders of slots.
 ghost use Rattle.std.specs.Prelude.{◌≡◌, ◌≤◌, ◌<◌, ◌+◌, nat_eq, ◌∷◌, ◌++◌, [], length, map, true, slice_index_or, slice_set, vec_len, vec_capacity};
-ghost use Rattle.std.specs.List.{list_any, insert, remove};
+ghost use Rattle.std.specs.List.{list_any, filter, insert, remove};
 ghost use Rattle.rv_base.specs.Sorted.{Settles, InOrder, find_by};
 ghost use Rattle.rv_rows.specs.Keys.{key_text, row_text};
 ghost use Rattle.rv_rows.specs.Held.{AreRows, stored_key};
 ghost use Rattle.rv_rows.specs.Sharing.{list_of};
 ghost use Rattle.rv_rows.specs.Listed.{listed, list_key};
-ghost use Rattle.rv_rows.specs.Slots.{standing, AreSlots, by_slot, relabelled, Vacates};
+ghost use Rattle.rv_rows.specs.Slots.{standing, AreSlots, by_slot, in_list, relabelled, Vacates};
 
 use crate::key::Kind;
 use crate::row::Row;
@@ -84,6 +84,29 @@ pub(crate) fn place_by_slot(slots: &[(Row, u32)], order: &[u32], slot: u32) -> u
         Ok(at) => at,
         Err(_) => unreachable!(),
     }
+}
+
+// How the list of the slot's row stands to this one. A slot that is not there stands below.
+fn compare_list(slots: &[(Row, u32)], slot: u32, list: &Id) -> Ordering
+    ensures { result ≡ by_slot (λ s. list_of s.0) list.now slots.now slot }
+{
+    if (slot as usize) < slots.len() {
+        slots[slot as usize].0.list().cmp(list)
+    } else {
+        Ordering::Less
+    }
+}
+
+// The slots of the rows of a list, which stand together in the order of the lists.
+pub(crate) fn slots_of<'o>(slots: &[(Row, u32)], order: &'o [u32], list: &Id) -> &'o [u32]
+    requires slots { AreSlots (length slots.now) order.now }
+    requires order { InOrder list_key (standing slots.now order.now) }
+    ensures { result.now ≡ filter (in_list list.now slots.now) order.now }
+{
+    let below = order.partition_point(|slot| compare_list(slots, *slot, list).is_lt());
+    let rest = &order[below..];
+    let own = rest.partition_point(|slot| compare_list(slots, *slot, list).is_le());
+    &rest[..own]
 }
 
 // The slot, under the number `to` where it has the number `from`.

@@ -1,13 +1,15 @@
 ghost use Rattle.std.specs.Prelude.{◌≡◌, ◌≤◌, ◌<◌, ◌+◌, length, [], option_map, OnOk, is_some, slice_set};
-ghost use Rattle.std.specs.List.{insert, remove as removed};
+ghost use Rattle.std.specs.List.{filter, insert, remove as removed};
 ghost use Rattle.std.specs.Iterator.{YieldsFirstBy, item_count};
+ghost use Rattle.std.specs.Str.{bytes_eq};
 ghost use Rattle.rv_base.specs.Sorted.{Settles};
 ghost use Rattle.rv_rows.specs.Keys.{key_text, row_text};
 ghost use Rattle.rv_rows.specs.Held.{find, put, remove, AreRows, stored_key};
+ghost use Rattle.rv_rows.specs.Sharing.{list_of};
 
 use crate::key::{Key, Kind};
 use crate::places::{
-    gap_by_list, insert, place_by_key, place_by_slot, push, rewrite, strike, vacate,
+    gap_by_list, insert, place_by_key, place_by_slot, push, rewrite, slots_of, strike, vacate,
 };
 use crate::row::Row;
 use rv_base::{Id, Memory};
@@ -177,6 +179,18 @@ impl Tables {
         RowsInOrder {
             slots: &self.slots,
             order: &self.by_key,
+        }
+    }
+
+    /// The rows of a list: the list itself, its shares and its todos, with their versions, in the order of their keys. Takes
+    /// no memory.
+    pub fn of_list(&self, list: &Id) -> RowsInOrder<'_>
+        ensures rows { result ≡ filter (λ s. bytes_eq (list_of s.0) list.now) self.now.rows }
+        ensures order { AreRows self.now.rows }
+    {
+        RowsInOrder {
+            slots: &self.slots,
+            order: slots_of(&self.slots, &self.by_list, list),
         }
     }
 }
