@@ -1,7 +1,7 @@
 -- Laws of the users who may see a list, collected row by row and list by list.
 use Rattle.std.proofs.Common.{◌≡◌, ℕ, ◌+◌, ◌<◌, ◌≤◌, Bool, true, false, cond, List, [], ◌∷◌, take, get_or, length, Option, Some, None, Result, Ok, Err, refl, sym, ap, ◌∙◌, ◌||◌, ◌&&◌}
 use Rattle.std.specs.Prelude.{IfOk}
-use Rattle.std.specs.List.{list_any}
+use Rattle.std.specs.List.{filter, list_any}
 use Rattle.std.specs.Option.{option_map, option_map_or}
 use Rattle.std.specs.Str.{bytes_eq}
 use Rattle.std.proofs.lemmas.List.{take_all}
@@ -32,8 +32,23 @@ sharer_is user list (variants.Share row) =
     elim (bytes_eq row.list list) as (λ b. option_map_or (bytes_eq user) (cond b (Some row.user) None) false ≡ (b && bytes_eq row.user user)) [ true ↦ same_either_way user row.user | false ↦ refl ]
 sharer_is user list (variants.Todo row) = refl
 
-pub adding_begins : (list : List ℕ) (stored rest : List Stored) (before users : List (List ℕ)) → AreInOrder before → users ≡ before → rest ≡ stored → Adding list (rows_in stored) before users rest
-adding_begins list stored rest before users order same all = rw (same, all) (record { order = order; each = λ user. refl })
+-- the rows of the list have all shares of it
+not_sharing : (user list : List ℕ) (row : Row) → bytes_eq (list_of row) list ≡ false → shares user list row ≡ false
+not_sharing user list (variants.List row) e = refl
+not_sharing user list (variants.Share row) e = ap (λ (b : Bool). b && bytes_eq row.user user) e
+not_sharing user list (variants.Todo row) e = refl
+
+pub shares-own : (user list : List ℕ) (stored : List Stored) → list_any (shares user list) (rows_in (filter (λ s. bytes_eq (list_of s.0) list) stored)) ≡ list_any (shares user list) (rows_in stored)
+shares-own user list [] = refl
+shares-own user list (s ∷ stored) =
+    elim (bytes_eq (list_of s.0) list) as (λ b. bytes_eq (list_of s.0) list ≡ b → list_any (shares user list) (rows_in (cond b (s ∷ filter (λ s. bytes_eq (list_of s.0) list) stored) (filter (λ s. bytes_eq (list_of s.0) list) stored))) ≡ (shares user list s.0 || list_any (shares user list) (rows_in stored))) [
+      | true ↦ λ e. ap (λ (b : Bool). shares user list s.0 || b) (shares-own user list stored)
+      | false ↦ λ e. shares-own user list stored ∙ ap (λ (b : Bool). b || list_any (shares user list) (rows_in stored)) (sym (not_sharing user list s.0 e))
+    ] refl
+
+pub adding_begins : (list : List ℕ) (stored rest : List Stored) (before users : List (List ℕ)) → AreInOrder before → users ≡ before → rest ≡ filter (λ s. bytes_eq (list_of s.0) list) stored → Adding list (rows_in stored) before users rest
+adding_begins list stored rest before users order same own =
+    rw (same, own) (record { order = order; each = λ user. ap (λ (b : Bool). list_any (bytes_eq user) before || b) (shares-own user list stored) })
 
 pub adding_more : (list : List ℕ) (rows : List Row) (rest next : List Stored) (s : Stored) (user : List ℕ) (before users after : List (List ℕ)) → rest ≡ s ∷ next → Some user ≡ sharer list s.0 → Adds user users after
     → Adding list rows before users rest → Adding list rows before after next

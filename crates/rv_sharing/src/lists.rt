@@ -51,7 +51,7 @@ pub fn owns(tables: &Tables, user: &User, list: &Id) -> bool
 pub fn has_share(tables: &Tables, user: &User, list: &Id) -> bool
     ensures { result ≡ list_any (shares user.now list.now) (rows_in tables.now.rows) }
 {
-    for (row, _version) in tables.iter() {
+    for (row, _version) in tables.of_list(list) {
         if row.shares(user, list) {
             return true;
         }

@@ -43,7 +43,7 @@ pub fn add_sharers(alloc: Global, users: Users, tables: &Tables, list: &Id) -> R
     ensures { IfOk result (AddsSharers (rows_in tables.now.rows) list.now users) }
 {
     let mut users = users.into_vec();
-    for (row, _version) in tables.iter() {
+    for (row, _version) in tables.of_list(list) {
         if let Some(user) = sharer(row, list) {
             add(alloc, &mut users, user)?;
         }

@@ -1,5 +1,13 @@
-use Rattle.rv_sharing.proofs.ViewerLaws.{adding_more, adding_same, adding_ends}
+use Rattle.std.proofs.Common.{◌∙◌}
+use Rattle.rv_sharing.proofs.ViewerLaws.{adding_begins, adding_more, adding_same, adding_ends}
 use Rattle.rv_sharing.proofs.viewers.add_sharers.Goals as goal
+
+pub loop-row-init : goal.loop-row-init
+loop-row-init c = record {
+  can_next = tt;
+  is_finite = tt;
+  adding = adding_begins c.args.list.now c.args.tables.now.rows c.into_iter-row-iterator.result c.args.users c.into_vec-users.result.items c.requires c.into_vec-users.ensures (c.into_iter-row-iterator.ensures.into_iter_gives ∙ c.of_list-row-items.ensures.rows);
+}
 
 pub loop-row-preserved-in-Continue-1 : goal.loop-row-preserved-in-Continue-1
 loop-row-preserved-in-Continue-1 c = record { can_next = tt; is_finite = tt; adding = adding_more _ _ _ _ _ _ _ _ _ c.in-Some.ensures.steps c.in-Some-sharer.ensures c.in_ok-add.ensures c.loop-row.invariant.adding }
