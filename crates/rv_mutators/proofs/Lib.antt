@@ -1,4 +1,5 @@
 pub mod Picked
+pub mod OwnRows
 pub mod Changed
 pub mod Applied
 pub mod Calls

@@ -73,10 +73,8 @@ fn keys_of(alloc: Global, tables: &Tables, list: &Id) -> Result<Keys, Memory>
     ensures { IfOk result (λ keys. keys ≡ map row_key (filter (λ row. bytes_eq (list_of row) list.now) (rows_in tables.now.rows))) }
 {
     let mut keys = Keys::new(alloc);
-    for (row, _version) in tables.iter() {
-        if row.list() == list {
-            keys.push(row.key(alloc)?)?;
-        }
+    for (row, _version) in tables.of_list(list) {
+        keys.push(row.key(alloc)?)?;
     }
     Ok(keys)
 }

@@ -56,7 +56,7 @@ fn greatest_sort(tables: &Tables, list: &Id) -> u64
     ensures { result ≡ greatest_sort list.now (rows_in tables.now.rows) }
 {
     let mut most = 0;
-    for (row, _version) in tables.iter() {
+    for (row, _version) in tables.of_list(list) {
         let sort = row.sort_in(list);
         if most < sort {
             most = sort;

@@ -10,5 +10,5 @@ abbrev pub invariant-loop-row : goal.invariant-loop-row
 invariant-loop-row l = record {
   can_next : (goal.iterator-loop-row).can_next l.row-iterator;
   is_finite : (goal.iterator-loop-row).is_finite l.row-iterator;
-  rest : l.keys ++ map row_key (filter (λ row. bytes_eq (list_of row) l.list) (rows_in l.row-iterator)) ≡ map row_key (filter (λ row. bytes_eq (list_of row) l.list) (rows_in l.tables.rows));
+  rest : l.keys ++ map row_key (rows_in l.row-iterator) ≡ map row_key (filter (λ row. bytes_eq (list_of row) l.list) (rows_in l.tables.rows));
 }
