@@ -126,6 +126,11 @@ fn write_pull(
     Ok(())
 }
 
+// Room for most answers with so many operations, so that their text is seldom moved while it grows.
+fn likely_length(ops: usize) -> usize {
+    ops.saturating_add(1).saturating_mul(128)
+}
+
 /// The JSON text of the answer to a pull: its cookie, the last mutation ids of clients, which are in the order of their
 /// bytes and each once, and the patch.
 pub fn pull_text(alloc: Global, cookie: &Cookie, ids: &Clients, ops: &Ops) -> Result<Bytes, Memory>
@@ -133,7 +138,7 @@ pub fn pull_text(alloc: Global, cookie: &Cookie, ids: &Clients, ops: &Ops) -> Re
     ensures { IfOk result (λ s. s ≡ compact_text (pull_data cookie.now ids.now ops.now)) }
 {
     let mut key_text = String::new(alloc);
-    let mut out = Writer::new(Vec::with_capacity(alloc, 128)?);
+    let mut out = Writer::new(Vec::with_capacity(alloc, likely_length(ops.len()))?);
     write_pull(&mut out, &mut key_text, cookie, ids, ops)?;
     Ok(Sequence::from_vec(out.into_inner()))
 }
