@@ -1,5 +1,5 @@
 -- Rows in slots, and the two orders of the slots, as rows come and go.
-use Rattle.std.proofs.Common.{◌≡◌, ◌≢◌, ℕ, zero, suc, ◌+◌, ◌-◌, ◌<◌, Bool, true, false, cond, ◌||◌, not, eqb, List, [], ◌∷◌, ◌++◌, map, length, get_or, set, Some, None, Ok, refl, sym, ap, ◌∙◌, subst, arith, nat_lt, get_or-set_same, get_or-set_other}
+use Rattle.std.proofs.Common.{◌≡◌, ◌≢◌, ℕ, zero, suc, ◌+◌, ◌-◌, ◌<◌, Bool, true, false, cond, ◌||◌, not, eqb, List, [], ◌∷◌, ◌++◌, map, length, get_or, set, Result, Some, None, Ok, refl, sym, ap, ◌∙◌, subst, arith, nat_lt, get_or-set_same, get_or-set_other}
 use Rattle.std.specs.Ordering.{nat_cmp}
 use Rattle.std.specs.Cmp.Lexicographic.{slice_cmp}
 use Rattle.std.specs.List.{AllByRecursion, list_any, filter, insert, remove}
@@ -11,7 +11,7 @@ use Rattle.std.proofs.lemmas.Slice.Eq.{bytes_eq-Decides}
 use Rattle.std.proofs.Math.ListN.{length-set}
 use Rattle.std.proofs.lemmas.List.{get_or_append_left, length-append, length-map, get_or-map}
 use Rattle.std.proofs.lemmas.List.Folds.{list_any_at}
-use Rattle.std.proofs.lemmas.Option.{none-some, same_Some}
+use Rattle.std.proofs.lemmas.Option.{none-some}
 use Rattle.std.proofs.Math.Seq.{get_or-append_seam}
 use Rattle.rv_base.specs.Sorted.{find_by, InOrder, Settles}
 use Rattle.rv_base.specs.Places.{in_order-filter, find_without, equals}
@@ -20,9 +20,9 @@ use Rattle.rv_rows.specs.Keys.{row_text}
 use Rattle.rv_rows.specs.Held.{Stored, stored_key, AreRows}
 use Rattle.rv_rows.specs.Sharing.{list_of}
 use Rattle.rv_rows.specs.Listed.{listed, list_key}
-use Rattle.rv_rows.specs.Slots.{no_row, row_of, standing, by_slot, AreSlots, AreSame, IsIndexed, relabelled, Vacates}
+use Rattle.rv_rows.specs.Slots.{no_row, row_of, standing, by_slot, AreSlots, AreSame, IsIndexed, relabelled, renamed, Vacates}
 use Rattle.rv_rows.proofs.ListedLaws.{listed-key}
-use Rattle.rv_rows.proofs.SlotLaws.{by_flag, by_found, any_default, struck, rewritten, member_found, found_item, in_order-slots, in_order-items, same-filter, same-map, all-to, all-map, all-insert, others-filter, alike, alike-moved, map-insert, map-remove, same-insert}
+use Rattle.rv_rows.proofs.SlotLaws.{by_flag, by_found, any_default, found_key, renamed_settled, struck, rewritten, member_found, found_item, in_order-slots, in_order-items, same-filter, same-map, all-to, all-map, all-insert, others-filter, alike, alike-moved, map-insert, map-remove, same-insert}
 
 pub slot_at : (n : ℕ) (os : List ℕ) (j : ℕ) → AreSlots n os → j < length os → get_or os j 0 < n
 slot_at n [] j all lt = absurd (omega arith)
@@ -192,13 +192,6 @@ row_there slots seen os order rows k at seen_is order_is rows_are there =
     let here : Settles stored_key k (standing slots os) (Ok at) = subst (λ (o : List ℕ). Settles stored_key k (standing slots o) (Ok at)) order_is (subst (λ (t : List Stored). Settles stored_key k (standing t order) (Ok at)) seen_is there) in
     sym (ap (λ (rs : List Stored). is_some (find_by stored_key k rs)) (sym rows_are) ∙ ap is_some (here.found no_row))
 
-found_key : {X : Type 0} (key : X → List ℕ) (k : List ℕ) (xs : List X) (x : X) → find_by key k xs ≡ Some x → k ≡ key x
-found_key key k [] x h = absurd (none-some x h)
-found_key key k (y ∷ ys) x h =
-    by_flag (λ b. cond b (Some y) (find_by key k ys) ≡ Some x → k ≡ key x) (bytes_eq k (key y))
-    (λ e f. (bytes_eq-Decides k (key y)).0 e ∙ ap key (same_Some y x f))
-    (λ e f. found_key key k ys x f) h
-
 pub written_at : (slots new : List Stored) (by_key by_list : List ℕ) (rows : List Stored) (at s : ℕ) (x old : Stored) (l m : List ℕ) → IsIndexed slots by_key by_list → standing slots by_key ≡ rows → Settles stored_key (stored_key x) rows (Ok at)
     → s ≡ get_or by_key at s → old ≡ get_or slots s old → true ≡ bytes_eq l m → l ≡ list_of old.0 → m ≡ list_of x.0 → new ≡ set slots s x → IsIndexed new by_key by_list × (standing new by_key ≡ set rows at x)
 written_at slots new by_key by_list rows at s x old l m indexed rows_are there slot_is old_is same l_is m_is new_is =
@@ -235,3 +228,11 @@ removed_at slots left by_key keys by_list order lists rows i j s last indexed ro
     let j_reads : get_or by_list j 0 ≡ s = subst (λ (o : List ℕ). get_or o j 0 ≡ s) order_is j_is in
     let both = vacated slots left by_key keys by_list lists i j s last indexed i_low (read_at by_key i s 0 i_low slot_is) j_low j_reads gone last_is keys_are lists_are in
     (both.0, both.1 ∙ ap (λ (rs : List Stored). remove rs i) rows_are)
+
+-- an order in which the last slot was looked for, by the key of its row
+pub struck_from : (key : Stored → List ℕ) (slots seen : List Stored) (os order new : List ℕ) (k : List ℕ) (r : Result ℕ ℕ) (j s last : ℕ) → seen ≡ slots → order ≡ os → k ≡ key (row_of slots last) → InOrder key (standing slots os) → Settles key k (standing seen order) r
+    → new ≡ remove (renamed r last s os) j → new ≡ map (relabelled last s) (remove os j)
+struck_from key slots seen os order new k r j s last seen_is order_is k_is sorted there new_is =
+    let here : Settles key (key (row_of slots last)) (standing slots os) r =
+    subst (λ (k : List ℕ). Settles key k (standing slots os) r) k_is (subst (λ (o : List ℕ). Settles key k (standing slots o) r) order_is (subst (λ (t : List Stored). Settles key k (standing t order) r) seen_is there)) in
+    new_is ∙ ap (λ (o : List ℕ). remove o j) (renamed_settled key (row_of slots) os last s r sorted here) ∙ sym (map-remove (relabelled last s) os j)

@@ -17,7 +17,7 @@ use Rattle.std.proofs.lemmas.Cmp.{nat_list_cmp_total, tied_itself}
 use Rattle.rv_base.specs.Sorted.{find_by, InOrder, Settles}
 use Rattle.rv_base.specs.Places.{Below, Above, equals, differs_back, find_found, settles}
 use Rattle.rv_base.specs.Arranged.{in_order-same, find-map}
-use Rattle.rv_rows.specs.Slots.{AreSame}
+use Rattle.rv_rows.specs.Slots.{AreSame, relabelled, renamed}
 
 -- by cases on a test, with what it says
 pub by_flag : (P : Bool → Type 0) (b : Bool) → (b ≡ true → P true) → (b ≡ false → P false) → P b
@@ -115,6 +115,39 @@ module _ (g : ℕ → List ℕ) where
       let low : Below (g o) (g s) = subst (λ (j : ℕ). Below (g o) (g j)) is (above_at (g o) os j (omega arith) sorted.0) in
       λ i. old o (apart_below s o low) i ∷ rewritten f h os j s x new old sorted.1 (omega arith) is i
 
+  unlike : (o s : ℕ) → (o ≡ s → ⊥) → eqb o s ≡ false
+  unlike o s apart = by_flag (λ b. b ≡ false) (eqb o s) (λ t. absurd (apart ((Decides-eqb o s).0 t))) (λ _. refl)
+
+  kept_number : (s to o : ℕ) → (o ≡ s → ⊥) → relabelled s to o ≡ o
+  kept_number s to o apart = ap (λ (b : Bool). cond b to o) (unlike o s apart)
+
+  kept_numbers : (s to : ℕ) (os : List ℕ) → Above g (g s) os → map (relabelled s to) os ≡ os
+  kept_numbers s to [] all = refl
+  kept_numbers s to (o ∷ os) all = λ i. kept_number s to o (λ same. not_below (g s) (subst (λ (j : ℕ). Below (g s) (g j)) same all.0)) i ∷ kept_numbers s to os all.1 i
+
+  renamed_there : (os : List ℕ) (j s to : ℕ) → InOrder g os → j < length os → g (get_or os j 0) ≡ g s → set os j (relabelled s to (get_or os j 0)) ≡ map (relabelled s to) os
+  renamed_there [] j s to h lt is = absurd (omega arith)
+  renamed_there (o ∷ os) zero s to h lt is = ap (λ (t : List ℕ). relabelled s to o ∷ t) (sym (kept_numbers s to os (subst (λ (k : List ℕ). Above g k os) is h.0)))
+  renamed_there (o ∷ os) (suc j) s to h lt is =
+      let low : Below (g o) (g s) = subst (λ (k : List ℕ). Below (g o) k) is (above_at (g o) os j (omega arith) h.0) in
+      λ i. sym (kept_number s to o (λ same. not_below (g s) (subst (λ (j : ℕ). Below (g j) (g s)) same low))) i ∷ renamed_there os j s to h.1 (omega arith) is i
+
+  not_renamed : (s to : ℕ) (os : List ℕ) → find_by g (g s) os ≡ None → map (relabelled s to) os ≡ os
+  not_renamed s to [] none = refl
+  not_renamed s to (o ∷ os) none =
+      by_flag (λ b. bytes_eq (g s) (g o) ≡ b → cond b (Some o) (find_by g (g s) os) ≡ None → map (relabelled s to) (o ∷ os) ≡ o ∷ os) (bytes_eq (g s) (g o))
+      (λ _ _ e. absurd (none-some o (sym e)))
+      (λ f _ e. λ i. kept_number s to o (λ same. true_false (sym (equals (g s)) ∙ subst (λ (j : ℕ). bytes_eq (g s) (g j) ≡ false) same f)) i ∷ not_renamed s to os e i)
+      refl none
+
+-- what is found has the key
+pub found_key : {X : Type 0} (key : X → List ℕ) (k : List ℕ) (xs : List X) (x : X) → find_by key k xs ≡ Some x → k ≡ key x
+found_key key k [] x h = absurd (none-some x h)
+found_key key k (y ∷ ys) x h =
+    by_flag (λ b. cond b (Some y) (find_by key k ys) ≡ Some x → k ≡ key x) (bytes_eq k (key y))
+    (λ e f. (bytes_eq-Decides k (key y)).0 e ∙ ap key (same_Some y x f))
+    (λ e f. found_key key k ys x f) h
+
 -- orders of slots with items
 module _ {X : Type 0} (key : X → List ℕ) (f : ℕ → X) where
   above_slots : (k : List ℕ) (os : List ℕ) → Above key k (map f os) → Above (λ i. key (f i)) k os
@@ -168,6 +201,18 @@ module _ {X : Type 0} (key : X → List ℕ) (f : ℕ → X) where
       let item : f (get_or os at 0) ≡ f s = same_Some (f (get_or os at 0)) (f s) (ap (λ (x : X). Some x) (sym (get_or-map f os at 0 (f 0) lt)) ∙ sym (there.found (f 0)) ∙ found_item os s h e) in
       let slot : find_by (λ i. key (f i)) (key (f s)) os ≡ Some (get_or os at 0) = find_found (λ (i : ℕ). key (f i)) (key (f s)) os at 0 (in_order-slots os h) lt (ap key item) in
       same_Some (get_or os at 0) s (sym slot ∙ found_member (λ i. key (f i)) os s (in_order-slots os h) e)
+
+  -- a slot that was looked for by its item's key has the other number wherever it stands
+  pub renamed_settled : (os : List ℕ) (s to : ℕ) (r : Result ℕ ℕ) → InOrder key (map f os) → Settles key (key (f s)) (map f os) r → renamed r s to os ≡ map (relabelled s to) os
+  renamed_settled os s to (Ok at) h there =
+      let lt : at < length os = rw (length-map os f) at there.in_range in
+      let is : key (f s) ≡ key (f (get_or os at 0)) = found_key key (key (f s)) (map f os) (get_or (map f os) at (f 0)) (there.found (f 0)) ∙ ap key (get_or-map f os at 0 (f 0) lt) in
+      renamed_there (λ i. key (f i)) os at s to (in_order-slots os h) lt (sym is)
+  renamed_settled os s to (Err at) h gap = sym (not_renamed (λ i. key (f i)) s to os (nothing (find_by (λ i. key (f i)) (key (f s)) os) (find-map key f (key (f s)) os ∙ gap.absent)))
+    where
+      nothing : (o : Option ℕ) → option_map f o ≡ None → o ≡ None
+      nothing None e = refl
+      nothing (Some i) e = absurd (none-some (f i) (sym e))
 
   pub never_gap : (os : List ℕ) (s at : ℕ) → InOrder key (map f os) → list_any (eqb s) os ≡ true → Settles key (key (f s)) (map f os) (Err at) → ⊥
   never_gap os s at h e gap = none-some (f s) (sym gap.absent ∙ found_item os s h e)

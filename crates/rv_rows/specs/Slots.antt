@@ -1,5 +1,5 @@
 -- Rows with their versions in slots, and orders of slots: lists of slots' numbers.
-use Rattle.std.specs.Prelude.{◌≡◌, ◌≢◌, ℕ, ◌+◌, ◌-◌, ◌<◌, ◌==◌, nat_lt, Bool, List, [], map, length, slice_index_or, if◌then◌else◌}
+use Rattle.std.specs.Prelude.{◌≡◌, ◌≢◌, ℕ, ◌+◌, ◌-◌, ◌<◌, ◌==◌, nat_lt, Bool, List, [], map, length, slice_index_or, slice_index, slice_set, Result, Ok, Err, if◌then◌else◌}
 use Rattle.std.specs.List.{AllByRecursion, list_any}
 use Rattle.std.specs.declared.cmp.Ordering.{Ordering}
 use Rattle.std.specs.declared.cmp.Ordering.TheVariants.{Less}
@@ -51,6 +51,11 @@ in_list list slots i = bytes_eq (list_of (row_of slots i).0) list
 -- the slot, under the number `to` where it had the number `from`
 abbrev pub relabelled : ℕ → ℕ → ℕ → ℕ
 relabelled from to i = if i == from then to else i
+
+-- the order in which the slot was looked for, with the number `to` at the place where it was found
+abbrev pub renamed : Result ℕ ℕ → ℕ → ℕ → List ℕ → List ℕ
+renamed (Ok at) from to order = slice_set order at (relabelled from to (slice_index order at))
+renamed (Err at) from to order = order
 
 -- the slot is given back: the row of the last slot has moved to it, and each other row is where it was
 pub record Vacates (slots : List Stored) (slot : ℕ) (left : List Stored) : Type 0 where

@@ -1,12 +1,13 @@
 // Rows in slots, and places in orders of slots.
-ghost use Rattle.std.specs.Prelude.{◌≡◌, ◌≤◌, ◌<◌, ◌+◌, nat_eq, ◌∷◌, ◌++◌, [], length, map, true, slice_index_or, slice_set, vec_len, vec_capacity};
+ghost use Rattle.std.specs.Prelude.{◌≡◌, ◌≤◌, ◌<◌, ◌+◌, nat_eq, ◌∷◌, ◌++◌, [], length, true, slice_index_or, slice_set, vec_len, vec_capacity};
 ghost use Rattle.std.specs.List.{list_any, filter, insert, remove};
+ghost use Rattle.std.specs.List.Sorted.{IsSearchInRange};
 ghost use Rattle.rv_base.specs.Sorted.{Settles, InOrder, find_by};
 ghost use Rattle.rv_rows.specs.Keys.{key_text, row_text};
 ghost use Rattle.rv_rows.specs.Held.{AreRows, stored_key};
 ghost use Rattle.rv_rows.specs.Sharing.{list_of};
 ghost use Rattle.rv_rows.specs.Listed.{listed, list_key};
-ghost use Rattle.rv_rows.specs.Slots.{standing, AreSlots, by_slot, in_list, relabelled, Vacates};
+ghost use Rattle.rv_rows.specs.Slots.{standing, AreSlots, by_slot, in_list, relabelled, renamed, Vacates};
 
 use crate::key::Kind;
 use crate::row::Row;
@@ -51,7 +52,7 @@ pub(crate) fn place_by_key(
 }
 
 // Where a row with the list and the key of this one stands in the order of the lists, or where it would go.
-fn place_by_list(slots: &[(Row, u32)], order: &[u32], row: &Row) -> Result<usize, usize>
+pub(crate) fn place_by_list(slots: &[(Row, u32)], order: &[u32], row: &Row) -> Result<usize, usize>
     requires slots { AreSlots (length slots.now) order.now }
     requires order { InOrder list_key (standing slots.now order.now) }
     ensures { Settles list_key (listed (list_of row.now) (row_text row.now)) (standing slots.now order.now) result }
@@ -116,24 +117,33 @@ fn relabelled(slot: u32, from: u32, to: u32) -> u32
     if slot == from { to } else { slot }
 }
 
-// Gives a slot another number.
-fn relabel(order: &mut [u32], from: u32, to: u32)
-    ensures { order.new ≡ map (relabelled from to) order.old }
+// Gives a slot another number in an order, at the place where it was looked for.
+fn rename(order: &mut [u32], found: Result<usize, usize>, from: u32, to: u32)
+    requires { IsSearchInRange found (length order.old) }
+    ensures { order.new ≡ renamed found from to order.old }
 {
-    for slot in order.iter_mut() {
-        *slot = relabelled(*slot, from, to);
+    match found {
+        Ok(at) => order[at] = relabelled(order[at], from, to),
+        Err(_) => {}
     }
 }
 
-// Takes the slot at this place out of the order, and gives another slot its number.
-pub(crate) fn strike(order: &mut Vec<u32>, at: usize, from: u32, to: u32)
-    requires { at < vec_len order.old }
-    ensures slots { order.new.items ≡ map (relabelled from to) (remove order.old.items at) }
+// Takes the slot at this place out of the order, and gives another slot its number, at the place where that was looked for.
+pub(crate) fn strike(
+    order: &mut Vec<u32>,
+    at: usize,
+    found: Result<usize, usize>,
+    from: u32,
+    to: u32,
+)
+    requires place { at < vec_len order.old }
+    requires found { IsSearchInRange found (length order.old.items) }
+    ensures slots { order.new.items ≡ remove (renamed found from to order.old.items) at }
     ensures len { vec_len order.new + 1 ≡ vec_len order.old }
     ensures capacity { vec_capacity order.new ≡ vec_capacity order.old }
 {
+    rename(order, found, from, to);
     order.remove(at);
-    relabel(order, from, to);
 }
 
 // Drops the row in a slot. The last slot's row moves to it.

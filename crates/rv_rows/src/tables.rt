@@ -9,7 +9,8 @@ ghost use Rattle.rv_rows.specs.Sharing.{list_of};
 
 use crate::key::{Key, Kind};
 use crate::places::{
-    gap_by_list, insert, place_by_key, place_by_slot, push, rewrite, slots_of, strike, vacate,
+    gap_by_list, insert, place_by_key, place_by_list, place_by_slot, push, rewrite, slots_of,
+    strike, vacate,
 };
 use crate::row::Row;
 use rv_base::{Id, Memory};
@@ -166,8 +167,11 @@ impl Tables {
         let slot = self.by_key[at];
         let in_list = place_by_slot(&self.slots, &self.by_list, slot);
         let last = (self.slots.len() - 1) as u32;
-        strike(&mut self.by_key, at, last, slot);
-        strike(&mut self.by_list, in_list, last, slot);
+        let moved = &self.slots[last as usize].0;
+        let moved_by_key = place_by_key(&self.slots, &self.by_key, moved.kind(), moved.id());
+        let moved_by_list = place_by_list(&self.slots, &self.by_list, moved);
+        strike(&mut self.by_key, at, moved_by_key, last, slot);
+        strike(&mut self.by_list, in_list, moved_by_list, last, slot);
         vacate(&mut self.slots, slot);
     }
 
