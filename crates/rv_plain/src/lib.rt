@@ -14,5 +14,5 @@ pub use book::{bound, group_of, ids, last, last_order, retired, rows_after, rows
 pub use history::{
     ids_since, is_absent, is_among, is_news, is_touched, is_written, patch_since, row_at, same_row,
 };
-pub use looks::{base_of, names_base, kept, look_at};
+pub use looks::{base_of, kept, look_at, names_base};
 pub use server::PlainDesk;
