@@ -4,6 +4,8 @@ ghost use Rattle.rv_base.specs.Causes.{Rose};
 ghost use Rattle.rv_words.specs.Words.{command_in};
 ghost use Rattle.rv_words.specs.declared.command.Command.TheVariants as commands;
 ghost use Rattle.rv_answering.specs.declared.request.Request.TheVariants.{Retire};
+ghost use Rattle.rv_answering.specs.Steps.{Answers};
+ghost use Rattle.rv_history.specs.Served.{Served, ServedMutates, ServedPulls, ServedRetires};
 ghost use Rattle.rv_cli.specs.Texts.{usage_text, status_text};
 ghost use Rattle.rv_cli.specs.Headline.{fresh, RunsFeed, RunsOne, WritesOnly, AllAsk};
 ghost use Rattle.rv_cli.specs.declared.ending.Ending.TheVariants as endings;
@@ -11,7 +13,7 @@ ghost use Rattle.rv_cli.specs.declared.ending.Ending.TheVariants as endings;
 use crate::ending::Ending;
 use crate::feed::{BOOK_LIMIT, feed};
 use crate::texts::{write_answer, write_ending, write_usage};
-use rv_answering::retire_group;
+use rv_answering::{Answer, retire_group};
 use rv_base::{Id, Memory, Sink, Source};
 use rv_desk::Desk;
 use rv_words::{Command, command_of};
@@ -35,14 +37,21 @@ pub fn run_feed<S: Source, O: Sink>(alloc: Global, input: &mut S, out: &mut O) -
     ending.status()
 }
 
+// The answer of the empty book to a retirement.
+fn retired(alloc: Global, group: &Id) -> Answer
+    ensures { (now : Served) × Answers ServedMutates ServedPulls ServedRetires fresh (Retire group.now) result now }
+{
+    let mut desk = Desk::new(alloc, BOOK_LIMIT);
+    retire_group(&mut desk, group)
+}
+
 /// Retires a client group of the empty book: the command `retire memory GROUP`. The status is 0 or 7.
 pub fn run_retire<O: Sink>(alloc: Global, group: &Id, out: &mut O) -> u8
     // What is written is the answer of the machine at the empty book.
     ensures retire { RunsOne fresh (Ok (Retire group.now)) (O.state out.old) (O.state out.new) result }
     ensures steady { O.fails_no_more out.old → O.fails_no_more out.new × (Rose (O.state out.old).refusals (O.state out.new).refusals ⊎ (result ≢ 7)) }
 {
-    let mut desk = Desk::new(alloc, BOOK_LIMIT);
-    let answer = retire_group(&mut desk, group);
+    let answer = retired(alloc, group);
     match write_answer(out, &answer) {
         Ok(()) => Ending::Done.status(),
         Err(_) => Ending::Write.status(),
