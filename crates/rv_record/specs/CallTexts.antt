@@ -1,0 +1,41 @@
+-- A call as JSON, as it is kept: its name and its arguments, in this order.
+--   ["createList",ID,NAME,OWNER], ["deleteList",ID], ["createShare",ID,LIST,USER], ["deleteShare",ID],
+--   ["createTodo",ID,LIST,TEXT,COMPLETE], ["updateTodo",ID,TEXT,COMPLETE,SORT] with null for a field that is not named,
+--   ["deleteTodo",ID], ["void","UnknownName"] and ["void","BadArgs"]
+use Rattle.std.specs.Prelude.{ℕ, List, [], ◌∷◌, Bool, Option, codes}
+use Rattle.std.specs.Option.{option_map_or}
+use Rattle.serde_json.specs.Data.{Data, null, boolean, number, unsigned, string, array}
+use Rattle.serde_json.specs.View.{items_of}
+use Rattle.rv_rows.specs.declared.call.Call.{Call}
+use Rattle.rv_rows.specs.declared.call.Call.TheVariants.{CreateList, DeleteList, CreateShare, DeleteShare, CreateTodo, UpdateTodo, DeleteTodo, Void}
+use Rattle.rv_rows.specs.declared.call.Reason.{Reason}
+use Rattle.rv_rows.specs.declared.call.Reason.TheVariants.{UnknownName, BadArgs}
+
+-- a list of values
+abbrev pub listed : List Data → Data
+listed values = array (items_of values)
+
+-- a text, a flag or a number that may be absent; null where it is
+abbrev pub text_or_null : Option (List ℕ) → Data
+text_or_null text = option_map_or (λ t. string t) text null
+
+abbrev pub flag_or_null : Option Bool → Data
+flag_or_null flag = option_map_or (λ b. boolean b) flag null
+
+abbrev pub number_or_null : Option ℕ → Data
+number_or_null n = option_map_or (λ k. number (unsigned k)) n null
+
+-- why a call is none
+abbrev pub reason_text : Reason → List ℕ
+reason_text UnknownName = codes "UnknownName"
+reason_text BadArgs = codes "BadArgs"
+
+abbrev pub call_data : Call → Data
+call_data (CreateList id name owner) = listed (string (codes "createList") ∷ string id ∷ string name ∷ string owner ∷ [])
+call_data (DeleteList id) = listed (string (codes "deleteList") ∷ string id ∷ [])
+call_data (CreateShare id list user) = listed (string (codes "createShare") ∷ string id ∷ string list ∷ string user ∷ [])
+call_data (DeleteShare id) = listed (string (codes "deleteShare") ∷ string id ∷ [])
+call_data (CreateTodo id list text complete) = listed (string (codes "createTodo") ∷ string id ∷ string list ∷ string text ∷ boolean complete ∷ [])
+call_data (UpdateTodo id text complete sort) = listed (string (codes "updateTodo") ∷ string id ∷ text_or_null text ∷ flag_or_null complete ∷ number_or_null sort ∷ [])
+call_data (DeleteTodo id) = listed (string (codes "deleteTodo") ∷ string id ∷ [])
+call_data (Void reason) = listed (string (codes "void") ∷ string (reason_text reason) ∷ [])

@@ -1,0 +1,62 @@
+-- The cells of a book. A cell's body is the compact text of a JSON value; another spelling of the same value is no cell.
+--   shelf 1, key PLACE: an entry
+--   shelf 2, key `list/ID`, `share/ID` or `todo/ID`: [VERSION,ROW]
+--   shelf 3, key CLIENT: [GROUP,LAST], of a client with an act
+--   shelf 4, key GROUP: [USER,LASTORDER,RETIRED], of a group that an act or a look names; LASTORDER is 0 before the first look
+--   shelf 5, key PLACE: [[[KEY,VERSION],..],[[CLIENT,LAST],..]], of a kept look: what the user saw and the group's clients
+use Rattle.std.specs.Prelude.{ℕ, ◌-◌, List, [], ◌∷◌, ◌++◌, Bool, length, map, decimal}
+use Rattle.std.specs.List.{repeated}
+use Rattle.serde_json.specs.Data.{Data, boolean, number, unsigned, string}
+use Rattle.serde_json.specs.Written.{compact_text}
+use Rattle.rv_rows.specs.declared.key.Key.{Key}
+use Rattle.rv_rows.specs.declared.row.Row.{Row}
+use Rattle.rv_rows.specs.Keys.{key_text, row_text}
+use Rattle.rv_rows.specs.RowTexts.{row_data}
+use Rattle.rv_views.specs.Viewed.{Viewed}
+use Rattle.rv_book.specs.declared.entry.Entry.{Entry}
+use Rattle.rv_keeper.specs.declared.cell.Cell.{Cell}
+use Rattle.rv_record.specs.CallTexts.{listed}
+use Rattle.rv_record.specs.EntryTexts.{entry_data}
+
+-- a place in ten decimal digits, with leading zeros
+abbrev pub ten_digits : ℕ → List ℕ
+ten_digits place = repeated 48 (10 - length (decimal place)) ++ decimal place
+
+-- a cell whose body is the text of a value
+abbrev pub cell_at : ℕ → List ℕ → Data → Cell
+cell_at shelf key body = record { shelf = shelf; key = key; body = compact_text body }
+
+abbrev pub row_body : Row → ℕ → Data
+row_body row version = listed (number (unsigned version) ∷ row_data row ∷ [])
+
+abbrev pub client_body : List ℕ → ℕ → Data
+client_body group last = listed (string group ∷ number (unsigned last) ∷ [])
+
+abbrev pub group_body : List ℕ → ℕ → Bool → Data
+group_body user order retired = listed (string user ∷ number (unsigned order) ∷ boolean retired ∷ [])
+
+-- a key that was seen, with the version of its row
+abbrev pub seen_data : Key × ℕ → Data
+seen_data pair = listed (string (key_text pair.0) ∷ number (unsigned pair.1) ∷ [])
+
+-- a client with its last mutation id
+abbrev pub client_data : List ℕ × ℕ → Data
+client_data pair = listed (string pair.0 ∷ number (unsigned pair.1) ∷ [])
+
+abbrev pub view_body : Viewed → Data
+view_body view = listed (listed (map seen_data view.rows) ∷ listed (map client_data view.clients) ∷ [])
+
+abbrev pub entry_cell : ℕ → Entry → Cell
+entry_cell place entry = cell_at 1 (ten_digits place) (entry_data entry)
+
+abbrev pub row_cell : Row → ℕ → Cell
+row_cell row version = cell_at 2 (row_text row) (row_body row version)
+
+abbrev pub client_cell : List ℕ → List ℕ → ℕ → Cell
+client_cell client group last = cell_at 3 client (client_body group last)
+
+abbrev pub group_cell : List ℕ → List ℕ → ℕ → Bool → Cell
+group_cell group user order retired = cell_at 4 group (group_body user order retired)
+
+abbrev pub view_cell : ℕ → Viewed → Cell
+view_cell place view = cell_at 5 (ten_digits place) (view_body view)

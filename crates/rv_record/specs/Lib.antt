@@ -1,0 +1,3 @@
+pub mod CallTexts
+pub mod EntryTexts
+pub mod CellTexts
