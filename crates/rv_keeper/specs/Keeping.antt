@@ -1,5 +1,5 @@
 -- What a keeper answers, and what it holds afterwards.
-use Rattle.std.specs.Prelude.{◌≡◌, ℕ, ◌+◌, ◌≤◌, ◌⊎◌, List, Option, Some, None, Result, Ok, Err, option_map, IsErrOf, OnErr}
+use Rattle.std.specs.Prelude.{◌≡◌, ℕ, ◌+◌, ◌≤◌, ◌⊎◌, List, Result, Ok, Err, IsErrOf, OnOk}
 use Rattle.rv_base.specs.Causes.{Rose}
 use Rattle.rv_keeper.specs.declared.cell.Cell.{Cell}
 use Rattle.rv_keeper.specs.declared.change.Change.{Change}
@@ -7,11 +7,6 @@ use Rattle.rv_keeper.specs.declared.fault.KeepFault.{KeepFault}
 use Rattle.rv_keeper.specs.declared.fault.KeepFault.TheVariants.{Failed, Memory}
 use Rattle.rv_keeper.specs.declared.loaded.Loaded.{Loaded}
 use Rattle.rv_keeper.specs.Cells.{changed}
-
--- an answer is what is told, where it is told
-abbrev pub IsTold : {A : Type 0} → A → Option A → Type 0
-IsTold x None = Unit {0}
-IsTold x (Some told) = x ≡ told
 
 -- these cells and this generation
 abbrev pub holding : List Cell → ℕ → Loaded
@@ -21,19 +16,34 @@ holding cells generation = record { cells = cells; generation = generation }
 abbrev pub committed : ℕ → List Change → Loaded → Loaded
 committed from changes held = holding (changed held.cells changes) (from + 1)
 
--- what is held before and after a commit, by its answer
-abbrev pub Commits : ℕ → List Change → Option Loaded → Option Loaded → Result (Unit {0}) KeepFault → Type 0
-Commits from changes old new (Ok done) = new ≡ option_map (committed from changes) old
-Commits from changes old new (Err Failed) = (new ≡ old) ⊎ (new ≡ option_map (committed from changes) old)
-Commits from changes old new (Err Memory) = new ≡ old
+-- What a load answers is what is held: by what it left, and as the one thing that was held before.
+abbrev pub Tells : Loaded → (Loaded → Type 0) → (Loaded → Type 0) → Type 0
+Tells loaded Held Holds = Holds loaded × ((held : Loaded) → Held held → held ≡ loaded)
 
--- the count hasn't fallen, and it has risen where the keeper failed
+-- What is held after a commit, by its answer, where this was held before: at `Failed` the commit may have been made.
+abbrev pub Made : ℕ → List Change → Result (Unit {0}) KeepFault → (Loaded → Type 0) → Loaded → Type 0
+Made from changes (Ok done) Holds held = Holds (committed from changes held)
+Made from changes (Err Failed) Holds held = Holds held ⊎ Holds (committed from changes held)
+Made from changes (Err Memory) Holds held = Holds held
+
+-- the count hasn't fallen, it has risen where the keeper failed, and at an `Ok` it stays
 pub record HasKeepCause {T : Type 0} (before now : ℕ) (result : Result T KeepFault) : Type 0 where
   pub later : before ≤ now
   pub failed : IsErrOf result Failed → Rose before now
+  pub still : OnOk result (now ≡ before)
 
--- Of a question for the generation the count hasn't fallen, and it has risen at an `Err`. At an answer it rises where that is
--- neither of the two that may come.
-pub record HasGenerationCause {T E : Type 0} (before now : ℕ) (result : Result T E) : Type 0 where
+-- the answer is this generation or the one after it, and the count stays; else it has risen
+abbrev pub IsNear : {E : Type 0} → ℕ → ℕ → ℕ → Result ℕ E → Type 0
+IsNear from before now (Ok generation) = (((generation ≡ from) ⊎ (generation ≡ from + 1)) × (now ≡ before)) ⊎ Rose before now
+IsNear from before now (Err e) = Rose before now
+
+-- Of a question for the generation the count hasn't fallen, and it has risen at an `Err`, and at an answer that is neither of the
+-- two that may come.
+pub record HasGenerationCause {E : Type 0} (from before now : ℕ) (result : Result ℕ E) : Type 0 where
   pub later : before ≤ now
-  pub failed : OnErr result (Rose before now)
+  pub near : IsNear from before now result
+
+-- of a keeper that fails no more: it goes on so, and this call did not fail
+pub record KeepsSteady {T : Type 0} (steady : Type 0) (result : Result T KeepFault) : Type 0 where
+  pub goes_on : steady
+  pub no_fault : ¬ IsErrOf result Failed

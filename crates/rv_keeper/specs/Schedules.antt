@@ -1,6 +1,6 @@
 -- The calls at which a keeper in memory fails, and what it answers there.
-use Rattle.std.specs.Prelude.{◌≡◌, ℕ, ◌+◌, ◌-◌, ◌^◌, ◌==◌, min, Bool, true, false, not, ◌||◌, ◌⊎◌, List, Result, Ok, Err, if◌then◌else◌}
-use Rattle.std.specs.List.{list_any}
+use Rattle.std.specs.Prelude.{◌≡◌, ℕ, ◌+◌, ◌-◌, ◌^◌, ◌<◌, ◌==◌, min, Bool, true, false, not, ◌||◌, ◌⊎◌, List, Result, Ok, Err, if◌then◌else◌}
+use Rattle.std.specs.List.{list_any, AllByRecursion}
 use Rattle.rv_keeper.specs.declared.fails.Fails.{Fails}
 use Rattle.rv_keeper.specs.declared.fails.Fails.TheVariants.{Before, After, Load, Generation}
 use Rattle.rv_keeper.specs.declared.change.Change.{Change}
@@ -24,6 +24,17 @@ fails_at call schedule = list_any (λ fails. same_fails fails call) schedule
 -- one more, up to the type's end
 abbrev pub one_more : ℕ → ℕ
 one_more n = min (n + 1) (2 ^ 64 - 1)
+
+-- the call is none that is still to come, after so many loads, questions for the generation and commits
+abbrev pub IsPast : ℕ → ℕ → ℕ → Fails → Type 0
+IsPast loads questions commits (Before n) = n < one_more commits
+IsPast loads questions commits (After n) = n < one_more commits
+IsPast loads questions commits (Load n) = n < one_more loads
+IsPast loads questions commits (Generation n) = n < one_more questions
+
+-- no call of the schedule is still to come
+abbrev pub FailsNoMore : ℕ → ℕ → ℕ → List Fails → Type 0
+FailsNoMore loads questions commits schedule = AllByRecursion (IsPast loads questions commits) schedule
 
 -- the count of faults after a call, which was one or not
 abbrev pub counted : Bool → ℕ → ℕ

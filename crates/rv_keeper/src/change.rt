@@ -9,13 +9,8 @@ use std::alloc::Global;
 pub enum Change {
     /// The cell is written, over one that is there.
     Put(Cell),
-    /// The cell of a shelf and a key is taken away, if it is there.
-    Remove {
-        /// The shelf, from 1 to 255.
-        shelf: u8,
-        /// The key among those of the shelf.
-        key: Bytes,
-    },
+    /// The cell of a shelf, from 1 to 255, and a key among those of the shelf is taken away, if it is there.
+    Remove(u8, Bytes),
 }
 
 impl Change {
@@ -25,10 +20,7 @@ impl Change {
     {
         match self {
             Change::Put(cell) => Ok(Change::Put(cell.copy(alloc)?)),
-            Change::Remove { shelf, key } => Ok(Change::Remove {
-                shelf: *shelf,
-                key: copy_bytes(alloc, key)?,
-            }),
+            Change::Remove(shelf, key) => Ok(Change::Remove(*shelf, copy_bytes(alloc, key)?)),
         }
     }
 }

@@ -1,9 +1,7 @@
-ghost use Rattle.std.specs.Prelude.{◌≡◌, ◌<◌, ◌+◌, ◌-◌, ◌^◌, ◌⊎◌, ℕ, IfOk, option_map};
-ghost use Rattle.std.specs.declared.option.Option.{Option};
-ghost use Rattle.rv_base.specs.Causes.{Rose};
+ghost use Rattle.std.specs.Prelude.{◌≡◌, ◌<◌, ◌-◌, ◌^◌, ℕ, IsOk, IfOk};
 ghost use Rattle.rv_keeper.specs.declared.loaded.Loaded.{Loaded};
 ghost use Rattle.rv_keeper.specs.Cells.{AreCells, AreChanges};
-ghost use Rattle.rv_keeper.specs.Keeping.{IsTold, Commits, HasKeepCause, HasGenerationCause};
+ghost use Rattle.rv_keeper.specs.Keeping.{Tells, Made, HasKeepCause, HasGenerationCause, KeepsSteady};
 
 use crate::change::Change;
 use crate::fault::KeepFault;
@@ -12,34 +10,49 @@ use rv_base::Failed;
 
 /// Where cells and a generation are kept.
 pub trait Keeper {
-    /// The cells and the generation that are held, where the keeper tells.
-    ghost held: { Self → Option Loaded };
+    /// The keeper tells what it holds. One that has once stopped to tell does not tell again.
+    ghost tells: { Self → Type 0 };
+
+    /// These are the cells and the generation that are held. It is said where the keeper tells.
+    ghost holds: { Self → Loaded → Type 0 };
 
     /// How often a call has failed, or was answered what can't be. It stands still at 2^64 - 1.
     ghost faults: { Self → ℕ };
 
+    /// No call fails any more.
+    ghost fails_no_more: { Self → Type 0 };
+
+    /// How often a call has failed, or was answered what can't be.
+    fn fault_count(&self) -> u64
+        ensures { result ≡ faults self.now };
+
     /// The cells and the generation. The cells are on shelves from 1, in the order of shelves and then of keys, each place
-    /// once; an answer that is not so is a fault.
+    /// once; what is held otherwise is a fault, and `Failed`.
     fn load(&mut self) -> Result<Loaded, KeepFault>
-        ensures held { held self.new ≡ held self.old }
-        ensures told { IfOk result (λ loaded. IsTold loaded (held self.old)) }
-        ensures order { IfOk result (λ loaded. AreCells loaded.cells ⊎ Rose (faults self.old) (faults self.new)) }
-        ensures cause { HasKeepCause (faults self.old) (faults self.new) result };
+        ensures order { IfOk result (λ loaded. AreCells loaded.cells) }
+        ensures tells { tells self.new → tells self.old }
+        ensures same { tells self.new → (held : Loaded) → holds self.old held → holds self.new held }
+        ensures told { tells self.new → IfOk result (λ loaded. Tells loaded (holds self.old) (holds self.new)) }
+        ensures cause { HasKeepCause (faults self.old) (faults self.new) result }
+        ensures steady { fails_no_more self.old → KeepsSteady (fails_no_more self.new) result };
 
     /// The generation. It is `from` or the one after it, the generation that a commit from `from` leaves; any other answer
-    /// is a fault.
+    /// is a fault. Takes no memory.
     fn generation(&mut self, from: u64) -> Result<u64, Failed>
         requires { from < 2 ^ 64 - 1 }
-        ensures held { held self.new ≡ held self.old }
-        ensures told { IfOk result (λ n. IsTold n (option_map (λ h. h.generation) (held self.old))) }
-        ensures near { IfOk result (λ n. (n ≡ from) ⊎ (n ≡ from + 1) ⊎ Rose (faults self.old) (faults self.new)) }
-        ensures cause { HasGenerationCause (faults self.old) (faults self.new) result };
+        ensures tells { tells self.new → tells self.old }
+        ensures same { tells self.new → (held : Loaded) → holds self.old held → holds self.new held }
+        ensures told { tells self.new → IfOk result (λ n. (held : Loaded) → holds self.old held → held.generation ≡ n) }
+        ensures cause { HasGenerationCause from (faults self.old) (faults self.new) result }
+        ensures steady { fails_no_more self.old → fails_no_more self.new × IsOk result };
 
     /// Makes all the changes, and the generation is the one after `from`. Each place is named once. At `Failed` all is as
     /// before or as after `Ok`, and at `Memory` as before.
     fn commit(&mut self, from: u64, changes: &[Change]) -> Result<(), KeepFault>
         requires from { from < 2 ^ 64 - 1 }
         requires changes { AreChanges changes.now }
-        ensures held { Commits from changes.now (held self.old) (held self.new) result }
-        ensures cause { HasKeepCause (faults self.old) (faults self.new) result };
+        ensures tells { tells self.new → tells self.old }
+        ensures made { tells self.new → (held : Loaded) → holds self.old held → Made from changes.now result (holds self.new) held }
+        ensures cause { HasKeepCause (faults self.old) (faults self.new) result }
+        ensures steady { fails_no_more self.old → KeepsSteady (fails_no_more self.new) result };
 }

@@ -20,6 +20,6 @@ pub use change::Change;
 pub use fails::Fails;
 pub use fault::KeepFault;
 pub use keeper::Keeper;
-pub use loaded::Loaded;
+pub use loaded::{Cells, Loaded};
 pub use memory_keeper::MemoryKeeper;
 pub use shelves::Shelves;

@@ -1,18 +1,18 @@
 // A keeper in memory, which fails at the calls of a schedule.
-ghost use Rattle.std.specs.Prelude.{◌≡◌, ◌≤◌, ◌<◌, ◌+◌, ◌-◌, ◌^◌, ◌||◌, ◌⊎◌, [], Some, IfOk, OnOk, OnErr, vec_len, is_err, if◌then◌else◌};
+ghost use Rattle.std.specs.Prelude.{◌≡◌, ◌≤◌, ◌<◌, ◌+◌, ◌-◌, ◌^◌, ◌||◌, ◌⊎◌, [], IfOk, IsOk, OnOk, OnErr, vec_len, is_err, if◌then◌else◌};
 ghost use Rattle.std.specs.List.{AllByRecursion};
 ghost use Rattle.rv_base.specs.Causes.{Rose};
 ghost use Rattle.rv_keeper.specs.declared.fails.Fails.TheVariants as calls;
 ghost use Rattle.rv_keeper.specs.Cells.{AreCells, AreChanges, changed, changed_by, change_shelf};
-ghost use Rattle.rv_keeper.specs.Keeping.{IsTold, Commits, HasKeepCause, HasGenerationCause, holding};
-ghost use Rattle.rv_keeper.specs.Schedules.{fails_at, one_more, counted, is_strange, has_failed, IsLoad, IsCommit};
+ghost use Rattle.rv_keeper.specs.Keeping.{Made, HasKeepCause, HasGenerationCause, KeepsSteady, holding};
+ghost use Rattle.rv_keeper.specs.Schedules.{fails_at, one_more, counted, is_strange, has_failed, FailsNoMore, IsLoad, IsCommit};
 
 use crate::cell::Cell;
 use crate::change::Change;
 use crate::fails::{Fails, fails_at};
 use crate::fault::KeepFault;
 use crate::keeper::Keeper;
-use crate::loaded::Loaded;
+use crate::loaded::{Cells, Loaded};
 use crate::shelves::Shelves;
 use rv_base::{Failed, Memory, Sequence};
 use std::alloc::Global;
@@ -51,16 +51,15 @@ impl MemoryKeeper {
         MemoryKeeper::on(alloc, schedule, Shelves::new(alloc), 0)
     }
 
-    /// A keeper that holds these cells, at this generation.
-    pub fn with(alloc: Global, schedule: Vec<Fails>, cells: Vec<Cell>, generation: u64) -> Self
-        requires { AreCells cells.items }
-        ensures cells { result.shelves.cells ≡ cells.items }
+    /// A keeper that holds the cells of these shelves, at this generation.
+    pub fn with(alloc: Global, schedule: Vec<Fails>, shelves: Shelves, generation: u64) -> Self
+        ensures cells { result.shelves.cells ≡ shelves.cells }
         ensures generation { result.generation ≡ generation }
         ensures schedule { result.schedule.items ≡ schedule.items }
         ensures calls { (result.loads ≡ 0) × (result.questions ≡ 0) × (result.commits ≡ 0) }
         ensures faults { result.faults ≡ 0 }
     {
-        MemoryKeeper::on(alloc, schedule, Shelves::from_vec(cells), generation)
+        MemoryKeeper::on(alloc, schedule, shelves, generation)
     }
 
     // A keeper that holds what stands on the shelves.
@@ -105,15 +104,27 @@ impl MemoryKeeper {
 }
 
 impl Keeper for MemoryKeeper {
-    ghost held = { λ s. Some (holding s.shelves.cells s.generation) };
+    // It tells whatever comes.
+    ghost tells = { λ s. Unit {0} };
+
+    ghost holds = { λ s held. held ≡ holding s.shelves.cells s.generation };
 
     ghost faults = { λ s. s.faults };
 
+    // No call of the schedule is still to come.
+    ghost fails_no_more = { λ s. FailsNoMore s.loads s.questions s.commits s.schedule.items };
+
+    fn fault_count(&self) -> u64
+        ensures { result ≡ self.now.faults }
+    {
+        self.faults
+    }
+
     fn load(&mut self) -> Result<Loaded, KeepFault>
-        ensures held { Some (holding self.new.shelves.cells self.new.generation) ≡ Some (holding self.old.shelves.cells self.old.generation) }
-        ensures told { IfOk result (λ loaded. IsTold loaded (Some (holding self.old.shelves.cells self.old.generation))) }
-        ensures order { IfOk result (λ loaded. AreCells loaded.cells ⊎ Rose self.old.faults self.new.faults) }
+        ensures order { IfOk result (λ loaded. AreCells loaded.cells) }
+        ensures told { IfOk result (λ loaded. loaded ≡ holding self.old.shelves.cells self.old.generation) }
         ensures cause { HasKeepCause self.old.faults self.new.faults result }
+        ensures steady { FailsNoMore self.old.loads self.old.questions self.old.commits self.old.schedule.items → KeepsSteady (FailsNoMore self.new.loads self.new.questions self.new.commits self.new.schedule.items) result }
         ensures answer { IsLoad (fails_at (calls.Load self.new.loads) self.old.schedule.items) (holding self.old.shelves.cells self.old.generation) result }
         ensures after { self.new ≡ record self.old { loads = one_more self.old.loads; faults = counted (has_failed result) self.old.faults } }
     {
@@ -131,10 +142,9 @@ impl Keeper for MemoryKeeper {
 
     fn generation(&mut self, from: u64) -> Result<u64, Failed>
         requires { from < 2 ^ 64 - 1 }
-        ensures held { Some (holding self.new.shelves.cells self.new.generation) ≡ Some (holding self.old.shelves.cells self.old.generation) }
-        ensures told { IfOk result (λ n. IsTold n (Some self.old.generation)) }
-        ensures near { IfOk result (λ n. (n ≡ from) ⊎ (n ≡ from + 1) ⊎ Rose self.old.faults self.new.faults) }
-        ensures cause { HasGenerationCause self.old.faults self.new.faults result }
+        ensures told { IfOk result (λ n. n ≡ self.old.generation) }
+        ensures cause { HasGenerationCause from self.old.faults self.new.faults result }
+        ensures steady { FailsNoMore self.old.loads self.old.questions self.old.commits self.old.schedule.items → FailsNoMore self.new.loads self.new.questions self.new.commits self.new.schedule.items × IsOk result }
         ensures fails { is_err result ≡ fails_at (calls.Generation self.new.questions) self.old.schedule.items }
         ensures after { self.new ≡ record self.old { questions = one_more self.old.questions; faults = counted (is_err result || is_strange from self.old.generation) self.old.faults } }
     {
@@ -152,8 +162,9 @@ impl Keeper for MemoryKeeper {
     fn commit(&mut self, from: u64, changes: &[Change]) -> Result<(), KeepFault>
         requires from { from < 2 ^ 64 - 1 }
         requires changes { AreChanges changes.now }
-        ensures held { Commits from changes.now (Some (holding self.old.shelves.cells self.old.generation)) (Some (holding self.new.shelves.cells self.new.generation)) result }
+        ensures made { Made from changes.now result (λ held. held ≡ holding self.new.shelves.cells self.new.generation) (holding self.old.shelves.cells self.old.generation) }
         ensures cause { HasKeepCause self.old.faults self.new.faults result }
+        ensures steady { FailsNoMore self.old.loads self.old.questions self.old.commits self.old.schedule.items → KeepsSteady (FailsNoMore self.new.loads self.new.questions self.new.commits self.new.schedule.items) result }
         ensures answer { IsCommit (fails_at (calls.Before self.new.commits) self.old.schedule.items) (fails_at (calls.After self.new.commits) self.old.schedule.items) from changes.now
             (holding self.old.shelves.cells self.old.generation) (holding self.new.shelves.cells self.new.generation) result }
         ensures after { self.new ≡ record self.old { shelves = self.new.shelves; generation = self.new.generation; commits = one_more self.old.commits; faults = counted (has_failed result) self.old.faults } }
@@ -173,7 +184,7 @@ impl Keeper for MemoryKeeper {
 }
 
 // The cells, in memory of their own.
-fn copies_of_cells(alloc: Global, cells: &[Cell]) -> Result<Sequence<Cell>, Memory>
+fn copies_of_cells(alloc: Global, cells: &[Cell]) -> Result<Cells, Memory>
     ensures { IfOk result (λ copies. copies ≡ cells.now) }
 {
     let mut copies = Sequence::new(alloc);
@@ -214,6 +225,6 @@ fn make_one(shelves: &mut Shelves, change: Change)
 {
     match change {
         Change::Put(cell) => shelves.put(cell),
-        Change::Remove { shelf, key } => shelves.remove(shelf, &key),
+        Change::Remove(shelf, key) => shelves.remove(shelf, &key),
     }
 }

@@ -4,7 +4,7 @@ ghost use Rattle.std.specs.Str.{bytes_eq};
 ghost use Rattle.rv_keeper.specs.Cells.{AreCells, AreChanges, change_key, change_shelf};
 
 use rv_base::{Bytes, Memory};
-use rv_keeper::{Cell, Change, Fails, Keeper, MemoryKeeper};
+use rv_keeper::{Cell, Change, Fails, Keeper, MemoryKeeper, Shelves};
 use std::alloc::{AllocError, Global};
 
 /// A keeper that holds nothing and fails at no call.
@@ -89,7 +89,7 @@ fn remove_of(alloc: Global, text: &str) -> Result<Option<Change>, Memory>
         return Ok(None);
     };
     let key = bytes(alloc, key)?;
-    Ok(Some(Change::Remove { shelf, key }))
+    Ok(Some(Change::Remove(shelf, key)))
 }
 
 fn change_of(alloc: Global, text: &str) -> Result<Option<Change>, Memory>
@@ -107,7 +107,7 @@ fn shelf_of(change: &Change) -> u8
 {
     match change {
         Change::Put(cell) => cell.shelf,
-        Change::Remove { shelf, .. } => *shelf,
+        Change::Remove(shelf, _) => *shelf,
     }
 }
 
@@ -197,7 +197,7 @@ fn hold(alloc: Global, keeper: &mut MemoryKeeper, word: &str) -> Result<Option<S
         return Ok(None);
     };
     let cells = three_cells(alloc)?;
-    *keeper = MemoryKeeper::with(alloc, Vec::new(alloc), cells, generation);
+    *keeper = MemoryKeeper::with(alloc, Vec::new(alloc), Shelves::from_vec(cells), generation);
     after(alloc, "given", keeper)
 }
 
