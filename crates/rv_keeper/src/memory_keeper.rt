@@ -120,6 +120,7 @@ impl Keeper for MemoryKeeper {
         self.faults
     }
 
+    #[tactic(auto, using(crate::proofs::Schedule::next_load))]
     fn load(&mut self) -> Result<Loaded, KeepFault>
         ensures order { IfOk result (λ loaded. AreCells loaded.cells) }
         ensures told { IfOk result (λ loaded. loaded ≡ holding self.old.shelves.cells self.old.generation) }
@@ -140,6 +141,7 @@ impl Keeper for MemoryKeeper {
         })
     }
 
+    #[tactic(auto, using(crate::proofs::Schedule::next_question))]
     fn generation(&mut self, from: u64) -> Result<u64, Failed>
         requires { from < 2 ^ 64 - 1 }
         ensures told { IfOk result (λ n. n ≡ self.old.generation) }
@@ -159,6 +161,7 @@ impl Keeper for MemoryKeeper {
         Ok(self.generation)
     }
 
+    #[tactic(auto, using(crate::proofs::Schedule::next_commit))]
     fn commit(&mut self, from: u64, changes: &[Change]) -> Result<(), KeepFault>
         requires from { from < 2 ^ 64 - 1 }
         requires changes { AreChanges changes.now }
