@@ -4,8 +4,7 @@
 --   shelf 3, key CLIENT: [GROUP,LAST], of a client with an act
 --   shelf 4, key GROUP: [USER,LASTORDER,RETIRED], of a group that an act or a look names; LASTORDER is 0 before the first look
 --   shelf 5, key PLACE: [[[KEY,VERSION],..],[[CLIENT,LAST],..]], of a kept look: what the user saw and the group's clients
-use Rattle.std.specs.Prelude.{ℕ, ◌-◌, List, [], ◌∷◌, ◌++◌, Bool, length, map, decimal}
-use Rattle.std.specs.List.{repeated}
+use Rattle.std.specs.Prelude.{ℕ, ◌-◌, List, [], ◌∷◌, ◌++◌, Bool, length, map, replicate, decimal}
 use Rattle.serde_json.specs.Data.{Data, boolean, number, unsigned, string}
 use Rattle.serde_json.specs.Written.{compact_text}
 use Rattle.rv_rows.specs.declared.key.Key.{Key}
@@ -20,7 +19,7 @@ use Rattle.rv_record.specs.EntryTexts.{entry_data}
 
 -- a place in ten decimal digits, with leading zeros
 abbrev pub ten_digits : ℕ → List ℕ
-ten_digits place = repeated 48 (10 - length (decimal place)) ++ decimal place
+ten_digits place = replicate (10 - length (decimal place)) 48 ++ decimal place
 
 -- a cell whose body is the text of a value
 abbrev pub cell_at : ℕ → List ℕ → Data → Cell

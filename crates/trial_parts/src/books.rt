@@ -9,6 +9,7 @@ mod state;
 mod told;
 mod words;
 
+pub use records::record_of;
 use rv_base::Memory;
 pub use state::State;
 use std::alloc::Global;

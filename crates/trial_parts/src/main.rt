@@ -2,13 +2,14 @@
 //!
 //! A line `=== SUBJECT` begins the cases of `values` (texts and numbers within bounds, sources and sinks, the keeper in memory
 //! and command lines), `rows` (rows, who sees them and what calls make of them), `books` (books and what is looked up in them,
-//! records of views and what changes between two) or `bodies` (bodies of requests, calls, answers and refusals). A line
-//! `== NAME` begins a case, with nothing made yet. A line that begins with `#` is none. Any other line is a command, in which
-//! `«N TEXT»` stands for the text N times.
+//! records of views and what changes between two), `bodies` (bodies of requests, calls, answers and refusals) or `cells` (what
+//! a book is kept as). A line `== NAME` begins a case, with nothing made yet. A line that begins with `#` is none. Any other
+//! line is a command, in which `«N TEXT»` stands for the text N times.
 #![tactic(auto)]
 
 mod bodies;
 mod books;
+mod cells;
 mod lines;
 mod rows;
 mod texts;
@@ -24,6 +25,7 @@ enum Subject {
     Rows,
     Books,
     Bodies,
+    Cells,
 }
 
 fn subject_of(name: &str) -> Option<Subject> {
@@ -32,6 +34,7 @@ fn subject_of(name: &str) -> Option<Subject> {
         "rows" => Some(Subject::Rows),
         "books" => Some(Subject::Books),
         "bodies" => Some(Subject::Bodies),
+        "cells" => Some(Subject::Cells),
         _ => None,
     }
 }
@@ -67,6 +70,7 @@ fn printed(alloc: Global, parts: &mut Parts, line: &str) -> Result<Option<String
         Subject::Rows => rows::command(alloc, &mut parts.rows, word, rest),
         Subject::Books => books::command(alloc, &mut parts.books, word, rest),
         Subject::Bodies => bodies::command(alloc, &mut parts.bodies, word, rest),
+        Subject::Cells => cells::command(alloc, word, rest),
     }
 }
 

@@ -115,8 +115,8 @@ fn clients_of(alloc: Global, text: &str) -> Result<Option<Clients>, Memory>
     Ok(Some(clients))
 }
 
-// The record that a text spells.
-fn record_of(alloc: Global, text: &str) -> Result<Option<ViewRecord>, Memory> {
+/// The record that a text spells, where its keys and clients are in order.
+pub fn record_of(alloc: Global, text: &str) -> Result<Option<ViewRecord>, Memory> {
     let (rows, clients) = text.split_once('|').unwrap_or((text, ""));
     let Some(rows) = rows_of(alloc, rows)? else {
         return Ok(None);

@@ -1,0 +1,139 @@
+ghost use Rattle.std.specs.Prelude.{◌≡◌, IfOk};
+ghost use Rattle.serde_json.specs.Written.{compact_text};
+ghost use Rattle.rv_rows.specs.Keys.{row_text};
+ghost use Rattle.rv_record.specs.EntryTexts.{entry_data};
+ghost use Rattle.rv_record.specs.CellTexts.{row_body, client_body, group_body, view_body, entry_cell, row_cell, client_cell, group_cell, view_cell};
+
+use crate::body_writing::{write_group_body, write_row_body};
+use crate::entry_writing::write_entry;
+use crate::places::ten_digits;
+use crate::value_writing::write_pair;
+use crate::view_writing::write_view;
+use json::Writer;
+use rv_base::{Bytes, Id, Memory, Num, Sequence, User};
+use rv_book::Entry;
+use rv_keeper::Cell;
+use rv_rows::Row;
+use rv_views::ViewRecord;
+use std::alloc::Global;
+
+fn entry_text(alloc: Global, entry: &Entry) -> Result<Bytes, Memory>
+    ensures { IfOk result (λ text. text ≡ compact_text (entry_data entry.now)) }
+{
+    let mut out = Writer::new(Vec::new(alloc));
+    write_entry(&mut out, entry)?;
+    Ok(Sequence::from_vec(out.into_inner()))
+}
+
+fn row_body_text(alloc: Global, row: &Row, version: u32) -> Result<Bytes, Memory>
+    ensures { IfOk result (λ text. text ≡ compact_text (row_body row.now version)) }
+{
+    let mut out = Writer::new(Vec::new(alloc));
+    write_row_body(&mut out, row, version)?;
+    Ok(Sequence::from_vec(out.into_inner()))
+}
+
+fn client_text(alloc: Global, group: &Id, last: Num) -> Result<Bytes, Memory>
+    ensures { IfOk result (λ text. text ≡ compact_text (client_body group.now last)) }
+{
+    let mut out = Writer::new(Vec::new(alloc));
+    write_pair(&mut out, group.as_str(), last.get())?;
+    Ok(Sequence::from_vec(out.into_inner()))
+}
+
+fn group_text(alloc: Global, user: &User, order: Num, retired: bool) -> Result<Bytes, Memory>
+    ensures { IfOk result (λ text. text ≡ compact_text (group_body user.now order retired)) }
+{
+    let mut out = Writer::new(Vec::new(alloc));
+    write_group_body(&mut out, user, order, retired)?;
+    Ok(Sequence::from_vec(out.into_inner()))
+}
+
+fn view_text(alloc: Global, view: &ViewRecord) -> Result<Bytes, Memory>
+    ensures { IfOk result (λ text. text ≡ compact_text (view_body view.now)) }
+{
+    let mut key_text = String::new(alloc);
+    let mut out = Writer::new(Vec::new(alloc));
+    write_view(&mut out, &mut key_text, view)?;
+    Ok(Sequence::from_vec(out.into_inner()))
+}
+
+// The bytes of a name.
+fn name_key(alloc: Global, name: &Id) -> Result<Bytes, Memory>
+    ensures { IfOk result (λ key. key ≡ name.now) }
+{
+    Ok(Sequence::from_vec(Vec::from_slice(alloc, name.as_str().as_bytes())?))
+}
+
+// The bytes of the text of the row's key.
+fn row_key(alloc: Global, row: &Row) -> Result<Bytes, Memory>
+    ensures { IfOk result (λ key. key ≡ row_text row.now) }
+{
+    let text = row.kind().key_text(alloc, row.id())?;
+    Ok(Sequence::from_vec(text.into_bytes()))
+}
+
+/// The cell of an entry at its place, from 1: on shelf 1, under the place in ten digits,
+/// `["act",USER,GROUP,CLIENT,ID,CALL]`, `["look",USER,GROUP,ORDER,BASE]` with null for no base, or `["retire",GROUP]`.
+pub fn cell_of_entry(alloc: Global, place: u32, entry: &Entry) -> Result<Cell, Memory>
+    ensures { IfOk result (λ cell. cell ≡ entry_cell place entry.now) }
+{
+    Ok(Cell {
+        shelf: 1,
+        key: ten_digits(alloc, place)?,
+        body: entry_text(alloc, entry)?,
+    })
+}
+
+/// The cell of a row with its version, the place of the entry that wrote it: on shelf 2, under the text of the row's key,
+/// `[VERSION,ROW]`.
+pub fn cell_of_row(alloc: Global, row: &Row, version: u32) -> Result<Cell, Memory>
+    ensures { IfOk result (λ cell. cell ≡ row_cell row.now version) }
+{
+    Ok(Cell {
+        shelf: 2,
+        key: row_key(alloc, row)?,
+        body: row_body_text(alloc, row, version)?,
+    })
+}
+
+/// The cell of a client with its group and its last mutation id: on shelf 3, under the client's name, `[GROUP,LAST]`.
+pub fn cell_of_client(alloc: Global, client: &Id, group: &Id, last: Num) -> Result<Cell, Memory>
+    ensures { IfOk result (λ cell. cell ≡ client_cell client.now group.now last) }
+{
+    Ok(Cell {
+        shelf: 3,
+        key: name_key(alloc, client)?,
+        body: client_text(alloc, group, last)?,
+    })
+}
+
+/// The cell of a group with its user, the order of its last look, 0 before the first, and whether it is retired: on shelf
+/// 4, under the group's name, `[USER,LASTORDER,RETIRED]`.
+pub fn cell_of_group(
+    alloc: Global,
+    group: &Id,
+    user: &User,
+    order: Num,
+    retired: bool,
+) -> Result<Cell, Memory>
+    ensures { IfOk result (λ cell. cell ≡ group_cell group.now user.now order retired) }
+{
+    Ok(Cell {
+        shelf: 4,
+        key: name_key(alloc, group)?,
+        body: group_text(alloc, user, order, retired)?,
+    })
+}
+
+/// The cell of the view record of the look at a place, from 1: on shelf 5, under the place in ten digits,
+/// `[[[KEY,VERSION],..],[[CLIENT,LAST],..]]`, with the keys and the clients in order.
+pub fn cell_of_view(alloc: Global, place: u32, view: &ViewRecord) -> Result<Cell, Memory>
+    ensures { IfOk result (λ cell. cell ≡ view_cell place view.now) }
+{
+    Ok(Cell {
+        shelf: 5,
+        key: ten_digits(alloc, place)?,
+        body: view_text(alloc, view)?,
+    })
+}
