@@ -1,1 +1,9 @@
 pub mod Writing
+pub mod Texts
+pub mod ReadBack
+pub mod Settling
+pub mod Again
+pub mod PlaceDigits
+pub mod EntryAgain
+pub mod ViewAgain
+pub mod Items

@@ -2,15 +2,31 @@
 //! view record.
 //!
 //! The writers, `cell_of_entry` and its kin, give each the shelf, the key and the body that `specs/CellTexts.antt` defines.
-//! A body is the compact text of a JSON value.
+//! A body is the compact text of a JSON value. The readers, `entry_of_cell` and its kin, take exactly these cells.
 #![tactic(auto)]
 
 mod body_writing;
+mod call_reading;
 mod call_writing;
 mod cells;
+mod client_reading;
+mod entry_reading;
 mod entry_writing;
+mod fault;
+mod json_reading;
+mod key_reading;
+mod place_reading;
 mod places;
+mod row_reading;
+mod same_cell;
+mod value_reading;
 mod value_writing;
+mod view_reading;
 mod view_writing;
 
 pub use cells::{cell_of_client, cell_of_entry, cell_of_group, cell_of_row, cell_of_view};
+pub use client_reading::{client_of_cell, group_of_cell};
+pub use entry_reading::entry_of_cell;
+pub use fault::CellFault;
+pub use row_reading::row_of_cell;
+pub use view_reading::view_of_cell;

@@ -1,0 +1,174 @@
+ghost use Rattle.std.specs.Prelude.{◌≡◌, IfOk, option_and_then};
+ghost use Rattle.serde_json.specs.Find.{at, as_bool};
+ghost use Rattle.serde_json.specs.View.{view};
+ghost use Rattle.rv_rows.specs.Members.{text_in, num_in};
+ghost use Rattle.rv_record.specs.ValueReading.{or_null, text_item};
+ghost use Rattle.rv_record.specs.EntryReading.{create_list_in, create_share_in, create_todo_in, update_todo_in, void_with, call_with, call_in};
+
+use crate::value_reading::{flag_item, string_item, text_item};
+use rv_base::{Id, Memory, Num, Text};
+use rv_rows::{Call, Reason, num_of_value, text_of_value};
+use serde_json::Value;
+use std::alloc::Global;
+
+fn id_of(alloc: Global, value: &Value) -> Result<Option<Id>, Memory>
+    ensures { IfOk result (λ o. o ≡ text_item 1 128 1 (view value.now)) }
+{
+    text_item(alloc, value, 1)
+}
+
+#[tactic(auto, unfolding(crate::specs::EntryReading::create_list_in))]
+fn create_list(alloc: Global, value: &Value) -> Result<Option<Call>, Memory>
+    ensures { IfOk result (λ o. o ≡ create_list_in (view value.now)) }
+{
+    let Some(id) = text_item(alloc, value, 1)? else {
+        return Ok(None);
+    };
+    let Some(name) = text_item(alloc, value, 2)? else {
+        return Ok(None);
+    };
+    let Some(owner) = text_item(alloc, value, 3)? else {
+        return Ok(None);
+    };
+    Ok(Some(Call::CreateList { id, name, owner }))
+}
+
+#[tactic(auto, unfolding(crate::specs::EntryReading::create_share_in))]
+fn create_share(alloc: Global, value: &Value) -> Result<Option<Call>, Memory>
+    ensures { IfOk result (λ o. o ≡ create_share_in (view value.now)) }
+{
+    let Some(id) = text_item(alloc, value, 1)? else {
+        return Ok(None);
+    };
+    let Some(list) = text_item(alloc, value, 2)? else {
+        return Ok(None);
+    };
+    let Some(user) = text_item(alloc, value, 3)? else {
+        return Ok(None);
+    };
+    Ok(Some(Call::CreateShare { id, list, user }))
+}
+
+#[tactic(auto, unfolding(crate::specs::EntryReading::create_todo_in))]
+fn create_todo(alloc: Global, value: &Value) -> Result<Option<Call>, Memory>
+    ensures { IfOk result (λ o. o ≡ create_todo_in (view value.now)) }
+{
+    let Some(id) = text_item(alloc, value, 1)? else {
+        return Ok(None);
+    };
+    let Some(list) = text_item(alloc, value, 2)? else {
+        return Ok(None);
+    };
+    let Some(text) = text_item(alloc, value, 3)? else {
+        return Ok(None);
+    };
+    let Some(complete) = flag_item(value, 4) else {
+        return Ok(None);
+    };
+    Ok(Some(Call::CreateTodo {
+        id,
+        list,
+        text,
+        complete,
+    }))
+}
+
+// The text at a place, or that there is none; `None` where it is neither null nor a text.
+fn text_or_null(alloc: Global, value: &Value, place: usize) -> Result<Option<Option<Text>>, Memory>
+    ensures { IfOk result (λ o. o ≡ option_and_then (or_null (text_in 0 16384)) (at place (view value.now))) }
+{
+    let Some(item) = value.get(place) else {
+        return Ok(None);
+    };
+    if item.is_null() {
+        return Ok(Some(None));
+    }
+    match text_of_value(alloc, item)? {
+        Some(text) => Ok(Some(Some(text))),
+        None => Ok(None),
+    }
+}
+
+fn flag_or_null(value: &Value, place: usize) -> Option<Option<bool>>
+    ensures { result ≡ option_and_then (or_null as_bool) (at place (view value.now)) }
+{
+    let item = value.get(place)?;
+    if item.is_null() {
+        Some(None)
+    } else {
+        Some(Some(item.as_bool()?))
+    }
+}
+
+fn num_or_null(value: &Value, place: usize) -> Option<Option<Num>>
+    ensures { result ≡ option_and_then (or_null num_in) (at place (view value.now)) }
+{
+    let item = value.get(place)?;
+    if item.is_null() {
+        Some(None)
+    } else {
+        Some(Some(num_of_value(item)?))
+    }
+}
+
+#[tactic(auto, unfolding(crate::specs::EntryReading::update_todo_in))]
+fn update_todo(alloc: Global, value: &Value) -> Result<Option<Call>, Memory>
+    ensures { IfOk result (λ o. o ≡ update_todo_in (view value.now)) }
+{
+    let Some(id) = text_item(alloc, value, 1)? else {
+        return Ok(None);
+    };
+    let Some(text) = text_or_null(alloc, value, 2)? else {
+        return Ok(None);
+    };
+    let Some(complete) = flag_or_null(value, 3) else {
+        return Ok(None);
+    };
+    let Some(sort) = num_or_null(value, 4) else {
+        return Ok(None);
+    };
+    Ok(Some(Call::UpdateTodo {
+        id,
+        text,
+        complete,
+        sort,
+    }))
+}
+
+fn void_with(reason: &str) -> Option<Call>
+    ensures { result ≡ void_with reason.now }
+{
+    match reason {
+        "UnknownName" => Some(Call::Void(Reason::UnknownName)),
+        "BadArgs" => Some(Call::Void(Reason::BadArgs)),
+        _ => None,
+    }
+}
+
+// The call of a name, from the items after it.
+fn call_with(alloc: Global, name: &str, value: &Value) -> Result<Option<Call>, Memory>
+    ensures { IfOk result (λ o. o ≡ call_with name.now (view value.now)) }
+{
+    match name {
+        "createList" => create_list(alloc, value),
+        "deleteList" => Ok(id_of(alloc, value)?.map(|id| Call::DeleteList { id })),
+        "createShare" => create_share(alloc, value),
+        "deleteShare" => Ok(id_of(alloc, value)?.map(|id| Call::DeleteShare { id })),
+        "createTodo" => create_todo(alloc, value),
+        "updateTodo" => update_todo(alloc, value),
+        "deleteTodo" => Ok(id_of(alloc, value)?.map(|id| Call::DeleteTodo { id })),
+        "void" => Ok(string_item(value, 1).and_then(void_with)),
+        _ => Ok(None),
+    }
+}
+
+// The call that a value is, from its name and the items that the name asks for.
+#[tactic(auto, unfolding(crate::specs::EntryReading::call_in))]
+pub(crate) fn call_of_value(alloc: Global, value: &Value) -> Result<Option<Call>, Memory>
+    ensures { IfOk result (λ o. o ≡ call_in (view value.now)) }
+{
+    match string_item(value, 0) {
+        Some(name) => call_with(alloc, name, value),
+        None => Ok(None),
+    }
+}

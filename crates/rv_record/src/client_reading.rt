@@ -1,0 +1,86 @@
+ghost use Rattle.std.specs.Prelude.{◌≡◌, IfOk};
+ghost use Rattle.rv_record.specs.CellTexts.{client_cell, group_cell};
+ghost use Rattle.rv_record.specs.CellReading.{Reads, ClientFits, GroupFits, client_in, group_in};
+
+use crate::cells::{cell_of_client, cell_of_group};
+use crate::fault::{CellFault, bad_cell};
+use crate::json_reading::read_json;
+use crate::same_cell::is_same;
+use crate::value_reading::{flag_item, num_item, text_item, text_of_bytes};
+use rv_base::{Id, Memory, Num, User};
+use rv_keeper::Cell;
+use std::alloc::Global;
+
+// What the cell is of, if it is a client's.
+#[tactic(auto, unfolding(crate::specs::CellReading::client_in))]
+fn client_in(alloc: Global, cell: &Cell) -> Result<Option<(Id, Id, Num)>, Memory>
+    ensures { IfOk result (λ o. o ≡ client_in cell.now) }
+{
+    let Some(client) = text_of_bytes(alloc, cell.key.as_slice())? else {
+        return Ok(None);
+    };
+    let Some(body) = read_json(alloc, cell.body.as_slice())? else {
+        return Ok(None);
+    };
+    let Some(group) = text_item(alloc, &body, 0)? else {
+        return Ok(None);
+    };
+    let Some(last) = num_item(&body, 1) else {
+        return Ok(None);
+    };
+    Ok(Some((client, group, last)))
+}
+
+/// The client whose cell this is, its group, and the last mutation id. Any other cell is `BadCell`.
+pub fn client_of_cell(alloc: Global, cell: &Cell) -> Result<(Id, Id, Num), CellFault>
+    ensures { Reads (λ c. client_cell c.0 c.1 c.2) ClientFits cell.now result }
+{
+    let Some(made) = client_in(alloc, cell)? else {
+        return Err(bad_cell(alloc, cell));
+    };
+    let again = cell_of_client(alloc, &made.0, &made.1, made.2)?;
+    if is_same(cell, &again) {
+        Ok(made)
+    } else {
+        Err(bad_cell(alloc, cell))
+    }
+}
+
+// What the cell is of, if it is a group's.
+#[tactic(auto, unfolding(crate::specs::CellReading::group_in))]
+fn group_in(alloc: Global, cell: &Cell) -> Result<Option<(Id, User, Num, bool)>, Memory>
+    ensures { IfOk result (λ o. o ≡ group_in cell.now) }
+{
+    let Some(group) = text_of_bytes(alloc, cell.key.as_slice())? else {
+        return Ok(None);
+    };
+    let Some(body) = read_json(alloc, cell.body.as_slice())? else {
+        return Ok(None);
+    };
+    let Some(user) = text_item(alloc, &body, 0)? else {
+        return Ok(None);
+    };
+    let Some(order) = num_item(&body, 1) else {
+        return Ok(None);
+    };
+    let Some(retired) = flag_item(&body, 2) else {
+        return Ok(None);
+    };
+    Ok(Some((group, user, order, retired)))
+}
+
+/// The group whose cell this is, its user, the order of its last look, and whether it is retired. Any other cell is
+/// `BadCell`.
+pub fn group_of_cell(alloc: Global, cell: &Cell) -> Result<(Id, User, Num, bool), CellFault>
+    ensures { Reads (λ g. group_cell g.0 g.1 g.2 g.3) GroupFits cell.now result }
+{
+    let Some(made) = group_in(alloc, cell)? else {
+        return Err(bad_cell(alloc, cell));
+    };
+    let again = cell_of_group(alloc, &made.0, &made.1, made.2, made.3)?;
+    if is_same(cell, &again) {
+        Ok(made)
+    } else {
+        Err(bad_cell(alloc, cell))
+    }
+}

@@ -1,0 +1,144 @@
+ghost use Rattle.std.specs.Prelude.{◌≡◌, ◌≤◌, IfOk, option_and_then};
+ghost use Rattle.serde_json.specs.Find.{at};
+ghost use Rattle.serde_json.specs.View.{view};
+ghost use Rattle.rv_record.specs.CellTexts.{entry_cell};
+ghost use Rattle.rv_record.specs.CellReading.{Reads};
+ghost use Rattle.rv_record.specs.ValueReading.{or_null, place_in, text_item};
+ghost use Rattle.rv_record.specs.EntryReading.{PlacedFits, act_in, look_in, entry_with, entry_in, body_entry};
+
+use crate::call_reading::call_of_value;
+use crate::cells::cell_of_entry;
+use crate::fault::{CellFault, bad_cell};
+use crate::json_reading::read_json;
+use crate::place_reading::place_of_key;
+use crate::same_cell::is_same;
+use crate::value_reading::{num_item, place_of_value, string_item, text_item};
+use rv_base::{Id, Memory};
+use rv_book::Entry;
+use rv_keeper::Cell;
+use serde_json::Value;
+use std::alloc::Global;
+
+#[tactic(auto, unfolding(crate::specs::EntryReading::act_in))]
+fn act(alloc: Global, value: &Value) -> Result<Option<Entry>, Memory>
+    ensures { IfOk result (λ o. o ≡ act_in (view value.now)) }
+{
+    let Some(user) = text_item(alloc, value, 1)? else {
+        return Ok(None);
+    };
+    let Some(group) = text_item(alloc, value, 2)? else {
+        return Ok(None);
+    };
+    let Some(client) = text_item(alloc, value, 3)? else {
+        return Ok(None);
+    };
+    let Some(id) = num_item(value, 4) else {
+        return Ok(None);
+    };
+    let Some(spelled) = value.get(5) else {
+        return Ok(None);
+    };
+    let Some(call) = call_of_value(alloc, spelled)? else {
+        return Ok(None);
+    };
+    Ok(Some(Entry::Act {
+        user,
+        group,
+        client,
+        id,
+        call,
+    }))
+}
+
+// The place of a base, or that there is none; `None` where it is neither null nor a place.
+fn place_or_null(value: &Value, place: usize) -> Option<Option<u32>>
+    ensures { result ≡ option_and_then (or_null place_in) (at place (view value.now)) }
+{
+    let item = value.get(place)?;
+    if item.is_null() {
+        Some(None)
+    } else {
+        Some(Some(place_of_value(item)?))
+    }
+}
+
+#[tactic(auto, unfolding(crate::specs::EntryReading::look_in))]
+fn look(alloc: Global, value: &Value) -> Result<Option<Entry>, Memory>
+    ensures { IfOk result (λ o. o ≡ look_in (view value.now)) }
+{
+    let Some(user) = text_item(alloc, value, 1)? else {
+        return Ok(None);
+    };
+    let Some(group) = text_item(alloc, value, 2)? else {
+        return Ok(None);
+    };
+    let Some(order) = num_item(value, 3) else {
+        return Ok(None);
+    };
+    let Some(base) = place_or_null(value, 4) else {
+        return Ok(None);
+    };
+    Ok(Some(Entry::Look {
+        user,
+        group,
+        order,
+        base,
+    }))
+}
+
+fn group_of(alloc: Global, value: &Value) -> Result<Option<Id>, Memory>
+    ensures { IfOk result (λ o. o ≡ text_item 1 128 1 (view value.now)) }
+{
+    text_item(alloc, value, 1)
+}
+
+// The entry of a name, from the items after it.
+fn entry_with(alloc: Global, name: &str, value: &Value) -> Result<Option<Entry>, Memory>
+    ensures { IfOk result (λ o. o ≡ entry_with name.now (view value.now)) }
+{
+    match name {
+        "act" => act(alloc, value),
+        "look" => look(alloc, value),
+        "retire" => Ok(group_of(alloc, value)?.map(|group| Entry::Retire { group })),
+        _ => Ok(None),
+    }
+}
+
+// The entry that a value is, from its name and the items that the name asks for.
+#[tactic(auto, unfolding(crate::specs::EntryReading::entry_in))]
+fn entry_of_value(alloc: Global, value: &Value) -> Result<Option<Entry>, Memory>
+    ensures { IfOk result (λ o. o ≡ entry_in (view value.now)) }
+{
+    match string_item(value, 0) {
+        Some(name) => entry_with(alloc, name, value),
+        None => Ok(None),
+    }
+}
+
+fn entry_of_body(alloc: Global, body: &[u8]) -> Result<Option<Entry>, Memory>
+    ensures { IfOk result (λ o. o ≡ body_entry body.now) }
+{
+    match read_json(alloc, body)? {
+        Some(value) => entry_of_value(alloc, &value),
+        None => Ok(None),
+    }
+}
+
+/// The entry whose cell this is, at its place, from 1. Any other cell is `BadCell`.
+pub fn entry_of_cell(alloc: Global, cell: &Cell) -> Result<(u32, Entry), CellFault>
+    ensures reads { Reads (λ e. entry_cell e.0 e.1) PlacedFits cell.now result }
+    ensures place { IfOk result (λ e. 1 ≤ e.0) }
+{
+    let Some(place) = place_of_key(cell.key.as_slice()) else {
+        return Err(bad_cell(alloc, cell));
+    };
+    let Some(entry) = entry_of_body(alloc, cell.body.as_slice())? else {
+        return Err(bad_cell(alloc, cell));
+    };
+    let again = cell_of_entry(alloc, place, &entry)?;
+    if is_same(cell, &again) {
+        Ok((place, entry))
+    } else {
+        Err(bad_cell(alloc, cell))
+    }
+}

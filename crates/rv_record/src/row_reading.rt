@@ -1,0 +1,59 @@
+ghost use Rattle.std.specs.Prelude.{◌≡◌, IfOk};
+ghost use Rattle.serde_json.specs.View.{view};
+ghost use Rattle.rv_rows.specs.RowTexts.{row_in};
+ghost use Rattle.rv_record.specs.CellTexts.{row_cell};
+ghost use Rattle.rv_record.specs.CellReading.{Reads};
+ghost use Rattle.rv_record.specs.RowReading.{RowFits, row_cell_in};
+
+use crate::cells::cell_of_row;
+use crate::fault::{CellFault, bad_cell};
+use crate::json_reading::read_json;
+use crate::same_cell::is_same;
+use crate::value_reading::place_item;
+use rv_base::Memory;
+use rv_keeper::Cell;
+use rv_rows::{Row, read_row};
+use serde_json::Value;
+use std::alloc::Global;
+
+// The row that a value is, where it is exactly the value of one.
+fn row_of_value(alloc: Global, value: &Value) -> Result<Option<Row>, Memory>
+    ensures { IfOk result (λ o. o ≡ row_in (view value.now)) }
+{
+    read_row(alloc, value)
+}
+
+// What the cell is of, if it is a row's.
+#[tactic(auto, unfolding(crate::specs::RowReading::row_cell_in))]
+fn row_in(alloc: Global, cell: &Cell) -> Result<Option<(Row, u32)>, Memory>
+    ensures { IfOk result (λ o. o ≡ row_cell_in cell.now) }
+{
+    let Some(body) = read_json(alloc, cell.body.as_slice())? else {
+        return Ok(None);
+    };
+    let Some(version) = place_item(&body, 0) else {
+        return Ok(None);
+    };
+    let Some(value) = body.get(1) else {
+        return Ok(None);
+    };
+    let Some(row) = row_of_value(alloc, value)? else {
+        return Ok(None);
+    };
+    Ok(Some((row, version)))
+}
+
+/// The row whose cell this is, with its version. Any other cell is `BadCell`.
+pub fn row_of_cell(alloc: Global, cell: &Cell) -> Result<(Row, u32), CellFault>
+    ensures { Reads (λ r. row_cell r.0 r.1) RowFits cell.now result }
+{
+    let Some(made) = row_in(alloc, cell)? else {
+        return Err(bad_cell(alloc, cell));
+    };
+    let again = cell_of_row(alloc, &made.0, made.1)?;
+    if is_same(cell, &again) {
+        Ok(made)
+    } else {
+        Err(bad_cell(alloc, cell))
+    }
+}

@@ -1,0 +1,88 @@
+// The items of a JSON array, and the text of a key.
+ghost use Rattle.std.specs.Prelude.{◌≡◌, IfOk, option_map};
+ghost use Rattle.serde_json.specs.View.{view};
+ghost use Rattle.rv_rows.specs.Members.{within};
+ghost use Rattle.rv_record.specs.ValueReading.{text_of, string_item, text_item, num_item, place_in, place_item, flag_item};
+
+use rv_base::{Bounded, Memory, Num, TextRefusal};
+use rv_rows::{num_of_value, text_of_value};
+use serde_json::Value;
+use std::alloc::Global;
+
+// The text, where it is within the bounds.
+fn text_within<const MIN: usize, const MAX: usize>(
+    alloc: Global,
+    text: &str,
+) -> Result<Option<Bounded<MIN, MAX>>, Memory>
+    ensures { IfOk result (λ o. o ≡ within MIN MAX text.now) }
+{
+    match Bounded::new(alloc, text) {
+        Ok(text) => Ok(Some(text)),
+        Err(TextRefusal::Memory) => Err(Memory),
+        Err(_) => Ok(None),
+    }
+}
+
+// The text that the bytes are, where they are UTF-8 and it is within the bounds.
+#[tactic(auto, using(crate::proofs::Texts::text_some, crate::proofs::Texts::text_none))]
+pub(crate) fn text_of_bytes<const MIN: usize, const MAX: usize>(
+    alloc: Global,
+    bytes: &[u8],
+) -> Result<Option<Bounded<MIN, MAX>>, Memory>
+    ensures { IfOk result (λ o. o ≡ text_of MIN MAX bytes.now) }
+{
+    match str::from_utf8(bytes) {
+        Ok(text) => text_within(alloc, text),
+        Err(_) => Ok(None),
+    }
+}
+
+// The text at a place of an array, from 0, of any length, where it is there.
+pub(crate) fn string_item(value: &Value, place: usize) -> Option<&str>
+    ensures { option_map (λ s. s.now) result ≡ string_item place (view value.now) }
+{
+    value.get(place).and_then(Value::as_str)
+}
+
+// The text at a place of an array, from 0, where it is there and within the bounds.
+pub(crate) fn text_item<const MIN: usize, const MAX: usize>(
+    alloc: Global,
+    value: &Value,
+    place: usize,
+) -> Result<Option<Bounded<MIN, MAX>>, Memory>
+    ensures { IfOk result (λ o. o ≡ text_item MIN MAX place (view value.now)) }
+{
+    match value.get(place) {
+        None => Ok(None),
+        Some(item) => text_of_value(alloc, item),
+    }
+}
+
+// The number at a place of an array, from 0, where it is there and is a `Num`.
+pub(crate) fn num_item(value: &Value, place: usize) -> Option<Num>
+    ensures { result ≡ num_item place (view value.now) }
+{
+    num_of_value(value.get(place)?)
+}
+
+// The place or version that a value is, where it is a whole number up to 2^32 - 1.
+pub(crate) fn place_of_value(value: &Value) -> Option<u32>
+    ensures { result ≡ place_in (view value.now) }
+{
+    let number = value.as_u64()?;
+    u32::try_from(number).ok()
+}
+
+// The place or version at a place of an array, from 0, where it is there and is one.
+pub(crate) fn place_item(value: &Value, place: usize) -> Option<u32>
+    ensures { result ≡ place_item place (view value.now) }
+{
+    place_of_value(value.get(place)?)
+}
+
+// The flag at a place of an array, from 0, where it is there.
+pub(crate) fn flag_item(value: &Value, place: usize) -> Option<bool>
+    ensures { result ≡ flag_item place (view value.now) }
+{
+    value.get(place)?.as_bool()
+}

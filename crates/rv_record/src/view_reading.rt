@@ -1,0 +1,191 @@
+ghost use Rattle.std.specs.Prelude.{◌≡◌, ◌≤◌, IfOk, option_map, option_and_then};
+ghost use Rattle.serde_json.specs.Find.{at, as_array};
+ghost use Rattle.serde_json.specs.View.{view, items_view};
+ghost use Rattle.rv_views.specs.Viewed.{seen_key, client_of_pair};
+ghost use Rattle.rv_record.specs.CellTexts.{view_cell};
+ghost use Rattle.rv_record.specs.CellReading.{Reads};
+ghost use Rattle.rv_record.specs.ViewReading.{ViewFits, seen_in, pair_in, each_item, each_of, is_in_order, viewed, view_in, body_view};
+
+use crate::cells::cell_of_view;
+use crate::fault::{CellFault, bad_cell};
+use crate::json_reading::read_json;
+use crate::key_reading::key_of_text;
+use crate::place_reading::place_of_key;
+use crate::same_cell::is_same;
+use crate::value_reading::{num_item, place_item, string_item, text_item};
+use rv_base::{Id, Memory, Num, Sequence};
+use rv_keeper::Cell;
+use rv_rows::{Clients, Key, Visible};
+use rv_views::{ViewRecord, record_now};
+use serde_json::Value;
+use std::alloc::Global;
+use std::cmp::Ordering;
+
+// The key and the version that an item of the first list is.
+#[tactic(auto, unfolding(crate::specs::ViewReading::seen_in))]
+fn seen_of_value(alloc: Global, value: &Value) -> Result<Option<(Key, u32)>, Memory>
+    ensures { IfOk result (λ o. o ≡ seen_in (view value.now)) }
+{
+    let Some(text) = string_item(value, 0) else {
+        return Ok(None);
+    };
+    let Some(key) = key_of_text(alloc, text.as_bytes())? else {
+        return Ok(None);
+    };
+    let Some(version) = place_item(value, 1) else {
+        return Ok(None);
+    };
+    Ok(Some((key, version)))
+}
+
+// The client and its last mutation id that an item of the second list is.
+#[tactic(auto, unfolding(crate::specs::ViewReading::pair_in))]
+fn pair_of_value(alloc: Global, value: &Value) -> Result<Option<(Id, Num)>, Memory>
+    ensures { IfOk result (λ o. o ≡ pair_in (view value.now)) }
+{
+    let Some(client) = text_item(alloc, value, 0)? else {
+        return Ok(None);
+    };
+    let Some(last) = num_item(value, 1) else {
+        return Ok(None);
+    };
+    Ok(Some((client, last)))
+}
+
+// What each item is, where each is a key and a version.
+fn seen_of_values(alloc: Global, values: &[Value]) -> Result<Option<Vec<(Key, u32)>>, Memory>
+    ensures { IfOk result (λ o. option_map (λ v. v.items) o ≡ each_item seen_in (items_view values.now)) }
+{
+    let mut rows = Vec::new(alloc);
+    for value in values {
+        match seen_of_value(alloc, value)? {
+            Some(row) => rows.push(row)?,
+            None => return Ok(None),
+        }
+    }
+    Ok(Some(rows))
+}
+
+// What each item is, where each is a client and its last mutation id.
+fn pairs_of_values(alloc: Global, values: &[Value]) -> Result<Option<Vec<(Id, Num)>>, Memory>
+    ensures { IfOk result (λ o. option_map (λ v. v.items) o ≡ each_item pair_in (items_view values.now)) }
+{
+    let mut clients = Vec::new(alloc);
+    for value in values {
+        match pair_of_value(alloc, value)? {
+            Some(client) => clients.push(client)?,
+            None => return Ok(None),
+        }
+    }
+    Ok(Some(clients))
+}
+
+// The items of the array at a place.
+fn array_item(value: &Value, place: usize) -> Option<&[Value]>
+    ensures { option_map (λ s. items_view s.now) result ≡ option_and_then as_array (at place (view value.now)) }
+{
+    let items = value.get(place)?.as_array()?;
+    Some(items.as_slice())
+}
+
+fn rows_of_value(alloc: Global, value: &Value) -> Result<Option<Vec<(Key, u32)>>, Memory>
+    ensures { IfOk result (λ o. option_map (λ v. v.items) o ≡ each_of seen_in 0 (view value.now)) }
+{
+    match array_item(value, 0) {
+        Some(values) => seen_of_values(alloc, values),
+        None => Ok(None),
+    }
+}
+
+fn clients_of_value(alloc: Global, value: &Value) -> Result<Option<Vec<(Id, Num)>>, Memory>
+    ensures { IfOk result (λ o. option_map (λ v. v.items) o ≡ each_of pair_in 1 (view value.now)) }
+{
+    match array_item(value, 1) {
+        Some(values) => pairs_of_values(alloc, values),
+        None => Ok(None),
+    }
+}
+
+// Whether each key is below the next.
+fn are_seen(rows: &[(Key, u32)]) -> bool
+    ensures { result ≡ is_in_order seen_key rows.now }
+{
+    for i in 1..rows.len() {
+        match rows[i - 1].0.compare(&rows[i].0) {
+            Ordering::Less => {}
+            Ordering::Equal => return false,
+            Ordering::Greater => return false,
+        }
+    }
+    true
+}
+
+// Whether each client is below the next.
+fn are_clients(clients: &[(Id, Num)]) -> bool
+    ensures { result ≡ is_in_order client_of_pair clients.now }
+{
+    for i in 1..clients.len() {
+        match clients[i - 1].0.cmp(&clients[i].0) {
+            Ordering::Less => {}
+            Ordering::Equal => return false,
+            Ordering::Greater => return false,
+        }
+    }
+    true
+}
+
+// The record of two lists, where they are in order.
+fn record_of_lists(
+    rows: Vec<(Key, u32)>,
+    clients: Vec<(Id, Num)>,
+) -> Result<Option<ViewRecord>, Memory>
+    ensures { IfOk result (λ o. o ≡ viewed rows.items clients.items) }
+{
+    if !are_seen(&rows) || !are_clients(&clients) {
+        return Ok(None);
+    }
+    let made = record_now(Sequence::from_vec(rows), Sequence::from_vec(clients))?;
+    Ok(Some(made))
+}
+
+// The view record that a value is.
+#[tactic(auto, unfolding(crate::specs::ViewReading::view_in))]
+fn view_of_value(alloc: Global, value: &Value) -> Result<Option<ViewRecord>, Memory>
+    ensures { IfOk result (λ o. o ≡ view_in (view value.now)) }
+{
+    let Some(rows) = rows_of_value(alloc, value)? else {
+        return Ok(None);
+    };
+    let Some(clients) = clients_of_value(alloc, value)? else {
+        return Ok(None);
+    };
+    record_of_lists(rows, clients)
+}
+
+fn view_of_body(alloc: Global, body: &[u8]) -> Result<Option<ViewRecord>, Memory>
+    ensures { IfOk result (λ o. o ≡ body_view body.now) }
+{
+    match read_json(alloc, body)? {
+        Some(value) => view_of_value(alloc, &value),
+        None => Ok(None),
+    }
+}
+
+/// The kept view record whose cell this is, at the place of its look, from 1. Any other cell is `BadCell`.
+pub fn view_of_cell(alloc: Global, cell: &Cell) -> Result<(u32, ViewRecord), CellFault>
+    ensures reads { Reads (λ v. view_cell v.0 v.1) ViewFits cell.now result }
+    ensures place { IfOk result (λ v. 1 ≤ v.0) }
+{
+    let Some(place) = place_of_key(cell.key.as_slice()) else {
+        return Err(bad_cell(alloc, cell));
+    };
+    let Some(view) = view_of_body(alloc, cell.body.as_slice())? else {
+        return Err(bad_cell(alloc, cell));
+    };
+    let again = cell_of_view(alloc, place, &view)?;
+    if is_same(cell, &again) {
+        Ok((place, view))
+    } else {
+        Err(bad_cell(alloc, cell))
+    }
+}
