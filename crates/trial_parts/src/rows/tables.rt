@@ -1,4 +1,6 @@
 // Commands of the tables.
+ghost use Rattle.std.specs.Prelude.{◌<◌, length, IfSome};
+
 use crate::rows::fields::row_of_json;
 use crate::rows::state::{State, key_of};
 use crate::rows::told::{
@@ -11,7 +13,9 @@ use rv_rows::{Key, Row};
 use std::alloc::Global;
 
 // Where the row with the key of this one stands.
-fn place_of(rows: &[Row], row: &Row) -> Option<usize> {
+fn place_of(rows: &[Row], row: &Row) -> Option<usize>
+    ensures { IfSome result (λ at. at < length rows.now) }
+{
     for at in 0..rows.len() {
         if rows[at].kind() == row.kind() && rows[at].id() == row.id() {
             return Some(at);
