@@ -2,15 +2,16 @@
 //!
 //! A line `=== SUBJECT` begins the cases of `values` (texts and numbers within bounds, sources and sinks, the keeper in memory
 //! and command lines), `rows` (rows, who sees them and what calls make of them), `books` (books and what is looked up in them,
-//! records of views and what changes between two), `bodies` (bodies of requests, calls, answers and refusals) or `cells` (what
-//! a book is kept as). A line `== NAME` begins a case, with nothing made yet. A line that begins with `#` is none. Any other
-//! line is a command, in which `«N TEXT»` stands for the text N times.
+//! records of views and what changes between two), `bodies` (bodies of requests, calls, answers and refusals), `cells` (what a
+//! book is kept as) or `read cells` (the same, read back). A line `== NAME` begins a case, with nothing made yet. A line that
+//! begins with `#` is none. Any other line is a command, in which `«N TEXT»` stands for the text N times.
 #![tactic(auto)]
 
 mod bodies;
 mod books;
 mod cells;
 mod lines;
+mod read_cells;
 mod rows;
 mod texts;
 mod values;
@@ -26,6 +27,7 @@ enum Subject {
     Books,
     Bodies,
     Cells,
+    ReadCells,
 }
 
 fn subject_of(name: &str) -> Option<Subject> {
@@ -35,6 +37,7 @@ fn subject_of(name: &str) -> Option<Subject> {
         "books" => Some(Subject::Books),
         "bodies" => Some(Subject::Bodies),
         "cells" => Some(Subject::Cells),
+        "read cells" => Some(Subject::ReadCells),
         _ => None,
     }
 }
@@ -71,6 +74,7 @@ fn printed(alloc: Global, parts: &mut Parts, line: &str) -> Result<Option<String
         Subject::Books => books::command(alloc, &mut parts.books, word, rest),
         Subject::Bodies => bodies::command(alloc, &mut parts.bodies, word, rest),
         Subject::Cells => cells::command(alloc, word, rest),
+        Subject::ReadCells => read_cells::command(alloc, word, rest),
     }
 }
 
