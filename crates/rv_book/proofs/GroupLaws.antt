@@ -23,7 +23,7 @@ unfolding group_of_row
 group_of_row-before book e row lt = ap (λ (o : Option Entry). option_map_or named_in o []) (sym (at_before book e row.named lt))
 
 -- the row of a group, by the index of an entry that names it
-abbrev row_at : Book → List ℕ → ℕ → GroupRow
+abbrev pub row_at : Book → List ℕ → ℕ → GroupRow
 row_at book k index = record { named = index; bound = first_where (binds k) book; order = last_order k book; looks = count_by (is_look_of k) book; last_look = last_look k book; retired = retired k book }
 
 -- what an entry leaves as it is where it names another group

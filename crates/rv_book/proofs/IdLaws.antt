@@ -96,7 +96,7 @@ find_ids k group book =
 abbrev pair_of : Book → ClientRow → Pair
 pair_of book row = (client_of_row book row, row.acts)
 
-first_at : (p : Entry → Bool) (book : Book) (i : ℕ) → first_where p book ≡ Some i → (e : Entry) × (slice_get book i ≡ Some e) × (p e ≡ true)
+pub first_at : (p : Entry → Bool) (book : Book) (i : ℕ) → first_where p book ≡ Some i → (e : Entry) × (slice_get book i ≡ Some e) × (p e ≡ true)
 first_at p [] i h = absurd (cc)
 first_at p (x ∷ book) i h =
     elim (p x) as (λ b. p x ≡ b → cond b (Some 0) (option_map suc (first_where p book)) ≡ Some i → (e : Entry) × (slice_get (x ∷ book) i ≡ Some e) × (p e ≡ true)) [
@@ -130,7 +130,7 @@ row_names c book row is =
         )
 
 -- each item of items in order is what is found at its key
-finds_itself : {X : Type 0} (key : X → List ℕ) (xs : List X) → InOrder key xs → AllByRecursion (λ x. find_by key (key x) xs ≡ Some x) xs
+pub finds_itself : {X : Type 0} (key : X → List ℕ) (xs : List X) → InOrder key xs → AllByRecursion (λ x. find_by key (key x) xs ≡ Some x) xs
 finds_itself key [] sorted = tt
 finds_itself {X} key (x ∷ xs) sorted = (rw (equals (key x)) refl, after xs sorted.0 (finds_itself key xs sorted.1))
   where
@@ -138,7 +138,7 @@ finds_itself {X} key (x ∷ xs) sorted = (rw (equals (key x)) refl, after xs sor
     after [] all h = tt
     after (y ∷ ys) all h = (rw (differs_back (key x) (key y) all.0) h.0, after ys all.1 h.1)
 
-all_weaker : {X : Type 0} (P Q : X → Type 0) (xs : List X) → ((x : X) → P x → Q x) → AllByRecursion P xs → AllByRecursion Q xs
+pub all_weaker : {X : Type 0} (P Q : X → Type 0) (xs : List X) → ((x : X) → P x → Q x) → AllByRecursion P xs → AllByRecursion Q xs
 all_weaker P Q [] each h = tt
 all_weaker P Q (x ∷ xs) each h = (each x h.0, all_weaker P Q xs each h.1)
 

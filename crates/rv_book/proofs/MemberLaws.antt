@@ -8,10 +8,10 @@ use Rattle.std.proofs.lemmas.Option.{none-some, same_Some}
 use Rattle.rv_base.specs.Sorted.{Settles}
 use Rattle.rv_base.specs.Places.{equals}
 use Rattle.rv_book.specs.declared.entry.Entry.{Entry}
-use Rattle.rv_book.specs.declared.entry.Entry.TheVariants.{Act, Look, Retire}
 use Rattle.rv_book.specs.declared.clients.ClientRow.{ClientRow}
 use Rattle.rv_book.specs.Book.{Book, size, with_entry, is_act_of, group_of}
 use Rattle.rv_book.specs.BookWords.{at_before, at_end, size-with_entry}
+use Rattle.rv_book.specs.RegisterLaws.{group_of-with_entry}
 use Rattle.rv_book.specs.Indexes.{actor, client_of_row, client_row}
 use Rattle.rv_book.specs.Members.{member_key, client_of_key, acting_group, group_of_member, key_of_member, row_with_key, member_row, AreMemberRows}
 use Rattle.rv_book.proofs.IndexLaws.{index-same, index-again, index-first, Changes}
@@ -22,19 +22,6 @@ pub key-before : (book : Book) (e : Entry) (row : ClientRow) → row.first < siz
 unfolding group_of_member
 key-before book e row lt =
     (λ i. member_key (ap (λ (o : Option Entry). option_map_or acting_group o []) (sym (at_before book e row.first lt)) i) (client_of_row-before book e row lt i))
-
--- the group of a client after one more entry
-pub group_of-push : (c : List ℕ) (book : Book) (e : Entry) → group_of c (with_entry book e) ≡ option_or (group_of c book) (cond (is_act_of c e) (Some (acting_group e)) None)
-group_of-push c [] (Act user group client id call) = elim (bytes_eq client c) as (λ b. cond b (Some group) None ≡ cond b (Some group) None) [ true ↦ refl | false ↦ refl ]
-group_of-push c [] (Look user group order base) = refl
-group_of-push c [] (Retire group) = refl
-group_of-push c (Act user group client id call ∷ book) e =
-    elim (bytes_eq client c) as (λ b. cond b (Some group) (group_of c (with_entry book e)) ≡ option_or (cond b (Some group) (group_of c book)) (cond (is_act_of c e) (Some (acting_group e)) None)) [
-      | true ↦ refl
-      | false ↦ group_of-push c book e
-    ]
-group_of-push c (Look user group order base ∷ book) e = group_of-push c book e
-group_of-push c (Retire group ∷ book) e = group_of-push c book e
 
 pub no_members : AreMemberRows [] []
 unfolding member_row
@@ -47,7 +34,7 @@ or_none (Some x) = refl
 -- the row of a client without an act in the entry
 same_row : (book : Book) (e : Entry) (k c : List ℕ) → is_act_of c e ≡ false → row_with_key k (with_entry book e) c ≡ row_with_key k book c
 same_row book e k c other =
-    let group : group_of c (with_entry book e) ≡ group_of c book = group_of-push c book e ∙ ap (λ (b : Bool). option_or (group_of c book) (cond b (Some (acting_group e)) None)) other ∙ or_none (group_of c book) in
+    let group : group_of c (with_entry book e) ≡ group_of c book = group_of-with_entry c book e ∙ ap (λ (b : Bool). option_or (group_of c book) (cond b (Some (acting_group e)) None)) other ∙ or_none (group_of c book) in
     let row : client_row (with_entry book e) c ≡ client_row book c = client_row-push book e c ∙ ap (λ (b : Bool). cond b (Some (one_more (size book) (client_row book c))) (client_row book c)) other in
     (λ i. option_and_then (λ g. cond (bytes_eq k (member_key g c)) (row i) None) (group i))
 
@@ -61,7 +48,7 @@ members-same book e rows other h =
 -- a client that had a group keeps it
 keeps_group : (c : List ℕ) (book : Book) (e : Entry) (was now : List ℕ) → group_of c book ≡ Some was → group_of c (with_entry book e) ≡ Some now → was ≡ now
 keeps_group c book e was now before after =
-    same_Some was now (ap (λ (o : Option (List ℕ)). option_or o (cond (is_act_of c e) (Some (acting_group e)) None)) (sym before) ∙ sym (group_of-push c book e) ∙ after)
+    same_Some was now (ap (λ (o : Option (List ℕ)). option_or o (cond (is_act_of c e) (Some (acting_group e)) None)) (sym before) ∙ sym (group_of-with_entry c book e) ∙ after)
 
 -- the row of the client of an act
 more_row : (book : Book) (e : Entry) (k c g : List ℕ) → is_act_of c e ≡ true → group_of c (with_entry book e) ≡ Some g
@@ -94,7 +81,7 @@ row_at_key book c g is =
 own_group : (book : Book) (e : Entry) (c g : List ℕ) → is_act_of c e ≡ true → group_of c (with_entry book e) ≡ Some g → member_row book (member_key g c) ≡ None → acting_group e ≡ g
 own_group book e c g is now none =
     elim (group_of c book) as (λ o. group_of c book ≡ o → acting_group e ≡ g) [
-      | None ↦ λ f. same_Some (acting_group e) g ((λ i. option_or (sym f i) (cond (sym is i) (Some (acting_group e)) None)) ∙ sym (group_of-push c book e) ∙ now)
+      | None ↦ λ f. same_Some (acting_group e) g ((λ i. option_or (sym f i) (cond (sym is i) (Some (acting_group e)) None)) ∙ sym (group_of-with_entry c book e) ∙ now)
       | Some was ↦ λ f. absurd (none-some was (sym (no_group c book (sym (row_at_key book c g (f ∙ ap Some (keeps_group c book e was g f now))) ∙ none)) ∙ f))
     ] refl
 

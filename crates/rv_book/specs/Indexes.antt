@@ -52,6 +52,16 @@ client_row book client = option_map (row_from book client) (first_where (is_act_
 abbrev pub AreClientRows : Book → List ClientRow → Type 0
 AreClientRows book rows = IsIndex (client_of_row book) (λ row. row.first) (size book) (client_row book) rows
 
+-- the client of an act, the act's group, and a number of acts
+abbrev pub acting_with : ℕ → Entry → Option (List ℕ × List ℕ × ℕ)
+acting_with acts (Act user group client id call) = Some (client, group, acts)
+acting_with acts (Look user group order base) = None
+acting_with acts (Retire group) = None
+
+-- what a row tells of its client, by the act that it names
+abbrev pub told_by_client : Book → ClientRow → Option (List ℕ × List ℕ × ℕ)
+told_by_client book row = option_and_then (acting_with row.acts) (slice_get book row.first)
+
 -- the group that an entry names
 abbrev pub named_in : Entry → List ℕ
 named_in (Act user group client id call) = group
@@ -94,6 +104,14 @@ row_after index (Retire group) row = record { named = row.named; bound = row.bou
 -- the rows are those of the groups that the book's entries name
 abbrev pub AreGroupRows : Book → List GroupRow → Type 0
 AreGroupRows book rows = IsIndex (group_of_row book) (λ row. row.named) (size book) (group_row book) rows
+
+-- the user of a row: that of the act or look that binds its group
+abbrev pub user_of_row : Book → GroupRow → Option (List ℕ)
+user_of_row book row = option_and_then (λ index. option_and_then user_of (slice_get book index)) row.bound
+
+-- what a row tells of its group, by the entry that it names, where the group is bound
+abbrev pub told_by_group : Book → GroupRow → Option (List ℕ × List ℕ × ℕ × Bool)
+told_by_group book row = option_and_then (λ entry. option_map (λ user. (named_in entry, user, row.order, row.retired)) (user_of_row book row)) (slice_get book row.named)
 
 -- of a look at an index: its number among the looks of its group, from 1; and 0 of another entry
 unfoldable pub number_at : ℕ → Book → ℕ

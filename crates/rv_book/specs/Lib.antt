@@ -7,3 +7,5 @@ pub mod Recorded
 pub mod Indexes
 pub mod Members
 pub mod Indexed
+pub mod Registers
+pub mod RegisterLaws

@@ -1,14 +1,15 @@
-ghost use Rattle.std.specs.Prelude.{◌≡◌, ◌≤◌, ◌<◌, ◌+◌, ◌^◌, [], ◌↔◌, IsTrue, option_map, IfOk, OnOk, Err, IfSome};
+ghost use Rattle.std.specs.Prelude.{◌≡◌, ◌≤◌, ◌<◌, ◌+◌, ◌^◌, [], ◌↔◌, IsTrue, option_map, IfOk, OnOk, Err, IfSome, slice_get};
 ghost use Rattle.std.specs.Option.{option_map_or};
 ghost use Rattle.rv_base.specs.Sorted.{InOrder};
 ghost use Rattle.rv_book.specs.Book.{bound, entry_at, group_of, ids, last, last_order, retired, size, with_entry};
 ghost use Rattle.rv_book.specs.Kept.{falls_out, kept, last_look, look_at, look_before};
+ghost use Rattle.rv_book.specs.Registers.{clients_of, groups_of, RetiresBound};
 ghost use Rattle.rv_book.specs.declared.fault.BookFault.TheVariants as BookFault;
 
-use crate::clients::{ClientRef, ClientRow};
+use crate::clients::{ClientRef, ClientRow, ClientTold};
 use crate::entry::{Entry, entry_at};
 use crate::fault::BookFault;
-use crate::groups::{GroupRef, GroupRow};
+use crate::groups::{GroupRef, GroupRow, GroupTold};
 use crate::look::{LookMark, LookRef, look_at};
 use crate::{clients, groups, look, members};
 use rv_base::{Id, Memory, Num, User};
@@ -138,6 +139,24 @@ impl Book {
         ensures bound { IfSome result (λ told. told.last ≤ size self.now.entries) }
     {
         clients::told(&self.entries, &self.clients, client)
+    }
+
+    /// The client at an index, from 0, of the clients that have an act, in the order of their bytes; `None` from their number
+    /// on. It takes no memory, and the time of one look-up by index, however long the book is.
+    pub fn client_at(&self, index: u32) -> Option<ClientTold<'_>>
+        ensures { option_map (λ told. (told.client.now, told.group.now, told.last)) result ≡ slice_get (clients_of self.now.entries) index }
+    {
+        clients::told_at(&self.entries, &self.clients, index)
+    }
+
+    /// The group at an index, from 0, of the groups that an act or a look names, in the order of their bytes; `None` from their
+    /// number on. It takes no memory, and the time of one look-up by index, however long the book is. Each group that is retired
+    /// has to be named by an act or a look, as it is in every book that the machine makes.
+    pub fn group_at(&self, index: u32) -> Option<GroupTold<'_>>
+        requires { RetiresBound self.now.entries }
+        ensures { option_map (λ told. (told.group.now, told.user.now, told.last_order, told.retired)) result ≡ slice_get (groups_of self.now.entries) index }
+    {
+        groups::told_at(&self.entries, &self.groups, index)
     }
 
     /// The clients of a group with their last mutation ids, in the order of the clients' bytes.

@@ -3,7 +3,8 @@ ghost use Rattle.std.specs.Option.{option_map_or};
 ghost use Rattle.rv_base.specs.Sorted.{Settles};
 ghost use Rattle.rv_book.specs.declared.entry.Entry.{Entry};
 ghost use Rattle.rv_book.specs.Book.{group_of, is_act_of, last, size, with_entry};
-ghost use Rattle.rv_book.specs.Indexes.{acted_in, AreClientRows, client_of_row, client_row, first_where};
+ghost use Rattle.rv_book.specs.Indexes.{acted_in, AreClientRows, client_of_row, client_row, first_where, told_by_client};
+ghost use Rattle.rv_book.specs.Registers.{clients_of};
 
 use crate::entry::Entry;
 use rv_base::{Id, Num};
@@ -14,6 +15,17 @@ pub struct ClientRef<'a> {
     /// The group of the client's first act.
     pub group: &'a Id,
     /// The client's last mutation id.
+    pub last: Num,
+}
+
+/// A client that has an act in the book, with its name.
+#[derive(Clone, Copy, Debug)]
+pub struct ClientTold<'a> {
+    /// The client.
+    pub client: &'a Id,
+    /// The group of the client's first act.
+    pub group: &'a Id,
+    /// The client's last mutation id, which is the number of its acts.
     pub last: Num,
 }
 
@@ -123,6 +135,33 @@ pub(crate) fn told<'b>(
         },
         None => None,
     }
+}
+
+// What a row tells of its client, by the act that it names.
+fn told_by<'b>(entries: &'b [Entry], row: &ClientRow) -> Option<ClientTold<'b>>
+    ensures { option_map (λ told. (told.client.now, told.group.now, told.last)) result ≡ told_by_client entries.now row.now }
+{
+    match entries.get(row.first as usize)? {
+        Entry::Act { client, group, .. } => Some(ClientTold {
+            client,
+            group,
+            last: Num::from_u64(row.acts as u64),
+        }),
+        Entry::Look { .. } => None,
+        Entry::Retire { .. } => None,
+    }
+}
+
+// The client at an index, from 0, of those that have an act, in the order of their bytes.
+pub(crate) fn told_at<'b>(
+    entries: &'b [Entry],
+    rows: &[ClientRow],
+    index: u32,
+) -> Option<ClientTold<'b>>
+    requires { AreClientRows entries.now rows.now }
+    ensures { option_map (λ told. (told.client.now, told.group.now, told.last)) result ≡ slice_get (clients_of entries.now) index }
+{
+    told_by(entries, rows.get(index as usize)?)
 }
 
 // Enters an act of a client, which follows the entries.

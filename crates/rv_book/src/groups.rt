@@ -3,7 +3,8 @@ ghost use Rattle.rv_base.specs.Sorted.{Settles};
 ghost use Rattle.rv_book.specs.declared.entry.Entry.{Entry};
 ghost use Rattle.rv_book.specs.Book.{bound, last_order, retired, size, with_entry};
 ghost use Rattle.rv_book.specs.Kept.{is_look_of, last_look};
-ghost use Rattle.rv_book.specs.Indexes.{AreGroupRows, binds, first_where, group_of_row, group_row, named_in, new_row, row_after, user_of};
+ghost use Rattle.rv_book.specs.Indexes.{AreGroupRows, binds, first_where, group_of_row, group_row, named_in, new_row, row_after, told_by_group, user_of, user_of_row};
+ghost use Rattle.rv_book.specs.Registers.{groups_of, RetiresBound};
 
 use crate::entry::Entry;
 use rv_base::{Id, Num, User};
@@ -17,6 +18,19 @@ pub struct GroupRef<'a> {
     pub retired: bool,
     /// The order of the group's last look, or 0.
     pub last_order: Num,
+}
+
+/// A client group that an act or a look of the book names, with its name.
+#[derive(Clone, Copy, Debug)]
+pub struct GroupTold<'a> {
+    /// The group.
+    pub group: &'a Id,
+    /// The user whom the group is bound to: that of the first act or look that names it.
+    pub user: &'a User,
+    /// The order of the group's last look, or 0.
+    pub last_order: Num,
+    /// Whether the group is retired.
+    pub retired: bool,
 }
 
 // Of a group that an entry names: the index of such an entry, the index of the first act or look of the group, the order of
@@ -141,7 +155,7 @@ fn user_at(entries: &[Entry], index: u32) -> Option<&User>
 
 // The user whom the group of a row is bound to.
 fn user_of<'b>(entries: &'b [Entry], row: &GroupRow) -> Option<&'b User>
-    ensures { option_map (λ user. user.now) result ≡ option_and_then (λ index. option_and_then user_of (slice_get entries.now index)) row.now.bound }
+    ensures { option_map (λ user. user.now) result ≡ user_of_row entries.now row.now }
 {
     match row.bound {
         Some(index) => user_at(entries, index),
@@ -170,6 +184,33 @@ pub(crate) fn told<'b>(entries: &'b [Entry], rows: &[GroupRow], group: &Id) -> G
         retired: row.retired,
         last_order: row.order,
     }
+}
+
+// What a row tells of its group, by the entry that it names, where the group is bound.
+fn told_by<'b>(entries: &'b [Entry], row: &GroupRow) -> Option<GroupTold<'b>>
+    ensures { option_map (λ told. (told.group.now, told.user.now, told.last_order, told.retired)) result ≡ told_by_group entries.now row.now }
+{
+    let entry = entries.get(row.named as usize)?;
+    let user = user_of(entries, row)?;
+    Some(GroupTold {
+        group: named(entry),
+        user,
+        last_order: row.order,
+        retired: row.retired,
+    })
+}
+
+// The group at an index, from 0, of those that an act or a look names, in the order of their bytes.
+pub(crate) fn told_at<'b>(
+    entries: &'b [Entry],
+    rows: &[GroupRow],
+    index: u32,
+) -> Option<GroupTold<'b>>
+    requires rows { AreGroupRows entries.now rows.now }
+    requires bound { RetiresBound entries.now }
+    ensures { option_map (λ told. (told.group.now, told.user.now, told.last_order, told.retired)) result ≡ slice_get (groups_of entries.now) index }
+{
+    told_by(entries, rows.get(index as usize)?)
 }
 
 // Enters an entry, which follows the others.

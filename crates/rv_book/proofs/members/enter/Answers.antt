@@ -3,7 +3,8 @@ use Rattle.std.specs.Option.{option_or}
 use Rattle.rv_base.specs.Places.{equals}
 use Rattle.rv_book.specs.Book.{is_act_of, group_of}
 use Rattle.rv_book.specs.Members.{acting_group}
-use Rattle.rv_book.proofs.MemberLaws.{members-same, group_of-push}
+use Rattle.rv_book.specs.RegisterLaws.{group_of-with_entry}
+use Rattle.rv_book.proofs.MemberLaws.{members-same}
 use Rattle.rv_book.proofs.members.enter.Goals as goal
 
 pub returns-in-Act-clause-rows : goal.returns-in-Act-clause-rows
@@ -13,7 +14,7 @@ returns-in-Act-clause-rows c =
     let client = c.in-Act.client in
     let acts : is_act_of client entry ≡ true = rw c.in-Act.is (equals client) in
     let group : acting_group entry ≡ c.in-Act.group = rw c.in-Act.is refl in
-    c.enter_act.ensures.rows entry acts (group_of-push client book entry ∙ (λ i. option_or (group_of client book) (cond (acts i) (Some (group i)) None)) ∙ sym c.group_with.ensures)
+    c.enter_act.ensures.rows entry acts (group_of-with_entry client book entry ∙ (λ i. option_or (group_of client book) (cond (acts i) (Some (group i)) None)) ∙ sym c.group_with.ensures)
 
 pub returns-in-Look-clause-rows : goal.returns-in-Look-clause-rows
 returns-in-Look-clause-rows c = members-same c.args.entries.now c.args.entry.now c.args.rows.now.items (λ k. rw c.in-Look.is refl) c.requires.rows
