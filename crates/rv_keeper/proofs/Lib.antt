@@ -1,1 +1,5 @@
+pub mod Joined
+pub mod Leaving
 pub mod Schedule
+pub mod Shelving
+pub mod MemoryStores

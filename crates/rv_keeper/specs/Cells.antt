@@ -37,8 +37,3 @@ pub record AreCells (cells : List Cell) : Type 0 where
 pub record AreChanges (changes : List Change) : Type 0 where
   pub distinct : Distinct change_key changes
   pub shelves : AllByRecursion (λ change. 0 < change_shelf change) changes
-
--- cells, and the room that there is beside them
-pub record Shelved : Type 0 where
-  pub cells : List Cell
-  pub spare : ℕ

@@ -1,3 +1,6 @@
 pub mod Cells
 pub mod Keeping
 pub mod Schedules
+pub mod Stores
+pub mod Shelving
+pub mod MemoryStores

@@ -1,6 +1,8 @@
 ghost use Rattle.std.specs.Prelude.{◌≡◌};
 ghost use Rattle.rv_keeper.specs.Schedules.{same_fails, fails_at};
 
+use rv_base::Sequence;
+
 /// A call at which a keeper in memory fails. Calls are counted from 1, those of each kind apart. A commit that is to fail
 /// before its changes and after them fails before them.
 #[derive(Clone, Copy, Debug, PartialEq, Eq)]
@@ -14,6 +16,9 @@ pub enum Fails {
     /// This question for the generation fails.
     Generation(u64),
 }
+
+/// The calls at which one keeper fails.
+pub type Schedule = Sequence<Fails>;
 
 impl Fails {
     // Whether both name the same call.

@@ -1,20 +1,18 @@
 // A keeper in memory, which fails at the calls of a schedule.
-ghost use Rattle.std.specs.Prelude.{◌≡◌, ◌≤◌, ◌<◌, ◌+◌, ◌-◌, ◌^◌, ◌||◌, ◌⊎◌, [], IfOk, IsOk, OnOk, OnErr, vec_len, is_err, if◌then◌else◌};
-ghost use Rattle.std.specs.List.{AllByRecursion};
+ghost use Rattle.std.specs.Prelude.{◌≡◌, ◌≤◌, ◌<◌, ◌+◌, ◌-◌, ◌^◌, ◌||◌, ◌⊎◌, [], IfOk, IsOk, OnOk, OnErr, is_err, if◌then◌else◌};
 ghost use Rattle.rv_base.specs.Causes.{Rose};
 ghost use Rattle.rv_keeper.specs.declared.fails.Fails.TheVariants as calls;
-ghost use Rattle.rv_keeper.specs.Cells.{AreCells, AreChanges, changed, changed_by, change_shelf};
+ghost use Rattle.rv_keeper.specs.Cells.{AreCells, AreChanges, changed};
 ghost use Rattle.rv_keeper.specs.Keeping.{Made, HasKeepCause, HasGenerationCause, KeepsSteady, holding};
 ghost use Rattle.rv_keeper.specs.Schedules.{fails_at, one_more, counted, is_strange, has_failed, FailsNoMore, IsLoad, IsCommit};
 
-use crate::cell::Cell;
 use crate::change::Change;
 use crate::fails::{Fails, fails_at};
 use crate::fault::KeepFault;
 use crate::keeper::Keeper;
-use crate::loaded::{Cells, Loaded};
+use crate::loaded::Loaded;
 use crate::shelves::Shelves;
-use rv_base::{Failed, Memory, Sequence};
+use rv_base::{Failed, Memory};
 use std::alloc::Global;
 
 /// Keeps cells and a generation in memory, and fails at the calls of a schedule. It tells what it holds.
@@ -42,7 +40,7 @@ pub struct MemoryKeeper {
 impl MemoryKeeper {
     /// A keeper that holds no cell, at generation 0.
     pub fn new(alloc: Global, schedule: Vec<Fails>) -> Self
-        ensures cells { result.shelves.cells ≡ [] }
+        ensures cells { result.shelves ≡ [] }
         ensures generation { result.generation ≡ 0 }
         ensures schedule { result.schedule.items ≡ schedule.items }
         ensures calls { (result.loads ≡ 0) × (result.questions ≡ 0) × (result.commits ≡ 0) }
@@ -53,7 +51,7 @@ impl MemoryKeeper {
 
     /// A keeper that holds the cells of these shelves, at this generation.
     pub fn with(alloc: Global, schedule: Vec<Fails>, shelves: Shelves, generation: u64) -> Self
-        ensures cells { result.shelves.cells ≡ shelves.cells }
+        ensures cells { result.shelves ≡ shelves }
         ensures generation { result.generation ≡ generation }
         ensures schedule { result.schedule.items ≡ schedule.items }
         ensures calls { (result.loads ≡ 0) × (result.questions ≡ 0) × (result.commits ≡ 0) }
@@ -87,17 +85,15 @@ impl MemoryKeeper {
         self.faults = self.faults.saturating_add(1);
     }
 
-    // Makes the changes: first what may want for memory, then what can't fail.
+    // Makes the changes.
     fn make(&mut self, from: u64, changes: &[Change]) -> Result<(), Memory>
         requires from { from < 2 ^ 64 - 1 }
         requires changes { AreChanges changes.now }
         ensures rest { self.new ≡ record self.old { shelves = self.new.shelves; generation = self.new.generation } }
-        ensures ok { OnOk result ((self.new.shelves.cells ≡ changed self.old.shelves.cells changes.now) × (self.new.generation ≡ from + 1)) }
-        ensures err { OnErr result ((self.new.shelves.cells ≡ self.old.shelves.cells) × (self.new.generation ≡ self.old.generation)) }
+        ensures ok { OnOk result ((self.new.shelves ≡ changed self.old.shelves changes.now) × (self.new.generation ≡ from + 1)) }
+        ensures err { OnErr result ((self.new.shelves ≡ self.old.shelves) × (self.new.generation ≡ self.old.generation)) }
     {
-        let changes = copies_of_changes(self.alloc, changes)?;
-        self.shelves.reserve(changes.len())?;
-        apply(&mut self.shelves, changes);
+        self.shelves.make(self.alloc, changes)?;
         self.generation = from + 1;
         Ok(())
     }
@@ -107,7 +103,7 @@ impl Keeper for MemoryKeeper {
     // It tells whatever comes.
     ghost tells = { λ s. Unit {0} };
 
-    ghost holds = { λ s held. held ≡ holding s.shelves.cells s.generation };
+    ghost holds = { λ s held. held ≡ holding s.shelves s.generation };
 
     ghost faults = { λ s. s.faults };
 
@@ -123,10 +119,10 @@ impl Keeper for MemoryKeeper {
     #[tactic(auto, using(crate::proofs::Schedule::next_load))]
     fn load(&mut self) -> Result<Loaded, KeepFault>
         ensures order { IfOk result (λ loaded. AreCells loaded.cells) }
-        ensures told { IfOk result (λ loaded. loaded ≡ holding self.old.shelves.cells self.old.generation) }
+        ensures told { IfOk result (λ loaded. loaded ≡ holding self.old.shelves self.old.generation) }
         ensures cause { HasKeepCause self.old.faults self.new.faults result }
         ensures steady { FailsNoMore self.old.loads self.old.questions self.old.commits self.old.schedule.items → KeepsSteady (FailsNoMore self.new.loads self.new.questions self.new.commits self.new.schedule.items) result }
-        ensures answer { IsLoad (fails_at (calls.Load self.new.loads) self.old.schedule.items) (holding self.old.shelves.cells self.old.generation) result }
+        ensures answer { IsLoad (fails_at (calls.Load self.new.loads) self.old.schedule.items) (holding self.old.shelves self.old.generation) result }
         ensures after { self.new ≡ record self.old { loads = one_more self.old.loads; faults = counted (has_failed result) self.old.faults } }
     {
         self.loads = self.loads.saturating_add(1);
@@ -134,7 +130,7 @@ impl Keeper for MemoryKeeper {
             self.count_fault();
             return Err(KeepFault::Failed);
         }
-        let cells = copies_of_cells(self.alloc, self.shelves.as_slice())?;
+        let cells = self.shelves.cells(self.alloc)?;
         Ok(Loaded {
             cells,
             generation: self.generation,
@@ -165,11 +161,11 @@ impl Keeper for MemoryKeeper {
     fn commit(&mut self, from: u64, changes: &[Change]) -> Result<(), KeepFault>
         requires from { from < 2 ^ 64 - 1 }
         requires changes { AreChanges changes.now }
-        ensures made { Made from changes.now result (λ held. held ≡ holding self.new.shelves.cells self.new.generation) (holding self.old.shelves.cells self.old.generation) }
+        ensures made { Made from changes.now result (λ held. held ≡ holding self.new.shelves self.new.generation) (holding self.old.shelves self.old.generation) }
         ensures cause { HasKeepCause self.old.faults self.new.faults result }
         ensures steady { FailsNoMore self.old.loads self.old.questions self.old.commits self.old.schedule.items → KeepsSteady (FailsNoMore self.new.loads self.new.questions self.new.commits self.new.schedule.items) result }
         ensures answer { IsCommit (fails_at (calls.Before self.new.commits) self.old.schedule.items) (fails_at (calls.After self.new.commits) self.old.schedule.items) from changes.now
-            (holding self.old.shelves.cells self.old.generation) (holding self.new.shelves.cells self.new.generation) result }
+            (holding self.old.shelves self.old.generation) (holding self.new.shelves self.new.generation) result }
         ensures after { self.new ≡ record self.old { shelves = self.new.shelves; generation = self.new.generation; commits = one_more self.old.commits; faults = counted (has_failed result) self.old.faults } }
     {
         self.commits = self.commits.saturating_add(1);
@@ -183,51 +179,5 @@ impl Keeper for MemoryKeeper {
             return Err(KeepFault::Failed);
         }
         Ok(())
-    }
-}
-
-// The cells, in memory of their own.
-fn copies_of_cells(alloc: Global, cells: &[Cell]) -> Result<Cells, Memory>
-    ensures { IfOk result (λ copies. copies ≡ cells.now) }
-{
-    let mut copies = Sequence::new(alloc);
-    for cell in cells {
-        copies.push(cell.copy(alloc)?)?;
-    }
-    Ok(copies)
-}
-
-// The changes, in memory of their own.
-fn copies_of_changes(alloc: Global, changes: &[Change]) -> Result<Vec<Change>, Memory>
-    ensures { IfOk result (λ copies. copies.items ≡ changes.now) }
-{
-    let mut copies = Vec::new(alloc);
-    for change in changes {
-        copies.push(change.copy(alloc)?)?;
-    }
-    Ok(copies)
-}
-
-// Makes the changes, in room that there is.
-fn apply(shelves: &mut Shelves, changes: Vec<Change>)
-    requires shelves { AllByRecursion (λ change. 0 < change_shelf change) changes.items }
-    requires room { vec_len changes ≤ shelves.old.spare }
-    ensures { shelves.new.cells ≡ changed shelves.old.cells changes.items }
-{
-    for change in changes {
-        make_one(shelves, change);
-    }
-}
-
-// Makes one change, in room that there is.
-fn make_one(shelves: &mut Shelves, change: Change)
-    requires shelf { 0 < change_shelf change }
-    requires room { 1 ≤ shelves.old.spare }
-    ensures cells { shelves.new.cells ≡ changed_by shelves.old.cells change }
-    ensures spare { shelves.old.spare ≤ shelves.new.spare + 1 }
-{
-    match change {
-        Change::Put(cell) => shelves.put(cell),
-        Change::Remove(shelf, key) => shelves.remove(shelf, &key),
     }
 }

@@ -1,101 +1,114 @@
-ghost use Rattle.std.specs.Prelude.{◌≡◌, ◌≤◌, ◌<◌, ◌+◌, ◌∷◌, [], OnOk};
-ghost use Rattle.rv_base.specs.Sorted.{Settles, put_by, without};
-ghost use Rattle.rv_keeper.specs.Cells.{AreCells, cell_key};
+ghost use Rattle.std.specs.Prelude.{◌≡◌, ◌<◌, ◌++◌, [], IfOk, OnOk, OnErr};
+ghost use Rattle.rv_base.specs.Sorted.{put_by};
+ghost use Rattle.rv_keeper.specs.Cells.{AreCells, AreChanges, cell_key, changed};
 
 use crate::cell::Cell;
-use rv_base::{Bytes, Memory};
+use crate::change::Change;
+use crate::changing::{make_all, make_room, make_room_for, put};
+use crate::loaded::Cells;
+use crate::shelf::Shelf;
+use rv_base::{Memory, Sequence};
 use std::alloc::Global;
 use std::marker::Model;
 
-/// Cells in the order of their shelves and then of their keys, each place once.
+/// Cells in the order of their shelves and then of their keys, each place once. The cells of each shelf stand together, so a
+/// change moves cells of its own shelf alone.
 ///
-/// A contract sees the list of the cells, and a lower bound of the room that is left, `spare`.
+/// A contract sees the list of the cells.
 #[derive(Debug, Drop)]
 pub struct Shelves {
-    cells: Vec<Cell>,
+    shelves: Vec<Shelf>,
 }
 
 impl Model for Shelves {
-    ghost use Rattle.std.specs.Prelude.{◌-◌, vec_len, vec_capacity};
-    ghost use Rattle.rv_keeper.specs.Cells.{Shelved, AreCells};
+    ghost use Rattle.std.specs.Prelude.{List};
+    ghost use Rattle.rv_keeper.specs.declared.cell.Cell.{Cell};
+    ghost use Rattle.rv_keeper.specs.Shelving.{cells_of, AreShelves};
 
-    ghost Value = { Shelved };
+    ghost Value = { List Cell };
 
-    ghost view = { λ s. record { cells = s.cells.items; spare = vec_capacity s.cells - vec_len s.cells } };
+    ghost view = { λ s. cells_of s.shelves.items };
 
-    ghost invariant = { λ s. AreCells s.cells.items };
+    ghost invariant = { λ s. AreShelves s.shelves.items };
 }
 
 impl Shelves {
-    /// No cell.
+    /// No cell. Takes no memory.
     pub fn new(alloc: Global) -> Shelves
-        ensures { result.cells ≡ [] }
+        ensures { result ≡ [] }
     {
         Shelves {
-            cells: Vec::new(alloc),
+            shelves: Vec::new(alloc),
         }
     }
 
-    /// The cells of a vector, which are not moved.
-    pub fn from_vec(cells: Vec<Cell>) -> Shelves
+    /// The cells of a vector. `Err` is want of memory.
+    pub fn from_vec(alloc: Global, cells: Vec<Cell>) -> Result<Shelves, Memory>
         requires { AreCells cells.items }
-        ensures { result.cells ≡ cells.items }
+        ensures { IfOk result (λ shelves. shelves ≡ cells.items) }
     {
-        Shelves { cells }
+        let mut shelves = Shelves::new(alloc);
+        for cell in cells {
+            shelves.put(alloc, cell)?;
+        }
+        Ok(shelves)
     }
 
-    /// The cells.
-    pub fn as_slice(&self) -> &[Cell]
-        ensures cells { result.now ≡ self.now.cells }
-        ensures order { AreCells self.now.cells }
+    // Writes a cell, over the one at its place.
+    fn put(&mut self, alloc: Global, cell: Cell) -> Result<(), Memory>
+        requires { 0 < cell.shelf }
+        ensures ok { OnOk result (self.new ≡ put_by cell_key cell self.old) }
+        ensures err { OnErr result (self.new ≡ self.old) }
     {
-        &self.cells
-    }
-
-    /// Makes room for so many more cells.
-    pub fn reserve(&mut self, more: usize) -> Result<(), Memory>
-        ensures cells { self.new.cells ≡ self.old.cells }
-        ensures ok { OnOk result (more ≤ self.new.spare) }
-        ensures spare { self.old.spare ≤ self.new.spare }
-    {
-        self.cells.reserve(more)?;
+        make_room(alloc, &mut self.shelves, cell.shelf, 1)?;
+        put(&mut self.shelves, cell);
         Ok(())
     }
 
-    /// Writes a cell, over the one at its place. It can't fail, and takes no memory.
-    pub fn put(&mut self, cell: Cell)
-        requires shelf { 0 < cell.shelf }
-        requires room { 1 ≤ self.old.spare }
-        ensures cells { self.new.cells ≡ put_by cell_key cell self.old.cells }
-        ensures spare { self.old.spare ≤ self.new.spare + 1 }
+    /// The cells in order, in memory of their own.
+    #[tactic(auto, using(crate::proofs::Shelving::cells_in_order))]
+    pub fn cells(&self, alloc: Global) -> Result<Cells, Memory>
+        ensures cells { IfOk result (λ cells. cells ≡ self.now) }
+        ensures order { AreCells self.now }
     {
-        match place(&self.cells, cell.shelf, &cell.key) {
-            Ok(at) => self.cells[at] = cell,
-            Err(at) => match self.cells.insert(at, cell) {
-                Ok(()) => {}
-                Err(_) => unreachable!(),
-            },
+        let mut cells = Sequence::new(alloc);
+        for shelf in &self.shelves {
+            add_copies(alloc, &mut cells, &shelf.cells)?;
         }
+        Ok(cells)
     }
 
-    /// Takes away the cell of a shelf and a key, if it is there.
-    pub fn remove(&mut self, shelf: u8, key: &Bytes)
-        ensures cells { self.new.cells ≡ without cell_key (shelf ∷ key.now) self.old.cells }
-        ensures spare { self.old.spare ≤ self.new.spare }
+    /// Makes all the changes, or at want of memory none. A change costs binary searches and a move of cells of its own shelf;
+    /// other cells are not touched.
+    pub fn make(&mut self, alloc: Global, changes: &[Change]) -> Result<(), Memory>
+        requires { AreChanges changes.now }
+        ensures ok { OnOk result (self.new ≡ changed self.old changes.now) }
+        ensures err { OnErr result (self.new ≡ self.old) }
     {
-        match place(&self.cells, shelf, key) {
-            Ok(at) => {
-                let _removed = self.cells.remove(at);
-            }
-            Err(_) => {}
-        }
+        let changes = copies_of_changes(alloc, changes)?;
+        make_room_for(alloc, &mut self.shelves, &changes)?;
+        make_all(&mut self.shelves, changes);
+        Ok(())
     }
 }
 
-// Where the cell of a shelf and a key stands, or where it would go.
-fn place(cells: &[Cell], shelf: u8, key: &Bytes) -> Result<usize, usize>
-    requires { AreCells cells.now }
-    ensures { Settles cell_key (shelf ∷ key.now) cells.now result }
+// Adds copies of the cells.
+fn add_copies(alloc: Global, copies: &mut Cells, cells: &[Cell]) -> Result<(), Memory>
+    ensures { OnOk result (copies.new ≡ copies.old ++ cells.now) }
 {
-    cells.binary_search_by(|cell| cell.compare(shelf, key))
+    for cell in cells {
+        copies.push(cell.copy(alloc)?)?;
+    }
+    Ok(())
+}
+
+// The changes, in memory of their own.
+fn copies_of_changes(alloc: Global, changes: &[Change]) -> Result<Vec<Change>, Memory>
+    ensures { IfOk result (λ copies. copies.items ≡ changes.now) }
+{
+    let mut copies = Vec::new(alloc);
+    for change in changes {
+        copies.push(change.copy(alloc)?)?;
+    }
+    Ok(copies)
 }

@@ -4,10 +4,10 @@ use Rattle.std.specs.Cmp.Lexicographic.{slice_cmp}
 use Rattle.std.proofs.lemmas.Fn.{always_returns_same}
 use Rattle.rv_base.specs.Places.{settles}
 use Rattle.rv_keeper.specs.Cells.{cell_key}
-use Rattle.rv_keeper.proofs.shelves.place.Goals as goal
+use Rattle.rv_keeper.proofs.shelf.place.Goals as goal
 
 pub returns : goal.returns
 returns c =
     let k = c.args.shelf ∷ c.args.key.now in
     let facts = c.binary_search_by.ensures in
-    settles cell_key k c.args.cells.now c.binary_search_by.result c.requires.order facts.bound (facts.position (λ y. slice_cmp nat_cmp (cell_key y) k) (always_returns_same _ _ _ (λ a r f called. search rules)))
+    settles cell_key k c.args.cells.now c.binary_search_by.result c.requires facts.bound (facts.position (λ y. slice_cmp nat_cmp (cell_key y) k) (always_returns_same _ _ _ (λ a r f called. search rules)))

@@ -1,5 +1,5 @@
 use Rattle.std.proofs.Common.{◌≡◌, take}
-use Rattle.rv_keeper.proofs.memory_keeper.copies_of_changes.Given as goal
+use Rattle.rv_keeper.proofs.shelves.copies_of_changes.Given as goal
 
 abbrev pub invariant-loop-change : goal.invariant-loop-change
 invariant-loop-change l = l.copies.items ≡ take l.change-index l.changes

@@ -1,0 +1,227 @@
+// A place in memory, which fails at the calls of a list.
+ghost use Rattle.std.specs.Prelude.{◌≡◌, ◌≤◌, ◌≢◌, ℕ, List, [], false, drop, nat_lt, codes, if◌then◌else◌, IfOk, OnOk, OnErr, IfSome, IfNone};
+ghost use Rattle.std.specs.List.{position_from};
+ghost use Rattle.std.specs.Option.{option_copied};
+ghost use Rattle.std.specs.Str.{bytes_eq};
+ghost use Rattle.rv_base.specs.Causes.{Rose};
+ghost use Rattle.rv_base.specs.InMemory.{fails_next};
+ghost use Rattle.rv_keeper.specs.declared.loaded.Loaded.{Loaded};
+ghost use Rattle.rv_keeper.specs.Keeping.{HasKeepCause, holding};
+ghost use Rattle.rv_keeper.specs.MemoryStores.{StandsAt, StoreHolds, StoreIsOut, first_schedule, found_store, given, kept_store, out_store, store_of, with_store};
+ghost use Rattle.rv_keeper.specs.Schedules.{counted, has_failed, one_more};
+ghost use Rattle.rv_keeper.specs.Stores.{OpensWith, TakesUp};
+
+use crate::fails::{Fails, Schedule};
+use crate::fault::KeepFault;
+use crate::memory_keeper::MemoryKeeper;
+use crate::place::Place;
+use crate::shelves::Shelves;
+use crate::store::Store;
+use rv_base::{Bytes, Memory};
+use std::alloc::Global;
+
+/// Holds stores in memory, and fails at the calls of a list. It tells what its stores hold.
+/// Its counts stand still at 2^64 - 1.
+#[derive(Drop)]
+pub struct MemoryPlace {
+    /// Where names are copied.
+    pub alloc: Global,
+    /// The stores.
+    pub stores: Vec<Store>,
+    /// The schedules of the keepers that are still to be given, the next one first. A keeper beyond them fails at no call.
+    pub schedules: Vec<Schedule>,
+    /// The numbers of the calls of `open_keeper` that fail, from 1.
+    pub failing: Vec<u64>,
+    /// How many calls of `open_keeper` there were.
+    pub calls: u64,
+    /// How many of them failed, and how many keepers came back that had failed.
+    pub faults: u64,
+}
+
+impl MemoryPlace {
+    /// A place that has no store.
+    pub fn new(alloc: Global, schedules: Vec<Schedule>, failing: Vec<u64>) -> Self
+        ensures stores { result.stores.items ≡ [] }
+        ensures others { result ≡ record { alloc = alloc; stores = result.stores; schedules = schedules; failing = failing; calls = 0; faults = 0 } }
+    {
+        MemoryPlace {
+            alloc,
+            stores: Vec::new(alloc),
+            schedules,
+            failing,
+            calls: 0,
+            faults: 0,
+        }
+    }
+
+    /// The store of this name, if there is one.
+    pub fn store(&self, name: &str) -> Option<&Store>
+        ensures { option_copied result ≡ store_of name.now self.now.stores.items }
+    {
+        self.stores.iter().find(|store| store.is_named(name))
+    }
+
+    /// Adds a store that holds these cells, at this generation; one that has its name is replaced. `Err` is want of memory,
+    /// and nothing is changed.
+    pub fn add_store(&mut self, name: &str, shelves: Shelves, generation: u64) -> Result<(), Memory>
+        ensures rest { self.new ≡ record self.old { stores = self.new.stores } }
+        ensures ok { OnOk result (self.new.stores.items ≡ with_store (kept_store name.now shelves generation) self.old.stores.items) }
+        ensures err { OnErr result (self.new.stores.items ≡ self.old.stores.items) }
+    {
+        let at = find_or_add(self.alloc, &mut self.stores, name)?;
+        self.stores[at].take_back(shelves, generation);
+        Ok(())
+    }
+
+    // Takes out what the store of a name holds. One that is not there is added first.
+    fn take_out(&mut self, name: &str) -> Result<(Shelves, u64), Memory>
+        ensures rest { self.new ≡ record self.old { stores = self.new.stores } }
+        ensures held { IfOk result (λ held. let store = found_store name.now self.old.stores.items in (held.0 ≡ store.shelves) × (held.1 ≡ store.generation)) }
+        ensures ok { OnOk result (self.new.stores.items ≡ with_store (out_store name.now) self.old.stores.items) }
+        ensures err { OnErr result (self.new.stores.items ≡ self.old.stores.items) }
+    {
+        let at = find_or_add(self.alloc, &mut self.stores, name)?;
+        Ok(self.stores[at].give_out(self.alloc))
+    }
+
+    // Takes cells and a generation back into the store of a name, which is there.
+    fn put_back(&mut self, name: &str, shelves: Shelves, generation: u64)
+        requires { StoreIsOut self.old.stores.items name.now }
+        ensures rest { self.new ≡ record self.old { stores = self.new.stores } }
+        ensures stores { self.new.stores.items ≡ with_store (kept_store name.now shelves generation) self.old.stores.items }
+    {
+        match find(&self.stores, name) {
+            Some(at) => self.stores[at].take_back(shelves, generation),
+            None => unreachable!(),
+        }
+    }
+
+    // Counts a fault.
+    fn count_fault(&mut self)
+        ensures after { self.new ≡ record self.old { faults = one_more self.old.faults } }
+        ensures later { self.old.faults ≤ self.new.faults }
+        ensures rose { Rose self.old.faults self.new.faults }
+    {
+        self.faults = self.faults.saturating_add(1);
+    }
+
+    // Counts a keeper that came back after so many faults.
+    fn count_returned(&mut self, faults: u64)
+        ensures faults { TakesUp faults self.old.faults self.new.faults }
+        ensures after { self.new ≡ record self.old { faults = counted (nat_lt 0 faults) self.old.faults } }
+    {
+        if faults > 0 {
+            self.count_fault();
+        }
+    }
+
+    // The calls at which the next keeper fails.
+    fn next_schedule(&mut self) -> Vec<Fails>
+        ensures rest { self.new ≡ record self.old { schedules = self.new.schedules } }
+        ensures schedules { self.new.schedules.items ≡ drop 1 self.old.schedules.items }
+        ensures first { result.items ≡ first_schedule self.old.schedules.items }
+    {
+        if self.schedules.is_empty() {
+            Vec::new(self.alloc)
+        } else {
+            self.schedules.remove(0).into_vec()
+        }
+    }
+}
+
+// The index of the first store of a name.
+fn find(stores: &[Store], name: &str) -> Option<usize>
+    ensures { result ≡ position_from (λ store. bytes_eq name.now store.name) 0 stores.now }
+{
+    stores.iter().position(|store| store.is_named(name))
+}
+
+// Where the store of a name stands. One that is not there is added, and holds no cell, at generation 0.
+fn find_or_add(alloc: Global, stores: &mut Vec<Store>, name: &str) -> Result<usize, Memory>
+    ensures ok { IfOk result (λ at. StandsAt name.now stores.old.items stores.new.items at) }
+    ensures err { OnErr result (stores.new.items ≡ stores.old.items) }
+{
+    if let Some(at) = find(stores, name) {
+        return Ok(at);
+    }
+    let at = stores.len();
+    stores.push(Store {
+        name: Bytes::from_vec(name.as_bytes().to_vec(alloc)?),
+        shelves: Shelves::new(alloc),
+        generation: 0,
+        is_out: false,
+    })?;
+    Ok(at)
+}
+
+// The keeper of a store that gave these out; that of the store `memory` begins empty.
+fn keeper_of(
+    alloc: Global,
+    name: &str,
+    schedule: Vec<Fails>,
+    shelves: Shelves,
+    generation: u64,
+) -> MemoryKeeper
+    ensures held { holding result.shelves result.generation ≡ (if bytes_eq name.now (codes "memory") then holding [] 0 else holding shelves generation) }
+    ensures schedule { result.schedule.items ≡ schedule.items }
+    ensures calls { (result.loads ≡ 0) × (result.questions ≡ 0) × (result.commits ≡ 0) }
+    ensures faults { result.faults ≡ 0 }
+{
+    if name == "memory" {
+        MemoryKeeper::new(alloc, schedule)
+    } else {
+        MemoryKeeper::with(alloc, schedule, shelves, generation)
+    }
+}
+
+impl Place for MemoryPlace {
+    type Kept = MemoryKeeper;
+
+    // It tells whatever comes.
+    ghost tells = { λ s. Unit {0} };
+
+    ghost holds = { λ s name held. StoreHolds s.stores.items name held };
+
+    ghost is_out = { λ s name. StoreIsOut s.stores.items name };
+
+    ghost faults = { λ s. s.faults };
+
+    fn fault_count(&self) -> u64
+        ensures { result ≡ self.now.faults }
+    {
+        self.faults
+    }
+
+    fn open_keeper(&mut self, name: &str) -> Result<MemoryKeeper, KeepFault>
+        ensures kept { IfOk result (λ kept. StoreIsOut self.new.stores.items name.now × OpensWith name.now (StoreHolds self.old.stores.items name.now) (λ held. held ≡ holding kept.shelves kept.generation)) }
+        ensures others { (other : List ℕ) (held : Loaded) → other ≢ name.now → StoreHolds self.old.stores.items other held → StoreHolds self.new.stores.items other held }
+        ensures cause { HasKeepCause self.old.faults self.new.faults result }
+        ensures fails { has_failed result ≡ fails_next self.old.calls self.old.failing.items }
+        ensures gives { IfOk result (λ kept. (holding kept.shelves kept.generation ≡ given name.now (found_store name.now self.old.stores.items)) × (kept.schedule.items ≡ first_schedule self.old.schedules.items)) }
+        ensures fresh { IfOk result (λ kept. (kept.loads ≡ 0) × (kept.questions ≡ 0) × (kept.commits ≡ 0) × (kept.faults ≡ 0)) }
+        ensures ok { OnOk result ((self.new.stores.items ≡ with_store (out_store name.now) self.old.stores.items) × (self.new.schedules.items ≡ drop 1 self.old.schedules.items)) }
+        ensures err { OnErr result ((self.new.stores.items ≡ self.old.stores.items) × (self.new.schedules.items ≡ self.old.schedules.items)) }
+        ensures after { self.new ≡ record self.old { stores = self.new.stores; schedules = self.new.schedules; calls = one_more self.old.calls; faults = counted (has_failed result) self.old.faults } }
+    {
+        self.calls = self.calls.saturating_add(1);
+        if self.failing.contains(&self.calls) {
+            self.count_fault();
+            return Err(KeepFault::Failed);
+        }
+        let (shelves, generation) = self.take_out(name)?;
+        let schedule = self.next_schedule();
+        Ok(keeper_of(self.alloc, name, schedule, shelves, generation))
+    }
+
+    fn close_keeper(&mut self, name: &str, kept: MemoryKeeper)
+        requires { StoreIsOut self.old.stores.items name.now }
+        ensures kept { StoreHolds self.new.stores.items name.now (holding kept.shelves kept.generation) }
+        ensures others { (other : List ℕ) (held : Loaded) → other ≢ name.now → StoreHolds self.old.stores.items other held → StoreHolds self.new.stores.items other held }
+        ensures faults { TakesUp kept.faults self.old.faults self.new.faults }
+        ensures stores { self.new.stores.items ≡ with_store (kept_store name.now kept.shelves kept.generation) self.old.stores.items }
+        ensures after { self.new ≡ record self.old { stores = self.new.stores; faults = counted (nat_lt 0 kept.faults) self.old.faults } }
+    {
+        self.count_returned(kept.faults);
+        self.put_back(name, kept.shelves, kept.generation);
+    }
+}

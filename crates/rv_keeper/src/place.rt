@@ -1,0 +1,48 @@
+ghost use Rattle.std.specs.Prelude.{◌≡◌, ◌≢◌, ℕ, List, IfOk};
+ghost use Rattle.rv_keeper.specs.declared.loaded.Loaded.{Loaded};
+ghost use Rattle.rv_keeper.specs.Keeping.{HasKeepCause};
+ghost use Rattle.rv_keeper.specs.Stores.{OpensWith, TakesUp};
+
+use crate::fault::KeepFault;
+use crate::keeper::Keeper;
+
+/// Where the keepers of stores come from, by the stores' names, and go back to.
+pub trait Place {
+    /// What keeps one store.
+    type Kept: Keeper;
+
+    /// The place tells what its stores hold. One that has once stopped to tell does not tell again.
+    ghost tells: { Self → Type 0 };
+
+    /// The store of this name holds these cells and this generation. It is said where the place tells, of stores whose keepers
+    /// are not out.
+    ghost holds: { Self → List ℕ → Loaded → Type 0 };
+
+    /// The keeper of the store of this name is out. It is said where the place tells.
+    ghost is_out: { Self → List ℕ → Type 0 };
+
+    /// How often a call has failed, and how many keepers came back that had failed. It stands still at 2^64 - 1.
+    ghost faults: { Self → ℕ };
+
+    /// How often a call has failed, and how many keepers came back that had failed.
+    fn fault_count(&self) -> u64
+        ensures { result ≡ faults self.now };
+
+    /// The keeper of a store, which holds what the store holds; that of the store `memory` holds no cell, at generation 0,
+    /// whatever was kept there before. Its count of faults is 0.
+    fn open_keeper(&mut self, name: &str) -> Result<Self::Kept, KeepFault>
+        ensures tells { tells self.new → tells self.old }
+        ensures kept { tells self.new → IfOk result (λ kept. Self.Kept.tells kept × is_out self.new name.now × OpensWith name.now (holds self.old name.now) (Self.Kept.holds kept)) }
+        ensures others { tells self.new → (other : List ℕ) (held : Loaded) → other ≢ name.now → holds self.old other held → holds self.new other held }
+        ensures fresh { IfOk result (λ kept. Self.Kept.faults kept ≡ 0) }
+        ensures cause { HasKeepCause (faults self.old) (faults self.new) result };
+
+    /// Takes the keeper of a store back: the store then holds what the keeper holds. It can't fail, and takes no memory. The
+    /// count of faults rises where the keeper has failed.
+    fn close_keeper(&mut self, name: &str, kept: Self::Kept)
+        requires { tells self.old → is_out self.old name.now }
+        ensures tells { tells self.new → tells self.old × Self.Kept.tells kept }
+        ensures kept { tells self.new → (held : Loaded) → Self.Kept.holds kept held → holds self.new name.now held }
+        ensures others { tells self.new → (other : List ℕ) (held : Loaded) → other ≢ name.now → holds self.old other held → holds self.new other held }
+        ensures faults { TakesUp (Self.Kept.faults kept) (faults self.old) (faults self.new) };
+}
