@@ -1,5 +1,5 @@
 -- What a cell is made of is found in it: the cells of clients, of groups and of rows.
-use Rattle.std.proofs.Common.{◌≡◌, ℕ, suc, ◌^◌, ◌<◌, Bool, List, Option, Some, None, Result, Ok, Err, codes, refl, sym, ap, ◌∙◌, arith}
+use Rattle.std.proofs.Common.{◌≡◌, ℕ, suc, Bool, List, Option, Some, None, Result, Ok, Err, codes, refl, sym, ap, ◌∙◌}
 use Rattle.std.specs.Prelude.{IfOk, IfSome}
 use Rattle.std.proofs.lemmas.Option.{none-some}
 use Rattle.json.proofs.Printed.Utf8.{IsUtf8-are_ascii}
@@ -11,14 +11,8 @@ use Rattle.rv_rows.proofs.RowLaws.{row_takes, row_again}
 use Rattle.rv_record.specs.CellTexts.{row_body, client_body, group_body, row_cell, client_cell, group_cell}
 use Rattle.rv_record.specs.CellReading.{ClientFits, GroupFits, client_in, group_in}
 use Rattle.rv_record.specs.RowReading.{HasTexts, RowFits, row_cell_in}
-use Rattle.rv_record.proofs.ReadBack.{IsPlain, json_again}
-use Rattle.rv_record.proofs.Texts.{within_again, text_again, num_again, place_again}
-
-pub num_plain : (n : ℕ) → n < 2 ^ 53 → n < 2 ^ 64
-num_plain n fits = omega arith
-
-pub place_plain : (n : ℕ) → n < 2 ^ 32 → n < 2 ^ 64
-place_plain n fits = omega arith
+use Rattle.rv_record.specs.ReadBack.{IsPlain, json_again}
+use Rattle.rv_record.specs.ReadTexts.{within_again, text_again, num_again, place_again, num_plain, place_plain}
 
 pub client_again : (c : List ℕ × List ℕ × ℕ) → ClientFits c → client_in (client_cell c.0 c.1 c.2) ≡ Some c
 unfolding client_in

@@ -1,6 +1,4 @@
 pub mod Writing
-pub mod Texts
-pub mod ReadBack
 pub mod Settling
 pub mod Again
 pub mod PlaceDigits

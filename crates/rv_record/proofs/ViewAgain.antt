@@ -23,9 +23,8 @@ use Rattle.rv_record.specs.CellTexts.{ten_digits, seen_data, client_data, view_b
 use Rattle.rv_record.specs.CellReading.{IsText, IsOfNone}
 use Rattle.rv_record.specs.EntryReading.{IsPlace}
 use Rattle.rv_record.specs.ViewReading.{SeenFits, PairFits, ViewFits, key_in, seen_in, pair_in, each_item, is_below, rises_from, is_in_order, viewed, view_in, body_view}
-use Rattle.rv_record.proofs.Again.{num_plain, place_plain}
-use Rattle.rv_record.proofs.ReadBack.{IsPlain, ArePlain, json_again}
-use Rattle.rv_record.proofs.Texts.{within_again, text_again, num_again, place_again}
+use Rattle.rv_record.specs.ReadBack.{IsPlain, ArePlain, json_again}
+use Rattle.rv_record.specs.ReadTexts.{within_again, text_again, num_again, place_again, num_plain, place_plain}
 
 prefix_valid : (kind : Kind) → IsUtf8 (prefix kind)
 prefix_valid kinds.List = IsUtf8-are_ascii (codes "list/") refl

@@ -1,8 +1,12 @@
 pub mod CallTexts
 pub mod EntryTexts
 pub mod CellTexts
+pub mod PlaceOrder
 pub mod ValueReading
 pub mod CellReading
 pub mod RowReading
 pub mod EntryReading
 pub mod ViewReading
+pub mod ReadTexts
+pub mod ReadBack
+pub mod EntryCells

@@ -7,7 +7,7 @@ use serde_json::Value;
 use std::alloc::Global;
 
 // The JSON value of a text, where it is UTF-8, is JSON, and nests at most 127 deep.
-#[tactic(auto, using(crate::proofs::Texts::json_none, crate::proofs::Texts::json_some))]
+#[tactic(auto, using(crate::specs::ReadTexts::json_none, crate::specs::ReadTexts::json_some))]
 pub(crate) fn read_json(alloc: Global, text: &[u8]) -> Result<Option<Value>, Memory>
     ensures { IfOk result (λ o. option_map (λ v. view v) o ≡ json_in text.now) }
 {

@@ -28,5 +28,6 @@ pub use cells::{cell_of_client, cell_of_entry, cell_of_group, cell_of_row, cell_
 pub use client_reading::{client_of_cell, group_of_cell};
 pub use entry_reading::entry_of_cell;
 pub use fault::CellFault;
+pub use places::ten_digits;
 pub use row_reading::row_of_cell;
 pub use view_reading::view_of_cell;

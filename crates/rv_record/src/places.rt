@@ -6,8 +6,9 @@ use itoa::Buffer;
 use rv_base::{Bytes, Memory, Sequence};
 use std::alloc::Global;
 
-// The place in ten decimal digits, with leading zeros, so that the order of the keys is that of the places.
-pub(crate) fn ten_digits(alloc: Global, place: u32) -> Result<Bytes, Memory>
+/// The place in ten decimal digits, with leading zeros, so that the order of the keys is that of the places. It fails only
+/// where memory is refused.
+pub fn ten_digits(alloc: Global, place: u32) -> Result<Bytes, Memory>
     ensures { IfOk result (λ key. key ≡ ten_digits place) }
 {
     let mut buffer = Buffer::new();

@@ -24,7 +24,7 @@ fn text_within<const MIN: usize, const MAX: usize>(
 }
 
 // The text that the bytes are, where they are UTF-8 and it is within the bounds.
-#[tactic(auto, using(crate::proofs::Texts::text_some, crate::proofs::Texts::text_none))]
+#[tactic(auto, using(crate::specs::ReadTexts::text_some, crate::specs::ReadTexts::text_none))]
 pub(crate) fn text_of_bytes<const MIN: usize, const MAX: usize>(
     alloc: Global,
     bytes: &[u8],

@@ -36,3 +36,10 @@ num_again n fits = grind (arith, nat_tests)
 
 pub place_again : (n : ℕ) → n < 2 ^ 32 → place_in (number (unsigned n)) ≡ Some n
 place_again n fits = grind (arith, nat_tests)
+
+-- whole numbers as they are kept are of 64 bits
+pub num_plain : (n : ℕ) → n < 2 ^ 53 → n < 2 ^ 64
+num_plain n fits = omega arith
+
+pub place_plain : (n : ℕ) → n < 2 ^ 32 → n < 2 ^ 64
+place_plain n fits = omega arith

@@ -18,7 +18,7 @@ use Rattle.serde_json.specs.Written.{outline, items_outline, members_outline, co
 use Rattle.serde_json.proofs.Numbers.{number_of-decimal}
 use Rattle.serde_json.proofs.Texts.{print-outline}
 use Rattle.rv_record.specs.ValueReading.{json_in}
-use Rattle.rv_record.proofs.Texts.{json_some}
+use Rattle.rv_record.specs.ReadTexts.{json_some}
 
 -- the members put in one after another
 abbrev pub put_all : Members → Members → Members
