@@ -22,8 +22,8 @@ use Rattle.rv_history.specs.Bases.{base_of, base_group}
 use Rattle.rv_history.specs.Lawful.{IsLawful}
 use Rattle.rv_history.specs.Patches.{ClientView, client_view, apply}
 use Rattle.rv_history.specs.History.{patch_since}
-use Rattle.rv_history.specs.Machine.{Sender, Pulls, Retires, Pushes, cookie_order}
-use Rattle.rv_history.specs.Served.{Served, ServedMutates}
+use Rattle.rv_history.specs.Machine.{Sender, Pulls, Pushes, cookie_order}
+use Rattle.rv_history.specs.Served.{Served, ServedMutates, ServedPulls, ServedRetires, IsSound, KeepsLaw}
 
 abbrev pub act_id : List ℕ → Entry → Option ℕ
 act_id client (Act user group actor id call) = if bytes_eq actor client then Some id else None
@@ -85,17 +85,17 @@ RetiredGroupsRest = (book before after : Book) (group : List ℕ) (entry : Entry
 abbrev pub EntriesStandOnce : Type 0
 EntriesStandOnce = (book before between after : Book) (entry : Entry) → IsLawful book → book ≡ before ++ entry ∷ (between ++ entry ∷ after) → ⊥
 
--- A push of a desk keeps its book lawful, only adds to it, and leaves its limit.
+-- The turns of a push leave a sound server sound, only add to its book, and leave its limit.
 abbrev pub PushesKeepLaw : Type 0
-PushesKeepLaw = (from : Sender) (mutations : List Mutation) (old new : Served) (answer : Option ErrorBody) → Pushes ServedMutates from mutations old answer new → IsLawful old.book → IsLawful new.book × ((more : Book) × (new.book ≡ old.book ++ more)) × (new.limit ≡ old.limit)
+PushesKeepLaw = (from : Sender) (mutations : List Mutation) (old new : Served) (answer : Option ErrorBody) → Pushes ServedMutates from mutations old answer new → IsSound old → KeepsLaw old new
 
--- So does a pull.
+-- So does that of a pull.
 abbrev pub PullsKeepLaw : Type 0
-PullsKeepLaw = (limit : ℕ) (user : List ℕ) (request : PullRequest) (book new : Book) (answer : PullAnswer) → Pulls limit user request book answer new → IsLawful book → IsLawful new × ((more : Book) × (new ≡ book ++ more))
+PullsKeepLaw = (user : List ℕ) (request : PullRequest) (old new : Served) (answer : PullAnswer) → ServedPulls old user request answer new → IsSound old → KeepsLaw old new
 
--- So does a retirement.
+-- So does that of a retirement.
 abbrev pub RetirementsKeepLaw : Type 0
-RetirementsKeepLaw = (limit : ℕ) (group : List ℕ) (book new : Book) (answer : RetireAnswer) → Retires limit group book answer new → IsLawful book → IsLawful new × ((more : Book) × (new ≡ book ++ more))
+RetirementsKeepLaw = (group : List ℕ) (old new : Served) (answer : RetireAnswer) → ServedRetires old group answer new → IsSound old → KeepsLaw old new
 
 -- A patch shows what the user sees: since any place, and so since each kept look of the user, it makes of the view at that place
 -- the view at the book's end; and without a base it does so of any view.

@@ -10,5 +10,6 @@ pub mod History
 pub mod Patches
 pub mod PatchLaws
 pub mod Machine
+pub mod Troubles
 pub mod Served
 pub mod Laws

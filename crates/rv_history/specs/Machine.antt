@@ -13,7 +13,7 @@ use Rattle.rv_wire.specs.declared.error_body.ErrorBody.TheVariants as errors
 use Rattle.rv_wire.specs.declared.push.Mutation.{Mutation}
 use Rattle.rv_wire.specs.declared.pull.PullRequest.{PullRequest}
 use Rattle.rv_history.specs.declared.turn.Turn.{Turn}
-use Rattle.rv_history.specs.declared.turn.Turn.TheVariants.{Acted, Skipped, Future, GroupOfOther, ClientOfOther, NotFound, Limit, Memory}
+use Rattle.rv_history.specs.declared.turn.Turn.TheVariants.{Acted, Skipped, Future, GroupOfOther, ClientOfOther, NotFound, Limit, Keeper, Changed, Memory}
 use Rattle.rv_history.specs.declared.pull_reply.PullReply.{PullReply}
 use Rattle.rv_history.specs.declared.pull_answer.PullAnswer.{PullAnswer}
 use Rattle.rv_history.specs.declared.pull_answer.PullAnswer.TheVariants as pulls
@@ -36,7 +36,8 @@ pub record Takes (from : Sender) (client : List ℕ) (book : Book) : Type 0 wher
 -- The first case that holds: the group is bound to another user; it is retired; the client is of another group; the id is
 -- not above the client's last, and the mutation is skipped; it is above the last + 1, from the future; the book is full;
 -- and else the mutation is run: it becomes one entry, at the book's end. Only this changes the book. Memory may be refused
--- only where the mutation would have been run, and then nothing changes.
+-- only where the mutation would have been run, and then nothing changes. The machine has no trouble with what keeps the book:
+-- that is told of a whole server.
 abbrev pub Mutates : ℕ → Sender → Mutation → Book → Turn → Book → Type 0
 Mutates limit from m book GroupOfOther new = (is_of_other from.user from.group book ≡ true) × (new ≡ book)
 Mutates limit from m book NotFound new = (is_of_other from.user from.group book ≡ false) × (retired from.group book ≡ true) × (new ≡ book)
@@ -46,6 +47,8 @@ Mutates limit from m book (Future expected got) new = Takes from m.client book �
 Mutates limit from m book (Limit what at) new = Takes from m.client book × (m.id ≡ last m.client book + 1) × (size book ≡ limit) × (what ≡ which.Book) × (at ≡ limit) × (new ≡ book)
 Mutates limit from m book (Acted place) new = Takes from m.client book × (m.id ≡ last m.client book + 1) × (size book < limit) × (place ≡ size book + 1) × (new ≡ with_entry book (Act from.user from.group m.client m.id m.call))
 Mutates limit from m book Memory new = Takes from m.client book × (m.id ≡ last m.client book + 1) × (size book < limit) × (new ≡ book)
+Mutates limit from m book Keeper new = ⊥
+Mutates limit from m book (Changed kept found) new = ⊥
 
 abbrev pub cookie_order : Cookie → ℕ
 cookie_order Null = 0
@@ -97,6 +100,8 @@ Pulls limit user request book (pulls.Limit which.Order at) new = Admits user req
 Pulls limit user request book (pulls.Limit which.Book at) new = Admits user request.group book × ¬ IsUnchanged user request book × (next_order request book < 2 ^ 53) × (size book ≡ limit) × (at ≡ limit) × (new ≡ book)
 Pulls limit user request book (pulls.Pulled reply) new = Admits user request.group book × Replies limit user request book reply.same reply new
 Pulls limit user request book pulls.Memory new = Admits user request.group book × (new ≡ book)
+Pulls limit user request book pulls.Keeper new = ⊥
+Pulls limit user request book (pulls.Changed kept found) new = ⊥
 
 -- The first case that holds: no act or look names the group; it is retired already; the book is full; and else the
 -- retirement becomes one entry.
@@ -106,6 +111,8 @@ Retires limit group book retires.NotFound new = IsSome (bound group book) × (re
 Retires limit group book (retires.Limit what at) new = IsSome (bound group book) × (retired group book ≡ false) × (size book ≡ limit) × (what ≡ which.Book) × (at ≡ limit) × (new ≡ book)
 Retires limit group book (retires.Retired place) new = IsSome (bound group book) × (retired group book ≡ false) × (size book < limit) × (place ≡ size book + 1) × (new ≡ with_entry book (Retire group))
 Retires limit group book retires.Memory new = IsSome (bound group book) × (retired group book ≡ false) × (size book < limit) × (new ≡ book)
+Retires limit group book retires.Keeper new = ⊥
+Retires limit group book (retires.Changed kept found) new = ⊥
 
 -- What a turn of a mutation is told as: the refusal that ends its push, or none.
 abbrev pub refusal : Turn → Option ErrorBody
@@ -116,6 +123,8 @@ refusal GroupOfOther = Some errors.GroupOfOther
 refusal ClientOfOther = Some errors.ClientOfOther
 refusal NotFound = Some errors.ClientStateNotFound
 refusal (Limit what at) = Some (errors.Limit what at)
+refusal Keeper = Some errors.Keeper
+refusal (Changed kept found) = Some (errors.Changed found kept)
 refusal Memory = Some errors.Memory
 
 -- what the answer to a pull is told as: the reply or a refusal
@@ -124,6 +133,8 @@ pull_outcome (pulls.Pulled reply) = Ok reply
 pull_outcome pulls.GroupOfOther = Err errors.GroupOfOther
 pull_outcome pulls.NotFound = Err errors.ClientStateNotFound
 pull_outcome (pulls.Limit what at) = Err (errors.Limit what at)
+pull_outcome pulls.Keeper = Err errors.Keeper
+pull_outcome (pulls.Changed kept found) = Err (errors.Changed found kept)
 pull_outcome pulls.Memory = Err errors.Memory
 
 -- what the answer to a retirement is told as: its place or a refusal
@@ -132,6 +143,8 @@ retire_outcome (retires.Retired place) = Ok place
 retire_outcome retires.NoGroup = Err errors.NoGroup
 retire_outcome retires.NotFound = Err errors.ClientStateNotFound
 retire_outcome (retires.Limit what at) = Err (errors.Limit what at)
+retire_outcome retires.Keeper = Err errors.Keeper
+retire_outcome (retires.Changed kept found) = Err (errors.Changed found kept)
 retire_outcome retires.Memory = Err errors.Memory
 
 -- A push takes its mutations in order, one turn each, from a state to the next, up to the first refusal, which is its answer.

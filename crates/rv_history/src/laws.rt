@@ -31,17 +31,17 @@ pub fn entries_stand_once()
     ensures { EntriesStandOnce }
 {}
 
-/// A push of a desk keeps its book lawful, only adds to it, and leaves its limit.
+/// The turns of a push leave a sound server sound, only add to its book, and leave its limit.
 pub fn pushes_keep_law()
     ensures { PushesKeepLaw }
 {}
 
-/// A pull keeps a book lawful, and only adds to it.
+/// So does the turn of a pull.
 pub fn pulls_keep_law()
     ensures { PullsKeepLaw }
 {}
 
-/// A retirement keeps a book lawful, and only adds to it.
+/// So does the turn of a retirement.
 pub fn retirements_keep_law()
     ensures { RetirementsKeepLaw }
 {}

@@ -12,6 +12,7 @@ mod pull_answer;
 mod pull_reply;
 mod pushing;
 mod retire_answer;
+mod trouble;
 mod turn;
 mod turns;
 
@@ -20,5 +21,6 @@ pub use pull_answer::PullAnswer;
 pub use pull_reply::PullReply;
 pub use pushing::push;
 pub use retire_answer::RetireAnswer;
+pub use trouble::Trouble;
 pub use turn::Turn;
 pub use turns::Turns;

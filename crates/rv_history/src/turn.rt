@@ -1,5 +1,6 @@
-ghost use Rattle.std.specs.Prelude.{◌≡◌};
+ghost use Rattle.std.specs.Prelude.{◌≡◌, Some};
 
+use crate::trouble::Trouble;
 use rv_base::Num;
 use rv_wire::{ErrorBody, Which};
 
@@ -25,12 +26,22 @@ pub enum Turn {
     NotFound,
     /// This is full, at this number.
     Limit(Which, Num),
+    /// What keeps the book failed. What would have been entered may have been kept.
+    Keeper,
+    /// What is kept is at another generation than the book, or the book with the entry that may have been kept.
+    Changed {
+        /// The number of the book's entries.
+        kept: u64,
+        /// The generation that was found.
+        found: u64,
+    },
     /// Memory was refused.
     Memory,
 }
 
 impl Turn {
     ghost use Rattle.rv_history.specs.Machine.{refusal};
+    ghost use Rattle.rv_history.specs.Troubles.{turn_trouble};
 
     /// The refusal that it is told as. That the mutation was run or skipped is none.
     pub fn refusal(self) -> Option<ErrorBody>
@@ -44,7 +55,19 @@ impl Turn {
             Turn::ClientOfOther => Some(ErrorBody::ClientOfOther),
             Turn::NotFound => Some(ErrorBody::ClientStateNotFound),
             Turn::Limit(which, at) => Some(ErrorBody::Limit(which, at)),
+            Turn::Keeper => Some(ErrorBody::Keeper),
+            Turn::Changed { kept, found } => Some(ErrorBody::Changed { found, kept }),
             Turn::Memory => Some(ErrorBody::Memory),
+        }
+    }
+
+    /// What is answered where the keeper gives trouble.
+    pub fn of_trouble(trouble: Trouble) -> Turn
+        ensures { turn_trouble result ≡ Some trouble }
+    {
+        match trouble {
+            Trouble::Failed => Turn::Keeper,
+            Trouble::Changed { kept, found } => Turn::Changed { kept, found },
         }
     }
 }

@@ -5,7 +5,7 @@ use Rattle.serde_json.specs.Written.{compact_text}
 use Rattle.serde_json.proofs.OnLiterals.{serde_json_on_literals}
 use Rattle.rv_wire.specs.declared.error_body.Which.{Which}
 use Rattle.rv_wire.specs.declared.error_body.Which.TheVariants.{Book, Order}
-use Rattle.rv_wire.specs.declared.error_body.ErrorBody.TheVariants.{ClientStateNotFound, VersionNotSupported, NotJson, Field, GroupOfOther, ClientOfOther, NoGroup, Future, Limit, Memory}
+use Rattle.rv_wire.specs.declared.error_body.ErrorBody.TheVariants.{ClientStateNotFound, VersionNotSupported, NotJson, Field, GroupOfOther, ClientOfOther, NoGroup, Future, Limit, Changed, Keeper, Memory}
 use Rattle.rv_wire.specs.declared.fault.FieldName.{FieldName}
 use Rattle.rv_wire.specs.declared.fault.FieldName.TheVariants as fields
 use Rattle.rv_wire.specs.declared.fault.VersionKind.{VersionKind}
@@ -22,6 +22,14 @@ pub limit_text : (which : Which) (n : ℕ) → (codes "{\"at\":" ++ decimal n) +
 unfolding serde_json_on_literals
 limit_text Book n = simp append_assoc
 limit_text Order n = simp append_assoc
+
+pub changed_text : (f k : ℕ) → (((codes "{\"error\":\"Changed\",\"found\":" ++ decimal f) ++ codes ",\"kept\":") ++ decimal k) ++ codes "}" ≡ compact_text (error_data (Changed f k))
+unfolding serde_json_on_literals
+changed_text f k = simp append_assoc
+
+pub keeper_text : compact_text (error_data Keeper) ≡ codes "{\"error\":\"keeper\"}"
+unfolding serde_json_on_literals
+keeper_text = refl
 
 pub memory_text : compact_text (error_data Memory) ≡ codes "{\"error\":\"memory\"}"
 unfolding serde_json_on_literals

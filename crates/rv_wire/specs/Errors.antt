@@ -4,7 +4,7 @@ use Rattle.serde_json.specs.Data.{Data, number, unsigned, string, object, member
 use Rattle.rv_wire.specs.declared.error_body.Which.{Which}
 use Rattle.rv_wire.specs.declared.error_body.Which.TheVariants.{Book, Order}
 use Rattle.rv_wire.specs.declared.error_body.ErrorBody.{ErrorBody}
-use Rattle.rv_wire.specs.declared.error_body.ErrorBody.TheVariants.{ClientStateNotFound, VersionNotSupported, NotJson, Field, GroupOfOther, ClientOfOther, NoGroup, Future, Limit, Memory}
+use Rattle.rv_wire.specs.declared.error_body.ErrorBody.TheVariants.{ClientStateNotFound, VersionNotSupported, NotJson, Field, GroupOfOther, ClientOfOther, NoGroup, Future, Limit, Changed, Keeper, Memory}
 use Rattle.rv_wire.specs.declared.fault.WireFault.{WireFault}
 use Rattle.rv_wire.specs.declared.fault.WireFault.TheVariants as faults
 use Rattle.rv_wire.specs.declared.fault.VersionKind.{VersionKind}
@@ -33,10 +33,13 @@ error_data ClientOfOther = object (member (codes "error") (string (codes "Client
 error_data NoGroup = object (member (codes "error") (string (codes "NoGroup")) no_members)
 error_data (Future expected got) = object (member (codes "error") (string (codes "Future")) (member (codes "expected") (number (unsigned expected)) (member (codes "got") (number (unsigned got)) no_members)))
 error_data (Limit which at) = object (member (codes "at") (number (unsigned at)) (member (codes "error") (string (codes "Limit")) (member (codes "which") (string (which_text which)) no_members)))
+error_data (Changed found kept) = object (member (codes "error") (string (codes "Changed")) (member (codes "found") (number (unsigned found)) (member (codes "kept") (number (unsigned kept)) no_members)))
+error_data Keeper = object (member (codes "error") (string (codes "keeper")) no_members)
 error_data Memory = object (member (codes "error") (string (codes "memory")) no_members)
 
 -- 200 where the client's reference names the answer, 400 for a body that can't be read, 403 where another owns what is named,
--- 404 where nothing has the name, 409 for a mutation from the future, 503 for want of memory, and 507 where something is full
+-- 404 where nothing has the name, 409 for a mutation from the future, 500 where what is kept was changed by another, 503 where
+-- the keeper failed and for want of memory, and 507 where something is full
 abbrev pub error_status : ErrorBody → ℕ
 error_status ClientStateNotFound = 200
 error_status (VersionNotSupported kind) = 200
@@ -47,6 +50,8 @@ error_status ClientOfOther = 403
 error_status NoGroup = 404
 error_status (Future expected got) = 409
 error_status (Limit which at) = 507
+error_status (Changed found kept) = 500
+error_status Keeper = 503
 error_status Memory = 503
 
 -- the answer to a body that is not taken

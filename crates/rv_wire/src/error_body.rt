@@ -36,6 +36,15 @@ pub enum ErrorBody {
     },
     /// This is full, at this number.
     Limit(Which, Num),
+    /// What is kept is at another generation than the book that is served. It may have been changed by somebody else.
+    Changed {
+        /// The generation that was found.
+        found: u64,
+        /// The number of the book's entries.
+        kept: u64,
+    },
+    /// What keeps the book failed.
+    Keeper,
     /// Memory was refused.
     Memory,
 }

@@ -76,6 +76,14 @@ pub fn error_text(error: &ErrorBody, out: &mut [u8; 128]) -> usize
             let at = put_number(out, at, number.get());
             put_which(out, at, *which)
         }
+        ErrorBody::Changed { found, kept } => {
+            let at = put(out, 0, b"{\"error\":\"Changed\",\"found\":");
+            let at = put_number(out, at, *found);
+            let at = put(out, at, b",\"kept\":");
+            let at = put_number(out, at, *kept);
+            put(out, at, b"}")
+        }
+        ErrorBody::Keeper => put(out, 0, b"{\"error\":\"keeper\"}"),
         ErrorBody::Memory => put(out, 0, b"{\"error\":\"memory\"}"),
     }
 }
@@ -95,6 +103,8 @@ impl ErrorBody {
             ErrorBody::NoGroup => 404,
             ErrorBody::Future { .. } => 409,
             ErrorBody::Limit(_, _) => 507,
+            ErrorBody::Changed { .. } => 500,
+            ErrorBody::Keeper => 503,
             ErrorBody::Memory => 503,
         }
     }

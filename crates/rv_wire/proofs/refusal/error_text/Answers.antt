@@ -1,5 +1,5 @@
 use Rattle.std.proofs.Common.{refl}
-use Rattle.rv_wire.proofs.ErrorTexts.{future_text, limit_text, memory_text, not_json_text, not_found_text, group_of_other_text, client_of_other_text, no_group_text, field_error_text, version_error_text}
+use Rattle.rv_wire.proofs.ErrorTexts.{future_text, limit_text, changed_text, keeper_text, memory_text, not_json_text, not_found_text, group_of_other_text, client_of_other_text, no_group_text, field_error_text, version_error_text}
 use Rattle.rv_wire.proofs.refusal.error_text.Goals as goal
 
 pub returns-in-VersionNotSupported-clause-text : goal.returns-in-VersionNotSupported-clause-text
@@ -16,6 +16,12 @@ returns-in-Future-clause-text c = rw (c.put-in-Future.ensures.text, c.put_number
 
 pub returns-in-Limit-clause-text : goal.returns-in-Limit-clause-text
 returns-in-Limit-clause-text c = rw (c.put_which.ensures.text, c.put_number-at-in-Limit.ensures.text, c.put-at-in-Limit.ensures.text, c.get-in-Limit.ensures.value, c.in-Limit.is) (limit_text _ _)
+
+pub returns-in-Changed-clause-text : goal.returns-in-Changed-clause-text
+returns-in-Changed-clause-text c = rw (c.put-in-Changed.ensures.text, c.put_number-at-in-Changed-2.ensures.text, c.put-at-in-Changed-2.ensures.text, c.put_number-at-in-Changed.ensures.text, c.put-at-in-Changed.ensures.text, c.in-Changed.is) (changed_text _ _)
+
+pub returns-in-Keeper-clause-text : goal.returns-in-Keeper-clause-text
+returns-in-Keeper-clause-text c = rw (c.put-in-Keeper.ensures.text, c.in-Keeper.is, keeper_text) refl
 
 pub returns-in-Memory-clause-text : goal.returns-in-Memory-clause-text
 returns-in-Memory-clause-text c = rw (c.put-in-Memory.ensures.text, c.in-Memory.is, memory_text) refl
