@@ -1,0 +1,16 @@
+-- The state of one server in memory, as contracts see it.
+use Rattle.std.specs.Prelude.{ℕ, List}
+use Rattle.rv_rows.specs.Held.{Stored}
+use Rattle.rv_book.specs.Book.{Book}
+use Rattle.rv_news.specs.Records.{Placed}
+
+-- the book with the most entries that it may have, its rows with their versions, and the records of its kept looks; and beside
+-- each a lower bound of what has room
+pub record Standing : Type 0 where
+  pub book : Book
+  pub limit : ℕ
+  pub room : ℕ
+  pub rows : List Stored
+  pub row_room : ℕ
+  pub records : List Placed
+  pub record_room : ℕ

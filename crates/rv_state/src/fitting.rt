@@ -1,0 +1,138 @@
+// That entries are of the form: their types have it so.
+ghost use Rattle.std.specs.Prelude.{◌<◌, ◌^◌};
+ghost use Rattle.rv_record.specs.CellReading.{IsText};
+ghost use Rattle.rv_record.specs.EntryReading.{CallFits, EntryFits, IfThere};
+
+use rv_base::{Bounded, Id, Num, Text, User};
+use rv_book::Entry;
+use rv_rows::Call;
+
+// A text is within its bounds, and UTF-8.
+fn text_fits<const MIN: usize, const MAX: usize>(text: &Bounded<MIN, MAX>)
+    ensures { IsText MIN MAX text.now }
+{
+    let _bytes = text.as_str().as_bytes();
+}
+
+fn id_fits(id: &Id)
+    ensures { IsText 1 128 id.now }
+{
+    text_fits(id);
+}
+
+fn user_fits(user: &User)
+    ensures { IsText 1 64 user.now }
+{
+    text_fits(user);
+}
+
+fn words_fit(text: &Text)
+    ensures { IsText 0 16384 text.now }
+{
+    text_fits(text);
+}
+
+fn number_fits(number: Num)
+    ensures { number < 2 ^ 53 }
+{
+    let _number = number.get();
+}
+
+fn words_fit_if_there(text: &Option<Text>)
+    ensures { IfThere (IsText 0 16384) text.now }
+{
+    if let Some(text) = text {
+        words_fit(text);
+    }
+}
+
+fn number_fits_if_there(number: Option<Num>)
+    ensures { IfThere (λ n. n < 2 ^ 53) number }
+{
+    if let Some(number) = number {
+        number_fits(number);
+    }
+}
+
+fn update_fits(id: &Id, text: &Option<Text>, sort: Option<Num>)
+    ensures { IsText 1 128 id.now × IfThere (IsText 0 16384) text.now × IfThere (λ n. n < 2 ^ 53) sort }
+{
+    id_fits(id);
+    words_fit_if_there(text);
+    number_fits_if_there(sort);
+}
+
+fn call_fits(call: &Call)
+    ensures { CallFits call.now }
+{
+    match call {
+        Call::CreateList { id, name, owner } => {
+            id_fits(id);
+            words_fit(name);
+            user_fits(owner);
+        }
+        Call::DeleteList { id } => id_fits(id),
+        Call::CreateShare { id, list, user } => {
+            id_fits(id);
+            id_fits(list);
+            user_fits(user);
+        }
+        Call::DeleteShare { id } => id_fits(id),
+        Call::CreateTodo { id, list, text, .. } => {
+            id_fits(id);
+            id_fits(list);
+            words_fit(text);
+        }
+        Call::UpdateTodo { id, text, sort, .. } => update_fits(id, text, *sort),
+        Call::DeleteTodo { id } => id_fits(id),
+        Call::Void(_) => {}
+    }
+}
+
+fn act_fits(user: &User, group: &Id, client: &Id, id: Num, call: &Call)
+    ensures { IsText 1 64 user.now × IsText 1 128 group.now × IsText 1 128 client.now × (id < 2 ^ 53) × CallFits call.now }
+{
+    user_fits(user);
+    id_fits(group);
+    id_fits(client);
+    number_fits(id);
+    call_fits(call);
+}
+
+fn look_fits(user: &User, group: &Id, order: Num, base: Option<u32>)
+    ensures { IsText 1 64 user.now × IsText 1 128 group.now × (order < 2 ^ 53) × IfThere (λ n. n < 2 ^ 32) base }
+{
+    user_fits(user);
+    id_fits(group);
+    number_fits(order);
+    place_fits_if_there(base);
+}
+
+fn place_fits_if_there(place: Option<u32>)
+    ensures { IfThere (λ n. n < 2 ^ 32) place }
+{
+    if let Some(_place) = place {}
+}
+
+/// The texts and the numbers of an entry are within their bounds, and its texts are UTF-8, as its types have it. It does nothing:
+/// its contract is what is said of every entry.
+pub fn entry_fits(entry: &Entry)
+    ensures { EntryFits entry.now }
+{
+    match entry {
+        Entry::Act {
+            user,
+            group,
+            client,
+            id,
+            call,
+        } => act_fits(user, group, client, *id, call),
+        Entry::Look {
+            user,
+            group,
+            order,
+            base,
+        } => look_fits(user, group, *order, *base),
+        Entry::Retire { group } => id_fits(group),
+    }
+}

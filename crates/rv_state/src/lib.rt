@@ -1,0 +1,15 @@
+//! The state of one server: a book of entries, and the tables and view records that are its replay.
+//!
+//! An entry comes into a [`State`] in two steps: it is prepared, which takes memory, and then entered, which can't fail.
+//! [`may_stand`] tells whether an entry may come next.
+#![tactic(auto)]
+
+mod fitting;
+mod lawful;
+mod prepared;
+mod state;
+
+pub use fitting::entry_fits;
+pub use lawful::may_stand;
+pub use prepared::{Prepared, SideEffect};
+pub use state::State;

@@ -1,0 +1,282 @@
+ghost use Rattle.std.specs.Prelude.{◌≡◌, ◌≤◌, ◌<◌, [], IsTrue, IfOk, OnOk};
+ghost use Rattle.rv_book.specs.declared.entry.Entry.TheVariants.{Act, Look, Retire};
+ghost use Rattle.rv_book.specs.Book.{size, with_entry};
+ghost use Rattle.rv_news.specs.News.{IsNews};
+ghost use Rattle.rv_state.specs.Falling.{falling};
+
+use crate::fitting::entry_fits;
+use crate::prepared::{Prepared, SideEffect};
+use rv_base::{Id, Memory, Num, User};
+use rv_book::{Book, BookFault, Entry};
+use rv_history::{PullReply, entries};
+use rv_mutators::stage;
+use rv_news::{News, Records, is_unchanged, news_for, view_now};
+use rv_rows::{Call, Tables};
+use rv_wire::PullRequest;
+use std::alloc::Global;
+use std::marker::Model;
+
+/// The state of one server in memory: its book, and beside it the tables, which are the book's replay, and the view records of
+/// the looks that the book keeps.
+///
+/// An entry comes in two steps. To prepare it takes all the memory that it needs, and changes nothing but the room that there
+/// is; to enter it takes none and can't fail. It may be entered at any later time, while nothing else was.
+#[derive(Debug, Drop)]
+pub struct State {
+    book: Book,
+    tables: Tables,
+    records: Records,
+    alloc: Global,
+}
+
+impl Model for State {
+    ghost use Rattle.std.specs.List.{AllByRecursion};
+    ghost use Rattle.rv_history.specs.Lawful.{IsLawful};
+    ghost use Rattle.rv_history.specs.Replay.{IsReplay};
+    ghost use Rattle.rv_news.specs.Records.{AreRecords};
+    ghost use Rattle.rv_record.specs.EntryReading.{EntryFits};
+    ghost use Rattle.rv_state.specs.Standing.{Standing};
+
+    ghost Value = { Standing };
+
+    ghost view = { λ s. record { book = s.book.entries; limit = s.book.limit; room = s.book.room; rows = s.tables.rows; row_room = s.tables.spare; records = s.records.records; record_room = s.records.spare } };
+
+    ghost invariant = { λ s. IsLawful s.book.entries × IsReplay s.book.entries s.tables.rows × AreRecords s.book.entries s.records.records × AllByRecursion EntryFits s.book.entries };
+}
+
+// Makes room for an entry.
+fn reserve(book: &mut Book, entry: &Entry) -> Result<(), Memory>
+    requires { size book.old.entries < book.old.limit }
+    ensures room { OnOk result (1 ≤ book.new.room) }
+    ensures entries { book.new.entries ≡ book.old.entries }
+    ensures limit { book.new.limit ≡ book.old.limit }
+{
+    match book.reserve(entry) {
+        Ok(()) => Ok(()),
+        Err(BookFault::Memory) => Err(Memory),
+        Err(BookFault::Full) => unreachable!(),
+    }
+}
+
+// The look whose record goes where this entry comes.
+fn falls_out(book: &Book, entry: &Entry) -> Option<u32>
+    ensures { result ≡ falling entry.now book.now.entries }
+{
+    match entry {
+        Entry::Look { group, .. } => book.falls_out(group),
+        Entry::Act { .. } => None,
+        Entry::Retire { .. } => None,
+    }
+}
+
+impl State {
+    ghost use Rattle.rv_history.specs.Lawful.{IsLawful, IsLawfulAfter};
+    ghost use Rattle.rv_history.specs.Replay.{IsReplay};
+    ghost use Rattle.rv_history.specs.Bases.{base_of};
+    ghost use Rattle.rv_record.specs.EntryReading.{EntryFits};
+    ghost use Rattle.std.specs.List.{AllByRecursion};
+    ghost use Rattle.rv_history.specs.Machine.{IsUnchanged, next_order, reply_to};
+    ghost use Rattle.rv_news.specs.Records.{AreRecords};
+    ghost use Rattle.rv_state.specs.Ready.{IsPrepared, IsEffectOf};
+
+    /// The state of the empty book, which takes at most so many entries.
+    pub fn new(alloc: Global, limit: u32) -> State
+        ensures book { result.book ≡ [] }
+        ensures limit { result.limit ≡ limit }
+    {
+        State {
+            book: Book::new(alloc, limit),
+            tables: Tables::new(alloc),
+            records: Records::new(alloc),
+            alloc,
+        }
+    }
+
+    /// The book. Takes no memory.
+    pub fn book(&self) -> &Book
+        ensures book { result.now.entries ≡ self.now.book }
+        ensures limit { result.now.limit ≡ self.now.limit }
+        ensures lawful { IsLawful self.now.book }
+        ensures fits { AllByRecursion EntryFits self.now.book }
+        ensures rows { IsReplay self.now.book self.now.rows }
+    {
+        &self.book
+    }
+
+    /// The rows that the book leaves, each with the place of its last write. Takes no memory.
+    pub fn tables(&self) -> &Tables
+        ensures { IsReplay self.now.book result.now.rows }
+    {
+        &self.tables
+    }
+
+    /// The view records of the looks that the book keeps. Takes no memory.
+    pub fn records(&self) -> &Records
+        ensures { AreRecords self.now.book result.now.records }
+    {
+        &self.records
+    }
+
+    /// Whether the record of a pull's base shows what its user sees now, so that there is nothing to tell. No key that is
+    /// seen is copied for it; what is found otherwise is told by [`State::news`].
+    pub fn is_unchanged(&self, user: &User, request: &PullRequest) -> Result<bool, Memory>
+        ensures { IfOk result (λ same. IsTrue same → IsUnchanged user.now request.now self.now.book) }
+    {
+        is_unchanged(
+            self.alloc,
+            &self.book,
+            &self.tables,
+            &self.records,
+            user,
+            request,
+        )
+    }
+
+    /// What a pull is told.
+    pub fn news(&self, user: &User, request: &PullRequest) -> Result<News, Memory>
+        ensures { IfOk result (λ news. IsNews self.now.book user.now request.now news) }
+    {
+        news_for(
+            self.alloc,
+            &self.book,
+            &self.tables,
+            &self.records,
+            user,
+            request,
+        )
+    }
+
+    /// Prepares the act of a mutation that is to be run next.
+    pub fn prepare_act(
+        &mut self,
+        user: &User,
+        group: &Id,
+        client: &Id,
+        id: Num,
+        call: Call,
+    ) -> Result<Prepared, Memory>
+        requires room { size self.old.book < self.old.limit }
+        requires lawful { IsLawfulAfter self.old.book (Act user.now group.now client.now id call) }
+        ensures prepared { IfOk result (λ prepared. IsPrepared self.new prepared) }
+        ensures entry { IfOk result (λ prepared. prepared.entry ≡ Act user.now group.now client.now id call) }
+        ensures book { self.new.book ≡ self.old.book }
+        ensures limit { self.new.limit ≡ self.old.limit }
+    {
+        let staged = stage(self.alloc, &mut self.tables, user, &call)?;
+        let entry = entries::act(self.alloc, user, group, client, id, call)?;
+        entry_fits(&entry);
+        reserve(&mut self.book, &entry)?;
+        Ok(Prepared {
+            entry,
+            effect: SideEffect::Rows(staged),
+        })
+    }
+
+    /// Prepares the look of a pull that is told this, and makes its reply.
+    pub fn prepare_look(
+        &mut self,
+        user: &User,
+        request: &PullRequest,
+        order: Num,
+        news: News,
+    ) -> Result<(PullReply, Prepared), Memory>
+        requires room { size self.old.book < self.old.limit }
+        requires order { order ≡ next_order request.now self.old.book }
+        requires news { IsNews self.old.book user.now request.now news }
+        requires lawful { IsLawfulAfter self.old.book (Look user.now request.now.group order news.base) }
+        ensures prepared { IfOk result (λ made. IsPrepared self.new made.1) }
+        ensures entry { IfOk result (λ made. made.1.entry ≡ Look user.now request.now.group order (base_of user.now request.now.cookie self.old.book)) }
+        ensures reply { IfOk result (λ made. made.0 ≡ reply_to user.now request.now self.old.book) }
+        ensures book { self.new.book ≡ self.old.book }
+        ensures limit { self.new.limit ≡ self.old.limit }
+    {
+        let News {
+            base,
+            view,
+            ops,
+            ids,
+        } = news;
+        let place = self.book.len() + 1;
+        let reply = PullReply::of_look(self.alloc, place, order, ids, ops)?;
+        let entry = entries::look(self.alloc, user, &request.group, order, base)?;
+        entry_fits(&entry);
+        reserve(&mut self.book, &entry)?;
+        self.records.reserve()?;
+        let effect = SideEffect::Record(view);
+        Ok((reply, Prepared { entry, effect }))
+    }
+
+    /// Prepares the retirement of a client group.
+    pub fn prepare_retirement(&mut self, group: &Id) -> Result<Prepared, Memory>
+        requires room { size self.old.book < self.old.limit }
+        requires lawful { IsLawfulAfter self.old.book (Retire group.now) }
+        ensures prepared { IfOk result (λ prepared. IsPrepared self.new prepared) }
+        ensures entry { IfOk result (λ prepared. prepared.entry ≡ Retire group.now) }
+        ensures book { self.new.book ≡ self.old.book }
+        ensures limit { self.new.limit ≡ self.old.limit }
+    {
+        let entry = entries::retirement(self.alloc, group)?;
+        entry_fits(&entry);
+        reserve(&mut self.book, &entry)?;
+        Ok(Prepared {
+            entry,
+            effect: SideEffect::Nothing,
+        })
+    }
+
+    // What an entry that may stand next does beside the book, with the room that it takes there.
+    fn effect_of(&mut self, entry: &Entry) -> Result<SideEffect, Memory>
+        ensures effect { IfOk result (λ effect. IsEffectOf self.new entry.now effect) }
+        ensures book { self.new.book ≡ self.old.book }
+        ensures limit { self.new.limit ≡ self.old.limit }
+        ensures room { self.new.room ≡ self.old.room }
+    {
+        match entry {
+            Entry::Act { user, call, .. } => {
+                Ok(SideEffect::Rows(stage(self.alloc, &mut self.tables, user, call)?))
+            }
+            Entry::Look { user, group, .. } => {
+                let view = view_now(self.alloc, &self.book, &self.tables, user, group)?;
+                self.records.reserve()?;
+                Ok(SideEffect::Record(view))
+            }
+            Entry::Retire { .. } => Ok(SideEffect::Nothing),
+        }
+    }
+
+    /// Prepares an entry that may stand next, as it was kept elsewhere.
+    pub fn prepare(&mut self, entry: Entry) -> Result<Prepared, Memory>
+        requires room { size self.old.book < self.old.limit }
+        requires lawful { IsLawfulAfter self.old.book entry }
+        ensures prepared { IfOk result (λ prepared. IsPrepared self.new prepared) }
+        ensures entry { IfOk result (λ prepared. prepared.entry ≡ entry) }
+        ensures book { self.new.book ≡ self.old.book }
+        ensures limit { self.new.limit ≡ self.old.limit }
+    {
+        entry_fits(&entry);
+        reserve(&mut self.book, &entry)?;
+        let effect = self.effect_of(&entry)?;
+        Ok(Prepared { entry, effect })
+    }
+
+    /// Enters what was prepared at this state. It can't fail, and takes no memory. The records of looks that are not kept any
+    /// more go.
+    pub fn enter(&mut self, prepared: Prepared)
+        requires { IsPrepared self.old prepared }
+        ensures book { self.new.book ≡ with_entry self.old.book prepared.entry }
+        ensures limit { self.new.limit ≡ self.old.limit }
+    {
+        let Prepared { entry, effect } = prepared;
+        let place = self.book.len() + 1;
+        let gone = falls_out(&self.book, &entry);
+        self.book.push_entry(entry);
+        match effect {
+            SideEffect::Rows(staged) => staged.apply(&mut self.tables, place),
+            SideEffect::Record(view) => {
+                self.records.let_one_go(gone);
+                self.records.push(place, view);
+            }
+            SideEffect::Nothing => self.records.let_go(&self.book),
+        }
+    }
+}
