@@ -1,0 +1,11 @@
+pub mod RowChanges
+pub mod ViewChanges
+pub mod NextCells
+pub mod NextEntries
+pub mod FirstDifference
+pub mod Meeting
+pub mod Entered
+pub mod Comparisons
+pub mod Retirements
+pub mod Compared
+pub mod Restored

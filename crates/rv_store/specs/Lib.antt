@@ -1,0 +1,10 @@
+pub mod StoreCells
+pub mod ShelfLaws
+pub mod StoreOrder
+pub mod DamageOf
+pub mod Opening
+pub mod OpeningSteps
+pub mod StoreUnique
+pub mod StoreBooks
+pub mod EntryChanges
+pub mod OpeningLaws

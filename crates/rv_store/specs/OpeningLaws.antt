@@ -1,0 +1,77 @@
+-- Opening answers the book that is kept wherever there is one: that book is the only one, and then no place is damaged.
+use Rattle.std.proofs.Common.{◌≡◌, ℕ, ◌+◌, ◌<◌, ◌≤◌, List, [], ◌∷◌, ◌++◌, Result, Ok, Err, MatchResult, refl, sym, ap, ◌∙◌, subst, arith}
+use Rattle.std.specs.List.{AllByRecursion}
+use Rattle.rv_base.specs.Sorted.{find_by}
+use Rattle.rv_book.specs.declared.entry.Entry.{Entry}
+use Rattle.rv_book.specs.Book.{Book, size}
+use Rattle.rv_book.specs.BookWords.{size-append}
+use Rattle.rv_keeper.specs.declared.cell.Cell.{Cell}
+use Rattle.rv_keeper.specs.declared.loaded.Loaded.{Loaded}
+use Rattle.rv_keeper.specs.Cells.{cell_key}
+use Rattle.rv_record.specs.CellTexts.{entry_cell}
+use Rattle.rv_record.specs.EntryReading.{EntryFits}
+use Rattle.rv_state.specs.Standing.{Standing}
+use Rattle.rv_store.specs.declared.damage.Damage.{Damage}
+use Rattle.rv_store.specs.declared.damage.Damage.TheVariants.{Damaged, Memory}
+use Rattle.rv_store.specs.StoreCells.{AreDerived, entry_cells}
+use Rattle.rv_store.specs.StoreUnique.{derived_unique}
+use Rattle.rv_store.specs.StoreBooks.{books_front, books_beside, kept_parts, kept_unique}
+use Rattle.rv_store.specs.Opening.{IsSoundBook, MayOpen, IsBrokenEntry, BreaksAt, DiffersAt, HasOtherGeneration, HasEntries, IsDamaged, breaks, differs, another, Restores}
+
+-- at most one book opens
+pub opens_one : (limit : ℕ) (book other : Book) (loaded : Loaded) → MayOpen limit book loaded → MayOpen limit other loaded → book ≡ other
+opens_one limit book other loaded opens also = kept_unique book other loaded opens.sound.fits also.sound.fits opens.kept also.kept
+
+all_behind : {X : Type 0} (P : X → Type 0) (front : List X) (x : X) (more : List X) → AllByRecursion P (front ++ x ∷ more) → P x
+all_behind P [] x more all = all.0
+all_behind P (y ∷ front) x more all = all_behind P front x more all.1
+
+-- an entry of a sound book may come after those before it, and so its cell is not broken
+not_broken : (limit : ℕ) (book front more : Book) (entry : Entry) (cell : Cell) → IsSoundBook limit book → book ≡ front ++ entry ∷ more → cell ≡ entry_cell (1 + size front) entry → IsBrokenEntry limit front cell → ⊥
+not_broken limit book front more entry cell sound is made broken =
+    let place : 1 + size front ≡ size front + 1 = omega arith in
+    let below : size front < limit = omega (arith, sound.within, ap size is, size-append front (entry ∷ more)) in
+    broken.none entry (all_behind EntryFits front entry more (subst (AllByRecursion EntryFits) is sound.fits)) (made ∙ ap (λ (p : ℕ). entry_cell p entry) place) below (sound.lawful front more entry is)
+
+none_breaks : (limit : ℕ) (book : Book) (loaded : Loaded) (shelf : ℕ) (key : List ℕ) → MayOpen limit book loaded → ¬ BreaksAt limit loaded shelf key
+none_breaks limit book loaded shelf key opens b =
+    let parts = kept_parts book loaded opens.kept in
+    let rest = books_front 1 book b.book parts.others (b.cell ∷ b.others) opens.sound.fits b.sound.fits parts.beside (sym parts.cells ∙ b.cells) in
+    by_rest parts.others rest.0 parts.beside rest.1 rest.2
+  where
+    by_rest : (others : List Cell) (more : Book) → AllByRecursion (λ cell. 2 ≤ cell.shelf) others → book ≡ b.book ++ more → b.cell ∷ b.others ≡ entry_cells (1 + size b.book) more ++ others → ⊥
+    by_rest others [] beside is cells = let two : 2 ≤ b.cell.shelf = (subst (AllByRecursion (λ cell. 2 ≤ cell.shelf)) (sym cells) beside).0 in omega (arith, b.broken.shelf)
+    by_rest others (entry ∷ more) beside is cells = let made : b.cell ≡ entry_cell (1 + size b.book) entry = cc in not_broken limit book b.book more entry b.cell opens.sound is made b.broken
+
+-- entries that are read from what is kept, with nothing of shelf 1 beside them, are those of the book, and what follows from the book stands beside them
+pub record IsRead (book read : Book) (others : List Cell) : Type 0 where
+  pub same : book ≡ read
+  pub derived : AreDerived read others
+
+is_read : (limit : ℕ) (book read : Book) (loaded : Loaded) (others : List Cell) → MayOpen limit book loaded → HasEntries limit read loaded others → IsRead book read others
+is_read limit book read loaded others opens has =
+    let parts = kept_parts book loaded opens.kept in
+    let both = books_beside 1 book read parts.others others opens.sound.fits has.sound.fits parts.beside has.beside (sym parts.cells ∙ has.cells) in
+    record { same = both.0; derived = subst (λ (b : Book). AreDerived b others) both.0 (subst (AreDerived book) both.1 parts.derived) }
+
+none_differs : (limit : ℕ) (book : Book) (loaded : Loaded) (shelf : ℕ) (key : List ℕ) → MayOpen limit book loaded → ¬ DiffersAt limit loaded shelf key
+none_differs limit book loaded shelf key opens d =
+    let read = is_read limit book d.book loaded d.others opens d.entries in
+    d.difference.differs (ap (find_by cell_key (shelf ∷ key)) (derived_unique d.book d.own d.others d.derived read.derived))
+
+none_of_another : (limit : ℕ) (book : Book) (loaded : Loaded) (shelf : ℕ) (key : List ℕ) → MayOpen limit book loaded → ¬ HasOtherGeneration limit loaded shelf key
+none_of_another limit book loaded shelf key opens other =
+    let read = is_read limit book other.book loaded other.others opens other.entries in
+    other.generation (opens.kept.generation ∙ ap size read.same)
+
+-- where a book opens, no place is damaged
+pub opens-not_damaged : (limit : ℕ) (book : Book) (loaded : Loaded) (shelf : ℕ) (key : List ℕ) → MayOpen limit book loaded → ¬ IsDamaged limit loaded shelf key
+opens-not_damaged limit book loaded shelf key opens (breaks b) = none_breaks limit book loaded shelf key opens b
+opens-not_damaged limit book loaded shelf key opens (differs d) = none_differs limit book loaded shelf key opens d
+opens-not_damaged limit book loaded shelf key opens (another other) = none_of_another limit book loaded shelf key opens other
+
+-- Where a book opens, opening answers its state, or that memory was refused.
+pub restores-opens : (limit : ℕ) (book : Book) (loaded : Loaded) (result : Result Standing Damage) → MayOpen limit book loaded → Restores limit loaded result → MatchResult result (λ state. state.book ≡ book) (λ damage. damage ≡ Memory)
+restores-opens limit book loaded (Ok state) opens restores = opens_one limit state.book book loaded restores.0 opens
+restores-opens limit book loaded (Err (Damaged shelf key)) opens damaged = absurd (opens-not_damaged limit book loaded shelf key opens damaged)
+restores-opens limit book loaded (Err Memory) opens memory = refl

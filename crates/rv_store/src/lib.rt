@@ -1,0 +1,20 @@
+//! How a book is kept: which cells it has, which of them each entry changes, and what opens from them.
+//!
+//! A book is kept as one cell for each entry, and for each row, client, group and kept view record that follow from the
+//! entries. [`changes_for`] gives the changes that an entry makes of these cells; [`restore`] reads the entries again, makes
+//! all that follows from them anew, and takes nothing else for granted: where what is kept is not just that, it tells the
+//! first place that is wrong.
+#![tactic(auto)]
+
+mod changes;
+mod comparing;
+mod damage;
+mod damaged;
+mod entering;
+mod restoring;
+mod row_changes;
+mod view_changes;
+
+pub use changes::changes_for;
+pub use damage::Damage;
+pub use restoring::restore;
