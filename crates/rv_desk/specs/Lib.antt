@@ -1,3 +1,5 @@
-pub mod Standing
-pub mod Changes
-pub mod Falling
+pub mod Seated
+pub mod Opened
+pub mod Keeping
+pub mod Settling
+pub mod Pulling

@@ -1,14 +1,18 @@
-//! The server in memory: a book of entries, and the tables and view records that are its replay.
+//! One sequential server over what keeps it: a [`Desk`] opens from the cells of a [`Keeper`](rv_keeper::Keeper), and each of
+//! its turns is a step of the machine that `rv_history` defines over plain lists.
 //!
-//! [`State`] is the state of one server: an entry is prepared, which takes memory, and then entered, which can't fail. Each
-//! call of [`Desk`] is one step of the machine that `rv_history` defines over plain lists: the book alone says what a call is
-//! answered.
+//! A turn prepares its entry, commits the changes of cells that the entry makes, and enters it. Where the keeper fails in that,
+//! the entry is in doubt: it may have been kept. The next turn asks the keeper first, and then drops the entry or enters it.
 #![tactic(auto)]
 
 mod desk;
-mod prepared;
-mod state;
+mod doubt;
+mod keeping;
+mod mutating;
+mod open_fault;
+mod pulling;
+mod retiring;
+mod settling;
 
 pub use desk::Desk;
-pub use prepared::{Change, Prepared};
-pub use state::State;
+pub use open_fault::OpenFault;

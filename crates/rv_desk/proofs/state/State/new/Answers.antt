@@ -1,5 +1,0 @@
-use Rattle.rv_desk.proofs.Entered.{none_stands}
-use Rattle.rv_desk.proofs.state.State.new.Goals as goal
-
-pub invariant_of-result : goal.invariant_of-result
-invariant_of-result c = rw (c.new.ensures.entries, c.new-2.ensures, c.new-3.ensures) none_stands

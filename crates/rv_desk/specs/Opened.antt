@@ -1,0 +1,56 @@
+-- What opening a desk over a keeper answers.
+use Rattle.std.specs.Prelude.{◌≡◌, ◌≤◌, ℕ, List, None, Result, Ok, Err}
+use Rattle.rv_base.specs.Causes.{Rose}
+use Rattle.rv_keeper.specs.declared.loaded.Loaded.{Loaded}
+use Rattle.rv_keeper.specs.Cells.{AreCells}
+use Rattle.rv_store.specs.Opening.{MayOpen, IsDamaged}
+use Rattle.rv_desk.specs.declared.open_fault.OpenFault.{OpenFault}
+use Rattle.rv_desk.specs.declared.open_fault.OpenFault.TheVariants.{Keeper, Damaged, Memory}
+use Rattle.rv_desk.specs.Seated.{Seated}
+
+-- This was loaded: the cells stand in order, and where the keeper tells, it is the one thing that was held.
+pub record WasLoaded (Tells : Type 0) (Held : Loaded → Type 0) (loaded : Loaded) : Type 0 where
+  pub order : AreCells loaded.cells
+  pub told : Tells → (held : Loaded) → Held held → held ≡ loaded
+
+module _ {K : Type 0} (tells : K → Type 0) (holds : K → Loaded → Type 0) (faults : K → ℕ) where
+  -- nothing is in doubt, and the book is kept as what was loaded; the keeper's count of faults stays
+  pub record Opens (limit : ℕ) (before : K) (desk : Seated K) : Type 0 where
+    pub loaded : Loaded
+    pub was : WasLoaded (tells desk.keeper) (holds before) loaded
+    pub opens : MayOpen limit desk.book loaded
+    pub held : tells desk.keeper → holds desk.keeper loaded
+    pub most : desk.limit ≡ limit
+    pub doubt : desk.doubt ≡ None
+    pub told : tells desk.keeper → tells before
+    pub still : faults desk.keeper ≡ faults before
+
+  -- what was loaded is damaged first at this place; the keeper's count of faults stays
+  pub record IsDamagedIn (limit : ℕ) (before now : K) (shelf : ℕ) (key : List ℕ) : Type 0 where
+    pub loaded : Loaded
+    pub was : WasLoaded (tells now) (holds before) loaded
+    pub damaged : IsDamaged limit loaded shelf key
+    pub still : faults now ≡ faults before
+
+  -- a keeper that tells has told before, and holds what it held; its count of faults has not fallen
+  pub record IsLeft (before now : K) : Type 0 where
+    pub told : tells now → tells before
+    pub held : tells now → (held : Loaded) → holds before held → holds now held
+    pub later : faults before ≤ faults now
+
+  -- why a desk is not opened: the keeper's count of faults rose; the store is damaged; or memory was refused
+  abbrev pub IsRefused : ℕ → K → OpenFault → K → Type 0
+  IsRefused limit before Keeper now = Rose (faults before) (faults now)
+  IsRefused limit before (Damaged shelf key) now = IsDamagedIn limit before now shelf key
+  IsRefused limit before Memory now = Unit {0}
+
+  abbrev pub OpensOrNot : ℕ → K → Result (Seated K) (OpenFault × K) → Type 0
+  OpensOrNot limit before (Ok desk) = Opens limit before desk
+  OpensOrNot limit before (Err refused) = IsRefused limit before refused.0 refused.1 × IsLeft before refused.1
+
+  -- the same of what was loaded: the keeper is as it was
+  abbrev pub OpensLoaded : ℕ → Loaded → K → Result (Seated K) (OpenFault × K) → Type 0
+  OpensLoaded limit loaded keeper (Ok desk) = MayOpen limit desk.book loaded × (desk ≡ record { book = desk.book; limit = limit; doubt = None; keeper = keeper })
+  OpensLoaded limit loaded keeper (Err (Keeper, now)) = ⊥
+  OpensLoaded limit loaded keeper (Err (Damaged shelf key, now)) = IsDamaged limit loaded shelf key × (now ≡ keeper)
+  OpensLoaded limit loaded keeper (Err (Memory, now)) = now ≡ keeper

@@ -1,0 +1,39 @@
+-- A desk over a keeper, as contracts see it.
+use Rattle.std.specs.Prelude.{ℕ, ◌⊎◌, Option, None, Some, IfSome, option_map}
+use Rattle.rv_book.specs.declared.entry.Entry.{Entry}
+use Rattle.rv_book.specs.Book.{Book, with_entry}
+use Rattle.rv_history.specs.Served.{Served}
+use Rattle.rv_keeper.specs.declared.loaded.Loaded.{Loaded}
+use Rattle.rv_state.specs.declared.prepared.Prepared.{Prepared}
+use Rattle.rv_state.specs.Ready.{IsPrepared}
+use Rattle.rv_state.specs.Standing.{Standing}
+use Rattle.rv_store.specs.StoreCells.{IsKeptAs}
+
+-- the book, the most entries that it may have, the entry in doubt, and the keeper
+pub record Seated (K : Type 0) : Type 0 where
+  pub book : Book
+  pub limit : ℕ
+  pub doubt : Option Entry
+  pub keeper : K
+
+-- the same with the keeper's count of faults
+abbrev pub served : {K : Type 0} → (K → ℕ) → Seated K → Served
+served faults desk = record { book = desk.book; limit = desk.limit; doubt = desk.doubt; faults = faults desk.keeper }
+
+-- it is kept as the book, or with an entry in doubt as the book or as the book with it
+abbrev pub IsKeptWith : Book → Option Entry → Loaded → Type 0
+IsKeptWith book None held = IsKeptAs book held
+IsKeptWith book (Some entry) held = IsKeptAs book held ⊎ IsKeptAs (with_entry book entry) held
+
+-- what the keeper holds, where it tells, are the cells of the book, or of the book with the entry in doubt
+abbrev pub HoldsBook : (Loaded → Type 0) → Book → Option Entry → Type 0
+HoldsBook Holds book doubt = (held : Loaded) × Holds held × IsKeptWith book doubt held
+
+-- a server by its parts: the state, what is prepared and in doubt, and the count of faults
+abbrev pub parts_served : Standing → Option Prepared → ℕ → Served
+parts_served state doubt faults = record { book = state.book; limit = state.limit; doubt = option_map (λ p. p.entry) doubt; faults = faults }
+
+-- what is in doubt may be entered at the state, and where the keeper tells, it holds the book's cells, or those with the entry
+pub record AreInStep (state : Standing) (doubt : Option Prepared) (Tells : Type 0) (Holds : Loaded → Type 0) : Type 0 where
+  pub ready : IfSome doubt (IsPrepared state)
+  pub holds : Tells → HoldsBook Holds state.book (option_map (λ p. p.entry) doubt)

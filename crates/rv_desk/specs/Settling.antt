@@ -1,0 +1,21 @@
+-- What becomes of an entry in doubt.
+use Rattle.std.specs.Prelude.{◌≡◌, ◌+◌, ◌≤◌, None, IsSome, Result, Ok, Err}
+use Rattle.rv_base.specs.Causes.{Rose}
+use Rattle.rv_book.specs.Book.{size}
+use Rattle.rv_history.specs.declared.trouble.Trouble.{Trouble}
+use Rattle.rv_history.specs.declared.trouble.Trouble.TheVariants.{Failed, Changed}
+use Rattle.rv_history.specs.Served.{Served, Settles, Stays}
+
+-- It is dropped or entered, and nothing is in doubt any more; or the keeper failed, or is at another generation than either, and
+-- all stands as it stood.
+abbrev pub SettlesOrNot : Served → Result (Unit {0}) Trouble → Served → Type 0
+SettlesOrNot old (Ok done) new = Settles old.book old.doubt new.book × (new.doubt ≡ None)
+SettlesOrNot old (Err Failed) new = Rose old.faults new.faults × IsSome old.doubt × Stays old new
+SettlesOrNot old (Err (Changed kept found)) new =
+    Rose old.faults new.faults × IsSome old.doubt × (kept ≡ size old.book) × ¬ (found ≡ kept) × ¬ (found ≡ kept + 1) × Stays old new
+
+-- with the count of faults, which never falls, and the limit, which stays
+pub record IsSettled (old : Served) (result : Result (Unit {0}) Trouble) (new : Served) : Type 0 where
+  pub settled : SettlesOrNot old result new
+  pub later : old.faults ≤ new.faults
+  pub limit : new.limit ≡ old.limit

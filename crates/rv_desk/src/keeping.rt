@@ -1,0 +1,42 @@
+// Keeping an entry: the changes of cells that it makes are committed, and then it is entered.
+ghost use Rattle.std.specs.Prelude.{◌≡◌, None, Some};
+ghost use Rattle.rv_desk.specs.Keeping.{IsKept};
+ghost use Rattle.rv_desk.specs.Seated.{AreInStep, parts_served};
+ghost use Rattle.rv_state.specs.Ready.{IsPrepared};
+
+use crate::doubt::leave_in_doubt;
+use rv_keeper::{KeepFault, Keeper};
+use rv_state::{Prepared, State};
+use rv_store::changes_for;
+use std::alloc::Global;
+
+// Commits what a prepared entry changes, and enters it. All memory is taken before the commit. Where the keeper fails, the
+// entry is in doubt.
+pub(crate) fn keep<K: Keeper>(
+    alloc: Global,
+    state: &mut State,
+    doubt: &mut Option<Prepared>,
+    keeper: &mut K,
+    prepared: Prepared,
+) -> Result<(), KeepFault>
+    requires prepared { IsPrepared state.old prepared }
+    requires settled { doubt.old ≡ None }
+    requires in_step { AreInStep state.old doubt.old (K.tells keeper.old) (K.holds keeper.old) }
+    ensures kept { IsKept (parts_served state.old doubt.old (K.faults keeper.old)) prepared.entry result (parts_served state.new doubt.new (K.faults keeper.new)) }
+    ensures tells { K.tells keeper.new → K.tells keeper.old }
+    ensures in_step { AreInStep state.new doubt.new (K.tells keeper.new) (K.holds keeper.new) }
+{
+    let changes = changes_for(alloc, state, &prepared)?;
+    let from = u64::from(state.book().len());
+    match keeper.commit(from, &changes) {
+        Ok(()) => {
+            state.enter(prepared);
+            Ok(())
+        }
+        Err(KeepFault::Failed) => {
+            leave_in_doubt(doubt, prepared);
+            Err(KeepFault::Failed)
+        }
+        Err(KeepFault::Memory) => Err(KeepFault::Memory),
+    }
+}

@@ -1,0 +1,62 @@
+// Settling what is in doubt: the keeper's generation tells whether the entry was kept.
+ghost use Rattle.std.specs.Prelude.{◌≡◌, None, Some};
+ghost use Rattle.rv_desk.specs.Seated.{AreInStep, parts_served};
+ghost use Rattle.rv_desk.specs.Settling.{IsSettled};
+ghost use Rattle.rv_state.specs.Ready.{IsPrepared};
+
+use crate::doubt::leave_in_doubt;
+use rv_base::Failed;
+use rv_history::Trouble;
+use rv_keeper::Keeper;
+use rv_state::{Prepared, State};
+
+// Settles the entry in doubt, if there is one. Takes no memory.
+pub(crate) fn settle<K: Keeper>(
+    state: &mut State,
+    doubt: &mut Option<Prepared>,
+    keeper: &mut K,
+) -> Result<(), Trouble>
+    requires in_step { AreInStep state.old doubt.old (K.tells keeper.old) (K.holds keeper.old) }
+    ensures settled { IsSettled (parts_served state.old doubt.old (K.faults keeper.old)) result (parts_served state.new doubt.new (K.faults keeper.new)) }
+    ensures tells { K.tells keeper.new → K.tells keeper.old }
+    ensures in_step { AreInStep state.new doubt.new (K.tells keeper.new) (K.holds keeper.new) }
+{
+    match doubt.take() {
+        Some(prepared) => settle_one(state, doubt, keeper, prepared),
+        None => Ok(()),
+    }
+}
+
+// Settles this entry, which was in doubt: it is entered where it was kept, and dropped where it was not. Where the keeper does
+// not say so, it stays in doubt.
+fn settle_one<K: Keeper>(
+    state: &mut State,
+    doubt: &mut Option<Prepared>,
+    keeper: &mut K,
+    prepared: Prepared,
+) -> Result<(), Trouble>
+    requires none { doubt.old ≡ None }
+    requires in_step { AreInStep state.old (Some prepared) (K.tells keeper.old) (K.holds keeper.old) }
+    ensures settled { IsSettled (parts_served state.old (Some prepared) (K.faults keeper.old)) result (parts_served state.new doubt.new (K.faults keeper.new)) }
+    ensures tells { K.tells keeper.new → K.tells keeper.old }
+    ensures in_step { AreInStep state.new doubt.new (K.tells keeper.new) (K.holds keeper.new) }
+{
+    let kept = u64::from(state.book().len());
+    match keeper.generation(kept) {
+        Ok(found) => {
+            if found == kept {
+                return Ok(());
+            }
+            if found == kept + 1 {
+                state.enter(prepared);
+                return Ok(());
+            }
+            leave_in_doubt(doubt, prepared);
+            Err(Trouble::Changed { kept, found })
+        }
+        Err(Failed) => {
+            leave_in_doubt(doubt, prepared);
+            Err(Trouble::Failed)
+        }
+    }
+}
