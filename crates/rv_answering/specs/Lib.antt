@@ -2,4 +2,4 @@ pub mod Requests
 pub mod Reads
 pub mod Steps
 pub mod Texts
-pub mod Lines
+pub mod StepLaws

@@ -2,6 +2,8 @@
 use Rattle.std.specs.Prelude.{◌≡◌, ◌⊎◌, Option, Some, None, Ok, Err}
 use Rattle.rv_wire.specs.declared.fault.WireFault.TheVariants as faults
 use Rattle.rv_answering.specs.declared.request.Request.TheVariants.{Push, Pull, Retire}
+use Rattle.rv_answering.specs.declared.line.Line.{Line}
+use Rattle.rv_answering.specs.declared.line.Line.TheVariants.{Asks, Stop}
 use Rattle.rv_answering.specs.Requests.{Asked}
 
 -- it is asked by a push's or a pull's body, of the form or not
@@ -21,3 +23,16 @@ AreReadings (Some asked) (Some read) = IsReading asked read
 AreReadings None None = Unit {0}
 AreReadings (Some asked) None = ⊥
 AreReadings None (Some read) = ⊥
+
+-- the same of what a line is
+abbrev pub IsLineRead : Line → Line → Type 0
+IsLineRead (Asks asked) (Asks read) = IsReading asked read
+IsLineRead Stop Stop = Unit {0}
+IsLineRead (Asks asked) Stop = ⊥
+IsLineRead Stop (Asks read) = ⊥
+
+abbrev pub AreLines : Option Line → Option Line → Type 0
+AreLines (Some line) (Some read) = IsLineRead line read
+AreLines None None = Unit {0}
+AreLines (Some line) None = ⊥
+AreLines None (Some read) = ⊥

@@ -1,10 +1,11 @@
--- What a line asks: {"user":U,"push":V}, {"user":U,"pull":V} or {"retire":G}, members in any order, and no others.
+-- What a line is: {"user":U,"push":V}, {"user":U,"pull":V} or {"retire":G}, which ask something, or {"stop":true}; members in any
+-- order, and no others.
 use Rattle.std.specs.Prelude.{ℕ, List, [], ◌∷◌, Bool, Option, Some, None, codes, Result, Ok, Err, option_map, option_and_then, if◌then◌else◌}
 use Rattle.std.specs.List.{list_any}
 use Rattle.std.specs.Option.{option_map_or}
 use Rattle.std.specs.Str.{bytes_eq}
 use Rattle.serde_json.specs.Data.{Data, Members, no_members, member}
-use Rattle.serde_json.specs.Find.{as_object}
+use Rattle.serde_json.specs.Find.{as_object, as_bool}
 use Rattle.rv_base.specs.Options.{◌>>=◌}
 use Rattle.rv_rows.specs.Members.{text_in}
 use Rattle.rv_wire.specs.Bodies.{push_in, pull_in, json_in}
@@ -13,6 +14,8 @@ use Rattle.rv_wire.specs.declared.push.Push as pushes
 use Rattle.rv_wire.specs.declared.pull.PullRequest.{PullRequest}
 use Rattle.rv_answering.specs.declared.request.Request.{Request}
 use Rattle.rv_answering.specs.declared.request.Request.TheVariants.{Push, Pull, Retire}
+use Rattle.rv_answering.specs.declared.line.Line.{Line}
+use Rattle.rv_answering.specs.declared.line.Line.TheVariants.{Asks, Stop}
 use Rattle.rv_answering.specs.declared.asking.Verb.{Verb}
 use Rattle.rv_answering.specs.declared.asking.Verb.TheVariants as verbs
 
@@ -68,13 +71,21 @@ body_asked members = do
   user ← text_in 1 64 two.1.1
   Some (body_asks verb user two.0.1)
 
--- what an object of one member asks, and what any other asks
-abbrev pub members_ask : Members → Option Asked
-members_ask members = option_map_or (λ one. retire_asked one.0 one.1) (one_member members) (body_asked members)
+-- {"stop":true}
+abbrev pub stop_asked : Data → Option Line
+stop_asked value = option_and_then (λ stops. if stops then Some Stop else None) (as_bool value)
 
-abbrev pub value_asks : Data → Option Asked
+-- what the one member of an object asks
+abbrev pub one_asks : List ℕ → Data → Option Line
+one_asks name value = if bytes_eq name (codes "stop") then stop_asked value else option_map (λ asked. Asks asked) (retire_asked name value)
+
+-- what an object of one member asks, and what any other asks
+abbrev pub members_ask : Members → Option Line
+members_ask members = option_map_or (λ one. one_asks one.0 one.1) (one_member members) (option_map (λ asked. Asks asked) (body_asked members))
+
+abbrev pub value_asks : Data → Option Line
 value_asks value = option_and_then members_ask (as_object value)
 
--- what a line asks, where it is of the form
-abbrev pub asked_of : List ℕ → Option Asked
-asked_of line = option_and_then value_asks (json_in line)
+-- what a line is, where it is of the form
+abbrev pub line_of : List ℕ → Option Line
+line_of line = option_and_then value_asks (json_in line)

@@ -4,15 +4,13 @@ ghost use Rattle.rv_answering.specs.Requests.{Asked};
 ghost use Rattle.rv_answering.specs.Reads.{IsReading};
 ghost use Rattle.rv_answering.specs.Steps.{Answers, Step};
 ghost use Rattle.rv_answering.specs.declared.request.Request.TheVariants as requests;
-ghost use Rattle.rv_answering.specs.Lines.{AnswersLine};
 
 use crate::answer::Answer;
-use crate::asking::asked_of;
+use crate::asking::Asked;
 use crate::request::Request;
-use rv_base::{Id, Memory, User};
+use rv_base::{Id, User};
 use rv_history::{Turns, push};
-use rv_wire::{PullRequest, Push, WireFault};
-use std::alloc::Global;
+use rv_wire::{PullRequest, Push};
 
 fn run_push<T: Turns>(turns: &mut T, user: &User, body: Push) -> Answer
     ensures { Answers T.mutates T.pulls T.retires turns.old (requests.Push user.now body) result turns.new }
@@ -53,28 +51,12 @@ pub fn serve_request<T: Turns>(turns: &mut T, request: Request) -> Answer
     }
 }
 
-// Answers what was read of a line.
-fn serve_reading<T: Turns>(turns: &mut T, read: Result<Request, WireFault>) -> Answer
+/// Answers what was read of a line that asks something.
+pub fn serve_asked<T: Turns>(turns: &mut T, read: Asked) -> Answer
     ensures { (asked : Asked) → IsReading asked read → Step T.mutates T.pulls T.retires turns.old asked result turns.new }
 {
     match read {
         Ok(request) => serve_request(turns, request),
         Err(fault) => Answer::Refused(fault.refusal()),
     }
-}
-
-/// The answer to a line, where it is of the form.
-///
-/// Memory that is refused before it is known what the line asks is the error, and nothing has changed then.
-pub fn answer_line<T: Turns>(
-    alloc: Global,
-    turns: &mut T,
-    line: &[u8],
-) -> Result<Option<Answer>, Memory>
-    ensures { AnswersLine T.mutates T.pulls T.retires turns.old line.now result turns.new }
-{
-    let Some(read) = asked_of(alloc, line)? else {
-        return Ok(None);
-    };
-    Ok(Some(serve_reading(turns, read)))
 }

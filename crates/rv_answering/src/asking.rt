@@ -1,9 +1,10 @@
 // From the bytes of a line to what it asks.
 ghost use Rattle.std.specs.Prelude.{◌≡◌, IfOk, option_map};
 ghost use Rattle.serde_json.specs.View.{view, members_view};
-ghost use Rattle.rv_answering.specs.Requests.{verb_of, body_asks, one_member, two_members, retire_asked, body_asked, members_ask, value_asks, asked_of};
-ghost use Rattle.rv_answering.specs.Reads.{IsReading, AreReadings};
+ghost use Rattle.rv_answering.specs.Requests.{verb_of, body_asks, one_member, two_members, retire_asked, stop_asked, one_asks, body_asked, members_ask, value_asks, line_of};
+ghost use Rattle.rv_answering.specs.Reads.{IsReading, AreReadings, AreLines};
 
+use crate::line::Line;
 use crate::request::Request;
 use crate::schemas::FeedSchemas;
 use rv_base::{Memory, User};
@@ -97,6 +98,27 @@ fn retire_asked(alloc: Global, name: &str, group: &Value) -> Result<Option<Asked
     }
 }
 
+// A stop, where this is the value of one.
+fn stop_asked(value: &Value) -> Option<Line>
+    ensures { AreLines (stop_asked (view value.now)) result }
+{
+    if value.as_bool()? {
+        Some(Line::Stop)
+    } else {
+        None
+    }
+}
+
+// What the one member of an object asks.
+fn one_asks(alloc: Global, name: &str, value: &Value) -> Result<Option<Line>, Memory>
+    ensures { IfOk result (λ read. AreLines (one_asks name.now (view value.now)) read) }
+{
+    if name == "stop" {
+        return Ok(stop_asked(value));
+    }
+    Ok(retire_asked(alloc, name, value)?.map(Line::Asks))
+}
+
 // The name and the value of an object's member, where it has one.
 fn one_member(members: &BTreeMap<String, Value>) -> Option<(&str, &Value)>
     ensures { option_map (λ t. (t.0.now, view t.1.now)) result ≡ one_member (members_view members.now.entries) }
@@ -110,21 +132,21 @@ fn one_member(members: &BTreeMap<String, Value>) -> Option<(&str, &Value)>
 }
 
 // What an object's members ask.
-fn members_ask(alloc: Global, members: &BTreeMap<String, Value>) -> Result<Option<Asked>, Memory>
-    ensures { IfOk result (λ read. AreReadings (members_ask (members_view members.now.entries)) read) }
+fn members_ask(alloc: Global, members: &BTreeMap<String, Value>) -> Result<Option<Line>, Memory>
+    ensures { IfOk result (λ read. AreLines (members_ask (members_view members.now.entries)) read) }
 {
     match one_member(members) {
-        Some((name, group)) => retire_asked(alloc, name, group),
-        None => body_asked(alloc, members),
+        Some((name, value)) => one_asks(alloc, name, value),
+        None => Ok(body_asked(alloc, members)?.map(Line::Asks)),
     }
 }
 
-/// What a line asks, where it is of the form up to its body.
+/// What a line is, where it is of the form up to its body.
 ///
 /// Memory that is refused in reading the line's JSON or its user is the error; memory that is refused in reading a body from
 /// its JSON value is [`WireFault::Memory`], which is answered like other faults.
-pub fn asked_of(alloc: Global, line: &[u8]) -> Result<Option<Asked>, Memory>
-    ensures { IfOk result (λ read. AreReadings (asked_of line.now) read) }
+pub fn line_of(alloc: Global, line: &[u8]) -> Result<Option<Line>, Memory>
+    ensures { IfOk result (λ read. AreLines (line_of line.now) read) }
 {
     let Some(value) = read_json(alloc, line)? else {
         return Ok(None);

@@ -1,18 +1,20 @@
 //! From the bytes of a line to its answer, with the turns between. Nothing here reads or writes: lines and later HTTP go by
 //! the same calls.
 //!
-//! What a line asks is a [`Request`], or the first thing that is wrong with its body. Turns are taken by anything that
+//! A [`Line`] asks a [`Request`], or the first thing that is wrong with its body; or it is a stop. Turns are taken by anything that
 //! implements [`rv_history::Turns`].
 #![tactic(auto)]
 
 mod answer;
 mod answering;
 mod asking;
+mod line;
 mod request;
 mod schemas;
 
 pub use answer::Answer;
-pub use answering::{answer_line, retire_group, serve_request};
-pub use asking::{Asked, asked_of};
+pub use answering::{retire_group, serve_asked, serve_request};
+pub use asking::{Asked, line_of};
+pub use line::Line;
 pub use request::Request;
 pub use schemas::FeedSchemas;

@@ -1,0 +1,61 @@
+-- Turns that are those of what a state shows, and by which a state goes on to the next: then so do pushes, answers and steps.
+use Rattle.std.proofs.Common.{◌≡◌, ℕ, List, [], ◌∷◌, Option, Some, None, Ok, Err, ap, sym, subst, inl, inr}
+use Rattle.std.specs.Option.{MatchOption}
+use Rattle.rv_wire.specs.declared.error_body.ErrorBody.{ErrorBody}
+use Rattle.rv_wire.specs.declared.push.Mutation.{Mutation}
+use Rattle.rv_wire.specs.declared.pull.PullRequest.{PullRequest}
+use Rattle.rv_history.specs.declared.turn.Turn.{Turn}
+use Rattle.rv_history.specs.declared.pull_answer.PullAnswer.{PullAnswer}
+use Rattle.rv_history.specs.declared.retire_answer.RetireAnswer.{RetireAnswer}
+use Rattle.rv_history.specs.Machine.{Sender, Pushes, refusal}
+use Rattle.rv_answering.specs.declared.request.Request.{Request}
+use Rattle.rv_answering.specs.declared.request.Request.TheVariants.{Push, Pull, Retire}
+use Rattle.rv_answering.specs.declared.answer.Answer.{Answer}
+use Rattle.rv_answering.specs.Requests.{Asked}
+use Rattle.rv_answering.specs.Steps.{Answers, WantsMemory, Step}
+
+module _ {S V : Type 0} (shown : S → V) (Goes : S → S → Type 0) (goes_same : (s : S) → Goes s s) (goes_on : (s t u : S) → Goes s t → Goes t u → Goes s u)
+    (mutates : V → Sender → Mutation → Turn → V → Type 0) (pulls : V → List ℕ → PullRequest → PullAnswer → V → Type 0) (retires : V → List ℕ → RetireAnswer → V → Type 0) where
+  abbrev pub shown_mutates : S → Sender → Mutation → Turn → S → Type 0
+  shown_mutates old from m turn new = mutates (shown old) from m turn (shown new) × Goes old new
+
+  abbrev pub shown_pulls : S → List ℕ → PullRequest → PullAnswer → S → Type 0
+  shown_pulls old user request answer new = pulls (shown old) user request answer (shown new) × Goes old new
+
+  abbrev pub shown_retires : S → List ℕ → RetireAnswer → S → Type 0
+  shown_retires old group answer new = retires (shown old) group answer (shown new) × Goes old new
+
+  same_goes : (old new : S) → new ≡ old → Goes old new
+  same_goes old new same = subst (λ (s : S). Goes old s) (sym same) (goes_same old)
+
+  push_rest : (from : Sender) (ms : List Mutation) (old mid new : S) (answer refused : Option ErrorBody) → Goes old mid
+      → (Pushes shown_mutates from ms mid answer new → Pushes mutates from ms (shown mid) answer (shown new) × Goes mid new)
+      → MatchOption refused (Pushes shown_mutates from ms mid answer new) (λ why. (answer ≡ Some why) × (new ≡ mid))
+      → MatchOption refused (Pushes mutates from ms (shown mid) answer (shown new)) (λ why. (answer ≡ Some why) × (shown new ≡ shown mid)) × Goes old new
+  push_rest from ms old mid new answer None goes more rest = let on = more rest in (on.0, goes_on old mid new goes on.1)
+  push_rest from ms old mid new answer (Some why) goes more (is, same) = ((is, ap shown same), goes_on old mid new goes (same_goes mid new same))
+
+  pub pushes_shown : (from : Sender) (ms : List Mutation) (old new : S) (answer : Option ErrorBody) → Pushes shown_mutates from ms old answer new → Pushes mutates from ms (shown old) answer (shown new) × Goes old new
+  pushes_shown from [] old new answer (is, same) = ((is, ap shown same), same_goes old new same)
+  pushes_shown from (m ∷ ms) old new answer (turn, mid, (step, goes), rest) =
+      let on = push_rest from ms old mid new answer (refusal turn) goes (pushes_shown from ms mid new answer) rest in
+      ((turn, shown mid, step, on.0), on.1)
+
+  pub answers_shown : (old new : S) (request : Request) (answer : Answer) → Answers shown_mutates shown_pulls shown_retires old request answer new → Answers mutates pulls retires (shown old) request answer (shown new) × Goes old new
+  answers_shown old new (Push user push) answer (refused, pushed, is) =
+      let on = pushes_shown (record { user = user; group = push.group }) push.mutations old new refused pushed in
+      ((refused, on.0, is), on.1)
+  answers_shown old new (Pull user pull) answer (outcome, (pulled, goes), is) = ((outcome, pulled, is), goes)
+  answers_shown old new (Retire group) answer (outcome, (retired, goes), is) = ((outcome, retired, is), goes)
+
+  wants_shown : (old new : S) (answer : Answer) → WantsMemory shown_mutates shown_pulls shown_retires old answer new → WantsMemory mutates pulls retires (shown old) answer (shown new) × Goes old new
+  wants_shown old new answer (is, same) = ((is, ap shown same), same_goes old new same)
+
+  pub step_shown : (old new : S) (asked : Asked) (answer : Answer) → Step shown_mutates shown_pulls shown_retires old asked answer new → Step mutates pulls retires (shown old) asked answer (shown new) × Goes old new
+  step_shown old new (Ok (Push user push)) answer (inl wants) = let on = wants_shown old new answer wants in (inl on.0, on.1)
+  step_shown old new (Ok (Push user push)) answer (inr told) = let on = answers_shown old new (Push user push) answer told in (inr on.0, on.1)
+  step_shown old new (Ok (Pull user pull)) answer (inl wants) = let on = wants_shown old new answer wants in (inl on.0, on.1)
+  step_shown old new (Ok (Pull user pull)) answer (inr told) = let on = answers_shown old new (Pull user pull) answer told in (inr on.0, on.1)
+  step_shown old new (Ok (Retire group)) answer told = answers_shown old new (Retire group) answer told
+  step_shown old new (Err fault) answer (inl wants) = let on = wants_shown old new answer wants in (inl on.0, on.1)
+  step_shown old new (Err fault) answer (inr (is, same)) = (inr (is, ap shown same), same_goes old new same)

@@ -1,0 +1,10 @@
+use crate::asking::Asked;
+
+/// What a line of the form is.
+#[derive(Debug, Drop)]
+pub enum Line {
+    /// It asks something, which has an answer.
+    Asks(Asked),
+    /// `{"stop":true}`: the server is closed and opened again, and nothing is answered.
+    Stop,
+}
