@@ -1,8 +1,10 @@
-//! The program `rv`: the words of the command line, standard input and standard output, handed to `rv_cli::run`.
+//! The program `rv`: the words of the command line, a place in memory that has no store, standard input and standard output,
+//! handed to `rv_cli::run`.
 #![tactic(auto)]
 
 use rv_base::{Reading, Writing};
 use rv_cli::run;
+use rv_keeper::MemoryPlace;
 use std::alloc::Global;
 use std::process::ExitCode;
 use std::{env, io};
@@ -22,7 +24,8 @@ fn main(rt: HostRuntime) -> ExitCode {
         Ok(words) => words,
         Err(_) => Vec::new(alloc),
     };
+    let mut place = MemoryPlace::new(alloc, Vec::new(alloc), Vec::new(alloc));
     let mut input = Reading::new(rt.reader());
     let mut output = Writing::new(io::writer(&rt));
-    ExitCode::from(run(alloc, &words, &mut input, &mut output))
+    ExitCode::from(run(alloc, &words, &mut place, &mut input, &mut output))
 }

@@ -1,60 +1,93 @@
--- Runs keep the law, and each pull is shown.
-use Rattle.std.proofs.Common.{◌≡◌, ℕ, List, [], ◌∷◌, ◌++◌, length, Option, Some, None, Result, Ok, Err, refl, sym, ap, ◌∙◌, subst, append_assoc, append-nil, inl, inr, arith}
-use Rattle.std.specs.List.{range_with_len}
-use Rattle.std.specs.List.Sorted.{IsStrictlyIncreasing}
+-- Runs keep the law, each pull is shown, and each trouble has its cause.
+use Rattle.std.proofs.Common.{◌≡◌, ℕ, List, [], ◌∷◌, ◌++◌, ◌≤◌, length, Bool, true, false, Option, Some, None, Result, Ok, Err, refl, sym, ap, ◌∙◌, subst, append_assoc, append-nil, inl, inr, arith}
 use Rattle.rv_wire.specs.declared.error_body.ErrorBody.{ErrorBody}
-use Rattle.rv_book.specs.Book.{Book, last}
+use Rattle.rv_book.specs.declared.entry.Entry.{Entry}
+use Rattle.rv_book.specs.declared.entry.Entry.TheVariants.{Look}
+use Rattle.rv_book.specs.Book.{Book}
+use Rattle.rv_wire.specs.declared.pull.PullRequest.{PullRequest}
+use Rattle.rv_history.specs.Bases.{base_of}
 use Rattle.rv_history.specs.declared.pull_reply.PullReply.{PullReply}
 use Rattle.rv_history.specs.declared.pull_answer.PullAnswer.{PullAnswer}
 use Rattle.rv_history.specs.declared.pull_answer.PullAnswer.TheVariants as pulls
-use Rattle.rv_history.specs.declared.retire_answer.RetireAnswer.{RetireAnswer}
-use Rattle.rv_history.specs.Machine.{Pulls, pull_outcome, retire_outcome}
-use Rattle.rv_history.specs.Served.{Served, ServedMutates, ServedPulls, ServedRetires}
-use Rattle.rv_history.specs.Lawful.{IsLawful}
-use Rattle.rv_history.specs.Laws.{act_ids, look_orders, IdsCountUp, OrdersRise, PushesKeepLaw, PullsKeepLaw, RetirementsKeepLaw, PullsShow}
+use Rattle.rv_history.specs.Machine.{Replies, next_order, pull_outcome, retire_outcome}
+use Rattle.rv_history.specs.Served.{Served, Settles, ServedMutates, ServedPulls, ServedRetires, IsSound, KeepsLaw}
+use Rattle.rv_history.specs.Laws.{IdsCountUp, OrdersRise, PushesKeepLaw, PullsKeepLaw, RetirementsKeepLaw, PullsShow}
 use Rattle.rv_answering.specs.declared.answer.Answer.{Answer}
-use Rattle.rv_answering.specs.declared.answer.Answer.TheVariants.{Pushed, Pulled, Retired, Refused}
+use Rattle.rv_answering.specs.declared.answer.Answer.TheVariants.{Pulled}
 use Rattle.rv_answering.specs.declared.request.Request.{Request}
 use Rattle.rv_answering.specs.declared.request.Request.TheVariants.{Push, Pull, Retire}
+use Rattle.rv_answering.specs.declared.line.Line.{Line}
+use Rattle.rv_answering.specs.declared.line.Line.TheVariants.{Asks, Stop}
 use Rattle.rv_answering.specs.Requests.{Asked}
 use Rattle.rv_answering.specs.Steps.{Answers, push_answer, pull_answer, retire_answer}
-use Rattle.rv_cli.specs.Headline.{Step, Run, ShowsAt}
+use Rattle.rv_cli.specs.Headline.{Step, Reopens, Takes, Run, ShowsAt, IsLawfulRun, IsShown}
 
-abbrev Kept : Served → Served → Type 0
-Kept old new = IsLawful new.book × ((more : Book) × (new.book ≡ old.book ++ more))
+law_same : (old new : Served) → new ≡ old → IsSound old → KeepsLaw old new
+law_same old new same sound = subst (λ (s : Served). KeepsLaw old s) (sym same) (record { sound = sound; more = ([], sym (append-nil old.book)); limit = refl; later = omega arith })
 
-kept_same : (old new : Served) → new ≡ old → IsLawful old.book → Kept old new
-kept_same old new same lawful = subst (λ (s : Served). Kept old s) (sym same) (lawful, ([], sym (append-nil old.book)))
+-- the book goes on
+abbrev Goes : Served → Served → Type 0
+Goes old new = (more : Book) × (new.book ≡ old.book ++ more)
 
-kept_on : (old mid new : Served) → Kept old mid → Kept mid new → Kept old new
-kept_on old mid new (_, (some, p)) (lawful, (more, q)) = (lawful, (some ++ more, q ∙ ap (λ (b : Book). b ++ more) p ∙ append_assoc old.book some more))
+goes_on : (old mid new : Served) → Goes old mid → Goes mid new → Goes old new
+goes_on old mid new (some, p) (more, q) = (some ++ more, q ∙ ap (λ (b : Book). b ++ more) p ∙ append_assoc old.book some more)
 
-answers_keep : PushesKeepLaw → PullsKeepLaw → RetirementsKeepLaw → (old new : Served) (request : Request) (answer : Answer) → Answers ServedMutates ServedPulls ServedRetires old request answer new → IsLawful old.book → Kept old new
-answers_keep pushes pulled retired old new (Push user push) answer (refused, h, is) lawful = let kept = pushes (record { user = user; group = push.group }) push.mutations old new refused h lawful in (kept.0, kept.1)
-answers_keep pushes pulled retired old new (Pull user pull) answer (outcome, h, is) lawful = pulled old.limit user pull old.book new.book outcome h.0 lawful
-answers_keep pushes pulled retired old new (Retire group) answer (outcome, h, is) lawful = retired old.limit group old.book new.book outcome h.0 lawful
+-- the same over stops: the book goes on where what is kept is told
+record Kept (Told : Type 0) (old new : Served) : Type 0 where
+  pub sound : IsSound new
+  pub more : Told → Goes old new
+  pub later : old.faults ≤ new.faults
 
-step_keeps : PushesKeepLaw → PullsKeepLaw → RetirementsKeepLaw → (old new : Served) (asked : Asked) (answer : Answer) → Step old asked answer new → IsLawful old.book → Kept old new
-step_keeps pushes pulled retired old new (Ok (Push user push)) answer (inl wants) lawful = kept_same old new wants.1 lawful
-step_keeps pushes pulled retired old new (Ok (Push user push)) answer (inr h) lawful = answers_keep pushes pulled retired old new (Push user push) answer h lawful
-step_keeps pushes pulled retired old new (Ok (Pull user pull)) answer (inl wants) lawful = kept_same old new wants.1 lawful
-step_keeps pushes pulled retired old new (Ok (Pull user pull)) answer (inr h) lawful = answers_keep pushes pulled retired old new (Pull user pull) answer h lawful
-step_keeps pushes pulled retired old new (Ok (Retire group)) answer h lawful = answers_keep pushes pulled retired old new (Retire group) answer h lawful
-step_keeps pushes pulled retired old new (Err fault) answer (inl wants) lawful = kept_same old new wants.1 lawful
-step_keeps pushes pulled retired old new (Err fault) answer (inr told) lawful = kept_same old new told.1 lawful
+kept_on : (Told : Type 0) (old mid new : Served) → Kept Told old mid → Kept Told mid new → Kept Told old new
+kept_on Told old mid new before after = record {
+  sound = after.sound;
+  more = λ told. goes_on old mid new (before.more told) (after.more told);
+  later = let one = before.later in let two = after.later in omega (arith, one, two);
+}
 
-run_keeps : PushesKeepLaw → PullsKeepLaw → RetirementsKeepLaw → (first now : Served) (askeds : List Asked) (answers : List Answer) → Run first askeds answers now → IsLawful first.book → Kept first now
-run_keeps pushes pulled retired first now [] [] same lawful = kept_same first now same lawful
-run_keeps pushes pulled retired first now [] (answer ∷ answers) h lawful = absurd h
-run_keeps pushes pulled retired first now (asked ∷ askeds) [] h lawful = absurd h
-run_keeps pushes pulled retired first now (asked ∷ askeds) (answer ∷ answers) (mid, step, rest) lawful =
-    let kept = step_keeps pushes pulled retired first mid asked answer step lawful in kept_on first mid now kept (run_keeps pushes pulled retired mid now askeds answers rest kept.0)
+kept_law : (Told : Type 0) (old new : Served) → KeepsLaw old new → Kept Told old new
+kept_law Told old new law = record { sound = law.sound; more = λ told. law.more; later = law.later }
 
-pub books_are_lawful : PushesKeepLaw → PullsKeepLaw → RetirementsKeepLaw → IdsCountUp → OrdersRise → (first now : Served) (askeds : List Asked) (answers : List Answer) → Run first askeds answers now → IsLawful first.book
-    → IsLawful now.book × ((more : Book) × (now.book ≡ first.book ++ more)) × ((client : List ℕ) → act_ids client now.book ≡ range_with_len 1 (last client now.book)) × ((group : List ℕ) → IsStrictlyIncreasing (look_orders group now.book))
-books_are_lawful pushes pulled retired ids orders first now askeds answers run lawful =
-    let kept = run_keeps pushes pulled retired first now askeds answers run lawful in
-    (kept.0, kept.1, λ client. ids now.book client kept.0, λ group. orders now.book group kept.0)
+settles_go : (book settled : Book) (doubt : Option Entry) → Settles book doubt settled → (more : Book) × (settled ≡ book ++ more)
+settles_go book settled None same = ([], same ∙ sym (append-nil book))
+settles_go book settled (Some entry) (inl same) = ([], same ∙ sym (append-nil book))
+settles_go book settled (Some entry) (inr is) = (entry ∷ [], is)
+
+kept_reopened : (Told : Type 0) (old new : Served) → Reopens Told old new → Kept Told old new
+kept_reopened Told old new r = record { sound = r.sound; more = λ told. settles_go old.book new.book old.doubt (r.settled told); later = let n = r.faults in omega (arith, n) }
+
+module _ (pushes : PushesKeepLaw) (pulled : PullsKeepLaw) (retired : RetirementsKeepLaw) where
+  answers_keep : (old new : Served) (request : Request) (answer : Answer) → Answers ServedMutates ServedPulls ServedRetires old request answer new → IsSound old → KeepsLaw old new
+  answers_keep old new (Push user push) answer (refused, h, is) sound = pushes (record { user = user; group = push.group }) push.mutations old new refused h sound
+  answers_keep old new (Pull user pull) answer (outcome, h, is) sound = pulled user pull old new outcome h sound
+  answers_keep old new (Retire group) answer (outcome, h, is) sound = retired group old new outcome h sound
+
+  step_keeps : (old new : Served) (asked : Asked) (answer : Answer) → Step old asked answer new → IsSound old → KeepsLaw old new
+  step_keeps old new (Ok (Push user push)) answer (inl wants) sound = law_same old new wants.1 sound
+  step_keeps old new (Ok (Push user push)) answer (inr h) sound = answers_keep old new (Push user push) answer h sound
+  step_keeps old new (Ok (Pull user pull)) answer (inl wants) sound = law_same old new wants.1 sound
+  step_keeps old new (Ok (Pull user pull)) answer (inr h) sound = answers_keep old new (Pull user pull) answer h sound
+  step_keeps old new (Ok (Retire group)) answer h sound = answers_keep old new (Retire group) answer h sound
+  step_keeps old new (Err fault) answer (inl wants) sound = law_same old new wants.1 sound
+  step_keeps old new (Err fault) answer (inr told) sound = law_same old new told.1 sound
+
+  takes_keep : (Told : Type 0) (old new : Served) (line : Line) (answer : Option Answer) → Takes Told old line answer new → IsSound old → Kept Told old new
+  takes_keep Told old new (Asks asked) (Some answer) step sound = kept_law Told old new (step_keeps old new asked answer step sound)
+  takes_keep Told old new Stop None reopens sound = kept_reopened Told old new reopens
+  takes_keep Told old new (Asks asked) None never sound = absurd never
+  takes_keep Told old new Stop (Some answer) never sound = absurd never
+
+  run_keeps : (Told : Type 0) (first now : Served) (lines : List Line) (answers : List (Option Answer)) → Run Told first lines answers now → IsSound first → Kept Told first now
+  run_keeps Told first now [] [] same sound = kept_law Told first now (law_same first now same sound)
+  run_keeps Told first now [] (answer ∷ answers) h sound = absurd h
+  run_keeps Told first now (line ∷ lines) [] h sound = absurd h
+  run_keeps Told first now (line ∷ lines) (answer ∷ answers) (mid, step, rest) sound =
+      let kept = takes_keep Told first mid line answer step sound in kept_on Told first mid now kept (run_keeps Told mid now lines answers rest kept.sound)
+
+  pub books_are_lawful : IdsCountUp → OrdersRise → (Told : Type 0) (first now : Served) (lines : List Line) (answers : List (Option Answer)) → Run Told first lines answers now → IsSound first → IsLawfulRun Told first now
+  books_are_lawful ids orders Told first now lines answers run sound =
+      let kept = run_keeps Told first now lines answers run sound in
+      record { sound = kept.sound; more = kept.more; ids = λ client. ids now.book client kept.sound.lawful; orders = λ group. orders now.book group kept.sound.lawful; later = kept.later }
 
 -- no push and no retirement is answered by a reply
 no_push : (reply : PullReply) (refused : Option ErrorBody) → Pulled reply ≡ push_answer refused → ⊥
@@ -71,32 +104,50 @@ same_reply reply (pulls.Pulled other) e = let same : other ≡ reply = cc in ap 
 same_reply reply pulls.GroupOfOther e = absurd (cc)
 same_reply reply pulls.NotFound e = absurd (cc)
 same_reply reply (pulls.Limit what at) e = absurd (cc)
+same_reply reply pulls.Keeper e = absurd (cc)
+same_reply reply (pulls.Changed kept found) e = absurd (cc)
 same_reply reply pulls.Memory e = absurd (cc)
 
-shown_at : PullsShow → (point new : Served) (asked : Asked) (reply : PullReply) → Step point asked (Pulled reply) new → ShowsAt asked reply point.book new.book
+-- the pull was answered at the settled book
+record AnswersPull (point new : Served) (asked : Asked) (reply : PullReply) : Type 0 where
+  pub settled : Book
+  pub settles : Settles point.book point.doubt settled
+  pub shows : ShowsAt asked reply settled new.book
+  pub here : (more : Book) × (new.book ≡ settled ++ more)
+
+pulled_at : PullsShow → (point new : Served) (user : List ℕ) (pull : PullRequest) (reply : PullReply) (outcome : PullAnswer) → outcome ≡ pulls.Pulled reply → ServedPulls point user pull outcome new → AnswersPull point new (Ok (Pull user pull)) reply
+pulled_at show point new user pull reply outcome same taken =
+    let here : ServedPulls point user pull (pulls.Pulled reply) new = subst (λ (o : PullAnswer). ServedPulls point user pull o new) same taken in
+    let (settled, settles, step, none) = here.turn in
+    record {
+      settled = settled;
+      settles = settles;
+      shows = record { user = user; request = pull; asks = refl; tells = show point.limit user pull settled new.book reply step };
+      here = replied point.limit user pull settled new.book reply.same reply step.1;
+    }
+  where
+    replied : (limit : ℕ) (user : List ℕ) (request : PullRequest) (book new : Book) (same : Bool) (reply : PullReply) → Replies limit user request book same reply new → (more : Book) × (new ≡ book ++ more)
+    replied limit user request book new true reply (none, is, same) = ([], same ∙ sym (append-nil book))
+    replied limit user request book new false reply (some, fits, room, is, more) = (Look user request.group (next_order request book) (base_of user request.cookie book) ∷ [], more)
+
+shown_at : PullsShow → (point new : Served) (asked : Asked) (reply : PullReply) → Step point asked (Pulled reply) new → AnswersPull point new asked reply
 shown_at show point new (Ok (Push user push)) reply (inl wants) = absurd (let no = wants.0 in cc)
 shown_at show point new (Ok (Push user push)) reply (inr (refused, h, is)) = absurd (no_push reply refused is)
 shown_at show point new (Ok (Pull user pull)) reply (inl wants) = absurd (let no = wants.0 in cc)
-shown_at show point new (Ok (Pull user pull)) reply (inr (outcome, h, is)) =
-    let step : Pulls point.limit user pull point.book (pulls.Pulled reply) new.book = subst (λ (o : PullAnswer). Pulls point.limit user pull point.book o new.book) (same_reply reply outcome is) h.0 in
-    record { user = user; request = pull; asks = refl; tells = show point.limit user pull point.book new.book reply step }
+shown_at show point new (Ok (Pull user pull)) reply (inr (outcome, h, is)) = pulled_at show point new user pull reply outcome (same_reply reply outcome is) h
 shown_at show point new (Ok (Retire group)) reply (outcome, h, is) = absurd (no_retirement reply (retire_outcome outcome) is)
 shown_at show point new (Err fault) reply (inl wants) = absurd (let no = wants.0 in cc)
 shown_at show point new (Err fault) reply (inr told) = absurd (let no = told.0 in cc)
 
--- of a pull that is answered after these: its point, the step there, the state that it leaves, and the books going on
-abbrev Shown : Served → List Asked → List Answer → Asked → PullReply → Served → Type 0
-Shown first before answered asked reply now =
-    (point new : Served) × Run first before answered point × Step point asked (Pulled reply) new × ShowsAt asked reply point.book new.book × ((more : Book) × (new.book ≡ point.book ++ more)) × ((more : Book) × (now.book ≡ new.book ++ more))
-
-pub pulls_are_shown : PushesKeepLaw → PullsKeepLaw → RetirementsKeepLaw → PullsShow → (first now : Served) (before after : List Asked) (answered answers : List Answer) (asked : Asked) (reply : PullReply) → IsLawful first.book → length before ≡ length answered
-    → Run first (before ++ asked ∷ after) (answered ++ Pulled reply ∷ answers) now → Shown first before answered asked reply now
-pulls_are_shown pushes pulled retired show first now [] after [] answers asked reply lawful same (mid, step, rest) =
-    let kept = step_keeps pushes pulled retired first mid asked (Pulled reply) step lawful in
-    (first, mid, refl, step, shown_at show first mid asked reply step, kept.1, (run_keeps pushes pulled retired mid now after answers rest kept.0).1)
-pulls_are_shown pushes pulled retired show first now [] after (x ∷ answered) answers asked reply lawful same run = absurd (omega (arith, same))
-pulls_are_shown pushes pulled retired show first now (a ∷ before) after [] answers asked reply lawful same run = absurd (omega (arith, same))
-pulls_are_shown pushes pulled retired show first now (a ∷ before) after (x ∷ answered) answers asked reply lawful same (mid, step, rest) =
-    let kept = step_keeps pushes pulled retired first mid a x step lawful in
-    let (point, new, run, own, shows, here, more) = pulls_are_shown pushes pulled retired show mid now before after answered answers asked reply kept.0 (omega (arith, same)) rest in
-    (point, new, (mid, step, run), own, shows, here, more)
+pub pulls_are_shown : PushesKeepLaw → PullsKeepLaw → RetirementsKeepLaw → PullsShow → (Told : Type 0) (first now : Served) (before after : List Line) (answered answers : List (Option Answer)) (asked : Asked) (reply : PullReply) → IsSound first → length before ≡ length answered
+    → Run Told first (before ++ Asks asked ∷ after) (answered ++ Some (Pulled reply) ∷ answers) now → IsShown Told first now before answered asked reply
+pulls_are_shown pushes pulled retired show Told first now [] after [] answers asked reply sound same (mid, step, rest) =
+    let law = step_keeps pushes pulled retired first mid asked (Pulled reply) step sound in
+    let at = shown_at show first mid asked reply step in
+    record { point = first; new = mid; settled = at.settled; run = refl; step = step; settles = at.settles; shows = at.shows; here = at.here; on = (run_keeps pushes pulled retired Told mid now after answers rest law.sound).more }
+pulls_are_shown pushes pulled retired show Told first now [] after (x ∷ answered) answers asked reply sound same run = absurd (omega (arith, same))
+pulls_are_shown pushes pulled retired show Told first now (a ∷ before) after [] answers asked reply sound same run = absurd (omega (arith, same))
+pulls_are_shown pushes pulled retired show Told first now (a ∷ before) after (x ∷ answered) answers asked reply sound same (mid, step, rest) =
+    let kept = takes_keep pushes pulled retired Told first mid a x step sound in
+    let shown = pulls_are_shown pushes pulled retired show Told mid now before after answered answers asked reply kept.sound (omega (arith, same)) rest in
+    record { point = shown.point; new = shown.new; settled = shown.settled; run = (mid, step, shown.run); step = shown.step; settles = shown.settles; shows = shown.shows; here = shown.here; on = shown.on }

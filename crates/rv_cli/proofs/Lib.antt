@@ -1,4 +1,8 @@
-pub mod LawfulRuns
 pub mod Runs
 pub mod Going
 pub mod Ended
+pub mod LawfulRuns
+pub mod Taking
+pub mod Storing
+pub mod Troubled
+pub mod Fed

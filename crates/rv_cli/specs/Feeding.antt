@@ -1,28 +1,30 @@
 -- What becomes of one line, and of all lines before the status's own text is written.
-use Rattle.std.specs.Prelude.{ℕ, ◌≡◌, List, Option, Some, None, IfSome}
+use Rattle.std.specs.Prelude.{ℕ, ◌≡◌, ◌≤◌, List, Some, None, IfSome, Result, Ok, Err}
 use Rattle.std.specs.Io.KnownBytes.{Consumes, Appends}
 use Rattle.rv_base.specs.Causes.{Rose}
 use Rattle.rv_base.specs.Outside.{InputState, OutputState}
 use Rattle.rv_base.specs.Writes.{AppendsFront}
-use Rattle.rv_history.specs.Served.{Served, ServedMutates, ServedPulls, ServedRetires}
+use Rattle.rv_keeper.specs.declared.loaded.Loaded.{Loaded}
+use Rattle.rv_history.specs.Served.{Served}
+use Rattle.rv_desk.specs.Seated.{Seated, HoldsBook, served}
 use Rattle.rv_answering.specs.declared.answer.Answer.{Answer}
-use Rattle.rv_answering.specs.Requests.{asked_of}
-use Rattle.rv_answering.specs.Lines as lines
+use Rattle.rv_answering.specs.declared.line.Line.TheVariants.{Asks, Stop}
+use Rattle.rv_answering.specs.Requests.{Asked, line_of}
 use Rattle.rv_cli.specs.declared.ending.Ending.{Ending}
-use Rattle.rv_cli.specs.declared.ending.Ending.TheVariants.{Done, Read, Write, Memory, Malformed}
-use Rattle.rv_cli.specs.declared.line.Outcome.{Outcome}
-use Rattle.rv_cli.specs.declared.line.Outcome.TheVariants as outcomes
+use Rattle.rv_cli.specs.declared.ending.Ending.TheVariants.{Done, Keeper, Damaged, Read, Write, Memory, Malformed}
 use Rattle.rv_cli.specs.Texts.{text_of}
-use Rattle.rv_cli.specs.Headline.{Ends, ReadsSo}
-
--- the line asks something, and the machine answers it so
-abbrev pub LineStep : Served → List ℕ → Answer → Served → Type 0
-LineStep = lines.LineStep ServedMutates ServedPulls ServedRetires
+use Rattle.rv_cli.specs.Headline.{Step, Reopens, Ends, ReadsSo}
 
 -- counts of an output that stay
 pub record Stays (old new : OutputState) : Type 0 where
   pub faults : new.faults ≡ old.faults
   pub refusals : new.refusals ≡ old.refusals
+
+-- the line asks something, and the server answers it so
+pub record LineStep (old : Served) (line : List ℕ) (answer : Answer) (new : Served) : Type 0 where
+  pub asked : Asked
+  pub asks : line_of line ≡ Some (Asks asked)
+  pub step : Step old asked answer new
 
 -- a line that was answered
 pub record WritesAnswer (old : Served) (line : List ℕ) (new : Served) (before now : OutputState) : Type 0 where
@@ -38,55 +40,107 @@ pub record CutsAnswer (old : Served) (line : List ℕ) (new : Served) (before no
   pub front : AppendsFront before.written now.written (text_of answer)
   pub rose : Rose before.faults now.faults
 
-abbrev pub AnswersLine : Served → List ℕ → Served → OutputState → OutputState → Outcome → Type 0
-AnswersLine old line new before now outcomes.Answered = WritesAnswer old line new before now
-AnswersLine old line new before now outcomes.Malformed = (asked_of line ≡ None) × (new ≡ old) × (now ≡ before)
-AnswersLine old line new before now outcomes.WriteFault = CutsAnswer old line new before now
-AnswersLine old line new before now outcomes.Memory = (new ≡ old) × (now ≡ before)
+-- a stop, after which the server was opened again
+pub record Stopped (Told : Type 0) (old : Served) (line : List ℕ) (new : Served) (before now : OutputState) : Type 0 where
+  pub stop : line_of line ≡ Some Stop
+  pub reopens : Reopens Told old new
+  pub kept : now ≡ before
 
--- of a sink that fails no more: it goes on so, and a write failed only where memory was refused to it
-abbrev pub OutcomeIsSteady : Type 0 → ℕ → ℕ → Outcome → Type 0
-OutcomeIsSteady steady before now outcomes.WriteFault = steady × Rose before now
-OutcomeIsSteady steady before now outcomes.Answered = steady
-OutcomeIsSteady steady before now outcomes.Malformed = steady
-OutcomeIsSteady steady before now outcomes.Memory = steady
+-- the ending is one of a desk that does not open
+abbrev pub IsNoStop : Ending → Type 0
+IsNoStop Keeper = Unit {0}
+IsNoStop (Damaged shelf key) = Unit {0}
+IsNoStop Memory = Unit {0}
+IsNoStop ending = ⊥
+
+module _ {K : Type 0} (tells : K → Type 0) (holds : K → Loaded → Type 0) (faults : K → ℕ) where
+  -- A keeper that is left with this state: where it tells, it holds the book, with what is in doubt; and its count of faults is not
+  -- below that of the state.
+  pub record IsLeftWith (now : Served) (keeper : K) : Type 0 where
+    pub held : tells keeper → HoldsBook (holds keeper) now.book now.doubt
+    pub later : now.faults ≤ faults keeper
+
+  -- a request is answered, and its answer written; or only a front of the answer was
+  abbrev pub ServesOrNot : Seated K → Asked → Result (Seated K) (Ending × K) → OutputState → OutputState → Type 0
+  ServesOrNot old asked (Ok new) before now =
+      ((answer : Answer) × Step (served faults old) asked answer (served faults new) × Appends before.written now.written (text_of answer)) × Stays before now × (tells new.keeper → tells old.keeper)
+  ServesOrNot old asked (Err (Write, keeper)) before now =
+      ((answer : Answer) × (new : Served) × Step (served faults old) asked answer new × AppendsFront before.written now.written (text_of answer) × IsLeftWith new keeper)
+      × Rose before.faults now.faults × (tells keeper → tells old.keeper)
+  ServesOrNot old asked (Err (ending, keeper)) before now = ⊥
+
+  -- at the ending of that name the keeper failed, and a damage comes only of one that doesn't tell
+  abbrev pub RoseAt : Ending → ℕ → K → Type 0
+  RoseAt Keeper before keeper = Rose before (faults keeper)
+  RoseAt (Damaged shelf key) before keeper = tells keeper → ⊥
+  RoseAt ending before keeper = Unit {0}
+
+  -- a stop: the desk is open again; or it is not, and the keeper is left as it was
+  abbrev pub ReopensOrNot : Seated K → Result (Seated K) (Ending × K) → Type 0
+  ReopensOrNot old (Ok new) = Reopens (tells new.keeper) (served faults old) (served faults new) × (tells new.keeper → tells old.keeper)
+  ReopensOrNot old (Err (ending, keeper)) =
+      IsNoStop ending × IsLeftWith (served faults old) keeper × (tells keeper → tells old.keeper) × RoseAt ending (faults old.keeper) keeper
+
+  -- a line after which the lines go on: it was answered, or was a stop
+  pub data GoesOn (old : Seated K) (line : List ℕ) (new : Seated K) (before now : OutputState) : Type 0 where
+    answered : WritesAnswer (served faults old) line (served faults new) before now → GoesOn old line new before now
+    stopped : Stopped (tells new.keeper) (served faults old) line (served faults new) before now → GoesOn old line new before now
+
+  -- a line with this number at which the lines end so, with this state
+  abbrev pub EndsLine : Served → List ℕ → ℕ → Served → OutputState → OutputState → Ending → Type 0
+  EndsLine old line number new before now (Malformed n) = (n ≡ number) × (line_of line ≡ None) × (new ≡ old) × (now ≡ before)
+  EndsLine old line number new before now Write = CutsAnswer old line new before now
+  EndsLine old line number new before now Memory = (new ≡ old) × (now ≡ before)
+  EndsLine old line number new before now Keeper = (line_of line ≡ Some Stop) × (new ≡ old) × (now ≡ before)
+  EndsLine old line number new before now (Damaged shelf key) = (line_of line ≡ Some Stop) × (new ≡ old) × (now ≡ before)
+  EndsLine old line number new before now Done = ⊥
+  EndsLine old line number new before now Read = ⊥
+
+  pub record EndedLine (old : Seated K) (line : List ℕ) (number : ℕ) (ended : Ending × K) (before now : OutputState) : Type 0 where
+    pub new : Served
+    pub ends : EndsLine (served faults old) line number new before now ended.0
+    pub left : IsLeftWith new ended.1
+    pub told : tells ended.1 → tells old.keeper
+    pub rose : RoseAt ended.0 (faults old.keeper) ended.1
+
+  -- what becomes of a line
+  abbrev pub TakesLine : Seated K → List ℕ → ℕ → Result (Seated K) (Ending × K) → OutputState → OutputState → Type 0
+  TakesLine old line number (Ok new) before now = GoesOn old line new before now × (tells new.keeper → tells old.keeper) × (faults old.keeper ≤ faults new.keeper)
+  TakesLine old line number (Err ended) before now = EndedLine old line number ended before now
+
+  -- the last line was taken, or ended the lines itself
+  pub data LastLine (old : Seated K) (line : List ℕ) (number : ℕ) (ended : Ending × K) (before now : OutputState) : Type 0 where
+    done : (new : Seated K) → TakesLine old line number (Ok new) before now → IsLeftWith (served faults new) new.keeper → ended ≡ (Done, new.keeper) → LastLine old line number ended before now
+    ends : EndedLine old line number ended before now → LastLine old line number ended before now
 
 -- what was read, and the text of answers that was added
-pub record FedAnswers (first : Served) (bytes : List ℕ) (input' : InputState) (output output' : OutputState) (ending : Ending) : Type 0 where
+pub record FedAnswers (Told : Type 0) (first now : Served) (bytes : List ℕ) (input' : InputState) (output output' : OutputState) (ending : Ending) : Type 0 where
   pub read : List ℕ
   pub text : List ℕ
-  pub now : Served
   pub consumed : Consumes (Some bytes) input'.left read
   pub appended : Appends output.written output'.written text
-  pub ends : Ends first bytes read text now ending
+  pub ends : Ends Told first bytes read text now ending
 
 -- a write failed exactly at the ending of this name
 abbrev pub AnswerFaults : ℕ → ℕ → Ending → Type 0
 AnswerFaults before now Write = Rose before now
 AnswerFaults before now Done = now ≡ before
+AnswerFaults before now Keeper = now ≡ before
+AnswerFaults before now (Damaged shelf key) = now ≡ before
 AnswerFaults before now Read = now ≡ before
 AnswerFaults before now Memory = now ≡ before
 AnswerFaults before now (Malformed number) = now ≡ before
 
 -- how the lines end
-pub record Feeds (first : Served) (input input' : InputState) (output output' : OutputState) (ending : Ending) : Type 0 where
+pub record Feeds (Told : Type 0) (first now : Served) (input input' : InputState) (output output' : OutputState) (ending : Ending) : Type 0 where
   pub reads : ReadsSo input input' ending
   pub writes : AnswerFaults output.faults output'.faults ending
-  pub fed : IfSome input.left (λ bytes. FedAnswers first bytes input' output output' ending)
+  pub fed : IfSome input.left (λ bytes. FedAnswers Told first now bytes input' output output' ending)
 
--- a source that fails no more goes on so, and no read failed
-pub record InputIsSteady (steady : Type 0) (ending : Ending) : Type 0 where
-  pub goes_on : steady
-  pub no_fault : ending ≡ Read → ⊥
-
--- a sink that fails no more goes on so, and a write failed only where memory was refused to it
-pub record OutputIsSteady (steady : Type 0) (before now : ℕ) (ending : Ending) : Type 0 where
-  pub goes_on : steady
-  pub only_memory : ending ≡ Write → Rose before now
-
--- how a run ends after a line that ends with the input
-abbrev pub ending_after : Outcome → ℕ → Ending
-ending_after outcomes.Answered number = Done
-ending_after outcomes.Malformed number = Malformed number
-ending_after outcomes.WriteFault number = Write
-ending_after outcomes.Memory number = Memory
+-- how the lines end, and with which keeper
+pub record FeedsWith {K : Type 0} (tells : K → Type 0) (holds : K → Loaded → Type 0) (faults : K → ℕ) (first : Seated K) (input input' : InputState) (output output' : OutputState) (ended : Ending × K) : Type 0 where
+  pub now : Served
+  pub feeds : Feeds (tells ended.1) (served faults first) now input input' output output' ended.0
+  pub left : IsLeftWith tells holds faults now ended.1
+  pub told : tells ended.1 → tells first.keeper
+  pub rose : RoseAt tells holds faults ended.0 (faults first.keeper) ended.1

@@ -1,65 +1,96 @@
--- The headline: what a run of the program reads, writes and answers. It is read from the top down: a line and what it asks,
--- what is answered, how a run ends, what `run` promises of each command, and what follows for each pull.
-use Rattle.std.specs.Prelude.{ℕ, ◌≡◌, ◌<◌, ◌+◌, ◌-◌, ◌^◌, ◌⊎◌, ◌&&◌, List, [], ◌∷◌, ◌++◌, length, nat_le, nat_lt, Option, Some, None, IfSome, Ok, if◌then◌else◌}
-use Rattle.std.specs.List.{flat_map, range_with_len}
+-- The headline: what a run of the program reads, writes and answers, and what is kept. It is read from the top down: a line and
+-- what it asks, what is answered, how a run over lines ends, how it begins and what it leaves, what `run` promises of each
+-- command, and what follows.
+use Rattle.std.specs.Prelude.{ℕ, ◌≡◌, ◌≤◌, ◌+◌, ◌-◌, ◌^◌, ◌⊎◌, ◌&&◌, List, [], ◌∷◌, ◌++◌, length, nat_le, nat_lt, Bool, true, Option, Some, None, IfSome, Ok, if◌then◌else◌}
+use Rattle.std.specs.List.{flat_map, range_with_len, AllByRecursion}
 use Rattle.std.specs.List.Sorted.{IsStrictlyIncreasing}
+use Rattle.std.specs.Option.{option_map_or}
 use Rattle.std.specs.Io.KnownBytes.{Consumes, Appends}
 use Rattle.rv_base.specs.Causes.{Rose}
 use Rattle.rv_base.specs.Outside.{InputState, OutputState, counted}
 use Rattle.rv_base.specs.Writes.{IsFront}
 use Rattle.rv_lines.specs.Lines.{lines_of, ended_lines_of, longest_line}
 use Rattle.rv_lines.specs.Taken.{IsNeeded}
+use Rattle.rv_wire.specs.declared.error_body.ErrorBody.TheVariants as errors
 use Rattle.rv_wire.specs.declared.pull.PullRequest.{PullRequest}
 use Rattle.rv_book.specs.Book.{Book, last}
-use Rattle.rv_history.specs.Served.{Served, ServedMutates, ServedPulls, ServedRetires}
-use Rattle.rv_history.specs.Lawful.{IsLawful}
+use Rattle.rv_history.specs.Served.{Served, ServedMutates, ServedPulls, ServedRetires, Settles, IsSound}
 use Rattle.rv_history.specs.Laws.{act_ids, look_orders, Tells}
 use Rattle.rv_history.specs.declared.pull_reply.PullReply.{PullReply}
-use Rattle.rv_answering.specs.declared.request.Request.TheVariants.{Pull, Retire}
+use Rattle.rv_keeper.specs.declared.loaded.Loaded.{Loaded}
+use Rattle.rv_keeper.specs.Stores.{TakesUp}
+use Rattle.rv_store.specs.Opening.{MayOpen, IsDamaged}
+use Rattle.rv_desk.specs.Seated.{IsKeptWith}
+use Rattle.rv_answering.specs.declared.request.Request.TheVariants.{Pull}
 use Rattle.rv_answering.specs.declared.answer.Answer.{Answer}
-use Rattle.rv_answering.specs.declared.answer.Answer.TheVariants.{Pulled}
-use Rattle.rv_answering.specs.Requests.{Asked, asked_of}
+use Rattle.rv_answering.specs.declared.answer.Answer.TheVariants.{Pulled, Refused}
+use Rattle.rv_answering.specs.declared.line.Line.{Line}
+use Rattle.rv_answering.specs.declared.line.Line.TheVariants.{Asks, Stop}
+use Rattle.rv_answering.specs.Requests.{Asked, line_of}
 use Rattle.rv_answering.specs.Steps as steps
 use Rattle.rv_cli.specs.declared.ending.Ending.{Ending}
-use Rattle.rv_cli.specs.declared.ending.Ending.TheVariants.{Done, Read, Write, Memory, Malformed}
+use Rattle.rv_cli.specs.declared.ending.Ending.TheVariants.{Done, Keeper, Damaged, Read, Write, Memory, Malformed}
 use Rattle.rv_cli.specs.Texts.{text_of, status_of, status_text}
 
 -- ---- A line.
 
--- What the line with this number, from 1, asks, where it is of the form: it is no longer than a line may be, its number is
--- below 2^32, and its bytes ask something.
-abbrev pub asked_at : ℕ → List ℕ → Option Asked
-asked_at number line = if nat_le (length line) longest_line && nat_lt number (2 ^ 32) then asked_of line else None
+-- What the line with this number, from 1, is, where it is of the form: it is no longer than a line may be, its number is below
+-- 2^32, and its bytes ask something or are a stop.
+abbrev pub line_at : ℕ → List ℕ → Option Line
+line_at number line = if nat_le (length line) longest_line && nat_lt number (2 ^ 32) then line_of line else None
 
--- each of these lines, numbered on from this number, is of the form and asks this
-abbrev pub Ask : ℕ → List (List ℕ) → List Asked → Type 0
-Ask number [] [] = Unit {0}
-Ask number (line ∷ lines) (asked ∷ askeds) = (asked_at number line ≡ Some asked) × Ask (number + 1) lines askeds
-Ask number [] (asked ∷ askeds) = ⊥
-Ask number (line ∷ lines) [] = ⊥
+-- each of these lines, numbered on from this number, is of the form and is this
+abbrev pub Are : ℕ → List (List ℕ) → List Line → Type 0
+Are number [] [] = Unit {0}
+Are number (bytes ∷ rest) (line ∷ lines) = (line_at number bytes ≡ Some line) × Are (number + 1) rest lines
+Are number [] (line ∷ lines) = ⊥
+Are number (bytes ∷ rest) [] = ⊥
 
 -- ---- What is answered.
 
--- one request is answered by the machine
+-- one request is answered by the server
 abbrev pub Step : Served → Asked → Answer → Served → Type 0
 Step = steps.Step ServedMutates ServedPulls ServedRetires
 
--- requests are, one after another
-abbrev pub Run : Served → List Asked → List Answer → Served → Type 0
-Run = steps.Run ServedMutates ServedPulls ServedRetires
+-- The server is closed and opened again: nothing is in doubt then, and the count of faults stays. Where what is kept is
+-- told, the book is the settled one, and else some lawful book within the limit.
+pub record Reopens (Told : Type 0) (old new : Served) : Type 0 where
+  pub sound : IsSound new
+  pub limit : new.limit ≡ 2 ^ 32 - 1
+  pub doubt : new.doubt ≡ None
+  pub faults : new.faults ≡ old.faults
+  pub settled : Told → Settles old.book old.doubt new.book
 
--- A run of the machine from the first state answers what these lines ask, by this text.
-pub record Answered (first : Served) (lines : List (List ℕ)) (text : List ℕ) (now : Served) : Type 0 where
-  pub askeds : List Asked
-  pub answers : List Answer
-  pub asks : Ask 1 lines askeds
-  pub run : Run first askeds answers now
-  pub told : text ≡ flat_map text_of answers
+-- a request has its answer, and a stop has none
+abbrev pub Takes : Type 0 → Served → Line → Option Answer → Served → Type 0
+Takes Told old (Asks asked) (Some answer) new = Step old asked answer new
+Takes Told old Stop None new = Reopens Told old new
+Takes Told old (Asks asked) None new = ⊥
+Takes Told old Stop (Some answer) new = ⊥
+
+-- lines are taken one after another
+abbrev pub Run : Type 0 → Served → List Line → List (Option Answer) → Served → Type 0
+Run Told old [] [] new = new ≡ old
+Run Told old (line ∷ lines) (answer ∷ answers) new = (mid : Served) × Takes Told old line answer mid × Run Told mid lines answers new
+Run Told old [] (answer ∷ answers) new = ⊥
+Run Told old (line ∷ lines) [] new = ⊥
+
+-- the line of an answer; a stop writes nothing
+abbrev pub told_text : Option Answer → List ℕ
+told_text answer = option_map_or text_of answer []
+
+-- A run from the first state takes what these lines are, and writes this text.
+pub record Answered (Told : Type 0) (first : Served) (lines : List (List ℕ)) (text : List ℕ) (now : Served) : Type 0 where
+  pub taken : List Line
+  pub answers : List (Option Answer)
+  pub are : Are 1 lines taken
+  pub run : Run Told first taken answers now
+  pub told : text ≡ flat_map told_text answers
 
 -- ---- How a run over lines ends.
 
 -- Of the last line that is looked at only a front of the answer was written. The lines before it are answered.
-pub record IsCutOff (first : Served) (bytes read text : List ℕ) (now : Served) : Type 0 where
+pub record IsCutOff (Told : Type 0) (first : Served) (bytes read text : List ℕ) (now : Served) : Type 0 where
   pub lines : List (List ℕ)
   pub line : List ℕ
   pub others : List (List ℕ)
@@ -68,9 +99,9 @@ pub record IsCutOff (first : Served) (bytes read text : List ℕ) (now : Served)
   pub needed : IsNeeded read (length lines + 1)
   pub before : List ℕ
   pub mid : Served
-  pub answered : Answered first lines before mid
+  pub answered : Answered Told first lines before mid
   pub asked : Asked
-  pub asks : asked_at (length lines + 1) line ≡ Some asked
+  pub asks : line_at (length lines + 1) line ≡ Some (Asks asked)
   pub answer : Answer
   pub step : Step mid asked answer now
   pub part : List ℕ
@@ -78,57 +109,74 @@ pub record IsCutOff (first : Served) (bytes read text : List ℕ) (now : Served)
   pub front : IsFront part (text_of answer)
 
 -- The line with this number is the first that isn't of the form, and all lines before it are answered.
-pub record StopsAt (first : Served) (number : ℕ) (bytes read text : List ℕ) (now : Served) : Type 0 where
+pub record StopsAt (Told : Type 0) (first : Served) (number : ℕ) (bytes read text : List ℕ) (now : Served) : Type 0 where
   pub lines : List (List ℕ)
   pub line : List ℕ
   pub others : List (List ℕ)
   pub are : lines_of bytes ≡ lines ++ line ∷ others
   pub count : number ≡ length lines + 1
-  pub asks : asked_at number line ≡ None
+  pub asks : line_at number line ≡ None
   pub needed : IsNeeded read (length lines + 1)
-  pub answered : Answered first lines text now
+  pub answered : Answered Told first lines text now
 
--- These first lines are answered, and memory was refused before it was known what the next one asks.
-pub record StopsAfter (first : Served) (bytes read text : List ℕ) (now : Served) : Type 0 where
+-- These first lines are answered, and memory was refused before it was known what the next one asks, or in opening again.
+pub record StopsAfter (Told : Type 0) (first : Served) (bytes read text : List ℕ) (now : Served) : Type 0 where
   pub lines : List (List ℕ)
   pub others : List (List ℕ)
   pub are : lines_of bytes ≡ lines ++ others
   pub needed : IsNeeded read (length lines + 1)
-  pub answered : Answered first lines text now
+  pub answered : Answered Told first lines text now
+
+-- The next line is a stop, after which the server did not open again. The lines before it are answered.
+pub record StaysClosed (Told : Type 0) (first : Served) (bytes read text : List ℕ) (now : Served) : Type 0 where
+  pub lines : List (List ℕ)
+  pub line : List ℕ
+  pub others : List (List ℕ)
+  pub are : lines_of bytes ≡ lines ++ line ∷ others
+  pub stop : line_at (length lines + 1) line ≡ Some Stop
+  pub needed : IsNeeded read (length lines + 1)
+  pub answered : Answered Told first lines text now
 
 -- A run over these bytes, of which some were read, may end so, with this text of answers and this state.
-abbrev pub Ends : Served → List ℕ → List ℕ → List ℕ → Served → Ending → Type 0
+abbrev pub Ends : Type 0 → Served → List ℕ → List ℕ → List ℕ → Served → Ending → Type 0
 -- the input was read to its end, and all its lines are answered
-Ends first bytes read text now Done = (read ≡ bytes) × Answered first (lines_of bytes) text now
+Ends Told first bytes read text now Done = (read ≡ bytes) × Answered Told first (lines_of bytes) text now
 -- a read failed, and all lines whose LF was read are answered
-Ends first bytes read text now Read = Answered first (ended_lines_of read) text now × IsNeeded read (length (ended_lines_of read) + 1)
-Ends first bytes read text now Write = IsCutOff first bytes read text now
-Ends first bytes read text now Memory = StopsAfter first bytes read text now
-Ends first bytes read text now (Malformed number) = StopsAt first number bytes read text now
+Ends Told first bytes read text now Read = Answered Told first (ended_lines_of read) text now × IsNeeded read (length (ended_lines_of read) + 1)
+Ends Told first bytes read text now Write = IsCutOff Told first bytes read text now
+Ends Told first bytes read text now Memory = StopsAfter Told first bytes read text now
+Ends Told first bytes read text now (Malformed number) = StopsAt Told first number bytes read text now
+Ends Told first bytes read text now Keeper = StaysClosed Told first bytes read text now
+Ends Told first bytes read text now (Damaged shelf key) = StaysClosed Told first bytes read text now
+
+-- the text, and no write failed; or a front of it, and one did
+abbrev pub IsPart : ℕ → ℕ → List ℕ → List ℕ → Type 0
+IsPart before now own text = ((own ≡ text) × (now ≡ before)) ⊎ (IsFront own text × Rose before now)
 
 -- What was written of the status's own text, by the count of the output's faults: all of it, and no write failed; or a
 -- front of it, and one did. After a failed write of an answer nothing more is written.
 abbrev pub IsOwnText : ℕ → ℕ → List ℕ → Ending → Type 0
 IsOwnText before now own Write = (own ≡ []) × Rose before now
 IsOwnText before now own Done = (own ≡ []) × (now ≡ before)
-IsOwnText before now own Read = ((own ≡ status_text Read) × (now ≡ before)) ⊎ (IsFront own (status_text Read) × Rose before now)
-IsOwnText before now own Memory = ((own ≡ status_text Memory) × (now ≡ before)) ⊎ (IsFront own (status_text Memory) × Rose before now)
-IsOwnText before now own (Malformed number) = ((own ≡ status_text (Malformed number)) × (now ≡ before)) ⊎ (IsFront own (status_text (Malformed number)) × Rose before now)
+IsOwnText before now own Keeper = IsPart before now own (status_text Keeper)
+IsOwnText before now own (Damaged shelf key) = IsPart before now own (status_text (Damaged shelf key))
+IsOwnText before now own Read = IsPart before now own (status_text Read)
+IsOwnText before now own Memory = IsPart before now own (status_text Memory)
+IsOwnText before now own (Malformed number) = IsPart before now own (status_text (Malformed number))
 
 -- the text, or where a write failed a front of it, and nothing else was written
 abbrev pub WritesOnly : OutputState → OutputState → List ℕ → Type 0
-WritesOnly old new text = (own : List ℕ) × Appends old.written new.written own × (((own ≡ text) × (new.faults ≡ old.faults)) ⊎ (IsFront own text × Rose old.faults new.faults))
+WritesOnly old new text = (own : List ℕ) × Appends old.written new.written own × IsPart old.faults new.faults own text
 
 -- The bytes that were read are the front of the input's, and what was added to the output is the text of the answers, and
 -- then the status's own.
-pub record Fed (first : Served) (bytes : List ℕ) (input' : InputState) (output output' : OutputState) (ending : Ending) : Type 0 where
+pub record Fed (Told : Type 0) (first now : Served) (bytes : List ℕ) (input' : InputState) (output output' : OutputState) (ending : Ending) : Type 0 where
   pub read : List ℕ
   pub text : List ℕ
   pub own : List ℕ
-  pub now : Served
   pub consumed : Consumes (Some bytes) input'.left read
   pub appended : Appends output.written output'.written (text ++ own)
-  pub ends : Ends first bytes read text now ending
+  pub ends : Ends Told first bytes read text now ending
   pub status : IsOwnText output.faults output'.faults own ending
 
 -- A failed read is told by its status, and by no other; nothing is read after the end.
@@ -136,6 +184,8 @@ abbrev pub ReadsSo : InputState → InputState → Ending → Type 0
 ReadsSo old new Done = (new.faults ≡ old.faults) × (new.ends ≡ counted old.ends)
 ReadsSo old new Read = Rose old.faults new.faults × (new.ends ≡ old.ends)
 ReadsSo old new Write = (new.faults ≡ old.faults) × ((new.ends ≡ old.ends) ⊎ (new.ends ≡ counted old.ends))
+ReadsSo old new Keeper = (new.faults ≡ old.faults) × ((new.ends ≡ old.ends) ⊎ (new.ends ≡ counted old.ends))
+ReadsSo old new (Damaged shelf key) = (new.faults ≡ old.faults) × ((new.ends ≡ old.ends) ⊎ (new.ends ≡ counted old.ends))
 ReadsSo old new Memory = (new.faults ≡ old.faults) × ((new.ends ≡ old.ends) ⊎ (new.ends ≡ counted old.ends))
 ReadsSo old new (Malformed number) = (new.faults ≡ old.faults) × ((new.ends ≡ old.ends) ⊎ (new.ends ≡ counted old.ends))
 
@@ -143,19 +193,81 @@ ReadsSo old new (Malformed number) = (new.faults ≡ old.faults) × ((new.ends �
 abbrev pub WritesSo : ℕ → ℕ → Ending → Type 0
 WritesSo before now Done = now ≡ before
 WritesSo before now Write = Rose before now
+WritesSo before now Keeper = (now ≡ before) ⊎ Rose before now
+WritesSo before now (Damaged shelf key) = (now ≡ before) ⊎ Rose before now
 WritesSo before now Read = (now ≡ before) ⊎ Rose before now
 WritesSo before now Memory = (now ≡ before) ⊎ Rose before now
 WritesSo before now (Malformed number) = (now ≡ before) ⊎ Rose before now
 
--- ---- What `run` promises of `feed`: the status is that of an ending, the faults are told by it, and where the source tells
--- its bytes, the run ended so.
-abbrev pub RunsFeed : Served → InputState → InputState → OutputState → OutputState → ℕ → Type 0
-RunsFeed first input input' output output' status =
-    (ending : Ending) × (status ≡ status_of ending) × ReadsSo input input' ending × WritesSo output.faults output'.faults ending × IfSome input.left (λ bytes. Fed first bytes input' output output' ending)
+-- ---- How a run begins, and what it leaves. The place tells what its stores hold; this is what the store is opened with, and
+-- this is what it holds afterwards; and these are the place's counts of faults before and after.
+
+-- This was loaded: where the place tells, the one thing that the store is opened with.
+abbrev pub WasStored : Type 0 → (Loaded → Type 0) → Loaded → Type 0
+WasStored Told Stored loaded = Told → (held : Loaded) → Stored held → held ≡ loaded
+
+-- The state of the book that the store was kept as: nothing is in doubt, and no fault rose.
+pub record Begins (Told : Type 0) (Stored : Loaded → Type 0) (first : Served) : Type 0 where
+  pub loaded : Loaded
+  pub stored : WasStored Told Stored loaded
+  pub opens : MayOpen (2 ^ 32 - 1) first.book loaded
+  pub limit : first.limit ≡ 2 ^ 32 - 1
+  pub doubt : first.doubt ≡ None
+  pub faults : first.faults ≡ 0
+
+-- Where the place tells, the store holds the cells of the book, or with an entry in doubt of the book or of the book with it. The
+-- place takes up the faults of the keeper, of which each trouble in the run was one.
+pub record Leaves (Told : Type 0) (Holds : Loaded → Type 0) (before after : ℕ) (now : Served) : Type 0 where
+  pub held : Told → (held : Loaded) × Holds held × IsKeptWith now.book now.doubt held
+  pub kept : ℕ
+  pub later : now.faults ≤ kept
+  pub taken : TakesUp kept before after
+
+-- Why a store did not open: the place or the keeper failed, and the place's count of faults rose; or what was loaded is damaged
+-- first at this place, and is left as it is; or memory was refused.
+abbrev pub IsNotOpened : Type 0 → (Loaded → Type 0) → (Loaded → Type 0) → ℕ → ℕ → Ending → Type 0
+IsNotOpened Told Stored Holds before after Keeper = Rose before after
+IsNotOpened Told Stored Holds before after (Damaged shelf key) =
+    (loaded : Loaded) × WasStored Told Stored loaded × IsDamaged (2 ^ 32 - 1) loaded shelf key × (Told → (held : Loaded) → Stored held → Holds held) × (after ≡ before)
+IsNotOpened Told Stored Holds before after Memory = Unit {0}
+IsNotOpened Told Stored Holds before after ending = ⊥
+
+-- At a stop a trouble with what keeps the book is told only where the place's count of faults rose, and a damage only where the
+-- place doesn't tell.
+abbrev pub KeepsSo : Type 0 → ℕ → ℕ → Ending → Type 0
+KeepsSo Told before after Keeper = Rose before after
+KeepsSo Told before after (Damaged shelf key) = Told → ⊥
+KeepsSo Told before after ending = Unit {0}
+
+-- ---- What `run` promises of `feed`: the status is that of an ending. The store did not open, and nothing was read; or the faults
+-- are told by the ending, and where the source tells its bytes, the run ended so.
+module _ (Told : Type 0) (Stored Holds : Loaded → Type 0) (before after : ℕ) where
+  pub record NotFed (input input' : InputState) (output output' : OutputState) (ending : Ending) : Type 0 where
+    pub why : IsNotOpened Told Stored Holds before after ending
+    pub same : input' ≡ input
+    pub text : WritesOnly output output' (status_text ending)
+
+  pub record HasFed (input input' : InputState) (output output' : OutputState) (ending : Ending) : Type 0 where
+    pub first : Served
+    pub now : Served
+    pub begins : Begins Told Stored first
+    pub reads : ReadsSo input input' ending
+    pub writes : WritesSo output.faults output'.faults ending
+    pub fed : IfSome input.left (λ bytes. Fed Told first now bytes input' output output' ending)
+    pub keeps : KeepsSo Told before after ending
+    pub leaves : Leaves Told Holds before after now
+
+  abbrev pub RunsFeed : InputState → InputState → OutputState → OutputState → ℕ → Type 0
+  RunsFeed input input' output output' status =
+      (ending : Ending) × (status ≡ status_of ending) × (NotFed input input' output output' ending ⊎ HasFed input input' output output' ending)
 
 -- where the source tells and all its lines are of the form, P
 abbrev pub AllAsk : Option (List ℕ) → Type 0 → Type 0
-AllAsk left P = IfSome left (λ bytes. (askeds : List Asked) → Ask 1 (lines_of bytes) askeds → P)
+AllAsk left P = IfSome left (λ bytes. (taken : List Line) → Are 1 (lines_of bytes) taken → P)
+
+-- a status that is not that of a line which isn't of the form
+abbrev pub IsOther : ℕ → Type 0
+IsOther status = (status ≡ 0) ⊎ (status ≡ 4) ⊎ (status ≡ 5) ⊎ (status ≡ 6) ⊎ (status ≡ 7) ⊎ (status ≡ 8)
 
 -- ---- And of `retire`: the same over the one request.
 
@@ -163,33 +275,42 @@ AllAsk left P = IfSome left (λ bytes. (askeds : List Asked) → Ask 1 (lines_of
 abbrev pub EndsOne : Served → Asked → List ℕ → Served → Ending → Type 0
 EndsOne first asked text now Done = (answer : Answer) × Step first asked answer now × (text ≡ text_of answer)
 EndsOne first asked text now Write = (answer : Answer) × Step first asked answer now × IsFront text (text_of answer)
-EndsOne first asked text now Memory = ⊥
-EndsOne first asked text now Read = ⊥
-EndsOne first asked text now (Malformed number) = ⊥
+EndsOne first asked text now ending = ⊥
 
--- what was added to the output is the text of the answer
-pub record Replied (first : Served) (asked : Asked) (output output' : OutputState) (ending : Ending) : Type 0 where
-  pub text : List ℕ
-  pub now : Served
-  pub appended : Appends output.written output'.written text
-  pub ends : EndsOne first asked text now ending
-  pub status : IsOwnText output.faults output'.faults [] ending
+module _ (Told : Type 0) (Stored Holds : Loaded → Type 0) (before after : ℕ) where
+  pub record NotRetired (output output' : OutputState) (ending : Ending) : Type 0 where
+    pub why : IsNotOpened Told Stored Holds before after ending
+    pub text : WritesOnly output output' (status_text ending)
 
--- the status is that of an ending, and the run of this one request ended so
-abbrev pub RunsOne : Served → Asked → OutputState → OutputState → ℕ → Type 0
-RunsOne first asked output output' status = (ending : Ending) × (status ≡ status_of ending) × Replied first asked output output' ending
+  -- what was added to the output is the text of the answer
+  pub record Replied (asked : Asked) (output output' : OutputState) (ending : Ending) : Type 0 where
+    pub first : Served
+    pub now : Served
+    pub begins : Begins Told Stored first
+    pub text : List ℕ
+    pub appended : Appends output.written output'.written text
+    pub ends : EndsOne first asked text now ending
+    pub status : IsOwnText output.faults output'.faults [] ending
+    pub leaves : Leaves Told Holds before after now
 
--- ---- The store in memory: the empty book, and the most entries that a book may have.
-abbrev pub fresh : Served
-fresh = record { book = []; limit = 2 ^ 32 - 1 }
+  -- the status is that of an ending, and the run of this one request ended so
+  abbrev pub RunsOne : Asked → OutputState → OutputState → ℕ → Type 0
+  RunsOne asked output output' status = (ending : Ending) × (status ≡ status_of ending) × (NotRetired output output' ending ⊎ Replied asked output output' ending)
 
 -- ---- What follows.
 
--- The book of a run from a lawful book is lawful, and begins with it: each client's acts have the ids 1, 2, 3 and so on, and
--- the orders of each group's looks rise.
+-- A run from a sound state leaves a sound one: its book is lawful, each client's acts have the ids 1, 2, 3 and so on, and the
+-- orders of each group's looks rise. Where what is kept is told, the book begins with the first.
+pub record IsLawfulRun (Told : Type 0) (first now : Served) : Type 0 where
+  pub sound : IsSound now
+  pub more : Told → (more : Book) × (now.book ≡ first.book ++ more)
+  pub ids : (client : List ℕ) → act_ids client now.book ≡ range_with_len 1 (last client now.book)
+  pub orders : (group : List ℕ) → IsStrictlyIncreasing (look_orders group now.book)
+  pub later : first.faults ≤ now.faults
+
+-- Of runs where what is kept is told, and of those where it is not.
 abbrev pub BooksAreLawful : Type 0
-BooksAreLawful = (first now : Served) (askeds : List Asked) (answers : List Answer) → Run first askeds answers now → IsLawful first.book
-    → IsLawful now.book × ((more : Book) × (now.book ≡ first.book ++ more)) × ((client : List ℕ) → act_ids client now.book ≡ range_with_len 1 (last client now.book)) × ((group : List ℕ) → IsStrictlyIncreasing (look_orders group now.book))
+BooksAreLawful = (told : Bool) (first now : Served) (lines : List Line) (answers : List (Option Answer)) → Run (told ≡ true) first lines answers now → IsSound first → IsLawfulRun (told ≡ true) first now
 
 -- A pull was answered at a point of the book, and left the new book: the reply tells what the laws of the machine say of a
 -- pull. Its patch, applied to the view that the request's cookie names, gives exactly what the user sees at the point.
@@ -199,9 +320,30 @@ pub record ShowsAt (asked : Asked) (reply : PullReply) (point new : Book) : Type
   pub asks : asked ≡ Ok (Pull user request)
   pub tells : Tells user request point new reply
 
--- Each pull that a run from a lawful book answers is answered at the point of the book that the run before it leaves, by a
--- step of the machine there, and the book goes on from the book after it.
+-- Of a pull that is answered in a run: the state before it, the settled book at which it is answered, and the state after it.
+pub record IsShown (Told : Type 0) (first now : Served) (before : List Line) (answered : List (Option Answer)) (asked : Asked) (reply : PullReply) : Type 0 where
+  pub point : Served
+  pub new : Served
+  pub settled : Book
+  pub run : Run Told first before answered point
+  pub step : Step point asked (Pulled reply) new
+  pub settles : Settles point.book point.doubt settled
+  pub shows : ShowsAt asked reply settled new.book
+  pub here : (more : Book) × (new.book ≡ settled ++ more)
+  pub on : Told → (more : Book) × (now.book ≡ new.book ++ more)
+
+-- Each pull that a run from a sound state answers is answered at the settled book of the point that the run before it leaves, by
+-- a step of the server there, and the book goes on from the book after it.
 abbrev pub PullsAreShown : Type 0
-PullsAreShown = (first now : Served) (before after : List Asked) (answered answers : List Answer) (asked : Asked) (reply : PullReply) → IsLawful first.book → length before ≡ length answered
-    → Run first (before ++ asked ∷ after) (answered ++ Pulled reply ∷ answers) now
-    → (point new : Served) × Run first before answered point × Step point asked (Pulled reply) new × ShowsAt asked reply point.book new.book × ((more : Book) × (new.book ≡ point.book ++ more)) × ((more : Book) × (now.book ≡ new.book ++ more))
+PullsAreShown = (told : Bool) (first now : Served) (before after : List Line) (answered answers : List (Option Answer)) (asked : Asked) (reply : PullReply) → IsSound first → length before ≡ length answered
+    → Run (told ≡ true) first (before ++ Asks asked ∷ after) (answered ++ Some (Pulled reply) ∷ answers) now → IsShown (told ≡ true) first now before answered asked reply
+
+-- the answer tells a trouble with what keeps the book
+abbrev pub TellsTrouble : Option Answer → Type 0
+TellsTrouble (Some (Refused errors.Keeper)) = Unit {0}
+TellsTrouble (Some (Refused (errors.Changed found kept))) = Unit {0}
+TellsTrouble answer = ⊥
+
+-- Where no fault of what keeps the book rose in a run, no answer tells a trouble with it.
+abbrev pub TroublesHaveCauses : Type 0
+TroublesHaveCauses = (told : Bool) (first now : Served) (lines : List Line) (answers : List (Option Answer)) → Run (told ≡ true) first lines answers now → now.faults ≡ 0 → AllByRecursion (λ answer. TellsTrouble answer → ⊥) answers

@@ -1,3 +1,6 @@
 pub mod Texts
 pub mod Headline
+pub mod Storing
 pub mod Feeding
+pub mod Steadiness
+pub mod Replying

@@ -1,9 +1,13 @@
 -- The texts that a run writes: the lines of answers, and the text of each status.
-use Rattle.std.specs.Prelude.{ℕ, List, [], ◌++◌, codes, decimal}
+use Rattle.std.specs.Prelude.{ℕ, ◌&&◌, ◌==◌, List, [], ◌∷◌, ◌++◌, codes, decimal, nat_le, not, if◌then◌else◌}
+use Rattle.std.specs.List.{flat_map}
+use Rattle.percent_encoding.specs.Percent.{percent_encode_byte}
 use Rattle.rv_answering.specs.declared.answer.Answer.{Answer}
 use Rattle.rv_answering.specs.Texts.{answer_status, answer_body}
+use Rattle.rv_desk.specs.declared.open_fault.OpenFault.{OpenFault}
+use Rattle.rv_desk.specs.declared.open_fault.OpenFault.TheVariants as faults
 use Rattle.rv_cli.specs.declared.ending.Ending.{Ending}
-use Rattle.rv_cli.specs.declared.ending.Ending.TheVariants.{Done, Read, Write, Memory, Malformed}
+use Rattle.rv_cli.specs.declared.ending.Ending.TheVariants.{Done, Keeper, Damaged, Read, Write, Memory, Malformed}
 
 -- STATUS BODY, and LF
 abbrev pub line_text : ℕ → List ℕ → List ℕ
@@ -12,16 +16,35 @@ line_text status body = decimal status ++ (codes " " ++ (body ++ codes "\n"))
 abbrev pub text_of : Answer → List ℕ
 text_of answer = line_text (answer_status answer) (answer_body answer)
 
+-- how a run ends whose desk is not opened
+abbrev pub fault_ending : OpenFault → Ending
+fault_ending faults.Keeper = Keeper
+fault_ending (faults.Damaged shelf key) = Damaged shelf key
+fault_ending faults.Memory = Memory
+
 abbrev pub status_of : Ending → ℕ
 status_of Done = 0
+status_of Keeper = 4
+status_of (Damaged shelf key) = 5
 status_of Read = 6
 status_of Write = 7
 status_of Memory = 8
 status_of (Malformed line) = 10
 
+-- a byte of a key as it is shown: a visible character other than % as it stands, and any other byte as % and two hexadecimal
+-- digits (URL Standard, section 1.3)
+abbrev pub shown_byte : ℕ → List ℕ
+shown_byte byte = if nat_le 33 byte && nat_le byte 126 && not (byte == 37) then byte ∷ [] else percent_encode_byte byte
+
+-- SHELF KEY
+abbrev pub place_text : ℕ → List ℕ → List ℕ
+place_text shelf key = decimal shelf ++ (codes " " ++ flat_map shown_byte key)
+
 -- the status's own text
 abbrev pub status_text : Ending → List ℕ
 status_text Done = []
+status_text Keeper = codes "keeper\n"
+status_text (Damaged shelf key) = codes "damaged: " ++ (place_text shelf key ++ codes "\n")
 status_text Read = codes "read\n"
 status_text Write = []
 status_text Memory = codes "memory\n"

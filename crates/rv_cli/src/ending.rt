@@ -1,8 +1,15 @@
-/// How a run over lines ends.
-#[derive(Clone, Copy, Debug, PartialEq, Eq)]
+use rv_base::Bytes;
+use rv_desk::OpenFault;
+
+/// How a run ends.
+#[derive(Debug, Drop)]
 pub enum Ending {
     /// The input was read to its end, and all its lines are answered.
     Done,
+    /// The place or the keeper failed in opening.
+    Keeper,
+    /// What the store holds is first wrong at this shelf and key. Shelf 0 and no key are the generation.
+    Damaged(u8, Bytes),
     /// A read failed.
     Read,
     /// A write of an answer failed.
@@ -15,14 +22,27 @@ pub enum Ending {
 
 impl Ending {
     ghost use Rattle.std.specs.Prelude.{◌≡◌};
-    ghost use Rattle.rv_cli.specs.Texts.{status_of};
+    ghost use Rattle.rv_cli.specs.Texts.{status_of, fault_ending};
+
+    // How a run ends whose desk is not opened.
+    pub(crate) fn of_fault(fault: OpenFault) -> Ending
+        ensures { result ≡ fault_ending fault }
+    {
+        match fault {
+            OpenFault::Keeper => Ending::Keeper,
+            OpenFault::Damaged(shelf, key) => Ending::Damaged(shelf, key),
+            OpenFault::Memory => Ending::Memory,
+        }
+    }
 
     /// The status of the process.
-    pub fn status(self) -> u8
-        ensures { result ≡ status_of self }
+    pub fn status(&self) -> u8
+        ensures { result ≡ status_of self.now }
     {
         match self {
             Ending::Done => 0,
+            Ending::Keeper => 4,
+            Ending::Damaged(_, _) => 5,
             Ending::Read => 6,
             Ending::Write => 7,
             Ending::Memory => 8,

@@ -1,12 +1,12 @@
 // Lines are answered until something ends it.
-ghost use Rattle.std.specs.Prelude.{◌≡◌};
-ghost use Rattle.rv_cli.specs.Headline.{fresh};
-ghost use Rattle.rv_cli.specs.Feeding.{Feeds, InputIsSteady, OutputIsSteady, ending_after};
+ghost use Rattle.rv_cli.specs.Feeding.{FeedsWith, LastLine};
+ghost use Rattle.rv_cli.specs.Steadiness.{InputIsSteady, OutputIsSteady};
 
 use crate::ending::Ending;
-use crate::line::{Outcome, serve_line};
+use crate::line::take_line;
 use rv_base::{Sink, Source};
 use rv_desk::Desk;
+use rv_keeper::Keeper;
 use rv_lines::{LineFault, LineReader, Next};
 use std::alloc::Global;
 
@@ -16,50 +16,55 @@ pub(crate) const LINES_END: u64 = 4_294_967_296;
 /// The most entries of the book.
 pub(crate) const BOOK_LIMIT: u32 = 4_294_967_295;
 
-// How a line that ends the feed does so.
-fn ending_of(outcome: Outcome, number: u64) -> Ending
-    ensures { result ≡ ending_after outcome number }
+// Takes the line that ends with the input.
+fn take_last<K: Keeper, O: Sink>(
+    alloc: Global,
+    desk: Desk<K>,
+    line: &[u8],
+    number: u64,
+    out: &mut O,
+) -> (Ending, K)
+    ensures takes { LastLine K.tells K.holds K.faults desk line.now number result (O.state out.old) (O.state out.new) }
+    ensures steady { O.fails_no_more out.old → OutputIsSteady (O.fails_no_more out.new) (O.state out.old).refusals (O.state out.new).refusals result.0 }
 {
-    match outcome {
-        Outcome::Answered => Ending::Done,
-        Outcome::Malformed => Ending::Malformed(number),
-        Outcome::WriteFault => Ending::Write,
-        Outcome::Memory => Ending::Memory,
+    match take_line(alloc, desk, line, number, out) {
+        Ok(desk) => (Ending::Done, desk.close()),
+        Err(ended) => ended,
     }
 }
 
-/// Answers the lines of the input from the empty book, each as it was read.
-pub(crate) fn feed<S: Source, O: Sink>(alloc: Global, input: &mut S, out: &mut O) -> Ending
-    ensures feeds { Feeds fresh (S.state input.old) (S.state input.new) (O.state out.old) (O.state out.new) result }
-    ensures steady_input { S.fails_no_more input.old → InputIsSteady (S.fails_no_more input.new) result }
-    ensures steady_output { O.fails_no_more out.old → OutputIsSteady (O.fails_no_more out.new) (O.state out.old).refusals (O.state out.new).refusals result }
+/// Takes the lines of the input, each as it was read, and gives the ending and the keeper.
+pub(crate) fn feed<K: Keeper, S: Source, O: Sink>(
+    alloc: Global,
+    desk: Desk<K>,
+    input: &mut S,
+    out: &mut O,
+) -> (Ending, K)
+    ensures feeds { FeedsWith K.tells K.holds K.faults desk (S.state input.old) (S.state input.new) (O.state out.old) (O.state out.new) result }
+    ensures steady_input { S.fails_no_more input.old → InputIsSteady (S.fails_no_more input.new) result.0 }
+    ensures steady_output { O.fails_no_more out.old → OutputIsSteady (O.fails_no_more out.new) (O.state out.old).refusals (O.state out.new).refusals result.0 }
 {
-    let mut desk = Desk::new(alloc, BOOK_LIMIT);
+    let mut desk = desk;
     let mut reader = LineReader::new(alloc);
     for number in 1..LINES_END {
         match reader.next(input) {
-            Ok(Next::Line) => match serve_line(alloc, &mut desk, reader.line(), out) {
-                Outcome::Answered => {}
-                Outcome::Malformed => return Ending::Malformed(number),
-                Outcome::WriteFault => return Ending::Write,
-                Outcome::Memory => return Ending::Memory,
+            Ok(Next::Line) => match take_line(alloc, desk, reader.line(), number, out) {
+                Ok(next) => desk = next,
+                Err(ended) => return ended,
             },
-            Ok(Next::Last) => {
-                let outcome = serve_line(alloc, &mut desk, reader.line(), out);
-                return ending_of(outcome, number);
-            }
-            Ok(Next::End) => return Ending::Done,
-            Ok(Next::TooLong) => return Ending::Malformed(number),
-            Err(LineFault::Read) => return Ending::Read,
-            Err(LineFault::Memory) => return Ending::Memory,
+            Ok(Next::Last) => return take_last(alloc, desk, reader.line(), number, out),
+            Ok(Next::End) => return (Ending::Done, desk.close()),
+            Ok(Next::TooLong) => return (Ending::Malformed(number), desk.close()),
+            Err(LineFault::Read) => return (Ending::Read, desk.close()),
+            Err(LineFault::Memory) => return (Ending::Memory, desk.close()),
         }
     }
     match reader.next(input) {
-        Ok(Next::End) => Ending::Done,
-        Ok(Next::Line) => Ending::Malformed(LINES_END),
-        Ok(Next::Last) => Ending::Malformed(LINES_END),
-        Ok(Next::TooLong) => Ending::Malformed(LINES_END),
-        Err(LineFault::Read) => Ending::Read,
-        Err(LineFault::Memory) => Ending::Memory,
+        Ok(Next::End) => (Ending::Done, desk.close()),
+        Ok(Next::Line) => (Ending::Malformed(LINES_END), desk.close()),
+        Ok(Next::Last) => (Ending::Malformed(LINES_END), desk.close()),
+        Ok(Next::TooLong) => (Ending::Malformed(LINES_END), desk.close()),
+        Err(LineFault::Read) => (Ending::Read, desk.close()),
+        Err(LineFault::Memory) => (Ending::Memory, desk.close()),
     }
 }

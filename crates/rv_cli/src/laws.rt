@@ -1,9 +1,9 @@
 //! What follows from the clause of [`run`](crate::run), as contracts of functions that do nothing: a check of the crate
 //! proves them.
-ghost use Rattle.rv_cli.specs.Headline.{BooksAreLawful, PullsAreShown};
+ghost use Rattle.rv_cli.specs.Headline.{BooksAreLawful, PullsAreShown, TroublesHaveCauses};
 
-/// In the book of a run from the lawful book each client's acts have the ids 1, 2, 3 and so on, and the orders of each
-/// group's looks rise.
+/// In the book of a run from a lawful book each client's acts have the ids 1, 2, 3 and so on, and the orders of each group's looks
+/// rise.
 pub fn books_are_lawful()
     ensures { BooksAreLawful }
 {
@@ -24,3 +24,8 @@ pub fn pulls_are_shown()
     rv_history::laws::retirements_keep_law();
     rv_history::laws::pulls_show();
 }
+
+/// An answer that tells a trouble with what keeps the book comes only where a fault of that rose.
+pub fn troubles_have_causes()
+    ensures { TroublesHaveCauses }
+{}

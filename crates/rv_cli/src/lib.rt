@@ -1,7 +1,8 @@
 //! The command line of the server: [`run`] reads the words and does what they say.
 //!
-//! `feed memory` reads request lines and writes answer lines. Its theorem is the clause of [`run`]: what is written are
-//! the answers of a run of the machine over the lines that were read (`specs/Headline.antt`).
+//! `feed STORE` reads request lines and writes answer lines. Its theorem is the clause of [`run`]: what is written are the answers of
+//! a run over the lines that were read, from the book that the store kept, and the store keeps the book that the run leaves
+//! (`specs/Headline.antt`).
 #![tactic(auto)]
 
 mod ending;
@@ -9,6 +10,7 @@ mod feed;
 pub mod laws;
 mod line;
 mod program;
+mod store;
 mod texts;
 
 pub use ending::Ending;

@@ -1,41 +1,63 @@
-// One line: what it asks, its turns, and the answer's text.
-ghost use Rattle.rv_cli.specs.Feeding.{AnswersLine, OutcomeIsSteady};
+// One line: what it asks, its turns, and the answer's text; or a stop, at which the desk is closed and opened again.
+ghost use Rattle.std.specs.Prelude.{◌≡◌, ◌<◌, ◌^◌};
+ghost use Rattle.rv_answering.specs.declared.line.Line.TheVariants.{Asks};
+ghost use Rattle.rv_answering.specs.Reads.{IsReading};
+ghost use Rattle.rv_answering.specs.Requests.{Asked};
+ghost use Rattle.rv_cli.specs.Feeding.{ReopensOrNot, ServesOrNot, TakesLine};
+ghost use Rattle.rv_cli.specs.Steadiness.{LineIsSteady};
 
+use crate::ending::Ending;
+use crate::feed::BOOK_LIMIT;
 use crate::texts::write_answer;
-use rv_answering::answer_line;
+use rv_answering::{Asked, Line, line_of, serve_asked};
 use rv_base::{Failed, Memory, Sink};
 use rv_desk::Desk;
+use rv_keeper::Keeper;
 use std::alloc::Global;
 
-/// What became of a line.
-#[derive(Clone, Copy, Debug, PartialEq, Eq)]
-pub(crate) enum Outcome {
-    /// Its answer was written.
-    Answered,
-    /// It is not of the form.
-    Malformed,
-    /// A write of its answer failed.
-    WriteFault,
-    /// Memory was refused before it was known what the line asks.
-    Memory,
+// Answers what was read of a line, and writes its answer.
+fn serve<K: Keeper, O: Sink>(
+    desk: Desk<K>,
+    read: Asked,
+    out: &mut O,
+) -> Result<Desk<K>, (Ending, K)>
+    ensures serves { (asked : Asked) → IsReading asked read → ServesOrNot K.tells K.holds K.faults desk asked result (O.state out.old) (O.state out.new) }
+    ensures steady { O.fails_no_more out.old → LineIsSteady (O.fails_no_more out.new) (O.state out.old).refusals (O.state out.new).refusals result }
+{
+    let mut desk = desk;
+    let answer = serve_asked(&mut desk, read);
+    match write_answer(out, &answer) {
+        Ok(()) => Ok(desk),
+        Err(Failed) => Err((Ending::Write, desk.close())),
+    }
 }
 
-/// Answers a line, and writes its answer.
-pub(crate) fn serve_line<O: Sink>(
-    alloc: Global,
-    desk: &mut Desk,
-    line: &[u8],
-    out: &mut O,
-) -> Outcome
-    ensures answers { AnswersLine desk.old line.now desk.new (O.state out.old) (O.state out.new) result }
-    ensures steady { O.fails_no_more out.old → OutcomeIsSteady (O.fails_no_more out.new) (O.state out.old).refusals (O.state out.new).refusals result }
+// Closes the desk, and opens it again from its keeper.
+fn reopen<K: Keeper>(alloc: Global, desk: Desk<K>) -> Result<Desk<K>, (Ending, K)>
+    ensures { ReopensOrNot K.tells K.holds K.faults desk result }
 {
-    match answer_line(alloc, desk, line) {
-        Ok(Some(answer)) => match write_answer(out, &answer) {
-            Ok(()) => Outcome::Answered,
-            Err(Failed) => Outcome::WriteFault,
-        },
-        Ok(None) => Outcome::Malformed,
-        Err(Memory) => Outcome::Memory,
+    match Desk::open(alloc, desk.close(), BOOK_LIMIT) {
+        Ok(opened) => Ok(opened),
+        Err((fault, keeper)) => Err((Ending::of_fault(fault), keeper)),
+    }
+}
+
+/// Takes a line: answers it and writes its answer, or closes and opens the desk. Where the lines end with it, it gives the ending
+/// and the keeper.
+pub(crate) fn take_line<K: Keeper, O: Sink>(
+    alloc: Global,
+    desk: Desk<K>,
+    line: &[u8],
+    number: u64,
+    out: &mut O,
+) -> Result<Desk<K>, (Ending, K)>
+    ensures takes { TakesLine K.tells K.holds K.faults desk line.now number result (O.state out.old) (O.state out.new) }
+    ensures steady { O.fails_no_more out.old → LineIsSteady (O.fails_no_more out.new) (O.state out.old).refusals (O.state out.new).refusals result }
+{
+    match line_of(alloc, line) {
+        Ok(Some(Line::Asks(read))) => serve(desk, read, out),
+        Ok(Some(Line::Stop)) => reopen(alloc, desk),
+        Ok(None) => Err((Ending::Malformed(number), desk.close())),
+        Err(Memory) => Err((Ending::Memory, desk.close())),
     }
 }

@@ -2,12 +2,14 @@
 ghost use Rattle.std.specs.Prelude.{◌++◌, decimal, codes};
 ghost use Rattle.rv_base.specs.Outside.{Writes, IsSteady};
 ghost use Rattle.rv_answering.specs.declared.answer.Answer.TheVariants.{Refused, Retired};
-ghost use Rattle.rv_cli.specs.Texts.{line_text, text_of, status_text, usage_text};
+ghost use Rattle.std.specs.List.{flat_map};
+ghost use Rattle.rv_cli.specs.Texts.{line_text, place_text, shown_byte, text_of, status_text, usage_text};
 
 use crate::ending::Ending;
 use itoa::Buffer;
+use percent_encoding::percent_encode_byte;
 use rv_answering::Answer;
-use rv_base::{Failed, Sink, write_all};
+use rv_base::{Bytes, Failed, Sink, write_all};
 use rv_wire::{ErrorBody, error_text, retired_text};
 
 fn write_number<O: Sink>(out: &mut O, number: u64) -> Result<(), Failed>
@@ -88,17 +90,76 @@ fn write_malformed<O: Sink>(out: &mut O, number: u64) -> Result<(), Failed>
     }
 }
 
-/// Writes the text of a feed's ending.
-pub(crate) fn write_ending<O: Sink>(out: &mut O, ending: Ending) -> Result<(), Failed>
-    ensures writes { Writes (O.state out.old) (O.state out.new) result (status_text ending) }
+// Writes a byte of a key as it is shown.
+fn write_shown<O: Sink>(out: &mut O, byte: u8) -> Result<(), Failed>
+    ensures writes { Writes (O.state out.old) (O.state out.new) result (shown_byte byte) }
+    ensures steady { O.fails_no_more out.old → IsSteady (O.fails_no_more out.new) (O.state out.old) (O.state out.new) result }
+{
+    if byte.is_ascii_graphic() && byte != b'%' {
+        write_all(out, &[byte])
+    } else {
+        write_all(out, percent_encode_byte(byte).as_bytes())
+    }
+}
+
+// Writes a key as it is shown.
+fn write_key<O: Sink>(out: &mut O, key: &[u8]) -> Result<(), Failed>
+    ensures writes { Writes (O.state out.old) (O.state out.new) result (flat_map shown_byte key.now) }
+    ensures steady { O.fails_no_more out.old → IsSteady (O.fails_no_more out.new) (O.state out.old) (O.state out.new) result }
+{
+    for byte in key {
+        match write_shown(out, *byte) {
+            Ok(()) => {}
+            Err(Failed) => return Err(Failed),
+        }
+    }
+    Ok(())
+}
+
+// A shelf, a space and a key.
+fn write_place<O: Sink>(out: &mut O, shelf: u8, key: &[u8]) -> Result<(), Failed>
+    ensures writes { Writes (O.state out.old) (O.state out.new) result (place_text shelf key.now) }
+    ensures steady { O.fails_no_more out.old → IsSteady (O.fails_no_more out.new) (O.state out.old) (O.state out.new) result }
+{
+    write_number(out, u64::from(shelf))?;
+    match write_all(out, b" ") {
+        Ok(()) => write_key(out, key),
+        Err(Failed) => Err(Failed),
+    }
+}
+
+fn write_damaged<O: Sink>(out: &mut O, shelf: u8, key: &Bytes) -> Result<(), Failed>
+    ensures writes { Writes (O.state out.old) (O.state out.new) result (codes "damaged: " ++ (place_text shelf key.now ++ codes "\n")) }
+    ensures steady { O.fails_no_more out.old → IsSteady (O.fails_no_more out.new) (O.state out.old) (O.state out.new) result }
+{
+    match write_all(out, b"damaged: ") {
+        Ok(()) => write_place_ended(out, shelf, key.as_slice()),
+        Err(Failed) => Err(Failed),
+    }
+}
+
+// A shelf, a space and a key, and LF.
+fn write_place_ended<O: Sink>(out: &mut O, shelf: u8, key: &[u8]) -> Result<(), Failed>
+    ensures writes { Writes (O.state out.old) (O.state out.new) result (place_text shelf key.now ++ codes "\n") }
+    ensures steady { O.fails_no_more out.old → IsSteady (O.fails_no_more out.new) (O.state out.old) (O.state out.new) result }
+{
+    write_place(out, shelf, key)?;
+    write_all(out, b"\n")
+}
+
+/// Writes the text of an ending.
+pub(crate) fn write_ending<O: Sink>(out: &mut O, ending: &Ending) -> Result<(), Failed>
+    ensures writes { Writes (O.state out.old) (O.state out.new) result (status_text ending.now) }
     ensures steady { O.fails_no_more out.old → IsSteady (O.fails_no_more out.new) (O.state out.old) (O.state out.new) result }
 {
     match ending {
         Ending::Done => Ok(()),
+        Ending::Keeper => write_all(out, b"keeper\n"),
+        Ending::Damaged(shelf, key) => write_damaged(out, *shelf, key),
         Ending::Write => Ok(()),
         Ending::Read => write_all(out, b"read\n"),
         Ending::Memory => write_all(out, b"memory\n"),
-        Ending::Malformed(number) => write_malformed(out, number),
+        Ending::Malformed(number) => write_malformed(out, *number),
     }
 }
 

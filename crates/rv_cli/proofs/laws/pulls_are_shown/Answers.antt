@@ -1,5 +1,6 @@
+use Rattle.std.proofs.Common.{◌≡◌, true}
 use Rattle.rv_cli.proofs.LawfulRuns.{pulls_are_shown}
 use Rattle.rv_cli.proofs.laws.pulls_are_shown.Goals as goal
 
 pub returns : goal.returns
-returns c = pulls_are_shown c.pushes_keep_law.ensures c.pulls_keep_law.ensures c.retirements_keep_law.ensures c.pulls_show.ensures
+returns c = λ told. pulls_are_shown c.pushes_keep_law.ensures c.pulls_keep_law.ensures c.retirements_keep_law.ensures c.pulls_show.ensures (told ≡ true)

@@ -1,10 +1,19 @@
-use Rattle.rv_cli.proofs.Ended.{ended, completes}
+use Rattle.std.proofs.Common.{inr}
+use Rattle.rv_desk.specs.Seated.{served}
+use Rattle.rv_cli.proofs.Ended.{completes}
+use Rattle.rv_cli.proofs.Storing.{has_fed}
 use Rattle.rv_cli.proofs.program.run_feed.Goals as goal
 
-pub returns-clause-feed : goal.returns-clause-feed
-returns-clause-feed g c =
-    rw c.status.ensures (ended (g.S.Source.state c.args.input.now) (g.S.Source.state c.feed-ending.new.input) (g.O.Sink.state c.args.out.now) (g.O.Sink.state c.feed-ending.new.out) (g.O.Sink.state c.write_ending.new.out) c.feed-ending.result c.write_ending.result c.feed-ending.ensures.feeds c.write_ending.ensures.writes)
+pub returns-in-Ok-clause-feed : goal.returns-in-Ok-clause-feed
+returns-in-Ok-clause-feed g c = (
+  c.feed-ending.result.0,
+  c.status.ensures,
+  inr (has_fed g.P.Place.tells g.P.Place.holds g.P.Place.is_out g.P.Place.faults g.P.Kept.Keeper.tells g.P.Kept.Keeper.holds g.P.Kept.Keeper.faults c.args.store.now c.args.place.now c.open_desk.new.place c.close_keeper.new.self c.in-Ok.desk c.feed-ending.result
+      (g.S.Source.state c.args.input.now) (g.S.Source.state c.feed-ending.new.input) (g.O.Sink.state c.args.out.now) (g.O.Sink.state c.feed-ending.new.out) (g.O.Sink.state c.write_ending.new.out) c.write_ending.result
+      c.in-Ok.ensures c.feed-ending.ensures.feeds (record { told = c.close_keeper.ensures.tells; held = c.close_keeper.ensures.kept; taken = c.close_keeper.ensures.faults }) c.write_ending.ensures.writes),
+)
 
-pub returns-clause-complete : goal.returns-clause-complete
-returns-clause-complete g c =
-    rw c.status.ensures (completes (g.S.Source.state c.args.input.now).left (g.S.Source.state c.feed-ending.new.input) (g.O.Sink.state c.args.out.now) (g.O.Sink.state c.feed-ending.new.out) c.feed-ending.result c.feed-ending.ensures.feeds.fed)
+pub returns-in-Ok-clause-complete : goal.returns-in-Ok-clause-complete
+returns-in-Ok-clause-complete g c =
+    rw c.status.ensures (completes (g.P.Kept.Keeper.tells c.feed-ending.result.1) (served g.P.Kept.Keeper.faults c.in-Ok.desk) c.feed-ending.ensures.feeds.now (g.S.Source.state c.args.input.now).left (g.S.Source.state c.feed-ending.new.input)
+    (g.O.Sink.state c.args.out.now) (g.O.Sink.state c.feed-ending.new.out) c.feed-ending.result.0 c.feed-ending.ensures.feeds.feeds.fed)

@@ -1,0 +1,197 @@
+-- From the desk of a store, what was fed to it, and the keeper that went back, to what a run promises.
+use Rattle.std.proofs.Common.{◌≡◌, ℕ, zero, suc, ◌-◌, ◌^◌, ◌<◌, List, Option, Some, None, IfSome, Result, Ok, Err, refl, sym, ap, ◌∙◌, subst, arith}
+use Rattle.rv_base.specs.Causes.{Rose}
+use Rattle.rv_base.specs.Outside.{InputState, OutputState, Writes}
+use Rattle.rv_history.specs.Served.{Served}
+use Rattle.rv_keeper.specs.declared.loaded.Loaded.{Loaded}
+use Rattle.rv_keeper.specs.Stores.{OpensAs, OpensWith, TakesUp}
+use Rattle.rv_desk.specs.Seated.{Seated, served}
+use Rattle.rv_desk.specs.Opened.{Opens, IsRefused, IsLeft}
+use Rattle.rv_desk.specs.declared.open_fault.OpenFault.{OpenFault}
+use Rattle.rv_desk.specs.declared.open_fault.OpenFault.TheVariants as faulting
+use Rattle.rv_answering.specs.declared.answer.Answer.{Answer}
+use Rattle.rv_answering.specs.declared.request.Request.TheVariants.{Retire}
+use Rattle.rv_cli.specs.declared.ending.Ending.{Ending}
+use Rattle.rv_cli.specs.declared.ending.Ending.TheVariants.{Done, Keeper, Damaged, Read, Write, Memory, Malformed}
+use Rattle.rv_cli.specs.Texts.{fault_ending, status_text}
+use Rattle.rv_cli.specs.Headline.{Ends, Begins, Leaves, IsNotOpened, KeepsSo, HasFed, Replied}
+use Rattle.rv_cli.specs.Feeding.{IsLeftWith, RoseAt, FedAnswers, Feeds, FeedsWith}
+use Rattle.rv_cli.specs.Replying.{Retired, WritesReply}
+use Rattle.rv_cli.specs.Storing.{HasOpened, OpensStore, KeptOpened, OpensKept}
+use Rattle.rv_cli.proofs.Runs.{answered_later}
+use Rattle.rv_cli.proofs.Ended.{ended}
+
+-- what is told later was told before
+module _ (Told Now : Type 0) (then : Now → Told) where
+  ends_later : (first : Served) (bytes read text : List ℕ) (now : Served) (ending : Ending) → Ends Told first bytes read text now ending → Ends Now first bytes read text now ending
+  ends_later first bytes read text now Done (all, w) = (all, answered_later Told Now then first _ text now w)
+  ends_later first bytes read text now Read (w, needed) = (answered_later Told Now then first _ text now w, needed)
+  ends_later first bytes read text now Write e = record {
+    lines = e.lines;
+    line = e.line;
+    others = e.others;
+    are = e.are;
+    within = e.within;
+    needed = e.needed;
+    before = e.before;
+    mid = e.mid;
+    answered = answered_later Told Now then first e.lines e.before e.mid e.answered;
+    asked = e.asked;
+    asks = e.asks;
+    answer = e.answer;
+    step = e.step;
+    part = e.part;
+    told = e.told;
+    front = e.front;
+  }
+  ends_later first bytes read text now Memory e = record { lines = e.lines; others = e.others; are = e.are; needed = e.needed; answered = answered_later Told Now then first e.lines text now e.answered }
+  ends_later first bytes read text now (Malformed number) e =
+      record { lines = e.lines; line = e.line; others = e.others; are = e.are; count = e.count; asks = e.asks; needed = e.needed; answered = answered_later Told Now then first e.lines text now e.answered }
+  ends_later first bytes read text now Keeper e =
+      record { lines = e.lines; line = e.line; others = e.others; are = e.are; stop = e.stop; needed = e.needed; answered = answered_later Told Now then first e.lines text now e.answered }
+  ends_later first bytes read text now (Damaged shelf key) e =
+      record { lines = e.lines; line = e.line; others = e.others; are = e.are; stop = e.stop; needed = e.needed; answered = answered_later Told Now then first e.lines text now e.answered }
+
+  fed_later : (o : Option (List ℕ)) (first now : Served) (input' : InputState) (output output' : OutputState) (ending : Ending) → IfSome o (λ bytes. FedAnswers Told first now bytes input' output output' ending) → IfSome o (λ bytes. FedAnswers Now first now bytes input' output output' ending)
+  fed_later None first now input' output output' ending f = tt
+  fed_later (Some bytes) first now input' output output' ending f =
+      record { read = f.read; text = f.text; consumed = f.consumed; appended = f.appended; ends = ends_later first bytes f.read f.text now ending f.ends }
+
+  pub feeds_later : (first now : Served) (input input' : InputState) (output output' : OutputState) (ending : Ending) → Feeds Told first now input input' output output' ending → Feeds Now first now input input' output output' ending
+  feeds_later first now input input' output output' ending f = record { reads = f.reads; writes = f.writes; fed = fed_later input.left first now input' output output' ending f.fed }
+
+-- a count that rose from 0 is above it, and what takes it up rises
+above_none : (n : ℕ) → Rose 0 n → 0 < n
+above_none n rose = omega (arith, rose)
+
+rises : (n before after : ℕ) → 0 < n → TakesUp n before after → Rose before after
+rises zero before after more taken = absurd (omega (arith, more))
+rises (suc n) before after more taken = taken
+
+none_taken : (n before after : ℕ) → n ≡ 0 → TakesUp n before after → after ≡ before
+none_taken zero before after none taken = taken
+none_taken (suc n) before after none taken = absurd (omega (arith, none))
+
+module _ {P K : Type 0} (tells : P → Type 0) (holds : P → List ℕ → Loaded → Type 0) (is_out : P → List ℕ → Type 0) (faults : P → ℕ) (kept_tells : K → Type 0) (kept_holds : K → Loaded → Type 0) (kept_faults : K → ℕ) (store : List ℕ) where
+  -- a keeper that went back to the place
+  pub record WentBack (before after : P) (keeper : K) : Type 0 where
+    pub told : tells after → tells before × kept_tells keeper
+    pub held : tells after → (held : Loaded) → kept_holds keeper held → holds after store held
+    pub taken : TakesUp (kept_faults keeper) (faults before) (faults after)
+
+  pub kept_opened : (kept : K) (old : P) (desk : Seated K) → Opens kept_tells kept_holds kept_faults (2 ^ 32 - 1) kept desk → KeptOpened tells holds is_out faults kept_tells kept_holds kept_faults kept old desk old
+  kept_opened kept old desk opens = record { loaded = opens.loaded; stored = λ now. opens.was.told now; opens = opens.opens; limit = opens.most; doubt = opens.doubt; still = opens.still; same = refl }
+
+  pub kept_refused : (kept now : K) (old new : P) (fault : OpenFault) → IsRefused kept_tells kept_holds kept_faults (2 ^ 32 - 1) kept fault now → IsLeft kept_tells kept_holds kept_faults kept now → WentBack old new now → kept_faults kept ≡ 0
+      → (tells new → tells old) × IsNotOpened (tells new) (kept_holds kept) (holds new store) (faults old) (faults new) (fault_ending fault)
+  kept_refused kept now old new faulting.Keeper rose left back none =
+      (λ t. (back.told t).0, rises (kept_faults now) (faults old) (faults new) (above_none (kept_faults now) (subst (λ (n : ℕ). Rose n (kept_faults now)) none rose)) back.taken)
+  kept_refused kept now old new (faulting.Damaged shelf key) damaged left back none =
+      (λ t. (back.told t).0, (damaged.loaded, λ t. damaged.was.told (back.told t).1, damaged.damaged, λ t held was. back.held t held (left.held (back.told t).1 held was), none_taken (kept_faults now) (faults old) (faults new) (damaged.still ∙ none) back.taken))
+  kept_refused kept now old new faulting.Memory free left back none = (λ t. (back.told t).0, tt)
+
+  -- the store's keeper was fetched, and its desk opened or not
+  pub store_opened : (kept : K) (old mid new : P) (result : Result (Seated K) Ending) → (tells mid → is_out mid store × OpensWith store (holds old store) (kept_holds kept)) → kept_faults kept ≡ 0 → faults mid ≡ faults old
+      → OpensKept tells holds is_out faults kept_tells kept_holds kept_faults store kept mid result new → OpensStore tells holds is_out faults kept_tells kept_faults store old result new
+  store_opened kept old mid new (Ok desk) got none still opened = record {
+    loaded = opened.loaded;
+    stored = λ t now held was. opened.stored now held ((got (subst (λ (p : P). tells p) opened.same t)).1 held was);
+    opens = opened.opens;
+    limit = opened.limit;
+    doubt = opened.doubt;
+    none = opened.still ∙ none;
+    out = λ t. subst (λ (p : P). is_out p store) (sym opened.same) (got (subst (λ (p : P). tells p) opened.same t)).0;
+    same = ap faults opened.same ∙ still;
+  }
+  store_opened kept old mid new (Err ending) got none still opened =
+      let (told, why) = opened none in
+      again ending told why
+    where
+      again : (ending : Ending) → (tells new → tells mid) → IsNotOpened (tells new) (kept_holds kept) (holds new store) (faults mid) (faults new) ending
+          → IsNotOpened (tells new) (OpensAs store (holds old store)) (holds new store) (faults old) (faults new) ending
+      again Keeper told rose = subst (λ (n : ℕ). Rose n (faults new)) still rose
+      again (Damaged shelf key) told (loaded, stored, damaged, left, same) =
+          (loaded, λ t held was. stored t held ((got (told t)).1 held was), damaged, λ t held was. left t held ((got (told t)).1 held was), same ∙ still)
+      again Memory told free = tt
+      again Done told never = never
+      again Read told never = never
+      again Write told never = never
+      again (Malformed number) told never = never
+
+  keeps_so : (old mid new : P) (desk : Seated K) (keeper : K) (ending : Ending) → kept_faults desk.keeper ≡ 0 → faults mid ≡ faults old → WentBack mid new keeper
+      → RoseAt kept_tells kept_holds kept_faults ending (kept_faults desk.keeper) keeper → KeepsSo (tells new) (faults old) (faults new) ending
+  keeps_so old mid new desk keeper Keeper none same back rose =
+      subst (λ (n : ℕ). Rose n (faults new)) same (rises (kept_faults keeper) (faults mid) (faults new) (above_none (kept_faults keeper) (subst (λ (n : ℕ). Rose n (kept_faults keeper)) none rose)) back.taken)
+  keeps_so old mid new desk keeper Done none same taken rose = tt
+  keeps_so old mid new desk keeper (Damaged shelf key) none same back untold = λ t. untold (back.told t).1
+  keeps_so old mid new desk keeper Read none same taken rose = tt
+  keeps_so old mid new desk keeper Write none same taken rose = tt
+  keeps_so old mid new desk keeper Memory none same taken rose = tt
+  keeps_so old mid new desk keeper (Malformed number) none same taken rose = tt
+
+  begins : (old mid new : P) (desk : Seated K) (keeper : K) → HasOpened tells holds is_out faults kept_tells kept_faults store old desk mid → (kept_tells keeper → kept_tells desk.keeper) → WentBack mid new keeper
+      → Begins (tells new) (OpensAs store (holds old store)) (served kept_faults desk)
+  begins old mid new desk keeper opened before back = record {
+    loaded = opened.loaded;
+    stored = λ t. opened.stored (back.told t).0 (before (back.told t).1);
+    opens = opened.opens;
+    limit = opened.limit;
+    doubt = opened.doubt;
+    faults = opened.none;
+  }
+
+  leaves : (old mid new : P) (now : Served) (keeper : K) → faults mid ≡ faults old → IsLeftWith kept_tells kept_holds kept_faults now keeper → WentBack mid new keeper → Leaves (tells new) (holds new store) (faults old) (faults new) now
+  leaves old mid new now keeper same left back = record {
+    held = λ t. let (h, was, with) = left.held (back.told t).1 in (h, back.held t h was, with);
+    kept = kept_faults keeper;
+    later = left.later;
+    taken = subst (λ (n : ℕ). TakesUp (kept_faults keeper) n (faults new)) same back.taken;
+  }
+
+  -- the desk was opened and fed, and its keeper went back
+  pub has_fed : {T E : Type 0} (old mid new : P) (desk : Seated K) (ended' : Ending × K) (input input' : InputState) (first out out' : OutputState) (result : Result T E)
+      → HasOpened tells holds is_out faults kept_tells kept_faults store old desk mid → FeedsWith kept_tells kept_holds kept_faults desk input input' first out ended' → WentBack mid new ended'.1 → Writes out out' result (status_text ended'.0)
+      → HasFed (tells new) (OpensAs store (holds old store)) (holds new store) (faults old) (faults new) input input' first out' ended'.0
+  has_fed old mid new desk ended' input input' first out out' result opened fed back w =
+      let later = feeds_later (kept_tells ended'.1) (tells new) (λ t. (back.told t).1) (served kept_faults desk) fed.now input input' first out ended'.0 fed.feeds in
+      let (reads, writes, all) = ended (tells new) (served kept_faults desk) fed.now input input' first out out' ended'.0 result later w in
+      record {
+        first = served kept_faults desk;
+        now = fed.now;
+        begins = begins old mid new desk ended'.1 opened fed.told back;
+        reads = reads;
+        writes = writes;
+        fed = all;
+        keeps = keeps_so old mid new desk ended'.1 ended'.0 opened.none opened.same back fed.rose;
+        leaves = leaves old mid new fed.now ended'.1 opened.same fed.left back;
+      }
+
+  -- the same of one retirement
+  pub has_replied : (old mid new : P) (desk : Seated K) (group : List ℕ) (told : Answer × K) (first out : OutputState) (ending : Ending)
+      → HasOpened tells holds is_out faults kept_tells kept_faults store old desk mid → Retired kept_tells kept_holds kept_faults desk group told → WentBack mid new told.1 → WritesReply first out told.0 ending
+      → Replied (tells new) (OpensAs store (holds old store)) (holds new store) (faults old) (faults new) (Ok (Retire group)) first out ending
+  has_replied old mid new desk group told first out Done opened retired back (appended, still) = record {
+    first = served kept_faults desk;
+    now = retired.new;
+    begins = begins old mid new desk told.1 opened retired.before back;
+    text = _;
+    appended = appended;
+    ends = (told.0, retired.step, refl);
+    status = (refl, still);
+    leaves = leaves old mid new retired.new told.1 opened.same retired.left back;
+  }
+  has_replied old mid new desk group told first out Write opened retired back ((part, front, appended), rose) = record {
+    first = served kept_faults desk;
+    now = retired.new;
+    begins = begins old mid new desk told.1 opened retired.before back;
+    text = part;
+    appended = appended;
+    ends = (told.0, retired.step, front);
+    status = (refl, rose);
+    leaves = leaves old mid new retired.new told.1 opened.same retired.left back;
+  }
+  has_replied old mid new desk group told first out Keeper opened retired back never = absurd never
+  has_replied old mid new desk group told first out (Damaged shelf key) opened retired back never = absurd never
+  has_replied old mid new desk group told first out Read opened retired back never = absurd never
+  has_replied old mid new desk group told first out Memory opened retired back never = absurd never
+  has_replied old mid new desk group told first out (Malformed number) opened retired back never = absurd never

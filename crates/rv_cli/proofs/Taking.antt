@@ -1,0 +1,211 @@
+-- One line: what becomes of it by what it asks, and the desk that is opened again after a stop.
+use Rattle.std.proofs.Common.{◌≡◌, ℕ, ◌-◌, ◌^◌, ◌≤◌, ◌<◌, List, [], ◌∷◌, Option, Some, None, IfSome, Result, Ok, Err, refl, sym, ap, ◌∙◌, subst, arith, inl, inr}
+use Rattle.std.specs.List.{AllByRecursion}
+use Rattle.rv_base.specs.Causes.{Rose}
+use Rattle.rv_base.specs.Outside.{OutputState, Writes}
+use Rattle.rv_book.specs.declared.entry.Entry.{Entry}
+use Rattle.rv_book.specs.Book.{Book, size, with_entry}
+use Rattle.rv_book.specs.BookWords.{size-with_entry}
+use Rattle.rv_history.specs.Lawful.{IsLawful}
+use Rattle.rv_history.specs.LawfulBooks.{lawful_more}
+use Rattle.rv_history.specs.Served.{ServedMutates, ServedPulls, ServedRetires, Settles, MayStand}
+use Rattle.rv_keeper.specs.declared.loaded.Loaded.{Loaded}
+use Rattle.rv_record.specs.EntryReading.{EntryFits}
+use Rattle.rv_store.specs.Opening.{MayOpen}
+use Rattle.rv_store.specs.OpeningLaws.{opens-not_damaged}
+use Rattle.rv_store.specs.StoreBooks.{IsKeptInDoubt, settled_unique}
+use Rattle.rv_desk.specs.Seated.{Seated, HoldsBook, IsKeptWith, served}
+use Rattle.rv_desk.specs.Opened.{Opens, IsDamagedIn, IsRefused, IsLeft}
+use Rattle.rv_desk.specs.declared.open_fault.OpenFault.{OpenFault}
+use Rattle.rv_desk.specs.declared.open_fault.OpenFault.TheVariants as faulting
+use Rattle.rv_answering.specs.declared.answer.Answer.{Answer}
+use Rattle.rv_answering.specs.Steps as steps
+use Rattle.rv_answering.specs.StepLaws.{shown_mutates, shown_pulls, shown_retires, step_shown}
+use Rattle.rv_answering.specs.declared.line.Line.{Line}
+use Rattle.rv_answering.specs.declared.line.Line.TheVariants.{Asks, Stop}
+use Rattle.rv_answering.specs.Reads.{IsReading, IsLineRead, AreLines}
+use Rattle.rv_answering.specs.Requests.{Asked, line_of}
+use Rattle.rv_cli.specs.declared.ending.Ending.{Ending}
+use Rattle.rv_cli.specs.declared.ending.Ending.TheVariants.{Done, Keeper, Damaged, Read, Write, Memory, Malformed}
+use Rattle.rv_cli.specs.Texts.{fault_ending, text_of}
+use Rattle.rv_cli.specs.Headline.{Reopens, Step}
+use Rattle.rv_cli.specs.Feeding.{IsLeftWith, ServesOrNot, ReopensOrNot, GoesOn, LastLine, TakesLine}
+use Rattle.rv_cli.proofs.Troubled.{step_causes}
+
+in_doubt : (book : Book) (doubt : Option Entry) (held : Loaded) → IsKeptWith book doubt held → IsKeptInDoubt book doubt held
+in_doubt book None held kept = kept
+in_doubt book (Some entry) held kept = kept
+
+more_fit : (book : Book) (entry : Entry) → AllByRecursion EntryFits book → EntryFits entry → AllByRecursion EntryFits (with_entry book entry)
+more_fit [] entry all fit = (fit, tt)
+more_fit (e ∷ book) entry all fit = (all.0, more_fit book entry all.1 fit)
+
+none_next : (book : Book) (limit : ℕ) (doubt : Option Entry) → doubt ≡ None → MayStand book limit doubt
+none_next book limit None none = tt
+none_next book limit (Some entry) none = absurd (cc)
+
+module _ {K : Type 0} (tells : K → Type 0) (holds : K → Loaded → Type 0) (faults : K → ℕ) where
+  -- the desk that is opened from the keeper of a closed one
+  pub reopened : (old new : Seated K) (kept : K) → kept ≡ old.keeper → AllByRecursion EntryFits old.book × IfSome old.doubt EntryFits → (tells old.keeper → HoldsBook (holds old.keeper) old.book old.doubt)
+      → Opens tells holds faults (2 ^ 32 - 1) kept new → Reopens (tells new.keeper) (served faults old) (served faults new) × (tells new.keeper → tells old.keeper)
+  reopened old new kept is fits held opens =
+      let told : tells new.keeper → tells old.keeper = λ now. subst (λ (k : K). tells k) is (opens.told now) in (
+        record {
+          sound = record {
+            lawful = opens.opens.sound.lawful;
+            within = subst (λ (n : ℕ). size new.book ≤ n) (sym opens.most) opens.opens.sound.within;
+            next = none_next new.book new.limit new.doubt opens.doubt;
+          };
+          limit = opens.most;
+          doubt = opens.doubt;
+          faults = opens.still ∙ ap faults is;
+          settled = λ now. settle now (held (told now));
+        },
+        told,
+      )
+    where
+      settle : tells new.keeper → HoldsBook (holds old.keeper) old.book old.doubt → Settles old.book old.doubt new.book
+      settle now (h, was, with) =
+          let same : h ≡ opens.loaded = opens.was.told now h (subst (λ (k : K). holds k h) (sym is) was) in
+          settled_unique old.book new.book old.doubt opens.loaded fits.0 fits.1 opens.opens.sound.fits opens.opens.kept (in_doubt old.book old.doubt opens.loaded (subst (λ (l : Loaded). IsKeptWith old.book old.doubt l) same with))
+
+  -- the keeper of a desk that is not opened again
+  left_closed : (old : Seated K) (kept now : K) → kept ≡ old.keeper → (tells old.keeper → HoldsBook (holds old.keeper) old.book old.doubt) → IsLeft tells holds faults kept now
+      → IsLeftWith tells holds faults (served faults old) now × (tells now → tells old.keeper)
+  left_closed old kept now is held left =
+      let told : tells now → tells old.keeper = λ t. subst (λ (k : K). tells k) is (left.told t) in (
+        record {
+          held = λ t. let (h, was, with) = held (told t) in (h, left.held t h (subst (λ (k : K). holds k h) (sym is) was), with);
+          later = subst (λ (k : K). faults k ≤ faults now) is left.later;
+        },
+        told,
+      )
+
+  -- what a keeper that tells holds is not damaged
+  may_open : (old : Seated K) (h : Loaded) → IsLawful old.book → AllByRecursion EntryFits old.book × IfSome old.doubt EntryFits → (size old.book ≤ old.limit) × (old.limit < 2 ^ 32) → MayStand old.book old.limit old.doubt
+      → IsKeptWith old.book old.doubt h → (book : Book) × MayOpen (2 ^ 32 - 1) book h
+  may_open old h lawful fits within next with = by_doubt old.doubt fits.1 next with
+    where
+      by_doubt : (doubt : Option Entry) → IfSome doubt EntryFits → MayStand old.book old.limit doubt → IsKeptWith old.book doubt h → (book : Book) × MayOpen (2 ^ 32 - 1) book h
+      by_doubt None fit next kept = (old.book, record { sound = record { lawful = lawful; within = omega (arith, within.0, within.1); fits = fits.0 }; kept = kept })
+      by_doubt (Some entry) fit next (inl kept) = (old.book, record { sound = record { lawful = lawful; within = omega (arith, within.0, within.1); fits = fits.0 }; kept = kept })
+      by_doubt (Some entry) fit (stands, room) (inr kept) = (
+        with_entry old.book entry,
+        record {
+          sound = record {
+            lawful = lawful_more old.book entry lawful stands;
+            within = omega (arith, size-with_entry old.book entry, room, within.1);
+            fits = more_fit old.book entry fits.0 fit;
+          };
+          kept = kept;
+        },
+      )
+
+  untold : (old : Seated K) (kept now : K) (shelf : ℕ) (key : List ℕ) → kept ≡ old.keeper → IsLawful old.book → AllByRecursion EntryFits old.book × IfSome old.doubt EntryFits → (size old.book ≤ old.limit) × (old.limit < 2 ^ 32) → MayStand old.book old.limit old.doubt
+      → (tells old.keeper → HoldsBook (holds old.keeper) old.book old.doubt) → IsLeft tells holds faults kept now → IsDamagedIn tells holds faults (2 ^ 32 - 1) kept now shelf key → tells now → ⊥
+  untold old kept now shelf key is lawful fits within next held left damaged t =
+      let (h, was, with) = held (subst (λ (k : K). tells k) is (left.told t)) in
+      let same : h ≡ damaged.loaded = damaged.was.told t h (subst (λ (k : K). holds k h) (sym is) was) in
+      let (book, opens) = may_open old h lawful fits within next with in
+      opens-not_damaged (2 ^ 32 - 1) book damaged.loaded shelf key (subst (λ (l : Loaded). MayOpen (2 ^ 32 - 1) book l) same opens) damaged.damaged
+
+  pub not_reopened : (old : Seated K) (kept now : K) (fault : OpenFault) → kept ≡ old.keeper → IsLawful old.book → AllByRecursion EntryFits old.book × IfSome old.doubt EntryFits → (size old.book ≤ old.limit) × (old.limit < 2 ^ 32) → MayStand old.book old.limit old.doubt
+      → (tells old.keeper → HoldsBook (holds old.keeper) old.book old.doubt)
+      → IsRefused tells holds faults (2 ^ 32 - 1) kept fault now × IsLeft tells holds faults kept now → ReopensOrNot tells holds faults old (Err (fault_ending fault, now))
+  not_reopened old kept now faulting.Keeper is lawful fits within next held (rose, left) =
+      let (with, told) = left_closed old kept now is held left in (tt, with, told, subst (λ (k : K). Rose (faults k) (faults now)) is rose)
+  not_reopened old kept now (faulting.Damaged shelf key) is lawful fits within next held (damaged, left) =
+      let (with, told) = left_closed old kept now is held left in (tt, with, told, untold old kept now shelf key is lawful fits within next held left damaged)
+  not_reopened old kept now faulting.Memory is lawful fits within next held (free, left) =
+      let (with, told) = left_closed old kept now is held left in (tt, with, told, tt)
+
+  -- a turn of a desk is one of the server that it shows
+  abbrev pub Before : Seated K → Seated K → Type 0
+  Before old new = tells new.keeper → tells old.keeper
+
+  pub desk_step : (old new : Seated K) (asked : Asked) (answer : Answer)
+      → steps.Step (shown_mutates (served faults) Before (λ s t. t) (λ s t u p q x. p (q x)) ServedMutates ServedPulls ServedRetires) (shown_pulls (served faults) Before (λ s t. t) (λ s t u p q x. p (q x)) ServedMutates ServedPulls ServedRetires)
+      (shown_retires (served faults) Before (λ s t. t) (λ s t u p q x. p (q x)) ServedMutates ServedPulls ServedRetires) old asked answer new → Step (served faults old) asked answer (served faults new) × Before old new
+  desk_step old new asked answer step = step_shown (served faults) Before (λ s t. t) (λ s t u p q x. p (q x)) ServedMutates ServedPulls ServedRetires old new asked answer step
+
+  pub serves_whole : {E : Type 0} (old new : Seated K) (asked : Asked) (answer : Answer) (before now : OutputState) (result : Result (Unit {0}) E) → result ≡ Ok tt → Step (served faults old) asked answer (served faults new) × Before old new
+      → Writes before now result (text_of answer) → ServesOrNot tells holds faults old asked (Ok new) before now
+  serves_whole {E} old new asked answer before now result is (step, told) w =
+      let all = subst (λ (r : Result (Unit {0}) E). Writes before now r (text_of answer)) is w in
+      ((answer, step, all.bytes), record { faults = all.cause.still; refusals = all.memory.still }, told)
+
+  pub serves_front : {T E : Type 0} (old new : Seated K) (keeper : K) (asked : Asked) (answer : Answer) (before now : OutputState) (result : Result T E) (fault : E) → result ≡ Err fault → Step (served faults old) asked answer (served faults new) × Before old new
+      → Writes before now result (text_of answer) → keeper ≡ new.keeper → (tells new.keeper → HoldsBook (holds new.keeper) new.book new.doubt) → ServesOrNot tells holds faults old asked (Err (Write, keeper)) before now
+  serves_front {T} {E} old new keeper asked answer before now result fault is (step, told) w same held =
+      let part = subst (λ (r : Result T E). Writes before now r (text_of answer)) is w in
+      subst (λ (k : K). ServesOrNot tells holds faults old asked (Err (Write, k)) before now) (sym same)
+      ((answer, served faults new, step, part.bytes, record { held = held; later = omega arith }), part.cause.failed, told)
+
+  -- a line that asks something
+  lines_ask : (line : List ℕ) (read : Asked) → AreLines (line_of line) (Some (Asks read)) → (asked : Asked) × (line_of line ≡ Some (Asks asked)) × IsReading asked read
+  lines_ask line read lines = elim (line_of line) as (λ o. line_of line ≡ o → AreLines o (Some (Asks read)) → (asked : Asked) × (line_of line ≡ Some (Asks asked)) × IsReading asked read) [
+    | None ↦ λ e h. absurd h
+    | Some l ↦ λ e h. asks_of l e h
+  ] refl lines
+    where
+      asks_of : (l : Line) → line_of line ≡ Some l → IsLineRead l (Asks read) → (asked : Asked) × (line_of line ≡ Some (Asks asked)) × IsReading asked read
+      asks_of (Asks asked) e h = (asked, e, h)
+      asks_of Stop e h = absurd h
+
+  lines_stop : (line : List ℕ) → AreLines (line_of line) (Some Stop) → line_of line ≡ Some Stop
+  lines_stop line lines = elim (line_of line) as (λ o. line_of line ≡ o → AreLines o (Some Stop) → line_of line ≡ Some Stop) [
+    | None ↦ λ e h. absurd h
+    | Some l ↦ λ e h. stop_of l e h
+  ] refl lines
+    where
+      stop_of : (l : Line) → line_of line ≡ Some l → IsLineRead l Stop → line_of line ≡ Some Stop
+      stop_of (Asks asked) e h = absurd h
+      stop_of Stop e h = e
+
+  pub lines_none : (line : List ℕ) → AreLines (line_of line) None → line_of line ≡ None
+  lines_none line lines = elim (line_of line) as (λ o. line_of line ≡ o → AreLines o None → line_of line ≡ None) [
+    | None ↦ λ e h. e
+    | Some l ↦ λ e h. absurd h
+  ] refl lines
+
+  served_line : (old : Seated K) (line : List ℕ) (number : ℕ) (asked : Asked) (result : Result (Seated K) (Ending × K)) (before now : OutputState) → line_of line ≡ Some (Asks asked)
+      → ServesOrNot tells holds faults old asked result before now → TakesLine tells holds faults old line number result before now
+  served_line old line number asked (Ok new) before now is ((answer, step, appended), counts, told) =
+      (GoesOn.answered (record { answer = answer; step = record { asked = asked; asks = is; step = step }; appended = appended; counts = counts }), told, (step_causes (served faults old) (served faults new) asked answer step).0)
+  served_line old line number asked (Err (Write, keeper)) before now is ((answer, new, step, front, left), rose, told) = record {
+    new = new;
+    ends = record { answer = answer; step = record { asked = asked; asks = is; step = step }; front = front; rose = rose };
+    left = left;
+    told = told;
+    rose = tt;
+  }
+  served_line old line number asked (Err (Done, keeper)) before now is never = absurd never
+  served_line old line number asked (Err (Keeper, keeper)) before now is never = absurd never
+  served_line old line number asked (Err (Damaged shelf key, keeper)) before now is never = absurd never
+  served_line old line number asked (Err (Read, keeper)) before now is never = absurd never
+  served_line old line number asked (Err (Memory, keeper)) before now is never = absurd never
+  served_line old line number asked (Err (Malformed n, keeper)) before now is never = absurd never
+
+  pub takes_asked : (old : Seated K) (line : List ℕ) (number : ℕ) (read : Asked) (result : Result (Seated K) (Ending × K)) (before now : OutputState) → AreLines (line_of line) (Some (Asks read))
+      → ((asked : Asked) → IsReading asked read → ServesOrNot tells holds faults old asked result before now) → TakesLine tells holds faults old line number result before now
+  takes_asked old line number read result before now lines serves =
+      let (asked, is, reading) = lines_ask line read lines in
+      served_line old line number asked result before now is (serves asked reading)
+
+  stopped_line : (old : Seated K) (line : List ℕ) (number : ℕ) (result : Result (Seated K) (Ending × K)) (out : OutputState) → line_of line ≡ Some Stop → ReopensOrNot tells holds faults old result → TakesLine tells holds faults old line number result out out
+  stopped_line old line number (Ok new) out stop (reopens, told) = (GoesOn.stopped (record { stop = stop; reopens = reopens; kept = refl }), told, (let n = reopens.faults in omega (arith, n)))
+  stopped_line old line number (Err (Keeper, keeper)) out stop (none, left, told, rose) = record { new = served faults old; ends = (stop, refl, refl); left = left; told = told; rose = rose }
+  stopped_line old line number (Err (Damaged shelf key, keeper)) out stop (none, left, told, rose) = record { new = served faults old; ends = (stop, refl, refl); left = left; told = told; rose = rose }
+  stopped_line old line number (Err (Memory, keeper)) out stop (none, left, told, rose) = record { new = served faults old; ends = (refl, refl); left = left; told = told; rose = rose }
+  stopped_line old line number (Err (Done, keeper)) out stop (none, left, told, rose) = absurd none
+  stopped_line old line number (Err (Read, keeper)) out stop (none, left, told, rose) = absurd none
+  stopped_line old line number (Err (Write, keeper)) out stop (none, left, told, rose) = absurd none
+  stopped_line old line number (Err (Malformed n, keeper)) out stop (none, left, told, rose) = absurd none
+
+  pub takes_stop : (old : Seated K) (line : List ℕ) (number : ℕ) (result : Result (Seated K) (Ending × K)) (out : OutputState) → AreLines (line_of line) (Some Stop) → ReopensOrNot tells holds faults old result → TakesLine tells holds faults old line number result out out
+  takes_stop old line number result out lines reopens = stopped_line old line number result out (lines_stop line lines) reopens
+
+  -- the last line of the input
+  pub last_done : (old new : Seated K) (keeper : K) (line : List ℕ) (number : ℕ) (before now : OutputState) → keeper ≡ new.keeper → (tells new.keeper → HoldsBook (holds new.keeper) new.book new.doubt)
+      → TakesLine tells holds faults old line number (Ok new) before now → LastLine tells holds faults old line number (Done, keeper) before now
+  last_done old new keeper line number before now is held taken = LastLine.done new taken (record { held = held; later = omega arith }) (ap (λ (k : K). (Done, k)) is)

@@ -1,0 +1,29 @@
+-- One request, and its answer.
+use Rattle.std.specs.Prelude.{◌≡◌, ℕ, List, Ok}
+use Rattle.std.specs.Io.KnownBytes.{Appends}
+use Rattle.rv_base.specs.Causes.{Rose}
+use Rattle.rv_base.specs.Outside.{OutputState}
+use Rattle.rv_base.specs.Writes.{AppendsFront}
+use Rattle.rv_keeper.specs.declared.loaded.Loaded.{Loaded}
+use Rattle.rv_history.specs.Served.{Served}
+use Rattle.rv_desk.specs.Seated.{Seated, served}
+use Rattle.rv_answering.specs.declared.answer.Answer.{Answer}
+use Rattle.rv_answering.specs.declared.request.Request.TheVariants.{Retire}
+use Rattle.rv_cli.specs.declared.ending.Ending.{Ending}
+use Rattle.rv_cli.specs.declared.ending.Ending.TheVariants.{Done, Write}
+use Rattle.rv_cli.specs.Texts.{text_of}
+use Rattle.rv_cli.specs.Headline.{Step}
+use Rattle.rv_cli.specs.Feeding.{IsLeftWith}
+
+-- the answer to a retirement, and the keeper that is left
+pub record Retired {K : Type 0} (tells : K → Type 0) (holds : K → Loaded → Type 0) (faults : K → ℕ) (old : Seated K) (group : List ℕ) (told : Answer × K) : Type 0 where
+  pub new : Served
+  pub step : Step (served faults old) (Ok (Retire group)) told.0 new
+  pub left : IsLeftWith tells holds faults new told.1
+  pub before : tells told.1 → tells old.keeper
+
+-- the answer was written, or a front of it
+abbrev pub WritesReply : OutputState → OutputState → Answer → Ending → Type 0
+WritesReply before now answer Done = Appends before.written now.written (text_of answer) × (now.faults ≡ before.faults)
+WritesReply before now answer Write = AppendsFront before.written now.written (text_of answer) × Rose before.faults now.faults
+WritesReply before now answer ending = ⊥
