@@ -204,6 +204,17 @@ pub fn ids(alloc: Global, book: &[Entry], group: &Id) -> Result<Clients, Memory>
     Ok(Sequence::from_vec(clients))
 }
 
+/// The same entries, in memory of their own.
+pub fn copies(alloc: Global, book: &[Entry]) -> Result<Vec<Entry>, Memory>
+    ensures { IfOk result (λ v. v.items ≡ book.now) }
+{
+    let mut copies = Vec::new(alloc);
+    for entry in book {
+        copies.push(entry.copy(alloc)?)?;
+    }
+    Ok(copies)
+}
+
 /// The rows after one more entry.
 pub fn rows_after(alloc: Global, rows: Vec<Row>, entry: &Entry) -> Result<Vec<Row>, Memory>
     ensures { IfOk result (λ v. v.items ≡ rows_after rows.items entry.now) }

@@ -10,7 +10,7 @@ mod looks;
 pub mod rows;
 mod server;
 
-pub use book::{bound, group_of, ids, last, last_order, retired, rows_after, rows_of};
+pub use book::{bound, copies, group_of, ids, last, last_order, retired, rows_after, rows_of};
 pub use history::{
     ids_since, is_absent, is_among, is_news, is_touched, is_written, patch_since, row_at, same_row,
 };

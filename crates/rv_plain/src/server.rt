@@ -6,7 +6,7 @@ ghost use Rattle.rv_history.specs.Groups.{is_of_other, is_elsewhere, Admits};
 ghost use Rattle.rv_history.specs.Bases.{base_of};
 ghost use Rattle.rv_history.specs.Machine.{patch_for, ids_for};
 
-use crate::book::{bound, group_of, last, last_order, retired};
+use crate::book::{bound, copies, group_of, last, last_order, retired};
 use crate::history::{ids_since, patch_since};
 use crate::looks::base_of;
 use rv_base::{Id, Memory, Num, User};
@@ -81,9 +81,9 @@ pub struct PlainDesk {
 
 impl Model for PlainDesk {
     ghost use Rattle.std.specs.Prelude.{◌≤◌, length};
-    ghost use Rattle.rv_history.specs.Served.{Served};
+    ghost use Rattle.rv_plain.specs.Plain.{Plain};
 
-    ghost Value = { Served };
+    ghost Value = { Plain };
 
     ghost view = { λ d. record { book = d.entries.items; limit = d.limit } };
 
@@ -103,6 +103,20 @@ impl PlainDesk {
             limit,
             alloc,
         }
+    }
+
+    /// A server with a copy of this book, which takes at most so many entries.
+    pub fn with(alloc: Global, book: &[Entry], limit: u32) -> Result<PlainDesk, Memory>
+        requires { size book.now ≤ limit }
+        ensures book { IfOk result (λ desk. desk.book ≡ book.now) }
+        ensures limit { IfOk result (λ desk. desk.limit ≡ limit) }
+    {
+        let entries = copies(alloc, book)?;
+        Ok(PlainDesk {
+            entries,
+            limit,
+            alloc,
+        })
     }
 
     /// The entries of the book, in order.
@@ -266,12 +280,13 @@ impl PlainDesk {
 
 impl Turns for PlainDesk {
     ghost use Rattle.rv_history.specs.Served.{ServedMutates, ServedPulls, ServedRetires};
+    ghost use Rattle.rv_plain.specs.Plain.{served};
 
-    ghost mutates = { ServedMutates };
+    ghost mutates = { λ old from mutation turn new. ServedMutates (served old) from mutation turn (served new) };
 
-    ghost pulls = { ServedPulls };
+    ghost pulls = { λ old user request answer new. ServedPulls (served old) user request answer (served new) };
 
-    ghost retires = { ServedRetires };
+    ghost retires = { λ old group answer new. ServedRetires (served old) group answer (served new) };
 
     fn mutate(&mut self, user: &User, group: &Id, client: &Id, id: Num, call: Call) -> Turn {
         PlainDesk::mutate(self, user, group, client, id, call)

@@ -1,10 +1,11 @@
 //! The parts that a server is made of, case by case.
 //!
-//! A line `=== SUBJECT` begins the cases of `values` (texts and numbers within bounds, sources and sinks, the keeper in memory
-//! and command lines), `rows` (rows, who sees them and what calls make of them), `books` (books and what is looked up in them,
-//! records of views and what changes between two), `bodies` (bodies of requests, calls, answers and refusals), `cells` (what a
-//! book is kept as) or `read cells` (the same, read back). A line `== NAME` begins a case, with nothing made yet. A line that
-//! begins with `#` is none. Any other line is a command, in which `«N TEXT»` stands for the text N times.
+//! A line `=== SUBJECT` begins the cases of `values` (texts and numbers within bounds, sources and sinks, the keeper and the
+//! place in memory and command lines), `rows` (rows, who sees them and what calls make of them), `books` (books and what is
+//! looked up in them, records of views and what changes between two), `bodies` (bodies of requests, calls, answers and
+//! refusals), `cells` (what a book is kept as) or `read cells` (the same, read back). A line `== NAME` begins a case, with
+//! nothing made yet. A line that begins with `#` is none. Any other line is a command, in which `«N TEXT»` stands for the
+//! text N times.
 #![tactic(auto)]
 
 mod bodies;

@@ -1,13 +1,16 @@
+use crate::kept::Kept;
 use rv_base::Memory;
 use std::alloc::Global;
 
-/// The words of a command line, and an input.
+/// The words of a command line, an input, and what it runs on.
 #[derive(Drop)]
 pub struct Case {
     /// The words.
     pub words: Vec<String>,
     /// The bytes of the input.
     pub input: Vec<u8>,
+    /// The store, and the calls that fail.
+    pub kept: Kept,
 }
 
 // The words of a text, one after another.
@@ -20,11 +23,12 @@ fn words_of(alloc: Global, text: &str) -> Result<Vec<String>, Memory> {
 }
 
 impl Case {
-    /// The words of a feed, and no input.
+    /// The words of a feed, no input, and no call that fails.
     pub fn new(alloc: Global) -> Result<Case, Memory> {
         Ok(Case {
             words: words_of(alloc, "rv feed memory")?,
             input: Vec::new(alloc),
+            kept: Kept::new(alloc),
         })
     }
 
@@ -41,6 +45,16 @@ impl Case {
             self.input.push(b' ')?;
         }
         Ok(())
+    }
+
+    /// The input with a stop after each line.
+    pub fn with_stops(&self, alloc: Global) -> Result<Vec<u8>, Memory> {
+        let mut stopped = Vec::new(alloc);
+        for line in std::str::from_utf8(&self.input).unwrap_or("").lines() {
+            stopped.extend_from_slice(line.as_bytes())?;
+            stopped.extend_from_slice(b"\n{\"stop\":true}\n")?;
+        }
+        Ok(stopped)
     }
 
     // Sends each push of the input twice.

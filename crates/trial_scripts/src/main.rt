@@ -1,13 +1,17 @@
-//! Scripts through `run`, case by case, over a source and a sink in memory.
+//! Scripts through `run`, case by case, over a source, a sink and a place in memory.
 //!
-//! A line `== NAME` begins a case, with the words `rv feed memory` and no input. A line that begins with `#` is none, one
-//! that begins with `{` is a line of the input, and any other line is a command.
+//! A line `== NAME` begins a case, with the words `rv feed memory`, no input, and a keeper that fails at no call. A line that
+//! begins with `#` is none, one that begins with `{` is a line of the input, and any other line is a command.
 #![tactic(auto)]
 
 mod books;
 mod case;
+mod cells;
+mod damages;
 mod faults;
+mod kept;
 mod runs;
+mod stores;
 
 use case::Case;
 use rv_base::Memory;
@@ -16,16 +20,16 @@ use std::alloc::Global;
 // What a command prints, where it is one.
 fn printed(alloc: Global, case: &mut Case, line: &str) -> Result<Option<String>, Memory> {
     let (word, rest) = line.split_once(' ').unwrap_or((line, ""));
-    if let Some(text) = case.command(alloc, word, rest)? {
-        return Ok(Some(text));
+    match word {
+        "run" | "once" | "stops" => runs::command(alloc, case, word),
+        "failing-reads" | "failing-writes" => faults::command(alloc, case, word),
+        "length" | "rows" | "voids" | "viewers" => books::command(alloc, case, word),
+        "keep" | "cells" | "retire" => stores::command(alloc, case, word, rest),
+        "damaged" => damages::command(alloc, case, rest),
+        "cell" | "generation-is" => case.kept.state(alloc, word, rest),
+        "open" | "load" | "generation" | "before" | "after" => case.kept.fail(alloc, word, rest),
+        _ => case.command(alloc, word, rest),
     }
-    if let Some(text) = runs::command(alloc, case, word)? {
-        return Ok(Some(text));
-    }
-    if let Some(text) = faults::command(alloc, case, word)? {
-        return Ok(Some(text));
-    }
-    books::command(alloc, case, word)
 }
 
 // What a line prints, each with LF at its end.

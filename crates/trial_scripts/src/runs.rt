@@ -1,8 +1,10 @@
 // Runs, in pieces of several sizes.
 use crate::case::Case;
 use rv_base::{Memory, MemorySink, MemorySource};
-use rv_cli::run;
+use rv_cli::{run, run_feed};
+use rv_keeper::MemoryPlace;
 use std::alloc::Global;
+use std::mem;
 
 /// How a run ended, and what it wrote.
 #[derive(Drop)]
@@ -24,10 +26,26 @@ fn failing(alloc: Global, call: u64) -> Result<Vec<u64>, Memory> {
     Ok(calls)
 }
 
-/// Runs a case in pieces of at most so many bytes. The read and the write of these numbers fail, from 1; 0 is none.
-pub fn run_case(
+// Runs what the words say, or feeds the store that is stated.
+fn run_between(
     alloc: Global,
     case: &Case,
+    place: &mut MemoryPlace,
+    input: &mut MemorySource,
+    out: &mut MemorySink,
+) -> u8 {
+    if case.kept.is_stated {
+        run_feed(alloc, place, case.kept.name(), input, out)
+    } else {
+        run(alloc, &case.words, place, input, out)
+    }
+}
+
+/// Runs a case over a place in pieces of at most so many bytes. The read and the write of these numbers fail, from 1; 0 is none.
+pub fn run_over(
+    alloc: Global,
+    case: &Case,
+    place: &mut MemoryPlace,
     most: usize,
     read: u64,
     write: u64,
@@ -35,7 +53,7 @@ pub fn run_case(
     let bytes = Vec::from_slice(alloc, &case.input)?;
     let mut input = MemorySource::new(bytes, most, failing(alloc, read)?);
     let mut out = MemorySink::new(alloc, most, failing(alloc, write)?);
-    let status = run(alloc, &case.words, &mut input, &mut out);
+    let status = run_between(alloc, case, place, &mut input, &mut out);
     Ok(Finished {
         status,
         written: out.bytes,
@@ -43,13 +61,27 @@ pub fn run_case(
     })
 }
 
-// The output and the status, where these two runs agree.
-fn agreed(alloc: Global, one: &Finished, other: &Finished) -> Result<Option<String>, Memory> {
-    if one.status != other.status || one.written.as_slice() != other.written.as_slice() {
-        return Ok(None);
-    }
-    let text = std::str::from_utf8(&one.written).unwrap_or("no text\n");
-    Ok(Some(format!(in alloc; "{text}status {}\n", one.status)?))
+/// Runs a case so over a place of its own.
+pub fn run_case(
+    alloc: Global,
+    case: &Case,
+    most: usize,
+    read: u64,
+    write: u64,
+) -> Result<Finished, Memory> {
+    let mut place = case.kept.place(alloc)?;
+    run_over(alloc, case, &mut place, most, read, write)
+}
+
+/// What was written, and the status.
+pub fn told(alloc: Global, written: &[u8], status: u8) -> Result<String, Memory> {
+    let text = std::str::from_utf8(written).unwrap_or("no text\n");
+    Ok(format!(in alloc; "{text}status {status}\n")?)
+}
+
+// Whether two runs wrote the same and have the same status.
+fn agree(one: &Finished, other: &Finished) -> bool {
+    one.status == other.status && one.written.as_slice() == other.written.as_slice()
 }
 
 // Runs a case in pieces of 1, 7 and 100,000 bytes, and prints what comes where it is the same.
@@ -57,28 +89,35 @@ fn run_in_pieces(alloc: Global, case: &Case) -> Result<String, Memory> {
     let whole = run_case(alloc, case, 100_000, 0, 0)?;
     let sevens = run_case(alloc, case, 7, 0, 0)?;
     let ones = run_case(alloc, case, 1, 0, 0)?;
-    let first = agreed(alloc, &whole, &sevens)?;
-    match agreed(alloc, &whole, &ones)? {
-        Some(text) if first.is_some() => Ok(text),
-        _ => Ok(String::from_str(alloc, "differs\n")?),
+    if agree(&whole, &sevens) && agree(&whole, &ones) {
+        told(alloc, &whole.written, whole.status)
+    } else {
+        Ok(String::from_str(alloc, "differs\n")?)
     }
 }
 
-// Runs a case in one size of pieces, for inputs that are long.
-fn run_once(alloc: Global, case: &Case) -> Result<String, Memory> {
+/// Runs a case in one size of pieces.
+pub fn run_once(alloc: Global, case: &Case) -> Result<String, Memory> {
     let whole = run_case(alloc, case, 100_000, 0, 0)?;
-    match agreed(alloc, &whole, &whole)? {
-        Some(text) => Ok(text),
-        None => Ok(String::new(alloc)),
-    }
+    told(alloc, &whole.written, whole.status)
+}
+
+// Runs a case with a stop after each line.
+fn run_with_stops(alloc: Global, case: &mut Case) -> Result<String, Memory> {
+    let stopped = case.with_stops(alloc)?;
+    let input = mem::replace(&mut case.input, stopped);
+    let text = run_once(alloc, case);
+    case.input = input;
+    text
 }
 
 /// `run` runs the case in pieces of 1, 7 and 100,000 bytes, and prints what was written and the status where they are the
-/// same in each; `once` runs it in pieces of 100,000 bytes alone.
-pub fn command(alloc: Global, case: &Case, word: &str) -> Result<Option<String>, Memory> {
+/// same in each; `once` runs it in pieces of 100,000 bytes alone; and `stops` so with a line `{"stop":true}` after each line.
+pub fn command(alloc: Global, case: &mut Case, word: &str) -> Result<Option<String>, Memory> {
     match word {
         "run" => Ok(Some(run_in_pieces(alloc, case)?)),
         "once" => Ok(Some(run_once(alloc, case)?)),
+        "stops" => Ok(Some(run_with_stops(alloc, case)?)),
         _ => Ok(None),
     }
 }

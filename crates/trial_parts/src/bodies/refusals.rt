@@ -81,6 +81,14 @@ fn limit(words: &str) -> Option<ErrorBody> {
     }
 }
 
+// `FOUND KEPT`
+fn changed(words: &str) -> Option<ErrorBody> {
+    let (found, kept) = words.split_once(' ')?;
+    let found = found.parse::<u64>().ok()?;
+    let kept = kept.parse::<u64>().ok()?;
+    Some(ErrorBody::Changed { found, kept })
+}
+
 fn error_named(words: &str) -> Option<ErrorBody> {
     let (word, rest) = words.split_once(' ').unwrap_or((words, ""));
     match word {
@@ -93,12 +101,15 @@ fn error_named(words: &str) -> Option<ErrorBody> {
         "NoGroup" => Some(ErrorBody::NoGroup),
         "Future" => future(rest),
         "Limit" => limit(rest),
+        "Changed" => changed(rest),
+        "Keeper" => Some(ErrorBody::Keeper),
         "Memory" => Some(ErrorBody::Memory),
         _ => None,
     }
 }
 
-/// `error NAME ..`: the status and the text of a refusal, as `error Future EXPECTED GOT` and `error Limit book NUMBER`.
+/// `error NAME ..`: the status and the text of a refusal, as `error Future EXPECTED GOT`, `error Limit book NUMBER` and `error
+/// Changed FOUND KEPT`.
 pub fn error(alloc: Global, words: &str) -> Result<Option<String>, Memory> {
     match error_named(words) {
         Some(error) => Ok(Some(refusal_text(alloc, &error)?)),

@@ -25,8 +25,8 @@ fn fails_of(words: &str) -> Option<Fails> {
     }
 }
 
-// The calls that fail, between commas.
-fn schedule_of(alloc: Global, text: &str) -> Result<Option<Vec<Fails>>, Memory> {
+/// The calls that fail, between commas.
+pub fn schedule_of(alloc: Global, text: &str) -> Result<Option<Vec<Fails>>, Memory> {
     let mut schedule = Vec::new(alloc);
     if text.is_empty() {
         return Ok(Some(schedule));
@@ -155,8 +155,8 @@ fn cell_text(alloc: Global, cell: &Cell) -> Result<String, AllocError> {
     format!(in alloc; "{}/{key}={body}", cell.shelf)
 }
 
-// The cells and the generation.
-fn held_text(alloc: Global, cells: &[Cell], generation: u64) -> Result<String, AllocError> {
+/// The cells and the generation.
+pub fn held_text(alloc: Global, cells: &[Cell], generation: u64) -> Result<String, AllocError> {
     let mut told = String::new(alloc);
     for cell in cells {
         told.push_str(&cell_text(alloc, cell)?)?;
@@ -165,10 +165,15 @@ fn held_text(alloc: Global, cells: &[Cell], generation: u64) -> Result<String, A
     format!(in alloc; "{told}at {generation}")
 }
 
-// An answer, and what the keeper holds after it.
+/// An answer, and what the keeper holds after it.
+pub fn keeper_text(alloc: Global, answer: &str, keeper: &MemoryKeeper) -> Result<String, Memory> {
+    let cells = keeper.shelves.cells(alloc)?;
+    let held = held_text(alloc, cells.as_slice(), keeper.generation)?;
+    Ok(format!(in alloc; "{answer}; {held}, faults {}", keeper.faults)?)
+}
+
 fn after(alloc: Global, answer: &str, keeper: &MemoryKeeper) -> Result<Option<String>, Memory> {
-    let held = held_text(alloc, keeper.shelves.as_slice(), keeper.generation)?;
-    Ok(Some(format!(in alloc; "{answer}; {held}, faults {}", keeper.faults)?))
+    Ok(Some(keeper_text(alloc, answer, keeper)?))
 }
 
 // `KIND NUMBER, ..`: a keeper that holds nothing, and fails at these calls.
@@ -180,8 +185,8 @@ fn set(alloc: Global, keeper: &mut MemoryKeeper, text: &str) -> Result<Option<St
     after(alloc, "empty", keeper)
 }
 
-// Cells in order, on two shelves.
-fn three_cells(alloc: Global) -> Result<Vec<Cell>, Memory>
+/// Cells in order, on two shelves.
+pub fn three_cells(alloc: Global) -> Result<Vec<Cell>, Memory>
     ensures { IfOk result (λ cells. AreCells cells.items) }
 {
     let mut cells = Vec::new(alloc);
@@ -196,8 +201,8 @@ fn hold(alloc: Global, keeper: &mut MemoryKeeper, word: &str) -> Result<Option<S
     let Ok(generation) = word.parse::<u64>() else {
         return Ok(None);
     };
-    let cells = three_cells(alloc)?;
-    *keeper = MemoryKeeper::with(alloc, Vec::new(alloc), Shelves::from_vec(cells), generation);
+    let shelves = Shelves::from_vec(alloc, three_cells(alloc)?)?;
+    *keeper = MemoryKeeper::with(alloc, Vec::new(alloc), shelves, generation);
     after(alloc, "given", keeper)
 }
 

@@ -24,7 +24,8 @@ impl Streams {
     }
 }
 
-fn numbers(alloc: Global, words: &str) -> Result<Option<Vec<u64>>, Memory> {
+/// Numbers, between spaces.
+pub fn numbers(alloc: Global, words: &str) -> Result<Option<Vec<u64>>, Memory> {
     let mut numbers = Vec::new(alloc);
     for word in words.split_whitespace() {
         let Ok(number) = word.parse::<u64>() else {
