@@ -11,12 +11,15 @@ import sys
 from feed import anew, looks, one_changed, pull, rows, strangers, unchanged, voids
 
 
+STOP = '{"stop":true}'
+
+
 def instructions(program, lines):
     """The instructions of one run over the lines."""
     text = "".join(line + "\n" for line in lines).encode()
     words = ["valgrind", "--tool=callgrind", "--callgrind-out-file=/dev/null", program, "feed", "memory"]
     run = subprocess.run(words, input=text, stdout=subprocess.PIPE, stderr=subprocess.PIPE, check=True)
-    assert run.stdout.count(b"\n") == len(lines)
+    assert run.stdout.count(b"\n") == sum(line != STOP for line in lines)
     assert all(line.startswith(b"200 ") for line in run.stdout.splitlines())
     return int(re.search(rb"Collected : (\d+)", run.stderr).group(1))
 
@@ -59,9 +62,20 @@ def print_table(program, count=1000, pulls=20, turns=100):
         print(f"a line with a todo for a list of 10 to {10 + turns} rows, beside {lists * 100} rows of others: {more // turns} instructions")
 
 
+def print_stores(program, turns=100):
+    """Prints what a turn costs over a store of many entries, and what it costs to open such a store."""
+    for count in (1000, 10000, 100000):
+        start = instructions(program, voids(count))
+        more = instructions(program, voids(count + turns))
+        print(f"a line with a mutation that has no effect, over {count} entries: {(more - start) // turns} instructions")
+        opened = instructions(program, voids(count) + [STOP])
+        print(f"opening a store of {count} entries: {(opened - start) // count} instructions an entry")
+
+
 def main():
     program = sys.argv[1]
     print_table(program)
+    print_stores(program)
     for count in (0, 1000, 100000):
         print_pulls(program, f"{count:6} other clients", strangers(count), count)
     for count in (1000, 10000):
