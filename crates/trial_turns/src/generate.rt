@@ -11,7 +11,7 @@ use std::alloc::Global;
 fn last(alloc: Global, desks: &Desks, client: &str) -> Result<u64, Memory> {
     let client: Option<Id> = words::name(alloc, client)?;
     match client {
-        Some(client) => Ok(desks.desk.turns.book().last(&client).get()),
+        Some(client) => Ok(desks.desk().book().last(&client).get()),
         None => Ok(0),
     }
 }
@@ -76,19 +76,24 @@ fn pull(alloc: Global, desks: &mut Desks, story: &mut Story) -> Result<String, M
     Ok(answer)
 }
 
+// Whether after this answer to a retirement its group is given up: it is retired, or it may be.
+fn ends(answer: &str) -> bool {
+    answer.starts_with("retired") || answer.starts_with("keeper")
+}
+
 fn retire(alloc: Global, desks: &mut Desks, story: &mut Story) -> Result<String, Memory> {
     let number = story.dice.below(GROUPS);
     let age = story.age(number);
     let group = format!(in alloc; "g{number}x{age}")?;
     let answer = desks.take(alloc, "retire", &group)?;
-    if answer.as_str().starts_with("retired") {
+    if ends(&answer) {
         story.retires(number)?;
     }
     Ok(answer)
 }
 
-// The answer to one request.
-fn step(alloc: Global, desks: &mut Desks, story: &mut Story) -> Result<String, Memory> {
+/// The answer to one request.
+pub fn step(alloc: Global, desks: &mut Desks, story: &mut Story) -> Result<String, Memory> {
     match story.dice.below(60) {
         0 => retire(alloc, desks, story),
         1..=32 => push(alloc, desks, story),
@@ -110,14 +115,15 @@ fn pulls_told(alloc: Global, tally: &Tally) -> Result<String, Memory> {
     )?)
 }
 
-fn counts_of(alloc: Global, tally: &Tally) -> Result<String, Memory> {
+/// How much came of what, as one counts it.
+pub fn counts_of(alloc: Global, tally: &Tally) -> Result<String, Memory> {
     let mutations = mutations_told(alloc, tally)?;
     let pulls = pulls_told(alloc, tally)?;
     Ok(format!(in alloc; "{mutations}, {pulls}")?)
 }
 
-// How much came of what.
-fn counts(alloc: Global, desks: &Desks) -> Result<String, Memory> {
+/// How much came of what.
+pub fn counts(alloc: Global, desks: &Desks) -> Result<String, Memory> {
     let plain = counts_of(alloc, &desks.plain.tally)?;
     both(alloc, counts_of(alloc, &desks.desk.tally)?, &plain)
 }

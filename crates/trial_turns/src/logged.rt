@@ -26,6 +26,10 @@ pub struct Tally {
     pub puts: u64,
     /// Groups that were retired.
     pub retirements: u64,
+    /// Requests and mutations at which the keeper failed.
+    pub failed: u64,
+    /// Requests and mutations that found what is kept changed.
+    pub changed: u64,
 }
 
 fn more(count: &mut u64) {
@@ -44,6 +48,8 @@ impl Tally {
             dels: 0,
             puts: 0,
             retirements: 0,
+            failed: 0,
+            changed: 0,
         }
     }
 
@@ -51,6 +57,8 @@ impl Tally {
         match turn {
             Turn::Acted(_) => more(&mut self.acted),
             Turn::Skipped(_) => more(&mut self.skipped),
+            Turn::Keeper => more(&mut self.failed),
+            Turn::Changed { .. } => more(&mut self.changed),
             _ => more(&mut self.refused),
         }
     }
@@ -77,6 +85,8 @@ impl Tally {
     fn count_pull(&mut self, answer: &PullAnswer) {
         match answer {
             PullAnswer::Pulled(reply) => self.count_reply(reply),
+            PullAnswer::Keeper => more(&mut self.failed),
+            PullAnswer::Changed { .. } => more(&mut self.changed),
             _ => more(&mut self.refused),
         }
     }
@@ -84,6 +94,8 @@ impl Tally {
     fn count_retirement(&mut self, answer: &RetireAnswer) {
         match answer {
             RetireAnswer::Retired(_) => more(&mut self.retirements),
+            RetireAnswer::Keeper => more(&mut self.failed),
+            RetireAnswer::Changed { .. } => more(&mut self.changed),
             _ => more(&mut self.refused),
         }
     }

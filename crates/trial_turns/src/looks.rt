@@ -10,7 +10,7 @@ use std::alloc::Global;
 // The places of the desk's records.
 fn records(alloc: Global, desks: &Desks) -> Result<String, Memory> {
     let mut text = String::new(alloc);
-    for (place, _) in desks.desk.turns.records().as_slice() {
+    for (place, _) in desks.desk().records().as_slice() {
         words::add(&mut text, &format!(in alloc; "{place}")?)?;
     }
     words::or_none(alloc, text)
@@ -20,7 +20,7 @@ fn records(alloc: Global, desks: &Desks) -> Result<String, Memory> {
 fn kept_places(alloc: Global, desks: &Desks) -> Result<String, Memory> {
     let book = desks.plain.turns.book();
     let mut text = String::new(alloc);
-    for place in 0..=desks.desk.turns.book().len() {
+    for place in 0..=desks.desk().book().len() {
         if kept(book, place) {
             words::add(&mut text, &format!(in alloc; "{place}")?)?;
         }
@@ -35,7 +35,7 @@ fn base_of(
     user: &User,
     request: &PullRequest,
 ) -> Result<String, Memory> {
-    let desk = rv_news::base_of(desks.desk.turns.book(), user, &request.cookie).unwrap_or(0);
+    let desk = rv_news::base_of(desks.desk().book(), user, &request.cookie).unwrap_or(0);
     let plain = rv_plain::base_of(desks.plain.turns.book(), user, &request.cookie).unwrap_or(0);
     let plain = format!(in alloc; "{plain}")?;
     both(alloc, format!(in alloc; "{desk}")?, &plain)

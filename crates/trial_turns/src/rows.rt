@@ -47,14 +47,14 @@ fn has(rows: &[Row], row: &Row) -> bool {
 
 // Whether the desk has the rows that the plain book leaves, and no others.
 fn has_all(desks: &Desks, rows: &[Row]) -> bool {
-    let tables = desks.desk.turns.tables();
+    let tables = desks.desk().tables();
     tables.iter().count() == rows.len() && tables.iter().all(|(row, _)| has(rows, row))
 }
 
 // Each row that stands, with its version.
 fn versions(alloc: Global, desks: &Desks) -> Result<String, Memory> {
     let mut text = String::new(alloc);
-    for (row, version) in desks.desk.turns.tables().iter() {
+    for (row, version) in desks.desk().tables().iter() {
         let item = format!(in alloc; "{} {version},", row.id().as_str())?;
         words::add(&mut text, &item)?;
     }
@@ -71,14 +71,14 @@ fn all_rows(alloc: Global, desks: &Desks) -> Result<String, Memory> {
 }
 
 fn length(alloc: Global, desks: &Desks) -> Result<String, Memory> {
-    let desk = format!(in alloc; "{}", desks.desk.turns.book().len())?;
+    let desk = format!(in alloc; "{}", desks.desk().book().len())?;
     let plain = format!(in alloc; "{}", desks.plain.turns.book().len())?;
     both(alloc, desk, &plain)
 }
 
 // The rows that the desk shows a user.
 fn visible_rows(alloc: Global, desks: &Desks, user: &User) -> Result<String, Memory> {
-    let tables = desks.desk.turns.tables();
+    let tables = desks.desk().tables();
     let mut text = String::new(alloc);
     for (key, _) in visible(alloc, tables, user)?.as_slice() {
         if let Some((stored, _)) = tables.get(key) {
@@ -117,7 +117,7 @@ fn viewers_of(alloc: Global, desks: &Desks, id: Id) -> Result<String, Memory> {
         id,
     };
     let mut text = String::new(alloc);
-    for user in affected(alloc, desks.desk.turns.tables(), &[key])?.as_slice() {
+    for user in affected(alloc, desks.desk().tables(), &[key])?.as_slice() {
         words::add(&mut text, user.as_str())?;
     }
     words::or_none(alloc, text)

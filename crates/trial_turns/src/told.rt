@@ -11,6 +11,14 @@ fn full(which: Which) -> &'static str {
     }
 }
 
+fn keeper(alloc: Global) -> Result<String, Memory> {
+    Ok(String::from_str(alloc, "keeper")?)
+}
+
+fn changed(alloc: Global, kept: u64, found: u64) -> Result<String, Memory> {
+    Ok(format!(in alloc; "changed {kept} {found}")?)
+}
+
 /// What became of a mutation.
 pub fn turn(alloc: Global, turn: &Turn) -> Result<String, Memory> {
     match turn {
@@ -23,6 +31,8 @@ pub fn turn(alloc: Global, turn: &Turn) -> Result<String, Memory> {
         Turn::ClientOfOther => Ok(String::from_str(alloc, "client of other")?),
         Turn::NotFound => Ok(String::from_str(alloc, "not found")?),
         Turn::Limit(which, at) => Ok(format!(in alloc; "limit {} {}", full(*which), at.get())?),
+        Turn::Keeper => keeper(alloc),
+        Turn::Changed { kept, found } => changed(alloc, *kept, *found),
         Turn::Memory => Err(Memory),
     }
 }
@@ -36,6 +46,8 @@ pub fn retirement(alloc: Global, answer: &RetireAnswer) -> Result<String, Memory
         RetireAnswer::Limit(which, at) => {
             Ok(format!(in alloc; "limit {} {}", full(*which), at.get())?)
         }
+        RetireAnswer::Keeper => keeper(alloc),
+        RetireAnswer::Changed { kept, found } => changed(alloc, *kept, *found),
         RetireAnswer::Memory => Err(Memory),
     }
 }
@@ -93,6 +105,8 @@ pub fn pull(alloc: Global, answer: &PullAnswer) -> Result<String, Memory> {
         PullAnswer::Limit(which, at) => {
             Ok(format!(in alloc; "limit {} {}", full(*which), at.get())?)
         }
+        PullAnswer::Keeper => keeper(alloc),
+        PullAnswer::Changed { kept, found } => changed(alloc, *kept, *found),
         PullAnswer::Memory => Err(Memory),
     }
 }
