@@ -42,7 +42,11 @@ fn copy_of(alloc: Global, keeper: &MemoryKeeper) -> Result<MemoryKeeper, Memory>
     Ok(MemoryKeeper::with(alloc, Vec::new(alloc), shelves, keeper.generation))
 }
 
-fn has_book(alloc: Global, desk: OpenDesk, entries: &[Entry]) -> Result<bool, Memory> {
+fn has_book(
+    alloc: Global,
+    desk: OpenDesk<MemoryKeeper>,
+    entries: &[Entry],
+) -> Result<bool, Memory> {
     same_book(alloc, desk.desk.book(), entries)
 }
 

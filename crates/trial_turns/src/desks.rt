@@ -14,7 +14,7 @@ use std::alloc::Global;
 #[derive(Drop)]
 pub struct Desks {
     /// The desk over a keeper in memory.
-    pub desk: Logged<OpenDesk>,
+    pub desk: Logged<OpenDesk<MemoryKeeper>>,
     /// The plain server, which has nothing but its book and what is kept.
     pub plain: Logged<PlainServer>,
     /// The most entries that a book may have.

@@ -20,8 +20,8 @@ fn fails_of(text: &str) -> Option<Fails> {
     }
 }
 
-// The calls that fail, between commas.
-fn schedule_of(alloc: Global, text: &str) -> Result<Option<Vec<Fails>>, Memory> {
+/// The calls that fail, between commas.
+pub fn schedule_of(alloc: Global, text: &str) -> Result<Option<Vec<Fails>>, Memory> {
     let mut schedule = Vec::new(alloc);
     for call in text.split(", ") {
         let Some(fails) = fails_of(call) else {

@@ -7,6 +7,7 @@
 
 mod alike;
 mod bodies;
+mod changed;
 mod desks;
 mod dice;
 mod fault;
@@ -14,6 +15,7 @@ mod generate;
 mod keeping;
 mod logged;
 mod looks;
+mod meddled;
 mod open_desk;
 mod opening;
 mod plain_server;
@@ -37,6 +39,7 @@ fn printed(alloc: Global, desks: &mut Desks, line: &str) -> Result<Option<String
     match word {
         "limit" => desks::limited(alloc, desks, rest),
         "generate" => Ok(generate::generated(alloc, desks, rest)?),
+        "meddled" => Ok(changed::told(alloc, rest)?),
         "troubled" => troubled::told(alloc, desks.limit, rest),
         "fails" | "stop" | "kept" => keeping::told(alloc, desks, word, rest),
         "push" | "pull" | "text" | "retire" => Ok(Some(desks.take(alloc, word, rest)?)),

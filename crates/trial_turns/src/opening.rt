@@ -11,7 +11,7 @@ const ATTEMPTS: u32 = 16;
 
 // What became of an opening of both, where it was the same.
 enum Opening {
-    Open(OpenDesk),
+    Open(OpenDesk<MemoryKeeper>),
     Failed(MemoryKeeper),
 }
 
@@ -20,7 +20,7 @@ fn differs<T>(alloc: Global, text: &str) -> Result<T, Fault> {
 }
 
 // The desk has opened.
-fn opened(alloc: Global, desk: OpenDesk, opens: bool) -> Result<Opening, Fault> {
+fn opened(alloc: Global, desk: OpenDesk<MemoryKeeper>, opens: bool) -> Result<Opening, Fault> {
     if opens {
         return Ok(Opening::Open(desk));
     }
@@ -68,7 +68,7 @@ pub fn open(
     keeper: MemoryKeeper,
     plain: &mut PlainServer,
     limit: u32,
-) -> Result<OpenDesk, Fault> {
+) -> Result<OpenDesk<MemoryKeeper>, Fault> {
     let mut keeper = keeper;
     for _ in 0..ATTEMPTS {
         match attempt(alloc, keeper, plain, limit)? {

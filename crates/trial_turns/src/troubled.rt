@@ -101,8 +101,9 @@ fn run(alloc: Global, plan: Plan, limit: u32) -> Result<String, Fault> {
     Ok(end_told(alloc, &desks)?)
 }
 
-/// `troubled SEED N FAILS STOPS`: so many requests of the seed, with books of at most so many entries, over keepers of whose calls
-/// one in so many fails, and after one request in so many a stop; and how much came of what. A chance of one in 0 never comes.
+/// `troubled SEED N FAILS STOPS`: so many requests of the seed, with books of at most so many entries, over keepers of whose
+/// calls one in so many fails, with a stop after one request in so many; and how much came of what. A chance of one in 0 never
+/// comes.
 pub fn told(alloc: Global, limit: u32, rest: &str) -> Result<Option<String>, Fault> {
     match plan_of(rest) {
         Some(plan) => Ok(Some(run(alloc, plan, limit)?)),
