@@ -6,3 +6,4 @@ pub mod Taking
 pub mod Storing
 pub mod Troubled
 pub mod Fed
+pub mod Sound

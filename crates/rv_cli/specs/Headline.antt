@@ -269,6 +269,10 @@ AllAsk left P = IfSome left (λ bytes. (taken : List Line) → Are 1 (lines_of b
 abbrev pub IsOther : ℕ → Type 0
 IsOther status = (status ≡ 0) ⊎ (status ≡ 4) ⊎ (status ≡ 5) ⊎ (status ≡ 6) ⊎ (status ≡ 7) ⊎ (status ≡ 8)
 
+-- the store is opened with the cells of a lawful book of at most so many entries
+abbrev pub KeptSound : (Loaded → Type 0) → Type 0
+KeptSound Stored = (book : Book) × (held : Loaded) × Stored held × MayOpen (2 ^ 32 - 1) book held
+
 -- ---- And of `retire`: the same over the one request.
 
 -- A run of one request may end so, with this text and this state: it is answered; or a front of its answer was written.

@@ -6,7 +6,7 @@ ghost use Rattle.rv_words.specs.declared.command.Command.TheVariants as commands
 ghost use Rattle.rv_keeper.specs.Stores.{OpensAs};
 ghost use Rattle.rv_answering.specs.declared.request.Request.TheVariants.{Retire};
 ghost use Rattle.rv_cli.specs.Texts.{usage_text, status_of, status_text};
-ghost use Rattle.rv_cli.specs.Headline.{RunsFeed, RunsOne, WritesOnly, AllAsk, IsOther};
+ghost use Rattle.rv_cli.specs.Headline.{RunsFeed, RunsOne, WritesOnly, AllAsk, IsOther, KeptSound};
 ghost use Rattle.rv_cli.specs.Replying.{Retired, WritesReply};
 ghost use Rattle.rv_cli.specs.Steadiness.{OutputIsSteady};
 ghost use Rattle.rv_cli.specs.declared.ending.Ending.TheVariants as endings;
@@ -48,6 +48,9 @@ pub fn run_feed<P: Place, S: Source, O: Sink>(
 
     // Where all lines are of the form, the status is none of a line that isn't.
     ensures complete { AllAsk (S.state input.old).left (IsOther result) }
+
+    // Where the place tells, and the store kept a lawful book within the limit, it is no damage.
+    ensures sound { P.tells place.new → KeptSound (OpensAs store.now (P.holds place.old store.now)) → result ≢ 5 }
 
     // Over an input and an output that fail no more it is none of the faults, but for want of memory in the output.
     ensures steady_input { S.fails_no_more input.old → S.fails_no_more input.new × (result ≢ 6) }
@@ -95,6 +98,9 @@ pub fn run_retire<P: Place, O: Sink>(
     // What is written is the answer at the book that the store kept, and the store keeps the book that it leaves.
     ensures retire { RunsOne (P.tells place.new) (OpensAs store.now (P.holds place.old store.now)) (P.holds place.new store.now) (P.faults place.old) (P.faults place.new)
         (Ok (Retire group.now)) (O.state out.old) (O.state out.new) result }
+
+    // Where the place tells, and the store kept a lawful book within the limit, the status is no damage.
+    ensures sound { P.tells place.new → KeptSound (OpensAs store.now (P.holds place.old store.now)) → result ≢ 5 }
     ensures steady { O.fails_no_more out.old → O.fails_no_more out.new × (Rose (O.state out.old).refusals (O.state out.new).refusals ⊎ (result ≢ 7)) }
 {
     match open_desk(alloc, place, store) {
@@ -170,6 +176,9 @@ pub fn run<P: Place, S: Source, O: Sink>(
     // Where all lines are of the form, the status is 0 or 8, or that of a fault or a damage.
     ensures complete { command_in (map string_bytes words.now) ≡ Some commands.Feed → AllAsk (S.state input.old).left (IsOther result) }
     ensures complete_retire { (group : List ℕ) → command_in (map string_bytes words.now) ≡ Some (commands.Retire group) → result ≡ 0 ⊎ result ≡ 4 ⊎ result ≡ 5 ⊎ result ≡ 7 ⊎ result ≡ 8 }
+
+    // Over a place that tells the store in memory is never damaged.
+    ensures sound { P.tells place.new → result ≢ 5 }
 
     // Over an input and an output that fail no more it is none of the faults, but for want of memory in the output.
     ensures steady_input { S.fails_no_more input.old → S.fails_no_more input.new × (result ≢ 6) }

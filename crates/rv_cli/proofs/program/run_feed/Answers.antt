@@ -1,6 +1,7 @@
 use Rattle.std.proofs.Common.{inr}
 use Rattle.rv_desk.specs.Seated.{served}
 use Rattle.rv_cli.proofs.Ended.{completes}
+use Rattle.rv_cli.proofs.Sound.{feed_sound, refused_sound}
 use Rattle.rv_cli.proofs.Storing.{has_fed}
 use Rattle.rv_cli.proofs.program.run_feed.Goals as goal
 
@@ -17,3 +18,9 @@ pub returns-in-Ok-clause-complete : goal.returns-in-Ok-clause-complete
 returns-in-Ok-clause-complete g c =
     rw c.status.ensures (completes (g.P.Kept.Keeper.tells c.feed-ending.result.1) (served g.P.Kept.Keeper.faults c.in-Ok.desk) c.feed-ending.ensures.feeds.now (g.S.Source.state c.args.input.now).left (g.S.Source.state c.feed-ending.new.input)
     (g.O.Sink.state c.args.out.now) (g.O.Sink.state c.feed-ending.new.out) c.feed-ending.result.0 c.feed-ending.ensures.feeds.feeds.fed)
+
+pub returns-in-Ok-clause-sound : goal.returns-in-Ok-clause-sound
+returns-in-Ok-clause-sound g c = λ told kept. feed_sound _ _ _ _ _ told kept _ _ _ _ _ (returns-in-Ok-clause-feed g c)
+
+pub returns-in-Err-clause-sound : goal.returns-in-Err-clause-sound
+returns-in-Err-clause-sound g c = λ told kept. refused_sound _ _ _ _ _ told kept c.in-Err.ending _ c.in-Err.ensures c.refuse_opening.ensures.status

@@ -1,0 +1,77 @@
+-- A store that keeps a lawful book is not damaged.
+use Rattle.std.proofs.Common.{◌≡◌, ◌≢◌, ℕ, ◌-◌, ◌^◌, ◌⊎◌, List, [], refl, sym, ◌∙◌, subst, arith, inl, inr}
+use Rattle.std.specs.Prelude.{codes}
+use Rattle.rv_base.specs.Outside.{InputState, OutputState}
+use Rattle.rv_history.specs.LawfulBooks.{lawful_none}
+use Rattle.rv_history.specs.ReplayLaws.{replay_none}
+use Rattle.rv_news.specs.KeptRecords.{records_none}
+use Rattle.rv_keeper.specs.declared.loaded.Loaded.{Loaded}
+use Rattle.rv_keeper.specs.Keeping.{holding}
+use Rattle.rv_keeper.specs.Stores.{OpensAs}
+use Rattle.rv_store.specs.Opening.{MayOpen}
+use Rattle.rv_store.specs.OpeningLaws.{opens-not_damaged}
+use Rattle.rv_answering.specs.Requests.{Asked}
+use Rattle.rv_cli.specs.declared.ending.Ending.{Ending}
+use Rattle.rv_cli.specs.declared.ending.Ending.TheVariants.{Done, Keeper, Damaged, Read, Write, Memory, Malformed}
+use Rattle.rv_cli.specs.Texts.{status_of}
+use Rattle.rv_cli.specs.Headline.{IsNotOpened, NotFed, HasFed, RunsFeed, NotRetired, Replied, RunsOne, EndsOne, KeepsSo, KeptSound}
+
+-- an ending whose status is that of damage is damage
+no_damage : (ending : Ending) → ((shelf : ℕ) (key : List ℕ) → ending ≢ Damaged shelf key) → status_of ending ≢ 5
+no_damage Done other is = omega (arith, is)
+no_damage Keeper other is = omega (arith, is)
+no_damage (Damaged shelf key) other is = other shelf key refl
+no_damage Read other is = omega (arith, is)
+no_damage Write other is = omega (arith, is)
+no_damage Memory other is = omega (arith, is)
+no_damage (Malformed number) other is = omega (arith, is)
+
+module _ (Told : Type 0) (Stored Holds : Loaded → Type 0) (before after : ℕ) (told : Told) (kept : KeptSound Stored) where
+  opens_sound : (shelf : ℕ) (key : List ℕ) (ending : Ending) → ending ≡ Damaged shelf key → IsNotOpened Told Stored Holds before after ending → ⊥
+  opens_sound shelf key ending is why =
+      let (book, held, was, opens) = kept in
+      let (loaded, stored, damaged, left, same) = subst (λ (e : Ending). IsNotOpened Told Stored Holds before after e) is why in
+      opens-not_damaged (2 ^ 32 - 1) book loaded shelf key (subst (λ (l : Loaded). MayOpen (2 ^ 32 - 1) book l) (stored told held was) opens) damaged
+
+  pub refused_sound : (ending : Ending) (status : ℕ) → IsNotOpened Told Stored Holds before after ending → status ≡ status_of ending → status ≢ 5
+  refused_sound ending status why is five = no_damage ending (λ shelf key e. opens_sound shelf key ending e why) (sym is ∙ five)
+
+  fed_sound : (input input' : InputState) (output output' : OutputState) (ending : Ending) → NotFed Told Stored Holds before after input input' output output' ending ⊎ HasFed Told Stored Holds before after input input' output output' ending
+      → (shelf : ℕ) (key : List ℕ) → ending ≢ Damaged shelf key
+  fed_sound input input' output output' ending (inl none) shelf key is = opens_sound shelf key ending is none.why
+  fed_sound input input' output output' ending (inr fed) shelf key is = untold ending is fed.keeps
+    where
+      untold : (ending : Ending) → ending ≡ Damaged shelf key → KeepsSo Told before after ending → ⊥
+      untold Done is keeps = cc
+      untold Keeper is keeps = cc
+      untold (Damaged s k) is keeps = keeps told
+      untold Read is keeps = cc
+      untold Write is keeps = cc
+      untold Memory is keeps = cc
+      untold (Malformed number) is keeps = cc
+
+  pub feed_sound : (input input' : InputState) (output output' : OutputState) (status : ℕ) → RunsFeed Told Stored Holds before after input input' output output' status → status ≢ 5
+  feed_sound input input' output output' status (ending, is, runs) five = no_damage ending (fed_sound input input' output output' ending runs) (sym is ∙ five)
+
+  replied_sound : (asked : Asked) (output output' : OutputState) (ending : Ending) → NotRetired Told Stored Holds before after output output' ending ⊎ Replied Told Stored Holds before after asked output output' ending
+      → (shelf : ℕ) (key : List ℕ) → ending ≢ Damaged shelf key
+  replied_sound asked output output' ending (inl none) shelf key is = opens_sound shelf key ending is none.why
+  replied_sound asked output output' ending (inr replied) shelf key is = subst (λ (e : Ending). EndsOne replied.first asked replied.text replied.now e) is replied.ends
+
+  pub retire_sound : (asked : Asked) (output output' : OutputState) (status : ℕ) → RunsOne Told Stored Holds before after asked output output' status → status ≢ 5
+  retire_sound asked output output' status (ending, is, runs) five = no_damage ending (replied_sound asked output output' ending runs) (sym is ∙ five)
+
+-- the store in memory is opened with the empty book
+pub memory_sound : (Stored : Loaded → Type 0) → KeptSound (OpensAs (codes "memory") Stored)
+memory_sound Stored = (
+  [],
+  holding [] 0,
+  inl (refl, refl),
+  record {
+    sound = record { lawful = lawful_none; within = omega arith; fits = tt };
+    kept = record {
+      cells = record { rows = []; records = []; replay = replay_none; kept = records_none; made = refl };
+      generation = refl;
+    };
+  },
+)
