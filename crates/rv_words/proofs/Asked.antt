@@ -3,11 +3,11 @@ use Rattle.std.proofs.Common.{◌≡◌, ◌∙◌, ℕ, ap, refl, sym, List, []
 use Rattle.std.specs.Prelude.{option_and_then, option_map}
 use Rattle.std.specs.Str.{bytes_eq}
 use Rattle.std.specs.Cmp.Lexicographic.{same_text}
-use Rattle.rv_words.specs.Words.{is_id, is_store, retire_group_in}
+use Rattle.rv_words.specs.Words.{is_id, retire_group_in}
 use Rattle.rv_words.specs.Plain.{asked_with, feed_with, is_flag, plainly_in, retire_with, values_in}
-use Rattle.rv_words.specs.Laws.{AskForNothing, EachGroupIsAsked, GroupsAreIds, OthersAskForNothing, RetireIsAsked, begins_with_hyphen}
+use Rattle.rv_words.specs.Laws.{AskForNothing, EachGroupIsAsked, EachStoreIsAsked, FeedIsAsked, GroupsAreIds, OthersAskForNothing, RetireIsAsked, begins_with_hyphen}
 use Rattle.rv_words.specs.declared.command.Command.{Command}
-use Rattle.rv_words.specs.declared.command.Command.TheVariants.{Feed, Retire}
+use Rattle.rv_words.specs.declared.command.Command.TheVariants.{Retire}
 use Rattle.rv_words.proofs.Lines.{line_is_plain}
 
 -- a word that does not begin with a hyphen is a value
@@ -16,15 +16,36 @@ is_value : (word : List ℕ) (words : List (List ℕ)) → begins_with_hyphen wo
 is_value [] words plain = refl
 is_value (byte ∷ rest) words plain = rw plain refl
 
+-- so is one that stands alone
+one_value : (word : List ℕ) → begins_with_hyphen word ≡ false → values_in (word ∷ []) ≡ Some (word ∷ [])
+one_value word plain = is_value word [] plain
+
+pub feed_asked : FeedIsAsked
+feed_asked name store plain =
+    line_is_plain (name ∷ codes "feed" ∷ store ∷ []) ∙ ap (λ values. option_and_then (asked_with (codes "feed")) values) (one_value store plain)
+
+-- a group that is an `Id` is retired
+by_group : (store group : List ℕ) → is_id group ≡ true → retire_group_in store group ≡ Some (Retire store group)
+by_group store group id = ap (λ b. cond b (Some (Retire store group)) None) id
+
 pub retire_asked : RetireIsAsked
-retire_asked name group id plain =
-    line_is_plain (name ∷ codes "retire" ∷ codes "memory" ∷ group ∷ [])
-    ∙ ap (λ values. option_and_then (asked_with (codes "retire")) (option_map (λ v. codes "memory" ∷ v) values)) (is_value group [] plain)
-    ∙ ap (λ b. cond b (Some (Retire group)) None) id
+retire_asked name store group id plain plain_group =
+    line_is_plain (name ∷ codes "retire" ∷ store ∷ group ∷ [])
+    ∙ ap (λ values. option_and_then (asked_with (codes "retire")) values)
+    (is_value store (group ∷ []) plain ∙ ap (λ values. option_map (λ v. store ∷ v) values) (one_value group plain_group))
+    ∙ by_group store group id
+
+pub each_store_asked : EachStoreIsAsked
+each_store_asked = record {
+  feed = λ name store. line_is_plain (name ∷ codes "feed" ∷ codes "--" ∷ store ∷ []);
+  retire = λ name store group id. line_is_plain (name ∷ codes "retire" ∷ codes "--" ∷ store ∷ group ∷ []) ∙ by_group store group id;
+}
 
 pub each_group_asked : EachGroupIsAsked
-each_group_asked name group id =
-    line_is_plain (name ∷ codes "retire" ∷ codes "memory" ∷ codes "--" ∷ group ∷ []) ∙ ap (λ b. cond b (Some (Retire group)) None) id
+each_group_asked name store group id plain =
+    line_is_plain (name ∷ codes "retire" ∷ store ∷ codes "--" ∷ group ∷ [])
+    ∙ ap (λ values. option_and_then (asked_with (codes "retire")) values) (is_value store (codes "--" ∷ group ∷ []) plain)
+    ∙ by_group store group id
 
 pub short_lines : AskForNothing
 short_lines = record {
@@ -57,46 +78,39 @@ others name verb words no_feed no_retire =
 
 -- ---- what is asked to retire is an `Id`
 
-abbrev Names : List ℕ → Option Command → Type 0
-Names group asked = asked ≡ Some (Retire group) → is_id group ≡ true
+abbrev Names : List ℕ → List ℕ → Option Command → Type 0
+Names store group asked = asked ≡ Some (Retire store group) → is_id group ≡ true
 
-by_id : (group text : List ℕ) → Names group (retire_group_in text)
-by_id group text = go (is_id text) refl
+by_id : (store group from text : List ℕ) → Names store group (retire_group_in from text)
+by_id store group from text = go (is_id text) refl
   where
-    go : (b : Bool) → is_id text ≡ b → Names group (cond b (Some (Retire text)) None)
+    go : (b : Bool) → is_id text ≡ b → Names store group (cond b (Some (Retire from text)) None)
     go true id is = let same : text ≡ group = cc in ap is_id (sym same) ∙ id
     go false id is = absurd (cc)
 
-by_feed : (group : List ℕ) (b : Bool) → Names group (cond b (Some Feed) None)
-by_feed group true is = absurd (cc)
-by_feed group false is = absurd (cc)
+by_feeds : (store group : List ℕ) (values : List (List ℕ)) → Names store group (feed_with values)
+by_feeds store group [] is = absurd (cc)
+by_feeds store group (from ∷ []) is = absurd (cc)
+by_feeds store group (from ∷ more ∷ values) is = absurd (cc)
 
-by_retire : (group text : List ℕ) (b : Bool) → Names group (cond b (retire_group_in text) None)
-by_retire group text true is = by_id group text is
-by_retire group text false is = absurd (cc)
+by_retires : (store group : List ℕ) (values : List (List ℕ)) → Names store group (retire_with values)
+by_retires store group [] is = absurd (cc)
+by_retires store group (from ∷ []) is = absurd (cc)
+by_retires store group (from ∷ text ∷ []) is = by_id store group from text is
+by_retires store group (from ∷ text ∷ more ∷ values) is = absurd (cc)
 
-by_feeds : (group : List ℕ) (values : List (List ℕ)) → Names group (feed_with values)
-by_feeds group [] is = absurd (cc)
-by_feeds group (store ∷ []) is = by_feed group (is_store store) is
-by_feeds group (store ∷ more ∷ values) is = absurd (cc)
+by_values : (store group : List ℕ) (feed retire : Bool) (o : Option (List (List ℕ)))
+    → Names store group (option_and_then (λ values. cond feed (feed_with values) (cond retire (retire_with values) None)) o)
+by_values store group feed retire None is = absurd (cc)
+by_values store group true retire (Some values) is = by_feeds store group values is
+by_values store group false true (Some values) is = by_retires store group values is
+by_values store group false false (Some values) is = absurd (cc)
 
-by_retires : (group : List ℕ) (values : List (List ℕ)) → Names group (retire_with values)
-by_retires group [] is = absurd (cc)
-by_retires group (store ∷ []) is = absurd (cc)
-by_retires group (store ∷ text ∷ []) is = by_retire group text (is_store store) is
-by_retires group (store ∷ text ∷ more ∷ values) is = absurd (cc)
-
-by_values : (group : List ℕ) (feed retire : Bool) (o : Option (List (List ℕ)))
-    → Names group (option_and_then (λ values. cond feed (feed_with values) (cond retire (retire_with values) None)) o)
-by_values group feed retire None is = absurd (cc)
-by_values group true retire (Some values) is = by_feeds group values is
-by_values group false true (Some values) is = by_retires group values is
-by_values group false false (Some values) is = absurd (cc)
-
-by_line : (words : List (List ℕ)) (group : List ℕ) → Names group (plainly_in words)
-by_line [] group is = absurd (cc)
-by_line (name ∷ []) group is = absurd (cc)
-by_line (name ∷ verb ∷ words) group is = by_values group (bytes_eq verb (codes "feed")) (bytes_eq verb (codes "retire")) (values_in words) is
+by_line : (words : List (List ℕ)) (store group : List ℕ) → Names store group (plainly_in words)
+by_line [] store group is = absurd (cc)
+by_line (name ∷ []) store group is = absurd (cc)
+by_line (name ∷ verb ∷ words) store group is =
+    by_values store group (bytes_eq verb (codes "feed")) (bytes_eq verb (codes "retire")) (values_in words) is
 
 pub group_is_id : GroupsAreIds
-group_is_id words group is = by_line words group (sym (line_is_plain words) ∙ is)
+group_is_id words store group is = by_line words store group (sym (line_is_plain words) ∙ is)

@@ -13,18 +13,25 @@ abbrev pub LinesArePlain : Type 0
 LinesArePlain = (words : List (List ℕ)) → command_in words ≡ plainly_in words
 
 abbrev pub FeedIsAsked : Type 0
-FeedIsAsked = (name : List ℕ) → command_in (name ∷ codes "feed" ∷ codes "memory" ∷ []) ≡ Some Feed
+FeedIsAsked = (name store : List ℕ) → begins_with_hyphen store ≡ false → command_in (name ∷ codes "feed" ∷ store ∷ []) ≡ Some (Feed store)
 
 abbrev pub RetireIsAsked : Type 0
-RetireIsAsked = (name group : List ℕ) → is_id group ≡ true → begins_with_hyphen group ≡ false
-    → command_in (name ∷ codes "retire" ∷ codes "memory" ∷ group ∷ []) ≡ Some (Retire group)
+RetireIsAsked = (name store group : List ℕ) → is_id group ≡ true → begins_with_hyphen store ≡ false → begins_with_hyphen group ≡ false
+    → command_in (name ∷ codes "retire" ∷ store ∷ group ∷ []) ≡ Some (Retire store group)
 
+-- after `--` any store is taken, and any `Id` beside it
+pub record EachStoreIsAsked : Type 0 where
+  pub feed : (name store : List ℕ) → command_in (name ∷ codes "feed" ∷ codes "--" ∷ store ∷ []) ≡ Some (Feed store)
+  pub retire : (name store group : List ℕ) → is_id group ≡ true
+      → command_in (name ∷ codes "retire" ∷ codes "--" ∷ store ∷ group ∷ []) ≡ Some (Retire store group)
+
+-- and so is any `Id`, where `--` stands before it alone
 abbrev pub EachGroupIsAsked : Type 0
-EachGroupIsAsked = (name group : List ℕ) → is_id group ≡ true
-    → command_in (name ∷ codes "retire" ∷ codes "memory" ∷ codes "--" ∷ group ∷ []) ≡ Some (Retire group)
+EachGroupIsAsked = (name store group : List ℕ) → is_id group ≡ true → begins_with_hyphen store ≡ false
+    → command_in (name ∷ codes "retire" ∷ store ∷ codes "--" ∷ group ∷ []) ≡ Some (Retire store group)
 
 abbrev pub GroupsAreIds : Type 0
-GroupsAreIds = (words : List (List ℕ)) (group : List ℕ) → command_in words ≡ Some (Retire group) → is_id group ≡ true
+GroupsAreIds = (words : List (List ℕ)) (store group : List ℕ) → command_in words ≡ Some (Retire store group) → is_id group ≡ true
 
 -- lines that end too early
 pub record AskForNothing : Type 0 where

@@ -1,7 +1,7 @@
 -- What the words ask for, said without clap.
 use Rattle.std.specs.Prelude.{ℕ, ◌==◌, ◌&&◌, List, [], ◌∷◌, Option, Some, None, Bool, false, codes, is_some, slice_get, if◌then◌else◌, option_and_then, option_map}
 use Rattle.std.specs.Str.{bytes_eq, chars}
-use Rattle.rv_words.specs.Words.{is_store, retire_group_in}
+use Rattle.rv_words.specs.Words.{retire_group_in}
 use Rattle.rv_words.specs.declared.command.Command.{Command}
 use Rattle.rv_words.specs.declared.command.Command.TheVariants.{Feed}
 
@@ -20,11 +20,11 @@ values_in (word ∷ words) =
     else option_map (λ values. word ∷ values) (values_in words)
 
 abbrev pub feed_with : List (List ℕ) → Option Command
-feed_with (store ∷ []) = if is_store store then Some Feed else None
+feed_with (store ∷ []) = Some (Feed store)
 feed_with other = None
 
 abbrev pub retire_with : List (List ℕ) → Option Command
-retire_with (store ∷ group ∷ []) = if is_store store then retire_group_in group else None
+retire_with (store ∷ group ∷ []) = retire_group_in store group
 retire_with other = None
 
 abbrev pub asked_with : List ℕ → List (List ℕ) → Option Command

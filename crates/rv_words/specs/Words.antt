@@ -1,5 +1,5 @@
 -- What the words of a command line ask for. The first is the program's name.
-use Rattle.std.specs.Prelude.{◌≡◌, ◌&&◌, List, [], ◌∷◌, Option, Some, None, Bool, true, false, codes, length, nat_le, if◌then◌else◌, option_and_then}
+use Rattle.std.specs.Prelude.{◌≡◌, ◌&&◌, List, [], ◌∷◌, Option, Some, None, Bool, true, false, codes, length, nat_le, if◌then◌else◌, option_and_then, option_map}
 use Rattle.std.specs.Str.{bytes_eq}
 use Rattle.clap.specs.Words.{Kinds, Row, Text, first_of, fault_of, subcommand_of, subcommand_rows_of}
 use Rattle.clap.specs.declared.parser.ArgMatches.{ArgMatches}
@@ -7,23 +7,19 @@ use Rattle.rv_words.specs.Table.{rv_app}
 use Rattle.rv_words.specs.declared.command.Command.{Command}
 use Rattle.rv_words.specs.declared.command.Command.TheVariants.{Feed, Retire}
 
--- the text is the name of the store in memory, the only one so far
-abbrev pub is_store : Text → Bool
-is_store text = bytes_eq text (codes "memory")
-
 -- the text is an `Id`
 abbrev pub is_id : Text → Bool
 is_id text = nat_le 1 (length text) && nat_le (length text) 128
 
+-- any text names a store
 abbrev pub feed_in : List Row → Option Command
-feed_in rows = option_and_then (λ store. if is_store store then Some Feed else None) (first_of (codes "STORE") rows)
+feed_in rows = option_map (λ store. Feed store) (first_of (codes "STORE") rows)
 
-abbrev pub retire_group_in : Text → Option Command
-retire_group_in group = if is_id group then Some (Retire group) else None
+abbrev pub retire_group_in : Text → Text → Option Command
+retire_group_in store group = if is_id group then Some (Retire store group) else None
 
 abbrev pub retire_in : List Row → Option Command
-retire_in rows = option_and_then (λ store. option_and_then (λ group.
-    if is_store store then retire_group_in group else None) (first_of (codes "GROUP") rows)) (first_of (codes "STORE") rows)
+retire_in rows = option_and_then (λ store. option_and_then (retire_group_in store) (first_of (codes "GROUP") rows)) (first_of (codes "STORE") rows)
 
 -- what the command that was named asks for with its values
 abbrev pub named_in : Text × List Row → Option Command

@@ -1,12 +1,18 @@
+use crate::store_name::StoreName;
 use rv_base::Id;
 
 /// What the words of a command line ask for.
 #[derive(Debug, Drop)]
 pub enum Command {
     /// `feed STORE`: answer the request lines of the input.
-    Feed,
+    Feed {
+        /// The name of the store.
+        store: StoreName,
+    },
     /// `retire STORE GROUP`: end a client group.
     Retire {
+        /// The name of the store.
+        store: StoreName,
         /// The name of the group.
         group: Id,
     },

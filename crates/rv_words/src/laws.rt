@@ -2,6 +2,7 @@
 ghost use Rattle.rv_words.specs.Laws.{
   AskForNothing,
   EachGroupIsAsked,
+  EachStoreIsAsked,
   FeedIsAsked,
   GroupsAreIds,
   LinesArePlain,
@@ -15,17 +16,22 @@ pub fn lines_are_plain()
     ensures { LinesArePlain }
 {}
 
-/// The words `feed memory` after any name of the program ask for a feed.
+/// The words `feed STORE` after any name of the program ask for a feed of that store, for each text that doesn't begin with `-`.
 pub fn feed_is_asked()
     ensures { FeedIsAsked }
 {}
 
-/// The words `retire memory GROUP` ask for that, for each `Id` that doesn't begin with `-`.
+/// The words `retire STORE GROUP` ask for that, for each text and each `Id` that don't begin with `-`.
 pub fn retire_is_asked()
     ensures { RetireIsAsked }
 {}
 
-/// After `--` any `Id` is taken.
+/// After `--` any text is taken as a store.
+pub fn each_store_is_asked()
+    ensures { EachStoreIsAsked }
+{}
+
+/// After `--` any `Id` is taken as a group.
 pub fn each_group_is_asked()
     ensures { EachGroupIsAsked }
 {}

@@ -7,7 +7,9 @@
 mod command;
 pub mod laws;
 mod reading;
+mod store_name;
 mod table;
 
 pub use command::Command;
 pub use reading::command_of;
+pub use store_name::StoreName;

@@ -1,9 +1,10 @@
 // The words of a command line are read by the table.
-ghost use Rattle.std.specs.Prelude.{◌≡◌, IfOk, map, option_and_then, option_map, string_bytes};
+ghost use Rattle.std.specs.Prelude.{◌≡◌, IfOk, codes, map, option_and_then, option_map, string_bytes};
 ghost use Rattle.clap.specs.Words.{first_of, found_of, rows_of, subcommand_rows_of};
-ghost use Rattle.rv_words.specs.Words.{command_in, feed_in, named_in, retire_in, retire_group_in, is_store, Parses};
+ghost use Rattle.rv_words.specs.Words.{command_in, feed_in, named_in, retire_in, retire_group_in, Parses};
 
 use crate::command::Command;
+use crate::store_name::StoreName;
 use crate::table::rv;
 use clap::ArgMatches;
 use clap::error::ErrorKind;
@@ -30,29 +31,31 @@ fn value<'a>(matches: &ArgMatches<'a>, name: &str) -> Option<&'a str>
     matches.get_str(name)
 }
 
-// The text is the name of a store.
-fn is_store(text: &str) -> bool
-    ensures { result ≡ is_store text.now }
+// The store that is named, if one is.
+fn store_of(alloc: Global, matches: &ArgMatches<'_>) -> Result<Option<StoreName>, Memory>
+    ensures { IfOk result (λ store. store ≡ first_of (codes "STORE") (rows_of (found_of matches.now))) }
 {
-    text == "memory"
+    match value(matches, "STORE") {
+        Some(name) => Ok(Some(StoreName::new(alloc, name)?)),
+        None => Ok(None),
+    }
 }
 
-fn feed(matches: &ArgMatches<'_>) -> Option<Command>
-    ensures { result ≡ feed_in (rows_of (found_of matches.now)) }
+fn feed(alloc: Global, matches: &ArgMatches<'_>) -> Result<Option<Command>, Memory>
+    ensures { IfOk result (λ command. command ≡ feed_in (rows_of (found_of matches.now))) }
 {
-    if is_store(value(matches, "STORE")?) {
-        Some(Command::Feed)
-    } else {
-        None
+    match store_of(alloc, matches)? {
+        Some(store) => Ok(Some(Command::Feed { store })),
+        None => Ok(None),
     }
 }
 
 // A group of this name is retired.
-fn retire_group(alloc: Global, group: &str) -> Result<Option<Command>, Memory>
-    ensures { IfOk result (λ command. command ≡ retire_group_in group.now) }
+fn retire_group(alloc: Global, store: StoreName, group: &str) -> Result<Option<Command>, Memory>
+    ensures { IfOk result (λ command. command ≡ retire_group_in store group.now) }
 {
     match Id::new(alloc, group) {
-        Ok(group) => Ok(Some(Command::Retire { group })),
+        Ok(group) => Ok(Some(Command::Retire { store, group })),
         Err(TextRefusal::TooShort) => Ok(None),
         Err(TextRefusal::TooLong(_)) => Ok(None),
         Err(TextRefusal::Memory) => Err(Memory),
@@ -62,16 +65,13 @@ fn retire_group(alloc: Global, group: &str) -> Result<Option<Command>, Memory>
 fn retire(alloc: Global, matches: &ArgMatches<'_>) -> Result<Option<Command>, Memory>
     ensures { IfOk result (λ command. command ≡ retire_in (rows_of (found_of matches.now))) }
 {
-    let Some(store) = value(matches, "STORE") else {
+    let Some(store) = store_of(alloc, matches)? else {
         return Ok(None);
     };
     let Some(group) = value(matches, "GROUP") else {
         return Ok(None);
     };
-    if !is_store(store) {
-        return Ok(None);
-    }
-    retire_group(alloc, group)
+    retire_group(alloc, store, group)
 }
 
 // What the command of this name asks for, with what was found for it.
@@ -79,7 +79,7 @@ fn named(alloc: Global, name: &str, matches: &ArgMatches<'_>) -> Result<Option<C
     ensures { IfOk result (λ command. command ≡ named_in (name.now, rows_of (found_of matches.now))) }
 {
     match name {
-        "feed" => Ok(feed(matches)),
+        "feed" => feed(alloc, matches),
         "retire" => retire(alloc, matches),
         _ => Ok(None),
     }
