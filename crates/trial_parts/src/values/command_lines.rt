@@ -19,10 +19,14 @@ fn words(alloc: Global, line: &str) -> Result<Vec<String>, Memory> {
 // What the words ask for.
 fn asked(alloc: Global, words: &[String]) -> Result<String, Memory> {
     match command_of(alloc, words)? {
-        Some(Command::Feed) => Ok(String::from_str(alloc, "feed")?),
-        Some(Command::Retire { group }) => {
+        Some(Command::Feed { store }) => {
+            let store = quoted(alloc, store.as_str())?;
+            Ok(format!(in alloc; "feed {store}")?)
+        }
+        Some(Command::Retire { store, group }) => {
+            let store = quoted(alloc, store.as_str())?;
             let group = quoted(alloc, group.as_str())?;
-            Ok(format!(in alloc; "retire {group}")?)
+            Ok(format!(in alloc; "retire {store} {group}")?)
         }
         None => Ok(String::from_str(alloc, "nothing")?),
     }
