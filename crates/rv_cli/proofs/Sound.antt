@@ -1,7 +1,9 @@
 -- A store that keeps a lawful book is not damaged.
-use Rattle.std.proofs.Common.{◌≡◌, ◌≢◌, ℕ, ◌-◌, ◌^◌, ◌⊎◌, List, [], refl, sym, ◌∙◌, subst, arith, inl, inr}
+use Rattle.std.proofs.Common.{◌≡◌, ◌≢◌, ℕ, ◌-◌, ◌^◌, ◌⊎◌, List, [], Option, Some, refl, sym, ◌∙◌, subst, arith, inl, inr}
 use Rattle.std.specs.Prelude.{codes}
 use Rattle.rv_base.specs.Outside.{InputState, OutputState}
+use Rattle.rv_words.specs.declared.command.Command.{Command}
+use Rattle.rv_words.specs.declared.command.Command.TheVariants as commands
 use Rattle.rv_history.specs.LawfulBooks.{lawful_none}
 use Rattle.rv_history.specs.ReplayLaws.{replay_none}
 use Rattle.rv_news.specs.KeptRecords.{records_none}
@@ -62,11 +64,11 @@ module _ (Told : Type 0) (Stored Holds : Loaded → Type 0) (before after : ℕ)
   retire_sound asked output output' status (ending, is, runs) five = no_damage ending (replied_sound asked output output' ending runs) (sym is ∙ five)
 
 -- the store in memory is opened with the empty book
-pub memory_sound : (Stored : Loaded → Type 0) → KeptSound (OpensAs (codes "memory") Stored)
-memory_sound Stored = (
+pub memory_sound : (store : List ℕ) (Stored : Loaded → Type 0) → store ≡ codes "memory" → KeptSound (OpensAs store Stored)
+memory_sound store Stored is = (
   [],
   holding [] 0,
-  inl (refl, refl),
+  inl (is, refl),
   record {
     sound = record { lawful = lawful_none; within = omega arith; fits = tt };
     kept = record {
@@ -75,3 +77,16 @@ memory_sound Stored = (
     };
   },
 )
+
+-- words that ask for a command over the store in memory name it
+abbrev pub IsOfMemory : Option Command → List ℕ → Type 0
+IsOfMemory asked group = (asked ≡ Some (commands.Feed (codes "memory"))) ⊎ (asked ≡ Some (commands.Retire (codes "memory") group))
+
+pub feeds_memory : (asked : Option Command) (named store group : List ℕ) → Some (commands.Feed named) ≡ asked → store ≡ named → IsOfMemory asked group → store ≡ codes "memory"
+feeds_memory asked named store group is same (inl asks) = cc
+feeds_memory asked named store group is same (inr asks) = absurd (cc)
+
+pub retires_in_memory : (asked : Option Command) (named store retired group : List ℕ) → Some (commands.Retire named retired) ≡ asked → store ≡ named → IsOfMemory asked group
+    → store ≡ codes "memory"
+retires_in_memory asked named store retired group is same (inl asks) = absurd (cc)
+retires_in_memory asked named store retired group is same (inr asks) = cc

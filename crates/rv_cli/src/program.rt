@@ -135,11 +135,12 @@ fn give_up<O: Sink>(out: &mut O) -> u8
 
 /// Does what the words say, and answers the status of the process.
 ///
-/// The first word is the program's name and is not read. `feed memory` answers the lines of the input, each as it was
-/// read, from the empty book; `retire memory GROUP` retires a client group there. Status 0: the input was read to its end,
-/// and all that was asked is answered. 2: the words are no line of the command set. 4: the place or the keeper failed in opening.
-/// 5: the store is damaged, first at this shelf and key. 6: a read failed. 7: a write failed. 8: memory was refused outside a
-/// request. 10: the line that is named is not of the form. Each but 0 and 7 has a text of its own, which is written last.
+/// The first word is the program's name and is not read. `feed STORE` answers the lines of the input, each as it was read, from the
+/// book that the store keeps; `retire STORE GROUP` retires a client group there. STORE is `memory`, which begins empty, or the
+/// name of a store of the place. Status 0: the input was read to its end, and all that was asked is answered. 2: the words are no
+/// line of the command set. 4: the place or the keeper failed in opening. 5: the store is damaged, first at this shelf and key. 6: a
+/// read failed. 7: a write failed. 8: memory was refused outside a request. 10: the line that is named is not of the form. Each but
+/// 0 and 7 has a text of its own, which is written last.
 pub fn run<P: Place, S: Source, O: Sink>(
     alloc: Global,
     words: &[String],
@@ -152,18 +153,18 @@ pub fn run<P: Place, S: Source, O: Sink>(
     ensures usage { result ≡ 2 → command_in (map string_bytes words.now) ≡ None }
     ensures usage_only { command_in (map string_bytes words.now) ≡ None → result ≡ 2 ⊎ ((result ≡ 8) × WritesOnly (O.state out.old) (O.state out.new) (status_text endings.Memory)) }
     ensures usage_text { result ≡ 2 → WritesOnly (O.state out.old) (O.state out.new) usage_text }
-    ensures reads { (command_in (map string_bytes words.now) ≡ Some commands.Feed → ⊥) → input.new ≡ input.old }
+    ensures reads { ((store : List ℕ) → command_in (map string_bytes words.now) ≡ Some (commands.Feed store) → ⊥) → input.new ≡ input.old }
     ensures stays { command_in (map string_bytes words.now) ≡ None → place.new ≡ place.old }
 
     // What is written are the answers of a run from the book that the store kept over the lines that were read, and the store keeps
     // the book that the run leaves; or memory was refused in reading the words.
-    ensures feed { command_in (map string_bytes words.now) ≡ Some commands.Feed
-        → RunsFeed (P.tells place.new) (OpensAs (codes "memory") (P.holds place.old (codes "memory"))) (P.holds place.new (codes "memory")) (P.faults place.old) (P.faults place.new) (S.state input.old) (S.state input.new) (O.state out.old) (O.state out.new) result
+    ensures feed { (store : List ℕ) → command_in (map string_bytes words.now) ≡ Some (commands.Feed store)
+        → RunsFeed (P.tells place.new) (OpensAs store (P.holds place.old store)) (P.holds place.new store) (P.faults place.old) (P.faults place.new) (S.state input.old) (S.state input.new) (O.state out.old) (O.state out.new) result
         ⊎ ((result ≡ 8) × (input.new ≡ input.old) × (place.new ≡ place.old) × WritesOnly (O.state out.old) (O.state out.new) (status_text endings.Memory)) }
 
     // And so over the one line that retires the group.
-    ensures retire { (group : List ℕ) → command_in (map string_bytes words.now) ≡ Some (commands.Retire group)
-        → RunsOne (P.tells place.new) (OpensAs (codes "memory") (P.holds place.old (codes "memory"))) (P.holds place.new (codes "memory")) (P.faults place.old) (P.faults place.new) (Ok (Retire group)) (O.state out.old) (O.state out.new) result
+    ensures retire { (store group : List ℕ) → command_in (map string_bytes words.now) ≡ Some (commands.Retire store group)
+        → RunsOne (P.tells place.new) (OpensAs store (P.holds place.old store)) (P.holds place.new store) (P.faults place.old) (P.faults place.new) (Ok (Retire group)) (O.state out.old) (O.state out.new) result
         ⊎ ((result ≡ 8) × (place.new ≡ place.old) × WritesOnly (O.state out.old) (O.state out.new) (status_text endings.Memory)) }
 
     // A fault is told exactly where one rose, but for a write of a status's own text that failed.
@@ -174,19 +175,34 @@ pub fn run<P: Place, S: Source, O: Sink>(
     ensures write_told { result ≡ 7 ⊎ (O.state out.new).faults ≡ (O.state out.old).faults ⊎ ((result ≢ 0) × Rose (O.state out.old).faults (O.state out.new).faults) }
 
     // Where all lines are of the form, the status is 0 or 8, or that of a fault or a damage.
-    ensures complete { command_in (map string_bytes words.now) ≡ Some commands.Feed → AllAsk (S.state input.old).left (IsOther result) }
-    ensures complete_retire { (group : List ℕ) → command_in (map string_bytes words.now) ≡ Some (commands.Retire group) → result ≡ 0 ⊎ result ≡ 4 ⊎ result ≡ 5 ⊎ result ≡ 7 ⊎ result ≡ 8 }
+    ensures complete { (store : List ℕ) → command_in (map string_bytes words.now) ≡ Some (commands.Feed store) → AllAsk (S.state input.old).left (IsOther result) }
+    ensures complete_retire { (store group : List ℕ) → command_in (map string_bytes words.now) ≡ Some (commands.Retire store group) → result ≡ 0 ⊎ result ≡ 4 ⊎ result ≡ 5 ⊎ result ≡ 7 ⊎ result ≡ 8 }
 
-    // Over a place that tells the store in memory is never damaged.
-    ensures sound { P.tells place.new → result ≢ 5 }
+    // Where the place tells, and the store kept a lawful book within the limit, the status is no damage.
+    ensures sound { (store : List ℕ) → command_in (map string_bytes words.now) ≡ Some (commands.Feed store) → P.tells place.new
+        → KeptSound (OpensAs store (P.holds place.old store)) → result ≢ 5 }
+    ensures sound_retire { (store group : List ℕ) → command_in (map string_bytes words.now) ≡ Some (commands.Retire store group) → P.tells place.new
+        → KeptSound (OpensAs store (P.holds place.old store)) → result ≢ 5 }
+
+    // So over a place that tells the store in memory is never damaged; and without a command no store is.
+    ensures sound_memory { (group : List ℕ)
+        → command_in (map string_bytes words.now) ≡ Some (commands.Feed (codes "memory")) ⊎ command_in (map string_bytes words.now) ≡ Some (commands.Retire (codes "memory") group)
+        → P.tells place.new → result ≢ 5 }
+    ensures sound_none { command_in (map string_bytes words.now) ≡ None → result ≢ 5 }
 
     // Over an input and an output that fail no more it is none of the faults, but for want of memory in the output.
     ensures steady_input { S.fails_no_more input.old → S.fails_no_more input.new × (result ≢ 6) }
     ensures steady_output { O.fails_no_more out.old → O.fails_no_more out.new × (Rose (O.state out.old).refusals (O.state out.new).refusals ⊎ (result ≢ 7)) }
 {
     match command_of(alloc, words) {
-        Ok(Some(Command::Feed)) => run_feed(alloc, place, "memory", input, out),
-        Ok(Some(Command::Retire { group })) => run_retire(alloc, place, "memory", &group, out),
+        Ok(Some(Command::Feed { store })) => run_feed(alloc, place, store.as_str(), input, out),
+        Ok(Some(Command::Retire { store, group })) => run_retire(
+            alloc,
+            place,
+            store.as_str(),
+            &group,
+            out,
+        ),
         Ok(None) => refuse_words(out),
         Err(Memory) => give_up(out),
     }

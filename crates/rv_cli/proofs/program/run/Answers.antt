@@ -1,8 +1,12 @@
-use Rattle.rv_cli.proofs.Sound.{memory_sound}
+use Rattle.rv_cli.proofs.Sound.{memory_sound, feeds_memory, retires_in_memory}
 use Rattle.rv_cli.proofs.program.run.Goals as goal
 
-pub returns-in-Ok-Some-Feed-clause-sound : goal.returns-in-Ok-Some-Feed-clause-sound
-returns-in-Ok-Some-Feed-clause-sound g c = λ told. c.run_feed.ensures.sound told (memory_sound _)
+pub returns-in-Ok-Some-Feed-clause-sound_memory : goal.returns-in-Ok-Some-Feed-clause-sound_memory
+returns-in-Ok-Some-Feed-clause-sound_memory g c = λ group asks told.
+    let is = rw (c.in-Ok-Some-Feed.field-0-is, c.in-Ok-Some-Feed.field-0-0-is) at c.in-Ok-Some-Feed.ensures in
+    c.run_feed.ensures.sound told (memory_sound _ _ (feeds_memory _ _ _ group is c.as_str.ensures asks))
 
-pub returns-in-Ok-Some-Retire-clause-sound : goal.returns-in-Ok-Some-Retire-clause-sound
-returns-in-Ok-Some-Retire-clause-sound g c = λ told. c.run_retire.ensures.sound told (memory_sound _)
+pub returns-in-Ok-Some-Retire-clause-sound_memory : goal.returns-in-Ok-Some-Retire-clause-sound_memory
+returns-in-Ok-Some-Retire-clause-sound_memory g c = λ group asks told.
+    let is = rw (c.in-Ok-Some-Retire.field-0-is, c.in-Ok-Some-Retire.field-0-0-is) at c.in-Ok-Some-Retire.ensures in
+    c.run_retire.ensures.sound told (memory_sound _ _ (retires_in_memory _ _ _ _ group is c.as_str-in-Ok-Some-Retire.ensures asks))
