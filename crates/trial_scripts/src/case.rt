@@ -1,5 +1,6 @@
 use crate::kept::Kept;
 use rv_base::Memory;
+use rv_keeper::MemoryPlace;
 use std::alloc::Global;
 
 /// The words of a command line, an input, and what it runs on.
@@ -11,6 +12,8 @@ pub struct Case {
     pub input: Vec<u8>,
     /// The store, and the calls that fail.
     pub kept: Kept,
+    /// The place that stays from one run to the next, once there was one.
+    pub place: Option<MemoryPlace>,
 }
 
 // The words of a text, one after another.
@@ -22,6 +25,11 @@ fn words_of(alloc: Global, text: &str) -> Result<Vec<String>, Memory> {
     Ok(words)
 }
 
+/// The words that feed the store which is stated.
+pub fn words_of_kept(alloc: Global) -> Result<Vec<String>, Memory> {
+    words_of(alloc, "rv feed kept")
+}
+
 impl Case {
     /// The words of a feed, no input, and no call that fails.
     pub fn new(alloc: Global) -> Result<Case, Memory> {
@@ -29,6 +37,7 @@ impl Case {
             words: words_of(alloc, "rv feed memory")?,
             input: Vec::new(alloc),
             kept: Kept::new(alloc),
+            place: None,
         })
     }
 
@@ -67,6 +76,25 @@ impl Case {
             }
         }
         self.input = twice;
+        Ok(())
+    }
+
+    /// What a command on what the store holds prints. The words feed that store from here on.
+    pub fn state(
+        &mut self,
+        alloc: Global,
+        word: &str,
+        rest: &str,
+    ) -> Result<Option<String>, Memory> {
+        let text = self.kept.state(alloc, word, rest)?;
+        self.words = words_of_kept(alloc)?;
+        Ok(text)
+    }
+
+    /// The store is one of the place from here on, with what it holds there, and the words feed it.
+    pub fn take(&mut self, alloc: Global, place: &MemoryPlace) -> Result<(), Memory> {
+        self.kept.take(alloc, place)?;
+        self.words = words_of_kept(alloc)?;
         Ok(())
     }
 

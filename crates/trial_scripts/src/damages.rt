@@ -1,5 +1,5 @@
 // Stores of which a cell or the generation is not as it was left.
-use crate::case::Case;
+use crate::case::{Case, words_of_kept};
 use crate::cells::{body_at, cell_of, copied, put, remove, shelf_in};
 use crate::kept::Kept;
 use crate::runs::run_once;
@@ -123,9 +123,10 @@ pub fn command(alloc: Global, case: &Case, text: &str) -> Result<Option<String>,
         return Ok(None);
     };
     let opened = Case {
-        words: Vec::new(alloc),
+        words: words_of_kept(alloc)?,
         input: Vec::new(alloc),
         kept,
+        place: None,
     };
     Ok(Some(run_once(alloc, &opened)?))
 }

@@ -7,7 +7,7 @@ use std::alloc::Global;
 /// The store that a case runs on, and the calls that fail.
 #[derive(Drop)]
 pub struct Kept {
-    /// The store is one of the place, which is fed whatever the words say; else it is the one that the words name.
+    /// The store is `kept`, one of the place; else it is `memory`.
     pub is_stated: bool,
     /// The cells that it holds at first.
     pub shelves: Shelves,
@@ -42,7 +42,7 @@ fn cell_in(alloc: Global, text: &str) -> Result<Option<Cell>, Memory> {
 }
 
 impl Kept {
-    /// The store of the words, which is empty at first. No call fails.
+    /// The store in memory, which is empty at first. No call fails.
     pub fn new(alloc: Global) -> Kept {
         Kept {
             is_stated: false,

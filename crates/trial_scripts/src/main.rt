@@ -1,7 +1,8 @@
 //! Scripts through `run`, case by case, over a source, a sink and a place in memory.
 //!
-//! A line `== NAME` begins a case, with the words `rv feed memory`, no input, and a keeper that fails at no call. A line that
-//! begins with `#` is none, one that begins with `{` is a line of the input, and any other line is a command.
+//! A line `== NAME` begins a case, with the words `rv feed memory`, no input, and a keeper that fails at no call. Once what a store
+//! holds is stated or kept, that store is `kept`, and the words are `rv feed kept`. A line that begins with `#` is none, one that
+//! begins with `{` is a line of the input, and any other line is a command.
 #![tactic(auto)]
 
 mod books;
@@ -10,6 +11,7 @@ mod cells;
 mod damages;
 mod faults;
 mod kept;
+mod places;
 mod runs;
 mod stores;
 
@@ -25,8 +27,9 @@ fn printed(alloc: Global, case: &mut Case, line: &str) -> Result<Option<String>,
         "failing-reads" | "failing-writes" => faults::command(alloc, case, word),
         "length" | "rows" | "voids" | "viewers" => books::command(alloc, case, word),
         "keep" | "cells" | "retire" => stores::command(alloc, case, word, rest),
+        "next" | "held" => places::command(alloc, case, word, rest),
         "damaged" => damages::command(alloc, case, rest),
-        "cell" | "generation-is" => case.kept.state(alloc, word, rest),
+        "cell" | "generation-is" => case.state(alloc, word, rest),
         "open" | "load" | "generation" | "before" | "after" => case.kept.fail(alloc, word, rest),
         _ => case.command(alloc, word, rest),
     }

@@ -1,7 +1,7 @@
 // Runs, in pieces of several sizes.
 use crate::case::Case;
 use rv_base::{Memory, MemorySink, MemorySource};
-use rv_cli::{run, run_feed};
+use rv_cli::run;
 use rv_keeper::MemoryPlace;
 use std::alloc::Global;
 use std::mem;
@@ -26,21 +26,6 @@ fn failing(alloc: Global, call: u64) -> Result<Vec<u64>, Memory> {
     Ok(calls)
 }
 
-// Runs what the words say, or feeds the store that is stated.
-fn run_between(
-    alloc: Global,
-    case: &Case,
-    place: &mut MemoryPlace,
-    input: &mut MemorySource,
-    out: &mut MemorySink,
-) -> u8 {
-    if case.kept.is_stated {
-        run_feed(alloc, place, case.kept.name(), input, out)
-    } else {
-        run(alloc, &case.words, place, input, out)
-    }
-}
-
 /// Runs a case over a place in pieces of at most so many bytes. The read and the write of these numbers fail, from 1; 0 is none.
 pub fn run_over(
     alloc: Global,
@@ -53,7 +38,7 @@ pub fn run_over(
     let bytes = Vec::from_slice(alloc, &case.input)?;
     let mut input = MemorySource::new(bytes, most, failing(alloc, read)?);
     let mut out = MemorySink::new(alloc, most, failing(alloc, write)?);
-    let status = run_between(alloc, case, place, &mut input, &mut out);
+    let status = run(alloc, &case.words, place, &mut input, &mut out);
     Ok(Finished {
         status,
         written: out.bytes,

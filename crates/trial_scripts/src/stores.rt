@@ -14,8 +14,8 @@ fn place_after(alloc: Global, case: &Case) -> Result<MemoryPlace, Memory> {
     Ok(place)
 }
 
-// The cells of a store, and its generation.
-fn held_text(alloc: Global, place: &MemoryPlace, name: &str) -> Result<String, Memory> {
+/// The cells of a store, and its generation.
+pub fn held_text(alloc: Global, place: &MemoryPlace, name: &str) -> Result<String, Memory> {
     let Some(store) = place.store(name) else {
         return Ok(String::from_str(alloc, "no store\n")?);
     };
@@ -32,7 +32,7 @@ fn held(alloc: Global, case: &Case) -> Result<String, Memory> {
 // Runs the case. From here on its store is what this left, and there is no input.
 fn keep(alloc: Global, case: &mut Case) -> Result<String, Memory> {
     let place = place_after(alloc, case)?;
-    case.kept.take(alloc, &place)?;
+    case.take(alloc, &place)?;
     case.input = Vec::new(alloc);
     Ok(String::new(alloc))
 }
@@ -42,7 +42,7 @@ fn retire(alloc: Global, case: &mut Case, group: &Id) -> Result<String, Memory> 
     let mut place = case.kept.place(alloc)?;
     let mut out = MemorySink::new(alloc, 100_000, Vec::new(alloc));
     let status = run_retire(alloc, &mut place, case.kept.name(), group, &mut out);
-    case.kept.take(alloc, &place)?;
+    case.take(alloc, &place)?;
     told(alloc, &out.bytes, status)
 }
 
