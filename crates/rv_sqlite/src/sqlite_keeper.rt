@@ -1,0 +1,160 @@
+ghost use Rattle.std.specs.Prelude.{◌≡◌, ◌≤◌, ◌<◌, ◌-◌, ◌^◌, IfOk};
+ghost use Rattle.rv_base.specs.Causes.{Rose};
+ghost use Rattle.rv_keeper.specs.Cells.{AreCells, AreChanges};
+ghost use Rattle.rv_keeper.specs.Keeping.{HasKeepCause, HasGenerationCause};
+
+use crate::number::number_in;
+use crate::reading::read_table;
+use crate::statements::{generation_row, make_table};
+use crate::table::has_table;
+use crate::writing::{fault_of, write};
+use rv_base::Failed;
+use rv_keeper::{Change, KeepFault, Keeper, Loaded};
+use sqlite::types::ValueRef;
+use sqlite::{Alter, Connection, Row};
+use std::alloc::Global;
+
+/// Keeps cells and a generation in the table `cell` of a SQLite database, over any store of the crate `sqlite`.
+///
+/// A row has a shelf, a key and a body; the generation stands on shelf 0 under the empty key, in decimal, and is 0 without that row.
+/// A commit is one transaction. Each refusal but want of memory is counted as a fault, and in `generation` each refusal. What is
+/// held is not told. The count of faults stands still at 2^64 - 1.
+pub struct SqliteKeeper<S: Alter> {
+    alloc: Global,
+    connection: Connection<S>,
+    faults: u64,
+}
+
+impl<S: Alter + Drop> Drop for SqliteKeeper<S> {
+    fn drop(self) {
+        let SqliteKeeper {
+            alloc: _,
+            connection: _,
+            faults: _,
+        } = self;
+    }
+}
+
+impl<S: Alter> SqliteKeeper<S> {
+    /// A keeper over the database of a connection. No statement is run: the table is made by the first `load`, where the database
+    /// has none. Takes no memory.
+    pub fn adopt(alloc: Global, connection: Connection<S>) -> SqliteKeeper<S>
+        ensures connection { result.connection ≡ connection }
+        ensures faults { result.faults ≡ 0 }
+    {
+        SqliteKeeper {
+            alloc,
+            connection,
+            faults: 0,
+        }
+    }
+
+    /// The connection.
+    pub fn into_connection(self) -> Connection<S>
+        ensures { result ≡ self.connection }
+    {
+        let SqliteKeeper {
+            alloc: _,
+            connection,
+            faults: _,
+        } = self;
+        connection
+    }
+}
+
+fn count(faults: &mut u64)
+    ensures later { faults.old ≤ faults.new }
+    ensures rose { Rose faults.old faults.new }
+{
+    *faults = faults.saturating_add(1);
+}
+
+// Counts what an answer tells.
+fn count_in<T: Drop>(faults: &mut u64, answer: Result<T, KeepFault>) -> Result<T, KeepFault>
+    ensures same { result ≡ answer }
+    ensures cause { HasKeepCause faults.old faults.new result }
+{
+    match answer {
+        Ok(value) => Ok(value),
+        Err(KeepFault::Memory) => Err(KeepFault::Memory),
+        Err(KeepFault::Failed) => {
+            count(faults);
+            Err(KeepFault::Failed)
+        }
+    }
+}
+
+// What the table has, which is made where there is none.
+fn load_from<S: Alter>(
+    alloc: Global,
+    connection: &mut Connection<S>,
+) -> Result<Loaded, KeepFault>
+    ensures { IfOk result (λ loaded. AreCells loaded.cells) }
+{
+    if !connection.is_autocommit() {
+        return Err(KeepFault::Failed);
+    }
+    match make_table(connection) {
+        Ok(()) => {}
+        Err(error) => return Err(fault_of(error)),
+    }
+    if !has_table(connection.schema()) {
+        return Err(KeepFault::Failed);
+    }
+    read_table(alloc, connection)
+}
+
+// The number in the row of the generation.
+fn generation_of(row: &Row) -> Option<u64> {
+    match row.get_ref(0) {
+        Ok(ValueRef::Blob(body)) => number_in(body),
+        _ => None,
+    }
+}
+
+// The generation that the table has.
+fn generation_in<S: Alter>(connection: &mut Connection<S>) -> Option<u64> {
+    if !connection.is_autocommit() {
+        return None;
+    }
+    match generation_row(connection) {
+        Ok(Some(row)) => generation_of(&row),
+        Ok(None) => Some(0),
+        Err(_) => None,
+    }
+}
+
+impl<S: Alter> Keeper for SqliteKeeper<S> {
+    ghost tells = { λ s. ⊥ };
+
+    ghost holds = { λ s held. ⊥ };
+
+    ghost faults = { λ s. s.faults };
+
+    ghost fails_no_more = { λ s. ⊥ };
+
+    fn fault_count(&self) -> u64 {
+        self.faults
+    }
+
+    fn load(&mut self) -> Result<Loaded, KeepFault> {
+        let answer = load_from(self.alloc, &mut self.connection);
+        count_in(&mut self.faults, answer)
+    }
+
+    fn generation(&mut self, from: u64) -> Result<u64, Failed> {
+        let Some(generation) = generation_in(&mut self.connection) else {
+            count(&mut self.faults);
+            return Err(Failed);
+        };
+        if generation != from && generation != from + 1 {
+            count(&mut self.faults);
+        }
+        Ok(generation)
+    }
+
+    fn commit(&mut self, from: u64, changes: &[Change]) -> Result<(), KeepFault> {
+        let answer = write(&mut self.connection, from, changes);
+        count_in(&mut self.faults, answer)
+    }
+}

@@ -1,0 +1,100 @@
+// The statements, each in a function of its own.
+ghost use Rattle.std.specs.Prelude.{◌≡◌, ◌<◌};
+
+use itoa::Buffer;
+use rv_keeper::Change;
+use sqlite::{Alter, Connection, Error, ErrorCode, Row, Rows, Transaction, params};
+
+const MAKE: &str = "CREATE TABLE IF NOT EXISTS cell (shelf INTEGER NOT NULL, k BLOB NOT NULL, body BLOB NOT NULL, PRIMARY KEY (shelf, k)) STRICT";
+
+const ALL: &str = "SELECT shelf, k, body FROM cell ORDER BY shelf, k";
+
+const ONE: &str = "SELECT body FROM cell WHERE shelf = ?1 AND k = ?2";
+
+const PUT: &str = "INSERT INTO cell (shelf, k, body) VALUES (?1, ?2, ?3) ON CONFLICT (shelf, k) DO UPDATE SET body = excluded.body";
+
+const REMOVE: &str = "DELETE FROM cell WHERE shelf = ?1 AND k = ?2";
+
+/// The shelf of the one cell that is none of the store's own: its key is empty, and its body is the generation in decimal.
+pub(crate) const GENERATION_SHELF: u8 = 0;
+
+/// Makes the table, where there is none.
+pub(crate) fn make_table<S: Alter>(connection: &mut Connection<S>) -> Result<(), Error> {
+    connection.execute(MAKE, &[])?;
+    Ok(())
+}
+
+/// All rows, in the order of shelves and then of keys, one at a time.
+pub(crate) fn all_rows<S: Alter>(connection: &mut Connection<S>) -> Result<Rows<'_, S>, Error> {
+    connection.query(ALL, &[])
+}
+
+/// The row of the generation, if there is one.
+pub(crate) fn generation_row<S: Alter>(
+    connection: &mut Connection<S>,
+) -> Result<Option<Row>, Error> {
+    match connection.query_row(ONE, params![u32::from(GENERATION_SHELF), b"".as_slice()]) {
+        Ok(row) => Ok(Some(row)),
+        Err(Error::QueryReturnedNoRows) => Ok(None),
+        Err(error) => Err(error),
+    }
+}
+
+fn put_row<S: Alter>(
+    transaction: &mut Transaction<'_, S>,
+    shelf: u8,
+    key: &[u8],
+    body: &[u8],
+) -> Result<(), Error> {
+    transaction.execute(PUT, params![u32::from(shelf), key, body])?;
+    Ok(())
+}
+
+fn remove_row<S: Alter>(
+    transaction: &mut Transaction<'_, S>,
+    shelf: u8,
+    key: &[u8],
+) -> Result<(), Error> {
+    transaction.execute(REMOVE, params![u32::from(shelf), key])?;
+    Ok(())
+}
+
+/// Makes one change.
+pub(crate) fn make_change<S: Alter>(
+    transaction: &mut Transaction<'_, S>,
+    change: &Change,
+) -> Result<(), Error> {
+    match change {
+        Change::Put(cell) => put_row(
+            transaction,
+            cell.shelf,
+            cell.key.as_slice(),
+            cell.body.as_slice(),
+        ),
+        Change::Remove(shelf, key) => remove_row(transaction, *shelf, key.as_slice()),
+    }
+}
+
+/// Writes the generation.
+pub(crate) fn put_generation<S: Alter>(
+    transaction: &mut Transaction<'_, S>,
+    generation: u64,
+) -> Result<(), Error> {
+    let mut digits = Buffer::new();
+    let text = digits.format(generation);
+    put_row(
+        transaction,
+        GENERATION_SHELF,
+        b"".as_slice(),
+        text.as_bytes(),
+    )
+}
+
+/// The connection is open, and in no transaction: then alone a ROLLBACK is refused for the state of the transaction, and changes
+/// nothing.
+pub(crate) fn is_settled<S: Alter>(connection: &mut Connection<S>) -> bool {
+    matches!(
+        connection.execute("ROLLBACK", &[]),
+        Err(Error::SqliteFailure(ErrorCode::TransactionState))
+    )
+}
