@@ -10,7 +10,9 @@ mod reading;
 mod row_read;
 mod sqlite_keeper;
 mod statements;
+mod store_keeper;
 mod table;
 mod writing;
 
 pub use sqlite_keeper::SqliteKeeper;
+pub use store_keeper::StoreKeeper;

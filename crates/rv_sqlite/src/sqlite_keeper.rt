@@ -85,10 +85,7 @@ fn count_in<T: Drop>(faults: &mut u64, answer: Result<T, KeepFault>) -> Result<T
 }
 
 // What the table has, which is made where there is none.
-fn load_from<S: Alter>(
-    alloc: Global,
-    connection: &mut Connection<S>,
-) -> Result<Loaded, KeepFault>
+fn load_from<S: Alter>(alloc: Global, connection: &mut Connection<S>) -> Result<Loaded, KeepFault>
     ensures { IfOk result (λ loaded. AreCells loaded.cells) }
 {
     if !connection.is_autocommit() {

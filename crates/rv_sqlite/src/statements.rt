@@ -5,13 +5,15 @@ use itoa::Buffer;
 use rv_keeper::Change;
 use sqlite::{Alter, Connection, Error, ErrorCode, Row, Rows, Transaction, params};
 
-const MAKE: &str = "CREATE TABLE IF NOT EXISTS cell (shelf INTEGER NOT NULL, k BLOB NOT NULL, body BLOB NOT NULL, PRIMARY KEY (shelf, k)) STRICT";
+const MAKE: &str =
+    "CREATE TABLE IF NOT EXISTS cell (shelf INTEGER NOT NULL, k BLOB NOT NULL, body BLOB NOT NULL, PRIMARY KEY (shelf, k)) STRICT";
 
 const ALL: &str = "SELECT shelf, k, body FROM cell ORDER BY shelf, k";
 
 const ONE: &str = "SELECT body FROM cell WHERE shelf = ?1 AND k = ?2";
 
-const PUT: &str = "INSERT INTO cell (shelf, k, body) VALUES (?1, ?2, ?3) ON CONFLICT (shelf, k) DO UPDATE SET body = excluded.body";
+const PUT: &str =
+    "INSERT INTO cell (shelf, k, body) VALUES (?1, ?2, ?3) ON CONFLICT (shelf, k) DO UPDATE SET body = excluded.body";
 
 const REMOVE: &str = "DELETE FROM cell WHERE shelf = ?1 AND k = ?2";
 

@@ -1,0 +1,74 @@
+ghost use Rattle.std.specs.Prelude.{◌≡◌, None, Some};
+ghost use Rattle.rv_sqlite.specs.Stored.{stored_connection, stored_faults};
+
+use crate::sqlite_keeper::SqliteKeeper;
+use rv_base::Failed;
+use rv_keeper::{Change, KeepFault, Keeper, Loaded, MemoryKeeper};
+use sqlite::{Alter, Connection};
+
+/// What keeps one store: memory, or a SQLite database. What is held is not told of either.
+pub enum StoreKeeper<S: Alter> {
+    /// In memory.
+    Memory(MemoryKeeper),
+    /// In the database of a connection.
+    Sqlite(SqliteKeeper<S>),
+}
+
+impl<S: Alter + Drop> Drop for StoreKeeper<S> {
+    fn drop(self) {
+        match self {
+            StoreKeeper::Memory(_keeper) => {}
+            StoreKeeper::Sqlite(_keeper) => {}
+        }
+    }
+}
+
+impl<S: Alter> StoreKeeper<S> {
+    /// The connection, where there is one.
+    pub fn into_connection(self) -> Option<Connection<S>>
+        ensures { result ≡ stored_connection self }
+    {
+        match self {
+            StoreKeeper::Memory(_keeper) => None,
+            StoreKeeper::Sqlite(keeper) => Some(keeper.into_connection()),
+        }
+    }
+}
+
+impl<S: Alter> Keeper for StoreKeeper<S> {
+    ghost tells = { λ s. ⊥ };
+
+    ghost holds = { λ s held. ⊥ };
+
+    ghost faults = { λ s. stored_faults s };
+
+    ghost fails_no_more = { λ s. ⊥ };
+
+    fn fault_count(&self) -> u64 {
+        match self {
+            StoreKeeper::Memory(keeper) => keeper.fault_count(),
+            StoreKeeper::Sqlite(keeper) => keeper.fault_count(),
+        }
+    }
+
+    fn load(&mut self) -> Result<Loaded, KeepFault> {
+        match self {
+            StoreKeeper::Memory(keeper) => keeper.load(),
+            StoreKeeper::Sqlite(keeper) => keeper.load(),
+        }
+    }
+
+    fn generation(&mut self, from: u64) -> Result<u64, Failed> {
+        match self {
+            StoreKeeper::Memory(keeper) => keeper.generation(from),
+            StoreKeeper::Sqlite(keeper) => keeper.generation(from),
+        }
+    }
+
+    fn commit(&mut self, from: u64, changes: &[Change]) -> Result<(), KeepFault> {
+        match self {
+            StoreKeeper::Memory(keeper) => keeper.commit(from, changes),
+            StoreKeeper::Sqlite(keeper) => keeper.commit(from, changes),
+        }
+    }
+}
