@@ -1,10 +1,10 @@
-//! The program `rv`: the words of the command line, a place in memory that has no store, standard input and standard output,
-//! handed to `rv_cli::run`.
+//! The program `rv`: the words of the command line, the stores of the machine, standard input and standard output, handed to
+//! `rv_cli::run`.
 #![tactic(auto)]
 
 use rv_base::{Reading, Writing};
 use rv_cli::run;
-use rv_keeper::MemoryPlace;
+use rv_place::HostPlace;
 use std::alloc::Global;
 use std::process::ExitCode;
 use std::{env, io};
@@ -24,7 +24,7 @@ fn main(rt: HostRuntime) -> ExitCode {
         Ok(words) => words,
         Err(_) => Vec::new(alloc),
     };
-    let mut place = MemoryPlace::new(alloc, Vec::new(alloc), Vec::new(alloc));
+    let mut place = HostPlace::new(&rt);
     let mut input = Reading::new(rt.reader());
     let mut output = Writing::new(io::writer(&rt));
     ExitCode::from(run(alloc, &words, &mut place, &mut input, &mut output))

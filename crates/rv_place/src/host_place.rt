@@ -1,0 +1,104 @@
+ghost use Rattle.std.specs.Prelude.{◌≡◌, ◌≤◌, IfOk};
+ghost use Rattle.rv_base.specs.Causes.{Rose};
+ghost use Rattle.rv_sqlite.specs.Stored.{stored_faults};
+
+use rv_keeper::{KeepFault, Keeper, MemoryKeeper, Place};
+use rv_sqlite::{SqliteKeeper, StoreKeeper};
+use sqlite::{Connection, Error, ErrorCode, File, FileStore};
+
+/// What keeps a store of this machine.
+pub type HostKeeper = StoreKeeper<FileStore<File>>;
+
+/// The stores of this machine: the store `memory`, which is a fresh one in memory each time, and else the SQLite file at the path
+/// that the name is. A file that is not there is made. What the stores hold is not told. The count of faults stands still at
+/// 2^64 - 1.
+pub struct HostPlace<'a> {
+    rt: &'a HostRuntime,
+    faults: u64,
+}
+
+impl<'a> HostPlace<'a> {
+    /// The stores that the machine of this runtime has. No file is opened yet.
+    pub fn new(rt: &'a HostRuntime) -> HostPlace<'a>
+        ensures { result.faults ≡ 0 }
+    {
+        HostPlace { rt, faults: 0 }
+    }
+}
+
+fn count(faults: &mut u64)
+    ensures later { faults.old ≤ faults.new }
+    ensures rose { Rose faults.old faults.new }
+{
+    *faults = faults.saturating_add(1);
+}
+
+// The keeper of the file at a path.
+fn open_file(rt: &HostRuntime, path: &str) -> Result<HostKeeper, KeepFault>
+    ensures { IfOk result (λ kept. stored_faults kept ≡ 0) }
+{
+    match Connection::open(rt, path) {
+        Ok(connection) => Ok(StoreKeeper::Sqlite(SqliteKeeper::adopt(
+            rt.alloc(),
+            connection,
+        ))),
+        Err(Error::SqliteFailure(ErrorCode::OutOfMemory)) => Err(KeepFault::Memory),
+        Err(_) => Err(KeepFault::Failed),
+    }
+}
+
+fn open_store(rt: &HostRuntime, name: &str) -> Result<HostKeeper, KeepFault>
+    ensures { IfOk result (λ kept. stored_faults kept ≡ 0) }
+{
+    if name == "memory" {
+        let alloc = rt.alloc();
+        Ok(StoreKeeper::Memory(MemoryKeeper::new(
+            alloc,
+            Vec::new(alloc),
+        )))
+    } else {
+        open_file(rt, name)
+    }
+}
+
+// Closes the file, if there is one. That it was not closed is nothing that anybody is told: what was committed is in the file or
+// its log, and the next opening reads both.
+fn close_file(kept: HostKeeper) {
+    if let Some(connection) = kept.into_connection() {
+        let _ = connection.close();
+    }
+}
+
+impl Place for HostPlace<'_> {
+    type Kept = HostKeeper;
+
+    ghost tells = { λ s. ⊥ };
+
+    ghost holds = { λ s name held. ⊥ };
+
+    ghost is_out = { λ s name. ⊥ };
+
+    ghost faults = { λ s. s.faults };
+
+    fn fault_count(&self) -> u64 {
+        self.faults
+    }
+
+    fn open_keeper(&mut self, name: &str) -> Result<HostKeeper, KeepFault> {
+        match open_store(self.rt, name) {
+            Ok(kept) => Ok(kept),
+            Err(KeepFault::Memory) => Err(KeepFault::Memory),
+            Err(KeepFault::Failed) => {
+                count(&mut self.faults);
+                Err(KeepFault::Failed)
+            }
+        }
+    }
+
+    fn close_keeper(&mut self, _name: &str, kept: HostKeeper) {
+        if kept.fault_count() > 0 {
+            count(&mut self.faults);
+        }
+        close_file(kept);
+    }
+}

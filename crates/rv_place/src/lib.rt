@@ -1,0 +1,9 @@
+//! The stores of this machine: memory, and the files of the file system.
+//!
+//! [`HostPlace`] gives the keepers of stores by their names. What its stores hold is not told: of it safety and the causes of each
+//! answer are proved.
+#![tactic(auto)]
+
+mod host_place;
+
+pub use host_place::HostPlace;
