@@ -1,6 +1,7 @@
 // Rows as cells.
 ghost use Rattle.std.specs.Prelude.{◌≡◌, IfOk, OnOk, OnErr, ◌++◌, ◌∷◌, [], IsTrue, ◌<◌};
 ghost use Rattle.rv_keeper.specs.Cells.{AreCells};
+ghost use Rattle.rv_sqlite.specs.Rows.{IsRow};
 
 use crate::number::number_in;
 use crate::row_read::RowRead;
@@ -21,7 +22,9 @@ fn columns_of(row: &Row) -> Result<(i64, Vec<u8>, Vec<u8>), Error> {
 }
 
 // What a row with these columns stands for; nothing, where a store has no such row.
-fn as_read(shelf: i64, key: Vec<u8>, body: Vec<u8>) -> Option<RowRead> {
+fn as_read(shelf: i64, key: Vec<u8>, body: Vec<u8>) -> Option<RowRead>
+    ensures { IsRow shelf key.items body.items result }
+{
     let shelf = u8::try_from(shelf).ok()?;
     if shelf != GENERATION_SHELF {
         return Some(RowRead::Cell(Cell {
