@@ -1,5 +1,7 @@
 -- What a row of the table stands for, by its shelf, its key and its body.
 use Rattle.std.specs.Prelude.{◌≡◌, ◌≢◌, ℕ, ℤ, pos, ◌<◌, ◌^◌, List, [], decimal, Option, Some, None}
+use Rattle.sqlite_value.specs.declared.value.Value.TheVariants.{Int, Blob}
+use Rattle.sqlite_value.specs.Order.{Row, column}
 use Rattle.rv_sqlite.specs.declared.row_read.RowRead.{RowRead}
 use Rattle.rv_sqlite.specs.declared.row_read.RowRead.TheVariants.{Cell, Generation}
 
@@ -18,3 +20,17 @@ abbrev pub IsRow : ℤ → List ℕ → List ℕ → Option RowRead → Type 0
 IsRow shelf key body (Some (Cell cell)) = (shelf ≡ pos cell.shelf) × (0 < cell.shelf) × (cell.key ≡ key) × (cell.body ≡ body)
 IsRow shelf key body (Some (Generation number)) = (shelf ≡ pos 0) × (key ≡ []) × IsNumber body (Some number)
 IsRow shelf key body None = IsNoRow shelf key body
+
+-- the row's columns are a whole number, a key and a body that stand for this
+pub record Shows (row : Row) (read : RowRead) : Type 0 where
+  pub shelf : ℤ
+  pub key : List ℕ
+  pub body : List ℕ
+  pub shelf_is : column row 0 ≡ Int shelf
+  pub key_is : column row 1 ≡ Blob key
+  pub body_is : column row 2 ≡ Blob body
+  pub stands : IsRow shelf key body (Some read)
+
+-- the row's first column is the decimal text of the number
+abbrev pub ShowsNumber : Row → ℕ → Type 0
+ShowsNumber row number = column row 0 ≡ Blob (decimal number)

@@ -1,7 +1,9 @@
 // Rows as cells.
 ghost use Rattle.std.specs.Prelude.{◌≡◌, IfOk, OnOk, OnErr, ◌++◌, ◌∷◌, [], IsTrue, ◌<◌};
 ghost use Rattle.rv_keeper.specs.Cells.{AreCells};
-ghost use Rattle.rv_sqlite.specs.Rows.{IsRow};
+ghost use Rattle.sqlite_value.specs.declared.value.Value.TheVariants.{Int, Blob};
+ghost use Rattle.sqlite_value.specs.Order.{column};
+ghost use Rattle.rv_sqlite.specs.Rows.{IsRow, Shows};
 
 use crate::number::number_in;
 use crate::row_read::RowRead;
@@ -14,7 +16,9 @@ use std::alloc::Global;
 use std::cmp::Ordering;
 
 // The columns of a row.
-fn columns_of(row: &Row) -> Result<(i64, Vec<u8>, Vec<u8>), Error> {
+fn columns_of(row: &Row) -> Result<(i64, Vec<u8>, Vec<u8>), Error>
+    ensures { IfOk result (λ columns. (column row.now 0 ≡ Int columns.0) × (column row.now 1 ≡ Blob columns.1.items) × (column row.now 2 ≡ Blob columns.2.items)) }
+{
     let shelf = row.get::<i64>(0)?;
     let key = row.get::<Vec<u8>>(1)?;
     let body = row.get::<Vec<u8>>(2)?;
@@ -39,7 +43,10 @@ fn as_read(shelf: i64, key: Vec<u8>, body: Vec<u8>) -> Option<RowRead>
     Some(RowRead::Generation(number_in(&body)?))
 }
 
-fn read_row(row: &Row) -> Result<RowRead, KeepFault> {
+// What the row stands for.
+fn read_row(row: &Row) -> Result<RowRead, KeepFault>
+    ensures { IfOk result (Shows row.now) }
+{
     match columns_of(row) {
         Ok((shelf, key, body)) => as_read(shelf, key, body).ok_or(KeepFault::Failed),
         Err(error) => Err(fault_of(error)),

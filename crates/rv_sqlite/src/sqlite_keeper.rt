@@ -1,7 +1,8 @@
-ghost use Rattle.std.specs.Prelude.{◌≡◌, ◌≤◌, ◌<◌, ◌-◌, ◌^◌, IfOk};
+ghost use Rattle.std.specs.Prelude.{◌≡◌, ◌≤◌, ◌<◌, ◌-◌, ◌^◌, IfOk, IfSome};
 ghost use Rattle.rv_base.specs.Causes.{Rose};
 ghost use Rattle.rv_keeper.specs.Cells.{AreCells, AreChanges};
 ghost use Rattle.rv_keeper.specs.Keeping.{HasKeepCause, HasGenerationCause};
+ghost use Rattle.rv_sqlite.specs.Rows.{ShowsNumber};
 
 use crate::number::number_in;
 use crate::reading::read_table;
@@ -102,7 +103,9 @@ fn load_from<S: Alter>(alloc: Global, connection: &mut Connection<S>) -> Result<
 }
 
 // The number in the row of the generation.
-fn generation_of(row: &Row) -> Option<u64> {
+fn generation_of(row: &Row) -> Option<u64>
+    ensures { IfSome result (ShowsNumber row.now) }
+{
     match row.get_ref(0) {
         Ok(ValueRef::Blob(body)) => number_in(body),
         _ => None,
