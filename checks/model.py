@@ -1,14 +1,10 @@
-#!/usr/bin/env python3
-"""Compares `rv feed memory` with a second model, outside the gate: bench/compare.py PROGRAM [RUNS]
+"""A second model of the server, outside the gate: what it answers, and the cells that it keeps.
 
-PROGRAM is the program `rv` as it was built, RUNS how many generated inputs are tried (20). The model below shares nothing
-with the program: its book is a list, its rows are replayed, and what was written is found by comparing the states before
-and after each entry. Ends with status 1 at the first answer that differs.
+It shares nothing with the program: its book is a list, its rows are replayed, and what was written is found by comparing
+the states before and after each entry.
 """
 import json
 import random
-import subprocess
-import sys
 
 GREATEST = 2**53 - 1
 KEPT_LOOKS = 16
@@ -223,7 +219,7 @@ class Server:
         order = max(order, last) + 1
         if order > GREATEST:
             return 507, {"at": GREATEST, "error": "Limit", "which": "order"}
-        self.enter(("look", user, group, order))
+        self.enter(("look", user, group, order, base))
         answered = {"cvrID": str(len(self.book)), "order": order}
         return 200, {"cookie": answered, "lastMutationIDChanges": ids, "patch": patch}
 
@@ -241,6 +237,70 @@ class Server:
         if "push" in request:
             return self.push(request["user"], request["push"])
         return self.pull(request["user"], request["pull"])
+
+
+def call_value(name, args):
+    """A call as it stands in the cell of its act."""
+    if args is None:
+        return ["void", "BadArgs" if name in NEEDED or name in BY_ID else "UnknownName"]
+    members = {
+        "createList": ["id", "name", "ownerID"],
+        "createShare": ["id", "listID", "userID"],
+        "createTodo": ["id", "listID", "text", "complete"],
+        "updateTodo": ["id", "text", "complete", "sort"],
+    }
+    return [name] + [args.get(member) for member in members.get(name, ["id"])]
+
+
+def entry_value(entry, ids):
+    """An entry as it stands in its cell, an act with its id."""
+    if entry[0] == "act":
+        return ["act", entry[1], entry[2], entry[3], ids, call_value(entry[4], entry[5])]
+    if entry[0] == "look":
+        return ["look", entry[1], entry[2], entry[3], entry[4]]
+    return ["retire", entry[2]]
+
+
+def view_value(server, place, versions):
+    """The view record of a look, with the versions of the rows there."""
+    user, group = server.book[place - 1][1:3]
+    seen, ids = server.sees(user, place), server.ids(group, place)
+    return [[[key, versions[key]] for key in in_order(seen)], [[client, ids[client]] for client in in_order(ids)]]
+
+
+def versions_of(server):
+    """After each number of entries the place of the entry that last wrote each row."""
+    versions, before = [{}], {}
+    for place in range(1, len(server.states)):
+        now = by_key(server.states[place])
+        versions.append({key: versions[-1][key] if before.get(key) == row else place for key, row in now.items()})
+        before = now
+    return versions
+
+
+def is_kept(server, place):
+    """Whether a look is kept: its group is not retired, and fewer than 16 later looks of it stand in the book."""
+    group = server.book[place - 1][2]
+    later = [entry for entry in server.book[place:] if entry[0] == "look" and entry[2] == group]
+    return not server.is_retired(group) and len(later) < KEPT_LOOKS
+
+
+def cells(server):
+    """The cells of the book, each by its shelf and key."""
+    book, versions, kept, counts = server.book, versions_of(server), {}, {}
+    for place, entry in enumerate(book, 1):
+        if entry[0] == "act":
+            counts[entry[3]] = counts.get(entry[3], 0) + 1
+            kept[3, entry[3]] = text_of([server.acts(entry[3])[0][2], counts[entry[3]]])
+        kept[1, f"{place:010}"] = text_of(entry_value(entry, counts.get(entry[3]) if entry[0] == "act" else None))
+        if entry[0] == "look" and is_kept(server, place):
+            kept[5, f"{place:010}"] = text_of(view_value(server, place, versions[place]))
+    for key, row in by_key(server.states[-1]).items():
+        kept[2, key] = text_of([versions[-1][key], row])
+    for group in {entry[2] for entry in book if entry[0] != "retire"}:
+        orders = [entry[3] for entry in book if entry[0] == "look" and entry[2] == group]
+        kept[4, group] = text_of([server.bound(group), orders[-1] if orders else 0, server.is_retired(group)])
+    return kept
 
 
 USERS = ["ann", "bob", "cat"]
@@ -320,38 +380,30 @@ class Requests:
             self.answered.append((request["user"], request["pull"]["clientGroupID"], body["cookie"]))
 
 
-def generated(seed):
-    """The lines of an input, and what they are to be answered."""
-    chance, server = random.Random(seed), Server()
-    requests, lines, answers = Requests(chance, server), [], []
-    for _ in range(chance.choice([50, 200, 500])):
+def text_of(value):
+    """The compact text of a JSON value, its members in the order of their names."""
+    return json.dumps(value, separators=(",", ":"), sort_keys=True, ensure_ascii=False)
+
+
+def answer_of(server, request):
+    """The line that a request is answered with."""
+    status, body = server.answer(request)
+    return f"{status} {text_of(body)}"
+
+
+def more(requests, count):
+    """So many more lines of an input, and what they are to be answered."""
+    lines, answers = [], []
+    for _ in range(count):
         request = requests.next()
-        status, body = server.answer(request)
+        status, body = requests.server.answer(request)
         requests.note(request, body)
         lines.append(json.dumps(request))
-        answers.append(f"{status} " + json.dumps(body, separators=(",", ":"), sort_keys=True, ensure_ascii=False))
+        answers.append(f"{status} {text_of(body)}")
     return lines, answers
 
 
-def kind_of(answer):
-    marks = {'"patch":[]': "nothing to put or delete", '"op":"clear"': "without a base", '"patch"': "with a base", '"error"': "refused"}
-    return next((kind for mark, kind in marks.items() if mark in answer), "pushed or retired")
-
-
-def main():
-    program, runs = sys.argv[1], int(sys.argv[2]) if len(sys.argv) > 2 else 20
-    counts = {}
-    for seed in range(runs):
-        lines, answers = generated(seed)
-        text = "".join(line + "\n" for line in lines).encode()
-        run = subprocess.run([program, "feed", "memory"], input=text, stdout=subprocess.PIPE, check=True)
-        told = run.stdout.decode().split("\n")[:-1]
-        for number, (line, mine, its) in enumerate(zip(lines, answers, told + [None] * len(lines)), 1):
-            counts[kind_of(mine)] = counts.get(kind_of(mine), 0) + 1
-            if mine != its:
-                sys.exit(f"input {seed}, line {number}: {line}\nthe program: {its}\nthe model:   {mine}")
-    print("the same answers:", ", ".join(f"{count} {kind}" for kind, count in sorted(counts.items())))
-
-
-if __name__ == "__main__":
-    main()
+def generated(seed):
+    """The lines of an input, and what they are to be answered."""
+    chance = random.Random(seed)
+    return more(Requests(chance, Server()), chance.choice([50, 200, 500]))

@@ -1,0 +1,118 @@
+#!/usr/bin/env python3
+"""Kills the program while it feeds a store in a file: checks/kills.py PROGRAM [KILLS [SEED]]
+
+PROGRAM is the program `rv` as it was built, KILLS how often it is killed (200). Requests are written to it one after another,
+and each answer that was read is compared with a second model's. At a moment by chance it is killed; the next run opens what is
+there. An answered mutation, pull or retirement must stand there; the one request that was written and not answered may stand
+there or not, or, of a push of several mutations, some of its first ones. Ends with status 1 where an answer is lost or differs.
+"""
+import copy
+import json
+import os
+import random
+import shutil
+import sqlite3
+import subprocess
+import sys
+import tempfile
+import threading
+
+from model import Requests, Server, answer_of, cells
+
+
+def held(path, folder):
+    """The cells and the generation of a copy of the file and its log, as sqlite3 reads them."""
+    copied = os.path.join(folder, "copy.db")
+    for end in ("", "-wal"):
+        if os.path.exists(path + end):
+            shutil.copyfile(path + end, copied + end)
+    connection = sqlite3.connect(copied)
+    rows = connection.execute("SELECT shelf, k, body FROM cell").fetchall()
+    connection.close()
+    for end in ("", "-wal", "-shm"):
+        if os.path.exists(copied + end):
+            os.remove(copied + end)
+    found = {(shelf, key.decode()): body.decode() for shelf, key, body in rows}
+    return found, int(found.pop((0, ""), "0"))
+
+
+def parts(request):
+    """The fronts of a request that may have been run where it was not answered: of a push its first mutations."""
+    if "push" not in request:
+        return [request]
+    mutations = request["push"]["mutations"]
+    return [{**request, "push": {**request["push"], "mutations": mutations[:count]}} for count in range(1, len(mutations) + 1)]
+
+
+def outcomes(server, unanswered):
+    """The servers that may be there after a kill."""
+    ways = [server]
+    for request in [] if unanswered is None else parts(unanswered):
+        way = copy.deepcopy(server)
+        way.answer(request)
+        ways.append(way)
+    return ways
+
+
+def ask(run, server, requests):
+    """Writes one request and compares its answer. The request, where the program was killed before its answer was read."""
+    request = requests.next()
+    try:
+        run.stdin.write((json.dumps(request) + "\n").encode())
+        run.stdin.flush()
+        line = run.stdout.readline()
+    except BrokenPipeError:
+        return request
+    if not line.endswith(b"\n"):
+        return request
+    wanted = answer_of(server, request)
+    requests.note(request, json.loads(wanted.split(" ", 1)[1]))
+    if line.decode() != wanted + "\n":
+        sys.exit(f"{json.dumps(request)}\nthe program: {line.decode()}the model:   {wanted}")
+    return None
+
+
+def one_life(program, path, chance, server, requests):
+    """Feeds until it is killed. The request that was not answered, if there is one, and how many were."""
+    run = subprocess.Popen([program, "feed", path], stdin=subprocess.PIPE, stdout=subprocess.PIPE)
+    killer = threading.Timer(chance.uniform(0.001, 0.15), run.kill)
+    killer.start()
+    unanswered, count = None, 0
+    while unanswered is None:
+        unanswered = ask(run, server, requests)
+        count += unanswered is None
+    killer.join()
+    run.wait()
+    try:
+        run.stdin.close()
+    except BrokenPipeError:
+        pass
+    return unanswered, count
+
+
+def main():
+    program = os.path.abspath(sys.argv[1])
+    kills = int(sys.argv[2]) if len(sys.argv) > 2 else 200
+    seed = int(sys.argv[3]) if len(sys.argv) > 3 else 1
+    chance, answered, left = random.Random(seed), 0, 0
+    with tempfile.TemporaryDirectory() as folder:
+        server, stores = Server(), 0
+        requests, path = Requests(chance, server), os.path.join(folder, "0.db")
+        for kill in range(kills):
+            if len(server.book) > 400:
+                stores += 1
+                server = Server()
+                requests, path = Requests(chance, server), os.path.join(folder, f"{stores}.db")
+            unanswered, count = one_life(program, path, chance, server, requests)
+            answered += count
+            found = held(path, folder) if os.path.exists(path) and os.path.getsize(path) > 0 else ({}, 0)
+            ways = [way for way in outcomes(server, unanswered) if (cells(way), len(way.book)) == found]
+            if not ways:
+                sys.exit(f"kill {kill}: what is kept, at generation {found[1]}, is not the book of {len(server.book)} entries")
+            left += ways[0] is not server
+            server = requests.server = ways[0]
+    print(f"{kills} kills, {answered} answers: each stands, and {left} requests that were not answered do")
+
+
+if __name__ == "__main__":
+    main()

@@ -1,0 +1,72 @@
+#!/usr/bin/env python3
+"""Compares stores in files with a second model: checks/stores.py PROGRAM [STORES]
+
+PROGRAM is the program `rv` as it was built, STORES how many stores are tried (10). Each is fed by several runs of the program,
+with stops among the lines; the answers are compared with the model's, and after each run the cells, as Python's sqlite3 reads
+them, with those of the model's book. Ends with status 1 at the first difference.
+"""
+import os
+import random
+import sqlite3
+import subprocess
+import sys
+import tempfile
+
+from model import Requests, Server, cells, more
+
+STOP = '{"stop":true}'
+
+
+def feed(program, path, lines):
+    """The status of a run over these lines, and what it wrote."""
+    text = "".join(line + "\n" for line in lines).encode()
+    run = subprocess.run([program, "feed", path], input=text, stdout=subprocess.PIPE)
+    return run.returncode, run.stdout.decode().split("\n")[:-1]
+
+
+def read(path):
+    """The cells of a store and its generation, as sqlite3 reads them; the file must be sound to it."""
+    with sqlite3.connect(path) as connection:
+        assert connection.execute("PRAGMA integrity_check").fetchall() == [("ok",)]
+        rows = connection.execute("SELECT shelf, k, body FROM cell").fetchall()
+    held = {(shelf, key.decode()): body.decode() for shelf, key, body in rows}
+    assert len(held) == len(rows)
+    return held, int(held.pop((0, ""), "0"))
+
+
+def with_stops(chance, lines):
+    mixed = []
+    for line in lines:
+        mixed.append(line)
+        if chance.randrange(20) == 0:
+            mixed.append(STOP)
+    return mixed
+
+
+def check_store(program, path, seed):
+    chance, server = random.Random(seed), Server()
+    requests = Requests(chance, server)
+    for run in range(4):
+        lines, answers = more(requests, chance.choice([0, 1, 60, 150]))
+        status, told = feed(program, path, with_stops(chance, lines))
+        if (status, told) != (0, answers):
+            first = next(n for n, (a, b) in enumerate(zip(told + [None], answers + [None])) if a != b)
+            sys.exit(f"store {seed}, run {run}: status {status}; answer {first + 1} differs")
+        held, generation = read(path)
+        if held != cells(server) or generation != len(server.book):
+            sys.exit(f"store {seed}, run {run}: other cells, at generation {generation}")
+    return len(server.book), len(held)
+
+
+def main():
+    program, stores = os.path.abspath(sys.argv[1]), int(sys.argv[2]) if len(sys.argv) > 2 else 10
+    entries = rows = 0
+    with tempfile.TemporaryDirectory() as folder:
+        for seed in range(stores):
+            book, held = check_store(program, os.path.join(folder, f"{seed}.db"), seed)
+            entries, rows = entries + book, rows + held
+    print(f"the same answers and cells: {stores} stores, {entries} entries, {rows} cells")
+
+
+if __name__ == "__main__":
+    main()
