@@ -1,0 +1,48 @@
+// Runs of the program's words over the stores of the machine.
+use crate::session::Session;
+use rv_base::{Memory, MemorySink, MemorySource};
+use rv_cli::run;
+use rv_keeper::Place;
+use rv_place::HostPlace;
+use std::alloc::Global;
+
+// The words of a line.
+fn words_of(alloc: Global, line: &str) -> Result<Vec<String>, Memory> {
+    let mut words = Vec::new(alloc);
+    for word in line.split(' ') {
+        words.push(String::from_str(alloc, word)?)?;
+    }
+    Ok(words)
+}
+
+// What was written, and the status.
+fn told(alloc: Global, written: &[u8], status: u8) -> Result<String, Memory> {
+    let text = std::str::from_utf8(written).unwrap_or("no text\n");
+    Ok(format!(in alloc; "{text}status {status}\n")?)
+}
+
+/// `rv WORD ..`: runs these words over the lines since the last run, and prints what was written and the status.
+pub fn run_words(rt: &HostRuntime, session: &mut Session, line: &str) -> Result<String, Memory> {
+    let alloc = rt.alloc();
+    let words = words_of(alloc, line)?;
+    let mut place = HostPlace::new(rt);
+    let mut input = MemorySource::new(session.take_input(), 100_000, Vec::new(alloc));
+    let mut out = MemorySink::new(alloc, 100_000, Vec::new(alloc));
+    let status = run(alloc, &words, &mut place, &mut input, &mut out);
+    told(alloc, &out.bytes, status)
+}
+
+/// `while-open STORE`: feeds the store while another place has its keeper out.
+pub fn run_beside(rt: &HostRuntime, session: &mut Session, store: &str) -> Result<String, Memory> {
+    let alloc = rt.alloc();
+    let mut place = HostPlace::new(rt);
+    let line = format!(in alloc; "rv feed {store}")?;
+    match place.open_keeper(store) {
+        Ok(kept) => {
+            let text = run_words(rt, session, line.as_str());
+            place.close_keeper(store, kept);
+            text
+        }
+        Err(_) => Ok(String::from_str(alloc, "no keeper\n")?),
+    }
+}
