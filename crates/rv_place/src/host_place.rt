@@ -12,6 +12,7 @@ pub type HostKeeper = StoreKeeper<FileStore<File>>;
 /// The stores of this machine: the store `memory`, which is a fresh one in memory each time, and else the SQLite file at the path
 /// that the name is. A file that is not there is made. What the stores hold is not told. The count of faults stands still at
 /// 2^64 - 1.
+#[derive(Drop)]
 pub struct HostPlace<'a> {
     rt: &'a HostRuntime,
     faults: u64,
