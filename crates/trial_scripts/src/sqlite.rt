@@ -1,0 +1,72 @@
+// Scripts over a SQLite database in memory, beside the store in memory.
+use crate::case::Case;
+use crate::cells::lines_of;
+use crate::runs::{Finished, run_over};
+use crate::sqlite_place::SqlitePlace;
+use crate::stores::held_text;
+use rv_base::{Failed, Memory};
+use rv_keeper::{KeepFault, Keeper, Loaded, Shelves};
+use rv_sqlite::SqliteKeeper;
+use sqlite::MemStore;
+use std::alloc::Global;
+use std::mem;
+
+// What the keeper loads, with the generation that it answers.
+fn loaded_text(
+    alloc: Global,
+    keeper: &mut SqliteKeeper<MemStore>,
+    loaded: Loaded,
+) -> Result<String, Memory> {
+    let Loaded { cells, generation } = loaded;
+    let shelves = Shelves::from_vec(alloc, cells.into_vec())?;
+    let lines = lines_of(alloc, &shelves)?;
+    match keeper.generation(generation) {
+        Ok(generation) => Ok(format!(in alloc; "{lines}generation {generation}\n")?),
+        Err(Failed) => Ok(format!(in alloc; "{lines}no generation\n")?),
+    }
+}
+
+// The cells of the database that was closed last, and its generation.
+fn closed_text(alloc: Global, place: SqlitePlace) -> Result<String, Memory> {
+    let Some(mut keeper) = place.into_keeper() else {
+        return Ok(String::from_str(alloc, "no store\n")?);
+    };
+    match keeper.load() {
+        Ok(loaded) => loaded_text(alloc, &mut keeper, loaded),
+        Err(KeepFault::Failed) => Ok(String::from_str(alloc, "keeper\n")?),
+        Err(KeepFault::Memory) => Err(Memory),
+    }
+}
+
+// Runs the case over the store in memory: how it ended, and what the store then holds.
+fn in_memory(alloc: Global, case: &Case) -> Result<(Finished, String), Memory> {
+    let mut place = case.kept.place(alloc)?;
+    let finished = run_over(alloc, case, &mut place, 100_000, 0, 0)?;
+    Ok((finished, held_text(alloc, &place, "memory")?))
+}
+
+// Runs it so over a fresh database.
+fn in_sqlite(alloc: Global, case: &Case) -> Result<(Finished, String), Memory> {
+    let mut place = SqlitePlace::new(alloc);
+    let finished = run_over(alloc, case, &mut place, 100_000, 0, 0)?;
+    Ok((finished, closed_text(alloc, place)?))
+}
+
+// What is the same of both runs.
+fn compared(alloc: Global, case: &Case) -> Result<String, Memory> {
+    let (finished, held) = in_memory(alloc, case)?;
+    let (other, kept) = in_sqlite(alloc, case)?;
+    let answers = if finished.is_as(&other) { "the same answers" } else { "other answers" };
+    let cells = if held.as_str() == kept.as_str() { "the same cells" } else { "other cells" };
+    Ok(format!(in alloc; "{answers}, {cells}\n")?)
+}
+
+/// `sqlite` runs the case with a stop after each line, over the store in memory and over a SQLite database in memory, and prints
+/// whether both wrote the same bytes with the same status, and hold the same cells at the same generation.
+pub fn command(alloc: Global, case: &mut Case) -> Result<String, Memory> {
+    let stopped = case.with_stops(alloc)?;
+    let input = mem::replace(&mut case.input, stopped);
+    let text = compared(alloc, case);
+    case.input = input;
+    text
+}

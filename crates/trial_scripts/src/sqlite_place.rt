@@ -1,0 +1,71 @@
+use rv_keeper::{KeepFault, Keeper, Place};
+use rv_sqlite::SqliteKeeper;
+use sqlite::{Connection, MemStore};
+use std::alloc::Global;
+
+ghost use Rattle.std.specs.Prelude.{◌≡◌, ◌≤◌};
+ghost use Rattle.rv_base.specs.Causes.{Rose};
+
+/// Opens each store as a fresh SQLite database in memory. The one that was closed last stays.
+#[derive(Drop)]
+pub struct SqlitePlace {
+    alloc: Global,
+    closed: Option<Connection<MemStore>>,
+    faults: u64,
+}
+
+impl SqlitePlace {
+    /// No database yet.
+    pub fn new(alloc: Global) -> SqlitePlace {
+        SqlitePlace {
+            alloc,
+            closed: None,
+            faults: 0,
+        }
+    }
+
+    /// A keeper over the database that was closed last.
+    pub fn into_keeper(self) -> Option<SqliteKeeper<MemStore>> {
+        let SqlitePlace {
+            alloc,
+            closed,
+            faults: _,
+        } = self;
+        Some(SqliteKeeper::adopt(alloc, closed?))
+    }
+}
+
+fn count(faults: &mut u64)
+    ensures later { faults.old ≤ faults.new }
+    ensures rose { Rose faults.old faults.new }
+{
+    *faults = faults.saturating_add(1);
+}
+
+impl Place for SqlitePlace {
+    type Kept = SqliteKeeper<MemStore>;
+
+    ghost tells = { λ s. ⊥ };
+
+    ghost holds = { λ s name held. ⊥ };
+
+    ghost is_out = { λ s name. ⊥ };
+
+    ghost faults = { λ s. s.faults };
+
+    fn fault_count(&self) -> u64 {
+        self.faults
+    }
+
+    fn open_keeper(&mut self, _name: &str) -> Result<SqliteKeeper<MemStore>, KeepFault> {
+        let connection = Connection::open_in_memory(self.alloc)?;
+        Ok(SqliteKeeper::adopt(self.alloc, connection))
+    }
+
+    fn close_keeper(&mut self, _name: &str, kept: SqliteKeeper<MemStore>) {
+        if kept.fault_count() > 0 {
+            count(&mut self.faults);
+        }
+        self.closed = Some(kept.into_connection());
+    }
+}
