@@ -39,10 +39,7 @@ fn open_file(rt: &HostRuntime, path: &str) -> Result<HostKeeper, KeepFault>
     ensures { IfOk result (λ kept. stored_faults kept ≡ 0) }
 {
     match Connection::open(rt, path) {
-        Ok(connection) => Ok(StoreKeeper::Sqlite(SqliteKeeper::adopt(
-            rt.alloc(),
-            connection,
-        ))),
+        Ok(connection) => Ok(StoreKeeper::Sqlite(SqliteKeeper::adopt(rt.alloc(), connection))),
         Err(Error::SqliteFailure(ErrorCode::OutOfMemory)) => Err(KeepFault::Memory),
         Err(_) => Err(KeepFault::Failed),
     }
@@ -53,10 +50,7 @@ fn open_store(rt: &HostRuntime, name: &str) -> Result<HostKeeper, KeepFault>
 {
     if name == "memory" {
         let alloc = rt.alloc();
-        Ok(StoreKeeper::Memory(MemoryKeeper::new(
-            alloc,
-            Vec::new(alloc),
-        )))
+        Ok(StoreKeeper::Memory(MemoryKeeper::new(alloc, Vec::new(alloc))))
     } else {
         open_file(rt, name)
     }
