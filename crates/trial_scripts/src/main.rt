@@ -9,10 +9,12 @@ mod books;
 mod case;
 mod cells;
 mod damages;
+mod databases;
 mod faults;
 mod kept;
 mod places;
 mod runs;
+mod sqlite_place;
 mod stores;
 
 use case::Case;
@@ -29,6 +31,7 @@ fn printed(alloc: Global, case: &mut Case, line: &str) -> Result<Option<String>,
         "keep" | "cells" | "retire" => stores::command(alloc, case, word, rest),
         "next" | "held" => places::command(alloc, case, word, rest),
         "damaged" => damages::command(alloc, case, rest),
+        "sqlite" => Ok(Some(databases::command(alloc, case)?)),
         "cell" | "generation-is" => case.state(alloc, word, rest),
         "open" | "load" | "generation" | "before" | "after" => case.kept.fail(alloc, word, rest),
         _ => case.command(alloc, word, rest),

@@ -2,7 +2,7 @@
 use crate::case::Case;
 use rv_base::{Memory, MemorySink, MemorySource};
 use rv_cli::run;
-use rv_keeper::MemoryPlace;
+use rv_keeper::Place;
 use std::alloc::Global;
 use std::mem;
 
@@ -27,10 +27,10 @@ fn failing(alloc: Global, call: u64) -> Result<Vec<u64>, Memory> {
 }
 
 /// Runs a case over a place in pieces of at most so many bytes. The read and the write of these numbers fail, from 1; 0 is none.
-pub fn run_over(
+pub fn run_over<P: Place>(
     alloc: Global,
     case: &Case,
-    place: &mut MemoryPlace,
+    place: &mut P,
     most: usize,
     read: u64,
     write: u64,
@@ -64,9 +64,11 @@ pub fn told(alloc: Global, written: &[u8], status: u8) -> Result<String, Memory>
     Ok(format!(in alloc; "{text}status {status}\n")?)
 }
 
-// Whether two runs wrote the same and have the same status.
-fn agree(one: &Finished, other: &Finished) -> bool {
-    one.status == other.status && one.written.as_slice() == other.written.as_slice()
+impl Finished {
+    /// Both runs wrote the same, and have the same status.
+    pub fn is_as(&self, other: &Finished) -> bool {
+        self.status == other.status && self.written.as_slice() == other.written.as_slice()
+    }
 }
 
 // Runs a case in pieces of 1, 7 and 100,000 bytes, and prints what comes where it is the same.
@@ -74,7 +76,7 @@ fn run_in_pieces(alloc: Global, case: &Case) -> Result<String, Memory> {
     let whole = run_case(alloc, case, 100_000, 0, 0)?;
     let sevens = run_case(alloc, case, 7, 0, 0)?;
     let ones = run_case(alloc, case, 1, 0, 0)?;
-    if agree(&whole, &sevens) && agree(&whole, &ones) {
+    if whole.is_as(&sevens) && whole.is_as(&ones) {
         told(alloc, &whole.written, whole.status)
     } else {
         Ok(String::from_str(alloc, "differs\n")?)

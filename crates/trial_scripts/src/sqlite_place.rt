@@ -1,10 +1,10 @@
+ghost use Rattle.std.specs.Prelude.{◌≡◌, ◌≤◌};
+ghost use Rattle.rv_base.specs.Causes.{Rose};
+
 use rv_keeper::{KeepFault, Keeper, Place};
 use rv_sqlite::SqliteKeeper;
 use sqlite::{Connection, MemStore};
 use std::alloc::Global;
-
-ghost use Rattle.std.specs.Prelude.{◌≡◌, ◌≤◌};
-ghost use Rattle.rv_base.specs.Causes.{Rose};
 
 /// Opens each store as a fresh SQLite database in memory. The one that was closed last stays.
 #[derive(Drop)]

@@ -56,8 +56,16 @@ fn in_sqlite(alloc: Global, case: &Case) -> Result<(Finished, String), Memory> {
 fn compared(alloc: Global, case: &Case) -> Result<String, Memory> {
     let (finished, held) = in_memory(alloc, case)?;
     let (other, kept) = in_sqlite(alloc, case)?;
-    let answers = if finished.is_as(&other) { "the same answers" } else { "other answers" };
-    let cells = if held.as_str() == kept.as_str() { "the same cells" } else { "other cells" };
+    let answers = if finished.is_as(&other) {
+        "the same answers"
+    } else {
+        "other answers"
+    };
+    let cells = if held.as_str() == kept.as_str() {
+        "the same cells"
+    } else {
+        "other cells"
+    };
     Ok(format!(in alloc; "{answers}, {cells}\n")?)
 }
 
