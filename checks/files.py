@@ -66,9 +66,10 @@ def expect(name, seen, wanted):
 
 
 def database(path, *statements):
-    with sqlite3.connect(path) as connection:
-        for statement in statements:
-            connection.execute(statement)
+    connection = sqlite3.connect(path)
+    for statement in statements:
+        connection.execute(statement)
+    connection.commit()
     connection.close()
 
 
@@ -102,7 +103,7 @@ def no_files(program, folder):
 
 def no_databases(program, folder):
     path = os.path.join(folder, "text.db")
-    for name, bytes_ in (("a text", b"milk and eggs\n" * 500), ("a byte", b"x"), ("zeros", bytes(8192))):
+    for name, bytes_ in (("a text", b"milk and eggs\n" * 500), ("a word", b"milk\n"), ("zeros", bytes(8192))):
         with open(path, "wb") as file:
             file.write(bytes_)
         left_as_it_was(f"{name} in place of a database", program, path)
@@ -226,28 +227,27 @@ def not_to_be_written(program, folder):
 
 
 def full_disk(program, folder):
-    """Files may have so many bytes, and no more: a push fails by name, and those before it are kept."""
+    """Files may have so many bytes, and no more: a push fails by name, and is not kept; those before it are."""
     path = os.path.join(folder, "full.db")
     many = "".join(push(number, "paint", "null") for number in range(1, 400))
-    status, text = feed(program, path, text=many, limit=200_000)
+    status, text = feed(program, path, text=many, limit=500_000)
     answers = text.splitlines()
-    kept = answers.count("200 {}")
-    refused = [answer for answer in answers if answer != "200 {}"]
-    if status != 0 or len(answers) != 399 or not refused or any(answer != '503 {"error":"keeper"}' for answer in refused):
-        fail("a disk that is full", status, sorted(set(answers)))
-    again = feed(program, path, text=many)
-    expect("the disk has room again", again, (0, "200 {}\n" * 399))
+    kept = answers.index('503 {"error":"keeper"}')
+    for number, answer in enumerate(answers[kept + 1:], kept + 2):
+        if answer not in (f'409 {{"error":"Future","expected":{kept + 1},"got":{number}}}', '503 {"error":"keeper"}'):
+            fail("a disk that is full", number, answer)
+    expect("a disk that is full", (status, len(answers), answers[:kept]), (0, 399, ["200 {}"] * kept))
     connection = sqlite3.connect(path)
     count = connection.execute("SELECT count(*) FROM cell WHERE shelf = 1").fetchone()[0]
     connection.close()
-    expect("each entry stands once", count, 399)
+    expect("what was answered stands", count, kept)
+    expect("the disk has room again", feed(program, path, text=many), (0, "200 {}\n" * 399))
     path = os.path.join(folder, "tiny.db")
     expect("no room for a store", feed(program, path, limit=0), FAILS)
-    left = content(path)
-    if left not in (None, b""):
-        fail("a file that is half made", len(left))
-    expect("room again", feed(program, path), OPENS)
-    return kept
+    if content(path) not in (None, b""):
+        fail("a file that is half made", len(content(path)))
+    expect("too little room for a store", feed(program, path, limit=100_000), FAILS)
+    expect("room for it", feed(program, path), OPENS)
 
 
 def main():

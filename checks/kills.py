@@ -21,13 +21,19 @@ from model import Requests, Server, answer_of, cells
 
 
 def held(path, folder):
-    """The cells and the generation of a copy of the file and its log, as sqlite3 reads them."""
+    """The cells and the generation of a copy of the file and its log, as sqlite3 reads them.
+
+    A file that was being made holds nothing yet; the next run of the program, which must answer, finishes it.
+    """
     copied = os.path.join(folder, "copy.db")
     for end in ("", "-wal"):
         if os.path.exists(path + end):
             shutil.copyfile(path + end, copied + end)
     connection = sqlite3.connect(copied)
-    rows = connection.execute("SELECT shelf, k, body FROM cell").fetchall()
+    try:
+        rows = connection.execute("SELECT shelf, k, body FROM cell").fetchall()
+    except sqlite3.DatabaseError:
+        rows = []
     connection.close()
     for end in ("", "-wal", "-shm"):
         if os.path.exists(copied + end):
@@ -105,7 +111,7 @@ def main():
                 requests, path = Requests(chance, server), os.path.join(folder, f"{stores}.db")
             unanswered, count = one_life(program, path, chance, server, requests)
             answered += count
-            found = held(path, folder) if os.path.exists(path) and os.path.getsize(path) > 0 else ({}, 0)
+            found = held(path, folder)
             ways = [way for way in outcomes(server, unanswered) if (cells(way), len(way.book)) == found]
             if not ways:
                 sys.exit(f"kill {kill}: what is kept, at generation {found[1]}, is not the book of {len(server.book)} entries")

@@ -5,6 +5,7 @@ PROGRAM is the program `rv` as it was built, STORES how many stores are tried (1
 with stops among the lines; the answers are compared with the model's, and after each run the cells, as Python's sqlite3 reads
 them, with those of the model's book. Ends with status 1 at the first difference.
 """
+import contextlib
 import os
 import random
 import sqlite3
@@ -26,7 +27,7 @@ def feed(program, path, lines):
 
 def read(path):
     """The cells of a store and its generation, as sqlite3 reads them; the file must be sound to it."""
-    with sqlite3.connect(path) as connection:
+    with contextlib.closing(sqlite3.connect(path)) as connection:
         assert connection.execute("PRAGMA integrity_check").fetchall() == [("ok",)]
         rows = connection.execute("SELECT shelf, k, body FROM cell").fetchall()
     held = {(shelf, key.decode()): body.decode() for shelf, key, body in rows}
