@@ -13,7 +13,7 @@ import time
 
 from feed import voids
 
-COUNT = 3000
+COUNT = 1000
 ENTRIES = 100_000
 
 
@@ -44,16 +44,24 @@ def commit_times(program, peer, folder):
     return ours, theirs
 
 
+# A small process that starts the program, since a process has at first the memory of the one that starts it.
+START = """
+import os, sys, time
+start = time.perf_counter()
+pid = os.posix_spawn(sys.argv[1], sys.argv[1:], os.environ)
+_, status, used = os.wait4(pid, 0)
+print(time.perf_counter() - start, used.ru_maxrss * 1024, status)
+"""
+
+
 def opening(program, folder):
     """The seconds of opening a store of so many entries, the bytes of memory at most, and those of the file."""
     path = fresh(folder)
     subprocess.run([program, "feed", path], input=text_of(voids(ENTRIES)), stdout=subprocess.DEVNULL, check=True)
-    start = time.perf_counter()
-    run = subprocess.Popen([program, "feed", path], stdin=subprocess.DEVNULL)
-    _, status, used = os.wait4(run.pid, 0)
-    took = time.perf_counter() - start
-    assert status == 0
-    return took, used.ru_maxrss * 1024, os.path.getsize(path)
+    words = [sys.executable, "-c", START, program, "feed", path]
+    told = subprocess.run(words, stdin=subprocess.DEVNULL, stdout=subprocess.PIPE, check=True).stdout.split()
+    assert told[2] == b"0"
+    return float(told[0]), int(told[1]), os.path.getsize(path)
 
 
 def main():

@@ -1,12 +1,15 @@
 // A commit: one transaction.
 ghost use Rattle.std.specs.Prelude.{◌<◌, ◌-◌, ◌^◌, ◌≡◌, false};
+ghost use Rattle.rv_sqlite.specs.Faults.{fault_of};
 
 use crate::statements::{is_settled, make_change, put_generation};
 use rv_keeper::{Change, KeepFault};
 use sqlite::{Alter, Connection, Error, ErrorCode, Transaction};
 
-/// Why a refused statement is no answer of the keeper: want of memory, or a fault.
-pub(crate) fn fault_of(error: Error) -> KeepFault {
+/// What a refused statement is to a keeper: want of memory, or a fault.
+pub(crate) fn fault_of(error: Error) -> KeepFault
+    ensures { result ≡ fault_of error }
+{
     match error {
         Error::SqliteFailure(ErrorCode::OutOfMemory) => KeepFault::Memory,
         _ => KeepFault::Failed,

@@ -1,0 +1,11 @@
+-- What a refused statement is to a keeper.
+use Rattle.sqlite.specs.declared.error.Error.{Error}
+use Rattle.sqlite.specs.declared.error.Error.TheVariants.{SqliteFailure}
+use Rattle.sqlite.specs.declared.error.ErrorCode.TheVariants.{OutOfMemory}
+use Rattle.rv_keeper.specs.declared.fault.KeepFault.{KeepFault}
+use Rattle.rv_keeper.specs.declared.fault.KeepFault.TheVariants.{Failed, Memory}
+
+-- want of memory, where that alone was the reason; else a fault
+abbrev pub fault_of : Error → KeepFault
+fault_of (SqliteFailure OutOfMemory) = Memory
+fault_of error = Failed
