@@ -1,3 +1,4 @@
 pub mod Stored
 pub mod Rows
 pub mod Faults
+pub mod Asked

@@ -2,6 +2,9 @@ ghost use Rattle.std.specs.Prelude.{◌≡◌, ◌≤◌, ◌<◌, ◌-◌, ◌^
 ghost use Rattle.rv_base.specs.Causes.{Rose};
 ghost use Rattle.rv_keeper.specs.Cells.{AreCells, AreChanges};
 ghost use Rattle.rv_keeper.specs.Keeping.{HasKeepCause, HasGenerationCause};
+ghost use Rattle.sqlite.specs.State.{HasCleanDisk};
+ghost use Rattle.sqlite.specs.Held.{state};
+ghost use Rattle.rv_sqlite.specs.Asked.{FindsGeneration};
 ghost use Rattle.rv_sqlite.specs.Rows.{ShowsNumber};
 
 use crate::number::number_in;
@@ -113,7 +116,9 @@ fn generation_of(row: &Row) -> Option<u64>
 }
 
 // The generation that the table has.
-fn generation_in<S: Alter>(connection: &mut Connection<S>) -> Option<u64> {
+fn generation_in<S: Alter>(connection: &mut Connection<S>) -> Option<u64>
+    ensures { HasCleanDisk (state S.Store connection.new) → IfSome result (FindsGeneration (state S.Store connection.old) (state S.Store connection.new)) }
+{
     if !connection.is_autocommit() {
         return None;
     }
@@ -142,7 +147,11 @@ impl<S: Alter> Keeper for SqliteKeeper<S> {
         count_in(&mut self.faults, answer)
     }
 
-    fn generation(&mut self, from: u64) -> Result<u64, Failed> {
+    fn generation(&mut self, from: u64) -> Result<u64, Failed>
+        requires { from < 2 ^ 64 - 1 }
+        ensures cause { HasGenerationCause from self.old.faults self.new.faults result }
+        ensures found { HasCleanDisk (state S.Store self.new.connection) → IfOk result (FindsGeneration (state S.Store self.old.connection) (state S.Store self.new.connection)) }
+    {
         let Some(generation) = generation_in(&mut self.connection) else {
             count(&mut self.faults);
             return Err(Failed);

@@ -1,5 +1,8 @@
 // The statements, each in a function of its own.
-ghost use Rattle.std.specs.Prelude.{◌≡◌, ◌<◌};
+ghost use Rattle.std.specs.Prelude.{IfOk};
+ghost use Rattle.sqlite.specs.State.{HasCleanDisk};
+ghost use Rattle.sqlite.specs.Held.{state};
+ghost use Rattle.rv_sqlite.specs.Asked.{FindsRow};
 
 use itoa::Buffer;
 use rv_keeper::Change;
@@ -32,9 +35,9 @@ pub(crate) fn all_rows<S: Alter>(connection: &mut Connection<S>) -> Result<Rows<
 }
 
 /// The row of the generation, if there is one.
-pub(crate) fn generation_row<S: Alter>(
-    connection: &mut Connection<S>,
-) -> Result<Option<Row>, Error> {
+pub(crate) fn generation_row<S: Alter>(connection: &mut Connection<S>) -> Result<Option<Row>, Error>
+    ensures { HasCleanDisk (state S.Store connection.new) → IfOk result (FindsRow (state S.Store connection.old) (state S.Store connection.new)) }
+{
     match connection.query_row(ONE, params![u32::from(GENERATION_SHELF), b"".as_slice()]) {
         Ok(row) => Ok(Some(row)),
         Err(Error::QueryReturnedNoRows) => Ok(None),

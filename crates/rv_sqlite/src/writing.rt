@@ -1,5 +1,7 @@
 // A commit: one transaction.
-ghost use Rattle.std.specs.Prelude.{◌<◌, ◌-◌, ◌^◌, ◌≡◌, false};
+ghost use Rattle.std.specs.Prelude.{◌<◌, ◌-◌, ◌^◌, ◌≡◌, false, OnOk};
+ghost use Rattle.sqlite.specs.State.{HasCleanDisk};
+ghost use Rattle.sqlite.specs.Held.{state};
 ghost use Rattle.rv_sqlite.specs.Faults.{fault_of};
 
 use crate::statements::{is_settled, make_change, put_generation};
@@ -38,8 +40,10 @@ fn fill<S: Alter>(
     put_generation(transaction, from + 1)
 }
 
-// Ends the transaction. Where that is refused it may have been made.
-fn finish<S: Alter>(transaction: Transaction<'_, S>) -> Result<(), KeepFault> {
+// Ends the transaction: at Ok what it had is committed. Where that is refused it may have been made.
+fn finish<S: Alter>(transaction: Transaction<'_, S>) -> Result<(), KeepFault>
+    ensures { HasCleanDisk (state S.Store transaction.exit.0.now) → OnOk result ((state S.Store transaction.exit.0.now).committed ≡ (state S.Store transaction.entry.conn.now).now) }
+{
     match transaction.commit() {
         Ok(()) => Ok(()),
         Err(_) => Err(KeepFault::Failed),
