@@ -1,10 +1,10 @@
-ghost use Rattle.std.specs.Prelude.{◌≡◌, ◌≤◌, IfOk};
+ghost use Rattle.std.specs.Prelude.{◌≡◌, ◌≢◌, ◌≤◌, IfOk, codes};
 ghost use Rattle.rv_base.specs.Causes.{Rose};
-ghost use Rattle.rv_sqlite.specs.Stored.{stored_faults};
+ghost use Rattle.rv_sqlite.specs.Stored.{IsFresh};
 
 use rv_keeper::{KeepFault, Keeper, MemoryKeeper, Place};
-use rv_sqlite::{SqliteKeeper, StoreKeeper};
-use sqlite::{Connection, Error, ErrorCode, File, FileStore};
+use rv_sqlite::{SqliteKeeper, StoreKeeper, fault_of};
+use sqlite::{Connection, File, FileStore};
 
 /// What keeps a store of this machine.
 pub type HostKeeper = StoreKeeper<FileStore<File>>;
@@ -36,17 +36,18 @@ fn count(faults: &mut u64)
 
 // The keeper of the file at a path.
 fn open_file(rt: &HostRuntime, path: &str) -> Result<HostKeeper, KeepFault>
-    ensures { IfOk result (λ kept. stored_faults kept ≡ 0) }
+    requires { path.now ≢ codes "memory" }
+    ensures { IfOk result (IsFresh path.now) }
 {
     match Connection::open(rt, path) {
         Ok(connection) => Ok(StoreKeeper::Sqlite(SqliteKeeper::adopt(rt.alloc(), connection))),
-        Err(Error::SqliteFailure(ErrorCode::OutOfMemory)) => Err(KeepFault::Memory),
-        Err(_) => Err(KeepFault::Failed),
+        Err(error) => Err(fault_of(error)),
     }
 }
 
+// The keeper of the store of a name.
 fn open_store(rt: &HostRuntime, name: &str) -> Result<HostKeeper, KeepFault>
-    ensures { IfOk result (λ kept. stored_faults kept ≡ 0) }
+    ensures { IfOk result (IsFresh name.now) }
 {
     if name == "memory" {
         let alloc = rt.alloc();

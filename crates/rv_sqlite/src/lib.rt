@@ -16,3 +16,4 @@ mod writing;
 
 pub use sqlite_keeper::SqliteKeeper;
 pub use store_keeper::StoreKeeper;
+pub use writing::fault_of;

@@ -9,7 +9,7 @@ use rv_keeper::{Change, KeepFault};
 use sqlite::{Alter, Connection, Error, ErrorCode, Transaction};
 
 /// What a refused statement is to a keeper: want of memory, or a fault.
-pub(crate) fn fault_of(error: Error) -> KeepFault
+pub fn fault_of(error: Error) -> KeepFault
     ensures { result ≡ fault_of error }
 {
     match error {
