@@ -15,11 +15,19 @@ pub fn remember(rt: &HostRuntime, session: &mut Session, path: &str) -> Result<S
     }
 }
 
+// Whether these are the bytes that were remembered.
+fn compared(bytes: &[u8], remembered: &[u8]) -> &'static str {
+    if bytes == remembered {
+        "as it was\n"
+    } else {
+        "changed\n"
+    }
+}
+
 /// `is FILE`: whether the file has the bytes that were remembered.
 pub fn compare(rt: &HostRuntime, session: &Session, path: &str) -> Result<String, Memory> {
     let text = match fs::read(rt, path) {
-        Ok(bytes) if bytes.as_slice() == session.remembered.as_slice() => "as it was\n",
-        Ok(_) => "changed\n",
+        Ok(bytes) => compared(&bytes, &session.remembered),
         Err(_) => "no file\n",
     };
     Ok(String::from_str(rt.alloc(), text)?)

@@ -69,11 +69,16 @@ fn line_of(alloc: Global, cell: &Cell) -> Result<String, Memory> {
 }
 
 /// The cells, a line each.
-pub fn lines_of(alloc: Global, shelves: &Shelves) -> Result<String, Memory> {
-    let cells = shelves.cells(alloc)?;
+pub fn lines_of_cells(alloc: Global, cells: &[Cell]) -> Result<String, Memory> {
     let mut lines = String::new(alloc);
-    for cell in cells.as_slice() {
+    for cell in cells {
         lines.push_str(line_of(alloc, cell)?.as_str())?;
     }
     Ok(lines)
+}
+
+/// The cells that stand on shelves, a line each.
+pub fn lines_of(alloc: Global, shelves: &Shelves) -> Result<String, Memory> {
+    let cells = shelves.cells(alloc)?;
+    lines_of_cells(alloc, cells.as_slice())
 }

@@ -1,28 +1,34 @@
 // Scripts over a SQLite database in memory, beside the store in memory.
 use crate::case::Case;
-use crate::cells::lines_of;
+use crate::cells::lines_of_cells;
 use crate::runs::{Finished, run_over};
 use crate::sqlite_place::SqlitePlace;
 use crate::stores::held_text;
-use rv_base::{Failed, Memory};
-use rv_keeper::{KeepFault, Keeper, Loaded, Shelves};
+use rv_base::Memory;
+use rv_keeper::{KeepFault, Keeper, Loaded};
 use rv_sqlite::SqliteKeeper;
 use sqlite::MemStore;
 use std::alloc::Global;
 use std::mem;
 
+// The generation that the keeper answers where this one was loaded.
+fn asked(keeper: &mut SqliteKeeper<MemStore>, loaded: u64) -> Option<u64> {
+    if loaded == u64::MAX {
+        return None;
+    }
+    keeper.generation(loaded).ok()
+}
+
 // What the keeper loads, with the generation that it answers.
 fn loaded_text(
     alloc: Global,
     keeper: &mut SqliteKeeper<MemStore>,
-    loaded: Loaded,
+    loaded: &Loaded,
 ) -> Result<String, Memory> {
-    let Loaded { cells, generation } = loaded;
-    let shelves = Shelves::from_vec(alloc, cells.into_vec())?;
-    let lines = lines_of(alloc, &shelves)?;
-    match keeper.generation(generation) {
-        Ok(generation) => Ok(format!(in alloc; "{lines}generation {generation}\n")?),
-        Err(Failed) => Ok(format!(in alloc; "{lines}no generation\n")?),
+    let lines = lines_of_cells(alloc, loaded.cells.as_slice())?;
+    match asked(keeper, loaded.generation) {
+        Some(generation) => Ok(format!(in alloc; "{lines}generation {generation}\n")?),
+        None => Ok(format!(in alloc; "{lines}no generation\n")?),
     }
 }
 
@@ -32,7 +38,7 @@ fn closed_text(alloc: Global, place: SqlitePlace) -> Result<String, Memory> {
         return Ok(String::from_str(alloc, "no store\n")?);
     };
     match keeper.load() {
-        Ok(loaded) => loaded_text(alloc, &mut keeper, loaded),
+        Ok(loaded) => loaded_text(alloc, &mut keeper, &loaded),
         Err(KeepFault::Failed) => Ok(String::from_str(alloc, "keeper\n")?),
         Err(KeepFault::Memory) => Err(Memory),
     }

@@ -1,5 +1,4 @@
-ghost use Rattle.std.specs.Prelude.{◌≡◌, ◌≤◌};
-ghost use Rattle.rv_base.specs.Causes.{Rose};
+ghost use Rattle.rv_keeper.specs.Stores.{TakesUp};
 
 use rv_keeper::{KeepFault, Keeper, Place};
 use rv_sqlite::SqliteKeeper;
@@ -35,11 +34,13 @@ impl SqlitePlace {
     }
 }
 
-fn count(faults: &mut u64)
-    ensures later { faults.old ≤ faults.new }
-    ensures rose { Rose faults.old faults.new }
+// Counts a keeper that came back after so many faults.
+fn count_returned(faults: &mut u64, returned: u64)
+    ensures { TakesUp returned faults.old faults.new }
 {
-    *faults = faults.saturating_add(1);
+    if returned > 0 {
+        *faults = faults.saturating_add(1);
+    }
 }
 
 impl Place for SqlitePlace {
@@ -63,9 +64,7 @@ impl Place for SqlitePlace {
     }
 
     fn close_keeper(&mut self, _name: &str, kept: SqliteKeeper<MemStore>) {
-        if kept.fault_count() > 0 {
-            count(&mut self.faults);
-        }
+        count_returned(&mut self.faults, kept.fault_count());
         self.closed = Some(kept.into_connection());
     }
 }
