@@ -1,14 +1,14 @@
 -- The laws of command lines, from what they ask for without clap.
-use Rattle.std.proofs.Common.{◌≡◌, ◌∙◌, ℕ, ap, refl, sym, List, [], ◌∷◌, Option, Some, None, Bool, cond, true, false, codes}
+use Rattle.std.proofs.Common.{◌≡◌, ◌≢◌, ◌∙◌, ℕ, ap, refl, sym, List, [], ◌∷◌, Option, Some, None, Bool, cond, true, false, codes}
 use Rattle.std.specs.Prelude.{option_and_then, option_map}
 use Rattle.std.specs.Str.{bytes_eq}
 use Rattle.std.specs.Cmp.Lexicographic.{same_text}
-use Rattle.rv_words.specs.Words.{is_id, retire_group_in}
-use Rattle.rv_words.specs.Plain.{asked_with, feed_with, is_flag, plainly_in, retire_with, values_in}
-use Rattle.rv_words.specs.Laws.{AskForNothing, EachGroupIsAsked, EachStoreIsAsked, FeedIsAsked, GroupsAreIds, OthersAskForNothing, RetireIsAsked, begins_with_hyphen}
+use Rattle.rv_words.specs.Words.{command_in, is_id, retire_group_in}
+use Rattle.rv_words.specs.Plain.{asked_with, is_flag, on_store_with, plainly_in, retire_with, values_in}
+use Rattle.rv_words.specs.Laws.{AskForNothing, EachGroupIsAsked, EachStoreIsAsked, GroupsAreIds, OthersAskForNothing, RetireIsAsked, StoresAreAsked, begins_with_hyphen}
 use Rattle.rv_words.specs.declared.command.Command.{Command}
-use Rattle.rv_words.specs.declared.command.Command.TheVariants.{Retire}
-use Rattle.rv_words.proofs.Lines.{line_is_plain}
+use Rattle.rv_words.specs.declared.command.Command.TheVariants.{Activity, Check, Feed, Lists, Retire}
+use Rattle.rv_words.proofs.Lines.{line_is_plain, other_line}
 
 -- a word that does not begin with a hyphen is a value
 is_value : (word : List ℕ) (words : List (List ℕ)) → begins_with_hyphen word ≡ false
@@ -20,9 +20,18 @@ is_value (byte ∷ rest) words plain = rw plain refl
 one_value : (word : List ℕ) → begins_with_hyphen word ≡ false → values_in (word ∷ []) ≡ Some (word ∷ [])
 one_value word plain = is_value word [] plain
 
-pub feed_asked : FeedIsAsked
-feed_asked name store plain =
-    line_is_plain (name ∷ codes "feed" ∷ store ∷ []) ∙ ap (λ values. option_and_then (asked_with (codes "feed")) values) (one_value store plain)
+-- a line of one value asks for what the value does
+line_of_one : (name verb store : List ℕ) → begins_with_hyphen store ≡ false → command_in (name ∷ verb ∷ store ∷ []) ≡ asked_with verb (store ∷ [])
+line_of_one name verb store plain =
+    line_is_plain (name ∷ verb ∷ store ∷ []) ∙ ap (λ values. option_and_then (asked_with verb) values) (one_value store plain)
+
+pub stores_asked : StoresAreAsked
+stores_asked = record {
+  feed = λ name store. line_of_one name (codes "feed") store;
+  lists = λ name store. line_of_one name (codes "lists") store;
+  activity = λ name store. line_of_one name (codes "activity") store;
+  check = λ name store. line_of_one name (codes "check") store;
+}
 
 -- a group that is an `Id` is retired
 by_group : (store group : List ℕ) → is_id group ≡ true → retire_group_in store group ≡ Some (Retire store group)
@@ -38,6 +47,9 @@ retire_asked name store group id plain plain_group =
 pub each_store_asked : EachStoreIsAsked
 each_store_asked = record {
   feed = λ name store. line_is_plain (name ∷ codes "feed" ∷ codes "--" ∷ store ∷ []);
+  lists = λ name store. line_is_plain (name ∷ codes "lists" ∷ codes "--" ∷ store ∷ []);
+  activity = λ name store. line_is_plain (name ∷ codes "activity" ∷ codes "--" ∷ store ∷ []);
+  check = λ name store. line_is_plain (name ∷ codes "check" ∷ codes "--" ∷ store ∷ []);
   retire = λ name store group id. line_is_plain (name ∷ codes "retire" ∷ codes "--" ∷ store ∷ group ∷ []) ∙ by_group store group id;
 }
 
@@ -52,6 +64,9 @@ short_lines = record {
   no_words = line_is_plain [];
   no_command = λ name. line_is_plain (name ∷ []);
   feed_alone = λ name. line_is_plain (name ∷ codes "feed" ∷ []);
+  lists_alone = λ name. line_is_plain (name ∷ codes "lists" ∷ []);
+  activity_alone = λ name. line_is_plain (name ∷ codes "activity" ∷ []);
+  check_alone = λ name. line_is_plain (name ∷ codes "check" ∷ []);
   retire_alone = λ name. line_is_plain (name ∷ codes "retire" ∷ []);
   no_group = λ name store. line_is_plain (name ∷ codes "retire" ∷ store ∷ []) ∙ alone store;
 }
@@ -64,17 +79,21 @@ short_lines = record {
         go false true = refl
         go false false = refl
 
-pub others : OthersAskForNothing
-others name verb words no_feed no_retire =
-    line_is_plain (name ∷ verb ∷ words)
-    ∙ go (bytes_eq verb (codes "feed")) refl (bytes_eq verb (codes "retire")) refl (values_in words)
+differs : (verb known : List ℕ) → verb ≢ known → bytes_eq verb known ≡ false
+differs verb known other = go (bytes_eq verb known) refl
   where
-    go : (feed : Bool) → bytes_eq verb (codes "feed") ≡ feed → (retire : Bool) → bytes_eq verb (codes "retire") ≡ retire → (o : Option (List (List ℕ)))
-        → option_and_then (λ values. cond feed (feed_with values) (cond retire (retire_with values) None)) o ≡ None
-    go true is_it retire r o = absurd (no_feed (same_text verb (codes "feed") (sym is_it)))
-    go false f true is_it o = absurd (no_retire (same_text verb (codes "retire") (sym is_it)))
-    go false f false r None = refl
-    go false f false r (Some values) = refl
+    go : (same : Bool) → bytes_eq verb known ≡ same → same ≡ false
+    go true is = absurd (other (same_text verb known (sym is)))
+    go false is = refl
+
+pub others : OthersAskForNothing
+others name verb words feed retire lists activity check = other_line name verb words (record {
+  feed = differs verb (codes "feed") feed;
+  retire = differs verb (codes "retire") retire;
+  lists = differs verb (codes "lists") lists;
+  activity = differs verb (codes "activity") activity;
+  check = differs verb (codes "check") check;
+})
 
 -- ---- what is asked to retire is an `Id`
 
@@ -88,10 +107,19 @@ by_id store group from text = go (is_id text) refl
     go true id is = let same : text ≡ group = cc in ap is_id (sym same) ∙ id
     go false id is = absurd (cc)
 
-by_feeds : (store group : List ℕ) (values : List (List ℕ)) → Names store group (feed_with values)
-by_feeds store group [] is = absurd (cc)
-by_feeds store group (from ∷ []) is = absurd (cc)
-by_feeds store group (from ∷ more ∷ values) is = absurd (cc)
+by_store : (store group from : List ℕ) (feed lists activity check : Bool) → Names store group
+    (cond feed (Some (Feed from)) (cond lists (Some (Lists from)) (cond activity (Some (Activity from)) (cond check (Some (Check from)) None))))
+by_store store group from true lists activity check is = absurd (cc)
+by_store store group from false true activity check is = absurd (cc)
+by_store store group from false false true check is = absurd (cc)
+by_store store group from false false false true is = absurd (cc)
+by_store store group from false false false false is = absurd (cc)
+
+by_stores : (store group verb : List ℕ) (values : List (List ℕ)) → Names store group (on_store_with verb values)
+by_stores store group verb [] is = absurd (cc)
+by_stores store group verb (from ∷ []) is = by_store store group from
+    (bytes_eq verb (codes "feed")) (bytes_eq verb (codes "lists")) (bytes_eq verb (codes "activity")) (bytes_eq verb (codes "check")) is
+by_stores store group verb (from ∷ more ∷ values) is = absurd (cc)
 
 by_retires : (store group : List ℕ) (values : List (List ℕ)) → Names store group (retire_with values)
 by_retires store group [] is = absurd (cc)
@@ -99,18 +127,16 @@ by_retires store group (from ∷ []) is = absurd (cc)
 by_retires store group (from ∷ text ∷ []) is = by_id store group from text is
 by_retires store group (from ∷ text ∷ more ∷ values) is = absurd (cc)
 
-by_values : (store group : List ℕ) (feed retire : Bool) (o : Option (List (List ℕ)))
-    → Names store group (option_and_then (λ values. cond feed (feed_with values) (cond retire (retire_with values) None)) o)
-by_values store group feed retire None is = absurd (cc)
-by_values store group true retire (Some values) is = by_feeds store group values is
-by_values store group false true (Some values) is = by_retires store group values is
-by_values store group false false (Some values) is = absurd (cc)
+by_values : (store group verb : List ℕ) (retire : Bool) (o : Option (List (List ℕ)))
+    → Names store group (option_and_then (λ values. cond retire (retire_with values) (on_store_with verb values)) o)
+by_values store group verb retire None is = absurd (cc)
+by_values store group verb true (Some values) is = by_retires store group values is
+by_values store group verb false (Some values) is = by_stores store group verb values is
 
 by_line : (words : List (List ℕ)) (store group : List ℕ) → Names store group (plainly_in words)
 by_line [] store group is = absurd (cc)
 by_line (name ∷ []) store group is = absurd (cc)
-by_line (name ∷ verb ∷ words) store group is =
-    by_values store group (bytes_eq verb (codes "feed")) (bytes_eq verb (codes "retire")) (values_in words) is
+by_line (name ∷ verb ∷ words) store group is = by_values store group verb (bytes_eq verb (codes "retire")) (values_in words) is
 
 pub group_is_id : GroupsAreIds
 group_is_id words store group is = by_line words store group (sym (line_is_plain words) ∙ is)

@@ -1,26 +1,27 @@
 -- What a whole command line asks for, said without clap.
-use Rattle.std.proofs.Common.{◌≡◌, ◌∙◌, ap, ap₂, refl, sym, subst, List, [], ◌∷◌, Option, Some, None, Bool, cond, true, false, is_some, codes}
-use Rattle.std.specs.Prelude.{option_and_then}
+use Rattle.std.proofs.Common.{◌≡◌, ◌∙◌, ap, ap₂, refl, sym, subst, List, [], ◌∷◌, Option, Some, None, option_map, Bool, cond, true, false, is_some, codes}
+use Rattle.std.specs.Prelude.{find, option_and_then}
 use Rattle.std.specs.List.{fold}
+use Rattle.std.specs.Option.{option_map_or}
 use Rattle.std.specs.Str.{bytes_eq}
 use Rattle.std.specs.Cmp.Lexicographic.{same_text}
 use Rattle.rv_base.specs.Places.{not_same}
 use Rattle.clap.specs.Kinds.{Kinds, or_else}
-use Rattle.clap.specs.Walk.{Names, Text, Walk, finished, idle, nothing_held, settled, subcommand_met, subcommand_or_other, walk_from, walked}
-use Rattle.clap.specs.Simple.{App, Shape, built, entered, names_of, with_subcommand}
-use Rattle.clap.specs.Faults.{check_fault, defaults_fault, entered_fault, other_fault, settle_fault, step_fault, turn_fault, walk_fault}
+use Rattle.clap.specs.Walk.{Names, Row, Text, Walk, answers_to, finished, idle, nothing_held, settled, subcommand_met, subcommand_or_other, walk_from, walked}
+use Rattle.clap.specs.Simple.{App, Shape, built, entered, label_of, names_of, rows_at}
+use Rattle.clap.specs.Faults.{check_fault, defaults_fault, entered_fault, level_fault, other_fault, settle_fault, step_fault, turn_fault, walk_fault}
 use Rattle.clap.proofs.WalkLemmas.{walk_stopped}
 use Rattle.clap.proofs.FaultLemmas.{stopped_fault}
 use Rattle.clap.proofs.OnLiterals.{clap_on_literals}
-use Rattle.rv_words.specs.Table.{bare_app, feed_app, retire_app, rv_app}
-use Rattle.rv_words.specs.Words.{command_in, feed_in, is_taken, named_in, retire_in}
-use Rattle.rv_words.specs.Plain.{feed_with, is_flag, plainly_in, retire_with, values_in}
+use Rattle.rv_words.specs.Table.{bare_app, commands, rv_app, with_commands}
+use Rattle.rv_words.specs.Words.{command_in, is_taken, named_in, on_store_in, retire_in}
+use Rattle.rv_words.specs.Plain.{asked_with, is_flag, on_store_with, plainly_in, values_in}
 use Rattle.rv_words.specs.declared.command.Command.{Command}
 use Rattle.rv_words.proofs.Leaves.{HasNoFlags, at, flag_fails, more_fails, not_empty, plain_turn, read_from}
-use Rattle.rv_words.proofs.Verbs.{feed_1, feed_leaf, no_more, retire_1, retire_leaf}
+use Rattle.rv_words.proofs.Verbs.{retire_1, retire_leaf, store_1, store_leaf}
 
 abbrev whole : App
-whole = built (with_subcommand (with_subcommand bare_app feed_app.top) retire_app.top)
+whole = built (with_commands bare_app commands)
 
 abbrev top : Shape
 top = whole.top
@@ -51,21 +52,42 @@ taken_alone (kind ∷ kinds) = refl
 abbrev stopped_at : Text → List Text → Walk
 stopped_at verb words = record begin { stopped = Some (verb, words) }
 
-feed_line : (name : Text) (words : List Text) → command_in (name ∷ codes "feed" ∷ words) ≡ read_from feed_leaf feed_in (at [] None 1 false) words
-unfolding clap_on_literals
-feed_line name words =
-    line_is name (codes "feed") words
-    ∙ ap₂ line_read (sym (walk_stopped top.rules names begin (codes "feed") [] words)) (stopped_fault top names begin (codes "feed", []) words)
-    ∙ ap (λ b. cond b (option_and_then named_in (entered whole (Some (codes "feed", words)))) None) (taken_alone (entered_fault whole (Some (codes "feed", words))))
+-- the table has a command of this name: the word ends the walk and is no fault, the command has this shape, and its
+-- values are read so
+abbrev IsNamed : Text → Shape → (List Row → Option Command) → Type 0
+IsNamed verb s reads = (walked top.rules names begin verb ≡ stopped_at verb []) × (turn_fault top names begin verb ≡ [])
+    × (find (λ s. answers_to verb (label_of s)) whole.subs ≡ Some s) × ((rows : List Row) → named_in (s.name, rows) ≡ reads rows)
 
-retire_line : (name : Text) (words : List Text) → command_in (name ∷ codes "retire" ∷ words) ≡ read_from retire_leaf retire_in (at [] None 1 false) words
+-- what is asked for once a command was met, by the shape that is found for it
+abbrev found_read : List Text → Option Shape → Option Command
+found_read words o =
+    let below = option_map (λ s. rows_at s words) o in
+    cond (is_taken (or_else (option_map_or (λ s. level_fault s [] nothing_held words false []) o []) (check_fault top [] (is_some below))))
+    (option_and_then named_in below) None
+
+named_line : (name verb : Text) (words : List Text) (s : Shape) (reads : List Row → Option Command) → IsNamed verb s reads
+    → command_in (name ∷ verb ∷ words) ≡ read_from s reads (at [] None 1 false) words
 unfolding clap_on_literals
-retire_line name words =
-    line_is name (codes "retire") words
-    ∙ ap₂ line_read (sym (walk_stopped top.rules names begin (codes "retire") [] words)) (stopped_fault top names begin (codes "retire", []) words)
-    ∙ ap (λ b. cond b (option_and_then named_in (entered whole (Some (codes "retire", words)))) None) (taken_alone (entered_fault whole (Some (codes "retire", words))))
+named_line name verb words s reads (stops, fine, found, asks) =
+    line_is name verb words
+    ∙ ap₂ (λ (w : Walk) (k : Kinds). line_read (fold (walked top.rules names) w words) (or_else k (walk_fault top names w words))) stops fine
+    ∙ ap₂ line_read (sym (walk_stopped top.rules names begin verb [] words)) (stopped_fault top names begin (verb, []) words)
+    ∙ ap (found_read words) found
+    ∙ ap₂ (λ b o. cond b o None) (taken_alone (level_fault s [] nothing_held words false []))
+    (asks (finished s.rules (fold (walked s.rules []) (walk_from nothing_held) words).held))
+
+store_line : (verb : Text) → IsNamed verb (store_leaf verb) (on_store_in verb) → (name : Text) (words : List Text)
+    → command_in (name ∷ verb ∷ words) ≡ option_and_then (on_store_with verb) (values_in words)
+store_line verb is name words = named_line name verb words (store_leaf verb) (on_store_in verb) is ∙ store_1 verb words
 
 -- ---- a line that names no command
+
+pub record IsOther (verb : Text) : Type 0 where
+  pub feed : bytes_eq verb (codes "feed") ≡ false
+  pub retire : bytes_eq verb (codes "retire") ≡ false
+  pub lists : bytes_eq verb (codes "lists") ≡ false
+  pub activity : bytes_eq verb (codes "activity") ≡ false
+  pub check : bytes_eq verb (codes "check") ≡ false
 
 top_flags : HasNoFlags top
 top_flags = (λ name. refl, λ letter. refl)
@@ -74,11 +96,14 @@ line_fails : (name verb : Text) (words : List Text) → is_taken (turn_fault top
 unfolding walk_fault
 line_fails name verb words fails = line_is name verb words ∙ rw (more_fails (turn_fault top names begin verb) _ _ fails) refl
 
-not_named : (verb : Text) → bytes_eq verb (codes "feed") ≡ false → bytes_eq verb (codes "retire") ≡ false → subcommand_met names idle verb ≡ None
-not_named verb feed retire =
-    let no_feed : bytes_eq (codes "feed") verb ≡ false = not_same verb (codes "feed") feed in
-    let no_retire : bytes_eq (codes "retire") verb ≡ false = not_same verb (codes "retire") retire in
-    rw (no_feed, no_retire) refl
+not_named : (verb : Text) → IsOther verb → subcommand_met names idle verb ≡ None
+not_named verb is =
+    let no_feed : bytes_eq (codes "feed") verb ≡ false = not_same verb (codes "feed") is.feed in
+    let no_retire : bytes_eq (codes "retire") verb ≡ false = not_same verb (codes "retire") is.retire in
+    let no_lists : bytes_eq (codes "lists") verb ≡ false = not_same verb (codes "lists") is.lists in
+    let no_activity : bytes_eq (codes "activity") verb ≡ false = not_same verb (codes "activity") is.activity in
+    let no_check : bytes_eq (codes "check") verb ≡ false = not_same verb (codes "check") is.check in
+    rw (no_feed, no_lists, no_activity, no_check, no_retire) refl
 
 turn_alone : (verb : Text) → subcommand_met names idle verb ≡ None → turn_fault top names begin verb ≡ turn_fault top [] (at [] None 1 false) verb
 turn_alone verb none = ap (λ o. or_else (other_fault top o verb begin.held)
@@ -89,31 +114,51 @@ unfolding clap_on_literals
 ended_line name [] = line_is name (codes "--") []
 ended_line name (word ∷ words) = line_is name (codes "--") (word ∷ words)
 
-other_line : (name verb : Text) (words : List Text) → bytes_eq verb (codes "feed") ≡ false → bytes_eq verb (codes "retire") ≡ false
-    → (ends : Bool) → bytes_eq verb (codes "--") ≡ ends → (flag : Bool) → is_flag verb ≡ flag → command_in (name ∷ verb ∷ words) ≡ None
-other_line name verb words feed retire true ends flag is_it =
-    subst (λ (v : Text). command_in (name ∷ v ∷ words) ≡ None) (sym (same_text verb (codes "--") (sym ends))) (ended_line name words)
-other_line name verb words feed retire false goes_on true is_it =
-    line_fails name verb words (ap is_taken (turn_alone verb (not_named verb feed retire)) ∙ not_empty _ _ (flag_fails top top_flags [] None verb goes_on is_it))
-other_line name verb words feed retire false goes_on false is_it =
-    line_fails name verb words (ap is_taken (turn_alone verb (not_named verb feed retire) ∙ plain_turn top top_flags feed_in [] None 1 verb (goes_on, is_it)))
+pub other_line : (name verb : Text) (words : List Text) → IsOther verb → command_in (name ∷ verb ∷ words) ≡ None
+other_line name verb words is = go (bytes_eq verb (codes "--")) refl (is_flag verb) refl
+  where
+    go : (ends : Bool) → bytes_eq verb (codes "--") ≡ ends → (flag : Bool) → is_flag verb ≡ flag → command_in (name ∷ verb ∷ words) ≡ None
+    go true ends flag is_it =
+        subst (λ (v : Text). command_in (name ∷ v ∷ words) ≡ None) (sym (same_text verb (codes "--") (sym ends))) (ended_line name words)
+    go false goes_on true is_it =
+        line_fails name verb words (ap is_taken (turn_alone verb (not_named verb is)) ∙ not_empty _ _ (flag_fails top top_flags [] None verb goes_on is_it))
+    go false goes_on false is_it =
+        line_fails name verb words
+        (ap is_taken (turn_alone verb (not_named verb is) ∙ plain_turn top top_flags (λ rows. None) [] None 1 verb (goes_on, is_it)))
+
+other_asks : (verb : Text) (values : List Text) → IsOther verb → asked_with verb values ≡ None
+other_asks verb [] is = rw is.retire refl
+other_asks verb (store ∷ []) is = rw (is.retire, is.feed, is.lists, is.activity, is.check) refl
+other_asks verb (store ∷ more ∷ values) is = rw is.retire refl
+
+other_values : (verb : Text) (o : Option (List Text)) → IsOther verb → option_and_then (asked_with verb) o ≡ None
+other_values verb None is = refl
+other_values verb (Some values) is = other_asks verb values is
 
 -- ---- every line
+
+-- what holds of every text, by whether it is this name
+by_name : (P : Text → Type 0) (verb known : Text) → P known → (bytes_eq verb known ≡ false → P verb) → P verb
+by_name P verb known at_it other = go (bytes_eq verb known) refl
+  where
+    go : (same : Bool) → bytes_eq verb known ≡ same → P verb
+    go true is = subst P (sym (same_text verb known (sym is))) at_it
+    go false is = other is
+
+verb_line : (name verb : Text) (words : List Text) → command_in (name ∷ verb ∷ words) ≡ plainly_in (name ∷ verb ∷ words)
+unfolding clap_on_literals
+verb_line name verb words =
+    let P : Text → Type 0 = λ v. command_in (name ∷ v ∷ words) ≡ plainly_in (name ∷ v ∷ words) in
+    by_name P verb (codes "feed") (store_line (codes "feed") (refl, refl, refl, λ rows. refl) name words) (λ feed.
+    by_name P verb (codes "lists") (store_line (codes "lists") (refl, refl, refl, λ rows. refl) name words) (λ lists.
+    by_name P verb (codes "activity") (store_line (codes "activity") (refl, refl, refl, λ rows. refl) name words) (λ activity.
+    by_name P verb (codes "check") (store_line (codes "check") (refl, refl, refl, λ rows. refl) name words) (λ check.
+    by_name P verb (codes "retire") (named_line name (codes "retire") words retire_leaf retire_in (refl, refl, refl, λ rows. refl) ∙ retire_1 words) (λ retire.
+    let is : IsOther verb = record { feed = feed; retire = retire; lists = lists; activity = activity; check = check } in
+    other_line name verb words is ∙ sym (other_values verb (values_in words) is))))))
 
 pub line_is_plain : (words : List Text) → command_in words ≡ plainly_in words
 unfolding command_in rv_app clap_on_literals
 line_is_plain [] = refl
 line_is_plain (name ∷ []) = refl
-line_is_plain (name ∷ verb ∷ words) = go (bytes_eq verb (codes "feed")) refl (bytes_eq verb (codes "retire")) refl
-  where
-    go : (feed : Bool) → bytes_eq verb (codes "feed") ≡ feed → (retire : Bool) → bytes_eq verb (codes "retire") ≡ retire
-        → command_in (name ∷ verb ∷ words) ≡ plainly_in (name ∷ verb ∷ words)
-    go true is_it retire r =
-        subst (λ (v : Text). command_in (name ∷ v ∷ words) ≡ plainly_in (name ∷ v ∷ words)) (sym (same_text verb (codes "feed") (sym is_it)))
-        (feed_line name words ∙ feed_1 words)
-    go false f true is_it =
-        subst (λ (v : Text). command_in (name ∷ v ∷ words) ≡ plainly_in (name ∷ v ∷ words)) (sym (same_text verb (codes "retire") (sym is_it)))
-        (retire_line name words ∙ retire_1 words)
-    go false feed false retire =
-        other_line name verb words feed retire (bytes_eq verb (codes "--")) refl (is_flag verb) refl ∙ no_more (values_in words)
-        ∙ ap₂ (λ a b. option_and_then (λ values. cond a (feed_with values) (cond b (retire_with values) None)) (values_in words)) (sym feed) (sym retire)
+line_is_plain (name ∷ verb ∷ words) = verb_line name verb words

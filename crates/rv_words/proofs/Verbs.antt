@@ -6,9 +6,9 @@ use Rattle.clap.specs.Simple.{App, Shape, built_leaf, inherited, marked_built, w
 use Rattle.clap.proofs.OnLiterals.{clap_on_literals}
 use Rattle.clap.specs.declared.parser.matches.ValueSource.TheVariants.{CommandLine}
 use Rattle.clap.specs.declared.builder.value_parser.Reading.TheVariants.{AsWritten}
-use Rattle.rv_words.specs.Table.{bare_app, feed_app, retire_app}
-use Rattle.rv_words.specs.Words.{feed_in, is_taken, retire_in}
-use Rattle.rv_words.specs.Plain.{feed_with, retire_with, values_in}
+use Rattle.rv_words.specs.Table.{bare_app, retire_app, store_app}
+use Rattle.rv_words.specs.Words.{is_taken, on_store_in, retire_in}
+use Rattle.rv_words.specs.Plain.{on_store_with, retire_with, values_in}
 use Rattle.rv_words.specs.declared.command.Command.{Command}
 use Rattle.rv_words.proofs.Leaves.{HasNoFlags, at, by_word, goes, plain_turn, plain_walk, read_from, refuses}
 
@@ -20,44 +20,48 @@ abbrev store : Text
 store = codes "STORE"
 
 -- no value asks for nothing
-pub no_more : (o : Option (List Text)) → ◌≡◌ {A = Option Command} None (option_and_then (λ values. None) o)
+no_more : (o : Option (List Text)) → ◌≡◌ {A = Option Command} None (option_and_then (λ values. None) o)
 no_more None = refl
 no_more (Some x) = refl
 
--- ---- feed
+-- ---- a command of one STORE
 
-abbrev pub feed_leaf : Shape
-feed_leaf = leaf feed_app
+module _ (verb : Text) where
+  abbrev pub store_leaf : Shape
+  store_leaf = leaf (store_app verb)
 
-feed_flags : HasNoFlags feed_leaf
-feed_flags = (λ name. refl, λ letter. refl)
+  abbrev reads : List Row → Option Command
+  reads = on_store_in verb
 
-feed_2_ended : (v : Text) (words : List Text) → read_from feed_leaf feed_in (at [] (Some (store, v ∷ [])) 2 true) words ≡ feed_with (v ∷ words)
-unfolding clap_on_literals
-feed_2_ended v [] = refl
-feed_2_ended v (w ∷ ws) = refuses feed_leaf feed_in (at [] (Some (store, v ∷ [])) 2 true) w ws refl
+  store_flags : HasNoFlags store_leaf
+  store_flags = (λ name. refl, λ letter. refl)
 
-feed_1_ended : (words : List Text) → read_from feed_leaf feed_in (at [] None 1 true) words ≡ feed_with words
-unfolding clap_on_literals
-feed_1_ended [] = refl
-feed_1_ended (v ∷ ws) = goes feed_leaf feed_in (at [] None 1 true) (at [] (Some (store, v ∷ [])) 2 true) v ws refl refl ∙ feed_2_ended v ws
+  store_2_ended : (v : Text) (words : List Text) → read_from store_leaf reads (at [] (Some (store, v ∷ [])) 2 true) words ≡ on_store_with verb (v ∷ words)
+  unfolding clap_on_literals
+  store_2_ended v [] = refl
+  store_2_ended v (w ∷ ws) = refuses store_leaf reads (at [] (Some (store, v ∷ [])) 2 true) w ws refl
 
-feed_2 : (v : Text) (words : List Text)
-    → read_from feed_leaf feed_in (at [] (Some (store, v ∷ [])) 2 false) words ≡ option_and_then (λ values. feed_with (v ∷ values)) (values_in words)
-unfolding clap_on_literals
-feed_2 v [] = refl
-feed_2 v (w ∷ ws) = by_word feed_leaf feed_flags feed_in [] (Some (store, v ∷ [])) 2 (λ values. feed_with (v ∷ values)) w ws (feed_2_ended v ws)
-    (λ p. refuses feed_leaf feed_in (at [] (Some (store, v ∷ [])) 2 false) w ws
-    (ap is_taken (plain_turn feed_leaf feed_flags feed_in [] (Some (store, v ∷ [])) 2 w p))
-    ∙ no_more (values_in ws))
+  store_1_ended : (words : List Text) → read_from store_leaf reads (at [] None 1 true) words ≡ on_store_with verb words
+  unfolding clap_on_literals
+  store_1_ended [] = refl
+  store_1_ended (v ∷ ws) = goes store_leaf reads (at [] None 1 true) (at [] (Some (store, v ∷ [])) 2 true) v ws refl refl ∙ store_2_ended v ws
 
-pub feed_1 : (words : List Text) → read_from feed_leaf feed_in (at [] None 1 false) words ≡ option_and_then feed_with (values_in words)
-unfolding clap_on_literals
-feed_1 [] = refl
-feed_1 (v ∷ ws) = by_word feed_leaf feed_flags feed_in [] None 1 feed_with v ws (feed_1_ended ws)
-    (λ p. goes feed_leaf feed_in (at [] None 1 false) (at [] (Some (store, v ∷ [])) 2 false) v ws
-    (plain_turn feed_leaf feed_flags feed_in [] None 1 v p) (plain_walk feed_leaf feed_flags feed_in [] None 1 v p)
-    ∙ feed_2 v ws)
+  store_2 : (v : Text) (words : List Text)
+      → read_from store_leaf reads (at [] (Some (store, v ∷ [])) 2 false) words ≡ option_and_then (λ values. on_store_with verb (v ∷ values)) (values_in words)
+  unfolding clap_on_literals
+  store_2 v [] = refl
+  store_2 v (w ∷ ws) = by_word store_leaf store_flags reads [] (Some (store, v ∷ [])) 2 (λ values. on_store_with verb (v ∷ values)) w ws (store_2_ended v ws)
+      (λ p. refuses store_leaf reads (at [] (Some (store, v ∷ [])) 2 false) w ws
+      (ap is_taken (plain_turn store_leaf store_flags reads [] (Some (store, v ∷ [])) 2 w p))
+      ∙ no_more (values_in ws))
+
+  pub store_1 : (words : List Text) → read_from store_leaf reads (at [] None 1 false) words ≡ option_and_then (on_store_with verb) (values_in words)
+  unfolding clap_on_literals
+  store_1 [] = refl
+  store_1 (v ∷ ws) = by_word store_leaf store_flags reads [] None 1 (on_store_with verb) v ws (store_1_ended ws)
+      (λ p. goes store_leaf reads (at [] None 1 false) (at [] (Some (store, v ∷ [])) 2 false) v ws
+      (plain_turn store_leaf store_flags reads [] None 1 v p) (plain_walk store_leaf store_flags reads [] None 1 v p)
+      ∙ store_2 v ws)
 
 -- ---- retire
 

@@ -2,7 +2,8 @@
 use Rattle.std.specs.Prelude.{◌≡◌, ◌≢◌, ◌==◌, Bool, true, false, ℕ, List, [], ◌∷◌, Some, None, codes}
 use Rattle.rv_words.specs.Words.{command_in, is_id}
 use Rattle.rv_words.specs.Plain.{plainly_in}
-use Rattle.rv_words.specs.declared.command.Command.TheVariants.{Feed, Retire}
+use Rattle.rv_words.specs.declared.command.Command.{Command}
+use Rattle.rv_words.specs.declared.command.Command.TheVariants.{Activity, Check, Feed, Lists, Retire}
 
 -- a first `-` (45)
 abbrev pub begins_with_hyphen : List ℕ → Bool
@@ -12,20 +13,34 @@ begins_with_hyphen (byte ∷ rest) = byte == 45
 abbrev pub LinesArePlain : Type 0
 LinesArePlain = (words : List (List ℕ)) → command_in words ≡ plainly_in words
 
-abbrev pub FeedIsAsked : Type 0
-FeedIsAsked = (name store : List ℕ) → begins_with_hyphen store ≡ false → command_in (name ∷ codes "feed" ∷ store ∷ []) ≡ Some (Feed store)
+-- the command's name and a store, which doesn't begin with `-`, ask for this of that store
+abbrev pub IsAskedOfStores : List ℕ → (List ℕ → Command) → Type 0
+IsAskedOfStores verb command = (name store : List ℕ) → begins_with_hyphen store ≡ false → command_in (name ∷ verb ∷ store ∷ []) ≡ Some (command store)
+
+pub record StoresAreAsked : Type 0 where
+  pub feed : IsAskedOfStores (codes "feed") (λ store. Feed store)
+  pub lists : IsAskedOfStores (codes "lists") (λ store. Lists store)
+  pub activity : IsAskedOfStores (codes "activity") (λ store. Activity store)
+  pub check : IsAskedOfStores (codes "check") (λ store. Check store)
 
 abbrev pub RetireIsAsked : Type 0
 RetireIsAsked = (name store group : List ℕ) → is_id group ≡ true → begins_with_hyphen store ≡ false → begins_with_hyphen group ≡ false
     → command_in (name ∷ codes "retire" ∷ store ∷ group ∷ []) ≡ Some (Retire store group)
 
--- after `--` any store is taken, and any `Id` beside it
+-- after `--` any store is taken
+abbrev pub IsAskedOfAnyStore : List ℕ → (List ℕ → Command) → Type 0
+IsAskedOfAnyStore verb command = (name store : List ℕ) → command_in (name ∷ verb ∷ codes "--" ∷ store ∷ []) ≡ Some (command store)
+
+-- so it is for each command, and `retire` takes any `Id` beside it
 pub record EachStoreIsAsked : Type 0 where
-  pub feed : (name store : List ℕ) → command_in (name ∷ codes "feed" ∷ codes "--" ∷ store ∷ []) ≡ Some (Feed store)
+  pub feed : IsAskedOfAnyStore (codes "feed") (λ store. Feed store)
+  pub lists : IsAskedOfAnyStore (codes "lists") (λ store. Lists store)
+  pub activity : IsAskedOfAnyStore (codes "activity") (λ store. Activity store)
+  pub check : IsAskedOfAnyStore (codes "check") (λ store. Check store)
   pub retire : (name store group : List ℕ) → is_id group ≡ true
       → command_in (name ∷ codes "retire" ∷ codes "--" ∷ store ∷ group ∷ []) ≡ Some (Retire store group)
 
--- and so is any `Id`, where `--` stands before it alone
+-- any `Id` is taken too where `--` stands before it alone
 abbrev pub EachGroupIsAsked : Type 0
 EachGroupIsAsked = (name store group : List ℕ) → is_id group ≡ true → begins_with_hyphen store ≡ false
     → command_in (name ∷ codes "retire" ∷ store ∷ codes "--" ∷ group ∷ []) ≡ Some (Retire store group)
@@ -38,10 +53,14 @@ pub record AskForNothing : Type 0 where
   pub no_words : command_in [] ≡ None
   pub no_command : (name : List ℕ) → command_in (name ∷ []) ≡ None
   pub feed_alone : (name : List ℕ) → command_in (name ∷ codes "feed" ∷ []) ≡ None
+  pub lists_alone : (name : List ℕ) → command_in (name ∷ codes "lists" ∷ []) ≡ None
+  pub activity_alone : (name : List ℕ) → command_in (name ∷ codes "activity" ∷ []) ≡ None
+  pub check_alone : (name : List ℕ) → command_in (name ∷ codes "check" ∷ []) ≡ None
   pub retire_alone : (name : List ℕ) → command_in (name ∷ codes "retire" ∷ []) ≡ None
   pub no_group : (name store : List ℕ) → command_in (name ∷ codes "retire" ∷ store ∷ []) ≡ None
 
 -- no command goes by any other name: not by `help`, `--help`, `-h`, `--version` or `--` either
 abbrev pub OthersAskForNothing : Type 0
-OthersAskForNothing = (name verb : List ℕ) (words : List (List ℕ)) → verb ≢ codes "feed" → verb ≢ codes "retire"
+OthersAskForNothing = (name verb : List ℕ) (words : List (List ℕ))
+    → verb ≢ codes "feed" → verb ≢ codes "retire" → verb ≢ codes "lists" → verb ≢ codes "activity" → verb ≢ codes "check"
     → command_in (name ∷ verb ∷ words) ≡ None

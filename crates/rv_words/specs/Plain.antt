@@ -1,9 +1,8 @@
 -- What the words ask for, said without clap.
 use Rattle.std.specs.Prelude.{ℕ, ◌==◌, ◌&&◌, List, [], ◌∷◌, Option, Some, None, Bool, false, codes, is_some, slice_get, if◌then◌else◌, option_and_then, option_map}
 use Rattle.std.specs.Str.{bytes_eq, chars}
-use Rattle.rv_words.specs.Words.{retire_group_in}
+use Rattle.rv_words.specs.Words.{on_store, retire_group_in}
 use Rattle.rv_words.specs.declared.command.Command.{Command}
-use Rattle.rv_words.specs.declared.command.Command.TheVariants.{Feed}
 
 -- a `-` (45) with a character after it
 abbrev pub is_flag : List ℕ → Bool
@@ -19,9 +18,9 @@ values_in (word ∷ words) =
     else if is_flag word then None
     else option_map (λ values. word ∷ values) (values_in words)
 
-abbrev pub feed_with : List (List ℕ) → Option Command
-feed_with (store ∷ []) = Some (Feed store)
-feed_with other = None
+abbrev pub on_store_with : List ℕ → List (List ℕ) → Option Command
+on_store_with verb (store ∷ []) = on_store verb store
+on_store_with verb other = None
 
 abbrev pub retire_with : List (List ℕ) → Option Command
 retire_with (store ∷ group ∷ []) = retire_group_in store group
@@ -29,9 +28,8 @@ retire_with other = None
 
 abbrev pub asked_with : List ℕ → List (List ℕ) → Option Command
 asked_with verb values =
-    if bytes_eq verb (codes "feed") then feed_with values
-    else if bytes_eq verb (codes "retire") then retire_with values
-    else None
+    if bytes_eq verb (codes "retire") then retire_with values
+    else on_store_with verb values
 
 -- the program's name, the command's, and its values
 abbrev pub plainly_in : List (List ℕ) → Option Command

@@ -1,5 +1,5 @@
 -- The commands of `rv`, as clap's contracts see them.
-use Rattle.std.specs.Prelude.{true, codes}
+use Rattle.std.specs.Prelude.{true, List, [], ◌∷◌, codes, fold}
 use Rattle.clap.specs.Words.{App, Rule, Text, new_app, new_rule, with_rule, with_subcommand}
 use Rattle.clap.specs.Simple.{on_top}
 
@@ -7,13 +7,13 @@ use Rattle.clap.specs.Simple.{on_top}
 abbrev pub required_value : Text → Rule
 required_value name = record (new_rule name) { required = true }
 
--- feed STORE
-abbrev pub feed_app : App
-feed_app = with_rule (new_app (codes "feed")) (required_value (codes "STORE"))
+-- VERB STORE
+abbrev pub store_app : Text → App
+store_app verb = with_rule (new_app verb) (required_value (codes "STORE"))
 
 -- retire STORE GROUP
 abbrev pub retire_app : App
-retire_app = with_rule (with_rule (new_app (codes "retire")) (required_value (codes "STORE"))) (required_value (codes "GROUP"))
+retire_app = with_rule (store_app (codes "retire")) (required_value (codes "GROUP"))
 
 -- one of the commands must be named, and nothing asks for help or for the version
 abbrev pub bare_app : App
@@ -24,5 +24,11 @@ bare_app = on_top (λ shape. record shape {
   disable_version_flag = true;
 }) (new_app (codes "rv"))
 
+abbrev pub commands : List App
+commands = store_app (codes "feed") ∷ store_app (codes "lists") ∷ store_app (codes "activity") ∷ store_app (codes "check") ∷ retire_app ∷ []
+
+abbrev pub with_commands : App → List App → App
+with_commands = fold (λ app command. with_subcommand app command.top)
+
 unfoldable pub rv_app : App
-rv_app = with_subcommand (with_subcommand bare_app feed_app.top) retire_app.top
+rv_app = with_commands bare_app commands

@@ -1,19 +1,27 @@
 -- What the words of a command line ask for. The first is the program's name.
-use Rattle.std.specs.Prelude.{◌≡◌, ◌&&◌, List, [], ◌∷◌, Option, Some, None, Bool, true, false, codes, length, nat_le, if◌then◌else◌, option_and_then, option_map}
+use Rattle.std.specs.Prelude.{◌≡◌, ◌&&◌, List, [], ◌∷◌, Option, Some, None, Bool, true, false, codes, length, nat_le, if◌then◌else◌, option_and_then}
 use Rattle.std.specs.Str.{bytes_eq}
 use Rattle.clap.specs.Words.{Kinds, Row, Text, first_of, fault_of, subcommand_of, subcommand_rows_of}
 use Rattle.clap.specs.declared.parser.ArgMatches.{ArgMatches}
 use Rattle.rv_words.specs.Table.{rv_app}
 use Rattle.rv_words.specs.declared.command.Command.{Command}
-use Rattle.rv_words.specs.declared.command.Command.TheVariants.{Feed, Retire}
+use Rattle.rv_words.specs.declared.command.Command.TheVariants.{Activity, Check, Feed, Lists, Retire}
 
 -- the text is an `Id`
 abbrev pub is_id : Text → Bool
 is_id text = nat_le 1 (length text) && nat_le (length text) 128
 
--- any text names a store
-abbrev pub feed_in : List Row → Option Command
-feed_in rows = option_map (λ store. Feed store) (first_of (codes "STORE") rows)
+-- what a command of one STORE asks for; any text names a store
+abbrev pub on_store : Text → Text → Option Command
+on_store verb store =
+    if bytes_eq verb (codes "feed") then Some (Feed store)
+    else if bytes_eq verb (codes "lists") then Some (Lists store)
+    else if bytes_eq verb (codes "activity") then Some (Activity store)
+    else if bytes_eq verb (codes "check") then Some (Check store)
+    else None
+
+abbrev pub on_store_in : Text → List Row → Option Command
+on_store_in verb rows = option_and_then (on_store verb) (first_of (codes "STORE") rows)
 
 abbrev pub retire_group_in : Text → Text → Option Command
 retire_group_in store group = if is_id group then Some (Retire store group) else None
@@ -24,9 +32,8 @@ retire_in rows = option_and_then (λ store. option_and_then (retire_group_in sto
 -- what the command that was named asks for with its values
 abbrev pub named_in : Text × List Row → Option Command
 named_in named =
-    if bytes_eq named.0 (codes "feed") then feed_in named.1
-    else if bytes_eq named.0 (codes "retire") then retire_in named.1
-    else None
+    if bytes_eq named.0 (codes "retire") then retire_in named.1
+    else on_store_in named.0 named.1
 
 -- clap's command takes the words
 abbrev pub is_taken : Kinds → Bool

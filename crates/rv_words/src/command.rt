@@ -16,4 +16,19 @@ pub enum Command {
         /// The name of the group.
         group: Id,
     },
+    /// `lists STORE`: tell the lists, with how much is in them.
+    Lists {
+        /// The name of the store.
+        store: StoreName,
+    },
+    /// `activity STORE`: tell who did how much.
+    Activity {
+        /// The name of the store.
+        store: StoreName,
+    },
+    /// `check STORE`: tell whether the store is sound.
+    Check {
+        /// The name of the store.
+        store: StoreName,
+    },
 }

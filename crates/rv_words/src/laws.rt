@@ -3,11 +3,11 @@ ghost use Rattle.rv_words.specs.Laws.{
   AskForNothing,
   EachGroupIsAsked,
   EachStoreIsAsked,
-  FeedIsAsked,
   GroupsAreIds,
   LinesArePlain,
   OthersAskForNothing,
   RetireIsAsked,
+  StoresAreAsked,
 };
 
 /// What `clap` makes of any words is what they ask for said without `clap`: the program's name, the command's, and its
@@ -16,9 +16,10 @@ pub fn lines_are_plain()
     ensures { LinesArePlain }
 {}
 
-/// The words `feed STORE` after any name of the program ask for a feed of that store, for each text that doesn't begin with `-`.
-pub fn feed_is_asked()
-    ensures { FeedIsAsked }
+/// After any name of the program the words `feed STORE`, `lists STORE`, `activity STORE` and `check STORE` each ask for
+/// their command of that store, for each text that doesn't begin with `-`.
+pub fn stores_are_asked()
+    ensures { StoresAreAsked }
 {}
 
 /// The words `retire STORE GROUP` ask for that, for each text and each `Id` that don't begin with `-`.

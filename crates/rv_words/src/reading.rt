@@ -1,7 +1,7 @@
 // The words of a command line are read by the table.
 ghost use Rattle.std.specs.Prelude.{◌≡◌, IfOk, codes, map, option_and_then, option_map, string_bytes};
 ghost use Rattle.clap.specs.Words.{first_of, found_of, rows_of, subcommand_rows_of};
-ghost use Rattle.rv_words.specs.Words.{command_in, feed_in, named_in, retire_in, retire_group_in, Parses};
+ghost use Rattle.rv_words.specs.Words.{command_in, named_in, on_store, on_store_in, retire_in, retire_group_in, Parses};
 
 use crate::command::Command;
 use crate::store_name::StoreName;
@@ -41,11 +41,29 @@ fn store_of(alloc: Global, matches: &ArgMatches<'_>) -> Result<Option<StoreName>
     }
 }
 
-fn feed(alloc: Global, matches: &ArgMatches<'_>) -> Result<Option<Command>, Memory>
-    ensures { IfOk result (λ command. command ≡ feed_in (rows_of (found_of matches.now))) }
+// What the command of this name asks for with one store.
+fn on_store(verb: &str, store: StoreName) -> Option<Command>
+    ensures { result ≡ on_store verb.now store }
+{
+    match verb {
+        "feed" => Some(Command::Feed { store }),
+        "lists" => Some(Command::Lists { store }),
+        "activity" => Some(Command::Activity { store }),
+        "check" => Some(Command::Check { store }),
+        _ => None,
+    }
+}
+
+// What it asks for with what was found for it.
+fn on_found_store(
+    alloc: Global,
+    verb: &str,
+    matches: &ArgMatches<'_>,
+) -> Result<Option<Command>, Memory>
+    ensures { IfOk result (λ command. command ≡ on_store_in verb.now (rows_of (found_of matches.now))) }
 {
     match store_of(alloc, matches)? {
-        Some(store) => Ok(Some(Command::Feed { store })),
+        Some(store) => Ok(on_store(verb, store)),
         None => Ok(None),
     }
 }
@@ -79,9 +97,8 @@ fn named(alloc: Global, name: &str, matches: &ArgMatches<'_>) -> Result<Option<C
     ensures { IfOk result (λ command. command ≡ named_in (name.now, rows_of (found_of matches.now))) }
 {
     match name {
-        "feed" => feed(alloc, matches),
         "retire" => retire(alloc, matches),
-        _ => Ok(None),
+        verb => on_found_store(alloc, verb, matches),
     }
 }
 

@@ -2,7 +2,7 @@
 ghost use Rattle.std.specs.Prelude.{◌≡◌, IfOk, false};
 ghost use Rattle.clap.specs.Words.{app_of, with_rule};
 ghost use Rattle.clap.specs.declared.builder.command.Command.TheViews.{out-Command};
-ghost use Rattle.rv_words.specs.Table.{bare_app, feed_app, required_value, retire_app, rv_app};
+ghost use Rattle.rv_words.specs.Table.{bare_app, required_value, retire_app, rv_app, store_app};
 
 use clap::{Arg, Command};
 use std::alloc::{AllocError, Global};
@@ -19,19 +19,19 @@ fn with_required<'a>(
     command.arg(Arg::new(alloc, name).required(true))
 }
 
-fn feed<'a>(alloc: Global) -> Result<Command<'a>, AllocError>
-    ensures app { IfOk result (λ r. app_of r ≡ feed_app) }
+// The command of this name, of one STORE.
+fn of_store<'a>(alloc: Global, name: &'a str) -> Result<Command<'a>, AllocError>
+    ensures app { IfOk result (λ r. app_of r ≡ store_app name.entry.now) }
     ensures local { IfOk result (λ r. (out-Command r).has_globals ≡ false) }
 {
-    with_required(alloc, Command::new(alloc, "feed"), "STORE")
+    with_required(alloc, Command::new(alloc, name), "STORE")
 }
 
 fn retire<'a>(alloc: Global) -> Result<Command<'a>, AllocError>
     ensures app { IfOk result (λ r. app_of r ≡ retire_app) }
     ensures local { IfOk result (λ r. (out-Command r).has_globals ≡ false) }
 {
-    let command = with_required(alloc, Command::new(alloc, "retire"), "STORE")?;
-    with_required(alloc, command, "GROUP")
+    with_required(alloc, of_store(alloc, "retire")?, "GROUP")
 }
 
 // No command yet, and no call for help.
@@ -51,6 +51,9 @@ pub fn rv<'a>(alloc: Global) -> Result<Command<'a>, AllocError>
     ensures { IfOk result (λ r. app_of r ≡ rv_app) }
 {
     bare(alloc)
-        .subcommand(feed(alloc)?)?
+        .subcommand(of_store(alloc, "feed")?)?
+        .subcommand(of_store(alloc, "lists")?)?
+        .subcommand(of_store(alloc, "activity")?)?
+        .subcommand(of_store(alloc, "check")?)?
         .subcommand(retire(alloc)?)
 }
