@@ -1,0 +1,30 @@
+-- What a check of a store answers.
+use Rattle.std.specs.Prelude.{◌≡◌, ◌^◌, ◌-◌, ℕ, List, None}
+use Rattle.rv_base.specs.Causes.{Rose}
+use Rattle.rv_keeper.specs.declared.loaded.Loaded.{Loaded}
+use Rattle.rv_book.specs.Book.{Book, size}
+use Rattle.rv_store.specs.Opening.{MayOpen}
+use Rattle.rv_desk.specs.Opened.{WasLoaded, IsDamagedIn, IsLeft}
+use Rattle.rv_report.specs.declared.check_answer.CheckAnswer.{CheckAnswer}
+use Rattle.rv_report.specs.declared.check_answer.CheckAnswer.TheVariants.{Sound, Damaged, Keeper, Memory}
+
+module _ {K : Type 0} (tells : K → Type 0) (holds : K → Loaded → Type 0) (faults : K → ℕ) where
+  -- what was loaded is what a lawful book of so many entries is kept as; the keeper's count of faults stays
+  pub record IsSoundIn (entries : ℕ) (before now : K) : Type 0 where
+    pub loaded : Loaded
+    pub book : Book
+    pub was : WasLoaded (tells now) (holds before) loaded
+    pub opens : MayOpen (2 ^ 32 - 1) book loaded
+    pub length : size book ≡ entries
+    pub still : faults now ≡ faults before
+
+  -- as opening answers with the greatest limit
+  abbrev pub Answers : CheckAnswer → K → K → Type 0
+  Answers (Sound entries) before now = IsSoundIn entries before now
+  Answers (Damaged shelf key) before now = IsDamagedIn tells holds faults (2 ^ 32 - 1) before now shelf key
+  Answers Keeper before now = Rose (faults before) (faults now)
+  Answers Memory before now = Unit {0}
+
+  -- and the keeper holds what it held
+  abbrev pub Checks : K → CheckAnswer × K → Type 0
+  Checks before checked = Answers checked.0 before checked.1 × IsLeft tells holds faults before checked.1

@@ -1,0 +1,29 @@
+ghost use Rattle.rv_report.specs.Checks.{Checks};
+
+use crate::check_answer::CheckAnswer;
+use rv_desk::{Desk, OpenFault};
+use rv_keeper::Keeper;
+use std::alloc::Global;
+
+// What a refused opening found.
+fn refused(fault: OpenFault) -> CheckAnswer {
+    match fault {
+        OpenFault::Keeper => CheckAnswer::Keeper,
+        OpenFault::Damaged(shelf, key) => CheckAnswer::Damaged(shelf, key),
+        OpenFault::Memory => CheckAnswer::Memory,
+    }
+}
+
+/// Whether the keeper holds just the cells of a lawful book of at most 4,294,967,295 entries, as a server that opens it would find.
+/// Nothing is changed, and the keeper is given back.
+pub fn check<K: Keeper>(alloc: Global, keeper: K) -> (CheckAnswer, K)
+    ensures { Checks K.tells K.holds K.faults keeper result }
+{
+    match Desk::open(alloc, keeper, u32::MAX) {
+        Ok(desk) => {
+            let entries = desk.book().len();
+            (CheckAnswer::Sound(entries), desk.close())
+        }
+        Err((fault, keeper)) => (refused(fault), keeper),
+    }
+}

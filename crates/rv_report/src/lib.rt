@@ -1,0 +1,15 @@
+//! What an operator asks of a store: which lists it has, who did how much, and whether it is sound.
+//!
+//! [`lists_text`] is a text of rows and [`activity_text`] one of a book; [`check`] opens a store as a server does, and gives it back.
+#![tactic(auto)]
+
+mod activity;
+mod check;
+mod check_answer;
+mod lists;
+mod texts;
+
+pub use activity::activity_text;
+pub use check::check;
+pub use check_answer::CheckAnswer;
+pub use lists::lists_text;
