@@ -1,8 +1,13 @@
 // The report of who did how much.
-ghost use Rattle.std.specs.Prelude.{◌≡◌, IfOk};
+ghost use Rattle.std.specs.Prelude.{◌≡◌, ◌++◌, IfOk, OnOk, count_by, length};
+ghost use Rattle.rv_book.specs.Book.{retired};
 ghost use Rattle.rv_report.specs.Activity.{activity_text};
+ghost use Rattle.rv_report.specs.Tallies.{groups_line, tally_line};
 
-use rv_base::{Bytes, Memory};
+use crate::tallies::{Groups, groups_of, tallies_of};
+use crate::tally::Tally;
+use crate::texts::{add, add_in_ten, add_number, with_quoted};
+use rv_base::{Bytes, Memory, Sequence, User};
 use rv_book::Book;
 use std::alloc::Global;
 
@@ -12,5 +17,44 @@ use std::alloc::Global;
 pub fn activity_text(alloc: Global, book: &Book) -> Result<Bytes, Memory>
     ensures { IfOk result (λ text. text ≡ activity_text book.now.entries) }
 {
-    todo!()
+    let tallies = tallies_of(alloc, book)?;
+    let mut out = Vec::new(alloc);
+    for (user, tally) in &tallies {
+        out = with_line(out, user, *tally)?;
+    }
+    let groups = groups_of(alloc, book)?;
+    add_groups(&mut out, groups.len(), retired(book, &groups))?;
+    Ok(Sequence::from_vec(out))
+}
+
+// The buffer with the line of a user.
+fn with_line(out: Vec<u8>, user: &User, tally: Tally) -> Result<Vec<u8>, Memory>
+    ensures { IfOk result (λ added. added.items ≡ out.items ++ tally_line (user.now, tally)) }
+{
+    let mut out = out;
+    add_in_ten(&mut out, tally.acts)?;
+    add_in_ten(&mut out, tally.voids)?;
+    add_in_ten(&mut out, tally.looks)?;
+    add(&mut out, " ")?;
+    let mut out = with_quoted(out, user.as_str())?;
+    add(&mut out, "\n")?;
+    Ok(out)
+}
+
+// How many of the groups are retired.
+fn retired(book: &Book, groups: &Groups<'_>) -> usize
+    ensures { result ≡ count_by (λ group. retired group.now book.now.entries) groups.now.keys }
+{
+    groups.iter().filter(|group| book.retired(**group)).count()
+}
+
+// Adds the line on groups.
+fn add_groups(out: &mut Vec<u8>, groups: usize, retired: usize) -> Result<(), Memory>
+    ensures { OnOk result (out.new.items ≡ out.old.items ++ groups_line groups retired) }
+{
+    add(out, "groups ")?;
+    add_number(out, groups as u64)?;
+    add(out, " retired ")?;
+    add_number(out, retired as u64)?;
+    add(out, "\n")
 }

@@ -4,12 +4,15 @@
 #![tactic(auto)]
 
 mod activity;
-mod check;
+mod checking;
 mod check_answer;
+mod counts;
 mod lists;
+mod tallies;
+mod tally;
 mod texts;
 
 pub use activity::activity_text;
-pub use check::check;
+pub use checking::check;
 pub use check_answer::CheckAnswer;
 pub use lists::lists_text;

@@ -1,3 +1,5 @@
+ghost use Rattle.std.specs.Prelude.{◌≡◌};
+ghost use Rattle.rv_report.specs.Answered.{answer_of};
 ghost use Rattle.rv_report.specs.Checks.{Checks};
 
 use crate::check_answer::CheckAnswer;
@@ -6,7 +8,9 @@ use rv_keeper::Keeper;
 use std::alloc::Global;
 
 // What a refused opening found.
-fn refused(fault: OpenFault) -> CheckAnswer {
+fn refused(fault: OpenFault) -> CheckAnswer
+    ensures { result ≡ answer_of fault }
+{
     match fault {
         OpenFault::Keeper => CheckAnswer::Keeper,
         OpenFault::Damaged(shelf, key) => CheckAnswer::Damaged(shelf, key),

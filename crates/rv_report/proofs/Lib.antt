@@ -1,0 +1,6 @@
+pub mod ActivityLaws
+pub mod CheckLaws
+pub mod CountLaws
+pub mod LineLaws
+pub mod ShownLaws
+pub mod TallyLaws

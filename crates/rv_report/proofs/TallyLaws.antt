@@ -1,0 +1,200 @@
+-- The tallies of a book, and its groups, entry by entry.
+use Rattle.std.proofs.Common.{◌≡◌, ℕ, suc, ◌+◌, ◌-◌, ◌<◌, ◌≤◌, ◌^◌, ◌&&◌, ◌||◌, Bool, true, false, cond, List, [], ◌∷◌, ◌++◌, length, take, get_or, map, Option, Some, None, refl, sym, ap, ◌∙◌, subst, arith, count_by, add-zero}
+use Rattle.std.specs.declared.cmp.Ordering.TheVariants.{Less, Equal, Greater}
+use Rattle.std.specs.Ordering.{nat_cmp, match_ordering}
+use Rattle.std.specs.Cmp.Lexicographic.{slice_cmp}
+use Rattle.std.specs.List.{filter_map, list_any, cons_option, sum_by}
+use Rattle.std.specs.Option.{option_map, option_map_or, is_some}
+use Rattle.std.specs.Str.{bytes_eq}
+use Rattle.std.proofs.lemmas.List.{take_more, length-take-le}
+use Rattle.std.proofs.lemmas.List.Sums.{sum_by-append, count_by-le-length}
+use Rattle.std.proofs.lemmas.Option.{same_Some, slice_get_within, get_or_from_slice_get}
+use Rattle.std.proofs.lemmas.Slice.Eq.{bytes_eq-Decides}
+use Rattle.rv_base.specs.Sorted.{find_by, put_by, InOrder}
+use Rattle.rv_base.specs.Places.{Above, Below, equals, below_is, same_from, differs, differs_back, above_chain, not_same, sorted_more, in_order-sorted, map-put, found-sorted}
+use Rattle.rv_base.specs.Arranged.{find-map}
+use Rattle.rv_rows.specs.declared.call.Call.{Call}
+use Rattle.rv_rows.specs.declared.call.Call.TheVariants.{CreateList, DeleteList, CreateShare, DeleteShare, CreateTodo, UpdateTodo, DeleteTodo, Void}
+use Rattle.rv_book.specs.declared.entry.Entry.{Entry}
+use Rattle.rv_book.specs.declared.entry.Entry.TheVariants.{Act, Look, Retire}
+use Rattle.rv_book.specs.Book.{Book, entry_at}
+use Rattle.rv_book.specs.BookWords.{entry_at-next}
+use Rattle.rv_report.specs.declared.tally.Tally.{Tally}
+use Rattle.rv_report.specs.Activity.{groups_of, named_group, user_of, users_of, is_act_by, is_void_by, is_look_by}
+use Rattle.rv_report.specs.Tallies.{Tallied, tallied_key, no_entries, is_void, with_one, MayRise, tally_in, counted, tally_of, tallies_of}
+
+-- the entry that comes after so many
+pub entry_next : (book : Book) (before : ℕ) (entry : Entry) → Some entry ≡ entry_at (before + 1) book → (before < length book) × (entry ≡ get_or book before entry)
+entry_next book before entry there =
+    let at = sym (entry_at-next before book) ∙ sym there in
+    (slice_get_within book before entry at, sym (get_or_from_slice_get book before entry entry at))
+
+-- a user with the tally, of which the numbers are told
+abbrev told : (List ℕ → Tally) → List ℕ → Tallied
+told tally user = (user, tally user)
+
+abbrev text_key : List ℕ → List ℕ
+text_key text = text
+
+-- One user's tally is put among those that are told of users in order, whatever was told of that user.
+module _ (user : List ℕ) (new : Tally) (before after : List ℕ → Tally) (same : (other : List ℕ) → bytes_eq user other ≡ false → after other ≡ before other) where
+  told_above : (users : List (List ℕ)) → Above text_key user users → map (told after) users ≡ map (told before) users
+  told_above [] all = refl
+  told_above (other ∷ users) all = (λ i. (other, same other (differs user other all.0) i) ∷ told_above users all.1 i)
+
+  told_put : (users : List (List ℕ)) → InOrder text_key users → put_by tallied_key (user, new) (map (told after) users) ≡ put_by tallied_key (user, new) (map (told before) users)
+  told_put [] order = refl
+  told_put (other ∷ users) order =
+      elim (slice_cmp nat_cmp user other) as (λ o. slice_cmp nat_cmp user other ≡ o → match_ordering o ((user, new) ∷ map (told after) (other ∷ users)) ((user, new) ∷ map (told after) users) (told after other ∷ put_by tallied_key (user, new) (map (told after) users)) ≡ match_ordering o ((user, new) ∷ map (told before) (other ∷ users)) ((user, new) ∷ map (told before) users) (told before other ∷ put_by tallied_key (user, new) (map (told before) users))) [
+        | Less ↦ λ o. ap (λ (rest : List Tallied). (user, new) ∷ rest) (told_above (other ∷ users) (o, above_chain text_key user other users o order.0))
+        | Equal ↦ λ o. ap (λ (rest : List Tallied). (user, new) ∷ rest) (told_above users (subst (λ (text : List ℕ). Above text_key text users) (sym (same_from user other o)) order.0))
+        | Greater ↦ λ o. (λ i. (other, same other (differs_back other user (below_is user other o)) i) ∷ told_put users order.1 i)
+      ] refl
+
+-- the entry is an act or a look by the user
+abbrev is_by : List ℕ → Entry → Bool
+is_by user entry = option_map_or (λ other. bytes_eq other user) (user_of entry) false
+
+void_by : (user other group client : List ℕ) (id : ℕ) (call : Call) → is_void_by user (Act other group client id call) ≡ (is_void call && bytes_eq other user)
+void_by user other group client id (CreateList list name owner) = refl
+void_by user other group client id (DeleteList list) = refl
+void_by user other group client id (CreateShare share list with) = refl
+void_by user other group client id (DeleteShare share) = refl
+void_by user other group client id (CreateTodo todo list text complete) = refl
+void_by user other group client id (UpdateTodo todo text complete sort) = refl
+void_by user other group client id (DeleteTodo todo) = refl
+void_by user other group client id (Void reason) = refl
+
+one_act : (by void : Bool) (acts voids looks : ℕ) → record { acts = acts + cond by 1 0; voids = voids + cond (void && by) 1 0; looks = looks + 0 } ≡ cond by (record { acts = acts + 1; voids = cond void (voids + 1) voids; looks = looks }) (record { acts = acts; voids = voids; looks = looks })
+one_act true true acts voids looks = ap (λ (n : ℕ). let t : Tally = record { acts = acts + 1; voids = voids + 1; looks = n } in t) (add-zero looks)
+one_act true false acts voids looks = (λ i. record { acts = acts + 1; voids = add-zero voids i; looks = add-zero looks i })
+one_act false true acts voids looks = (λ i. record { acts = add-zero acts i; voids = add-zero voids i; looks = add-zero looks i })
+one_act false false acts voids looks = (λ i. record { acts = add-zero acts i; voids = add-zero voids i; looks = add-zero looks i })
+
+one_look : (by : Bool) (acts voids looks : ℕ) → record { acts = acts + 0; voids = voids + 0; looks = looks + cond by 1 0 } ≡ cond by (record { acts = acts; voids = voids; looks = looks + 1 }) (record { acts = acts; voids = voids; looks = looks })
+one_look true acts voids looks = (λ i. record { acts = add-zero acts i; voids = add-zero voids i; looks = looks + 1 })
+one_look false acts voids looks = (λ i. record { acts = add-zero acts i; voids = add-zero voids i; looks = add-zero looks i })
+
+count_last : (p : Entry → Bool) (book : Book) (entry : Entry) → count_by p (book ++ entry ∷ []) ≡ count_by p book + cond (p entry) 1 0
+count_last p book entry = sum_by-append (λ e. cond (p e) 1 0) book (entry ∷ []) ∙ ap (λ (n : ℕ). count_by p book + n) (add-zero (cond (p entry) 1 0))
+
+-- a user's tally after one more entry
+tally_last : (user : List ℕ) (book : Book) (entry : Entry) → tally_of user (book ++ entry ∷ []) ≡ cond (is_by user entry) (with_one entry (tally_of user book)) (tally_of user book)
+tally_last user book (Act other group client id call) =
+    (λ i. record { acts = count_last (is_act_by user) book (Act other group client id call) i; voids = count_last (is_void_by user) book (Act other group client id call) i; looks = count_last (is_look_by user) book (Act other group client id call) i })
+    ∙ (λ i. record { acts = count_by (is_act_by user) book + cond (bytes_eq other user) 1 0; voids = count_by (is_void_by user) book + cond (void_by user other group client id call i) 1 0; looks = count_by (is_look_by user) book + 0 })
+    ∙ one_act (bytes_eq other user) (is_void call) (count_by (is_act_by user) book) (count_by (is_void_by user) book) (count_by (is_look_by user) book)
+tally_last user book (Look other group order base) =
+    (λ i. record { acts = count_last (is_act_by user) book (Look other group order base) i; voids = count_last (is_void_by user) book (Look other group order base) i; looks = count_last (is_look_by user) book (Look other group order base) i })
+    ∙ one_look (bytes_eq other user) (count_by (is_act_by user) book) (count_by (is_void_by user) book) (count_by (is_look_by user) book)
+tally_last user book (Retire group) =
+    (λ i. record { acts = count_last (is_act_by user) book (Retire group) i; voids = count_last (is_void_by user) book (Retire group) i; looks = count_last (is_look_by user) book (Retire group) i })
+    ∙ one_look false (count_by (is_act_by user) book) (count_by (is_void_by user) book) (count_by (is_look_by user) book)
+
+-- a user of no entry has no entries
+none_counted : (user : List ℕ) (p : Entry → Bool) (book : Book) → ((entry : Entry) → is_by user entry ≡ false → p entry ≡ false) → list_any (bytes_eq user) (filter_map user_of book) ≡ false → count_by p book ≡ 0
+none_counted user p [] apart none = refl
+none_counted user p (entry ∷ book) apart none =
+    let parts = later (user_of entry) none in
+    let here : p entry ≡ false = apart entry parts.0 in
+    ap (λ (b : Bool). cond b 1 0 + count_by p book) here ∙ ap (λ (n : ℕ). 0 + n) (none_counted user p book apart parts.1)
+  where
+    later : (o : Option (List ℕ)) → list_any (bytes_eq user) (cons_option o (filter_map user_of book)) ≡ false → (option_map_or (λ other. bytes_eq other user) o false ≡ false) × (list_any (bytes_eq user) (filter_map user_of book) ≡ false)
+    later None h = (refl, h)
+    later (Some other) h =
+        elim (bytes_eq user other) as (λ b. bytes_eq user other ≡ b → (b || list_any (bytes_eq user) (filter_map user_of book)) ≡ false → (bytes_eq other user ≡ false) × (list_any (bytes_eq user) (filter_map user_of book) ≡ false)) [
+          | true ↦ λ e f. absurd (cc)
+          | false ↦ λ e f. (not_same user other e, f)
+        ] refl h
+
+no_act : (user : List ℕ) (entry : Entry) → is_by user entry ≡ false → is_act_by user entry ≡ false
+no_act user (Act other group client id call) none = none
+no_act user (Look other group order base) none = refl
+no_act user (Retire group) none = refl
+
+no_void : (user : List ℕ) (entry : Entry) → is_by user entry ≡ false → is_void_by user entry ≡ false
+no_void user (Act other group client id call) none = void_by user other group client id call ∙ ap (λ (b : Bool). is_void call && b) none ∙ never (is_void call)
+  where
+    never : (b : Bool) → (b && false) ≡ false
+    never true = refl
+    never false = refl
+no_void user (Look other group order base) none = refl
+no_void user (Retire group) none = refl
+
+no_look : (user : List ℕ) (entry : Entry) → is_by user entry ≡ false → is_look_by user entry ≡ false
+no_look user (Act other group client id call) none = refl
+no_look user (Look other group order base) none = none
+no_look user (Retire group) none = refl
+
+no_tally : (user : List ℕ) (book : Book) → list_any (bytes_eq user) (filter_map user_of book) ≡ false → tally_of user book ≡ no_entries
+no_tally user book none =
+    (λ i. record { acts = none_counted user (is_act_by user) book (no_act user) none i; voids = none_counted user (is_void_by user) book (no_void user) none i; looks = none_counted user (is_look_by user) book (no_look user) none i })
+
+found_text : (text found : List ℕ) (texts : List (List ℕ)) → find_by text_key text texts ≡ Some found → text ≡ found
+found_text text found [] there = absurd (cc)
+found_text text found (other ∷ texts) there =
+    elim (bytes_eq text other) as (λ b. bytes_eq text other ≡ b → cond b (Some other) (find_by text_key text texts) ≡ Some found → text ≡ found) [
+      | true ↦ λ e f. (bytes_eq-Decides text other).0 e ∙ same_Some other found f
+      | false ↦ λ e f. found_text text found texts f
+    ] refl there
+
+-- what is found among the tallies of a book
+pub tally_found : (user : List ℕ) (book : Book) → tally_in user (tallies_of book) ≡ tally_of user book
+tally_found user book =
+    ap (λ (o : Option Tallied). option_map_or (λ tallied. tallied.1) o no_entries) (sym (find-map tallied_key (told (λ u. tally_of u book)) user (users_of book)))
+    ∙ elim (find_by text_key user (users_of book)) as (λ o. find_by text_key user (users_of book) ≡ o → option_map_or (λ tallied. tallied.1) (option_map (told (λ u. tally_of u book)) o) no_entries ≡ tally_of user book) [
+      | None ↦ λ e. sym (no_tally user book (sym (found-sorted text_key user (filter_map user_of book)) ∙ ap is_some e))
+      | Some found ↦ λ e. ap (λ (u : List ℕ). tally_of u book) (sym (found_text user found (users_of book) e))
+    ] refl
+
+-- each number of a tally may rise while the book may grow
+pub tally_rises : (user : List ℕ) (book : Book) → length book < 2 ^ 32 - 1 → MayRise (tally_in user (tallies_of book))
+tally_rises user book short =
+    subst MayRise (sym (tally_found user book))
+    (omega (arith, count_by-le-length (is_act_by user) book), omega (arith, count_by-le-length (is_void_by user) book), omega (arith, count_by-le-length (is_look_by user) book))
+
+-- the tallies after one more entry
+counted_users : (book : Book) (entry : Entry) (o : Option (List ℕ)) (users : List (List ℕ)) → user_of entry ≡ o → users ≡ option_map_or (λ user. put_by text_key user (users_of book)) o (users_of book)
+    → option_map_or (λ user. put_by tallied_key (user, with_one entry (tally_in user (tallies_of book))) (tallies_of book)) o (tallies_of book) ≡ map (told (λ user. tally_of user (book ++ entry ∷ []))) users
+counted_users book entry None users by are =
+    ap (λ (f : List ℕ → Tally). map (told f) (users_of book)) (λ i user. same user i) ∙ ap (map (told (λ user. tally_of user (book ++ entry ∷ [])))) (sym are)
+  where
+    same : (user : List ℕ) → tally_of user book ≡ tally_of user (book ++ entry ∷ [])
+    same user = sym (tally_last user book entry ∙ ap (λ (o : Option (List ℕ)). cond (option_map_or (λ other. bytes_eq other user) o false) (with_one entry (tally_of user book)) (tally_of user book)) by)
+counted_users book entry (Some user) users by are =
+    ap (λ (t : Tally). put_by tallied_key (user, with_one entry t) (tallies_of book)) (tally_found user book)
+    ∙ ap (λ (t : Tally). put_by tallied_key (user, t) (tallies_of book)) (sym own)
+    ∙ sym (told_put user (after user) (λ u. tally_of u book) after other (users_of book) (in_order-sorted text_key (filter_map user_of book)))
+    ∙ sym (map-put tallied_key (told after) user (users_of book))
+    ∙ ap (map (told after)) (sym are)
+  where
+    after : List ℕ → Tally
+    after u = tally_of u (book ++ entry ∷ [])
+
+    own : after user ≡ with_one entry (tally_of user book)
+    own = tally_last user book entry ∙ ap (λ (o : Option (List ℕ)). cond (option_map_or (λ name. bytes_eq name user) o false) (with_one entry (tally_of user book)) (tally_of user book)) by ∙ ap (λ (b : Bool). cond b (with_one entry (tally_of user book)) (tally_of user book)) (equals user)
+
+    other : (u : List ℕ) → bytes_eq user u ≡ false → after u ≡ tally_of u book
+    other u apart = tally_last u book entry ∙ ap (λ (o : Option (List ℕ)). cond (option_map_or (λ name. bytes_eq name u) o false) (with_one entry (tally_of u book)) (tally_of u book)) by ∙ ap (λ (b : Bool). cond b (with_one entry (tally_of u book)) (tally_of u book)) apart
+
+last_taken : (book : Book) (before : ℕ) (entry : Entry) → before < length book → entry ≡ get_or book before entry → take (before + 1) book ≡ take before book ++ entry ∷ []
+last_taken book before entry lt is = take_more book before entry lt ∙ ap (λ (e : Entry). take before book ++ e ∷ []) (sym is)
+
+pub tallies_more : (book : Book) (before : ℕ) (entry : Entry) (tallies next : List Tallied) → Some entry ≡ entry_at (before + 1) book → tallies ≡ tallies_of (take before book) → next ≡ counted entry tallies → next ≡ tallies_of (take (before + 1) book)
+tallies_more book before entry tallies next there so_far counts =
+    let at = entry_next book before entry there in
+    counts
+    ∙ ap (counted entry) so_far
+    ∙ counted_users (take before book) entry (user_of entry) (users_of (take (before + 1) book)) refl (sorted_more text_key user_of book before entry at.0 at.1)
+    ∙ ap (λ (b : Book). map (told (λ user. tally_of user b)) (users_of (take (before + 1) book))) (sym (last_taken book before entry at.0 at.1))
+
+pub groups_more : (book : Book) (before : ℕ) (entry : Entry) (groups next : List (List ℕ)) → Some entry ≡ entry_at (before + 1) book → groups ≡ groups_of (take before book) → next ≡ option_map_or (λ group. put_by (λ text. text) group groups) (named_group entry) groups → next ≡ groups_of (take (before + 1) book)
+groups_more book before entry groups next there so_far adds =
+    let at = entry_next book before entry there in
+    adds
+    ∙ ap (λ (gs : List (List ℕ)). option_map_or (λ group. put_by text_key group gs) (named_group entry) gs) so_far
+    ∙ sym (sorted_more text_key named_group book before entry at.0 at.1)
+
+pub may_rise : (book : Book) (before : ℕ) (tallies : List Tallied) → before < length book → length book < 2 ^ 32 → tallies ≡ tallies_of (take before book) → (user : List ℕ) → MayRise (tally_in user tallies)
+may_rise book before tallies lt short so_far user =
+    subst (λ (ts : List Tallied). MayRise (tally_in user ts)) (sym so_far) (tally_rises user (take before book) (omega (arith, length-take-le before book (omega arith))))

@@ -1,0 +1,113 @@
+// How many of some rows are lists, todos and shares.
+ghost use Rattle.std.specs.Prelude.{◌≡◌, ◌<◌, ◌^◌, IfOk, map, count_by, length};
+ghost use Rattle.rv_report.specs.Counted.{counted_as, counts_list, counts_open, counts_share, counts_todo, counts_of};
+
+use rv_base::Memory;
+use rv_rows::{Row, RowsInOrder};
+use std::alloc::Global;
+
+// What a row counts as.
+#[derive(Clone, Copy, Debug)]
+enum Counted {
+    List,
+    Share,
+    OpenTodo,
+    CompleteTodo,
+}
+
+impl Counted {
+    fn of(row: &Row) -> Counted
+        ensures { result ≡ counted_as row.now }
+    {
+        match row {
+            Row::List(_) => Counted::List,
+            Row::Share(_) => Counted::Share,
+            Row::Todo(todo) => {
+                if todo.complete {
+                    Counted::CompleteTodo
+                } else {
+                    Counted::OpenTodo
+                }
+            }
+        }
+    }
+
+    fn is_list(self) -> bool
+        ensures { result ≡ counts_list self }
+    {
+        match self {
+            Counted::List => true,
+            Counted::Share => false,
+            Counted::OpenTodo => false,
+            Counted::CompleteTodo => false,
+        }
+    }
+
+    fn is_share(self) -> bool
+        ensures { result ≡ counts_share self }
+    {
+        match self {
+            Counted::List => false,
+            Counted::Share => true,
+            Counted::OpenTodo => false,
+            Counted::CompleteTodo => false,
+        }
+    }
+
+    fn is_todo(self) -> bool
+        ensures { result ≡ counts_todo self }
+    {
+        match self {
+            Counted::List => false,
+            Counted::Share => false,
+            Counted::OpenTodo => true,
+            Counted::CompleteTodo => true,
+        }
+    }
+
+    fn is_open(self) -> bool
+        ensures { result ≡ counts_open self }
+    {
+        match self {
+            Counted::List => false,
+            Counted::Share => false,
+            Counted::OpenTodo => true,
+            Counted::CompleteTodo => false,
+        }
+    }
+}
+
+/// How many of some rows are lists, todos, todos that aren't complete, and shares.
+#[derive(Clone, Copy, Debug)]
+pub(crate) struct Counts {
+    pub(crate) lists: u64,
+    pub(crate) todos: u64,
+    pub(crate) incomplete: u64,
+    pub(crate) shares: u64,
+}
+
+// What each of the rows counts as: a byte for each, so that a slice bounds their number.
+fn counted_rows(alloc: Global, rows: RowsInOrder<'_>) -> Result<Vec<Counted>, Memory>
+    ensures { IfOk result (λ counted. counted.items ≡ map (λ s. counted_as s.0) rows.entry) }
+{
+    let mut counted = Vec::new(alloc);
+    for (row, _version) in rows {
+        counted.push(Counted::of(row))?;
+    }
+    Ok(counted)
+}
+
+impl Counts {
+    /// The counts of rows.
+    pub(crate) fn of(alloc: Global, rows: RowsInOrder<'_>) -> Result<Counts, Memory>
+        ensures { IfOk result (λ counts. counts ≡ counts_of rows.entry) }
+    {
+        let counted = counted_rows(alloc, rows)?;
+        Ok(Counts {
+            lists: counted.iter().filter(|row| row.is_list()).count() as u64,
+            todos: counted.iter().filter(|row| row.is_todo()).count() as u64,
+            incomplete: counted.iter().filter(|row| row.is_open()).count() as u64,
+            shares: counted.iter().filter(|row| row.is_share()).count() as u64,
+        })
+    }
+}

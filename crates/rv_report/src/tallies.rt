@@ -1,0 +1,114 @@
+// The users who have an act or a look, and the groups that one names, each once in the order of their bytes.
+ghost use Rattle.std.specs.Prelude.{◌≡◌, ℕ, List, IfOk, OnOk, map, option_map};
+ghost use Rattle.std.specs.Option.{option_map_or};
+ghost use Rattle.rv_base.specs.Sorted.{put_by};
+ghost use Rattle.rv_report.specs.Activity.{groups_of, named_group, user_of};
+ghost use Rattle.rv_report.specs.Tallies.{counted, tallied_key, tallies_of, tally_in, MayRise};
+ghost use Rattle.rv_report.specs.Shown.{shown_groups, shown_users};
+
+use crate::tally::Tally;
+use rv_base::{Id, Memory, User};
+use rv_book::{Book, Entry};
+use std::alloc::Global;
+use std::collections::{BTreeMap, BTreeSet};
+
+/// How much each user did, of those who have an act or a look.
+pub(crate) type Tallies<'b> = BTreeMap<&'b User, Tally>;
+
+/// Groups.
+pub(crate) type Groups<'b> = BTreeSet<&'b Id>;
+
+// Who made an act or a look.
+fn user_of(entry: &Entry) -> Option<&User>
+    ensures { option_map (λ user. user.now) result ≡ user_of entry.now }
+{
+    match entry {
+        Entry::Act { user, .. } => Some(user),
+        Entry::Look { user, .. } => Some(user),
+        Entry::Retire { .. } => None,
+    }
+}
+
+// The group that an act or a look names.
+fn named_group(entry: &Entry) -> Option<&Id>
+    ensures { option_map (λ group. group.now) result ≡ named_group entry.now }
+{
+    match entry {
+        Entry::Act { group, .. } => Some(group),
+        Entry::Look { group, .. } => Some(group),
+        Entry::Retire { .. } => None,
+    }
+}
+
+// The tally of a user so far.
+fn tally<'b>(tallies: &Tallies<'b>, user: &'b User) -> Tally
+    ensures { result ≡ tally_in user.now (shown_users tallies.now.entries) }
+{
+    match tallies.get(&user) {
+        Some(tally) => *tally,
+        None => Tally::new(),
+    }
+}
+
+// Sets the tally of a user.
+fn put<'b>(tallies: &mut Tallies<'b>, user: &'b User, tally: Tally) -> Result<(), Memory>
+    ensures { OnOk result (shown_users tallies.new.entries ≡ put_by tallied_key (user.now, tally) (shown_users tallies.old.entries)) }
+{
+    match tallies.insert(user, tally) {
+        Ok(_) => Ok(()),
+        Err(_) => Err(Memory),
+    }
+}
+
+// Counts one more entry.
+fn count<'b>(tallies: &mut Tallies<'b>, entry: &'b Entry) -> Result<(), Memory>
+    requires { (user : List ℕ) → MayRise (tally_in user (shown_users tallies.old.entries)) }
+    ensures { OnOk result (shown_users tallies.new.entries ≡ counted entry.now (shown_users tallies.old.entries)) }
+{
+    match user_of(entry) {
+        Some(user) => {
+            let tally = tally(tallies, user).with(entry);
+            put(tallies, user, tally)
+        }
+        None => Ok(()),
+    }
+}
+
+/// The users who have an act or a look, each with its tally.
+pub(crate) fn tallies_of(alloc: Global, book: &Book) -> Result<Tallies<'_>, Memory>
+    ensures { IfOk result (λ tallies. shown_users tallies.entries ≡ tallies_of book.now.entries) }
+{
+    let mut tallies = BTreeMap::new(alloc);
+    for before in 0..book.len() {
+        if let Some(entry) = book.entry(before + 1) {
+            count(&mut tallies, entry)?;
+        }
+    }
+    Ok(tallies)
+}
+
+// Adds the group that an act or a look names.
+fn add<'b>(groups: &mut Groups<'b>, entry: &'b Entry) -> Result<(), Memory>
+    ensures { OnOk result (shown_groups groups.new.keys ≡ option_map_or (λ group. put_by (λ text. text) group (shown_groups groups.old.keys)) (named_group entry.now) (shown_groups groups.old.keys)) }
+{
+    match named_group(entry) {
+        Some(group) => match groups.insert(group) {
+            Ok(_) => Ok(()),
+            Err(_) => Err(Memory),
+        },
+        None => Ok(()),
+    }
+}
+
+/// The groups that an act or a look names.
+pub(crate) fn groups_of(alloc: Global, book: &Book) -> Result<Groups<'_>, Memory>
+    ensures { IfOk result (λ groups. shown_groups groups.keys ≡ groups_of book.now.entries) }
+{
+    let mut groups = BTreeSet::new(alloc);
+    for before in 0..book.len() {
+        if let Some(entry) = book.entry(before + 1) {
+            add(&mut groups, entry)?;
+        }
+    }
+    Ok(groups)
+}
