@@ -1,5 +1,6 @@
 -- Counts of what rows count as are counts of the rows.
-use Rattle.std.proofs.Common.{◌≡◌, ℕ, ◌+◌, Bool, true, false, cond, List, [], ◌∷◌, map, refl, count_by, not}
+use Rattle.std.proofs.Common.{◌≡◌, ◌+◌, Bool, true, false, cond, List, [], ◌∷◌, map, refl, sym, ◌∙◌, count_by, not}
+use Rattle.std.proofs.lemmas.List.Sums.{sum_by-cons}
 use Rattle.rv_rows.specs.declared.row.Row.TheVariants as variants
 use Rattle.rv_rows.specs.Held.{Stored}
 use Rattle.rv_report.specs.declared.counts.Counted.{Counted}
@@ -9,7 +10,10 @@ use Rattle.rv_report.specs.Lists.{is_list, is_open, is_share, is_todo}
 
 counted_same : (p : Counted → Bool) (q : Stored → Bool) (rows : List Stored) → ((s : Stored) → p (counted_as s.0) ≡ q s) → count_by p (map (λ s. counted_as s.0) rows) ≡ count_by q rows
 counted_same p q [] same = refl
-counted_same p q (s ∷ rows) same = (λ i. cond (same s i) 1 0 + counted_same p q rows same i)
+counted_same p q (s ∷ rows) same =
+    sum_by-cons (λ (c : Counted). cond (p c) 1 0) (counted_as s.0) (map (λ s. counted_as s.0) rows)
+    ∙ (λ i. cond (same s i) 1 0 + counted_same p q rows same i)
+    ∙ sym (sum_by-cons (λ (s : Stored). cond (q s) 1 0) s rows)
 
 pub lists_counted : (rows : List Stored) → count_by counts_list (map (λ s. counted_as s.0) rows) ≡ count_by is_list rows
 lists_counted rows = counted_same counts_list is_list rows each

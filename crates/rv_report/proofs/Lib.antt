@@ -4,3 +4,4 @@ pub mod CountLaws
 pub mod LineLaws
 pub mod ShownLaws
 pub mod TallyLaws
+pub mod TenLaws

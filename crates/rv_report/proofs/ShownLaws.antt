@@ -1,5 +1,5 @@
 -- What a map or a set whose keys are lent shows after an insertion, and what it finds.
-use Rattle.std.proofs.Common.{◌≡◌, ℕ, Bool, true, false, cond, List, [], ◌∷◌, refl, sym, ap, ◌∙◌, Option, Some, Bor}
+use Rattle.std.proofs.Common.{◌≡◌, ℕ, Bool, true, false, cond, List, [], ◌∷◌, refl, sym, ap, ◌∙◌, Option, Some, None, Bor}
 use Rattle.std.specs.declared.cmp.Ordering.{Ordering}
 use Rattle.std.specs.declared.cmp.Ordering.TheVariants.{Less, Equal, Greater}
 use Rattle.std.specs.Ordering.{nat_cmp, match_ordering}
@@ -7,13 +7,13 @@ use Rattle.std.specs.Cmp.Lexicographic.{slice_cmp}
 use Rattle.std.specs.BTreeMap.{insert_entry, is_at}
 use Rattle.std.specs.BTreeSet.{insert_key}
 use Rattle.std.specs.Map.{lookup}
-use Rattle.std.specs.Option.{option_map}
+use Rattle.std.specs.Option.{option_map, option_map_or, unwrap_or}
 use Rattle.std.specs.Str.{bytes_eq}
 use Rattle.std.proofs.lemmas.Map.Text.{is_eq-slice_cmp}
 use Rattle.rv_base.specs.Sorted.{find_by, put_by}
 use Rattle.rv_base.specs.Places.{same_from}
 use Rattle.rv_report.specs.declared.tally.Tally.{Tally}
-use Rattle.rv_report.specs.Tallies.{Tallied, tallied_key}
+use Rattle.rv_report.specs.Tallies.{Tallied, tallied_key, no_entries, tally_in}
 use Rattle.rv_report.specs.Shown.{shown_groups, shown_users}
 
 abbrev lent_cmp : Bor (List ℕ) → Bor (List ℕ) → Ordering
@@ -45,3 +45,11 @@ users-found user (e ∷ es) =
       | true ↦ refl
       | false ↦ users-found user es
     ]
+
+-- the tally that is found, or that of no entries
+pub tally_read : (user : List ℕ) (entries : List (Bor (List ℕ) × Tally)) → unwrap_or (lookup (is_at (λ (k : Bor (List ℕ)). slice_cmp nat_cmp user k.now)) entries) no_entries ≡ tally_in user (shown_users entries)
+tally_read user entries = ap (λ (o : Option Tally). unwrap_or o no_entries) (users-found user entries) ∙ mapped (find_by tallied_key user (shown_users entries))
+  where
+    mapped : (o : Option Tallied) → unwrap_or (option_map (λ tallied. tallied.1) o) no_entries ≡ option_map_or (λ tallied. tallied.1) o no_entries
+    mapped None = refl
+    mapped (Some tallied) = refl

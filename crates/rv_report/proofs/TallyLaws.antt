@@ -1,17 +1,18 @@
 -- The tallies of a book, and its groups, entry by entry.
-use Rattle.std.proofs.Common.{◌≡◌, ℕ, suc, ◌+◌, ◌-◌, ◌<◌, ◌≤◌, ◌^◌, ◌&&◌, ◌||◌, Bool, true, false, cond, List, [], ◌∷◌, ◌++◌, length, take, get_or, map, Option, Some, None, refl, sym, ap, ◌∙◌, subst, arith, count_by, add-zero}
+use Rattle.std.proofs.Common.{◌≡◌, ℕ, ◌+◌, ◌-◌, ◌<◌, ◌^◌, ◌&&◌, ◌||◌, Bool, true, false, cond, List, [], ◌∷◌, ◌++◌, length, take, get_or, map, Option, Some, None, refl, sym, ap, ◌∙◌, subst, arith, count_by, add-zero, zero-add}
 use Rattle.std.specs.declared.cmp.Ordering.TheVariants.{Less, Equal, Greater}
 use Rattle.std.specs.Ordering.{nat_cmp, match_ordering}
 use Rattle.std.specs.Cmp.Lexicographic.{slice_cmp}
-use Rattle.std.specs.List.{filter_map, list_any, cons_option, sum_by}
+use Rattle.std.specs.List.{filter_map, list_any, cons_option}
 use Rattle.std.specs.Option.{option_map, option_map_or, is_some}
+use Rattle.std.specs.Prelude.{slice_get}
 use Rattle.std.specs.Str.{bytes_eq}
 use Rattle.std.proofs.lemmas.List.{take_more, length-take-le}
-use Rattle.std.proofs.lemmas.List.Sums.{sum_by-append, count_by-le-length}
-use Rattle.std.proofs.lemmas.Option.{same_Some, slice_get_within, get_or_from_slice_get}
+use Rattle.std.proofs.lemmas.List.Sums.{sum_by-append, sum_by-cons, count_by-le-length}
+use Rattle.std.proofs.lemmas.Option.{none-some, same_Some, slice_get-get_or, slice_get_within, get_or_from_slice_get}
 use Rattle.std.proofs.lemmas.Slice.Eq.{bytes_eq-Decides}
 use Rattle.rv_base.specs.Sorted.{find_by, put_by, InOrder}
-use Rattle.rv_base.specs.Places.{Above, Below, equals, below_is, same_from, differs, differs_back, above_chain, not_same, sorted_more, in_order-sorted, map-put, found-sorted}
+use Rattle.rv_base.specs.Places.{Above, equals, below_is, same_from, differs, differs_back, above_chain, not_same, sorted_more, in_order-sorted, map-put, found-sorted}
 use Rattle.rv_base.specs.Arranged.{find-map}
 use Rattle.rv_rows.specs.declared.call.Call.{Call}
 use Rattle.rv_rows.specs.declared.call.Call.TheVariants.{CreateList, DeleteList, CreateShare, DeleteShare, CreateTodo, UpdateTodo, DeleteTodo, Void}
@@ -28,6 +29,14 @@ pub entry_next : (book : Book) (before : ℕ) (entry : Entry) → Some entry ≡
 entry_next book before entry there =
     let at = sym (entry_at-next before book) ∙ sym there in
     (slice_get_within book before entry at, sym (get_or_from_slice_get book before entry entry at))
+
+-- there is one while so many are fewer than all
+pub none_next : (book : Book) (before : ℕ) → None ≡ entry_at (before + 1) book → before < length book → ⊥
+none_next book before there lt =
+    elim book as (λ b. None ≡ slice_get b before → before < length b → ⊥) [
+      | [] ↦ λ e f. omega (arith, f)
+      | first ∷ others ↦ λ e f. none-some _ (e ∙ slice_get-get_or (first ∷ others) before first f)
+    ] (there ∙ entry_at-next before book) lt
 
 -- a user with the tally, of which the numbers are told
 abbrev told : (List ℕ → Tally) → List ℕ → Tallied
@@ -65,30 +74,36 @@ void_by user other group client id (UpdateTodo todo text complete sort) = refl
 void_by user other group client id (DeleteTodo todo) = refl
 void_by user other group client id (Void reason) = refl
 
-one_act : (by void : Bool) (acts voids looks : ℕ) → record { acts = acts + cond by 1 0; voids = voids + cond (void && by) 1 0; looks = looks + 0 } ≡ cond by (record { acts = acts + 1; voids = cond void (voids + 1) voids; looks = looks }) (record { acts = acts; voids = voids; looks = looks })
-one_act true true acts voids looks = ap (λ (n : ℕ). let t : Tally = record { acts = acts + 1; voids = voids + 1; looks = n } in t) (add-zero looks)
-one_act true false acts voids looks = (λ i. record { acts = acts + 1; voids = add-zero voids i; looks = add-zero looks i })
-one_act false true acts voids looks = (λ i. record { acts = add-zero acts i; voids = add-zero voids i; looks = add-zero looks i })
-one_act false false acts voids looks = (λ i. record { acts = add-zero acts i; voids = add-zero voids i; looks = add-zero looks i })
+abbrev numbers : ℕ → ℕ → ℕ → Tally
+numbers acts voids looks = record { acts = acts; voids = voids; looks = looks }
 
-one_look : (by : Bool) (acts voids looks : ℕ) → record { acts = acts + 0; voids = voids + 0; looks = looks + cond by 1 0 } ≡ cond by (record { acts = acts; voids = voids; looks = looks + 1 }) (record { acts = acts; voids = voids; looks = looks })
-one_look true acts voids looks = (λ i. record { acts = add-zero acts i; voids = add-zero voids i; looks = looks + 1 })
-one_look false acts voids looks = (λ i. record { acts = add-zero acts i; voids = add-zero voids i; looks = add-zero looks i })
+one_act : (by void : Bool) (acts voids looks : ℕ) → numbers (acts + cond by 1 0) (voids + cond (void && by) 1 0) (looks + 0) ≡ cond by (numbers (acts + 1) (cond void (voids + 1) voids) looks) (numbers acts voids looks)
+one_act true true acts voids looks = (λ i. numbers (acts + 1) (voids + 1) (add-zero looks i))
+one_act true false acts voids looks = (λ i. numbers (acts + 1) (add-zero voids i) (add-zero looks i))
+one_act false true acts voids looks = (λ i. numbers (add-zero acts i) (add-zero voids i) (add-zero looks i))
+one_act false false acts voids looks = (λ i. numbers (add-zero acts i) (add-zero voids i) (add-zero looks i))
+
+one_look : (by : Bool) (acts voids looks : ℕ) → numbers (acts + 0) (voids + 0) (looks + cond by 1 0) ≡ cond by (numbers acts voids (looks + 1)) (numbers acts voids looks)
+one_look true acts voids looks = (λ i. numbers (add-zero acts i) (add-zero voids i) (looks + 1))
+one_look false acts voids looks = (λ i. numbers (add-zero acts i) (add-zero voids i) (add-zero looks i))
 
 count_last : (p : Entry → Bool) (book : Book) (entry : Entry) → count_by p (book ++ entry ∷ []) ≡ count_by p book + cond (p entry) 1 0
-count_last p book entry = sum_by-append (λ e. cond (p e) 1 0) book (entry ∷ []) ∙ ap (λ (n : ℕ). count_by p book + n) (add-zero (cond (p entry) 1 0))
+count_last p book entry = sum_by-append (λ e. cond (p e) 1 0) book (entry ∷ []) ∙ ap (λ (n : ℕ). count_by p book + n) (zero-add (cond (p entry) 1 0))
+
+each_last : (user : List ℕ) (book : Book) (entry : Entry) → tally_of user (book ++ entry ∷ []) ≡ numbers (count_by (is_act_by user) book + cond (is_act_by user entry) 1 0) (count_by (is_void_by user) book + cond (is_void_by user entry) 1 0) (count_by (is_look_by user) book + cond (is_look_by user entry) 1 0)
+each_last user book entry = (λ i. numbers (count_last (is_act_by user) book entry i) (count_last (is_void_by user) book entry i) (count_last (is_look_by user) book entry i))
 
 -- a user's tally after one more entry
 tally_last : (user : List ℕ) (book : Book) (entry : Entry) → tally_of user (book ++ entry ∷ []) ≡ cond (is_by user entry) (with_one entry (tally_of user book)) (tally_of user book)
 tally_last user book (Act other group client id call) =
-    (λ i. record { acts = count_last (is_act_by user) book (Act other group client id call) i; voids = count_last (is_void_by user) book (Act other group client id call) i; looks = count_last (is_look_by user) book (Act other group client id call) i })
-    ∙ (λ i. record { acts = count_by (is_act_by user) book + cond (bytes_eq other user) 1 0; voids = count_by (is_void_by user) book + cond (void_by user other group client id call i) 1 0; looks = count_by (is_look_by user) book + 0 })
+    each_last user book (Act other group client id call)
+    ∙ (λ i. numbers (count_by (is_act_by user) book + cond (bytes_eq other user) 1 0) (count_by (is_void_by user) book + cond (void_by user other group client id call i) 1 0) (count_by (is_look_by user) book + 0))
     ∙ one_act (bytes_eq other user) (is_void call) (count_by (is_act_by user) book) (count_by (is_void_by user) book) (count_by (is_look_by user) book)
 tally_last user book (Look other group order base) =
-    (λ i. record { acts = count_last (is_act_by user) book (Look other group order base) i; voids = count_last (is_void_by user) book (Look other group order base) i; looks = count_last (is_look_by user) book (Look other group order base) i })
+    each_last user book (Look other group order base)
     ∙ one_look (bytes_eq other user) (count_by (is_act_by user) book) (count_by (is_void_by user) book) (count_by (is_look_by user) book)
 tally_last user book (Retire group) =
-    (λ i. record { acts = count_last (is_act_by user) book (Retire group) i; voids = count_last (is_void_by user) book (Retire group) i; looks = count_last (is_look_by user) book (Retire group) i })
+    each_last user book (Retire group)
     ∙ one_look false (count_by (is_act_by user) book) (count_by (is_void_by user) book) (count_by (is_look_by user) book)
 
 -- a user of no entry has no entries
@@ -97,7 +112,7 @@ none_counted user p [] apart none = refl
 none_counted user p (entry ∷ book) apart none =
     let parts = later (user_of entry) none in
     let here : p entry ≡ false = apart entry parts.0 in
-    ap (λ (b : Bool). cond b 1 0 + count_by p book) here ∙ ap (λ (n : ℕ). 0 + n) (none_counted user p book apart parts.1)
+    sum_by-cons (λ (e : Entry). cond (p e) 1 0) entry book ∙ (λ i. cond (here i) 1 0 + none_counted user p book apart parts.1 i)
   where
     later : (o : Option (List ℕ)) → list_any (bytes_eq user) (cons_option o (filter_map user_of book)) ≡ false → (option_map_or (λ other. bytes_eq other user) o false ≡ false) × (list_any (bytes_eq user) (filter_map user_of book) ≡ false)
     later None h = (refl, h)
@@ -128,7 +143,7 @@ no_look user (Retire group) none = refl
 
 no_tally : (user : List ℕ) (book : Book) → list_any (bytes_eq user) (filter_map user_of book) ≡ false → tally_of user book ≡ no_entries
 no_tally user book none =
-    (λ i. record { acts = none_counted user (is_act_by user) book (no_act user) none i; voids = none_counted user (is_void_by user) book (no_void user) none i; looks = none_counted user (is_look_by user) book (no_look user) none i })
+    (λ i. numbers (none_counted user (is_act_by user) book (no_act user) none i) (none_counted user (is_void_by user) book (no_void user) none i) (none_counted user (is_look_by user) book (no_look user) none i))
 
 found_text : (text found : List ℕ) (texts : List (List ℕ)) → find_by text_key text texts ≡ Some found → text ≡ found
 found_text text found [] there = absurd (cc)

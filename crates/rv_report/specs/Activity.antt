@@ -1,5 +1,5 @@
 -- The report of who did how much: a line for each user who has an act or a look, in the order of their bytes, and a line on groups.
-use Rattle.std.specs.Prelude.{ℕ, List, [], ◌++◌, Bool, false, Option, Some, None, codes, decimal, count_by, length}
+use Rattle.std.specs.Prelude.{ℕ, List, ◌++◌, Bool, false, Option, Some, None, codes, decimal, count_by, length}
 use Rattle.std.specs.List.{filter_map, flat_map}
 use Rattle.std.specs.Str.{bytes_eq}
 use Rattle.rv_base.specs.Sorted.{sorted_by}

@@ -1,5 +1,5 @@
 -- What a check of a store answers.
-use Rattle.std.specs.Prelude.{◌≡◌, ◌^◌, ◌-◌, ℕ, List, None}
+use Rattle.std.specs.Prelude.{◌≡◌, ◌^◌, ◌-◌, ℕ}
 use Rattle.rv_base.specs.Causes.{Rose}
 use Rattle.rv_keeper.specs.declared.loaded.Loaded.{Loaded}
 use Rattle.rv_book.specs.Book.{Book, size}

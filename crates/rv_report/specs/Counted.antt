@@ -1,5 +1,5 @@
 -- What rows count as, and how many of each there are.
-use Rattle.std.specs.Prelude.{ℕ, List, Bool, true, false, if◌then◌else◌, count_by}
+use Rattle.std.specs.Prelude.{List, Bool, true, false, if◌then◌else◌, count_by}
 use Rattle.rv_rows.specs.declared.row.Row.{Row}
 use Rattle.rv_rows.specs.declared.row.Row.TheVariants as variants
 use Rattle.rv_rows.specs.Held.{Stored}

@@ -1,5 +1,5 @@
 -- The activity report as it is counted: a tally for each user, entry by entry, and the groups.
-use Rattle.std.specs.Prelude.{ℕ, ◌+◌, ◌-◌, ◌<◌, ◌^◌, List, ◌++◌, Bool, true, false, if◌then◌else◌, codes, count_by, decimal, length, map}
+use Rattle.std.specs.Prelude.{ℕ, ◌+◌, ◌-◌, ◌<◌, ◌^◌, List, ◌++◌, Bool, true, false, if◌then◌else◌, codes, count_by, decimal, map}
 use Rattle.std.specs.Option.{option_map_or}
 use Rattle.rv_base.specs.Sorted.{find_by, put_by}
 use Rattle.rv_rows.specs.declared.call.Call.{Call}

@@ -97,6 +97,34 @@ fn counted_rows(alloc: Global, rows: RowsInOrder<'_>) -> Result<Vec<Counted>, Me
     Ok(counted)
 }
 
+// How many are lists.
+fn lists(counted: &[Counted]) -> u64
+    ensures { result ≡ count_by counts_list counted.now }
+{
+    counted.iter().filter(|row| row.is_list()).count() as u64
+}
+
+// How many are todos.
+fn todos(counted: &[Counted]) -> u64
+    ensures { result ≡ count_by counts_todo counted.now }
+{
+    counted.iter().filter(|row| row.is_todo()).count() as u64
+}
+
+// How many are todos that aren't complete.
+fn incomplete(counted: &[Counted]) -> u64
+    ensures { result ≡ count_by counts_open counted.now }
+{
+    counted.iter().filter(|row| row.is_open()).count() as u64
+}
+
+// How many are shares.
+fn shares(counted: &[Counted]) -> u64
+    ensures { result ≡ count_by counts_share counted.now }
+{
+    counted.iter().filter(|row| row.is_share()).count() as u64
+}
+
 impl Counts {
     /// The counts of rows.
     pub(crate) fn of(alloc: Global, rows: RowsInOrder<'_>) -> Result<Counts, Memory>
@@ -104,10 +132,10 @@ impl Counts {
     {
         let counted = counted_rows(alloc, rows)?;
         Ok(Counts {
-            lists: counted.iter().filter(|row| row.is_list()).count() as u64,
-            todos: counted.iter().filter(|row| row.is_todo()).count() as u64,
-            incomplete: counted.iter().filter(|row| row.is_open()).count() as u64,
-            shares: counted.iter().filter(|row| row.is_share()).count() as u64,
+            lists: lists(&counted),
+            todos: todos(&counted),
+            incomplete: incomplete(&counted),
+            shares: shares(&counted),
         })
     }
 }

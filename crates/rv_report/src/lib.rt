@@ -4,8 +4,8 @@
 #![tactic(auto)]
 
 mod activity;
-mod checking;
 mod check_answer;
+mod checking;
 mod counts;
 mod lists;
 mod tallies;
@@ -13,6 +13,6 @@ mod tally;
 mod texts;
 
 pub use activity::activity_text;
-pub use checking::check;
 pub use check_answer::CheckAnswer;
+pub use checking::check;
 pub use lists::lists_text;

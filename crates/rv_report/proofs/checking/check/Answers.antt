@@ -1,6 +1,3 @@
-use Rattle.std.proofs.Common.{sym, subst}
-use Rattle.rv_report.specs.declared.check_answer.CheckAnswer.{CheckAnswer}
-use Rattle.rv_report.specs.Checks.{Answers}
 use Rattle.rv_report.proofs.CheckLaws.{refused_answers}
 use Rattle.rv_report.proofs.checking.check.Goals as goal
 

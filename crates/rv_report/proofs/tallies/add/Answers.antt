@@ -1,4 +1,4 @@
-use Rattle.std.proofs.Common.{◌≡◌, ℕ, List, Option, ◌∙◌, ap}
+use Rattle.std.proofs.Common.{ℕ, List, Option, ◌∙◌, ap}
 use Rattle.std.specs.Option.{option_map_or}
 use Rattle.rv_base.specs.Sorted.{put_by}
 use Rattle.rv_report.specs.Shown.{shown_groups}
