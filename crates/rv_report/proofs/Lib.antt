@@ -1,5 +1,4 @@
 pub mod ActivityLaws
-pub mod CheckLaws
 pub mod CountLaws
 pub mod LineLaws
 pub mod ShownLaws

@@ -6,4 +6,3 @@ pub mod Counted
 pub mod ListLines
 pub mod Tallies
 pub mod Shown
-pub mod Answered

@@ -28,10 +28,9 @@ pub fn activity_text(alloc: Global, book: &Book) -> Result<Bytes, Memory>
 }
 
 // The buffer with the line of a user.
-fn with_line(out: Vec<u8>, user: &User, tally: Tally) -> Result<Vec<u8>, Memory>
+fn with_line(mut out: Vec<u8>, user: &User, tally: Tally) -> Result<Vec<u8>, Memory>
     ensures { IfOk result (λ added. added.items ≡ out.items ++ tally_line (user.now, tally)) }
 {
-    let mut out = out;
     add_in_ten(&mut out, tally.acts)?;
     add_in_ten(&mut out, tally.voids)?;
     add_in_ten(&mut out, tally.looks)?;

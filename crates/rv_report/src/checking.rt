@@ -1,22 +1,9 @@
-ghost use Rattle.std.specs.Prelude.{◌≡◌};
-ghost use Rattle.rv_report.specs.Answered.{answer_of};
 ghost use Rattle.rv_report.specs.Checks.{Checks};
 
 use crate::check_answer::CheckAnswer;
 use rv_desk::{Desk, OpenFault};
 use rv_keeper::Keeper;
 use std::alloc::Global;
-
-// What a refused opening found.
-fn refused(fault: OpenFault) -> CheckAnswer
-    ensures { result ≡ answer_of fault }
-{
-    match fault {
-        OpenFault::Keeper => CheckAnswer::Keeper,
-        OpenFault::Damaged(shelf, key) => CheckAnswer::Damaged(shelf, key),
-        OpenFault::Memory => CheckAnswer::Memory,
-    }
-}
 
 /// Whether the keeper holds just the cells of a lawful book of at most 4,294,967,295 entries, as a server that opens it would find.
 /// Nothing is changed, and the keeper is given back.
@@ -28,6 +15,10 @@ pub fn check<K: Keeper>(alloc: Global, keeper: K) -> (CheckAnswer, K)
             let entries = desk.book().len();
             (CheckAnswer::Sound(entries), desk.close())
         }
-        Err((fault, keeper)) => (refused(fault), keeper),
+        Err((fault, keeper)) => match fault {
+            OpenFault::Keeper => (CheckAnswer::Keeper, keeper),
+            OpenFault::Damaged(shelf, key) => (CheckAnswer::Damaged(shelf, key), keeper),
+            OpenFault::Memory => (CheckAnswer::Memory, keeper),
+        },
     }
 }
