@@ -7,3 +7,4 @@ pub mod Storing
 pub mod Troubled
 pub mod Fed
 pub mod Sound
+mod Reporting

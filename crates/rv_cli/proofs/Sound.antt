@@ -16,7 +16,8 @@ use Rattle.rv_answering.specs.Requests.{Asked}
 use Rattle.rv_cli.specs.declared.ending.Ending.{Ending}
 use Rattle.rv_cli.specs.declared.ending.Ending.TheVariants.{Done, Keeper, Damaged, Read, Write, Memory, Malformed}
 use Rattle.rv_cli.specs.Texts.{status_of}
-use Rattle.rv_cli.specs.Headline.{IsNotOpened, NotFed, HasFed, RunsFeed, NotRetired, Replied, RunsOne, EndsOne, KeepsSo, KeptSound}
+use Rattle.rv_cli.specs.Commands.{IsReportOf}
+use Rattle.rv_cli.specs.Headline.{IsNotOpened, NotFed, HasFed, RunsFeed, NotOpened, Replied, RunsOne, EndsOne, KeepsSo, KeptSound}
 
 -- an ending whose status is that of damage is damage
 no_damage : (ending : Ending) → ((shelf : ℕ) (key : List ℕ) → ending ≢ Damaged shelf key) → status_of ending ≢ 5
@@ -55,7 +56,7 @@ module _ (Told : Type 0) (Stored Holds : Loaded → Type 0) (before after : ℕ)
   pub feed_sound : (input input' : InputState) (output output' : OutputState) (status : ℕ) → RunsFeed Told Stored Holds before after input input' output output' status → status ≢ 5
   feed_sound input input' output output' status (ending, is, runs) five = no_damage ending (fed_sound input input' output output' ending runs) (sym is ∙ five)
 
-  replied_sound : (asked : Asked) (output output' : OutputState) (ending : Ending) → NotRetired Told Stored Holds before after output output' ending ⊎ Replied Told Stored Holds before after asked output output' ending
+  replied_sound : (asked : Asked) (output output' : OutputState) (ending : Ending) → NotOpened Told Stored Holds before after output output' ending ⊎ Replied Told Stored Holds before after asked output output' ending
       → (shelf : ℕ) (key : List ℕ) → ending ≢ Damaged shelf key
   replied_sound asked output output' ending (inl none) shelf key is = opens_sound shelf key ending is none.why
   replied_sound asked output output' ending (inr replied) shelf key is = subst (λ (e : Ending). EndsOne replied.first asked replied.text replied.now e) is replied.ends
@@ -90,3 +91,13 @@ pub retires_in_memory : (asked : Option Command) (named store retired group : Li
     → store ≡ codes "memory"
 retires_in_memory asked named store retired group is same (inl asks) = absurd (cc)
 retires_in_memory asked named store retired group is same (inr asks) = cc
+
+-- and so with words that ask for a report of it
+pub lists_memory : (asked : Option Command) (named store : List ℕ) → Some (commands.Lists named) ≡ asked → store ≡ named → IsReportOf (codes "memory") asked → store ≡ codes "memory"
+lists_memory asked named store is same asks = same ∙ subst (λ (a : Option Command). IsReportOf (codes "memory") a) (sym is) asks
+
+pub activity_memory : (asked : Option Command) (named store : List ℕ) → Some (commands.Activity named) ≡ asked → store ≡ named → IsReportOf (codes "memory") asked → store ≡ codes "memory"
+activity_memory asked named store is same asks = same ∙ subst (λ (a : Option Command). IsReportOf (codes "memory") a) (sym is) asks
+
+pub check_memory : (asked : Option Command) (named store : List ℕ) → Some (commands.Check named) ≡ asked → store ≡ named → IsReportOf (codes "memory") asked → store ≡ codes "memory"
+check_memory asked named store is same asks = same ∙ subst (λ (a : Option Command). IsReportOf (codes "memory") a) (sym is) asks

@@ -68,7 +68,7 @@ rises : (n before after : ℕ) → 0 < n → TakesUp n before after → Rose bef
 rises zero before after more taken = absurd (omega (arith, more))
 rises (suc n) before after more taken = taken
 
-none_taken : (n before after : ℕ) → n ≡ 0 → TakesUp n before after → after ≡ before
+pub none_taken : (n before after : ℕ) → n ≡ 0 → TakesUp n before after → after ≡ before
 none_taken zero before after none taken = taken
 none_taken (suc n) before after none taken = absurd (omega (arith, none))
 
@@ -129,7 +129,7 @@ module _ {P K : Type 0} (tells : P → Type 0) (holds : P → List ℕ → Loade
   keeps_so old mid new desk keeper Memory none same taken rose = tt
   keeps_so old mid new desk keeper (Malformed number) none same taken rose = tt
 
-  begins : (old mid new : P) (desk : Seated K) (keeper : K) → HasOpened tells holds is_out faults kept_tells kept_faults store old desk mid → (kept_tells keeper → kept_tells desk.keeper) → WentBack mid new keeper
+  pub begins : (old mid new : P) (desk : Seated K) (keeper : K) → HasOpened tells holds is_out faults kept_tells kept_faults store old desk mid → (kept_tells keeper → kept_tells desk.keeper) → WentBack mid new keeper
       → Begins (tells new) (OpensAs store (holds old store)) (served kept_faults desk)
   begins old mid new desk keeper opened before back = record {
     loaded = opened.loaded;
@@ -140,7 +140,7 @@ module _ {P K : Type 0} (tells : P → Type 0) (holds : P → List ℕ → Loade
     faults = opened.none;
   }
 
-  leaves : (old mid new : P) (now : Served) (keeper : K) → faults mid ≡ faults old → IsLeftWith kept_tells kept_holds kept_faults now keeper → WentBack mid new keeper → Leaves (tells new) (holds new store) (faults old) (faults new) now
+  pub leaves : (old mid new : P) (now : Served) (keeper : K) → faults mid ≡ faults old → IsLeftWith kept_tells kept_holds kept_faults now keeper → WentBack mid new keeper → Leaves (tells new) (holds new store) (faults old) (faults new) now
   leaves old mid new now keeper same left back = record {
     held = λ t. let (h, was, with) = left.held (back.told t).1 in (h, back.held t h was, with);
     kept = kept_faults keeper;

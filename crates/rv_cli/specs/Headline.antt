@@ -1,26 +1,30 @@
 -- The headline: what a run of the program reads, writes and answers, and what is kept. It is read from the top down: a line and
 -- what it asks, what is answered, how a run over lines ends, how it begins and what it leaves, what `run` promises of each
 -- command, and what follows.
-use Rattle.std.specs.Prelude.{ℕ, ◌≡◌, ◌≤◌, ◌+◌, ◌-◌, ◌^◌, ◌⊎◌, ◌&&◌, List, [], ◌∷◌, ◌++◌, length, nat_le, nat_lt, Bool, true, Option, Some, None, IfSome, Ok, if◌then◌else◌}
+use Rattle.std.specs.Prelude.{codes, decimal, ℕ, ◌≡◌, ◌≤◌, ◌+◌, ◌-◌, ◌^◌, ◌⊎◌, ◌&&◌, List, [], ◌∷◌, ◌++◌, length, nat_le, nat_lt, Bool, true, Option, Some, None, IfSome, Ok, if◌then◌else◌}
 use Rattle.std.specs.List.{flat_map, range_with_len, AllByRecursion}
 use Rattle.std.specs.List.Sorted.{IsStrictlyIncreasing}
 use Rattle.std.specs.Option.{option_map_or}
 use Rattle.std.specs.Io.KnownBytes.{Consumes, Appends}
 use Rattle.rv_base.specs.Causes.{Rose}
 use Rattle.rv_base.specs.Outside.{InputState, OutputState, counted}
-use Rattle.rv_base.specs.Writes.{IsFront}
+use Rattle.rv_base.specs.Writes.{AppendsFront, IsFront}
 use Rattle.rv_lines.specs.Lines.{lines_of, ended_lines_of, longest_line}
 use Rattle.rv_lines.specs.Taken.{IsNeeded}
 use Rattle.rv_wire.specs.declared.error_body.ErrorBody.TheVariants as errors
 use Rattle.rv_wire.specs.declared.pull.PullRequest.{PullRequest}
-use Rattle.rv_book.specs.Book.{Book, last}
+use Rattle.rv_rows.specs.Held.{Stored as StoredRow}
+use Rattle.rv_book.specs.Book.{Book, last, size}
 use Rattle.rv_history.specs.Served.{Served, ServedMutates, ServedPulls, ServedRetires, Settles, IsSound}
+use Rattle.rv_history.specs.Replay.{IsReplay}
 use Rattle.rv_history.specs.Laws.{act_ids, look_orders, Tells}
 use Rattle.rv_history.specs.declared.pull_reply.PullReply.{PullReply}
 use Rattle.rv_keeper.specs.declared.loaded.Loaded.{Loaded}
 use Rattle.rv_keeper.specs.Stores.{TakesUp}
 use Rattle.rv_store.specs.Opening.{MayOpen, IsDamaged}
 use Rattle.rv_desk.specs.Seated.{IsKeptWith}
+use Rattle.rv_report.specs.Lists.{lists_text}
+use Rattle.rv_report.specs.Activity.{activity_text}
 use Rattle.rv_answering.specs.declared.request.Request.TheVariants.{Pull}
 use Rattle.rv_answering.specs.declared.answer.Answer.{Answer}
 use Rattle.rv_answering.specs.declared.answer.Answer.TheVariants.{Pulled, Refused}
@@ -282,7 +286,7 @@ EndsOne first asked text now Write = (answer : Answer) × Step first asked answe
 EndsOne first asked text now ending = ⊥
 
 module _ (Told : Type 0) (Stored Holds : Loaded → Type 0) (before after : ℕ) where
-  pub record NotRetired (output output' : OutputState) (ending : Ending) : Type 0 where
+  pub record NotOpened (output output' : OutputState) (ending : Ending) : Type 0 where
     pub why : IsNotOpened Told Stored Holds before after ending
     pub text : WritesOnly output output' (status_text ending)
 
@@ -299,7 +303,40 @@ module _ (Told : Type 0) (Stored Holds : Loaded → Type 0) (before after : ℕ)
 
   -- the status is that of an ending, and the run of this one request ended so
   abbrev pub RunsOne : Asked → OutputState → OutputState → ℕ → Type 0
-  RunsOne asked output output' status = (ending : Ending) × (status ≡ status_of ending) × (NotRetired output output' ending ⊎ Replied asked output output' ending)
+  RunsOne asked output output' status = (ending : Ending) × (status ≡ status_of ending) × (NotOpened output output' ending ⊎ Replied asked output output' ending)
+
+-- ---- And of a report: it is a text of the book that the store was kept as, which stays kept.
+
+-- the text of the rows that the book leaves
+abbrev pub TellsLists : Book → List ℕ → Type 0
+TellsLists book text = (rows : List StoredRow) × IsReplay book rows × (text ≡ lists_text rows)
+
+-- the text of who did how much in the book
+abbrev pub TellsActivity : Book → List ℕ → Type 0
+TellsActivity book text = text ≡ activity_text book
+
+-- that the store is sound, and how many entries the book has
+abbrev pub TellsSound : Book → List ℕ → Type 0
+TellsSound book text = text ≡ codes "ok " ++ (decimal (size book) ++ codes "\n")
+
+-- what was written of a report: all of it; or a front of it, and a write failed; or none, and memory was refused for it
+abbrev pub WritesReport : (List ℕ → Type 0) → OutputState → OutputState → Ending → Type 0
+WritesReport Tells old new Done = (text : List ℕ) × Tells text × Appends old.written new.written text × (new.faults ≡ old.faults)
+WritesReport Tells old new Write = (text : List ℕ) × Tells text × AppendsFront old.written new.written text × Rose old.faults new.faults
+WritesReport Tells old new Memory = WritesOnly old new (status_text Memory)
+WritesReport Tells old new ending = ⊥
+
+module _ (Told : Type 0) (Stored Holds : Loaded → Type 0) (before after : ℕ) where
+  pub record Reported (Tells : Book → List ℕ → Type 0) (output output' : OutputState) (ending : Ending) : Type 0 where
+    pub first : Served
+    pub begins : Begins Told Stored first
+    pub writes : WritesReport (Tells first.book) output output' ending
+    pub leaves : Leaves Told Holds before after first
+
+  -- the status is that of an ending, and the store did not open, or was reported so
+  abbrev pub RunsReport : (Book → List ℕ → Type 0) → OutputState → OutputState → ℕ → Type 0
+  RunsReport Tells output output' status =
+      (ending : Ending) × (status ≡ status_of ending) × (NotOpened Told Stored Holds before after output output' ending ⊎ Reported Tells output output' ending)
 
 -- ---- What follows.
 

@@ -4,3 +4,5 @@ pub mod Storing
 pub mod Feeding
 pub mod Steadiness
 pub mod Replying
+pub mod Reporting
+pub mod Commands

@@ -2,7 +2,7 @@
 //!
 //! `feed STORE` reads request lines and writes answer lines. Its theorem is the clause of [`run`]: what is written are the answers of
 //! a run over the lines that were read, from the book that the store kept, and the store keeps the book that the run leaves
-//! (`specs/Headline.antt`).
+//! (`specs/Headline.antt`). `retire STORE GROUP` is one answer so, and `lists`, `activity` and `check` are reports of that book.
 #![tactic(auto)]
 
 mod ending;
@@ -10,8 +10,10 @@ mod feed;
 pub mod laws;
 mod line;
 mod program;
+mod reports;
 mod store;
 mod texts;
 
 pub use ending::Ending;
 pub use program::{run, run_feed, run_retire};
+pub use reports::{run_activity, run_check, run_lists};

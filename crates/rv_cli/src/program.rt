@@ -6,14 +6,16 @@ ghost use Rattle.rv_words.specs.declared.command.Command.TheVariants as commands
 ghost use Rattle.rv_keeper.specs.Stores.{OpensAs};
 ghost use Rattle.rv_answering.specs.declared.request.Request.TheVariants.{Retire};
 ghost use Rattle.rv_cli.specs.Texts.{usage_text, status_of, status_text};
-ghost use Rattle.rv_cli.specs.Headline.{RunsFeed, RunsOne, WritesOnly, AllAsk, IsOther, KeptSound};
+ghost use Rattle.rv_cli.specs.Headline.{RunsFeed, RunsOne, RunsReport, TellsActivity, TellsLists, TellsSound, WritesOnly, AllAsk, IsOther, KeptSound};
+ghost use Rattle.rv_cli.specs.Commands.{IsReportOf};
 ghost use Rattle.rv_cli.specs.Replying.{Retired, WritesReply};
 ghost use Rattle.rv_cli.specs.Steadiness.{OutputIsSteady};
 ghost use Rattle.rv_cli.specs.declared.ending.Ending.TheVariants as endings;
 
 use crate::ending::Ending;
 use crate::feed::feed;
-use crate::store::open_desk;
+use crate::reports::{run_activity, run_check, run_lists};
+use crate::store::{open_desk, refuse_opening};
 use crate::texts::{write_answer, write_ending, write_usage};
 use rv_answering::{Answer, retire_group};
 use rv_base::{Failed, Id, Memory, Sink, Source};
@@ -21,16 +23,6 @@ use rv_desk::Desk;
 use rv_keeper::{Keeper, Place};
 use rv_words::{Command, command_of};
 use std::alloc::Global;
-
-// Why a store did not open, as the status's text.
-fn refuse_opening<O: Sink>(out: &mut O, ending: &Ending) -> u8
-    ensures status { result ≡ status_of ending.now }
-    ensures text { WritesOnly (O.state out.old) (O.state out.new) (status_text ending.now) }
-    ensures steady { O.fails_no_more out.old → O.fails_no_more out.new }
-{
-    let _ = write_ending(out, ending);
-    ending.status()
-}
 
 /// Answers the lines of the input, each as it was read, from the book that the store keeps: the command `feed STORE`. The status is
 /// 0, 4, 5, 6, 7, 8 or 10, as [`run`] says.
@@ -136,7 +128,7 @@ fn give_up<O: Sink>(out: &mut O) -> u8
 /// Does what the words say, and answers the status of the process.
 ///
 /// The first word is the program's name and is not read. `feed STORE` answers the lines of the input, each as it was read, from the
-/// book that the store keeps; `retire STORE GROUP` retires a client group there. STORE is `memory`, which begins empty, or the
+/// book that the store keeps; `retire STORE GROUP` retires a client group there; `lists STORE`, `activity STORE` and `check STORE` are reports of the store, which stays as it is. STORE is `memory`, which begins empty, or the
 /// name of a store of the place. Status 0: the input was read to its end, and all that was asked is answered. 2: the words are no
 /// line of the command set. 4: the place or the keeper failed in opening. 5: the store is damaged, first at this shelf and key. 6: a
 /// read failed. 7: a write failed. 8: memory was refused outside a request. 10: the line that is named is not of the form. Each but
@@ -167,6 +159,17 @@ pub fn run<P: Place, S: Source, O: Sink>(
         → RunsOne (P.tells place.new) (OpensAs store (P.holds place.old store)) (P.holds place.new store) (P.faults place.old) (P.faults place.new) (Ok (Retire group)) (O.state out.old) (O.state out.new) result
         ⊎ ((result ≡ 8) × (place.new ≡ place.old) × WritesOnly (O.state out.old) (O.state out.new) (status_text endings.Memory)) }
 
+    // A report is a text of the book that the store kept, which it still keeps.
+    ensures lists { (store : List ℕ) → command_in (map string_bytes words.now) ≡ Some (commands.Lists store)
+        → RunsReport (P.tells place.new) (OpensAs store (P.holds place.old store)) (P.holds place.new store) (P.faults place.old) (P.faults place.new) TellsLists (O.state out.old) (O.state out.new) result
+        ⊎ ((result ≡ 8) × (place.new ≡ place.old) × WritesOnly (O.state out.old) (O.state out.new) (status_text endings.Memory)) }
+    ensures activity { (store : List ℕ) → command_in (map string_bytes words.now) ≡ Some (commands.Activity store)
+        → RunsReport (P.tells place.new) (OpensAs store (P.holds place.old store)) (P.holds place.new store) (P.faults place.old) (P.faults place.new) TellsActivity (O.state out.old) (O.state out.new) result
+        ⊎ ((result ≡ 8) × (place.new ≡ place.old) × WritesOnly (O.state out.old) (O.state out.new) (status_text endings.Memory)) }
+    ensures check { (store : List ℕ) → command_in (map string_bytes words.now) ≡ Some (commands.Check store)
+        → RunsReport (P.tells place.new) (OpensAs store (P.holds place.old store)) (P.holds place.new store) (P.faults place.old) (P.faults place.new) TellsSound (O.state out.old) (O.state out.new) result
+        ⊎ ((result ≡ 8) × (place.new ≡ place.old) × WritesOnly (O.state out.old) (O.state out.new) (status_text endings.Memory)) }
+
     // A fault is told exactly where one rose, but for a write of a status's own text that failed.
     ensures keeper { result ≡ 4 → Rose (P.faults place.old) (P.faults place.new) }
     ensures read { result ≡ 6 → Rose (S.state input.old).faults (S.state input.new).faults }
@@ -178,13 +181,19 @@ pub fn run<P: Place, S: Source, O: Sink>(
     ensures complete { (store : List ℕ) → command_in (map string_bytes words.now) ≡ Some (commands.Feed store) → AllAsk (S.state input.old).left (IsOther result) }
     ensures complete_retire { (store group : List ℕ) → command_in (map string_bytes words.now) ≡ Some (commands.Retire store group) → result ≡ 0 ⊎ result ≡ 4 ⊎ result ≡ 5 ⊎ result ≡ 7 ⊎ result ≡ 8 }
 
+    ensures complete_reports { (store : List ℕ) → IsReportOf store (command_in (map string_bytes words.now)) → result ≡ 0 ⊎ result ≡ 4 ⊎ result ≡ 5 ⊎ result ≡ 7 ⊎ result ≡ 8 }
+
     // Where the place tells, and the store kept a lawful book within the limit, the status is no damage.
     ensures sound { (store : List ℕ) → command_in (map string_bytes words.now) ≡ Some (commands.Feed store) → P.tells place.new
         → KeptSound (OpensAs store (P.holds place.old store)) → result ≢ 5 }
     ensures sound_retire { (store group : List ℕ) → command_in (map string_bytes words.now) ≡ Some (commands.Retire store group) → P.tells place.new
         → KeptSound (OpensAs store (P.holds place.old store)) → result ≢ 5 }
 
+    ensures sound_reports { (store : List ℕ) → IsReportOf store (command_in (map string_bytes words.now)) → P.tells place.new
+        → KeptSound (OpensAs store (P.holds place.old store)) → result ≢ 5 }
+
     // So over a place that tells the store in memory is never damaged; and without a command no store is.
+    ensures sound_memory_reports { IsReportOf (codes "memory") (command_in (map string_bytes words.now)) → P.tells place.new → result ≢ 5 }
     ensures sound_memory { (group : List ℕ)
         → command_in (map string_bytes words.now) ≡ Some (commands.Feed (codes "memory")) ⊎ command_in (map string_bytes words.now) ≡ Some (commands.Retire (codes "memory") group)
         → P.tells place.new → result ≢ 5 }
@@ -203,6 +212,9 @@ pub fn run<P: Place, S: Source, O: Sink>(
             &group,
             out,
         ),
+        Ok(Some(Command::Lists { store })) => run_lists(alloc, place, store.as_str(), out),
+        Ok(Some(Command::Activity { store })) => run_activity(alloc, place, store.as_str(), out),
+        Ok(Some(Command::Check { store })) => run_check(alloc, place, store.as_str(), out),
         Ok(None) => refuse_words(out),
         Err(Memory) => give_up(out),
     }

@@ -1,10 +1,17 @@
-// The desk of a store.
+// The desk of a store, a check of one, and why a store did not open.
+ghost use Rattle.std.specs.Prelude.{◌≡◌};
+ghost use Rattle.rv_cli.specs.Texts.{status_of, status_text};
+ghost use Rattle.rv_cli.specs.Headline.{WritesOnly};
 ghost use Rattle.rv_cli.specs.Storing.{OpensKept, OpensStore};
+ghost use Rattle.rv_cli.specs.Reporting.{ChecksKept, ChecksStore};
 
 use crate::ending::Ending;
 use crate::feed::BOOK_LIMIT;
+use crate::texts::write_ending;
+use rv_base::Sink;
 use rv_desk::Desk;
 use rv_keeper::{KeepFault, Place};
+use rv_report::{CheckAnswer, check};
 use std::alloc::Global;
 
 // The desk of the store's keeper; or why there is none, and then the keeper is back.
@@ -39,4 +46,49 @@ pub(crate) fn open_desk<P: Place>(
         Err(KeepFault::Failed) => Err(Ending::Keeper),
         Err(KeepFault::Memory) => Err(Ending::Memory),
     }
+}
+
+// What a check of the store's keeper finds, which then is back.
+fn check_kept<P: Place>(
+    alloc: Global,
+    place: &mut P,
+    store: &str,
+    kept: P::Kept,
+) -> Result<u32, Ending>
+    requires { P.tells place.old → P.is_out place.old store.now }
+    ensures { ChecksKept P.tells P.holds P.faults P.Kept.tells P.Kept.holds P.Kept.faults store.now kept place.old result place.new }
+{
+    let (answer, keeper) = check(alloc, kept);
+    place.close_keeper(store, keeper);
+    match answer {
+        CheckAnswer::Sound(entries) => Ok(entries),
+        CheckAnswer::Damaged(shelf, key) => Err(Ending::Damaged(shelf, key)),
+        CheckAnswer::Keeper => Err(Ending::Keeper),
+        CheckAnswer::Memory => Err(Ending::Memory),
+    }
+}
+
+/// How many entries the book has that the store is kept as; or why it is kept as none.
+pub(crate) fn check_store<P: Place>(
+    alloc: Global,
+    place: &mut P,
+    store: &str,
+) -> Result<u32, Ending>
+    ensures { ChecksStore P.tells P.holds P.faults store.now place.old result place.new }
+{
+    match place.open_keeper(store) {
+        Ok(kept) => check_kept(alloc, place, store, kept),
+        Err(KeepFault::Failed) => Err(Ending::Keeper),
+        Err(KeepFault::Memory) => Err(Ending::Memory),
+    }
+}
+
+/// Why a store did not open, as the status's text.
+pub(crate) fn refuse_opening<O: Sink>(out: &mut O, ending: &Ending) -> u8
+    ensures status { result ≡ status_of ending.now }
+    ensures text { WritesOnly (O.state out.old) (O.state out.new) (status_text ending.now) }
+    ensures steady { O.fails_no_more out.old → O.fails_no_more out.new }
+{
+    let _ = write_ending(out, ending);
+    ending.status()
 }

@@ -90,6 +90,18 @@ fn write_malformed<O: Sink>(out: &mut O, number: u64) -> Result<(), Failed>
     }
 }
 
+/// Writes that a store is sound, with the number of its book's entries.
+pub(crate) fn write_sound<O: Sink>(out: &mut O, entries: u32) -> Result<(), Failed>
+    ensures writes { Writes (O.state out.old) (O.state out.new) result (codes "ok " ++ (decimal entries ++ codes "\n")) }
+    ensures steady { O.fails_no_more out.old → IsSteady (O.fails_no_more out.new) (O.state out.old) (O.state out.new) result }
+{
+    let mut buffer = Buffer::new();
+    match write_all(out, b"ok ") {
+        Ok(()) => write_ended(out, buffer.format(entries).as_bytes()),
+        Err(Failed) => Err(Failed),
+    }
+}
+
 // Writes a byte of a key as it is shown.
 fn write_shown<O: Sink>(out: &mut O, byte: u8) -> Result<(), Failed>
     ensures writes { Writes (O.state out.old) (O.state out.new) result (shown_byte byte) }

@@ -15,6 +15,7 @@ module _ {K : Type 0} (tells : K → Type 0) (holds : K → Loaded → Type 0) (
     pub book : Book
     pub was : WasLoaded (tells now) (holds before) loaded
     pub opens : MayOpen (2 ^ 32 - 1) book loaded
+    pub held : tells now → holds now loaded
     pub length : size book ≡ entries
     pub still : faults now ≡ faults before
 

@@ -1,7 +1,7 @@
 // Command lines.
 use crate::texts::quoted;
 use rv_base::Memory;
-use rv_words::{Command, command_of};
+use rv_words::{Command, StoreName, command_of};
 use std::alloc::Global;
 
 // The words between bars. An empty text has none.
@@ -16,13 +16,19 @@ fn words(alloc: Global, line: &str) -> Result<Vec<String>, Memory> {
     Ok(words)
 }
 
+// A command of one store.
+fn on_store(alloc: Global, name: &str, store: &StoreName) -> Result<String, Memory> {
+    let store = quoted(alloc, store.as_str())?;
+    Ok(format!(in alloc; "{name} {store}")?)
+}
+
 // What the words ask for.
 fn asked(alloc: Global, words: &[String]) -> Result<String, Memory> {
     match command_of(alloc, words)? {
-        Some(Command::Feed { store }) => {
-            let store = quoted(alloc, store.as_str())?;
-            Ok(format!(in alloc; "feed {store}")?)
-        }
+        Some(Command::Feed { store }) => on_store(alloc, "feed", &store),
+        Some(Command::Lists { store }) => on_store(alloc, "lists", &store),
+        Some(Command::Activity { store }) => on_store(alloc, "activity", &store),
+        Some(Command::Check { store }) => on_store(alloc, "check", &store),
         Some(Command::Retire { store, group }) => {
             let store = quoted(alloc, store.as_str())?;
             let group = quoted(alloc, group.as_str())?;

@@ -1,4 +1,4 @@
-use Rattle.rv_cli.proofs.Sound.{memory_sound, feeds_memory, retires_in_memory}
+use Rattle.rv_cli.proofs.Sound.{activity_memory, check_memory, lists_memory, memory_sound, feeds_memory, retires_in_memory}
 use Rattle.rv_cli.proofs.program.run.Goals as goal
 
 pub returns-in-Ok-Some-Feed-clause-sound_memory : goal.returns-in-Ok-Some-Feed-clause-sound_memory
@@ -10,3 +10,18 @@ pub returns-in-Ok-Some-Retire-clause-sound_memory : goal.returns-in-Ok-Some-Reti
 returns-in-Ok-Some-Retire-clause-sound_memory g c = λ group asks told.
     let is = rw (c.in-Ok-Some-Retire.field-0-is, c.in-Ok-Some-Retire.field-0-0-is) at c.in-Ok-Some-Retire.ensures in
     c.run_retire.ensures.sound told (memory_sound _ _ (retires_in_memory _ _ _ _ group is c.as_str-in-Ok-Some-Retire.ensures asks))
+
+pub returns-in-Ok-Some-Lists-clause-sound_memory_reports : goal.returns-in-Ok-Some-Lists-clause-sound_memory_reports
+returns-in-Ok-Some-Lists-clause-sound_memory_reports g c = λ asks told.
+    let is = rw (c.in-Ok-Some-Lists.field-0-is, c.in-Ok-Some-Lists.field-0-0-is) at c.in-Ok-Some-Lists.ensures in
+    c.run_lists.ensures.sound told (memory_sound _ _ (lists_memory _ _ _ is c.as_str-in-Ok-Some-Lists.ensures asks))
+
+pub returns-in-Ok-Some-Activity-clause-sound_memory_reports : goal.returns-in-Ok-Some-Activity-clause-sound_memory_reports
+returns-in-Ok-Some-Activity-clause-sound_memory_reports g c = λ asks told.
+    let is = rw (c.in-Ok-Some-Activity.field-0-is, c.in-Ok-Some-Activity.field-0-0-is) at c.in-Ok-Some-Activity.ensures in
+    c.run_activity.ensures.sound told (memory_sound _ _ (activity_memory _ _ _ is c.as_str-in-Ok-Some-Activity.ensures asks))
+
+pub returns-in-Ok-Some-Check-clause-sound_memory_reports : goal.returns-in-Ok-Some-Check-clause-sound_memory_reports
+returns-in-Ok-Some-Check-clause-sound_memory_reports g c = λ asks told.
+    let is = rw (c.in-Ok-Some-Check.field-0-is, c.in-Ok-Some-Check.field-0-0-is) at c.in-Ok-Some-Check.ensures in
+    c.run_check.ensures.sound told (memory_sound _ _ (check_memory _ _ _ is c.as_str-in-Ok-Some-Check.ensures asks))

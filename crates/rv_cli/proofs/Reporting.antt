@@ -1,0 +1,84 @@
+-- From the desk of a store, or a check of it, and the keeper that went back, to what a report promises.
+use Rattle.std.proofs.Common.{◌≡◌, ◌≢◌, ◌⊎◌, ℕ, ◌-◌, ◌^◌, ◌++◌, List, None, Result, Ok, Err, IfOk, refl, sym, ap, ◌∙◌, subst, arith, inl, inr, decimal, codes}
+use Rattle.rv_base.specs.Outside.{OutputState}
+use Rattle.rv_base.specs.declared.memory.Memory.{Memory as Refused}
+use Rattle.rv_keeper.specs.declared.loaded.Loaded.{Loaded}
+use Rattle.rv_keeper.specs.Stores.{OpensAs, OpensWith}
+use Rattle.rv_book.specs.Book.{Book}
+use Rattle.rv_desk.specs.Seated.{Seated, served, HoldsBook}
+use Rattle.rv_desk.specs.Opened.{IsLeft}
+use Rattle.rv_desk.specs.declared.open_fault.OpenFault.TheVariants as faulting
+use Rattle.rv_report.specs.Checks.{Answers, Checks}
+use Rattle.rv_report.specs.declared.check_answer.CheckAnswer.{CheckAnswer}
+use Rattle.rv_report.specs.declared.check_answer.CheckAnswer.TheVariants as answers
+use Rattle.rv_cli.specs.declared.ending.Ending.{Ending}
+use Rattle.rv_cli.specs.declared.ending.Ending.TheVariants.{Done, Keeper, Damaged, Read, Write, Memory, Malformed}
+use Rattle.rv_cli.specs.Headline.{Reported, TellsSound, WritesReport}
+use Rattle.rv_cli.specs.Reporting.{WritesText, WritesMade, WasSound, ChecksStore, KeptSound, ChecksKept}
+use Rattle.rv_cli.specs.Storing.{HasOpened}
+use Rattle.rv_cli.proofs.Storing.{WentBack, begins, leaves, none_taken, kept_refused, store_opened}
+
+-- what was written of a text is written of a report that tells it
+pub reports_text : (Tells : List ℕ → Type 0) (text : List ℕ) (old new : OutputState) (ending : Ending) → Tells text → WritesText old new text ending → WritesReport Tells old new ending
+reports_text Tells text old new Done is (appended, still) = (text, is, appended, still)
+reports_text Tells text old new Write is (front, rose) = (text, is, front, rose)
+reports_text Tells text old new Keeper is never = never
+reports_text Tells text old new (Damaged shelf key) is never = never
+reports_text Tells text old new Read is never = never
+reports_text Tells text old new Memory is never = absurd never
+reports_text Tells text old new (Malformed number) is never = never
+
+-- and so of one for which there may be no memory
+pub reports_made : (Tells : List ℕ → Type 0) (made : Result (List ℕ) Refused) (old new : OutputState) (ending : Ending) → ((text : List ℕ) → made ≡ Ok text → Tells text) → WritesMade old new made ending → WritesReport Tells old new ending
+reports_made Tells (Ok text) old new ending is w = reports_text Tells text old new ending (is text refl) w
+reports_made Tells (Err refused) old new ending is (e, w) = subst (λ (ending : Ending). WritesReport Tells old new ending) (sym e) w
+
+-- what holds of the value at an Ok holds of it where the result is that
+pub if_ok : {T E : Type 0} (P : T → Type 0) (r : Result T E) (x : T) → IfOk r P → r ≡ Ok x → P x
+if_ok P r x holds is = let Q : Result _ _ → Type 0 = λ r. IfOk r P in subst Q is holds
+
+module _ {P K : Type 0} (tells : P → Type 0) (holds : P → List ℕ → Loaded → Type 0) (is_out : P → List ℕ → Type 0) (faults : P → ℕ) (kept_tells : K → Type 0) (kept_holds : K → Loaded → Type 0) (kept_faults : K → ℕ) (store : List ℕ) where
+  abbrev Back : P → P → K → Type 0
+  Back mid new keeper = WentBack tells holds is_out faults kept_tells kept_holds kept_faults store mid new keeper
+
+  -- the desk was opened and reported of, and its keeper went back
+  pub has_reported : (Tells : Book → List ℕ → Type 0) (old mid new : P) (desk : Seated K) (keeper : K) (out out' : OutputState) (ending : Ending)
+      → HasOpened tells holds is_out faults kept_tells kept_faults store old desk mid → keeper ≡ desk.keeper → (kept_tells desk.keeper → HoldsBook (kept_holds desk.keeper) desk.book desk.doubt)
+      → Back mid new keeper → WritesReport (Tells desk.book) out out' ending
+      → Reported (tells new) (OpensAs store (holds old store)) (holds new store) (faults old) (faults new) Tells out out' ending
+  has_reported Tells old mid new desk keeper out out' ending opened is held back w =
+      let home = subst (λ (k : K). Back mid new k) is back in
+      record {
+        first = served kept_faults desk;
+        begins = begins tells holds is_out faults kept_tells kept_holds kept_faults store old mid new desk desk.keeper opened (λ t. t) home;
+        writes = w;
+        leaves = leaves tells holds is_out faults kept_tells kept_holds kept_faults store old mid new (served kept_faults desk) desk.keeper opened.same (record { held = held; later = omega arith }) home;
+      }
+
+  -- the store's keeper was fetched and checked
+  pub store_checked : (kept : K) (old mid new : P) (result : Result ℕ Ending) → (tells mid → is_out mid store × OpensWith store (holds old store) (kept_holds kept)) → kept_faults kept ≡ 0 → faults mid ≡ faults old
+      → ChecksKept tells holds faults kept_tells kept_holds kept_faults store kept mid result new → ChecksStore tells holds faults store old result new
+  store_checked kept old mid new (Ok entries) got none still checked =
+      let sound = checked none in
+      record {
+        loaded = sound.loaded;
+        book = sound.book;
+        stored = λ t held was. sound.stored t held ((got (sound.told t)).1 held was);
+        opens = sound.opens;
+        length = sound.length;
+        held = sound.held;
+        same = sound.same ∙ still;
+      }
+  store_checked kept old mid new (Err ending) got none still checked =
+      store_opened tells holds is_out faults kept_tells kept_holds kept_faults store kept old mid new (Err ending) got none still checked
+
+-- the store was checked, and told to be sound
+pub has_checked : {P : Type 0} (tells : P → Type 0) (holds : P → List ℕ → Loaded → Type 0) (faults : P → ℕ) (store : List ℕ) (old new : P) (entries : ℕ) (out out' : OutputState) (ending : Ending)
+    → WasSound tells holds faults store old new entries → WritesText out out' (codes "ok " ++ (decimal entries ++ codes "\n")) ending
+    → Reported (tells new) (OpensAs store (holds old store)) (holds new store) (faults old) (faults new) TellsSound out out' ending
+has_checked tells holds faults store old new entries out out' ending was w = record {
+  first = record { book = was.book; limit = 2 ^ 32 - 1; doubt = None; faults = 0 };
+  begins = record { loaded = was.loaded; stored = was.stored; opens = was.opens; limit = refl; doubt = refl; faults = refl };
+  writes = reports_text (TellsSound was.book) _ out out' ending (ap (λ n. codes "ok " ++ (decimal n ++ codes "\n")) (sym was.length)) w;
+  leaves = record { held = λ t. (was.loaded, was.held t, was.opens.kept); kept = 0; later = omega arith; taken = was.same };
+}

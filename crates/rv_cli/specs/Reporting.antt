@@ -1,0 +1,57 @@
+-- A report and the store that it is of, before both are put together.
+use Rattle.std.specs.Prelude.{◌≡◌, ◌-◌, ◌^◌, ℕ, List, Result, Ok, Err}
+use Rattle.std.specs.Io.KnownBytes.{Appends}
+use Rattle.rv_base.specs.Causes.{Rose}
+use Rattle.rv_base.specs.Outside.{OutputState}
+use Rattle.rv_base.specs.Writes.{AppendsFront}
+use Rattle.rv_base.specs.declared.memory.Memory.{Memory as Refused}
+use Rattle.rv_keeper.specs.declared.loaded.Loaded.{Loaded}
+use Rattle.rv_keeper.specs.Stores.{OpensAs}
+use Rattle.rv_book.specs.Book.{Book, size}
+use Rattle.rv_store.specs.Opening.{MayOpen}
+use Rattle.rv_cli.specs.declared.ending.Ending.{Ending}
+use Rattle.rv_cli.specs.declared.ending.Ending.TheVariants.{Done, Write, Memory}
+use Rattle.rv_cli.specs.Texts.{status_text}
+use Rattle.rv_cli.specs.Headline.{IsNotOpened, WritesOnly}
+
+-- what was written of a text
+abbrev pub WritesText : OutputState → OutputState → List ℕ → Ending → Type 0
+WritesText old new text Done = Appends old.written new.written text × (new.faults ≡ old.faults)
+WritesText old new text Write = AppendsFront old.written new.written text × Rose old.faults new.faults
+WritesText old new text ending = ⊥
+
+-- what was written of a text, or of why there is none
+abbrev pub WritesMade : OutputState → OutputState → Result (List ℕ) Refused → Ending → Type 0
+WritesMade old new (Ok text) ending = WritesText old new text ending
+WritesMade old new (Err refused) ending = (ending ≡ Memory) × WritesOnly old new (status_text Memory)
+
+module _ {P : Type 0} (tells : P → Type 0) (holds : P → List ℕ → Loaded → Type 0) (faults : P → ℕ) where
+  -- the store was kept as a lawful book of so many entries, and is still
+  pub record WasSound (store : List ℕ) (old new : P) (entries : ℕ) : Type 0 where
+    pub loaded : Loaded
+    pub book : Book
+    pub stored : tells new → (held : Loaded) → OpensAs store (holds old store) held → held ≡ loaded
+    pub opens : MayOpen (2 ^ 32 - 1) book loaded
+    pub length : size book ≡ entries
+    pub held : tells new → holds new store loaded
+    pub same : faults new ≡ faults old
+
+  abbrev pub ChecksStore : List ℕ → P → Result ℕ Ending → P → Type 0
+  ChecksStore store old (Ok entries) new = WasSound store old new entries
+  ChecksStore store old (Err ending) new = IsNotOpened (tells new) (OpensAs store (holds old store)) (holds new store) (faults old) (faults new) ending
+
+  -- the same of a keeper that is out, whose count of faults is 0, and which came back
+  module _ {K : Type 0} (kept_tells : K → Type 0) (kept_holds : K → Loaded → Type 0) (kept_faults : K → ℕ) where
+    pub record KeptSound (store : List ℕ) (kept : K) (old new : P) (entries : ℕ) : Type 0 where
+      pub loaded : Loaded
+      pub book : Book
+      pub told : tells new → tells old
+      pub stored : tells new → (held : Loaded) → kept_holds kept held → held ≡ loaded
+      pub opens : MayOpen (2 ^ 32 - 1) book loaded
+      pub length : size book ≡ entries
+      pub held : tells new → holds new store loaded
+      pub same : faults new ≡ faults old
+
+    abbrev pub ChecksKept : List ℕ → K → P → Result ℕ Ending → P → Type 0
+    ChecksKept store kept old (Ok entries) new = kept_faults kept ≡ 0 → KeptSound store kept old new entries
+    ChecksKept store kept old (Err ending) new = kept_faults kept ≡ 0 → (tells new → tells old) × IsNotOpened (tells new) (kept_holds kept) (holds new store) (faults old) (faults new) ending
