@@ -35,45 +35,25 @@ impl Counted {
     fn is_list(self) -> bool
         ensures { result ≡ counts_list self }
     {
-        match self {
-            Counted::List => true,
-            Counted::Share => false,
-            Counted::OpenTodo => false,
-            Counted::CompleteTodo => false,
-        }
+        matches!(self, Counted::List)
     }
 
     fn is_share(self) -> bool
         ensures { result ≡ counts_share self }
     {
-        match self {
-            Counted::List => false,
-            Counted::Share => true,
-            Counted::OpenTodo => false,
-            Counted::CompleteTodo => false,
-        }
+        matches!(self, Counted::Share)
     }
 
     fn is_todo(self) -> bool
         ensures { result ≡ counts_todo self }
     {
-        match self {
-            Counted::List => false,
-            Counted::Share => false,
-            Counted::OpenTodo => true,
-            Counted::CompleteTodo => true,
-        }
+        matches!(self, Counted::OpenTodo | Counted::CompleteTodo)
     }
 
     fn is_open(self) -> bool
         ensures { result ≡ counts_open self }
     {
-        match self {
-            Counted::List => false,
-            Counted::Share => false,
-            Counted::OpenTodo => true,
-            Counted::CompleteTodo => false,
-        }
+        matches!(self, Counted::OpenTodo)
     }
 }
 
