@@ -1,22 +1,17 @@
 -- From the desk of a store, or a check of it, and the keeper that went back, to what a report promises.
-use Rattle.std.proofs.Common.{◌≡◌, ◌≢◌, ◌⊎◌, ℕ, ◌-◌, ◌^◌, ◌++◌, List, None, Result, Ok, Err, IfOk, refl, sym, ap, ◌∙◌, subst, arith, inl, inr, decimal, codes}
+use Rattle.std.proofs.Common.{◌≡◌, ℕ, ◌-◌, ◌^◌, ◌++◌, List, None, Result, Ok, Err, IfOk, refl, sym, ap, ◌∙◌, subst, arith, decimal, codes}
 use Rattle.rv_base.specs.Outside.{OutputState}
 use Rattle.rv_base.specs.declared.memory.Memory.{Memory as Refused}
 use Rattle.rv_keeper.specs.declared.loaded.Loaded.{Loaded}
 use Rattle.rv_keeper.specs.Stores.{OpensAs, OpensWith}
 use Rattle.rv_book.specs.Book.{Book}
 use Rattle.rv_desk.specs.Seated.{Seated, served, HoldsBook}
-use Rattle.rv_desk.specs.Opened.{IsLeft}
-use Rattle.rv_desk.specs.declared.open_fault.OpenFault.TheVariants as faulting
-use Rattle.rv_report.specs.Checks.{Answers, Checks}
-use Rattle.rv_report.specs.declared.check_answer.CheckAnswer.{CheckAnswer}
-use Rattle.rv_report.specs.declared.check_answer.CheckAnswer.TheVariants as answers
 use Rattle.rv_cli.specs.declared.ending.Ending.{Ending}
 use Rattle.rv_cli.specs.declared.ending.Ending.TheVariants.{Done, Keeper, Damaged, Read, Write, Memory, Malformed}
 use Rattle.rv_cli.specs.Headline.{Reported, TellsSound, WritesReport}
-use Rattle.rv_cli.specs.Reporting.{WritesText, WritesMade, WasSound, ChecksStore, KeptSound, ChecksKept}
+use Rattle.rv_cli.specs.Reporting.{WritesText, WritesMade, WasSound, ChecksStore, ChecksKept}
 use Rattle.rv_cli.specs.Storing.{HasOpened}
-use Rattle.rv_cli.proofs.Storing.{WentBack, begins, leaves, none_taken, kept_refused, store_opened}
+use Rattle.rv_cli.proofs.Storing.{WentBack, begins, leaves, store_opened}
 
 -- what was written of a text is written of a report that tells it
 pub reports_text : (Tells : List ℕ → Type 0) (text : List ℕ) (old new : OutputState) (ending : Ending) → Tells text → WritesText old new text ending → WritesReport Tells old new ending

@@ -52,12 +52,7 @@ fn report_sound<O: Sink>(out: &mut O, entries: u32) -> Ending
 
 /// Writes the lists of the book that the store keeps, as [`lists_text`](rv_report::lists_text): the command `lists STORE`. The
 /// status is 0, 4, 5, 7 or 8. The store stays as it is.
-pub fn run_lists<P: Place, O: Sink>(
-    alloc: Global,
-    place: &mut P,
-    store: &str,
-    out: &mut O,
-) -> u8
+pub fn run_lists<P: Place, O: Sink>(alloc: Global, place: &mut P, store: &str, out: &mut O) -> u8
     ensures report { RunsReport (P.tells place.new) (OpensAs store.now (P.holds place.old store.now)) (P.holds place.new store.now) (P.faults place.old) (P.faults place.new)
         TellsLists (O.state out.old) (O.state out.new) result }
 
@@ -77,12 +72,7 @@ pub fn run_lists<P: Place, O: Sink>(
 
 /// Writes who did how much in the book that the store keeps, as [`activity_text`](rv_report::activity_text): the command
 /// `activity STORE`. The status is 0, 4, 5, 7 or 8. The store stays as it is.
-pub fn run_activity<P: Place, O: Sink>(
-    alloc: Global,
-    place: &mut P,
-    store: &str,
-    out: &mut O,
-) -> u8
+pub fn run_activity<P: Place, O: Sink>(alloc: Global, place: &mut P, store: &str, out: &mut O) -> u8
     ensures report { RunsReport (P.tells place.new) (OpensAs store.now (P.holds place.old store.now)) (P.holds place.new store.now) (P.faults place.old) (P.faults place.new)
         TellsActivity (O.state out.old) (O.state out.new) result }
     ensures sound { P.tells place.new → KeptSound (OpensAs store.now (P.holds place.old store.now)) → result ≢ 5 }
@@ -100,12 +90,7 @@ pub fn run_activity<P: Place, O: Sink>(
 
 /// Writes that the store is sound, with the number of its book's entries: the command `check STORE`. The status is 0, 4, 5, 7 or 8,
 /// where 5 tells what is wrong first. The store stays as it is.
-pub fn run_check<P: Place, O: Sink>(
-    alloc: Global,
-    place: &mut P,
-    store: &str,
-    out: &mut O,
-) -> u8
+pub fn run_check<P: Place, O: Sink>(alloc: Global, place: &mut P, store: &str, out: &mut O) -> u8
     ensures report { RunsReport (P.tells place.new) (OpensAs store.now (P.holds place.old store.now)) (P.holds place.new store.now) (P.faults place.old) (P.faults place.new)
         TellsSound (O.state out.old) (O.state out.new) result }
     ensures sound { P.tells place.new → KeptSound (OpensAs store.now (P.holds place.old store.now)) → result ≢ 5 }
