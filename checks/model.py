@@ -303,6 +303,30 @@ def cells(server):
     return kept
 
 
+def lists_text(server):
+    """The report of the lists."""
+    rows, lines = server.states[-1], []
+    for key in in_order(by_key([(kind, row) for kind, row in rows if kind == "list"])):
+        found = by_key(rows)[key]
+        own = [(kind, row) for kind, row in rows if kind != "list" and row["listID"] == found["id"]]
+        todos = [row for kind, row in own if kind == "todo"]
+        texts = " ".join(text_of(found[member]) for member in ("id", "ownerID", "name"))
+        lines.append(f"{texts} {len(todos)} {sum(not todo['complete'] for todo in todos)} {len(own) - len(todos)}")
+    kinds = [kind for kind, _ in rows]
+    return lines + [f"lists {kinds.count('list')} todos {kinds.count('todo')} shares {kinds.count('share')}"]
+
+
+def activity_text(server):
+    """The report of who did how much."""
+    lines = []
+    for user in in_order({entry[1] for entry in server.book if entry[0] != "retire"}):
+        acts = [entry for entry in server.book if entry[0] == "act" and entry[1] == user]
+        looks = [entry for entry in server.book if entry[0] == "look" and entry[1] == user]
+        lines.append(f"{len(acts):10}{sum(act[5] is None for act in acts):10}{len(looks):10} {text_of(user)}")
+    groups = {entry[2] for entry in server.book if entry[0] != "retire"}
+    return lines + [f"groups {len(groups)} retired {sum(server.is_retired(group) for group in groups)}"]
+
+
 USERS = ["ann", "bob", "cat"]
 GROUPS = ["g0", "g1", "g2", "g3", "g4"]
 CLIENTS = ["c0", "c1", "c2", "c3", "c4", "c5"]

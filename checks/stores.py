@@ -2,10 +2,11 @@
 """Compares stores in files with a second model: checks/stores.py PROGRAM [STORES]
 
 PROGRAM is the program `rv` as it was built, STORES how many stores are tried (10). Each is fed by several runs of the program,
-with stops among the lines; the answers are compared with the model's, and after each run the cells, as Python's sqlite3 reads
-them, with those of the model's book. Ends with status 1 at the first difference.
+with stops among the lines; the answers are compared with the model's, and after each run the three reports, and the cells, as
+Python's sqlite3 reads them, with those of the model's book. At last so is a store of 10,000 rows. Ends with status 1 at the first difference.
 """
 import contextlib
+import json
 import os
 import random
 import sqlite3
@@ -13,7 +14,7 @@ import subprocess
 import sys
 import tempfile
 
-from model import Requests, Server, cells, more
+from model import Requests, Server, activity_text, cells, lists_text, more
 
 STOP = '{"stop":true}'
 
@@ -33,6 +34,15 @@ def read(path):
     held = {(shelf, key.decode()): body.decode() for shelf, key, body in rows}
     assert len(held) == len(rows)
     return held, int(held.pop((0, ""), "0"))
+
+
+def check_reports(program, path, server, where):
+    """The three reports, beside the model's."""
+    wanted = {"lists": lists_text(server), "activity": activity_text(server), "check": [f"ok {len(server.book)}"]}
+    for name, lines in wanted.items():
+        run = subprocess.run([program, name, path], stdout=subprocess.PIPE)
+        if (run.returncode, run.stdout.decode().split("\n")[:-1]) != (0, lines):
+            sys.exit(f"{where}: another report by {name}, status {run.returncode}: {run.stdout.decode()}")
 
 
 def with_stops(chance, lines):
@@ -56,7 +66,31 @@ def check_store(program, path, seed):
         held, generation = read(path)
         if held != cells(server) or generation != len(server.book):
             sys.exit(f"store {seed}, run {run}: other cells, at generation {generation}")
+        check_reports(program, path, server, f"store {seed}, run {run}")
     return len(server.book), len(held)
+
+
+def large_store(program, path):
+    """A store of 10,000 rows in 100 lists, some of them shared, some todos done: its reports."""
+    server, lines = Server(), []
+    chance = random.Random(10000)
+    for number in range(1, 10001):
+        which = chance.randrange(100)
+        if number <= 100:
+            name, args = "createList", {"id": f"l{number - 1}", "name": f'"{number}"', "ownerID": "ann"}
+        elif number % 10 == 0:
+            name, args = "createShare", {"id": f"s{number}", "listID": f"l{which}", "userID": f"u{number}"}
+        else:
+            name, args = "createTodo", {"id": f"t{number}", "listID": f"l{which}", "text": "milk", "complete": chance.random() < 0.5}
+        lines.append({"clientID": "c1", "id": number, "name": name, "args": args})
+        server.book.append(("act", "ann", "g1", "c1", name, args))
+    server.states.append([(act[4][6:].lower(), act[5]) for act in server.book])
+    push = {"pushVersion": 1, "clientGroupID": "g1", "profileID": "p", "schemaVersion": ""}
+    whole = [json.dumps({"user": "ann", "push": {**push, "mutations": lines[at:at + 500]}}) for at in range(0, len(lines), 500)]
+    status, told = feed(program, path, whole)
+    if (status, told) != (0, ["200 {}"] * len(whole)):
+        sys.exit(f"the large store: status {status}")
+    check_reports(program, path, server, "the large store")
 
 
 def main():
@@ -66,7 +100,8 @@ def main():
         for seed in range(stores):
             book, held = check_store(program, os.path.join(folder, f"{seed}.db"), seed)
             entries, rows = entries + book, rows + held
-    print(f"the same answers and cells: {stores} stores, {entries} entries, {rows} cells")
+        large_store(program, os.path.join(folder, "large.db"))
+    print(f"the same answers, cells and reports: {stores} stores, {entries} entries, {rows} cells")
 
 
 if __name__ == "__main__":
