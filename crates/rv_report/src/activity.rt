@@ -4,7 +4,7 @@ ghost use Rattle.rv_book.specs.Book.{retired};
 ghost use Rattle.rv_report.specs.Activity.{activity_text};
 ghost use Rattle.rv_report.specs.Tallies.{groups_line, tally_line};
 
-use crate::tallies::{Groups, groups_of, tallies_of};
+use crate::tallies::{Groups, walk};
 use crate::tally::Tally;
 use crate::texts::{add, add_in_ten, add_number, with_quoted};
 use rv_base::{Bytes, Memory, Sequence, User};
@@ -17,12 +17,11 @@ use std::alloc::Global;
 pub fn activity_text(alloc: Global, book: &Book) -> Result<Bytes, Memory>
     ensures { IfOk result (λ text. text ≡ activity_text book.now.entries) }
 {
-    let tallies = tallies_of(alloc, book)?;
+    let (tallies, groups) = walk(alloc, book)?;
     let mut out = Vec::new(alloc);
     for (user, tally) in &tallies {
         out = with_line(out, user, *tally)?;
     }
-    let groups = groups_of(alloc, book)?;
     add_groups(&mut out, groups.len(), retired(book, &groups))?;
     Ok(Sequence::from_vec(out))
 }

@@ -74,19 +74,6 @@ fn count<'b>(tallies: &mut Tallies<'b>, entry: &'b Entry) -> Result<(), Memory>
     }
 }
 
-/// The users who have an act or a look, each with its tally.
-pub(crate) fn tallies_of(alloc: Global, book: &Book) -> Result<Tallies<'_>, Memory>
-    ensures { IfOk result (λ tallies. shown_users tallies.entries ≡ tallies_of book.now.entries) }
-{
-    let mut tallies = BTreeMap::new(alloc);
-    for before in 0..book.len() {
-        if let Some(entry) = book.entry(before + 1) {
-            count(&mut tallies, entry)?;
-        }
-    }
-    Ok(tallies)
-}
-
 // Adds the group that an act or a look names.
 fn add<'b>(groups: &mut Groups<'b>, entry: &'b Entry) -> Result<(), Memory>
     ensures { OnOk result (shown_groups groups.new.keys ≡ option_map_or (λ group. put_by (λ text. text) group (shown_groups groups.old.keys)) (named_group entry.now) (shown_groups groups.old.keys)) }
@@ -100,15 +87,17 @@ fn add<'b>(groups: &mut Groups<'b>, entry: &'b Entry) -> Result<(), Memory>
     }
 }
 
-/// The groups that an act or a look names.
-pub(crate) fn groups_of(alloc: Global, book: &Book) -> Result<Groups<'_>, Memory>
-    ensures { IfOk result (λ groups. shown_groups groups.keys ≡ groups_of book.now.entries) }
+/// The users who have an act or a look, each with its tally, and the groups that one names: one walk of the book.
+pub(crate) fn walk(alloc: Global, book: &Book) -> Result<(Tallies<'_>, Groups<'_>), Memory>
+    ensures { IfOk result (λ told. (shown_users told.0.entries ≡ tallies_of book.now.entries) × (shown_groups told.1.keys ≡ groups_of book.now.entries)) }
 {
+    let mut tallies = BTreeMap::new(alloc);
     let mut groups = BTreeSet::new(alloc);
     for before in 0..book.len() {
         if let Some(entry) = book.entry(before + 1) {
+            count(&mut tallies, entry)?;
             add(&mut groups, entry)?;
         }
     }
-    Ok(groups)
+    Ok((tallies, groups))
 }

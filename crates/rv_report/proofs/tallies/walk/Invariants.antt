@@ -1,0 +1,8 @@
+use Rattle.std.proofs.Common.{◌≡◌, take}
+use Rattle.rv_report.specs.Activity.{groups_of}
+use Rattle.rv_report.specs.Shown.{shown_groups, shown_users}
+use Rattle.rv_report.specs.Tallies.{tallies_of}
+use Rattle.rv_report.proofs.tallies.walk.Given as goal
+
+abbrev pub invariant-loop-before : goal.invariant-loop-before
+invariant-loop-before l = (shown_users l.tallies.entries ≡ tallies_of (take l.before l.book.entries)) × (shown_groups l.groups.keys ≡ groups_of (take l.before l.book.entries))
