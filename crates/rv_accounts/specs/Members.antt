@@ -1,5 +1,5 @@
 -- An account of the file, as the table that it is.
-use Rattle.std.specs.Prelude.{ℕ, nat_le, ◌&&◌, List, [], ◌∷◌, length, Option, Some, None, if◌then◌else◌, codes}
+use Rattle.std.specs.Prelude.{ℕ, nat_le, ◌&&◌, List, length, Option, Some, None, if◌then◌else◌, codes}
 use Rattle.toml.specs.Data.{Data, get, as_str}
 use Rattle.rv_base.specs.Options.{◌>>=◌}
 use Rattle.rv_accounts.specs.declared.account.Account.{Account}

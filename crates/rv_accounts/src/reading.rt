@@ -89,5 +89,5 @@ pub fn read_accounts(alloc: Global, bytes: &[u8]) -> Result<Accounts, AccountsFa
     let table = document_of(alloc, bytes)?;
     let schemas = schemas_of(alloc, array_of(&table, "schemas")?)?;
     let accounts = accounts_at(alloc, array_of(&table, "account")?)?;
-    Ok(Accounts::of(schemas, accounts))
+    Ok(Accounts::new(schemas, accounts))
 }
