@@ -79,9 +79,12 @@ fn accounts_at(alloc: Global, array: Option<&[Value]>) -> Result<Vec<Account>, A
     accounts_of(alloc, values)
 }
 
-/// Reads an accounts file. `BadFile` and `Twice` name the first thing that is wrong: the document, then `schemas`, then
-/// `account` as a whole, then the accounts in their order, each for its form before its key. `Memory` may come at any
-/// file.
+/// Reads an accounts file: a TOML document with an array `schemas` of texts (where it is absent, the empty text and
+/// `1`), and an array `account` of tables (where it is absent, of none), each with a `key` of 1 to 256 bytes and a
+/// `user` of 1 to 64.
+///
+/// `BadFile` and `Twice` name the first thing that is wrong: the document, then `schemas`, then `account` as a whole,
+/// and then the accounts one after another, of each its form before its key. `Memory` may come at any file.
 #[tactic(auto, unfolding(crate::specs::File::file_in))]
 pub fn read_accounts(alloc: Global, bytes: &[u8]) -> Result<Accounts, AccountsFault>
     ensures { Reads (λ accounts. accounts) result (file_in bytes.now) }
