@@ -1,0 +1,11 @@
+pub mod Targets
+pub mod Named
+pub mod Room
+pub mod Closings
+pub mod Tokens
+pub mod Pendings
+pub mod Ends
+pub mod Plain
+pub mod Served
+pub mod Refusing
+pub mod Counting

@@ -1,0 +1,12 @@
+pub mod Line
+pub mod Numbers
+pub mod Heads
+pub mod Parts
+pub mod Causes
+pub mod Looks
+pub mod Requests
+pub mod Steps
+pub mod Responses
+pub mod Routes
+pub mod RequestLaws
+pub mod Laws
