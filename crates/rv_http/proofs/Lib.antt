@@ -9,3 +9,5 @@ pub mod Plain
 pub mod Served
 pub mod Refusing
 pub mod Counting
+pub mod Responding
+pub mod Bodies

@@ -42,12 +42,12 @@ impl From<AllocError> for BodyStop {
 }
 
 // Room for more bytes of a body: twice as many as before, and no more than the body has.
-fn grow(body: &mut Vec<u8>, length: usize) -> Result<(), AllocError>
-    requires less { length body.old.items < length }
-    requires bound { length ≤ BODY_LIMIT }
-    ensures { OnOk result ((take (length body.old.items) body.new.items ≡ body.old.items) × (length body.old.items < length body.new.items) × (length body.new.items ≤ length)) }
+fn grow(body: &mut Vec<u8>, size: usize) -> Result<(), AllocError>
+    requires less { length body.old.items < size }
+    requires bound { size ≤ BODY_LIMIT }
+    ensures { OnOk result ((take (length body.old.items) body.new.items ≡ body.old.items) × (length body.old.items < length body.new.items) × (length body.new.items ≤ size)) }
 {
-    let room = (body.len() * 2).max(HEAD_LIMIT).min(length);
+    let room = (body.len() * 2).max(HEAD_LIMIT).min(size);
     body.resize(room, 0)
 }
 
@@ -56,19 +56,19 @@ fn fill_body<S: Source>(
     source: &mut S,
     body: &mut Vec<u8>,
     from: usize,
-    length: usize,
+    size: usize,
 ) -> Result<(), BodyStop>
     requires from { from ≤ length body.old.items }
-    requires room { length body.old.items ≤ length }
-    requires bound { length ≤ BODY_LIMIT }
-    ensures bytes { Fills from length body.old.items body.new.items (S.state source.old).left (S.state source.new).left result }
+    requires room { length body.old.items ≤ size }
+    requires bound { size ≤ BODY_LIMIT }
+    ensures bytes { Fills from size body.old.items body.new.items (S.state source.old).left (S.state source.new).left result }
     ensures counts { Counts (S.state source.old) (S.state source.new) (body_ended result) (body_failed result) }
     ensures steady { S.fails_no_more source.old → IsSteady (S.fails_no_more source.new) (body_failed result) }
 {
     let mut at = from;
-    while at < length {
+    while at < size {
         if at == body.len() {
-            grow(body, length)?;
+            grow(body, size)?;
         }
         let count = read_at(source, body, at)?;
         if count == 0 {
@@ -84,15 +84,15 @@ pub(crate) fn read_body<S: Source>(
     alloc: Global,
     source: &mut S,
     pending: &mut Pending,
-    length: usize,
+    size: usize,
 ) -> Result<Bytes, BodyStop>
-    requires { length ≤ BODY_LIMIT }
-    ensures bytes { ReadsBody length pending.old pending.new (S.state source.old).left (S.state source.new).left result }
+    requires { size ≤ BODY_LIMIT }
+    ensures bytes { ReadsBody size pending.old pending.new (S.state source.old).left (S.state source.new).left result }
     ensures counts { Counts (S.state source.old) (S.state source.new) (body_ended result) (body_failed result) }
     ensures steady { S.fails_no_more source.old → IsSteady (S.fails_no_more source.new) (body_failed result) }
 {
-    let mut body = vec![in alloc; 0; length.min(HEAD_LIMIT)]?;
+    let mut body = vec![in alloc; 0; size.min(HEAD_LIMIT)]?;
     let count = pending.give(&mut body);
-    fill_body(source, &mut body, count, length)?;
+    fill_body(source, &mut body, count, size)?;
     Ok(Bytes::from_vec(body))
 }

@@ -91,6 +91,8 @@ impl Pending {
     /// Moves as many bytes as both have to the front of a body.
     pub fn give(&mut self, body: &mut [u8]) -> usize
         ensures count { result ≡ min (length self.old) (length body.old) }
+        ensures few { length self.old ≤ HEAD_LIMIT }
+        ensures size { length body.new ≡ length body.old }
         ensures bytes { self.old ≡ take result body.new ++ self.new }
     {
         let count = self.end.min(body.len());

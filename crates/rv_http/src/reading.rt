@@ -1,5 +1,5 @@
 // A request is read.
-ghost use Rattle.std.specs.Prelude.{◌≡◌, ◌≤◌, length};
+ghost use Rattle.std.specs.Prelude.{◌≡◌, ◌≤◌, length, IfOk};
 ghost use Rattle.httparse.specs.Spans.{IsRequestOf, IsRequestWithin};
 ghost use Rattle.rv_http.specs.Requests.{ReadsOne};
 ghost use Rattle.rv_http.specs.Causes.{Counts, IsSteady, told_end, read_failed};
@@ -10,7 +10,7 @@ use crate::buffer::Buffer;
 use crate::head::Head;
 use crate::http_end::HttpEnd;
 use crate::look::{Look, look_at};
-use crate::numbers::{HEAD_LIMIT, SPANS};
+use crate::numbers::{BODY_LIMIT, HEAD_LIMIT, SPANS};
 use crate::parts::Parts;
 use crate::pending::Pending;
 use crate::request::Request;
@@ -68,7 +68,8 @@ fn take_head(
 ) -> Result<(Parts, usize), HttpEnd>
     requires found { IsRequestOf pending.old spans.now found }
     requires within { IsRequestWithin pending.old spans.now found }
-    ensures { Takes pending.old pending.new result }
+    ensures takes { Takes pending.old pending.new result }
+    ensures bound { IfOk result (λ taken. taken.1 ≤ BODY_LIMIT) }
 {
     let head = Head::new(pending.bytes(), spans, found);
     let length = head.judge()?;
