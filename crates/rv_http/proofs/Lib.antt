@@ -11,3 +11,5 @@ pub mod Refusing
 pub mod Counting
 pub mod Responding
 pub mod Bodies
+pub mod Waiting
+pub mod Settled

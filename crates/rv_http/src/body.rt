@@ -1,5 +1,5 @@
 // The body of a request, whose length Content-Length gives (RFC 9112, section 6.3).
-ghost use Rattle.std.specs.Prelude.{◌≡◌, ◌≤◌, ◌<◌, take, length, OnOk};
+ghost use Rattle.std.specs.Prelude.{◌≡◌, ◌≤◌, ◌<◌, ◌⊎◌, take, length, OnOk};
 ghost use Rattle.rv_http.specs.Causes.{Counts, IsSteady};
 ghost use Rattle.rv_http.specs.Steps.{Fills, ReadsBody, body_ended, body_failed};
 
@@ -61,6 +61,7 @@ fn fill_body<S: Source>(
     requires from { from ≤ length body.old.items }
     requires room { length body.old.items ≤ size }
     requires bound { size ≤ BODY_LIMIT }
+    ensures idle { (from < size) ⊎ (source.new ≡ source.old) }
     ensures bytes { Fills from size body.old.items body.new.items (S.state source.old).left (S.state source.new).left result }
     ensures counts { Counts (S.state source.old) (S.state source.new) (body_ended result) (body_failed result) }
     ensures steady { S.fails_no_more source.old → IsSteady (S.fails_no_more source.new) (body_failed result) }
@@ -87,6 +88,9 @@ pub(crate) fn read_body<S: Source>(
     size: usize,
 ) -> Result<Bytes, BodyStop>
     requires { size ≤ BODY_LIMIT }
+
+    // Nothing is read where the whole body was read ahead.
+    ensures idle { (length pending.old < size) ⊎ (source.new ≡ source.old) }
     ensures bytes { ReadsBody size pending.old pending.new (S.state source.old).left (S.state source.new).left result }
     ensures counts { Counts (S.state source.old) (S.state source.new) (body_ended result) (body_failed result) }
     ensures steady { S.fails_no_more source.old → IsSteady (S.fails_no_more source.new) (body_failed result) }

@@ -1,7 +1,7 @@
 // A request is read.
-ghost use Rattle.std.specs.Prelude.{◌≡◌, ◌≤◌, length, IfOk};
+ghost use Rattle.std.specs.Prelude.{◌≡◌, ◌≤◌, ◌⊎◌, length, IfOk};
 ghost use Rattle.httparse.specs.Spans.{IsRequestOf, IsRequestWithin};
-ghost use Rattle.rv_http.specs.Requests.{ReadsOne};
+ghost use Rattle.rv_http.specs.Requests.{IsPartial, Waits, ReadsOne};
 ghost use Rattle.rv_http.specs.Causes.{Counts, IsSteady, told_end, read_failed};
 ghost use Rattle.rv_http.specs.Steps.{Finds, Takes, search_ended, search_failed, head_end, body_end};
 
@@ -38,6 +38,9 @@ fn find_head<S: Source>(
     spans: &mut [HeaderSpan],
 ) -> Result<RequestSpans, HeadStop>
     requires { length spans.old ≡ SPANS }
+
+    // Nothing is read but where a head is waited for.
+    ensures idle { IsPartial pending.old ⊎ ((source.new ≡ source.old) × (pending.new ≡ pending.old)) }
     ensures finds { Finds pending.old pending.new spans.new (S.state source.old).left (S.state source.new).left result }
     ensures counts { Counts (S.state source.old) (S.state source.new) (search_ended result) (search_failed result) }
     ensures steady { S.fails_no_more source.old → IsSteady (S.fails_no_more source.new) (search_failed result) }
@@ -118,6 +121,7 @@ fn read_into<S: Source>(
     spans: &mut [HeaderSpan],
 ) -> Result<Request, HttpEnd>
     requires { length spans.old ≡ SPANS }
+    ensures idle { Waits pending.old ⊎ (source.new ≡ source.old) }
     ensures reads { ReadsOne pending.old pending.new (S.state source.old).left (S.state source.new).left result }
     ensures counts { Counts (S.state source.old) (S.state source.new) (told_end result) (read_failed result) }
     ensures steady { S.fails_no_more source.old → IsSteady (S.fails_no_more source.new) (read_failed result) }
@@ -142,6 +146,9 @@ pub fn read_request<S: Source>(
     source: &mut S,
     buffer: &mut Buffer,
 ) -> Result<Request, HttpEnd>
+
+    // Nothing is read but where a request is waited for.
+    ensures idle { Waits buffer.old ⊎ (source.new ≡ source.old) }
     ensures reads { ReadsOne buffer.old buffer.new (S.state source.old).left (S.state source.new).left result }
     ensures counts { Counts (S.state source.old) (S.state source.new) (told_end result) (read_failed result) }
     ensures steady { S.fails_no_more source.old → IsSteady (S.fails_no_more source.new) (read_failed result) }

@@ -1,4 +1,4 @@
-use Rattle.std.proofs.Common.{rules, ◌≡◌, ◌≤◌, ◌<◌, take, drop, length, ℕ, ◌+◌, List, ◌++◌, sym, ap, ◌∙◌, arith, append_assoc, length-append}
+use Rattle.std.proofs.Common.{rules, ◌≡◌, ◌≤◌, ◌<◌, inl, take, drop, length, ℕ, ◌+◌, List, ◌++◌, sym, ap, ◌∙◌, arith, append_assoc, length-append}
 use Rattle.std.proofs.KnownBytes.{Consumes-trans}
 use Rattle.std.proofs.lemmas.List.{take_all}
 use Rattle.rv_base.specs.Outside.{counted_if}
@@ -28,6 +28,7 @@ loop-at-preserved g c =
         grown ∙ ap (λ l. l ++ more) (ap (take c.loop-at.at) c.deref_mut.ensures.value ∙ room.0 ∙ front) ∙ append_assoc _ read more in
     record {
       bytes = (read ++ more, rw same front', omega (arith, at, length-append read more, count), Consumes-trans _ _ _ read more consumed taken);
+      idle = inl (omega (arith, at, c.loop-at-test.true));
       within = rw same within;
       room = rw same (omega (arith, long, room.1));
       faults = c.in_ok-count.ensures.counts.faults ∙ c.loop-at.invariant.faults;
