@@ -5,11 +5,11 @@ use Rattle.std.specs.Result.{IsErr, IsErrAnd}
 use Rattle.std.proofs.lemmas.List.{length-take-le}
 use Rattle.rv_http.specs.declared.body.BodyStop.{BodyStop}
 use Rattle.rv_http.specs.declared.body.BodyStop.TheVariants.{Ended, Fault, Memory}
-use Rattle.rv_http.specs.declared.numbers.TheConstants.{HEAD_LIMIT}
+use Rattle.rv_http.specs.Numbers.{head_limit}
 use Rattle.rv_http.specs.Steps.{Filled, BodyOf}
 
 -- a body of n bytes: those that were read ahead, of which the rest stays, and those that were read then
-pub body_taken : (pending rest room body read : List ℕ) (count n : ℕ) → pending ≡ take count room ++ rest → body ≡ take count room ++ read → count + length read ≡ n → length pending ≤ HEAD_LIMIT → count ≡ min (length pending) (length room) → length room ≡ min n HEAD_LIMIT
+pub body_taken : (pending rest room body read : List ℕ) (count n : ℕ) → pending ≡ take count room ++ rest → body ≡ take count room ++ read → count + length read ≡ n → length pending ≤ head_limit → count ≡ min (length pending) (length room) → length room ≡ min n head_limit
     → (length body ≡ n) × (pending ++ read ≡ body ++ rest)
 body_taken pending rest room body read count n split is all few least long =
     let front = take count room in
@@ -18,9 +18,11 @@ body_taken pending rest room body read count n split is all few least long =
   where
     front : List ℕ
     front = take count room
+
     none : (l : List ℕ) → length l ≡ 0 → (front ++ l) ≡ front
     none [] e = append-nil front
     none (x ∷ l) e = absurd (omega (arith, e))
+
     go : (r : List ℕ) → r ≡ read → (t : List ℕ) → length pending ≡ count + length t → (front ++ t) ++ r ≡ (front ++ r) ++ t
     go [] e t size = append-nil (front ++ t) ∙ ap (λ l. l ++ t) (sym (append-nil front))
     go (x ∷ r) e t size =
@@ -32,10 +34,10 @@ body_taken pending rest room body read count n split is all few least long =
         same (y ∷ l) e = absurd (omega (arith, e))
 
 -- too few bytes
-pub body_lacks : (pending room read : List ℕ) (count n : ℕ) → count + length read < n → length pending ≤ HEAD_LIMIT → count ≡ min (length pending) (length room) → length room ≡ min n HEAD_LIMIT → length (pending ++ read) < n
+pub body_lacks : (pending room read : List ℕ) (count n : ℕ) → count + length read < n → length pending ≤ head_limit → count ≡ min (length pending) (length room) → length room ≡ min n head_limit → length (pending ++ read) < n
 body_lacks pending room read count n lt few least long = omega (arith, length-append pending read, lt, few, least, long)
 
-pub body_stops : (pending rest room new read : List ℕ) (left : Option (List ℕ)) (count n : ℕ) (stop : BodyStop) → Filled count n room new left read (Err stop) → length pending ≤ HEAD_LIMIT → count ≡ min (length pending) (length room) → length room ≡ min n HEAD_LIMIT
+pub body_stops : (pending rest room new read : List ℕ) (left : Option (List ℕ)) (count n : ℕ) (stop : BodyStop) → Filled count n room new left read (Err stop) → length pending ≤ head_limit → count ≡ min (length pending) (length room) → length room ≡ min n head_limit
     → BodyOf n (pending ++ read) rest left (Err stop)
 body_stops pending rest room new read left count n Ended (lt, end) few least long = (body_lacks pending room read count n lt few least long, end)
 body_stops pending rest room new read left count n Fault lt few least long = body_lacks pending room read count n lt few least long

@@ -1,5 +1,5 @@
 -- What one call after another counts, and what each answer says of the counts.
-use Rattle.std.proofs.Common.{◌≡◌, ℕ, Bool, true, false, if◌then◌else◌, ◌==◌, List, Result, Ok, Err, refl, sym, ap, ◌∙◌, subst}
+use Rattle.std.proofs.Common.{◌≡◌, ℕ, Bool, true, false, if◌then◌else◌, ◌==◌, Err, refl, ap, ◌∙◌, subst}
 use Rattle.std.specs.Prelude.{MatchBool}
 use Rattle.rv_base.specs.Causes.{Rose}
 use Rattle.rv_base.specs.Outside.{InputState, counted_if}
@@ -9,7 +9,6 @@ use Rattle.rv_http.specs.declared.body.BodyStop.{BodyStop}
 use Rattle.rv_http.specs.declared.body.BodyStop.TheVariants as bodies
 use Rattle.rv_http.specs.declared.reading.HeadStop.{HeadStop}
 use Rattle.rv_http.specs.declared.reading.HeadStop.TheVariants as heads
-use Rattle.rv_http.specs.declared.http_end.HttpEnd.{HttpEnd}
 use Rattle.rv_http.specs.declared.http_end.HttpEnd.TheVariants.{End, Cut}
 
 -- nothing was counted before
@@ -29,6 +28,7 @@ head_tells heads.Ended n = (ended (n == 0), failed (n == 0))
     ended : (b : Bool) → told_end {T = Unit {0}} (Err (if b then End else Cut)) ≡ true
     ended true = refl
     ended false = refl
+
     failed : (b : Bool) → read_failed {T = Unit {0}} (Err (if b then End else Cut)) ≡ false
     failed true = refl
     failed false = refl

@@ -1,12 +1,12 @@
 -- Bytes are given one answer, whatever bytes follow.
-use Rattle.std.proofs.Common.{◌≡◌, ℕ, ◌<◌, ◌≤◌, ◌+◌, ◌-◌, ◌⊎◌, List, [], ◌∷◌, ◌++◌, length, take, drop, Result, Ok, Err, inl, inr, true, false, refl, sym, ap, ◌∙◌, subst, arith, length-append}
+use Rattle.std.proofs.Common.{◌≡◌, ℕ, ◌≤◌, ◌+◌, ◌-◌, ◌⊎◌, List, [], ◌++◌, length, take, Result, Ok, Err, inl, inr, true, false, refl, sym, ap, ◌∙◌, subst, arith, length-append}
 use Rattle.std.proofs.lemmas.List.{take_all}
 use Rattle.std.proofs.Math.Seq.{take-append-add}
-use Rattle.httparse.specs.Grammar.{RequestHead, print_request, ReadsRequest, HasNoRequest}
-use Rattle.httparse.proofs.GrammarLemmas.{ReadsRequest-append, request_unique}
+use Rattle.httparse.specs.Grammar.{print_request, ReadsRequest}
+use Rattle.httparse.proofs.GrammarLemmas.{ReadsRequest-append}
 use Rattle.rv_http.specs.declared.http_end.HttpEnd.{HttpEnd}
 use Rattle.rv_http.specs.declared.http_end.HttpEnd.TheVariants.{End, Cut, BadHead, HeadTooLarge, LengthRequired, BodyTooLarge, CodingNotServed, ReadFault, Memory}
-use Rattle.rv_http.specs.declared.numbers.TheConstants.{HEAD_LIMIT}
+use Rattle.rv_http.specs.Numbers.{head_limit}
 use Rattle.rv_http.specs.declared.request.Request.{Request}
 use Rattle.rv_http.specs.Heads.{Head, judge}
 use Rattle.rv_http.specs.Looks.{IsOpen, IsRefused}
@@ -38,9 +38,9 @@ stay bytes rest more rest' (Memory flag) r (head, next, begins, is) = (head, nex
 head_in_window : (bytes more : List ℕ) (head : Head) → (begins : Begins bytes head more) → (rest : List ℕ) × ReadsRequest (window bytes) begins.tree rest
 head_in_window bytes more head begins =
     let text = print_request begins.tree in
-    let n = HEAD_LIMIT - length text in
-    let all : HEAD_LIMIT ≡ length text + n = omega (arith, begins.within) in
-    (take n more, (begins.reads.0, ap (take HEAD_LIMIT) begins.reads.1 ∙ ap (λ k. take k (text ++ more)) all ∙ take-append-add text more n))
+    let n = head_limit - length text in
+    let all : head_limit ≡ length text + n = omega (arith, begins.within) in
+    (take n more, (begins.reads.0, ap (take head_limit) begins.reads.1 ∙ ap (λ k. take k (text ++ more)) all ∙ take-append-add text more n))
 
 head_is_not_refused : (bytes more : List ℕ) (head : Head) → Begins bytes head more → IsRefused (window bytes) → ⊥
 head_is_not_refused bytes more head begins (never, outside) =
@@ -56,7 +56,7 @@ refused_is_not_open bytes (never, outside) (none, inr inside) = outside inside
 
 -- why bytes are refused
 abbrev Reason : List ℕ → HttpEnd → Type 0
-Reason bytes e = Judged bytes (Err e) ⊎ (((e ≡ BadHead false) × IsRefused (window bytes)) ⊎ ((e ≡ HeadTooLarge false) × (HEAD_LIMIT ≤ length bytes) × IsOpen (window bytes)))
+Reason bytes e = Judged bytes (Err e) ⊎ (((e ≡ BadHead false) × IsRefused (window bytes)) ⊎ ((e ≡ HeadTooLarge false) × (head_limit ≤ length bytes) × IsOpen (window bytes)))
 
 reason : (bytes rest : List ℕ) (e : HttpEnd) → IsJudgement e → Gives bytes rest (Err e) → Reason bytes e
 reason bytes rest End is g = absurd is
@@ -95,7 +95,7 @@ no_reason bytes e n (head, more, begins, judged) (inr (inl (is, refused))) = hea
 no_reason bytes e n (head, more, begins, judged) (inr (inr (is, le, waiting))) = head_is_not_open bytes more head begins waiting
 
 in_window : (bytes : List ℕ) → IsPartial bytes → IsOpen (window bytes)
-in_window bytes (lt, waiting) = subst IsOpen (sym (take_all HEAD_LIMIT bytes (omega (arith, lt)))) waiting
+in_window bytes (lt, waiting) = subst IsOpen (sym (take_all head_limit bytes (omega (arith, lt)))) waiting
 
 refused_waits_not : (bytes : List ℕ) (e : HttpEnd) → Reason bytes e → Waits bytes → ⊥
 refused_waits_not bytes e r (inr (head, more, n, begins, judged, lt)) = no_reason bytes e n (head, more, begins, judged) r
@@ -130,7 +130,7 @@ one_request bytes rest more rest' request result g o = request_only (bytes ++ mo
 -- before its first byte nothing is refused
 none_is_refused : (bytes : List ℕ) (e : HttpEnd) → bytes ≡ [] → Reason bytes e → ⊥
 none_is_refused bytes e empty (inl (head, more, begins, judged)) = omega (arith, some_head bytes more head begins, ap length empty)
-none_is_refused bytes e empty (inr (inl (is, refused))) = nothing_is_not_refused (subst IsRefused (ap window empty ∙ take_all HEAD_LIMIT [] (omega arith)) refused)
+none_is_refused bytes e empty (inr (inl (is, refused))) = nothing_is_not_refused (subst IsRefused (ap window empty ∙ take_all head_limit [] (omega arith)) refused)
 none_is_refused bytes e empty (inr (inr (is, le, waiting))) = omega (arith, le, ap length empty)
 
 refusal_only : (bytes rest' : List ℕ) (e : HttpEnd) (result : Result Request HttpEnd) → Reason bytes e → Gives bytes rest' result → IsThisRefusal e result

@@ -10,7 +10,7 @@ use Rattle.rv_http.specs.declared.reading.HeadStop.{HeadStop}
 use Rattle.rv_http.specs.declared.reading.HeadStop.TheVariants as heads
 use Rattle.rv_http.specs.declared.http_end.HttpEnd.{HttpEnd}
 use Rattle.rv_http.specs.declared.http_end.HttpEnd.TheVariants.{End, Cut, BadHead, HeadTooLarge, ReadFault, Memory}
-use Rattle.rv_http.specs.declared.numbers.TheConstants.{HEAD_LIMIT}
+use Rattle.rv_http.specs.Numbers.{head_limit}
 use Rattle.rv_http.specs.declared.parts.Parts.{Parts}
 use Rattle.rv_http.specs.Heads.{Head, judge, is_head}
 use Rattle.rv_http.specs.Parts.{parts_of}
@@ -70,10 +70,10 @@ ReadsBody n pending pending' left left' result = (read : List ℕ) × Consumes l
 -- where the search for a head stopped
 abbrev pub Found : List ℕ → List HeaderSpan → Option (List ℕ) → Result RequestSpans HeadStop → Type 0
 Found bytes spans left (Ok found) = IsRequestOf bytes spans found × IsRequestWithin bytes spans found
-Found bytes spans left (Err heads.Ended) = (length bytes < HEAD_LIMIT) × IsOpen bytes × IsAtEnd left
-Found bytes spans left (Err heads.Fault) = (length bytes < HEAD_LIMIT) × IsOpen bytes
-Found bytes spans left (Err heads.Refused) = (length bytes ≤ HEAD_LIMIT) × IsRefused bytes
-Found bytes spans left (Err heads.TooLong) = (length bytes ≡ HEAD_LIMIT) × IsOpen bytes
+Found bytes spans left (Err heads.Ended) = (length bytes < head_limit) × IsOpen bytes × IsAtEnd left
+Found bytes spans left (Err heads.Fault) = (length bytes < head_limit) × IsOpen bytes
+Found bytes spans left (Err heads.Refused) = (length bytes ≤ head_limit) × IsRefused bytes
+Found bytes spans left (Err heads.TooLong) = (length bytes ≡ head_limit) × IsOpen bytes
 
 abbrev pub Finds : List ℕ → List ℕ → List HeaderSpan → Option (List ℕ) → Option (List ℕ) → Result RequestSpans HeadStop → Type 0
 Finds pending pending' spans left left' result = (read : List ℕ) × (pending' ≡ pending ++ read) × Consumes left left' read × Found pending' spans left' result

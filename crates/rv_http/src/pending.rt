@@ -10,7 +10,7 @@ use std::marker::Model;
 
 /// Bytes that were read and not taken yet, at most as many as a head may have.
 #[derive(Drop)]
-pub struct Pending {
+pub(crate) struct Pending {
     bytes: Vec<u8>,
     end: usize,
 }
@@ -27,7 +27,11 @@ impl Model for Pending {
 }
 
 /// Reads some bytes of the source into the bytes from a place on, none only at its end.
-pub fn read_at<S: Source>(source: &mut S, bytes: &mut [u8], at: usize) -> Result<usize, Failed>
+pub(crate) fn read_at<S: Source>(
+    source: &mut S,
+    bytes: &mut [u8],
+    at: usize,
+) -> Result<usize, Failed>
     requires { at < length bytes.old }
     ensures size { length bytes.new ≡ length bytes.old }
     ensures bytes { IfOk result (λ n. (more : List ℕ) × (take (at + n) bytes.new ≡ take at bytes.old ++ more) × (length more ≡ n) × (at + n ≤ length bytes.new) × Consumes (S.state source.old).left (S.state source.new).left more) }
@@ -42,7 +46,7 @@ pub fn read_at<S: Source>(source: &mut S, bytes: &mut [u8], at: usize) -> Result
 
 impl Pending {
     /// None yet.
-    pub fn new(alloc: Global) -> Result<Self, Memory>
+    pub(crate) fn new(alloc: Global) -> Result<Self, Memory>
         ensures { IfOk result (λ pending. pending ≡ []) }
     {
         let bytes = vec![in alloc; 0; HEAD_LIMIT]?;
@@ -50,7 +54,7 @@ impl Pending {
     }
 
     /// The bytes.
-    pub fn bytes(&self) -> &[u8]
+    pub(crate) fn bytes(&self) -> &[u8]
         ensures value { result.now ≡ self.now }
         ensures few { length self.now ≤ HEAD_LIMIT }
     {
@@ -58,7 +62,7 @@ impl Pending {
     }
 
     /// How many there are.
-    pub fn len(&self) -> usize
+    pub(crate) fn len(&self) -> usize
         ensures value { result ≡ length self.now }
         ensures few { result ≤ HEAD_LIMIT }
     {
@@ -66,7 +70,7 @@ impl Pending {
     }
 
     /// Takes some bytes from the source, none only at its end.
-    pub fn fill<S: Source>(&mut self, source: &mut S) -> Result<usize, Failed>
+    pub(crate) fn fill<S: Source>(&mut self, source: &mut S) -> Result<usize, Failed>
         requires room { length self.old < HEAD_LIMIT }
         ensures bytes { IfOk result (λ n. (more : List ℕ) × (self.new ≡ self.old ++ more) × (length more ≡ n) × Consumes (S.state source.old).left (S.state source.new).left more) }
         ensures end { IfOk result (λ n. n ≡ 0 → IsAtEnd (S.state source.new).left) }
@@ -80,7 +84,7 @@ impl Pending {
     }
 
     /// Takes bytes off the front.
-    pub fn forget(&mut self, count: usize)
+    pub(crate) fn forget(&mut self, count: usize)
         requires { count ≤ length self.old }
         ensures { self.new ≡ drop count self.old }
     {
@@ -89,7 +93,7 @@ impl Pending {
     }
 
     /// Moves as many bytes as both have to the front of a body.
-    pub fn give(&mut self, body: &mut [u8]) -> usize
+    pub(crate) fn give(&mut self, body: &mut [u8]) -> usize
         ensures count { result ≡ min (length self.old) (length body.old) }
         ensures few { length self.old ≤ HEAD_LIMIT }
         ensures size { length body.new ≡ length body.old }

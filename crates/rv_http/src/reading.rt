@@ -1,4 +1,4 @@
-// A request is read.
+// A request is read: a head, and a body of the length that the head gives (RFC 9112, sections 2.1 and 6.3).
 ghost use Rattle.std.specs.Prelude.{◌≡◌, ◌≤◌, ◌⊎◌, length, IfOk};
 ghost use Rattle.httparse.specs.Spans.{IsRequestOf, IsRequestWithin};
 ghost use Rattle.rv_http.specs.Requests.{IsPartial, Waits, ReadsOne};
@@ -140,7 +140,8 @@ fn read_into<S: Source>(
     }
 }
 
-/// Reads the next request. Bytes after it stay in the buffer.
+/// Reads the next request. Bytes after it stay in the buffer; after an error what was read stays read, and the connection
+/// is of no more use.
 pub fn read_request<S: Source>(
     alloc: Global,
     source: &mut S,

@@ -1,4 +1,4 @@
-// Responses.
+// Responses (RFC 9112, section 4; RFC 9110, section 15).
 ghost use Rattle.std.specs.Prelude.{◌≡◌, ◌≤◌, ◌+◌, ◌++◌, true, length, take, decimal, codes};
 ghost use Rattle.rv_base.specs.Outside.{Writes, IsSteady};
 ghost use Rattle.rv_http.specs.Responses.{is_served, reason, own_field, close_field, response_head, sent_body, response_text};
@@ -46,6 +46,7 @@ fn put(out: &mut [u8; ROOM], at: usize, text: &[u8]) -> usize
     end
 }
 
+// Copies the digits of a number.
 fn put_number(out: &mut [u8; ROOM], at: usize, number: u64) -> usize
     requires { at + 20 ≤ ROOM }
     ensures bound { result ≤ at + 20 }
@@ -99,7 +100,7 @@ fn put_content(out: &mut [u8; ROOM], at: usize, count: usize) -> usize
     put(out, at, b"\r\n")
 }
 
-// The field of a status.
+// The field of a status: the challenge of 401 (RFC 9110, section 11.6.1), the methods of 405 (section 10.2.1).
 fn put_own(out: &mut [u8; ROOM], at: usize, status: u16) -> usize
     requires { at ≤ 140 }
     ensures bound { result ≤ 180 }
@@ -114,7 +115,7 @@ fn put_own(out: &mut [u8; ROOM], at: usize, status: u16) -> usize
     }
 }
 
-// The field of an answer that closes.
+// The field of an answer that closes (RFC 9112, section 9.6).
 fn put_close(out: &mut [u8; ROOM], at: usize, closes: bool) -> usize
     requires { at ≤ 180 }
     ensures bound { result ≤ 200 }
@@ -140,7 +141,7 @@ fn put_head(out: &mut [u8; ROOM], response: &Response<'_>) -> usize
     put(out, at, b"\r\n")
 }
 
-// The body, where it is sent.
+// The body, which the answer to a HEAD request does not have (RFC 9110, section 9.3.2).
 fn write_body<O: Sink>(sink: &mut O, response: &Response<'_>) -> Result<(), Failed>
     ensures writes { Writes (O.state sink.old) (O.state sink.new) result (sent_body response.now) }
     ensures steady { O.fails_no_more sink.old → IsSteady (O.fails_no_more sink.new) (O.state sink.old) (O.state sink.new) result }
@@ -152,7 +153,7 @@ fn write_body<O: Sink>(sink: &mut O, response: &Response<'_>) -> Result<(), Fail
     }
 }
 
-/// Writes a response. It takes no memory.
+/// Writes a response. It takes no memory. After a write that fails the sink has a front of it.
 pub fn write_response<O: Sink>(sink: &mut O, response: &Response<'_>) -> Result<(), WriteFault>
     requires { is_served response.now.status ≡ true }
     ensures writes { Writes (O.state sink.old) (O.state sink.new) result (response_text response.now) }

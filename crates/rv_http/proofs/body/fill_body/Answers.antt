@@ -1,4 +1,4 @@
-use Rattle.std.proofs.Common.{rules, ◌≡◌, ◌≤◌, ◌<◌, inl, take, drop, length, ℕ, ◌+◌, List, ◌++◌, sym, ap, ◌∙◌, arith, append_assoc, length-append}
+use Rattle.std.proofs.Common.{◌≡◌, ◌≤◌, inl, take, drop, length, ◌+◌, ◌++◌, sym, ap, ◌∙◌, arith, append_assoc, length-append}
 use Rattle.std.proofs.KnownBytes.{Consumes-trans}
 use Rattle.std.proofs.lemmas.List.{take_all}
 use Rattle.rv_base.specs.Outside.{counted_if}
@@ -15,17 +15,17 @@ loop-at-preserved g c =
     let long : length bytes ≡ length body.items = c.in_ok-count.ensures.size ∙ ap length c.deref_mut.ensures.value in
     let same : take body.len (bytes ++ drop (length bytes) body.items) ≡ bytes = written bytes body.items body.len long (omega (arith, body.ok.0)) in
     let room : (take c.loop-at.at body.items ≡ take c.loop-at.at c.loop-at.body.items) × (length body.items ≤ c.args.size) =
-        elim c.if-at-len.branch [
-          | then-at-len+in_ok-grow w ↦
-              let (kept, more, few) = w.in_ok-grow.ensures in
-              let full : c.loop-at.at ≡ length c.loop-at.body.items = omega (arith, w.if-at-len.true, c.len.ensures, c.loop-at.body.ok.0) in (
-                ap (λ b. take c.loop-at.at b.items) w.body-is ∙ ap (λ n. take n w.grow.new.body.items) full ∙ kept ∙ sym (take_all c.loop-at.at c.loop-at.body.items (omega (arith, full))),
-                rw w.body-is few,
-              )
-          | else-at-len w ↦ (ap (λ b. take c.loop-at.at b.items) w.body-is, rw w.body-is c.loop-at.invariant.room)
-        ] in
+    elim c.if-at-len.branch [
+      | then-at-len+in_ok-grow w ↦
+          let (kept, more, few) = w.in_ok-grow.ensures in
+          let full : c.loop-at.at ≡ length c.loop-at.body.items = omega (arith, w.if-at-len.true, c.len.ensures, c.loop-at.body.ok.0) in (
+            ap (λ b. take c.loop-at.at b.items) w.body-is ∙ ap (λ n. take n w.grow.new.body.items) full ∙ kept ∙ sym (take_all c.loop-at.at c.loop-at.body.items (omega (arith, full))),
+            rw w.body-is few,
+          )
+      | else-at-len w ↦ (ap (λ b. take c.loop-at.at b.items) w.body-is, rw w.body-is c.loop-at.invariant.room)
+    ] in
     let front' : take (c.loop-at.at + c.in_ok-count.count) bytes ≡ take c.args.from c.args.body.now.items ++ (read ++ more) =
-        grown ∙ ap (λ l. l ++ more) (ap (take c.loop-at.at) c.deref_mut.ensures.value ∙ room.0 ∙ front) ∙ append_assoc _ read more in
+    grown ∙ ap (λ l. l ++ more) (ap (take c.loop-at.at) c.deref_mut.ensures.value ∙ room.0 ∙ front) ∙ append_assoc _ read more in
     record {
       bytes = (read ++ more, rw same front', omega (arith, at, length-append read more, count), Consumes-trans _ _ _ read more consumed taken);
       idle = inl (omega (arith, at, c.loop-at-test.true));

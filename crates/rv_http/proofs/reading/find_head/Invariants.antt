@@ -1,6 +1,6 @@
-use Rattle.std.proofs.Common.{◌≡◌, ◌≤◌, ◌⊎◌, ◌-◌, ◌++◌, List, ℕ, length}
+use Rattle.std.proofs.Common.{◌≡◌, ◌⊎◌, ◌-◌, ◌++◌, List, ℕ, length}
 use Rattle.std.specs.Io.KnownBytes.{Consumes}
-use Rattle.rv_http.specs.declared.numbers.TheConstants.{HEAD_LIMIT}
+use Rattle.rv_http.specs.Numbers.{head_limit}
 use Rattle.rv_http.specs.Requests.{IsPartial}
 use Rattle.rv_http.proofs.reading.find_head.Given as goal
 
@@ -14,4 +14,4 @@ invariant-loop-found g l = record {
 }
 
 abbrev pub decreases-loop-found : goal.decreases-loop-found
-decreases-loop-found g l = HEAD_LIMIT - length l.pending
+decreases-loop-found g l = head_limit - length l.pending
