@@ -12,7 +12,8 @@ use rv_base::{Id, User};
 use rv_history::{Turns, push};
 use rv_wire::{PullRequest, Push};
 
-fn run_push<T: Turns>(turns: &mut T, user: &User, body: Push) -> Answer
+/// Answers a push of a user by its turns.
+pub fn run_push<T: Turns>(turns: &mut T, user: &User, body: Push) -> Answer
     ensures { Answers T.mutates T.pulls T.retires turns.old (requests.Push user.now body) result turns.new }
 {
     match push(turns, user, body) {
@@ -21,7 +22,8 @@ fn run_push<T: Turns>(turns: &mut T, user: &User, body: Push) -> Answer
     }
 }
 
-fn run_pull<T: Turns>(turns: &mut T, user: &User, body: &PullRequest) -> Answer
+/// Answers a pull of a user by its turn.
+pub fn run_pull<T: Turns>(turns: &mut T, user: &User, body: &PullRequest) -> Answer
     ensures { Answers T.mutates T.pulls T.retires turns.old (requests.Pull user.now body.now) result turns.new }
 {
     match turns.pull(user, body).outcome() {

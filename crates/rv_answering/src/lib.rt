@@ -13,7 +13,7 @@ mod request;
 mod schemas;
 
 pub use answer::Answer;
-pub use answering::{retire_group, serve_asked, serve_request};
+pub use answering::{retire_group, run_pull, run_push, serve_asked, serve_request};
 pub use asking::{Asked, line_of};
 pub use line::Line;
 pub use request::Request;

@@ -5,7 +5,7 @@ use Rattle.serde_json.specs.Written.{compact_text}
 use Rattle.serde_json.proofs.OnLiterals.{serde_json_on_literals}
 use Rattle.rv_wire.specs.declared.error_body.Which.{Which}
 use Rattle.rv_wire.specs.declared.error_body.Which.TheVariants.{Book, Order}
-use Rattle.rv_wire.specs.declared.error_body.ErrorBody.TheVariants.{ClientStateNotFound, VersionNotSupported, NotJson, Field, GroupOfOther, ClientOfOther, NoGroup, Future, Limit, Changed, Keeper, Memory}
+use Rattle.rv_wire.specs.declared.error_body.ErrorBody.TheVariants.{ClientStateNotFound, VersionNotSupported, NotJson, Field, GroupOfOther, ClientOfOther, NoGroup, Future, Limit, Changed, Keeper, Memory, BadHead, Unauthorized, NoRoute, OtherMethod, LengthRequired, BodyTooLarge, HeadTooLarge, CodingNotServed}
 use Rattle.rv_wire.specs.declared.fault.FieldName.{FieldName}
 use Rattle.rv_wire.specs.declared.fault.FieldName.TheVariants as fields
 use Rattle.rv_wire.specs.declared.fault.VersionKind.{VersionKind}
@@ -54,6 +54,38 @@ client_of_other_text = refl
 pub no_group_text : compact_text (error_data NoGroup) ≡ codes "{\"error\":\"NoGroup\"}"
 unfolding serde_json_on_literals
 no_group_text = refl
+
+pub bad_head_text : compact_text (error_data BadHead) ≡ codes "{\"error\":\"BadHead\"}"
+unfolding serde_json_on_literals
+bad_head_text = refl
+
+pub unauthorized_text : compact_text (error_data Unauthorized) ≡ codes "{\"error\":\"Unauthorized\"}"
+unfolding serde_json_on_literals
+unauthorized_text = refl
+
+pub no_route_text : compact_text (error_data NoRoute) ≡ codes "{\"error\":\"NoRoute\"}"
+unfolding serde_json_on_literals
+no_route_text = refl
+
+pub other_method_text : compact_text (error_data OtherMethod) ≡ codes "{\"error\":\"OtherMethod\"}"
+unfolding serde_json_on_literals
+other_method_text = refl
+
+pub length_required_text : compact_text (error_data LengthRequired) ≡ codes "{\"error\":\"LengthRequired\"}"
+unfolding serde_json_on_literals
+length_required_text = refl
+
+pub body_too_large_text : compact_text (error_data BodyTooLarge) ≡ codes "{\"error\":\"BodyTooLarge\"}"
+unfolding serde_json_on_literals
+body_too_large_text = refl
+
+pub head_too_large_text : compact_text (error_data HeadTooLarge) ≡ codes "{\"error\":\"HeadTooLarge\"}"
+unfolding serde_json_on_literals
+head_too_large_text = refl
+
+pub coding_not_served_text : compact_text (error_data CodingNotServed) ≡ codes "{\"error\":\"CodingNotServed\"}"
+unfolding serde_json_on_literals
+coding_not_served_text = refl
 
 pub field_error_text : (field : FieldName) → (codes "{\"error\":\"Field\",\"field\":\"" ++ field_text field) ++ codes "\"}" ≡ compact_text (error_data (Field field))
 unfolding serde_json_on_literals

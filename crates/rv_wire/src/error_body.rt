@@ -47,4 +47,20 @@ pub enum ErrorBody {
     Keeper,
     /// Memory was refused.
     Memory,
+    /// The head of the request, or its Content-Length, is not of the form.
+    BadHead,
+    /// No account has the request's key. The client's reference names this status, at which a client asks for fresh credentials.
+    Unauthorized,
+    /// Nothing is served at the path.
+    NoRoute,
+    /// The path is served for another method.
+    OtherMethod,
+    /// A body is to come, and its length is not said.
+    LengthRequired,
+    /// The body has more bytes than are taken.
+    BodyTooLarge,
+    /// The head has more bytes or fields than are taken.
+    HeadTooLarge,
+    /// The body is sent in a coding that is not served.
+    CodingNotServed,
 }

@@ -85,6 +85,14 @@ pub fn error_text(error: &ErrorBody, out: &mut [u8; 128]) -> usize
         }
         ErrorBody::Keeper => put(out, 0, b"{\"error\":\"keeper\"}"),
         ErrorBody::Memory => put(out, 0, b"{\"error\":\"memory\"}"),
+        ErrorBody::BadHead => put(out, 0, b"{\"error\":\"BadHead\"}"),
+        ErrorBody::Unauthorized => put(out, 0, b"{\"error\":\"Unauthorized\"}"),
+        ErrorBody::NoRoute => put(out, 0, b"{\"error\":\"NoRoute\"}"),
+        ErrorBody::OtherMethod => put(out, 0, b"{\"error\":\"OtherMethod\"}"),
+        ErrorBody::LengthRequired => put(out, 0, b"{\"error\":\"LengthRequired\"}"),
+        ErrorBody::BodyTooLarge => put(out, 0, b"{\"error\":\"BodyTooLarge\"}"),
+        ErrorBody::HeadTooLarge => put(out, 0, b"{\"error\":\"HeadTooLarge\"}"),
+        ErrorBody::CodingNotServed => put(out, 0, b"{\"error\":\"CodingNotServed\"}"),
     }
 }
 
@@ -106,6 +114,14 @@ impl ErrorBody {
             ErrorBody::Changed { .. } => 500,
             ErrorBody::Keeper => 503,
             ErrorBody::Memory => 503,
+            ErrorBody::BadHead => 400,
+            ErrorBody::Unauthorized => 401,
+            ErrorBody::NoRoute => 404,
+            ErrorBody::OtherMethod => 405,
+            ErrorBody::LengthRequired => 411,
+            ErrorBody::BodyTooLarge => 413,
+            ErrorBody::HeadTooLarge => 431,
+            ErrorBody::CodingNotServed => 501,
         }
     }
 }

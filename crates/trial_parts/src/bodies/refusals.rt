@@ -104,6 +104,14 @@ fn error_named(words: &str) -> Option<ErrorBody> {
         "Changed" => changed(rest),
         "Keeper" => Some(ErrorBody::Keeper),
         "Memory" => Some(ErrorBody::Memory),
+        "BadHead" => Some(ErrorBody::BadHead),
+        "Unauthorized" => Some(ErrorBody::Unauthorized),
+        "NoRoute" => Some(ErrorBody::NoRoute),
+        "OtherMethod" => Some(ErrorBody::OtherMethod),
+        "LengthRequired" => Some(ErrorBody::LengthRequired),
+        "BodyTooLarge" => Some(ErrorBody::BodyTooLarge),
+        "HeadTooLarge" => Some(ErrorBody::HeadTooLarge),
+        "CodingNotServed" => Some(ErrorBody::CodingNotServed),
         _ => None,
     }
 }
