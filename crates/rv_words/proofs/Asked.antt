@@ -87,12 +87,13 @@ differs verb known other = go (bytes_eq verb known) refl
     go false is = refl
 
 pub others : OthersAskForNothing
-others name verb words feed retire lists activity check = other_line name verb words (record {
+others name verb words feed retire lists activity check serve = other_line name verb words (record {
   feed = differs verb (codes "feed") feed;
   retire = differs verb (codes "retire") retire;
   lists = differs verb (codes "lists") lists;
   activity = differs verb (codes "activity") activity;
   check = differs verb (codes "check") check;
+  serve = differs verb (codes "serve") serve;
 })
 
 -- ---- what is asked to retire is an `Id`

@@ -14,11 +14,11 @@ use Rattle.clap.proofs.WalkLemmas.{walk_stopped}
 use Rattle.clap.proofs.FaultLemmas.{stopped_fault}
 use Rattle.clap.proofs.OnLiterals.{clap_on_literals}
 use Rattle.rv_words.specs.Table.{bare_app, commands, rv_app, with_commands}
-use Rattle.rv_words.specs.Words.{command_in, is_taken, named_in, on_store_in, retire_in}
+use Rattle.rv_words.specs.Words.{command_in, is_taken, named_in, on_store_in, retire_in, serve_in}
 use Rattle.rv_words.specs.Plain.{asked_with, is_flag, on_store_with, plainly_in, values_in}
 use Rattle.rv_words.specs.declared.command.Command.{Command}
 use Rattle.rv_words.proofs.Leaves.{HasNoFlags, at, flag_fails, more_fails, not_empty, plain_turn, read_from}
-use Rattle.rv_words.proofs.Verbs.{retire_1, retire_leaf, store_1, store_leaf}
+use Rattle.rv_words.proofs.Verbs.{retire_1, retire_leaf, serve_leaf, store_1, store_leaf}
 
 abbrev whole : App
 whole = built (with_commands bare_app commands)
@@ -88,6 +88,7 @@ pub record IsOther (verb : Text) : Type 0 where
   pub lists : bytes_eq verb (codes "lists") ≡ false
   pub activity : bytes_eq verb (codes "activity") ≡ false
   pub check : bytes_eq verb (codes "check") ≡ false
+  pub serve : bytes_eq verb (codes "serve") ≡ false
 
 top_flags : HasNoFlags top
 top_flags = (λ name. refl, λ letter. refl)
@@ -103,7 +104,8 @@ not_named verb is =
     let no_lists : bytes_eq (codes "lists") verb ≡ false = not_same verb (codes "lists") is.lists in
     let no_activity : bytes_eq (codes "activity") verb ≡ false = not_same verb (codes "activity") is.activity in
     let no_check : bytes_eq (codes "check") verb ≡ false = not_same verb (codes "check") is.check in
-    rw (no_feed, no_lists, no_activity, no_check, no_retire) refl
+    let no_serve : bytes_eq (codes "serve") verb ≡ false = not_same verb (codes "serve") is.serve in
+    rw (no_feed, no_lists, no_activity, no_check, no_retire, no_serve) refl
 
 turn_alone : (verb : Text) → subcommand_met names idle verb ≡ None → turn_fault top names begin verb ≡ turn_fault top [] (at [] None 1 false) verb
 turn_alone verb none = ap (λ o. or_else (other_fault top o verb begin.held)
@@ -145,6 +147,12 @@ by_name P verb known at_it other = go (bytes_eq verb known) refl
     go true is = subst P (sym (same_text verb known (sym is))) at_it
     go false is = other is
 
+serve_line : (one other : Text) (words : List Text) → command_in (other ∷ codes "serve" ∷ words) ≡ command_in (one ∷ codes "serve" ∷ words)
+unfolding clap_on_literals
+serve_line one other words =
+    named_line other (codes "serve") words serve_leaf serve_in (refl, refl, refl, λ rows. refl)
+    ∙ sym (named_line one (codes "serve") words serve_leaf serve_in (refl, refl, refl, λ rows. refl))
+
 verb_line : (name verb : Text) (words : List Text) → command_in (name ∷ verb ∷ words) ≡ plainly_in (name ∷ verb ∷ words)
 unfolding clap_on_literals
 verb_line name verb words =
@@ -154,8 +162,9 @@ verb_line name verb words =
     by_name P verb (codes "activity") (store_line (codes "activity") (refl, refl, refl, λ rows. refl) name words) (λ activity.
     by_name P verb (codes "check") (store_line (codes "check") (refl, refl, refl, λ rows. refl) name words) (λ check.
     by_name P verb (codes "retire") (named_line name (codes "retire") words retire_leaf retire_in (refl, refl, refl, λ rows. refl) ∙ retire_1 words) (λ retire.
-    let is : IsOther verb = record { feed = feed; retire = retire; lists = lists; activity = activity; check = check } in
-    other_line name verb words is ∙ sym (other_values verb (values_in words) is))))))
+    by_name P verb (codes "serve") (serve_line (codes "rv") name words) (λ serve.
+    let is : IsOther verb = record { feed = feed; retire = retire; lists = lists; activity = activity; check = check; serve = serve } in
+    other_line name verb words is ∙ sym (ap (λ b. cond b _ (option_and_then (asked_with verb) (values_in words))) serve ∙ other_values verb (values_in words) is)))))))
 
 pub line_is_plain : (words : List Text) → command_in words ≡ plainly_in words
 unfolding command_in rv_app clap_on_literals

@@ -6,7 +6,7 @@ use Rattle.clap.specs.Simple.{App, Shape, built_leaf, inherited, marked_built, w
 use Rattle.clap.proofs.OnLiterals.{clap_on_literals}
 use Rattle.clap.specs.declared.parser.matches.ValueSource.TheVariants.{CommandLine}
 use Rattle.clap.specs.declared.builder.value_parser.Reading.TheVariants.{AsWritten}
-use Rattle.rv_words.specs.Table.{bare_app, retire_app, store_app}
+use Rattle.rv_words.specs.Table.{bare_app, retire_app, serve_app, store_app}
 use Rattle.rv_words.specs.Words.{is_taken, on_store_in, retire_in}
 use Rattle.rv_words.specs.Plain.{on_store_with, retire_with, values_in}
 use Rattle.rv_words.specs.declared.command.Command.{Command}
@@ -62,6 +62,11 @@ module _ (verb : Text) where
       (λ p. goes store_leaf reads (at [] None 1 false) (at [] (Some (store, v ∷ [])) 2 false) v ws
       (plain_turn store_leaf store_flags reads [] None 1 v p) (plain_walk store_leaf store_flags reads [] None 1 v p)
       ∙ store_2 v ws)
+
+-- ---- serve
+
+abbrev pub serve_leaf : Shape
+serve_leaf = leaf serve_app
 
 -- ---- retire
 

@@ -62,5 +62,5 @@ pub record AskForNothing : Type 0 where
 -- no command goes by any other name: not by `help`, `--help`, `-h`, `--version` or `--` either
 abbrev pub OthersAskForNothing : Type 0
 OthersAskForNothing = (name verb : List ℕ) (words : List (List ℕ))
-    → verb ≢ codes "feed" → verb ≢ codes "retire" → verb ≢ codes "lists" → verb ≢ codes "activity" → verb ≢ codes "check"
+    → verb ≢ codes "feed" → verb ≢ codes "retire" → verb ≢ codes "lists" → verb ≢ codes "activity" → verb ≢ codes "check" → verb ≢ codes "serve"
     → command_in (name ∷ verb ∷ words) ≡ None

@@ -1,7 +1,7 @@
 -- What the words ask for, said without clap.
 use Rattle.std.specs.Prelude.{ℕ, ◌==◌, ◌&&◌, List, [], ◌∷◌, Option, Some, None, Bool, false, codes, is_some, slice_get, if◌then◌else◌, option_and_then, option_map}
 use Rattle.std.specs.Str.{bytes_eq, chars}
-use Rattle.rv_words.specs.Words.{on_store, retire_group_in}
+use Rattle.rv_words.specs.Words.{command_in, on_store, retire_group_in}
 use Rattle.rv_words.specs.declared.command.Command.{Command}
 
 -- a `-` (45) with a character after it
@@ -33,5 +33,7 @@ asked_with verb values =
 
 -- the program's name, the command's, and its values
 abbrev pub plainly_in : List (List ℕ) → Option Command
-plainly_in (name ∷ verb ∷ words) = option_and_then (asked_with verb) (values_in words)
+plainly_in (name ∷ verb ∷ words) =
+    if bytes_eq verb (codes "serve") then command_in (codes "rv" ∷ codes "serve" ∷ words)
+    else option_and_then (asked_with verb) (values_in words)
 plainly_in other = None

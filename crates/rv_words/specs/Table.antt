@@ -1,11 +1,15 @@
 -- The commands of `rv`, as clap's contracts see them.
-use Rattle.std.specs.Prelude.{true, List, [], ◌∷◌, codes, fold}
+use Rattle.std.specs.Prelude.{true, List, [], ◌∷◌, Some, codes, fold}
 use Rattle.clap.specs.Words.{App, Rule, Text, new_app, new_rule, with_rule, with_subcommand}
 use Rattle.clap.specs.Simple.{on_top}
 
 -- a word that must be given
 abbrev pub required_value : Text → Rule
 required_value name = record (new_rule name) { required = true }
+
+-- an option that must be given, with its value
+abbrev pub required_option : Text → Rule
+required_option name = record (new_rule name) { long = Some name; required = true }
 
 -- VERB STORE
 abbrev pub store_app : Text → App
@@ -14,6 +18,10 @@ store_app verb = with_rule (new_app verb) (required_value (codes "STORE"))
 -- retire STORE GROUP
 abbrev pub retire_app : App
 retire_app = with_rule (store_app (codes "retire")) (required_value (codes "GROUP"))
+
+-- serve STORE --accounts FILE --port PORT --workers WORKERS --connections CONNECTIONS
+abbrev pub serve_app : App
+serve_app = fold (λ app name. with_rule app (required_option name)) (store_app (codes "serve")) (codes "accounts" ∷ codes "port" ∷ codes "workers" ∷ codes "connections" ∷ [])
 
 -- one of the commands must be named, and nothing asks for help or for the version
 abbrev pub bare_app : App
@@ -25,7 +33,7 @@ bare_app = on_top (λ shape. record shape {
 }) (new_app (codes "rv"))
 
 abbrev pub commands : List App
-commands = store_app (codes "feed") ∷ store_app (codes "lists") ∷ store_app (codes "activity") ∷ store_app (codes "check") ∷ retire_app ∷ []
+commands = store_app (codes "feed") ∷ store_app (codes "lists") ∷ store_app (codes "activity") ∷ store_app (codes "check") ∷ retire_app ∷ serve_app ∷ []
 
 abbrev pub with_commands : App → List App → App
 with_commands = fold (λ app command. with_subcommand app command.top)

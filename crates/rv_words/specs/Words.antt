@@ -3,9 +3,12 @@ use Rattle.std.specs.Prelude.{◌≡◌, ◌&&◌, List, [], ◌∷◌, Option, 
 use Rattle.std.specs.Str.{bytes_eq}
 use Rattle.clap.specs.Words.{Kinds, Row, Text, first_of, fault_of, subcommand_of, subcommand_rows_of}
 use Rattle.clap.specs.declared.parser.ArgMatches.{ArgMatches}
+use Rattle.rv_base.specs.Options.{◌>>=◌}
+use Rattle.rv_words.specs.Numbers.{number_in}
 use Rattle.rv_words.specs.Table.{rv_app}
 use Rattle.rv_words.specs.declared.command.Command.{Command}
-use Rattle.rv_words.specs.declared.command.Command.TheVariants.{Activity, Check, Feed, Lists, Retire}
+use Rattle.rv_words.specs.declared.command.Command.TheVariants.{Activity, Check, Feed, Lists, Retire, Serve}
+use Rattle.rv_words.specs.declared.serve_options.ServeOptions.{ServeOptions}
 
 -- the text is an `Id`
 abbrev pub is_id : Text → Bool
@@ -29,10 +32,28 @@ retire_group_in store group = if is_id group then Some (Retire store group) else
 abbrev pub retire_in : List Row → Option Command
 retire_in rows = option_and_then (λ store. option_and_then (retire_group_in store) (first_of (codes "GROUP") rows)) (first_of (codes "STORE") rows)
 
+-- how requests are served: a port, one worker, and a number of connections
+unfoldable pub options_with : Text → List Row → Option ServeOptions
+options_with accounts rows = do
+  port_text ← first_of (codes "port") rows
+  port ← number_in 1 65535 port_text
+  workers_text ← first_of (codes "workers") rows
+  one ← number_in 1 1 workers_text
+  connections_text ← first_of (codes "connections") rows
+  connections ← number_in 1 1000000 connections_text
+  Some (record { accounts = accounts; port = port; connections = connections })
+
+abbrev pub options_in : List Row → Option ServeOptions
+options_in rows = option_and_then (λ accounts. options_with accounts rows) (first_of (codes "accounts") rows)
+
+abbrev pub serve_in : List Row → Option Command
+serve_in rows = option_and_then (λ store. option_and_then (λ options. Some (Serve store options)) (options_in rows)) (first_of (codes "STORE") rows)
+
 -- what the command that was named asks for with its values
 abbrev pub named_in : Text × List Row → Option Command
 named_in named =
     if bytes_eq named.0 (codes "retire") then retire_in named.1
+    else if bytes_eq named.0 (codes "serve") then serve_in named.1
     else on_store_in named.0 named.1
 
 -- clap's command takes the words

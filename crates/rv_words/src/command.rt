@@ -1,4 +1,5 @@
-use crate::store_name::StoreName;
+use crate::name::Name;
+use crate::serve_options::ServeOptions;
 use rv_base::Id;
 
 /// What the words of a command line ask for.
@@ -7,28 +8,35 @@ pub enum Command {
     /// `feed STORE`: answer the request lines of the input.
     Feed {
         /// The name of the store.
-        store: StoreName,
+        store: Name,
     },
     /// `retire STORE GROUP`: end a client group.
     Retire {
         /// The name of the store.
-        store: StoreName,
+        store: Name,
         /// The name of the group.
         group: Id,
     },
     /// `lists STORE`: tell the lists, with how much is in them.
     Lists {
         /// The name of the store.
-        store: StoreName,
+        store: Name,
     },
     /// `activity STORE`: tell who did how much.
     Activity {
         /// The name of the store.
-        store: StoreName,
+        store: Name,
     },
     /// `check STORE`: tell whether the store is sound.
     Check {
         /// The name of the store.
-        store: StoreName,
+        store: Name,
+    },
+    /// `serve STORE` and options: answer the requests of connections.
+    Serve {
+        /// The name of the store.
+        store: Name,
+        /// How they are served.
+        options: ServeOptions,
     },
 }

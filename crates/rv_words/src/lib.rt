@@ -6,10 +6,13 @@
 
 mod command;
 pub mod laws;
+mod name;
+mod number;
 mod reading;
-mod store_name;
+mod serve_options;
 mod table;
 
 pub use command::Command;
+pub use name::Name;
 pub use reading::command_of;
-pub use store_name::StoreName;
+pub use serve_options::ServeOptions;

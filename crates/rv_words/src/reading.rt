@@ -1,10 +1,12 @@
 // The words of a command line are read by the table.
 ghost use Rattle.std.specs.Prelude.{◌≡◌, IfOk, codes, map, option_and_then, option_map, string_bytes};
 ghost use Rattle.clap.specs.Words.{first_of, found_of, rows_of, subcommand_rows_of};
-ghost use Rattle.rv_words.specs.Words.{command_in, named_in, on_store, on_store_in, retire_in, retire_group_in, Parses};
+ghost use Rattle.rv_words.specs.Words.{command_in, named_in, on_store, on_store_in, options_in, options_with, retire_in, retire_group_in, serve_in, Parses};
 
 use crate::command::Command;
-use crate::store_name::StoreName;
+use crate::name::Name;
+use crate::number::number_of;
+use crate::serve_options::ServeOptions;
 use crate::table::rv;
 use clap::ArgMatches;
 use clap::error::ErrorKind;
@@ -31,18 +33,25 @@ fn value<'a>(matches: &ArgMatches<'a>, name: &str) -> Option<&'a str>
     matches.get_str(name)
 }
 
-// The store that is named, if one is.
-fn store_of(alloc: Global, matches: &ArgMatches<'_>) -> Result<Option<StoreName>, Memory>
-    ensures { IfOk result (λ store. store ≡ first_of (codes "STORE") (rows_of (found_of matches.now))) }
+// The value of this name, copied.
+fn name_of(alloc: Global, matches: &ArgMatches<'_>, name: &str) -> Result<Option<Name>, Memory>
+    ensures { IfOk result (λ copy. copy ≡ first_of name.now (rows_of (found_of matches.now))) }
 {
-    match value(matches, "STORE") {
-        Some(name) => Ok(Some(StoreName::new(alloc, name)?)),
+    match value(matches, name) {
+        Some(text) => Ok(Some(Name::new(alloc, text)?)),
         None => Ok(None),
     }
 }
 
+// The store that is named, if one is.
+fn store_of(alloc: Global, matches: &ArgMatches<'_>) -> Result<Option<Name>, Memory>
+    ensures { IfOk result (λ store. store ≡ first_of (codes "STORE") (rows_of (found_of matches.now))) }
+{
+    name_of(alloc, matches, "STORE")
+}
+
 // What the command of this name asks for with one store.
-fn on_store(verb: &str, store: StoreName) -> Option<Command>
+fn on_store(verb: &str, store: Name) -> Option<Command>
     ensures { result ≡ on_store verb.now store }
 {
     match verb {
@@ -69,7 +78,7 @@ fn on_found_store(
 }
 
 // A group of this name is retired.
-fn retire_group(alloc: Global, store: StoreName, group: &str) -> Result<Option<Command>, Memory>
+fn retire_group(alloc: Global, store: Name, group: &str) -> Result<Option<Command>, Memory>
     ensures { IfOk result (λ command. command ≡ retire_group_in store group.now) }
 {
     match Id::new(alloc, group) {
@@ -92,12 +101,49 @@ fn retire(alloc: Global, matches: &ArgMatches<'_>) -> Result<Option<Command>, Me
     retire_group(alloc, store, group)
 }
 
+// How requests are served, where each option has a value of the form.
+fn options_of(alloc: Global, matches: &ArgMatches<'_>) -> Result<Option<ServeOptions>, Memory>
+    ensures { IfOk result (λ options. options ≡ options_in (rows_of (found_of matches.now))) }
+{
+    let Some(accounts) = name_of(alloc, matches, "accounts")? else {
+        return Ok(None);
+    };
+    Ok(options_with(matches, accounts))
+}
+
+// The same, with the name of the accounts file.
+fn options_with(matches: &ArgMatches<'_>, accounts: Name) -> Option<ServeOptions>
+    ensures { result ≡ options_with accounts (rows_of (found_of matches.now)) }
+{
+    let port = number_of(value(matches, "port")?, 1, 65_535)?;
+    let _one = number_of(value(matches, "workers")?, 1, 1)?;
+    let connections = number_of(value(matches, "connections")?, 1, 1_000_000)?;
+    Some(ServeOptions {
+        accounts,
+        port: port as u16,
+        connections,
+    })
+}
+
+fn serve(alloc: Global, matches: &ArgMatches<'_>) -> Result<Option<Command>, Memory>
+    ensures { IfOk result (λ command. command ≡ serve_in (rows_of (found_of matches.now))) }
+{
+    let Some(store) = store_of(alloc, matches)? else {
+        return Ok(None);
+    };
+    let Some(options) = options_of(alloc, matches)? else {
+        return Ok(None);
+    };
+    Ok(Some(Command::Serve { store, options }))
+}
+
 // What the command of this name asks for, with what was found for it.
 fn named(alloc: Global, name: &str, matches: &ArgMatches<'_>) -> Result<Option<Command>, Memory>
     ensures { IfOk result (λ command. command ≡ named_in (name.now, rows_of (found_of matches.now))) }
 {
     match name {
         "retire" => retire(alloc, matches),
+        "serve" => serve(alloc, matches),
         verb => on_found_store(alloc, verb, matches),
     }
 }

@@ -2,7 +2,7 @@
 ghost use Rattle.std.specs.Prelude.{◌≡◌, IfOk, false};
 ghost use Rattle.clap.specs.Words.{app_of, with_rule};
 ghost use Rattle.clap.specs.declared.builder.command.Command.TheViews.{out-Command};
-ghost use Rattle.rv_words.specs.Table.{bare_app, required_value, retire_app, rv_app, store_app};
+ghost use Rattle.rv_words.specs.Table.{bare_app, required_option, required_value, retire_app, rv_app, serve_app, store_app};
 
 use clap::{Arg, Command};
 use std::alloc::{AllocError, Global};
@@ -19,6 +19,18 @@ fn with_required<'a>(
     command.arg(Arg::new(alloc, name).required(true))
 }
 
+// The command with one more option, which must be given.
+fn with_option<'a>(
+    alloc: Global,
+    command: Command<'a>,
+    name: &'a str,
+) -> Result<Command<'a>, AllocError>
+    ensures app { IfOk result (λ r. app_of r ≡ with_rule (app_of command.entry) (required_option name.entry.now)) }
+    ensures local { IfOk result (λ r. (out-Command command.entry).has_globals ≡ false → (out-Command r).has_globals ≡ false) }
+{
+    command.arg(Arg::new(alloc, name).long(name).required(true))
+}
+
 // The command of this name, of one STORE.
 fn of_store<'a>(alloc: Global, name: &'a str) -> Result<Command<'a>, AllocError>
     ensures app { IfOk result (λ r. app_of r ≡ store_app name.entry.now) }
@@ -32,6 +44,17 @@ fn retire<'a>(alloc: Global) -> Result<Command<'a>, AllocError>
     ensures local { IfOk result (λ r. (out-Command r).has_globals ≡ false) }
 {
     with_required(alloc, of_store(alloc, "retire")?, "GROUP")
+}
+
+fn serve<'a>(alloc: Global) -> Result<Command<'a>, AllocError>
+    ensures app { IfOk result (λ r. app_of r ≡ serve_app) }
+    ensures local { IfOk result (λ r. (out-Command r).has_globals ≡ false) }
+{
+    let command = of_store(alloc, "serve")?;
+    let command = with_option(alloc, command, "accounts")?;
+    let command = with_option(alloc, command, "port")?;
+    let command = with_option(alloc, command, "workers")?;
+    with_option(alloc, command, "connections")
 }
 
 // No command yet, and no call for help.
@@ -55,5 +78,6 @@ pub fn rv<'a>(alloc: Global) -> Result<Command<'a>, AllocError>
         .subcommand(of_store(alloc, "lists")?)?
         .subcommand(of_store(alloc, "activity")?)?
         .subcommand(of_store(alloc, "check")?)?
-        .subcommand(retire(alloc)?)
+        .subcommand(retire(alloc)?)?
+        .subcommand(serve(alloc)?)
 }

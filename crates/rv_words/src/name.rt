@@ -4,13 +4,13 @@ use rv_base::Memory;
 use std::alloc::Global;
 use std::marker::Model;
 
-/// The name of a store, which is any text, the empty one too. A contract sees the list of its bytes.
+/// A name that the words give: of a store, or of a file. It is any text, the empty one too. A contract sees the list of its bytes.
 #[derive(Debug, Drop)]
-pub struct StoreName {
+pub struct Name {
     name: String,
 }
 
-impl Model for StoreName {
+impl Model for Name {
     ghost use Rattle.std.specs.Prelude.{List, ℕ, string_bytes};
 
     ghost Value = { List ℕ };
@@ -18,13 +18,13 @@ impl Model for StoreName {
     ghost view = { λ a. string_bytes a.name };
 }
 
-impl StoreName {
+impl Name {
     /// Copies a name.
     pub fn new(alloc: Global, name: &str) -> Result<Self, Memory>
         ensures { IfOk result (λ copy. copy ≡ name.now) }
     {
         let name = String::from_str(alloc, name)?;
-        Ok(StoreName { name })
+        Ok(Name { name })
     }
 
     /// The name as text.
