@@ -8,6 +8,8 @@ use Rattle.rv_desk.specs.declared.open_fault.OpenFault.{OpenFault}
 use Rattle.rv_desk.specs.declared.open_fault.OpenFault.TheVariants as faults
 use Rattle.rv_cli.specs.declared.ending.Ending.{Ending}
 use Rattle.rv_cli.specs.declared.ending.Ending.TheVariants.{Done, Keeper, Damaged, Read, Write, Memory, Malformed}
+use Rattle.rv_cli.specs.declared.serve_ending.ServeEnding.{ServeEnding}
+use Rattle.rv_cli.specs.declared.serve_ending.ServeEnding.TheVariants as serves
 
 -- STATUS BODY, and LF
 abbrev pub line_text : ℕ → List ℕ → List ℕ
@@ -49,6 +51,25 @@ status_text Read = codes "read\n"
 status_text Write = []
 status_text Memory = codes "memory\n"
 status_text (Malformed line) = codes "line " ++ (decimal line ++ codes "\n")
+
+-- the same of an ending of `serve`
+abbrev pub serve_status : ServeEnding → ℕ
+serve_status serves.Done = 0
+serve_status (serves.BadAccounts number) = 3
+serve_status (serves.TwiceAccounts number) = 3
+serve_status (serves.NotOpened ending) = status_of ending
+serve_status serves.Net = 9
+serve_status serves.Memory = 8
+serve_status serves.Write = 7
+
+abbrev pub serve_text : ServeEnding → List ℕ
+serve_text serves.Done = []
+serve_text (serves.BadAccounts number) = codes "accounts: bad " ++ (decimal number ++ codes "\n")
+serve_text (serves.TwiceAccounts number) = codes "accounts: twice " ++ (decimal number ++ codes "\n")
+serve_text (serves.NotOpened ending) = status_text ending
+serve_text serves.Net = codes "net\n"
+serve_text serves.Memory = codes "memory\n"
+serve_text serves.Write = []
 
 abbrev pub usage_text : List ℕ
 usage_text = codes "usage: rv feed|serve|retire|lists|activity|check|make\n"

@@ -8,7 +8,7 @@ ghost use Rattle.rv_cli.specs.Steadiness.{OutputIsSteady};
 
 use crate::ending::Ending;
 use crate::store::{check_store, open_desk, refuse_opening};
-use crate::texts::{write_ending, write_sound};
+use crate::texts::{write_count, write_ending};
 use rv_base::{Bytes, Failed, Memory, Sink, write_all};
 use rv_keeper::Place;
 use rv_report::{activity_text, lists_text};
@@ -44,7 +44,7 @@ fn report_sound<O: Sink>(out: &mut O, entries: u32) -> Ending
     ensures writes { WritesText (O.state out.old) (O.state out.new) (codes "ok " ++ (decimal entries ++ codes "\n")) result }
     ensures steady { O.fails_no_more out.old → OutputIsSteady (O.fails_no_more out.new) (O.state out.old).refusals (O.state out.new).refusals result }
 {
-    match write_sound(out, entries) {
+    match write_count(out, b"ok ", u64::from(entries)) {
         Ok(()) => Ending::Done,
         Err(Failed) => Ending::Write,
     }

@@ -3,9 +3,10 @@ ghost use Rattle.std.specs.Prelude.{◌++◌, decimal, codes};
 ghost use Rattle.rv_base.specs.Outside.{Writes, IsSteady};
 ghost use Rattle.rv_answering.specs.declared.answer.Answer.TheVariants.{Refused, Retired};
 ghost use Rattle.std.specs.List.{flat_map};
-ghost use Rattle.rv_cli.specs.Texts.{line_text, place_text, shown_byte, text_of, status_text, usage_text};
+ghost use Rattle.rv_cli.specs.Texts.{line_text, place_text, shown_byte, text_of, serve_text, status_text, usage_text};
 
 use crate::ending::Ending;
+use crate::serve_ending::ServeEnding;
 use itoa::Buffer;
 use percent_encoding::percent_encode_byte;
 use rv_answering::Answer;
@@ -79,25 +80,14 @@ pub(crate) fn write_answer<O: Sink>(out: &mut O, answer: &Answer) -> Result<(), 
     }
 }
 
-fn write_malformed<O: Sink>(out: &mut O, number: u64) -> Result<(), Failed>
-    ensures writes { Writes (O.state out.old) (O.state out.new) result (codes "line " ++ (decimal number ++ codes "\n")) }
+/// Writes what is counted, the number, and LF.
+pub(crate) fn write_count<O: Sink>(out: &mut O, label: &[u8], number: u64) -> Result<(), Failed>
+    ensures writes { Writes (O.state out.old) (O.state out.new) result (label.now ++ (decimal number ++ codes "\n")) }
     ensures steady { O.fails_no_more out.old → IsSteady (O.fails_no_more out.new) (O.state out.old) (O.state out.new) result }
 {
     let mut buffer = Buffer::new();
-    match write_all(out, b"line ") {
+    match write_all(out, label) {
         Ok(()) => write_ended(out, buffer.format(number).as_bytes()),
-        Err(Failed) => Err(Failed),
-    }
-}
-
-/// Writes that a store is sound, with the number of its book's entries.
-pub(crate) fn write_sound<O: Sink>(out: &mut O, entries: u32) -> Result<(), Failed>
-    ensures writes { Writes (O.state out.old) (O.state out.new) result (codes "ok " ++ (decimal entries ++ codes "\n")) }
-    ensures steady { O.fails_no_more out.old → IsSteady (O.fails_no_more out.new) (O.state out.old) (O.state out.new) result }
-{
-    let mut buffer = Buffer::new();
-    match write_all(out, b"ok ") {
-        Ok(()) => write_ended(out, buffer.format(entries).as_bytes()),
         Err(Failed) => Err(Failed),
     }
 }
@@ -171,7 +161,25 @@ pub(crate) fn write_ending<O: Sink>(out: &mut O, ending: &Ending) -> Result<(), 
         Ending::Write => Ok(()),
         Ending::Read => write_all(out, b"read\n"),
         Ending::Memory => write_all(out, b"memory\n"),
-        Ending::Malformed(number) => write_malformed(out, *number),
+        Ending::Malformed(number) => write_count(out, b"line ", *number),
+    }
+}
+
+/// Writes the text of an ending of `serve`.
+pub(crate) fn write_serve_ending<O: Sink>(out: &mut O, ending: &ServeEnding) -> Result<(), Failed>
+    ensures writes { Writes (O.state out.old) (O.state out.new) result (serve_text ending.now) }
+    ensures steady { O.fails_no_more out.old → IsSteady (O.fails_no_more out.new) (O.state out.old) (O.state out.new) result }
+{
+    match ending {
+        ServeEnding::Done => Ok(()),
+        ServeEnding::BadAccounts(number) => write_count(out, b"accounts: bad ", u64::from(*number)),
+        ServeEnding::TwiceAccounts(number) => {
+            write_count(out, b"accounts: twice ", u64::from(*number))
+        }
+        ServeEnding::NotOpened(ending) => write_ending(out, ending),
+        ServeEnding::Net => write_all(out, b"net\n"),
+        ServeEnding::Memory => write_all(out, b"memory\n"),
+        ServeEnding::Write => Ok(()),
     }
 }
 

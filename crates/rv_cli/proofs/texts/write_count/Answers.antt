@@ -1,6 +1,6 @@
 use Rattle.std.proofs.Common.{◌≡◌, ◌∙◌, decimal}
 use Rattle.rv_base.specs.WritesLaws.{writes_then, writes_cut}
-use Rattle.rv_cli.proofs.texts.write_sound.Goals as goal
+use Rattle.rv_cli.proofs.texts.write_count.Goals as goal
 
 pub returns-in-Ok-clause-writes : goal.returns-in-Ok-clause-writes
 returns-in-Ok-clause-writes g c =
