@@ -1,72 +1,36 @@
--- What is found among the stores of a place, and what a write of one of them leaves.
-use Rattle.std.proofs.Common.{◌≡◌, ◌≢◌, ℕ, suc, ◌+◌, ◌<◌, Bool, true, false, cond, List, [], ◌∷◌, ◌++◌, codes, length, get_or, set, Option, Some, None, unwrap_or, refl, sym, ap, ◌∙◌, subst, arith, inl, inr}
+-- What is found among the stores and the accounts files of a place, and what a write of one of them leaves.
+use Rattle.std.proofs.Common.{◌≡◌, ◌≢◌, ℕ, ◌<◌, ◌||◌, Bool, true, false, not, cond, List, [], ◌∷◌, ◌++◌, codes, length, get_or, set, drop, Some, None, Result, Ok, Err, IfOk, OnOk, OnErr, unwrap_or, refl, sym, ap, ◌∙◌, subst, arith, inl, inr}
 use Rattle.std.specs.List.{position_from}
+use Rattle.std.specs.Option.{is_some}
 use Rattle.std.specs.Str.{bytes_eq}
 use Rattle.std.proofs.lemmas.List.{get_or_push, length-append}
 use Rattle.std.proofs.lemmas.Slice.Eq.{bytes_eq-Decides}
 use Rattle.std.proofs.Math.Seq.{set-append_seam}
 use Rattle.rv_base.specs.Places.{equals}
+use Rattle.rv_keeper.specs.declared.accounts_file.AccountsFile.{AccountsFile}
+use Rattle.rv_keeper.specs.declared.fails.Fails.{Fails}
+use Rattle.rv_keeper.specs.declared.fault.KeepFault.{KeepFault}
 use Rattle.rv_keeper.specs.declared.loaded.Loaded.{Loaded}
+use Rattle.rv_keeper.specs.declared.memory_keeper.MemoryKeeper.{MemoryKeeper}
 use Rattle.rv_keeper.specs.declared.store.Store.{Store}
 use Rattle.rv_keeper.specs.Keeping.{holding}
+use Rattle.rv_keeper.specs.Schedules.{has_failed}
 use Rattle.rv_keeper.specs.Stores.{OpensAs, OpensWith}
-use Rattle.rv_keeper.specs.MemoryStores.{store_of, with_store, empty_store, found_store, StoreHolds, StoreIsOut, kept_store, out_store, given, StandsAt}
+use Rattle.rv_keeper.specs.MemoryStores.{store_of, has_store, with_store, empty_store, found_store, StoreHolds, StoreIsOut, kept_store, out_store, given, StandsAt, accounts_file, with_file, first_schedule}
+use Rattle.rv_keeper.proofs.Named as named
 
--- names that differ are told apart
-apart : (a b : List ℕ) → a ≢ b → bytes_eq a b ≡ false
-apart a b ne =
-    elim (bytes_eq a b) as (λ t. bytes_eq a b ≡ t → t ≡ false) [
-      | true ↦ λ e. absurd (ne ((bytes_eq-Decides a b).0 e))
-      | false ↦ λ e. refl
-    ] refl
+-- the names of stores and of accounts files
+abbrev pub store_name : Store → List ℕ
+store_name store = store.name
 
--- the store that is found at an index of the stores
-record Found (name : List ℕ) (stores : List Store) (start at : ℕ) : Type 0 where
-  index : ℕ
-  is : at ≡ start + index
-  in_range : index < length stores
-  found : (d : Store) → store_of name stores ≡ Some (get_or stores index d)
-  written : (new : Store) → new.name ≡ name → set stores index new ≡ with_store new stores
+abbrev pub file_name : AccountsFile → List ℕ
+file_name file = file.name
 
 module _ (name : List ℕ) where
-  pub none_found : (stores : List Store) (start : ℕ) → position_from (λ store. bytes_eq name store.name) start stores ≡ None → store_of name stores ≡ None
-  none_found [] start e = refl
-  none_found (store ∷ stores) start e =
-      elim (bytes_eq name store.name) as (λ b. cond b (Some start) (position_from (λ store. bytes_eq name store.name) (start + 1) stores) ≡ None → cond b (Some store) (store_of name stores) ≡ None) [
-        | true ↦ λ e. absurd (cc)
-        | false ↦ λ e. none_found stores (start + 1) e
-      ] e
-
-  found_here : (store : Store) (stores : List Store) (start at : ℕ) → bytes_eq name store.name ≡ true → Some start ≡ Some at → Found name (store ∷ stores) start at
-  found_here store stores start at same e = record {
-    index = 0;
-    is = (let is : start ≡ at = cc in omega arith);
-    in_range = omega arith;
-    found = λ d. rw same refl;
-    written = λ new is. (let e : bytes_eq new.name store.name ≡ true = ap (λ (n : List ℕ). bytes_eq n store.name) is ∙ same in rw e refl);
-  }
-
-  found_later : (store : Store) (stores : List Store) (start at : ℕ) → bytes_eq name store.name ≡ false → Found name stores (start + 1) at → Found name (store ∷ stores) start at
-  found_later store stores start at other f = record {
-    index = suc f.index;
-    is = omega (arith, f.is);
-    in_range = omega (arith, f.in_range);
-    found = λ d. rw other (f.found d);
-    written = λ new is. (let e : bytes_eq new.name store.name ≡ false = ap (λ (n : List ℕ). bytes_eq n store.name) is ∙ other in rw e (ap (λ (t : List Store). store ∷ t) (f.written new is)));
-  }
-
-  found_at : (stores : List Store) (start at : ℕ) → position_from (λ store. bytes_eq name store.name) start stores ≡ Some at → Found name stores start at
-  found_at [] start at e = absurd (cc)
-  found_at (store ∷ stores) start at e =
-      elim (bytes_eq name store.name) as (λ b. bytes_eq name store.name ≡ b → cond b (Some start) (position_from (λ store. bytes_eq name store.name) (start + 1) stores) ≡ Some at → Found name (store ∷ stores) start at) [
-        | true ↦ λ same e. found_here store stores start at same e
-        | false ↦ λ other e. found_later store stores start at other (found_at stores (start + 1) at e)
-      ] refl e
-
   -- where a store stands that is there, and where it stands once it is added
   pub stands : (stores : List Store) (at : ℕ) → position_from (λ store. bytes_eq name store.name) 0 stores ≡ Some at → StandsAt name stores stores at
   stands stores at e =
-      let f = found_at stores 0 at e in
+      let f = named.found_at store_name name stores 0 at e in
       let is : f.index ≡ at = omega (arith, f.is) in
       subst (λ (i : ℕ). StandsAt name stores stores i) is (record {
         in_range = f.in_range;
@@ -74,20 +38,15 @@ module _ (name : List ℕ) where
         written = f.written;
       })
 
-  none_written : (new : Store) (stores : List Store) → new.name ≡ name → store_of name stores ≡ None → with_store new stores ≡ stores ++ new ∷ []
-  none_written new [] is none = refl
-  none_written new (store ∷ stores) is none =
-      elim (bytes_eq name store.name) as (λ b. bytes_eq name store.name ≡ b → cond b (Some store) (store_of name stores) ≡ None → with_store new (store ∷ stores) ≡ store ∷ (stores ++ new ∷ [])) [
-        | true ↦ λ other e. absurd (cc)
-        | false ↦ λ other e. (let named : bytes_eq new.name store.name ≡ false = ap (λ (n : List ℕ). bytes_eq n store.name) is ∙ other in rw named (ap (λ (t : List Store). store ∷ t) (none_written new stores is e)))
-      ] refl none
-
   pub stands_added : (stores : List Store) (at : ℕ) → at ≡ length stores → store_of name stores ≡ None → StandsAt name stores (stores ++ empty_store name ∷ []) at
   stands_added stores at is none = record {
     in_range = rw length-append (omega arith);
     found = λ d. rw none (get_or_push stores (empty_store name) d at (sym is));
-    written = λ new named. rw is (set-append_seam stores (empty_store name) [] new ∙ sym (none_written new stores named none));
+    written = λ new same. rw is (set-append_seam stores (empty_store name) [] new ∙ sym (named.none_written store_name name new stores same none));
   }
+
+  pub none_there : (stores : List Store) → position_from (λ store. bytes_eq name store.name) 0 stores ≡ None → store_of name stores ≡ None
+  none_there stores e = named.none_found store_name name stores 0 e
 
   found_named : (stores : List Store) → (found_store name stores).name ≡ name
   found_named [] = refl
@@ -99,64 +58,115 @@ module _ (name : List ℕ) where
 
   -- a write over a store that keeps its name
   pub written_over : (old stores : List Store) (at : ℕ) (now new wanted : Store) → StandsAt name old stores at → now ≡ get_or stores at now → new ≡ record wanted { name = now.name } → wanted.name ≡ name → set stores at new ≡ with_store wanted old
-  written_over old stores at now new wanted s is made named =
-      let own : now.name ≡ wanted.name = ap (λ (store : Store). store.name) (is ∙ s.found now) ∙ found_named old ∙ sym named in
-      let same : new ≡ wanted = made ∙ ap (λ (n : List ℕ). record wanted { name = n }) own in
-      subst (λ (store : Store). set stores at store ≡ with_store wanted old) (sym same) (s.written wanted named)
+  written_over old stores at now new wanted s is made same =
+      let own : now.name ≡ wanted.name = ap (λ (store : Store). store.name) (is ∙ s.found now) ∙ found_named old ∙ sym same in
+      let all : new ≡ wanted = made ∙ ap (λ (n : List ℕ). record wanted { name = n }) own in
+      subst (λ (store : Store). set stores at store ≡ with_store wanted old) (sym all) (s.written wanted same)
 
--- what is found once a store is written
-pub found_same : (new : Store) (stores : List Store) → store_of new.name (with_store new stores) ≡ Some new
-found_same new [] = rw (equals new.name) refl
-found_same new (store ∷ stores) =
-    elim (bytes_eq new.name store.name) as (λ b. bytes_eq new.name store.name ≡ b → store_of new.name (cond b (new ∷ stores) (store ∷ with_store new stores)) ≡ Some new) [
-      | true ↦ λ e. rw (equals new.name) refl
-      | false ↦ λ e. rw e (found_same new stores)
-    ] refl
+  -- where an accounts file stands, and what a write over it leaves, or one more at the end
+  pub file_in_range : (files : List AccountsFile) (at : ℕ) → position_from (λ file. bytes_eq name file.name) 0 files ≡ Some at → at < length files
+  file_in_range files at e = let f = named.found_at file_name name files 0 at e in omega (arith, f.is, f.in_range)
 
-pub found_other : (name : List ℕ) (new : Store) (stores : List Store) → name ≢ new.name → store_of name (with_store new stores) ≡ store_of name stores
-found_other name new [] ne = rw (apart name new.name ne) refl
-found_other name new (store ∷ stores) ne =
-    elim (bytes_eq new.name store.name) as (λ b. bytes_eq new.name store.name ≡ b → store_of name (cond b (new ∷ stores) (store ∷ with_store new stores)) ≡ store_of name (store ∷ stores)) [
-      | true ↦ λ e. (let same : new.name ≡ store.name = (bytes_eq-Decides new.name store.name).0 e in rw (apart name new.name ne, ← same, apart name new.name ne) refl)
-      | false ↦ λ e. ap (λ (o : Option Store). cond (bytes_eq name store.name) (Some store) o) (found_other name new stores ne)
-    ] refl
+  pub file_written : (files : List AccountsFile) (at : ℕ) (now : AccountsFile) (bytes : List ℕ) → position_from (λ file. bytes_eq name file.name) 0 files ≡ Some at → now ≡ get_or files at now
+      → set files at (record now { bytes = bytes }) ≡ with_file (accounts_file name bytes) files
+  file_written files at now bytes e is =
+      let f = named.found_at file_name name files 0 at e in
+      let same : f.index ≡ at = omega (arith, f.is) in
+      let own : now.name ≡ name = ap (λ (file : AccountsFile). file.name) is ∙ subst (λ (i : ℕ). (get_or files i now).name ≡ name) same (f.named now) in
+      subst (λ (n : List ℕ). set files at (accounts_file n bytes) ≡ with_file (accounts_file name bytes) files) (sym own)
+      (subst (λ (i : ℕ). set files i (accounts_file name bytes) ≡ with_file (accounts_file name bytes) files) same (f.written (accounts_file name bytes) refl))
+
+  pub file_added : (files : List AccountsFile) (bytes : List ℕ) → position_from (λ file. bytes_eq name file.name) 0 files ≡ None → files ++ accounts_file name bytes ∷ [] ≡ with_file (accounts_file name bytes) files
+  file_added files bytes e = sym (named.none_written file_name name (accounts_file name bytes) files refl (named.none_found file_name name files 0 e))
 
 -- the other stores hold what they held
 pub others_hold : (name : List ℕ) (new : Store) (stores : List Store) (held : Loaded) → name ≢ new.name → StoreHolds stores name held → StoreHolds (with_store new stores) name held
-others_hold name new stores held ne h = rw (found_other name new stores ne) h
+others_hold name new stores held ne h = rw (named.found_other store_name name new stores ne) h
+
+-- which stores are there after a write of one
+or_some : (is_new is_memory : Bool) (new : Store) (stores : List Store) (name : List ℕ) → (is_some (cond is_new (Some new) (store_of name stores)) || is_memory) ≡ (is_new || (is_some (store_of name stores) || is_memory))
+or_some true is_memory new stores name = refl
+or_some false is_memory new stores name = refl
+
+pub has_store-with_store : (new : Store) (stores : List Store) (name : List ℕ) → has_store (with_store new stores) name ≡ (bytes_eq name new.name || has_store stores name)
+has_store-with_store new stores name =
+    rw (named.found_with store_name name new stores) (or_some (bytes_eq name new.name) (bytes_eq name (codes "memory")) new stores name)
+
+-- the stores that were there are there after it, and the one that was written
+pub still_there : (new : Store) (stores : List Store) (name : List ℕ) → has_store stores name ≡ true → has_store (with_store new stores) name ≡ true
+still_there new stores name there =
+    has_store-with_store new stores name ∙ ap (λ (b : Bool). bytes_eq name new.name || b) there ∙ or_true (bytes_eq name new.name)
+  where
+    or_true : (b : Bool) → (b || true) ≡ true
+    or_true true = refl
+    or_true false = refl
+
+pub then_there : (new : Store) (stores : List Store) → has_store (with_store new stores) new.name ≡ true
+then_there new stores = has_store-with_store new stores new.name ∙ ap (λ (b : Bool). b || has_store stores new.name) (equals new.name)
+
+-- where the one that was written was there, there is none more
+pub none_more : (new : Store) (stores : List Store) (name : List ℕ) → has_store stores new.name ≡ true → has_store (with_store new stores) name ≡ true → has_store stores name ≡ true
+none_more new stores name was now =
+    elim (bytes_eq name new.name) as (λ b. bytes_eq name new.name ≡ b → (b || has_store stores name) ≡ true → has_store stores name ≡ true) [
+      | true ↦ λ e h. subst (λ (n : List ℕ). has_store stores n ≡ true) (sym ((bytes_eq-Decides name new.name).0 e)) was
+      | false ↦ λ e h. h
+    ] refl (sym (has_store-with_store new stores name) ∙ now)
 
 -- a keeper is given what its store is opened with
 pub given_opens : (name : List ℕ) (stores : List Store) (held : Loaded) → OpensAs name (StoreHolds stores name) held → held ≡ given name (found_store name stores)
 given_opens name stores held (inl h) = subst (λ (b : Bool). held ≡ cond b (holding [] 0) (holding (found_store name stores).shelves (found_store name stores).generation)) (sym (ap (λ (t : List ℕ). bytes_eq t (codes "memory")) h.0 ∙ equals (codes "memory"))) h.1
-given_opens name stores held (inr h) = rw (apart name (codes "memory") h.0) h.1.1
+given_opens name stores held (inr h) = rw (named.apart name (codes "memory") h.0) h.1.1
 
 -- a store whose keeper is out is there
 pub is_there : (name : List ℕ) (stores : List Store) → StoreIsOut stores name → store_of name stores ≡ None → ⊥
 is_there name stores out none = let empty : false ≡ true = rw none at out in cc
 
--- what is so once a keeper was given, and the stores were written
-pub record Opened (name : List ℕ) (old new : List Store) (keeps : Loaded) : Type 0 where
-  pub out : StoreIsOut new name
-  pub opens : OpensWith name (StoreHolds old name) (λ held. held ≡ keeps)
-  pub others : (other : List ℕ) (held : Loaded) → other ≢ name → StoreHolds old other held → StoreHolds new other held
+-- what is so once a store was to be opened, with this answer
+module _ (name : List ℕ) (old new : List Store) where
+  pub record Opened (result : Result MemoryKeeper KeepFault) : Type 0 where
+    pub kept : IfOk result (λ kept. StoreIsOut new name × OpensWith name (StoreHolds old name) (λ held. held ≡ holding kept.shelves kept.generation))
+    pub others : (other : List ℕ) (held : Loaded) → other ≢ name → StoreHolds old other held → StoreHolds new other held
+    pub stores : (other : List ℕ) → has_store old other ≡ true → has_store new other ≡ true
+    pub made : OnOk result (has_store new name ≡ true)
+    pub none_made : (OnOk result (has_store old name ≡ true)) → (other : List ℕ) → has_store new other ≡ true → has_store old other ≡ true
 
-pub opened : (name : List ℕ) (old new : List Store) (keeps : Loaded) → new ≡ with_store (out_store name) old → keeps ≡ given name (found_store name old) → Opened name old new keeps
-opened name old new keeps is e =
-    subst (λ (stores : List Store). Opened name old stores keeps) (sym is) (record {
-      out = rw (found_same (out_store name) old) refl;
-      opens = λ held h. given_opens name old held h ∙ sym e;
-      others = λ other held ne h. others_hold other (out_store name) old held ne h;
-    })
+  pub opened : (result : Result MemoryKeeper KeepFault) (schedules schedules' : List (List Fails)) → IfOk result (λ kept. (holding kept.shelves kept.generation ≡ given name (found_store name old)) × (kept.schedule.items ≡ first_schedule schedules))
+      → OnOk result ((new ≡ with_store (out_store name) old) × (schedules' ≡ drop 1 schedules)) → OnErr result ((new ≡ old) × (schedules' ≡ schedules)) → Opened result
+  opened (Ok kept) schedules schedules' gives (written, rest) unchanged = record {
+    kept = (
+      subst (λ (stores : List Store). StoreIsOut stores name) (sym written) (rw (named.found_same store_name (out_store name) old) refl),
+      λ held h. given_opens name old held h ∙ sym gives.0,
+    );
+    others = λ other held ne h. subst (λ (stores : List Store). StoreHolds stores other held) (sym written) (others_hold other (out_store name) old held ne h);
+    stores = λ other h. subst (λ (stores : List Store). has_store stores other ≡ true) (sym written) (still_there (out_store name) old other h);
+    made = subst (λ (stores : List Store). has_store stores name ≡ true) (sym written) (then_there (out_store name) old);
+    none_made = λ was other h. none_more (out_store name) old other was (subst (λ (stores : List Store). has_store stores other ≡ true) written h);
+  }
+  opened (Err fault) schedules schedules' gives written (unchanged, rest) = record {
+    kept = tt;
+    others = λ other held ne h. subst (λ (stores : List Store). StoreHolds stores other held) (sym unchanged) h;
+    stores = λ other h. subst (λ (stores : List Store). has_store stores other ≡ true) (sym unchanged) h;
+    made = tt;
+    none_made = λ was other h. subst (λ (stores : List Store). has_store stores other ≡ true) unchanged h;
+  }
+
+-- a store that was opened, where that fails of one that isn't there, was there
+pub was_there : {T : Type 0} (result : Result T KeepFault) (there fails : Bool) → has_failed result ≡ (not there || fails) → OnOk result (there ≡ true)
+was_there (Ok x) true fails e = refl
+was_there (Ok x) false fails e = absurd (cc)
+was_there (Err fault) there fails e = tt
 
 -- and once it came back
 pub record Closed (name : List ℕ) (old new : List Store) (keeps : Loaded) : Type 0 where
   pub kept : StoreHolds new name keeps
   pub others : (other : List ℕ) (held : Loaded) → other ≢ name → StoreHolds old other held → StoreHolds new other held
+  pub stores : (other : List ℕ) → has_store old other ≡ true → has_store new other ≡ true
 
 pub closed : (name : List ℕ) (old new : List Store) (keeps : Loaded) → new ≡ with_store (kept_store name keeps.cells keeps.generation) old → Closed name old new keeps
 closed name old new keeps is =
     let store = kept_store name keeps.cells keeps.generation in
     subst (λ (stores : List Store). Closed name old stores keeps) (sym is) (record {
-      kept = rw (found_same store old) (refl, refl);
+      kept = rw (named.found_same store_name store old) (refl, refl);
       others = λ other held ne h. others_hold other store old held ne h;
+      stores = λ other h. still_there store old other h;
     })

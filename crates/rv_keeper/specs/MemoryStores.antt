@@ -1,22 +1,27 @@
--- The stores of a place in memory, by their names.
-use Rattle.std.specs.Prelude.{◌≡◌, ℕ, ◌<◌, false, true, List, [], ◌∷◌, length, slice_index_or, slice_set, codes, unwrap_or, if◌then◌else◌}
+-- The stores and the accounts files of a place in memory, by their names.
+use Rattle.std.specs.Prelude.{◌≡◌, ℕ, ◌<◌, ◌||◌, Bool, false, true, List, [], ◌∷◌, length, slice_index_or, slice_set, codes, is_some, unwrap_or, if◌then◌else◌}
 use Rattle.std.specs.declared.option.Option.{Option}
-use Rattle.std.specs.List.{find}
+use Rattle.std.specs.Option.{option_map}
 use Rattle.std.specs.Str.{bytes_eq}
+use Rattle.rv_keeper.specs.declared.accounts_file.AccountsFile.{AccountsFile}
 use Rattle.rv_keeper.specs.declared.cell.Cell.{Cell}
 use Rattle.rv_keeper.specs.declared.fails.Fails.{Fails}
 use Rattle.rv_keeper.specs.declared.loaded.Loaded.{Loaded}
 use Rattle.rv_keeper.specs.declared.store.Store.{Store}
 use Rattle.rv_keeper.specs.Keeping.{holding}
+use Rattle.rv_keeper.specs.Named.{first_named, with_named}
 
 -- the first store of this name
 abbrev pub store_of : List ℕ → List Store → Option Store
-store_of name stores = find (λ store. bytes_eq name store.name) stores
+store_of name stores = first_named (λ store. store.name) name stores
+
+-- the store of this name is there; the store `memory` always is
+abbrev pub has_store : List Store → List ℕ → Bool
+has_store stores name = is_some (store_of name stores) || bytes_eq name (codes "memory")
 
 -- the stores with this one in place of the first of its name, or at the end
 abbrev pub with_store : Store → List Store → List Store
-with_store new [] = new ∷ []
-with_store new (store ∷ stores) = if bytes_eq new.name store.name then new ∷ stores else store ∷ with_store new stores
+with_store new stores = with_named (λ store. store.name) new stores
 
 -- a store that holds these cells at this generation, and whose keeper is not out
 abbrev pub kept_store : List ℕ → List Cell → ℕ → Store
@@ -57,3 +62,19 @@ pub record StandsAt (name : List ℕ) (old stores : List Store) (at : ℕ) : Typ
   pub in_range : at < length stores
   pub found : (d : Store) → slice_index_or stores at d ≡ found_store name old
   pub written : (new : Store) → new.name ≡ name → slice_set stores at new ≡ with_store new old
+
+-- an accounts file of this name with these bytes
+abbrev pub accounts_file : List ℕ → List ℕ → AccountsFile
+accounts_file name bytes = record { name = name; bytes = bytes }
+
+-- the first accounts file of this name
+abbrev pub file_of : List ℕ → List AccountsFile → Option AccountsFile
+file_of name files = first_named (λ file. file.name) name files
+
+-- the bytes of the accounts file of this name, where there is one
+abbrev pub bytes_of : List ℕ → List AccountsFile → Option (List ℕ)
+bytes_of name files = option_map (λ file. file.bytes) (file_of name files)
+
+-- the files with this one in place of the first of its name, or at the end
+abbrev pub with_file : AccountsFile → List AccountsFile → List AccountsFile
+with_file new files = with_named (λ file. file.name) new files

@@ -16,3 +16,11 @@ OpensWith name Stored Holds = (held : Loaded) → OpensAs name Stored held → H
 abbrev pub TakesUp : ℕ → ℕ → ℕ → Type 0
 TakesUp zero before now = now ≡ before
 TakesUp (suc n) before now = Rose before now
+
+-- what was held by stores, which keepers were out, which stores were there, and what accounts files had, is still so
+module _ {P : Type 0} (holds : P → List ℕ → Loaded → Type 0) (is_out has : P → List ℕ → Type 0) (accounts : P → List ℕ → List ℕ → Type 0) where
+  pub record Stays (old new : P) : Type 0 where
+    pub held : (name : List ℕ) (held : Loaded) → holds old name held → holds new name held
+    pub out : (name : List ℕ) → is_out old name → is_out new name
+    pub stores : (name : List ℕ) → has old name → has new name
+    pub files : (name file : List ℕ) → accounts old name file → accounts new name file

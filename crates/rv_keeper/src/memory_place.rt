@@ -1,5 +1,5 @@
 // A place in memory, which fails at the calls of a list.
-ghost use Rattle.std.specs.Prelude.{◌≡◌, ◌≤◌, ◌≢◌, ℕ, List, [], false, drop, nat_lt, codes, if◌then◌else◌, IfOk, OnOk, OnErr, IfSome, IfNone};
+ghost use Rattle.std.specs.Prelude.{◌≡◌, ◌≤◌, ◌≢◌, ◌||◌, ℕ, List, [], true, false, drop, nat_lt, not, codes, if◌then◌else◌, is_none, Some, IsOk, IfOk, OnOk, OnErr, IfSome, IfNone};
 ghost use Rattle.std.specs.List.{position_from};
 ghost use Rattle.std.specs.Option.{option_copied};
 ghost use Rattle.std.specs.Str.{bytes_eq};
@@ -7,10 +7,11 @@ ghost use Rattle.rv_base.specs.Causes.{Rose};
 ghost use Rattle.rv_base.specs.InMemory.{fails_next};
 ghost use Rattle.rv_keeper.specs.declared.loaded.Loaded.{Loaded};
 ghost use Rattle.rv_keeper.specs.Keeping.{HasKeepCause, holding};
-ghost use Rattle.rv_keeper.specs.MemoryStores.{StandsAt, StoreHolds, StoreIsOut, first_schedule, found_store, given, kept_store, out_store, store_of, with_store};
+ghost use Rattle.rv_keeper.specs.MemoryStores.{StandsAt, StoreHolds, StoreIsOut, accounts_file, bytes_of, file_of, first_schedule, found_store, given, has_store, kept_store, out_store, store_of, with_file, with_store};
 ghost use Rattle.rv_keeper.specs.Schedules.{counted, has_failed, one_more};
-ghost use Rattle.rv_keeper.specs.Stores.{OpensWith, TakesUp};
+ghost use Rattle.rv_keeper.specs.Stores.{OpensWith, Stays, TakesUp};
 
+use crate::accounts_file::{self, AccountsFile};
 use crate::fails::{Fails, Schedule};
 use crate::fault::KeepFault;
 use crate::memory_keeper::MemoryKeeper;
@@ -20,33 +21,37 @@ use crate::store::Store;
 use rv_base::{Bytes, Memory};
 use std::alloc::Global;
 
-/// Holds stores in memory, and fails at the calls of a list. It tells what its stores hold.
-/// Its counts stand still at 2^64 - 1.
+/// Holds stores and accounts files in memory, and fails at the calls of a list. It tells what its stores hold and its files
+/// have. Its counts stand still at 2^64 - 1.
 #[derive(Drop)]
 pub struct MemoryPlace {
     /// Where names are copied.
     pub alloc: Global,
     /// The stores.
     pub stores: Vec<Store>,
+    /// The accounts files.
+    pub files: Vec<AccountsFile>,
     /// The schedules of the keepers that are still to be given, the next one first. A keeper beyond them fails at no call.
     pub schedules: Vec<Schedule>,
-    /// The numbers of the calls of `open_keeper` that fail, from 1.
+    /// The numbers of the calls of `open_keeper` and `open_existing` that fail, from 1. Both are counted together.
     pub failing: Vec<u64>,
-    /// How many calls of `open_keeper` there were.
+    /// How many calls of `open_keeper` and `open_existing` there were.
     pub calls: u64,
-    /// How many of them failed, and how many keepers came back that had failed.
+    /// How many calls failed, those of `read_accounts` too, and how many keepers came back that had failed.
     pub faults: u64,
 }
 
 impl MemoryPlace {
-    /// A place that has no store.
+    /// A place that has no store and no accounts file.
     pub fn new(alloc: Global, schedules: Vec<Schedule>, failing: Vec<u64>) -> Self
         ensures stores { result.stores.items ≡ [] }
-        ensures others { result ≡ record { alloc = alloc; stores = result.stores; schedules = schedules; failing = failing; calls = 0; faults = 0 } }
+        ensures files { result.files.items ≡ [] }
+        ensures others { result ≡ record { alloc = alloc; stores = result.stores; files = result.files; schedules = schedules; failing = failing; calls = 0; faults = 0 } }
     {
         MemoryPlace {
             alloc,
             stores: Vec::new(alloc),
+            files: Vec::new(alloc),
             schedules,
             failing,
             calls: 0,
@@ -71,6 +76,33 @@ impl MemoryPlace {
         let at = find_or_add(self.alloc, &mut self.stores, name)?;
         self.stores[at].take_back(shelves, generation);
         Ok(())
+    }
+
+    /// The accounts file of this name, if there is one.
+    pub fn file(&self, name: &str) -> Option<&AccountsFile>
+        ensures { option_copied result ≡ file_of name.now self.now.files.items }
+    {
+        self.files.iter().find(|file| file.is_named(name))
+    }
+
+    /// Adds an accounts file that has these bytes; one that has its name is replaced. `Err` is want of memory, and nothing is
+    /// changed.
+    pub fn add_file(&mut self, name: &str, bytes: Bytes) -> Result<(), Memory>
+        ensures rest { self.new ≡ record self.old { files = self.new.files } }
+        ensures ok { OnOk result (self.new.files.items ≡ with_file (accounts_file name.now bytes) self.old.files.items) }
+        ensures err { OnErr result (self.new.files.items ≡ self.old.files.items) }
+    {
+        accounts_file::write(self.alloc, &mut self.files, name, bytes)
+    }
+
+    // Whether a store of this name is there.
+    fn has_store(&self, name: &str) -> bool
+        ensures { result ≡ has_store self.now.stores.items name.now }
+    {
+        match self.store(name) {
+            Some(_) => true,
+            None => name == "memory",
+        }
     }
 
     // Takes out what the store of a name holds. One that is not there is added first.
@@ -126,6 +158,34 @@ impl MemoryPlace {
         } else {
             self.schedules.remove(0).into_vec()
         }
+    }
+
+    // Counts a call that opens a store, and tells whether it fails: where the store isn't there, and at the calls of the list.
+    fn next_opening_fails(&mut self, is_there: bool) -> bool
+        ensures result { result ≡ (not is_there || fails_next self.old.calls self.old.failing.items) }
+        ensures after { self.new ≡ record self.old { calls = one_more self.old.calls } }
+    {
+        self.calls = self.calls.saturating_add(1);
+        !is_there || self.failing.contains(&self.calls)
+    }
+
+    // The keeper of the store of a name, where it is there.
+    fn open_store(&mut self, name: &str, is_there: bool) -> Result<MemoryKeeper, KeepFault>
+        ensures cause { HasKeepCause self.old.faults self.new.faults result }
+        ensures fails { has_failed result ≡ (not is_there || fails_next self.old.calls self.old.failing.items) }
+        ensures gives { IfOk result (λ kept. (holding kept.shelves kept.generation ≡ given name.now (found_store name.now self.old.stores.items)) × (kept.schedule.items ≡ first_schedule self.old.schedules.items)) }
+        ensures fresh { IfOk result (λ kept. (kept.loads ≡ 0) × (kept.questions ≡ 0) × (kept.commits ≡ 0) × (kept.faults ≡ 0)) }
+        ensures ok { OnOk result ((self.new.stores.items ≡ with_store (out_store name.now) self.old.stores.items) × (self.new.schedules.items ≡ drop 1 self.old.schedules.items)) }
+        ensures err { OnErr result ((self.new.stores.items ≡ self.old.stores.items) × (self.new.schedules.items ≡ self.old.schedules.items)) }
+        ensures after { self.new ≡ record self.old { stores = self.new.stores; schedules = self.new.schedules; calls = one_more self.old.calls; faults = counted (has_failed result) self.old.faults } }
+    {
+        if self.next_opening_fails(is_there) {
+            self.count_fault();
+            return Err(KeepFault::Failed);
+        }
+        let (shelves, generation) = self.take_out(name)?;
+        let schedule = self.next_schedule();
+        Ok(keeper_of(self.alloc, name, schedule, shelves, generation))
     }
 }
 
@@ -184,6 +244,10 @@ impl Place for MemoryPlace {
 
     ghost is_out = { λ s name. StoreIsOut s.stores.items name };
 
+    ghost has = { λ s name. has_store s.stores.items name ≡ true };
+
+    ghost accounts = { λ s name file. bytes_of name s.files.items ≡ Some file };
+
     ghost faults = { λ s. s.faults };
 
     fn fault_count(&self) -> u64
@@ -195,6 +259,9 @@ impl Place for MemoryPlace {
     fn open_keeper(&mut self, name: &str) -> Result<MemoryKeeper, KeepFault>
         ensures kept { IfOk result (λ kept. StoreIsOut self.new.stores.items name.now × OpensWith name.now (StoreHolds self.old.stores.items name.now) (λ held. held ≡ holding kept.shelves kept.generation)) }
         ensures others { (other : List ℕ) (held : Loaded) → other ≢ name.now → StoreHolds self.old.stores.items other held → StoreHolds self.new.stores.items other held }
+        ensures still_there { (other : List ℕ) → has_store self.old.stores.items other ≡ true → has_store self.new.stores.items other ≡ true }
+        ensures made { OnOk result (has_store self.new.stores.items name.now ≡ true) }
+        ensures files { (other file : List ℕ) → bytes_of other self.old.files.items ≡ Some file → bytes_of other self.new.files.items ≡ Some file }
         ensures cause { HasKeepCause self.old.faults self.new.faults result }
         ensures fails { has_failed result ≡ fails_next self.old.calls self.old.failing.items }
         ensures gives { IfOk result (λ kept. (holding kept.shelves kept.generation ≡ given name.now (found_store name.now self.old.stores.items)) × (kept.schedule.items ≡ first_schedule self.old.schedules.items)) }
@@ -203,25 +270,56 @@ impl Place for MemoryPlace {
         ensures err { OnErr result ((self.new.stores.items ≡ self.old.stores.items) × (self.new.schedules.items ≡ self.old.schedules.items)) }
         ensures after { self.new ≡ record self.old { stores = self.new.stores; schedules = self.new.schedules; calls = one_more self.old.calls; faults = counted (has_failed result) self.old.faults } }
     {
-        self.calls = self.calls.saturating_add(1);
-        if self.failing.contains(&self.calls) {
-            self.count_fault();
-            return Err(KeepFault::Failed);
-        }
-        let (shelves, generation) = self.take_out(name)?;
-        let schedule = self.next_schedule();
-        Ok(keeper_of(self.alloc, name, schedule, shelves, generation))
+        self.open_store(name, true)
+    }
+
+    fn open_existing(&mut self, name: &str) -> Result<MemoryKeeper, KeepFault>
+        ensures kept { IfOk result (λ kept. StoreIsOut self.new.stores.items name.now × OpensWith name.now (StoreHolds self.old.stores.items name.now) (λ held. held ≡ holding kept.shelves kept.generation)) }
+        ensures others { (other : List ℕ) (held : Loaded) → other ≢ name.now → StoreHolds self.old.stores.items other held → StoreHolds self.new.stores.items other held }
+        ensures still_there { (other : List ℕ) → has_store self.old.stores.items other ≡ true → has_store self.new.stores.items other ≡ true }
+        ensures there { IsOk result → has_store self.old.stores.items name.now ≡ true }
+        ensures none_made { (other : List ℕ) → has_store self.new.stores.items other ≡ true → has_store self.old.stores.items other ≡ true }
+        ensures files { (other file : List ℕ) → bytes_of other self.old.files.items ≡ Some file → bytes_of other self.new.files.items ≡ Some file }
+        ensures cause { HasKeepCause self.old.faults self.new.faults result }
+        ensures fails { has_failed result ≡ (not (has_store self.old.stores.items name.now) || fails_next self.old.calls self.old.failing.items) }
+        ensures gives { IfOk result (λ kept. (holding kept.shelves kept.generation ≡ given name.now (found_store name.now self.old.stores.items)) × (kept.schedule.items ≡ first_schedule self.old.schedules.items)) }
+        ensures fresh { IfOk result (λ kept. (kept.loads ≡ 0) × (kept.questions ≡ 0) × (kept.commits ≡ 0) × (kept.faults ≡ 0)) }
+        ensures ok { OnOk result ((self.new.stores.items ≡ with_store (out_store name.now) self.old.stores.items) × (self.new.schedules.items ≡ drop 1 self.old.schedules.items)) }
+        ensures err { OnErr result ((self.new.stores.items ≡ self.old.stores.items) × (self.new.schedules.items ≡ self.old.schedules.items)) }
+        ensures after { self.new ≡ record self.old { stores = self.new.stores; schedules = self.new.schedules; calls = one_more self.old.calls; faults = counted (has_failed result) self.old.faults } }
+    {
+        let is_there = self.has_store(name);
+        self.open_store(name, is_there)
     }
 
     fn close_keeper(&mut self, name: &str, kept: MemoryKeeper)
         requires { StoreIsOut self.old.stores.items name.now }
         ensures kept { StoreHolds self.new.stores.items name.now (holding kept.shelves kept.generation) }
         ensures others { (other : List ℕ) (held : Loaded) → other ≢ name.now → StoreHolds self.old.stores.items other held → StoreHolds self.new.stores.items other held }
+        ensures still_there { (other : List ℕ) → has_store self.old.stores.items other ≡ true → has_store self.new.stores.items other ≡ true }
+        ensures files { (other file : List ℕ) → bytes_of other self.old.files.items ≡ Some file → bytes_of other self.new.files.items ≡ Some file }
         ensures faults { TakesUp kept.faults self.old.faults self.new.faults }
         ensures stores { self.new.stores.items ≡ with_store (kept_store name.now kept.shelves kept.generation) self.old.stores.items }
         ensures after { self.new ≡ record self.old { stores = self.new.stores; faults = counted (nat_lt 0 kept.faults) self.old.faults } }
     {
         self.count_returned(kept.faults);
         self.put_back(name, kept.shelves, kept.generation);
+    }
+
+    fn read_accounts(&mut self, name: &str) -> Result<Bytes, KeepFault>
+        ensures reads { (file : List ℕ) → bytes_of name.now self.old.files.items ≡ Some file → IfOk result (λ bytes. bytes ≡ file) }
+        ensures there { IfOk result (λ bytes. bytes_of name.now self.old.files.items ≡ Some bytes) }
+        ensures stays { Stays (λ p name held. StoreHolds p.stores.items name held) (λ p name. StoreIsOut p.stores.items name) (λ p name. has_store p.stores.items name ≡ true) (λ p name file. bytes_of name p.files.items ≡ Some file) self.old self.new }
+        ensures cause { HasKeepCause self.old.faults self.new.faults result }
+        ensures fails { has_failed result ≡ is_none (file_of name.now self.old.files.items) }
+        ensures after { self.new ≡ record self.old { faults = counted (has_failed result) self.old.faults } }
+    {
+        match self.file(name) {
+            Some(file) => Ok(file.read(self.alloc)?),
+            None => {
+                self.count_fault();
+                Err(KeepFault::Failed)
+            }
+        }
     }
 }

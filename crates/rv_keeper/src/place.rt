@@ -1,12 +1,13 @@
-ghost use Rattle.std.specs.Prelude.{◌≡◌, ◌≢◌, ℕ, List, IfOk};
+ghost use Rattle.std.specs.Prelude.{◌≡◌, ◌≢◌, ℕ, List, IfOk, IsOk, OnOk};
 ghost use Rattle.rv_keeper.specs.declared.loaded.Loaded.{Loaded};
 ghost use Rattle.rv_keeper.specs.Keeping.{HasKeepCause};
-ghost use Rattle.rv_keeper.specs.Stores.{OpensWith, TakesUp};
+ghost use Rattle.rv_keeper.specs.Stores.{OpensWith, Stays, TakesUp};
 
 use crate::fault::KeepFault;
 use crate::keeper::Keeper;
+use rv_base::Bytes;
 
-/// Where the keepers of stores come from, by the stores' names, and go back to.
+/// Where the keepers of stores come from, by the stores' names, and go back to; and where accounts files are read.
 pub trait Place {
     /// What keeps one store.
     type Kept: Keeper;
@@ -21,6 +22,12 @@ pub trait Place {
     /// The keeper of the store of this name is out. It is said where the place tells.
     ghost is_out: { Self → List ℕ → Type 0 };
 
+    /// A store of this name is there. It is said where the place tells.
+    ghost has: { Self → List ℕ → Type 0 };
+
+    /// The accounts file of this name has these bytes. It is said where the place tells.
+    ghost accounts: { Self → List ℕ → List ℕ → Type 0 };
+
     /// How often a call has failed, and how many keepers came back that had failed. It stands still at 2^64 - 1.
     ghost faults: { Self → ℕ };
 
@@ -29,11 +36,27 @@ pub trait Place {
         ensures { result ≡ faults self.now };
 
     /// The keeper of a store, which holds what the store holds; that of the store `memory` holds no cell, at generation 0,
-    /// whatever was kept there before. Its count of faults is 0.
+    /// whatever was kept there before. Its count of faults is 0. A store that isn't there is made, with no cell.
     fn open_keeper(&mut self, name: &str) -> Result<Self::Kept, KeepFault>
         ensures tells { tells self.new → tells self.old }
         ensures kept { tells self.new → IfOk result (λ kept. Self.Kept.tells kept × is_out self.new name.now × OpensWith name.now (holds self.old name.now) (Self.Kept.holds kept)) }
         ensures others { tells self.new → (other : List ℕ) (held : Loaded) → other ≢ name.now → holds self.old other held → holds self.new other held }
+        ensures still_there { tells self.new → (other : List ℕ) → has self.old other → has self.new other }
+        ensures made { tells self.new → OnOk result (has self.new name.now) }
+        ensures files { tells self.new → (other file : List ℕ) → accounts self.old other file → accounts self.new other file }
+        ensures fresh { IfOk result (λ kept. Self.Kept.faults kept ≡ 0) }
+        ensures cause { HasKeepCause (faults self.old) (faults self.new) result };
+
+    /// The keeper of a store that is there, as of [`open_keeper`](Place::open_keeper). Of a store that isn't there it fails, and
+    /// makes none. The store `memory` is always there.
+    fn open_existing(&mut self, name: &str) -> Result<Self::Kept, KeepFault>
+        ensures tells { tells self.new → tells self.old }
+        ensures kept { tells self.new → IfOk result (λ kept. Self.Kept.tells kept × is_out self.new name.now × OpensWith name.now (holds self.old name.now) (Self.Kept.holds kept)) }
+        ensures others { tells self.new → (other : List ℕ) (held : Loaded) → other ≢ name.now → holds self.old other held → holds self.new other held }
+        ensures still_there { tells self.new → (other : List ℕ) → has self.old other → has self.new other }
+        ensures there { tells self.new → IsOk result → has self.old name.now }
+        ensures none_made { tells self.new → (other : List ℕ) → has self.new other → has self.old other }
+        ensures files { tells self.new → (other file : List ℕ) → accounts self.old other file → accounts self.new other file }
         ensures fresh { IfOk result (λ kept. Self.Kept.faults kept ≡ 0) }
         ensures cause { HasKeepCause (faults self.old) (faults self.new) result };
 
@@ -44,5 +67,15 @@ pub trait Place {
         ensures tells { tells self.new → tells self.old × Self.Kept.tells kept }
         ensures kept { tells self.new → (held : Loaded) → Self.Kept.holds kept held → holds self.new name.now held }
         ensures others { tells self.new → (other : List ℕ) (held : Loaded) → other ≢ name.now → holds self.old other held → holds self.new other held }
+        ensures still_there { tells self.new → (other : List ℕ) → has self.old other → has self.new other }
+        ensures files { tells self.new → (other file : List ℕ) → accounts self.old other file → accounts self.new other file }
         ensures faults { TakesUp (Self.Kept.faults kept) (faults self.old) (faults self.new) };
+
+    /// The bytes of the accounts file of this name, of any content. It fails where there is none. Nothing else changes.
+    fn read_accounts(&mut self, name: &str) -> Result<Bytes, KeepFault>
+        ensures tells { tells self.new → tells self.old }
+        ensures reads { tells self.new → (file : List ℕ) → accounts self.old name.now file → IfOk result (λ bytes. bytes ≡ file) }
+        ensures there { tells self.new → IfOk result (λ bytes. accounts self.old name.now bytes) }
+        ensures stays { tells self.new → Stays holds is_out has accounts self.old self.new }
+        ensures cause { HasKeepCause (faults self.old) (faults self.new) result };
 }

@@ -1,6 +1,6 @@
 use Rattle.std.proofs.Common.{◌<◌, length, refl, sym, rules}
 use Rattle.rv_keeper.specs.MemoryStores.{kept_store}
-use Rattle.rv_keeper.proofs.MemoryStores.{stands, none_found, is_there, written_over}
+use Rattle.rv_keeper.proofs.MemoryStores.{stands, none_there, is_there, written_over}
 use Rattle.rv_keeper.proofs.memory_place.MemoryPlace.put_back.Goals as goal
 
 pub index_mut-requires : goal.index_mut-requires
@@ -11,7 +11,7 @@ index_mut-requires c =
 
 pub unreachable-requires : goal.unreachable-requires
 unreachable-requires c =
-    is_there c.args.name.now c.args.self.now.stores.items c.requires (none_found c.args.name.now c.args.self.now.stores.items 0 (sym (rw c.deref.ensures.value at c.in-None.ensures)))
+    is_there c.args.name.now c.args.self.now.stores.items c.requires (none_there c.args.name.now c.args.self.now.stores.items (sym (rw c.deref.ensures.value at c.in-None.ensures)))
 
 pub returns-clause-stores : goal.returns-clause-stores
 returns-clause-stores c =

@@ -15,3 +15,9 @@ returns-clause-others c =
     let same = ap (λ (place : MemoryPlace). place.stores.items) c.count_returned.ensures.after in
     (closed c.args.name.now c.args.self.now.stores.items c.put_back.new.self.stores.items (holding c.args.kept.shelves c.args.kept.generation)
     (rw same at c.put_back.ensures.stores)).others
+
+pub returns-clause-still_there : goal.returns-clause-still_there
+returns-clause-still_there c =
+    let same = ap (λ (place : MemoryPlace). place.stores.items) c.count_returned.ensures.after in
+    (closed c.args.name.now c.args.self.now.stores.items c.put_back.new.self.stores.items (holding c.args.kept.shelves c.args.kept.generation)
+    (rw same at c.put_back.ensures.stores)).stores
