@@ -1,17 +1,21 @@
 ghost use Rattle.std.specs.Prelude.{◌≡◌, ◌≢◌, ◌≤◌, IfOk, codes};
 ghost use Rattle.rv_base.specs.Causes.{Rose};
+ghost use Rattle.rv_keeper.specs.Keeping.{HasKeepCause};
 ghost use Rattle.rv_sqlite.specs.Stored.{IsFresh};
 
+use rv_base::Bytes;
 use rv_keeper::{KeepFault, Keeper, MemoryKeeper, Place};
 use rv_sqlite::{SqliteKeeper, StoreKeeper, fault_of};
 use sqlite::{Connection, File, FileStore};
+use std::fs;
+use std::io::{self, ErrorKind};
 
 /// What keeps a store of this machine.
 pub type HostKeeper = StoreKeeper<FileStore<File>>;
 
 /// The stores of this machine: the store `memory`, which is a fresh one in memory each time, and else the SQLite file at the path
-/// that the name is. A file that is not there is made. What the stores hold is not told. The count of faults stands still at
-/// 2^64 - 1.
+/// that the name is. A file that is not there is made, but where it is to be there. The accounts files are the files at their
+/// paths. What the stores hold and the files have is not told. The count of faults stands still at 2^64 - 1.
 #[derive(Drop)]
 pub struct HostPlace<'a> {
     rt: &'a HostRuntime,
@@ -32,6 +36,49 @@ fn count(faults: &mut u64)
     ensures rose { Rose faults.old faults.new }
 {
     *faults = faults.saturating_add(1);
+}
+
+// The same answer, with a fault counted where it is one.
+fn counted<T>(faults: &mut u64, answer: Result<T, KeepFault>) -> Result<T, KeepFault>
+    ensures same { result ≡ answer }
+    ensures cause { HasKeepCause faults.old faults.new result }
+{
+    match answer {
+        Ok(value) => Ok(value),
+        Err(KeepFault::Memory) => Err(KeepFault::Memory),
+        Err(KeepFault::Failed) => {
+            count(faults);
+            Err(KeepFault::Failed)
+        }
+    }
+}
+
+// What a refusal of the file system is: want of memory, or a fault.
+fn refused(error: io::Error) -> KeepFault {
+    match error.kind() {
+        ErrorKind::OutOfMemory => KeepFault::Memory,
+        _ => KeepFault::Failed,
+    }
+}
+
+// Whether the store of a name is there: `memory`, or else something at the path.
+fn find_store(rt: &HostRuntime, name: &str) -> Result<(), KeepFault> {
+    if name == "memory" {
+        return Ok(());
+    }
+    match fs::exists(rt, name) {
+        Ok(true) => Ok(()),
+        Ok(false) => Err(KeepFault::Failed),
+        Err(error) => Err(refused(error)),
+    }
+}
+
+// The bytes of the file at a path.
+fn read_file(rt: &HostRuntime, path: &str) -> Result<Bytes, KeepFault> {
+    match fs::read(rt, path) {
+        Ok(bytes) => Ok(Bytes::from_vec(bytes)),
+        Err(error) => Err(refused(error)),
+    }
 }
 
 // The keeper of the file at a path.
@@ -57,6 +104,17 @@ fn open_store(rt: &HostRuntime, name: &str) -> Result<HostKeeper, KeepFault>
     }
 }
 
+// The keeper of the store of a name, which is there. An opening always makes a file that is missing, so the path is looked at
+// first. A file that is taken away between the two is made anew, and empty.
+fn open_found(rt: &HostRuntime, name: &str) -> Result<HostKeeper, KeepFault>
+    ensures { IfOk result (IsFresh name.now) }
+{
+    match find_store(rt, name) {
+        Ok(()) => open_store(rt, name),
+        Err(fault) => Err(fault),
+    }
+}
+
 // Closes the file, if there is one. That it was not closed is nothing that anybody is told: what was committed is in the file or
 // its log, and the next opening reads both.
 fn close_file(kept: HostKeeper) {
@@ -74,6 +132,10 @@ impl Place for HostPlace<'_> {
 
     ghost is_out = { λ s name. ⊥ };
 
+    ghost has = { λ s name. ⊥ };
+
+    ghost accounts = { λ s name file. ⊥ };
+
     ghost faults = { λ s. s.faults };
 
     fn fault_count(&self) -> u64 {
@@ -81,14 +143,11 @@ impl Place for HostPlace<'_> {
     }
 
     fn open_keeper(&mut self, name: &str) -> Result<HostKeeper, KeepFault> {
-        match open_store(self.rt, name) {
-            Ok(kept) => Ok(kept),
-            Err(KeepFault::Memory) => Err(KeepFault::Memory),
-            Err(KeepFault::Failed) => {
-                count(&mut self.faults);
-                Err(KeepFault::Failed)
-            }
-        }
+        counted(&mut self.faults, open_store(self.rt, name))
+    }
+
+    fn open_existing(&mut self, name: &str) -> Result<HostKeeper, KeepFault> {
+        counted(&mut self.faults, open_found(self.rt, name))
     }
 
     fn close_keeper(&mut self, _name: &str, kept: HostKeeper) {
@@ -96,5 +155,9 @@ impl Place for HostPlace<'_> {
             count(&mut self.faults);
         }
         close_file(kept);
+    }
+
+    fn read_accounts(&mut self, name: &str) -> Result<Bytes, KeepFault> {
+        counted(&mut self.faults, read_file(self.rt, name))
     }
 }
