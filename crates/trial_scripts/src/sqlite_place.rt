@@ -1,11 +1,13 @@
 ghost use Rattle.rv_keeper.specs.Stores.{TakesUp};
 
+use rv_base::Bytes;
 use rv_keeper::{KeepFault, Keeper, Place};
 use rv_sqlite::SqliteKeeper;
 use sqlite::{Connection, MemStore};
 use std::alloc::Global;
 
-/// Opens each store as a fresh SQLite database in memory. The one that was closed last stays.
+/// Opens each store as a fresh SQLite database in memory, so each is there. The one that was closed last stays. There is no
+/// accounts file.
 #[derive(Drop)]
 pub struct SqlitePlace {
     alloc: Global,
@@ -52,6 +54,10 @@ impl Place for SqlitePlace {
 
     ghost is_out = { λ s name. ⊥ };
 
+    ghost has = { λ s name. ⊥ };
+
+    ghost accounts = { λ s name file. ⊥ };
+
     ghost faults = { λ s. s.faults };
 
     fn fault_count(&self) -> u64 {
@@ -63,8 +69,17 @@ impl Place for SqlitePlace {
         Ok(SqliteKeeper::adopt(self.alloc, connection))
     }
 
+    fn open_existing(&mut self, name: &str) -> Result<SqliteKeeper<MemStore>, KeepFault> {
+        self.open_keeper(name)
+    }
+
     fn close_keeper(&mut self, _name: &str, kept: SqliteKeeper<MemStore>) {
         count_returned(&mut self.faults, kept.fault_count());
         self.closed = Some(kept.into_connection());
+    }
+
+    fn read_accounts(&mut self, _name: &str) -> Result<Bytes, KeepFault> {
+        self.faults = self.faults.saturating_add(1);
+        Err(KeepFault::Failed)
     }
 }
