@@ -1,0 +1,15 @@
+-- What a listener answers, and what it leaves.
+use Rattle.std.specs.Prelude.{◌≡◌, ℕ, ◌+◌, Bool, true, false, List, [], ◌∷◌}
+use Rattle.rv_net.specs.declared.accepted.Accepted.{Accepted}
+use Rattle.rv_net.specs.declared.accepted.Accepted.TheVariants.{Conn, End}
+
+-- the answer is that no connection is to come
+abbrev pub is_end : {C : Type 0} → Accepted C → Bool
+is_end (Conn conn) = false
+is_end End = true
+
+-- Where these connections are to come and so many are out: the first of them is given, the others stay to come, and one more
+-- is out. Exactly where none is to come the answer says so, and all stays.
+abbrev pub Accepts : {C : Type 0} → List C → ℕ → List C → ℕ → Accepted C → Type 0
+Accepts to_come out left now (Conn conn) = (to_come ≡ conn ∷ left) × (now ≡ out + 1)
+Accepts to_come out left now End = (to_come ≡ []) × (left ≡ []) × (now ≡ out)

@@ -1,0 +1,21 @@
+//! Where the connections of a server come from, and where they go back to.
+//!
+//! A [`Net`] gives listeners at a port, and a [`Listen`] gives its connections one after another, until none is to come.
+//! A [`Conn`] has two halves: where its bytes come from, and where the answers go. What was given goes back when it is
+//! served. [`MemoryNet`] and [`MemoryListen`] tell what they give and what came back; [`TcpNet`] and [`TcpListen`] are over
+//! the sockets of the machine, of which nothing is told.
+#![tactic(auto)]
+
+mod accepted;
+mod conn;
+mod listen;
+mod listeners;
+mod net;
+mod net_fault;
+
+pub use accepted::Accepted;
+pub use conn::Conn;
+pub use listen::Listen;
+pub use listeners::Listeners;
+pub use net::Net;
+pub use net_fault::NetFault;

@@ -1,0 +1,53 @@
+ghost use Rattle.std.specs.Prelude.{◌≡◌, ◌+◌, ◌≤◌, ◌++◌, ℕ, List, length, IfOk, IsErrOf};
+ghost use Rattle.rv_base.specs.Causes.{Counts, Rose};
+ghost use Rattle.rv_net.specs.declared.net_fault.NetFault.TheVariants as NetFault;
+ghost use Rattle.rv_net.specs.Giving.{Gives};
+
+use crate::listen::Listen;
+use crate::listeners::Listeners;
+use crate::net_fault::NetFault;
+
+/// Where listeners come from, and go back to when their connections are served.
+pub trait Net {
+    /// What gives the connections.
+    type Listen: Listen;
+
+    /// The net tells which listeners it gives and which came back. One that has once stopped to tell does not tell again.
+    ghost tells: { Self → Type 0 };
+
+    /// The listeners that it has to give, the next one first. It is said where the net tells.
+    ghost to_give: { Self → List Self.Listen };
+
+    /// The listeners that came back, in order. It is said where the net tells.
+    ghost came_back: { Self → List Self.Listen };
+
+    /// How many listeners were given and have not come back. It is said where the net tells.
+    ghost out: { Self → ℕ };
+
+    /// How often a call has failed. It stands still at 2^64 - 1.
+    ghost faults: { Self → ℕ };
+
+    /// So many listeners at one port, each of which takes at most `most` connections. In memory, what a listener takes was
+    /// settled before, and neither the port nor `most` is looked at.
+    fn listen(
+        &mut self,
+        port: u16,
+        count: u32,
+        most: u32,
+    ) -> Result<Listeners<Self::Listen>, NetFault>
+        ensures count { IfOk result (λ given. length given.listeners ≡ count) }
+        ensures tells { tells self.new → tells self.old }
+        ensures given { tells self.new → Gives (to_give self.old) (out self.old) (to_give self.new) (out self.new) result }
+        ensures back { tells self.new → came_back self.new ≡ came_back self.old }
+        ensures faults { Counts (faults self.old) (faults self.new) result }
+        ensures failed { IsErrOf result NetFault.Failed → Rose (faults self.old) (faults self.new) };
+
+    /// Takes listeners back. It can't fail, and takes no memory.
+    fn done(&mut self, listeners: Listeners<Self::Listen>)
+        requires { tells self.old → length listeners.listeners ≤ out self.old }
+        ensures tells { tells self.new → tells self.old }
+        ensures back { tells self.new → came_back self.new ≡ came_back self.old ++ listeners.listeners }
+        ensures out { tells self.new → out self.old ≡ out self.new + length listeners.listeners }
+        ensures to_give { tells self.new → to_give self.new ≡ to_give self.old }
+        ensures faults { faults self.new ≡ faults self.old };
+}
