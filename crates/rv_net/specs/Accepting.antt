@@ -13,3 +13,8 @@ is_end End = true
 abbrev pub Accepts : {C : Type 0} → List C → ℕ → List C → ℕ → Accepted C → Type 0
 Accepts to_come out left now (Conn conn) = (to_come ≡ conn ∷ left) × (now ≡ out + 1)
 Accepts to_come out left now End = (to_come ≡ []) × (left ≡ []) × (now ≡ out)
+
+-- How many connections a listener still takes, at most: one fewer after each, and none once it has said that none is to come.
+abbrev pub TakesOne : {C : Type 0} → ℕ → ℕ → Accepted C → Type 0
+TakesOne old new (Conn conn) = old ≡ new + 1
+TakesOne old new End = new ≡ 0

@@ -1,0 +1,90 @@
+// A listener in memory.
+ghost use Rattle.std.specs.Prelude.{◌≡◌, ◌+◌, ◌<◌, ◌≤◌, ◌∷◌, ◌++◌, [], IfOk, vec_len, vec_capacity};
+ghost use Rattle.rv_base.specs.Outside.{counted_if};
+ghost use Rattle.rv_net.specs.Accepting.{Accepts, is_end};
+
+use crate::accepted::Accepted;
+use crate::conn::MemoryConn;
+use crate::listen::Listen;
+use rv_base::{Memory, MemorySink, MemorySource};
+use std::alloc::Global;
+
+/// Gives the connections of a list, and keeps those that come back. It tells which.
+#[derive(Drop)]
+pub struct MemoryListen {
+    /// The connections that are still to come, the next one first.
+    pub to_come: Vec<MemoryConn>,
+    /// The connections that came back, in order.
+    pub came_back: Vec<MemoryConn>,
+    /// How many connections were given and have not come back.
+    pub out: usize,
+    /// How often it has answered that no connection is to come. It stands still at 2^64 - 1.
+    pub ends: u64,
+    // Whatever was given or is to come has a place to come back to.
+    ghost room: { vec_len came_back + out + vec_len to_come ≤ vec_capacity came_back },
+}
+
+impl MemoryListen {
+    /// A listener to which these connections are to come, the next one first. It makes the room for those that come back.
+    pub fn new(alloc: Global, to_come: Vec<MemoryConn>) -> Result<Self, Memory>
+        ensures to_come { IfOk result (λ made. made.to_come ≡ to_come) }
+        ensures came_back { IfOk result (λ made. made.came_back.items ≡ []) }
+        ensures counts { IfOk result (λ made. (made.out ≡ 0) × (made.ends ≡ 0)) }
+    {
+        let came_back = Vec::with_capacity(alloc, to_come.len())?;
+        Ok(MemoryListen {
+            to_come,
+            came_back,
+            out: 0,
+            ends: 0,
+        })
+    }
+}
+
+impl Listen for MemoryListen {
+    type In = MemorySource;
+
+    type Out = MemorySink;
+
+    // It tells whatever comes.
+    ghost tells = { λ s. Unit {0} };
+
+    ghost to_come = { λ s. s.to_come.items };
+
+    ghost came_back = { λ s. s.came_back.items };
+
+    ghost out = { λ s. s.out };
+
+    ghost ends = { λ s. s.ends };
+
+    fn end_count(&self) -> u64
+        ensures { result ≡ self.now.ends }
+    {
+        self.ends
+    }
+
+    fn accept(&mut self) -> Accepted<MemoryConn>
+        ensures given { Accepts self.old.to_come.items self.old.out self.new.to_come.items self.new.out result }
+        ensures back { self.new.came_back ≡ self.old.came_back }
+        ensures ends { self.new.ends ≡ counted_if (is_end result) self.old.ends }
+    {
+        if self.to_come.is_empty() {
+            self.ends = self.ends.saturating_add(1);
+            return Accepted::End;
+        }
+        let conn = self.to_come.remove(0);
+        self.out += 1;
+        Accepted::Conn(conn)
+    }
+
+    fn done(&mut self, conn: MemoryConn)
+        requires { 0 < self.old.out }
+        ensures back { self.new.came_back.items ≡ self.old.came_back.items ++ conn ∷ [] }
+        ensures out { self.old.out ≡ self.new.out + 1 }
+        ensures to_come { self.new.to_come ≡ self.old.to_come }
+        ensures ends { self.new.ends ≡ self.old.ends }
+    {
+        self.out -= 1;
+        self.came_back.push_reserved(conn);
+    }
+}

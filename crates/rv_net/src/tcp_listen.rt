@@ -1,0 +1,103 @@
+// A listener over TCP.
+ghost use Rattle.std.specs.Prelude.{◌≡◌, []};
+ghost use Rattle.rv_base.specs.Outside.{counted_if};
+ghost use Rattle.rv_net.specs.Accepting.{TakesOne, is_end};
+
+use crate::accepted::Accepted;
+use crate::conn::Conn;
+use crate::listen::Listen;
+use rv_base::{Reading, Writing};
+use std::io;
+use std::net::{TcpListener, TcpStream};
+use std::time::Duration;
+
+/// How long one read or one write of a connection waits, in seconds. A client that sends or takes nothing for so long is
+/// told as a read or a write that failed, so it can't hold a worker for good.
+pub const IDLE_SECONDS: u64 = 30;
+
+/// A connection over TCP.
+pub type TcpConn = Conn<Reading<TcpStream>, Writing<TcpStream>>;
+
+/// Accepts connections at a socket of this machine, until it has accepted so many, or one can't be had. What the
+/// connections are is not told, and one that comes back is closed.
+#[derive(Drop)]
+pub struct TcpListen {
+    listener: TcpListener,
+    /// How many connections it still accepts, at most.
+    pub left: u32,
+    /// How often it has answered that no connection is to come. It stands still at 2^64 - 1.
+    pub ends: u64,
+}
+
+impl TcpListen {
+    /// A listener that accepts at most so many connections.
+    pub fn new(listener: TcpListener, most: u32) -> TcpListen
+        ensures left { result.left ≡ most }
+        ensures ends { result.ends ≡ 0 }
+    {
+        TcpListen {
+            listener,
+            left: most,
+            ends: 0,
+        }
+    }
+
+    // Waits for the next connection.
+    fn next(&self) -> io::Result<TcpConn> {
+        let (stream, _address) = self.listener.accept()?;
+        connect(stream)
+    }
+}
+
+// The two halves of a stream. What is written is sent at once, and no read or write waits for good.
+fn connect(stream: TcpStream) -> io::Result<TcpConn> {
+    let idle = Some(Duration::from_secs(IDLE_SECONDS));
+    stream.set_read_timeout(idle)?;
+    stream.set_write_timeout(idle)?;
+    stream.set_nodelay(true)?;
+    let sink = Writing::new(stream.try_clone()?);
+    let source = Reading::new(stream);
+    Ok(Conn { source, sink })
+}
+
+impl Listen for TcpListen {
+    type In = Reading<TcpStream>;
+
+    type Out = Writing<TcpStream>;
+
+    // Of real connections nothing is told.
+    ghost tells = { λ s. ⊥ };
+
+    ghost to_come = { λ s. [] };
+
+    ghost came_back = { λ s. [] };
+
+    ghost out = { λ s. 0 };
+
+    ghost ends = { λ s. s.ends };
+
+    fn end_count(&self) -> u64
+        ensures { result ≡ self.now.ends }
+    {
+        self.ends
+    }
+
+    fn accept(&mut self) -> Accepted<TcpConn>
+        ensures ends { self.new.ends ≡ counted_if (is_end result) self.old.ends }
+        ensures left { TakesOne self.old.left self.new.left result }
+    {
+        if self.left > 0 {
+            if let Ok(conn) = self.next() {
+                self.left -= 1;
+                return Accepted::Conn(conn);
+            }
+        }
+        self.left = 0;
+        self.ends = self.ends.saturating_add(1);
+        Accepted::End
+    }
+
+    fn done(&mut self, _conn: TcpConn)
+        ensures { self.new ≡ self.old }
+    {}
+}
