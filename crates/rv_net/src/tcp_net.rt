@@ -90,5 +90,7 @@ impl Net for TcpNet<'_> {
         }
     }
 
-    fn done(&mut self, _listeners: Listeners<TcpListen>) {}
+    fn done(&mut self, _listeners: Listeners<TcpListen>)
+        ensures { self.new ≡ self.old }
+    {}
 }

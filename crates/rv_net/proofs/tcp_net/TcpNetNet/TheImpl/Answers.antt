@@ -1,4 +1,4 @@
-use Rattle.std.proofs.Common.{refl}
+use Rattle.std.proofs.Common.{refl, ap}
 use Rattle.rv_net.proofs.tcp_net.TcpNetNet.TheImpl.Goals as goal
 
 -- what is said where a net tells is said of none here
@@ -10,4 +10,13 @@ listen-tells g c = record {
   back = λ told. refl;
   faults = c.ensures.faults;
   failed = c.ensures.failed;
+}
+
+pub done-tells : goal.done-tells
+done-tells g c = record {
+  tells = λ told. told;
+  back = λ told. absurd told;
+  out = λ told. absurd told;
+  to_give = λ told. refl;
+  faults = ap (λ s. s.faults) c.ensures;
 }

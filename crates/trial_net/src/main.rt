@@ -1,0 +1,68 @@
+//! Connections over TCP, of this program to itself: each is accepted after a client has connected. What happens is printed, and
+//! no port.
+#![tactic(auto)]
+
+mod client;
+mod server;
+
+use rv_net::{Listeners, Net, TcpListen, TcpNet};
+
+// The ports that are tried, one after another, and the one after the last.
+const FIRST_PORT: u16 = 42080;
+
+const PORTS_END: u16 = 42180;
+
+// Two listeners, each of which takes one connection, at the first port that is free.
+fn open(net: &mut TcpNet<'_>) -> anyhow::Result<(u16, Listeners<TcpListen>)> {
+    for port in FIRST_PORT..PORTS_END {
+        if let Ok(listeners) = net.listen(port, 2, 1) {
+            return Ok((port, listeners));
+        }
+    }
+    anyhow::bail!("no port is free")
+}
+
+// A client that asks, and is answered; then no connection is to come.
+fn ask(rt: &HostRuntime, port: u16, listener: &mut TcpListen) -> anyhow::Result<()> {
+    println!(rt; "== a client that asks")?;
+    let mut stream = client::connect(rt, port)?;
+    client::ask(&mut stream)?;
+    server::serve(rt, listener)?;
+    client::print_answer(rt, stream)?;
+    server::serve(rt, listener)
+}
+
+// A client that closes at once; then no connection is to come, however often one is waited for.
+fn close(rt: &HostRuntime, port: u16, listener: &mut TcpListen) -> anyhow::Result<()> {
+    println!(rt; "== a client that closes")?;
+    drop(client::connect(rt, port)?);
+    server::serve(rt, listener)?;
+    server::serve(rt, listener)?;
+    server::serve(rt, listener)
+}
+
+// A port at which others listen can't be had.
+fn listen_again(rt: &HostRuntime, net: &mut TcpNet<'_>, port: u16) -> anyhow::Result<()> {
+    println!(rt; "== a port that is taken")?;
+    let before = net.faults;
+    let failed = net.listen(port, 1, 1).is_err();
+    let faults = net.faults.wrapping_sub(before);
+    println!(rt; "failed: {failed}, faults: {faults}")?;
+    Ok(())
+}
+
+fn main(rt: HostRuntime) -> anyhow::Result<()> {
+    let mut net = TcpNet::new(&rt);
+    let (port, mut listeners) = open(&mut net)?;
+    let count = listeners.len();
+    println!(rt; "listeners: {count}")?;
+    if let (Some(mut first), Some(mut second)) = (listeners.take(), listeners.take()) {
+        ask(&rt, port, &mut first)?;
+        close(&rt, port, &mut second)?;
+        listeners.give(second);
+        listeners.give(first);
+    }
+    listen_again(&rt, &mut net, port)?;
+    net.done(listeners);
+    Ok(())
+}
