@@ -6,6 +6,7 @@ mod client;
 mod server;
 
 use rv_net::{Listeners, Net, TcpListen, TcpNet};
+use std::net::{Ipv4Addr, TcpStream};
 
 // The ports that are tried, one after another, and the one after the last.
 const FIRST_PORT: u16 = 42080;
@@ -51,6 +52,14 @@ fn listen_again(rt: &HostRuntime, net: &mut TcpNet<'_>, port: u16) -> anyhow::Re
     Ok(())
 }
 
+// Nobody listens at another address of this machine.
+fn knock_elsewhere(rt: &HostRuntime, port: u16) -> anyhow::Result<()> {
+    println!(rt; "== another address")?;
+    let refused = TcpStream::connect(rt, (Ipv4Addr::new(127, 0, 0, 2), port)).is_err();
+    println!(rt; "refused: {refused}")?;
+    Ok(())
+}
+
 fn main(rt: HostRuntime) -> anyhow::Result<()> {
     let mut net = TcpNet::new(&rt);
     let (port, mut listeners) = open(&mut net)?;
@@ -63,6 +72,7 @@ fn main(rt: HostRuntime) -> anyhow::Result<()> {
         listeners.give(first);
     }
     listen_again(&rt, &mut net, port)?;
+    knock_elsewhere(&rt, port)?;
     net.done(listeners);
     Ok(())
 }
