@@ -1,7 +1,7 @@
 ghost use Rattle.std.specs.Prelude.{◌≡◌, ◌+◌, ◌<◌, ◌∷◌, ◌++◌, ℕ, List, []};
 ghost use Rattle.rv_base.specs.Outside.{counted_if};
 ghost use Rattle.rv_net.specs.declared.conn.Conn.{Conn};
-ghost use Rattle.rv_net.specs.Accepting.{Accepts, is_end};
+ghost use Rattle.rv_net.specs.Accepting.{Accepts, GivesFewer, is_end};
 
 use crate::accepted::Accepted;
 use crate::conn::Conn;
@@ -31,6 +31,9 @@ pub trait Listen {
     /// How often it has answered that no connection is to come. It stands still at 2^64 - 1.
     ghost ends: { Self → ℕ };
 
+    /// How many more connections it gives, at most.
+    ghost accepts: { Self → ℕ };
+
     /// How often it has answered that no connection is to come.
     fn end_count(&self) -> u64
         ensures { result ≡ ends self.now };
@@ -40,7 +43,8 @@ pub trait Listen {
         ensures tells { tells self.new → tells self.old }
         ensures given { tells self.new → Accepts (to_come self.old) (out self.old) (to_come self.new) (out self.new) result }
         ensures back { tells self.new → came_back self.new ≡ came_back self.old }
-        ensures ends { ends self.new ≡ counted_if (is_end result) (ends self.old) };
+        ensures ends { ends self.new ≡ counted_if (is_end result) (ends self.old) }
+        ensures fewer { GivesFewer (accepts self.old) (accepts self.new) result };
 
     /// Takes back a connection that is served. It can't fail, and takes no memory.
     fn done(&mut self, conn: Conn<Self::In, Self::Out>)
@@ -49,5 +53,6 @@ pub trait Listen {
         ensures back { tells self.new → came_back self.new ≡ came_back self.old ++ conn ∷ [] }
         ensures out { tells self.new → out self.old ≡ out self.new + 1 }
         ensures to_come { tells self.new → to_come self.new ≡ to_come self.old }
-        ensures ends { ends self.new ≡ ends self.old };
+        ensures ends { ends self.new ≡ ends self.old }
+        ensures fewer { accepts self.new ≡ accepts self.old };
 }

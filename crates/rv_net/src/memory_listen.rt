@@ -1,7 +1,7 @@
 // A listener in memory.
 ghost use Rattle.std.specs.Prelude.{◌≡◌, ◌+◌, ◌<◌, ◌≤◌, ◌∷◌, ◌++◌, [], IfOk, vec_len, vec_capacity};
 ghost use Rattle.rv_base.specs.Outside.{counted_if};
-ghost use Rattle.rv_net.specs.Accepting.{Accepts, is_end};
+ghost use Rattle.rv_net.specs.Accepting.{Accepts, GivesFewer, is_end};
 
 use crate::accepted::Accepted;
 use crate::conn::MemoryConn;
@@ -57,6 +57,8 @@ impl Listen for MemoryListen {
 
     ghost ends = { λ s. s.ends };
 
+    ghost accepts = { λ s. vec_len s.to_come };
+
     fn end_count(&self) -> u64
         ensures { result ≡ self.now.ends }
     {
@@ -67,6 +69,7 @@ impl Listen for MemoryListen {
         ensures given { Accepts self.old.to_come.items self.old.out self.new.to_come.items self.new.out result }
         ensures back { self.new.came_back ≡ self.old.came_back }
         ensures ends { self.new.ends ≡ counted_if (is_end result) self.old.ends }
+        ensures fewer { GivesFewer (vec_len self.old.to_come) (vec_len self.new.to_come) result }
     {
         if self.to_come.is_empty() {
             self.ends = self.ends.saturating_add(1);

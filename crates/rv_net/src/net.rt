@@ -1,4 +1,5 @@
 ghost use Rattle.std.specs.Prelude.{◌≡◌, ◌+◌, ◌≤◌, ◌++◌, ℕ, List, length, IfOk, IsErrOf};
+ghost use Rattle.std.specs.List.{AllByRecursion};
 ghost use Rattle.rv_base.specs.Causes.{Counts, Rose};
 ghost use Rattle.rv_net.specs.declared.net_fault.NetFault.TheVariants as NetFault;
 ghost use Rattle.rv_net.specs.Giving.{Gives};
@@ -42,10 +43,10 @@ pub trait Net {
         ensures faults { Counts (faults self.old) (faults self.new) result }
         ensures failed { IsErrOf result NetFault.Failed → Rose (faults self.old) (faults self.new) };
 
-    /// Takes listeners back. It can't fail, and takes no memory.
+    /// Takes listeners back. It can't fail, and takes no memory. Where the net tells after that, so do they.
     fn done(&mut self, listeners: Listeners<Self::Listen>)
         requires { tells self.old → length listeners.listeners ≤ out self.old }
-        ensures tells { tells self.new → tells self.old }
+        ensures tells { tells self.new → tells self.old × AllByRecursion Self.Listen.tells listeners.listeners }
         ensures back { tells self.new → came_back self.new ≡ came_back self.old ++ listeners.listeners }
         ensures out { tells self.new → out self.old ≡ out self.new + length listeners.listeners }
         ensures to_give { tells self.new → to_give self.new ≡ to_give self.old }

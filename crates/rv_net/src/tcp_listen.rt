@@ -1,7 +1,7 @@
 // A listener over TCP.
 ghost use Rattle.std.specs.Prelude.{◌≡◌, []};
 ghost use Rattle.rv_base.specs.Outside.{counted_if};
-ghost use Rattle.rv_net.specs.Accepting.{TakesOne, is_end};
+ghost use Rattle.rv_net.specs.Accepting.{GivesFewer, TakesOne, is_end};
 
 use crate::accepted::Accepted;
 use crate::conn::Conn;
@@ -76,6 +76,8 @@ impl Listen for TcpListen {
 
     ghost ends = { λ s. s.ends };
 
+    ghost accepts = { λ s. s.left };
+
     fn end_count(&self) -> u64
         ensures { result ≡ self.now.ends }
     {
@@ -85,6 +87,7 @@ impl Listen for TcpListen {
     fn accept(&mut self) -> Accepted<TcpConn>
         ensures ends { self.new.ends ≡ counted_if (is_end result) self.old.ends }
         ensures left { TakesOne self.old.left self.new.left result }
+        ensures fewer { GivesFewer self.old.left self.new.left result }
     {
         if self.left > 0 {
             if let Ok(conn) = self.next() {

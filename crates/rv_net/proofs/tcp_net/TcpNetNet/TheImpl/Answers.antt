@@ -14,7 +14,7 @@ listen-tells g c = record {
 
 pub done-tells : goal.done-tells
 done-tells g c = record {
-  tells = λ told. told;
+  tells = λ told. absurd told;
   back = λ told. absurd told;
   out = λ told. absurd told;
   to_give = λ told. refl;
