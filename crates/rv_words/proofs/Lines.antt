@@ -147,11 +147,12 @@ by_name P verb known at_it other = go (bytes_eq verb known) refl
     go true is = subst P (sym (same_text verb known (sym is))) at_it
     go false is = other is
 
-serve_line : (one other : Text) (words : List Text) → command_in (other ∷ codes "serve" ∷ words) ≡ command_in (one ∷ codes "serve" ∷ words)
+pub serve_reads : (name : Text) (words : List Text) → command_in (name ∷ codes "serve" ∷ words) ≡ read_from serve_leaf serve_in (at [] None 1 false) words
 unfolding clap_on_literals
-serve_line one other words =
-    named_line other (codes "serve") words serve_leaf serve_in (refl, refl, refl, λ rows. refl)
-    ∙ sym (named_line one (codes "serve") words serve_leaf serve_in (refl, refl, refl, λ rows. refl))
+serve_reads name words = named_line name (codes "serve") words serve_leaf serve_in (refl, refl, refl, λ rows. refl)
+
+serve_line : (one other : Text) (words : List Text) → command_in (other ∷ codes "serve" ∷ words) ≡ command_in (one ∷ codes "serve" ∷ words)
+serve_line one other words = serve_reads other words ∙ sym (serve_reads one words)
 
 verb_line : (name verb : Text) (words : List Text) → command_in (name ∷ verb ∷ words) ≡ plainly_in (name ∷ verb ∷ words)
 unfolding clap_on_literals
@@ -164,7 +165,7 @@ verb_line name verb words =
     by_name P verb (codes "retire") (named_line name (codes "retire") words retire_leaf retire_in (refl, refl, refl, λ rows. refl) ∙ retire_1 words) (λ retire.
     by_name P verb (codes "serve") (serve_line (codes "rv") name words) (λ serve.
     let is : IsOther verb = record { feed = feed; retire = retire; lists = lists; activity = activity; check = check; serve = serve } in
-    other_line name verb words is ∙ sym (ap (λ b. cond b _ (option_and_then (asked_with verb) (values_in words))) serve ∙ other_values verb (values_in words) is)))))))
+    other_line name verb words is ∙ sym (ap (λ b. cond b (command_in (codes "rv" ∷ codes "serve" ∷ words)) (option_and_then (asked_with verb) (values_in words))) serve ∙ other_values verb (values_in words) is)))))))
 
 pub line_is_plain : (words : List Text) → command_in words ≡ plainly_in words
 unfolding command_in rv_app clap_on_literals

@@ -1,7 +1,7 @@
 -- Numbers among the words.
 use Rattle.std.specs.Prelude.{ℕ, ◌&&◌, List, Option, Some, None, decimal, nat_le, if◌then◌else◌}
 use Rattle.std.specs.Str.{bytes_eq}
-use Rattle.core.specs.Str.Parse.{digits_value}
+use Rattle.std.specs.Str.Parse.{digits_value}
 
 -- the number that the text is in decimal digits, without sign and leading zeros, between these bounds
 abbrev pub number_in : ℕ → ℕ → List ℕ → Option ℕ

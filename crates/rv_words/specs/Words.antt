@@ -1,5 +1,5 @@
 -- What the words of a command line ask for. The first is the program's name.
-use Rattle.std.specs.Prelude.{◌≡◌, ◌&&◌, List, [], ◌∷◌, Option, Some, None, Bool, true, false, codes, length, nat_le, if◌then◌else◌, option_and_then}
+use Rattle.std.specs.Prelude.{◌≡◌, ◌&&◌, List, [], ◌∷◌, Option, Some, None, Bool, true, false, codes, length, nat_le, if◌then◌else◌, option_and_then, option_map}
 use Rattle.std.specs.Str.{bytes_eq}
 use Rattle.clap.specs.Words.{Kinds, Row, Text, first_of, fault_of, subcommand_of, subcommand_rows_of}
 use Rattle.clap.specs.declared.parser.ArgMatches.{ArgMatches}
@@ -32,22 +32,20 @@ retire_group_in store group = if is_id group then Some (Retire store group) else
 abbrev pub retire_in : List Row → Option Command
 retire_in rows = option_and_then (λ store. option_and_then (retire_group_in store) (first_of (codes "GROUP") rows)) (first_of (codes "STORE") rows)
 
--- how requests are served: a port, one worker, and a number of connections
-unfoldable pub options_with : Text → List Row → Option ServeOptions
-options_with accounts rows = do
-  port_text ← first_of (codes "port") rows
-  port ← number_in 1 65535 port_text
-  workers_text ← first_of (codes "workers") rows
-  one ← number_in 1 1 workers_text
-  connections_text ← first_of (codes "connections") rows
-  connections ← number_in 1 1000000 connections_text
+-- how requests are served, by the values of the names: a port, one worker, and a number of connections
+unfoldable pub options_with : (Text → Option Text) → Text → Option ServeOptions
+options_with given accounts = do
+  port ← option_and_then (number_in 1 65535) (given (codes "port"))
+  one ← option_and_then (number_in 1 1) (given (codes "workers"))
+  connections ← option_and_then (number_in 1 1000000) (given (codes "connections"))
   Some (record { accounts = accounts; port = port; connections = connections })
 
-abbrev pub options_in : List Row → Option ServeOptions
-options_in rows = option_and_then (λ accounts. options_with accounts rows) (first_of (codes "accounts") rows)
+-- what `serve` asks for, by the values of its names
+abbrev pub serve_by : (Text → Option Text) → Option Command
+serve_by given = option_and_then (λ store. option_map (λ options. Serve store options) (option_and_then (options_with given) (given (codes "accounts")))) (given (codes "STORE"))
 
 abbrev pub serve_in : List Row → Option Command
-serve_in rows = option_and_then (λ store. option_and_then (λ options. Some (Serve store options)) (options_in rows)) (first_of (codes "STORE") rows)
+serve_in rows = serve_by (λ name. first_of name rows)
 
 -- what the command that was named asks for with its values
 abbrev pub named_in : Text × List Row → Option Command

@@ -1,5 +1,6 @@
 // Numbers among the words.
-ghost use Rattle.std.specs.Prelude.{◌≡◌, ◌<◌, ◌^◌, ℕ, decimal, Some};
+ghost use Rattle.std.specs.Int.{IsInRange};
+ghost use Rattle.std.specs.Prelude.{◌≡◌, ◌<◌, ◌^◌, IfSome, ℕ, decimal, Some};
 ghost use Rattle.std.specs.Str.{bytes_eq};
 ghost use Rattle.rv_words.specs.Numbers.{number_in};
 
@@ -22,7 +23,8 @@ fn parsed(text: &str) -> Option<u32>
 
 /// The number that the text is in decimal digits, without sign and leading zeros, where it is from `least` to `most`.
 pub(crate) fn number_of(text: &str, least: u32, most: u32) -> Option<u32>
-    ensures { result ≡ number_in least most text.now }
+    ensures number { result ≡ number_in least most text.now }
+    ensures bounds { IfSome result (λ number. IsInRange least most number) }
 {
     let number = parsed(text)?;
     if is_text_of(text, number) && least <= number && number <= most {

@@ -1,7 +1,9 @@
 // The words of a command line are read by the table.
-ghost use Rattle.std.specs.Prelude.{◌≡◌, IfOk, codes, map, option_and_then, option_map, string_bytes};
+ghost use Rattle.std.specs.Int.{IsInRange};
+ghost use Rattle.std.specs.Prelude.{◌≡◌, IfOk, IfSome, codes, map, option_and_then, option_map, string_bytes};
 ghost use Rattle.clap.specs.Words.{first_of, found_of, rows_of, subcommand_rows_of};
-ghost use Rattle.rv_words.specs.Words.{command_in, named_in, on_store, on_store_in, options_in, options_with, retire_in, retire_group_in, serve_in, Parses};
+ghost use Rattle.rv_words.specs.Numbers.{number_in};
+ghost use Rattle.rv_words.specs.Words.{command_in, named_in, on_store, on_store_in, options_with, retire_in, retire_group_in, serve_in, Parses};
 
 use crate::command::Command;
 use crate::name::Name;
@@ -101,28 +103,37 @@ fn retire(alloc: Global, matches: &ArgMatches<'_>) -> Result<Option<Command>, Me
     retire_group(alloc, store, group)
 }
 
-// How requests are served, where each option has a value of the form.
-fn options_of(alloc: Global, matches: &ArgMatches<'_>) -> Result<Option<ServeOptions>, Memory>
-    ensures { IfOk result (λ options. options ≡ options_in (rows_of (found_of matches.now))) }
+// The number of this name, if one between these bounds was given.
+fn number_at(matches: &ArgMatches<'_>, name: &str, least: u32, most: u32) -> Option<u32>
+    ensures number { result ≡ option_and_then (number_in least most) (first_of name.now (rows_of (found_of matches.now))) }
+    ensures bounds { IfSome result (λ number. IsInRange least most number) }
 {
-    let Some(accounts) = name_of(alloc, matches, "accounts")? else {
-        return Ok(None);
-    };
-    Ok(options_with(matches, accounts))
+    number_of(value(matches, name)?, least, most)
 }
 
-// The same, with the name of the accounts file.
+// How requests are served, with this accounts file.
+#[tactic(auto, unfolding(crate::specs::Words::options_with))]
 fn options_with(matches: &ArgMatches<'_>, accounts: Name) -> Option<ServeOptions>
-    ensures { result ≡ options_with accounts (rows_of (found_of matches.now)) }
+    ensures { result ≡ options_with (λ name. first_of name (rows_of (found_of matches.now))) accounts }
 {
-    let port = number_of(value(matches, "port")?, 1, 65_535)?;
-    let _one = number_of(value(matches, "workers")?, 1, 1)?;
-    let connections = number_of(value(matches, "connections")?, 1, 1_000_000)?;
+    let port = number_at(matches, "port", 1, 65_535)?;
+    let _one = number_at(matches, "workers", 1, 1)?;
+    let connections = number_at(matches, "connections", 1, 1_000_000)?;
     Some(ServeOptions {
         accounts,
         port: port as u16,
         connections,
     })
+}
+
+// How requests are served, where each option has a value of the form.
+fn options_of(alloc: Global, matches: &ArgMatches<'_>) -> Result<Option<ServeOptions>, Memory>
+    ensures { IfOk result (λ options. options ≡ option_and_then (options_with (λ name. first_of name (rows_of (found_of matches.now)))) (first_of (codes "accounts") (rows_of (found_of matches.now)))) }
+{
+    let Some(accounts) = name_of(alloc, matches, "accounts")? else {
+        return Ok(None);
+    };
+    Ok(options_with(matches, accounts))
 }
 
 fn serve(alloc: Global, matches: &ArgMatches<'_>) -> Result<Option<Command>, Memory>

@@ -1,7 +1,7 @@
 // Command lines.
 use crate::texts::quoted;
 use rv_base::Memory;
-use rv_words::{Command, StoreName, command_of};
+use rv_words::{Command, Name, ServeOptions, command_of};
 use std::alloc::Global;
 
 // The words between bars. An empty text has none.
@@ -17,9 +17,18 @@ fn words(alloc: Global, line: &str) -> Result<Vec<String>, Memory> {
 }
 
 // A command of one store.
-fn on_store(alloc: Global, name: &str, store: &StoreName) -> Result<String, Memory> {
+fn on_store(alloc: Global, name: &str, store: &Name) -> Result<String, Memory> {
     let store = quoted(alloc, store.as_str())?;
     Ok(format!(in alloc; "{name} {store}")?)
+}
+
+// A store that is served.
+fn served(alloc: Global, store: &Name, options: &ServeOptions) -> Result<String, Memory> {
+    let store = quoted(alloc, store.as_str())?;
+    let accounts = quoted(alloc, options.accounts.as_str())?;
+    let port = options.port;
+    let connections = options.connections;
+    Ok(format!(in alloc; "serve {store} {accounts} {port} {connections}")?)
 }
 
 // What the words ask for.
@@ -34,6 +43,7 @@ fn asked(alloc: Global, words: &[String]) -> Result<String, Memory> {
             let group = quoted(alloc, group.as_str())?;
             Ok(format!(in alloc; "retire {store} {group}")?)
         }
+        Some(Command::Serve { store, options }) => served(alloc, &store, &options),
         None => Ok(String::from_str(alloc, "nothing")?),
     }
 }
