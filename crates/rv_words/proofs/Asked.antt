@@ -1,21 +1,15 @@
 -- The laws of command lines, from what they ask for without clap.
 use Rattle.std.proofs.Common.{◌≡◌, ◌≢◌, ◌∙◌, ℕ, ap, refl, sym, List, [], ◌∷◌, Option, Some, None, Bool, cond, true, false, codes}
-use Rattle.std.specs.List.{fold}
 use Rattle.std.specs.Prelude.{option_and_then, option_map}
 use Rattle.std.specs.Str.{bytes_eq}
 use Rattle.std.specs.Cmp.Lexicographic.{same_text}
-use Rattle.clap.specs.Kinds.{or_else}
-use Rattle.clap.specs.Faults.{walk_fault}
-use Rattle.clap.specs.Walk.{Row, finished, first_of, walked}
-use Rattle.rv_words.specs.Words.{command_in, is_id, is_taken, options_with, retire_group_in, serve_in}
-use Rattle.rv_words.specs.Plain.{asked_with, is_flag, on_store_with, plainly_in, retire_with, values_in}
+use Rattle.rv_words.specs.Words.{command_in, is_id, options_with, retire_group_in}
+use Rattle.rv_words.specs.Plain.{Part, asked_with, given, is_flag, on_store_with, parts_from, plainly_in, retire_with, serve_with, values_in}
 use Rattle.rv_words.specs.Laws.{AskForNothing, EachGroupIsAsked, EachStoreIsAsked, GroupsAreIds, OthersAskForNothing, RetireIsAsked, StoresAreAsked, begins_with_hyphen}
 use Rattle.rv_words.specs.declared.command.Command.{Command}
 use Rattle.rv_words.specs.declared.command.Command.TheVariants.{Activity, Check, Feed, Lists, Retire, Serve}
 use Rattle.rv_words.specs.declared.serve_options.ServeOptions.{ServeOptions}
-use Rattle.rv_words.proofs.Leaves.{at, end_fault}
-use Rattle.rv_words.proofs.Verbs.{serve_leaf}
-use Rattle.rv_words.proofs.Lines.{line_is_plain, other_line, serve_reads}
+use Rattle.rv_words.proofs.Lines.{line_is_plain, other_line}
 
 -- a word that does not begin with a hyphen is a value
 is_value : (word : List ℕ) (words : List (List ℕ)) → begins_with_hyphen word ≡ false
@@ -148,17 +142,13 @@ by_serve store group None options is = absurd (cc)
 by_serve store group (Some s) None is = absurd (cc)
 by_serve store group (Some s) (Some o) is = absurd (cc)
 
-by_rows : (store group : List ℕ) (taken : Bool) (rows : List Row) → Names store group (cond taken (serve_in rows) None)
-by_rows store group false rows is = absurd (cc)
-by_rows store group true rows is = by_serve store group (first_of (codes "STORE") rows)
-    (option_and_then (options_with (λ name. first_of name rows)) (first_of (codes "accounts") rows)) is
+by_parts : (store group : List ℕ) (parts : Option (List Part)) → Names store group (option_and_then serve_with parts)
+by_parts store group None is = absurd (cc)
+by_parts store group (Some ps) is = by_serve store group (given ps (codes "STORE")) (option_and_then (options_with (given ps)) (given ps (codes "accounts"))) is
 
 by_verb : (store group verb : List ℕ) (words : List (List ℕ)) (serve : Bool)
-    → Names store group (cond serve (command_in (codes "rv" ∷ codes "serve" ∷ words)) (option_and_then (asked_with verb) (values_in words)))
-by_verb store group verb words true is =
-    let end = (fold (walked serve_leaf.rules []) (at [] None 1 false) words).held in
-    by_rows store group (is_taken (or_else (walk_fault serve_leaf [] (at [] None 1 false) words) (end_fault serve_leaf end))) (finished serve_leaf.rules end)
-    (sym (serve_reads (codes "rv") words) ∙ is)
+    → Names store group (cond serve (option_and_then serve_with (parts_from None words)) (option_and_then (asked_with verb) (values_in words)))
+by_verb store group verb words true is = by_parts store group (parts_from None words) is
 by_verb store group verb words false is = by_values store group verb (bytes_eq verb (codes "retire")) (values_in words) is
 
 by_line : (words : List (List ℕ)) (store group : List ℕ) → Names store group (plainly_in words)

@@ -1,7 +1,10 @@
 pub mod Tables
 pub mod Parses
 pub mod Numbers
+pub mod Parts
 pub mod Leaves
 pub mod Verbs
+pub mod Rules
+pub mod Serving
 pub mod Lines
 pub mod Asked

@@ -15,9 +15,10 @@ use Rattle.clap.proofs.FaultLemmas.{stopped_fault}
 use Rattle.clap.proofs.OnLiterals.{clap_on_literals}
 use Rattle.rv_words.specs.Table.{bare_app, commands, rv_app, with_commands}
 use Rattle.rv_words.specs.Words.{command_in, is_taken, named_in, on_store_in, retire_in, serve_in}
-use Rattle.rv_words.specs.Plain.{asked_with, is_flag, on_store_with, plainly_in, values_in}
+use Rattle.rv_words.specs.Plain.{asked_with, is_flag, on_store_with, parts_from, plainly_in, serve_with, values_in}
 use Rattle.rv_words.specs.declared.command.Command.{Command}
 use Rattle.rv_words.proofs.Leaves.{HasNoFlags, at, flag_fails, more_fails, not_empty, plain_turn, read_from}
+use Rattle.rv_words.proofs.Serving.{served}
 use Rattle.rv_words.proofs.Verbs.{retire_1, retire_leaf, serve_leaf, store_1, store_leaf}
 
 abbrev whole : App
@@ -126,7 +127,7 @@ other_line name verb words is = go (bytes_eq verb (codes "--")) refl (is_flag ve
         line_fails name verb words (ap is_taken (turn_alone verb (not_named verb is)) ∙ not_empty _ _ (flag_fails top top_flags [] None verb goes_on is_it))
     go false goes_on false is_it =
         line_fails name verb words
-        (ap is_taken (turn_alone verb (not_named verb is) ∙ plain_turn top top_flags (λ rows. None) [] None 1 verb (goes_on, is_it)))
+        (ap is_taken (turn_alone verb (not_named verb is) ∙ plain_turn top [] None 1 verb (goes_on, is_it)))
 
 other_asks : (verb : Text) (values : List Text) → IsOther verb → asked_with verb values ≡ None
 other_asks verb [] is = rw is.retire refl
@@ -147,12 +148,9 @@ by_name P verb known at_it other = go (bytes_eq verb known) refl
     go true is = subst P (sym (same_text verb known (sym is))) at_it
     go false is = other is
 
-pub serve_reads : (name : Text) (words : List Text) → command_in (name ∷ codes "serve" ∷ words) ≡ read_from serve_leaf serve_in (at [] None 1 false) words
+serve_line : (name : Text) (words : List Text) → command_in (name ∷ codes "serve" ∷ words) ≡ option_and_then serve_with (parts_from None words)
 unfolding clap_on_literals
-serve_reads name words = named_line name (codes "serve") words serve_leaf serve_in (refl, refl, refl, λ rows. refl)
-
-serve_line : (one other : Text) (words : List Text) → command_in (other ∷ codes "serve" ∷ words) ≡ command_in (one ∷ codes "serve" ∷ words)
-serve_line one other words = serve_reads other words ∙ sym (serve_reads one words)
+serve_line name words = named_line name (codes "serve") words serve_leaf serve_in (refl, refl, refl, λ rows. refl) ∙ served words
 
 verb_line : (name verb : Text) (words : List Text) → command_in (name ∷ verb ∷ words) ≡ plainly_in (name ∷ verb ∷ words)
 unfolding clap_on_literals
@@ -163,9 +161,9 @@ verb_line name verb words =
     by_name P verb (codes "activity") (store_line (codes "activity") (refl, refl, refl, λ rows. refl) name words) (λ activity.
     by_name P verb (codes "check") (store_line (codes "check") (refl, refl, refl, λ rows. refl) name words) (λ check.
     by_name P verb (codes "retire") (named_line name (codes "retire") words retire_leaf retire_in (refl, refl, refl, λ rows. refl) ∙ retire_1 words) (λ retire.
-    by_name P verb (codes "serve") (serve_line (codes "rv") name words) (λ serve.
+    by_name P verb (codes "serve") (serve_line name words) (λ serve.
     let is : IsOther verb = record { feed = feed; retire = retire; lists = lists; activity = activity; check = check; serve = serve } in
-    other_line name verb words is ∙ sym (ap (λ b. cond b (command_in (codes "rv" ∷ codes "serve" ∷ words)) (option_and_then (asked_with verb) (values_in words))) serve ∙ other_values verb (values_in words) is)))))))
+    other_line name verb words is ∙ sym (ap (λ b. cond b (option_and_then serve_with (parts_from None words)) (option_and_then (asked_with verb) (values_in words))) serve ∙ other_values verb (values_in words) is)))))))
 
 pub line_is_plain : (words : List Text) → command_in words ≡ plainly_in words
 unfolding command_in rv_app clap_on_literals

@@ -52,7 +52,7 @@ module _ (verb : Text) where
   store_2 v [] = refl
   store_2 v (w ∷ ws) = by_word store_leaf store_flags reads [] (Some (store, v ∷ [])) 2 (λ values. on_store_with verb (v ∷ values)) w ws (store_2_ended v ws)
       (λ p. refuses store_leaf reads (at [] (Some (store, v ∷ [])) 2 false) w ws
-      (ap is_taken (plain_turn store_leaf store_flags reads [] (Some (store, v ∷ [])) 2 w p))
+      (ap is_taken (plain_turn store_leaf [] (Some (store, v ∷ [])) 2 w p))
       ∙ no_more (values_in ws))
 
   pub store_1 : (words : List Text) → read_from store_leaf reads (at [] None 1 false) words ≡ option_and_then (on_store_with verb) (values_in words)
@@ -60,7 +60,7 @@ module _ (verb : Text) where
   store_1 [] = refl
   store_1 (v ∷ ws) = by_word store_leaf store_flags reads [] None 1 (on_store_with verb) v ws (store_1_ended ws)
       (λ p. goes store_leaf reads (at [] None 1 false) (at [] (Some (store, v ∷ [])) 2 false) v ws
-      (plain_turn store_leaf store_flags reads [] None 1 v p) (plain_walk store_leaf store_flags reads [] None 1 v p)
+      (plain_turn store_leaf [] None 1 v p) (plain_walk store_leaf [] None 1 v p)
       ∙ store_2 v ws)
 
 -- ---- serve
@@ -107,7 +107,7 @@ retire_3 v g [] = refl
 retire_3 v g (w ∷ ws) = by_word retire_leaf retire_flags retire_in (stored v) (Some (group, g ∷ [])) 3 (λ values. retire_with (v ∷ g ∷ values)) w ws
     (retire_3_ended v g ws)
     (λ p. refuses retire_leaf retire_in (at (stored v) (Some (group, g ∷ [])) 3 false) w ws
-    (ap is_taken (plain_turn retire_leaf retire_flags retire_in (stored v) (Some (group, g ∷ [])) 3 w p))
+    (ap is_taken (plain_turn retire_leaf (stored v) (Some (group, g ∷ [])) 3 w p))
     ∙ no_more (values_in ws))
 
 retire_2 : (v : Text) (words : List Text) → read_from retire_leaf retire_in (at [] (Some (store, v ∷ [])) 2 false) words
@@ -116,8 +116,8 @@ unfolding clap_on_literals
 retire_2 v [] = refl
 retire_2 v (g ∷ ws) = by_word retire_leaf retire_flags retire_in [] (Some (store, v ∷ [])) 2 (λ values. retire_with (v ∷ values)) g ws (retire_2_ended v ws)
     (λ p. goes retire_leaf retire_in (at [] (Some (store, v ∷ [])) 2 false) (at (stored v) (Some (group, g ∷ [])) 3 false) g ws
-    (plain_turn retire_leaf retire_flags retire_in [] (Some (store, v ∷ [])) 2 g p)
-    (plain_walk retire_leaf retire_flags retire_in [] (Some (store, v ∷ [])) 2 g p)
+    (plain_turn retire_leaf [] (Some (store, v ∷ [])) 2 g p)
+    (plain_walk retire_leaf [] (Some (store, v ∷ [])) 2 g p)
     ∙ retire_3 v g ws)
 
 pub retire_1 : (words : List Text) → read_from retire_leaf retire_in (at [] None 1 false) words ≡ option_and_then retire_with (values_in words)
@@ -125,5 +125,5 @@ unfolding clap_on_literals
 retire_1 [] = refl
 retire_1 (v ∷ ws) = by_word retire_leaf retire_flags retire_in [] None 1 retire_with v ws (retire_1_ended ws)
     (λ p. goes retire_leaf retire_in (at [] None 1 false) (at [] (Some (store, v ∷ [])) 2 false) v ws
-    (plain_turn retire_leaf retire_flags retire_in [] None 1 v p) (plain_walk retire_leaf retire_flags retire_in [] None 1 v p)
+    (plain_turn retire_leaf [] None 1 v p) (plain_walk retire_leaf [] None 1 v p)
     ∙ retire_2 v ws)

@@ -1,7 +1,9 @@
 -- What the words ask for, said without clap.
-use Rattle.std.specs.Prelude.{ℕ, ◌==◌, ◌&&◌, List, [], ◌∷◌, Option, Some, None, Bool, false, codes, is_some, slice_get, if◌then◌else◌, option_and_then, option_map}
+use Rattle.std.specs.Prelude.{ℕ, ◌==◌, ◌&&◌, List, [], ◌∷◌, Option, Some, None, Bool, false, codes, drop, is_some, map, slice_get, take, if◌then◌else◌, option_and_then, option_map}
+use Rattle.std.specs.List.{after_first, before_first, list_any}
+use Rattle.std.specs.Option.{option_map_or}
 use Rattle.std.specs.Str.{bytes_eq, chars}
-use Rattle.rv_words.specs.Words.{command_in, on_store, retire_group_in}
+use Rattle.rv_words.specs.Words.{on_store, retire_group_in, serve_by}
 use Rattle.rv_words.specs.declared.command.Command.{Command}
 
 -- a `-` (45) with a character after it
@@ -31,9 +33,65 @@ asked_with verb values =
     if bytes_eq verb (codes "retire") then retire_with values
     else on_store_with verb values
 
+-- ---- serve
+
+-- a name with its value: STORE, or an option's
+abbrev pub Part : Type 0
+Part = List ℕ × List ℕ
+
+abbrev pub option_names : List (List ℕ)
+option_names = codes "accounts" ∷ codes "port" ∷ codes "workers" ∷ codes "connections" ∷ []
+
+-- what stands in `--NAME=VALUE` before the first `=` (61), and after it if there is one
+abbrev pub option_name : List ℕ → List ℕ
+option_name word = before_first (λ byte. byte == 61) (drop 2 word)
+
+abbrev pub option_value : List ℕ → Option (List ℕ)
+option_value word =
+    if list_any (λ byte. byte == 61) (drop 2 word) then Some (after_first (λ byte. byte == 61) (drop 2 word)) else None
+
+-- `--NAME` or `--NAME=VALUE`, where NAME is an option's
+abbrev pub is_option : List ℕ → Bool
+is_option word = bytes_eq (take 2 word) (codes "--") && list_any (λ name. bytes_eq name (option_name word)) option_names
+
+abbrev pub with_part : Part → Option (List Part) → Option (List Part)
+with_part part = option_map (λ parts. part ∷ parts)
+
+-- The words after `serve`, as names with their values in the order of the words. The first argument is the option that
+-- waits for its value: a flag is none. Where none waits, each word after a first `--` is a STORE, and so is a word that
+-- is no flag; a flag is an option, with its value in the word after `=` or else in the next word.
+abbrev pub parts_from : Option (List ℕ) → List (List ℕ) → Option (List Part)
+parts_from None [] = Some []
+parts_from (Some name) [] = None
+parts_from None (word ∷ words) =
+    if bytes_eq word (codes "--") then Some (map (λ store. (codes "STORE", store)) words)
+    else if is_flag word then (
+    if is_option word then option_map_or (λ value. with_part (option_name word, value) (parts_from None words))
+    (option_value word) (parts_from (Some (option_name word)) words)
+    else None)
+    else with_part (codes "STORE", word) (parts_from None words)
+parts_from (Some name) (word ∷ words) = if is_flag word then None else with_part (name, word) (parts_from None words)
+
+abbrev pub values_of : List Part → List ℕ → List (List ℕ)
+values_of [] name = []
+values_of (part ∷ parts) name = if bytes_eq part.0 name then part.1 ∷ values_of parts name else values_of parts name
+
+abbrev pub the_only : List (List ℕ) → Option (List ℕ)
+the_only (value ∷ []) = Some value
+the_only other = None
+
+-- the value of a name that is given exactly once
+abbrev pub given : List Part → List ℕ → Option (List ℕ)
+given parts name = the_only (values_of parts name)
+
+abbrev pub serve_with : List Part → Option Command
+serve_with parts = serve_by (given parts)
+
+-- ---- every line
+
 -- the program's name, the command's, and its values
 abbrev pub plainly_in : List (List ℕ) → Option Command
 plainly_in (name ∷ verb ∷ words) =
-    if bytes_eq verb (codes "serve") then command_in (codes "rv" ∷ codes "serve" ∷ words)
+    if bytes_eq verb (codes "serve") then option_and_then serve_with (parts_from None words)
     else option_and_then (asked_with verb) (values_in words)
 plainly_in other = None
