@@ -1,0 +1,4 @@
+pub mod Statuses
+pub mod Counting
+pub mod Talking
+pub mod Runs

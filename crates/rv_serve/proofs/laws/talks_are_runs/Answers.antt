@@ -1,0 +1,5 @@
+use Rattle.rv_serve.proofs.Runs.{talk_runs}
+use Rattle.rv_serve.proofs.laws.talks_are_runs.Goals as goal
+
+pub returns : goal.returns
+returns g c = talk_runs g.T.Turns.mutates g.T.Turns.pulls g.T.Turns.retires

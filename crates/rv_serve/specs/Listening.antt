@@ -1,0 +1,50 @@
+-- The connections of a listener, served one after another.
+use Rattle.std.specs.Prelude.{◌≡◌, ℕ, List, [], ◌∷◌, ◌++◌, map}
+use Rattle.rv_base.specs.Outside.{InputState, OutputState}
+use Rattle.rv_net.specs.declared.conn.Conn.{Conn}
+use Rattle.rv_wire.specs.declared.push.Mutation.{Mutation}
+use Rattle.rv_wire.specs.declared.pull.PullRequest.{PullRequest}
+use Rattle.rv_history.specs.declared.turn.Turn.{Turn}
+use Rattle.rv_history.specs.declared.pull_answer.PullAnswer.{PullAnswer}
+use Rattle.rv_history.specs.declared.retire_answer.RetireAnswer.{RetireAnswer}
+use Rattle.rv_history.specs.Machine.{Sender}
+use Rattle.rv_accounts.specs.File.{Served as Accounts}
+use Rattle.rv_serve.specs.declared.conn_end.ConnEnd.{ConnEnd}
+use Rattle.rv_serve.specs.Talk.{Exchange, Talks, answered}
+use Rattle.rv_serve.specs.Causes.{ConnCause, InputIsSteady, OutputIsSteady}
+
+-- a connection as it was given and as it went back, how serving it ended, and all that was answered on it
+pub record ServedConn (I O : Type 0) : Type 0 where
+  pub given : Conn I O
+  pub back : Conn I O
+  pub end : ConnEnd
+  pub answers : List Exchange
+
+-- Where the connections of a listener are told: these are all that were to come and none is to come now, each is back, in order,
+-- and as many are out as before.
+pub record AreBack {I O : Type 0} (conns : List (ServedConn I O)) (to_come to_come' came_back came_back' : List (Conn I O)) (out out' : ℕ) : Type 0 where
+  pub given : to_come ≡ map (λ conn. conn.given) conns
+  pub none : to_come' ≡ []
+  pub back : came_back' ≡ came_back ++ map (λ conn. conn.back) conns
+  pub same : out' ≡ out
+
+module _ {S I O : Type 0} (mutates : S → Sender → Mutation → Turn → S → Type 0) (pulls : S → List ℕ → PullRequest → PullAnswer → S → Type 0) (retires : S → List ℕ → RetireAnswer → S → Type 0) (accounts : Accounts)
+    (input : I → InputState) (output : O → OutputState) (input_steady : I → Type 0) (output_steady : O → Type 0) where
+  -- a connection is served from one state to the next, as the clauses of serving it say
+  pub record ServesConn (old : S) (conn : ServedConn I O) (new : S) : Type 0 where
+    pub talks : Talks mutates pulls retires accounts old new (input conn.given.source) (input conn.back.source) (output conn.given.sink) (output conn.back.sink) conn.end
+    pub answers : conn.answers ≡ answered mutates pulls retires accounts talks
+    pub cause : ConnCause (input conn.given.source) (input conn.back.source) (output conn.given.sink) (output conn.back.sink) conn.end
+    pub steady_input : input_steady conn.given.source → InputIsSteady (input_steady conn.back.source) conn.end
+    pub steady_output : output_steady conn.given.sink → OutputIsSteady (output_steady conn.back.sink) (output conn.given.sink) (output conn.back.sink) conn.end
+
+  -- connections are served one after another, each from the state that the one before it left
+  abbrev pub ServesEach : S → List (ServedConn I O) → S → Type 0
+  ServesEach old [] new = new ≡ old
+  ServesEach old (conn ∷ conns) new = (mid : S) × ServesConn old conn mid × ServesEach mid conns new
+
+  -- All connections that a listener gave are served and went back. Told says that the listener tells them.
+  pub record ServesAll (Told : Type 0) (old new : S) (to_come to_come' came_back came_back' : List (Conn I O)) (out out' : ℕ) : Type 0 where
+    pub conns : List (ServedConn I O)
+    pub serves : ServesEach old conns new
+    pub are_back : Told → AreBack conns to_come to_come' came_back came_back' out out'

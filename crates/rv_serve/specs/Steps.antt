@@ -1,0 +1,49 @@
+-- The steps of serving a connection.
+use Rattle.std.specs.Prelude.{◌≡◌, ℕ, Bool, List, Option, Some, None, Result, Ok, Err, IfOk}
+use Rattle.std.specs.Borrow.{Bor}
+use Rattle.std.specs.Io.KnownBytes.{Appends}
+use Rattle.rv_base.specs.Outside.{OutputState, Writes}
+use Rattle.rv_wire.specs.declared.push.Mutation.{Mutation}
+use Rattle.rv_wire.specs.declared.pull.PullRequest.{PullRequest}
+use Rattle.rv_history.specs.declared.turn.Turn.{Turn}
+use Rattle.rv_history.specs.declared.pull_answer.PullAnswer.{PullAnswer}
+use Rattle.rv_history.specs.declared.retire_answer.RetireAnswer.{RetireAnswer}
+use Rattle.rv_history.specs.Machine.{Sender}
+use Rattle.rv_http.specs.declared.request.Request.{Request}
+use Rattle.rv_http.specs.declared.http_end.HttpEnd.{HttpEnd}
+use Rattle.rv_http.specs.declared.response.WriteFault.{WriteFault}
+use Rattle.rv_accounts.specs.File.{Served as Accounts}
+use Rattle.rv_answering.specs.declared.answer.Answer.{Answer}
+use Rattle.rv_wire.specs.declared.error_body.ErrorBody.{ErrorBody}
+use Rattle.rv_wire.specs.declared.error_body.ErrorBody.TheVariants as errors
+use Rattle.rv_serve.specs.declared.conn_end.ConnEnd.{ConnEnd}
+use Rattle.rv_serve.specs.Replies.{Replies}
+use Rattle.rv_serve.specs.Talk.{closes_at, exchange_text, TellsLast, EndsUnread}
+use Rattle.rv_serve.specs.Causes.{OutputCause}
+
+-- the user that was found, or the refusal where there is none
+abbrev pub user_found : Option (Bor (List ℕ)) → Result (List ℕ) ErrorBody
+user_found (Some user) = Ok user.now
+user_found None = Err errors.Unauthorized
+
+-- a text that ends a connection, with which so many answers are written
+pub record WritesLast (count : ℕ) (whole : List ℕ) (output output' : OutputState) (end : ConnEnd) : Type 0 where
+  pub text : List ℕ
+  pub tells : TellsLast count whole text end
+  pub appended : Appends output.written output'.written text
+  pub cause : OutputCause output output' end
+
+-- a connection is ended after so many answers, where no request was read for this cause
+pub record EndsConn (count : ℕ) (unread : HttpEnd) (output output' : OutputState) (end : ConnEnd) : Type 0 where
+  pub text : List ℕ
+  pub ends : EndsUnread count unread text output.faults output'.faults end
+  pub appended : Appends output.written output'.written text
+  pub cause : OutputCause output output' end
+
+module _ {S : Type 0} (mutates : S → Sender → Mutation → Turn → S → Type 0) (pulls : S → List ℕ → PullRequest → PullAnswer → S → Type 0) (retires : S → List ℕ → RetireAnswer → S → Type 0) (accounts : Accounts) where
+  -- A request, a connection's so many-th, is answered, and its response is written, or a front of it. Whether it closes is told.
+  pub record AnswersOne (number : ℕ) (old : S) (request : Request) (output output' : OutputState) (new : S) (result : Result Bool WriteFault) : Type 0 where
+    pub answer : Answer
+    pub replies : Replies mutates pulls retires accounts old request answer new
+    pub writes : Writes output output' result (exchange_text number (record { request = request; answer = answer }))
+    pub closes : IfOk result (λ closes. closes ≡ closes_at number request)

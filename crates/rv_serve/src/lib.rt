@@ -1,0 +1,15 @@
+//! Connections are served: their requests are read, answered by turns, and the answers are written.
+//!
+//! [`serve_connection`] serves one connection, and [`serve_listener`] those of a listener, one after the other. Turns are taken
+//! by anything that implements [`rv_history::Turns`]: a server by itself, or one of several that share a book. A connection
+//! ends after an answer that closes, at its 100th request, where it ends itself, or at a fault, which [`ConnEnd`] tells.
+#![tactic(auto)]
+
+mod conn_end;
+pub mod laws;
+mod replying;
+mod serving;
+mod telling;
+
+pub use conn_end::ConnEnd;
+pub use serving::serve_connection;

@@ -1,0 +1,108 @@
+// The answer to one request.
+ghost use Rattle.std.specs.Prelude.{◌≡◌, map, string_bytes};
+ghost use Rattle.rv_base.specs.Chains.{need};
+ghost use Rattle.rv_wire.specs.Bodies.{push_body, pull_body};
+ghost use Rattle.rv_wire.specs.declared.error_body.ErrorBody.TheVariants as errors;
+ghost use Rattle.rv_answering.specs.Requests.{push_asked, pull_asked};
+ghost use Rattle.rv_answering.specs.Steps.{Step};
+ghost use Rattle.rv_http.specs.declared.routes.Route.TheVariants as routes;
+ghost use Rattle.rv_serve.specs.Replies.{serves, user_of, asked_at, AnswersAsked, Replies};
+ghost use Rattle.rv_serve.specs.Steps.{user_found};
+
+use rv_accounts::{Accounts, Schemas};
+use rv_answering::{Answer, run_pull, run_push};
+use rv_base::User;
+use rv_history::Turns;
+use rv_http::{Request, Route, Routes};
+use rv_wire::{ErrorBody, read_pull, read_push};
+use std::alloc::Global;
+
+// Whom a request is from.
+fn user_of<'a>(accounts: &'a Accounts, request: &Request) -> Option<&'a User>
+    ensures { user_found result ≡ user_of accounts.now request.now }
+{
+    match &request.authorization {
+        Some(key) => accounts.user_of(key.as_slice()),
+        None => None,
+    }
+}
+
+// Answers a push of a user.
+fn answer_push<T: Turns>(
+    alloc: Global,
+    turns: &mut T,
+    schemas: &Schemas,
+    user: &User,
+    body: &[u8],
+) -> Answer
+    ensures { Step T.mutates T.pulls T.retires turns.old (push_asked user.now (push_body (serves (map string_bytes schemas.now)) body.now)) result turns.new }
+{
+    match read_push(alloc, body, schemas) {
+        Ok(push) => run_push(turns, user, push),
+        Err(fault) => Answer::Refused(fault.refusal()),
+    }
+}
+
+// Answers a pull of a user.
+fn answer_pull<T: Turns>(
+    alloc: Global,
+    turns: &mut T,
+    schemas: &Schemas,
+    user: &User,
+    body: &[u8],
+) -> Answer
+    ensures { Step T.mutates T.pulls T.retires turns.old (pull_asked user.now (pull_body (serves (map string_bytes schemas.now)) body.now)) result turns.new }
+{
+    match read_pull(alloc, body, schemas) {
+        Ok(pull) => run_pull(turns, user, &pull),
+        Err(fault) => Answer::Refused(fault.refusal()),
+    }
+}
+
+// Answers a request whose route is that of a push.
+fn reply_push<T: Turns>(
+    alloc: Global,
+    turns: &mut T,
+    accounts: &Accounts,
+    request: &Request,
+) -> Answer
+    ensures { AnswersAsked T.mutates T.pulls T.retires turns.old (asked_at accounts.now request.now routes.Push) result turns.new }
+{
+    match user_of(accounts, request) {
+        Some(user) => answer_push(alloc, turns, accounts.schemas(), user, request.body.as_slice()),
+        None => Answer::Refused(ErrorBody::Unauthorized),
+    }
+}
+
+// Answers a request whose route is that of a pull.
+fn reply_pull<T: Turns>(
+    alloc: Global,
+    turns: &mut T,
+    accounts: &Accounts,
+    request: &Request,
+) -> Answer
+    ensures { AnswersAsked T.mutates T.pulls T.retires turns.old (asked_at accounts.now request.now routes.Pull) result turns.new }
+{
+    match user_of(accounts, request) {
+        Some(user) => answer_pull(alloc, turns, accounts.schemas(), user, request.body.as_slice()),
+        None => Answer::Refused(ErrorBody::Unauthorized),
+    }
+}
+
+/// Answers a request: the route, the method and the user are looked at, and then the body and the turns.
+pub(crate) fn reply<T: Turns>(
+    alloc: Global,
+    turns: &mut T,
+    accounts: &Accounts,
+    routes: &Routes,
+    request: &Request,
+) -> Answer
+    ensures { Replies T.mutates T.pulls T.retires accounts.now turns.old request.now result turns.new }
+{
+    match routes.route(&request.method, request.path.as_slice()) {
+        Route::NoRoute => Answer::Refused(ErrorBody::NoRoute),
+        Route::OtherMethod => Answer::Refused(ErrorBody::OtherMethod),
+        Route::Push => reply_push(alloc, turns, accounts, request),
+        Route::Pull => reply_pull(alloc, turns, accounts, request),
+    }
+}

@@ -1,0 +1,152 @@
+// A connection is served.
+ghost use Rattle.std.specs.Prelude.{◌≡◌, ◌+◌, ◌<◌, ◌^◌, []};
+ghost use Rattle.rv_base.specs.Outside.{IsSteady};
+ghost use Rattle.rv_http.specs.declared.http_end.HttpEnd.TheVariants as reading;
+ghost use Rattle.rv_serve.specs.Texts.{refusal_text};
+ghost use Rattle.rv_serve.specs.Talk.{closes_at, Talks};
+ghost use Rattle.rv_serve.specs.Causes.{ConnCause, InputIsSteady, OutputIsSteady};
+ghost use Rattle.rv_serve.specs.Steps.{AnswersOne, EndsConn, WritesLast};
+
+use crate::conn_end::ConnEnd;
+use crate::replying::reply;
+use crate::telling::{write_answer, write_refusal};
+use rv_accounts::Accounts;
+use rv_base::{Sink, Source};
+use rv_history::Turns;
+use rv_http::{Buffer, HttpEnd, Request, Routes, WriteFault, read_request};
+use rv_net::Conn;
+use rv_wire::ErrorBody;
+use std::alloc::Global;
+
+// The most requests of a connection.
+const LAST: u32 = 100;
+
+// Whether the answer to a connection's so many-th request closes.
+fn closes_at(number: u32, request: &Request) -> bool
+    ensures { result ≡ closes_at number request.now }
+{
+    request.closes || number == LAST
+}
+
+// Answers a connection's so many-th request, writes the answer, and tells whether it closes.
+fn answer_request<T: Turns, O: Sink>(
+    alloc: Global,
+    turns: &mut T,
+    accounts: &Accounts,
+    routes: &Routes,
+    request: &Request,
+    number: u32,
+    sink: &mut O,
+) -> Result<bool, WriteFault>
+    ensures answers { AnswersOne T.mutates T.pulls T.retires accounts.now number turns.old request.now (O.state sink.old) (O.state sink.new) turns.new result }
+    ensures steady { O.fails_no_more sink.old → IsSteady (O.fails_no_more sink.new) (O.state sink.old) (O.state sink.new) result }
+{
+    let answer = reply(alloc, turns, accounts, routes, request);
+    let closes = closes_at(number, request);
+    match write_answer(sink, &answer, closes, request.head_only) {
+        Ok(()) => Ok(closes),
+        Err(WriteFault) => Err(WriteFault),
+    }
+}
+
+// Writes a refusal that ends a connection after so many answers.
+fn close_with<O: Sink>(sink: &mut O, refusal: ErrorBody, head_only: bool, count: u32) -> ConnEnd
+    requires { count < 2 ^ 31 }
+    ensures writes { WritesLast (count + 1) (refusal_text refusal head_only) (O.state sink.old) (O.state sink.new) result }
+    ensures steady { O.fails_no_more sink.old → OutputIsSteady (O.fails_no_more sink.new) (O.state sink.old) (O.state sink.new) result }
+{
+    match write_refusal(sink, &refusal, true, head_only) {
+        Ok(()) => ConnEnd::Done(count + 1),
+        Err(WriteFault) => ConnEnd::WriteFault,
+    }
+}
+
+// Tries to answer that memory was refused.
+fn refuse_memory<O: Sink>(sink: &mut O, head_only: bool) -> ConnEnd
+    ensures ends { EndsConn 0 (reading.Memory head_only) (O.state sink.old) (O.state sink.new) result }
+    ensures steady { O.fails_no_more sink.old → OutputIsSteady (O.fails_no_more sink.new) (O.state sink.old) (O.state sink.new) result }
+{
+    match write_refusal(sink, &ErrorBody::Memory, true, head_only) {
+        Ok(()) => ConnEnd::Memory,
+        Err(WriteFault) => ConnEnd::Memory,
+    }
+}
+
+// Ends a connection after so many answers, where no request was read.
+fn refuse<O: Sink>(sink: &mut O, cause: HttpEnd, count: u32) -> ConnEnd
+    requires { count < 2 ^ 31 }
+    ensures ends { EndsConn count cause (O.state sink.old) (O.state sink.new) result }
+    ensures steady { O.fails_no_more sink.old → OutputIsSteady (O.fails_no_more sink.new) (O.state sink.old) (O.state sink.new) result }
+{
+    match cause {
+        HttpEnd::End => ConnEnd::Done(count),
+        HttpEnd::Cut => ConnEnd::Done(count),
+        HttpEnd::ReadFault => ConnEnd::ReadFault,
+        HttpEnd::Memory(flag) => refuse_memory(sink, flag),
+        HttpEnd::BadHead(flag) => close_with(sink, ErrorBody::BadHead, flag, count),
+        HttpEnd::HeadTooLarge(flag) => close_with(sink, ErrorBody::HeadTooLarge, flag, count),
+        HttpEnd::LengthRequired => close_with(sink, ErrorBody::LengthRequired, false, count),
+        HttpEnd::BodyTooLarge(flag) => close_with(sink, ErrorBody::BodyTooLarge, flag, count),
+        HttpEnd::CodingNotServed(flag) => close_with(sink, ErrorBody::CodingNotServed, flag, count),
+    }
+}
+
+// Answers requests until something ends the connection.
+fn serve_requests<T: Turns, S: Source, O: Sink>(
+    alloc: Global,
+    turns: &mut T,
+    accounts: &Accounts,
+    routes: &Routes,
+    buffer: &mut Buffer,
+    source: &mut S,
+    sink: &mut O,
+) -> ConnEnd
+    requires { buffer.old ≡ [] }
+    ensures talks { Talks T.mutates T.pulls T.retires accounts.now turns.old turns.new (S.state source.old) (S.state source.new) (O.state sink.old) (O.state sink.new) result }
+    ensures cause { ConnCause (S.state source.old) (S.state source.new) (O.state sink.old) (O.state sink.new) result }
+    ensures steady_input { S.fails_no_more source.old → InputIsSteady (S.fails_no_more source.new) result }
+    ensures steady_output { O.fails_no_more sink.old → OutputIsSteady (O.fails_no_more sink.new) (O.state sink.old) (O.state sink.new) result }
+{
+    for count in 0..LAST {
+        let request = match read_request(alloc, source, buffer) {
+            Ok(request) => request,
+            Err(cause) => return refuse(sink, cause, count),
+        };
+        match answer_request(alloc, turns, accounts, routes, &request, count + 1, sink) {
+            Ok(true) => return ConnEnd::Done(count + 1),
+            Ok(false) => {}
+            Err(WriteFault) => return ConnEnd::WriteFault,
+        }
+    }
+    unreachable!()
+}
+
+/// Answers the requests of a connection, each by its turns, until one is answered that closes, none can be read, or the
+/// connection ends.
+pub fn serve_connection<T: Turns, S: Source, O: Sink>(
+    alloc: Global,
+    turns: &mut T,
+    accounts: &Accounts,
+    conn: &mut Conn<S, O>,
+) -> ConnEnd
+    ensures talks { Talks T.mutates T.pulls T.retires accounts.now turns.old turns.new (S.state conn.old.source) (S.state conn.new.source) (O.state conn.old.sink) (O.state conn.new.sink) result }
+    ensures cause { ConnCause (S.state conn.old.source) (S.state conn.new.source) (O.state conn.old.sink) (O.state conn.new.sink) result }
+    ensures steady_input { S.fails_no_more conn.old.source → InputIsSteady (S.fails_no_more conn.new.source) result }
+    ensures steady_output { O.fails_no_more conn.old.sink → OutputIsSteady (O.fails_no_more conn.new.sink) (O.state conn.old.sink) (O.state conn.new.sink) result }
+{
+    let Ok(mut buffer) = Buffer::new(alloc) else {
+        return refuse_memory(&mut conn.sink, false);
+    };
+    let Ok(routes) = Routes::new(alloc) else {
+        return refuse_memory(&mut conn.sink, false);
+    };
+    serve_requests(
+        alloc,
+        turns,
+        accounts,
+        &routes,
+        &mut buffer,
+        &mut conn.source,
+        &mut conn.sink,
+    )
+}
