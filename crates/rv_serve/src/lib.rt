@@ -7,9 +7,11 @@
 
 mod conn_end;
 pub mod laws;
+mod listening;
 mod replying;
 mod serving;
 mod telling;
 
 pub use conn_end::ConnEnd;
+pub use listening::serve_listener;
 pub use serving::serve_connection;

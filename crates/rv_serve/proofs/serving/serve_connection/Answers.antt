@@ -1,0 +1,10 @@
+use Rattle.rv_serve.proofs.Talking.{no_room}
+use Rattle.rv_serve.proofs.serving.serve_connection.Goals as goal
+
+pub returns-in_default-clause-talks : goal.returns-in_default-clause-talks
+returns-in_default-clause-talks g c =
+    no_room g.T.Turns.mutates g.T.Turns.pulls g.T.Turns.retires c.args.accounts.now c.args.turns.now (g.S.Source.state c.args.conn.now.source) (g.O.Sink.state c.args.conn.now.sink) (g.O.Sink.state c.refuse_memory.new.sink) c.refuse_memory.result c.refuse_memory.ensures.ends
+
+pub returns-in_default-new-clause-talks : goal.returns-in_default-new-clause-talks
+returns-in_default-new-clause-talks g c =
+    no_room g.T.Turns.mutates g.T.Turns.pulls g.T.Turns.retires c.args.accounts.now c.args.turns.now (g.S.Source.state c.args.conn.now.source) (g.O.Sink.state c.args.conn.now.sink) (g.O.Sink.state c.refuse_memory-in_default-new.new.sink) c.refuse_memory-in_default-new.result c.refuse_memory-in_default-new.ensures.ends

@@ -1,0 +1,33 @@
+// The connections of a listener are served.
+ghost use Rattle.std.specs.Prelude.{◌≡◌};
+ghost use Rattle.rv_base.specs.Outside.{counted};
+ghost use Rattle.rv_serve.specs.Listening.{ServesAll};
+
+use crate::serving::serve_connection;
+use rv_accounts::Accounts;
+use rv_history::Turns;
+use rv_net::{Accepted, Listen};
+use std::alloc::Global;
+
+/// Serves the connections of a listener, one after the other, until none is to come. Each goes back to it, whatever its end.
+pub fn serve_listener<T: Turns, L: Listen>(
+    alloc: Global,
+    turns: &mut T,
+    accounts: &Accounts,
+    listener: &mut L,
+)
+    ensures serves { ServesAll T.mutates T.pulls T.retires accounts.now L.In.state L.Out.state L.In.fails_no_more L.Out.fails_no_more (L.tells listener.new) turns.old turns.new (L.to_come listener.old) (L.to_come listener.new) (L.came_back listener.old) (L.came_back listener.new) (L.out listener.old) (L.out listener.new) }
+    ensures tells { L.tells listener.new → L.tells listener.old }
+    ensures ends { L.ends listener.new ≡ counted (L.ends listener.old) }
+{
+    loop {
+        match listener.accept() {
+            Accepted::Conn(conn) => {
+                let mut conn = conn;
+                let _end = serve_connection(alloc, turns, accounts, &mut conn);
+                listener.done(conn);
+            }
+            Accepted::End => return,
+        }
+    }
+}
