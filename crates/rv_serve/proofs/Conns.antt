@@ -1,5 +1,5 @@
 -- Connections that are served one after another, and go back.
-use Rattle.std.proofs.Common.{◌≡◌, ℕ, ◌+◌, List, [], ◌∷◌, ◌++◌, map, refl, sym, ap, ◌∙◌, subst, arith, append_assoc, append-nil}
+use Rattle.std.proofs.Common.{◌≡◌, ℕ, List, [], ◌∷◌, ◌++◌, map, refl, sym, ap, ◌∙◌, subst, append_assoc}
 use Rattle.std.proofs.lemmas.List.{map-append}
 use Rattle.rv_base.specs.Outside.{InputState, OutputState}
 use Rattle.rv_net.specs.declared.conn.Conn.{Conn}
@@ -13,7 +13,7 @@ use Rattle.rv_accounts.specs.File.{Served as Accounts}
 use Rattle.rv_serve.specs.declared.conn_end.ConnEnd.{ConnEnd}
 use Rattle.rv_serve.specs.Talk.{Talks, answered}
 use Rattle.rv_serve.specs.Causes.{ConnCause, InputIsSteady, OutputIsSteady}
-use Rattle.rv_serve.specs.Listening.{ServedConn, AreBack, ServesConn, ServesEach, ServesAll}
+use Rattle.rv_serve.specs.Listening.{ServedConn, ServesConn, ServesEach}
 
 -- Of connections that were to come, these were given and are back, and as many are out as before.
 pub record AreServed {I O : Type 0} (conns : List (ServedConn I O)) (to_come to_come' came_back came_back' : List (Conn I O)) (out out' : ℕ) : Type 0 where
@@ -38,9 +38,6 @@ module _ {S I O : Type 0} (mutates : S → Sender → Mutation → Turn → S �
     pub serves : Each old conns new
     pub are_served : Told → AreServed conns to_come to_come' came_back came_back' out out'
 
-  pub served_none : (Told : Type 0) (old : S) (to_come came_back : List (Conn I O)) (out : ℕ) → Served Told old old to_come to_come came_back came_back out out
-  served_none Told old to_come came_back out = record { conns = []; serves = refl; are_served = λ told. record { given = refl; back = sym (append-nil came_back); same = refl } }
-
   -- the next connection is given, served, and goes back
   pub served_more : (Told Now : Type 0) (old mid new : S) (to_come left left' came_back back back' : List (Conn I O)) (out mid_out out' : ℕ) (given returned : Conn I O) (end : ConnEnd) → Served Told old mid to_come left came_back back out mid_out
       → (talks : Talks mutates pulls retires accounts mid new (input given.source) (input returned.source) (output given.sink) (output returned.sink) end) → ConnCause (input given.source) (input returned.source) (output given.sink) (output returned.sink) end
@@ -59,18 +56,3 @@ module _ {S I O : Type 0} (mutates : S → Sender → Mutation → Turn → S �
               same = sym (stays now) ∙ so.same;
             };
       }
-
-  -- none is to come
-  pub served_all : (Told Now : Type 0) (old new : S) (to_come left left' came_back back back' : List (Conn I O)) (out mid_out out' : ℕ) → Served Told old new to_come left came_back back out mid_out
-      → (Now → Told) → (Now → left ≡ []) → (Now → left' ≡ []) → (Now → back' ≡ back) → (Now → out' ≡ mid_out) → ServesAll mutates pulls retires accounts input output input_steady output_steady Now old new to_come left' came_back back' out out'
-  served_all Told Now old new to_come left left' came_back back back' out mid_out out' served then none left_none stays same = record {
-    conns = served.conns;
-    serves = served.serves;
-    are_back = λ now.
-        let so = served.are_served (then now) in record {
-          given = so.given ∙ ap (λ (cs : List (Conn I O)). map (λ c. c.given) served.conns ++ cs) (none now) ∙ append-nil (map (λ (c : ServedConn I O). c.given) served.conns);
-          none = left_none now;
-          back = stays now ∙ so.back;
-          same = same now ∙ so.same;
-        };
-  }

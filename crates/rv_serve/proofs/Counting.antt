@@ -1,5 +1,5 @@
 -- What the counts of a source and a sink say at each end.
-use Rattle.std.proofs.Common.{◌≡◌, ◌⊎◌, ℕ, ◌+◌, ◌≤◌, Bool, true, false, List, MatchBool, Err, refl, sym, ap, ◌∙◌, subst, arith, inl, inr}
+use Rattle.std.proofs.Common.{◌≡◌, ℕ, Bool, false, List, MatchBool, Err, sym, ap, ◌∙◌, subst, arith, inl, inr}
 use Rattle.rv_base.specs.Causes.{Rose}
 use Rattle.rv_base.specs.Outside.{InputState, OutputState, counted_if}
 use Rattle.rv_http.specs.declared.request.Request.{Request}

@@ -13,10 +13,8 @@ use Rattle.rv_http.specs.declared.http_end.HttpEnd.{HttpEnd}
 use Rattle.rv_accounts.specs.File.{Served as Accounts}
 use Rattle.rv_answering.specs.declared.answer.Answer.{Answer}
 use Rattle.rv_answering.specs.Requests.{Asked}
-use Rattle.rv_serve.specs.declared.conn_end.ConnEnd.{ConnEnd}
 use Rattle.rv_serve.specs.Replies.{asked_of, AnswersAsked}
-use Rattle.rv_serve.specs.Talk.{Exchange, AnswersEach, AnswersLast, Talks, answered, last_of}
-use Rattle.rv_serve.specs.Listening.{ServedConn, ServesEach}
+use Rattle.rv_serve.specs.Talk.{Exchange, AnswersEach, AnswersLast, last_of}
 use Rattle.rv_serve.specs.Laws.{turn_of, turns_of, RunsTurns, TalksAreRuns, ConnsAreRuns}
 
 turns_of-append : (accounts : Accounts) (xs ys : List Exchange) → turns_of accounts (xs ++ ys) ≡ turns_of accounts xs ++ turns_of accounts ys

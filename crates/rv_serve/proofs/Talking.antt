@@ -1,5 +1,5 @@
 -- Steps of a talk, and its ends.
-use Rattle.std.proofs.Common.{◌≡◌, ◌≢◌, ◌⊎◌, ℕ, ◌+◌, ◌≤◌, ◌<◌, ◌==◌, ◌||◌, Bool, true, false, List, [], ◌∷◌, ◌++◌, length, Option, Some, None, Result, Ok, Err, refl, sym, ap, ◌∙◌, subst, arith, inl, inr, append_assoc, append-nil, length-append, add-zero}
+use Rattle.std.proofs.Common.{◌≡◌, ◌≢◌, ℕ, ◌+◌, ◌<◌, ◌==◌, ◌||◌, Bool, true, false, List, [], ◌∷◌, ◌++◌, length, Ok, Err, refl, sym, ap, ◌∙◌, subst, arith, inl, inr, append_assoc, append-nil, length-append, add-zero}
 use Rattle.std.proofs.lemmas.Bool.{eq-eqb}
 use Rattle.std.specs.Io.KnownBytes.{Consumes, Appends}
 use Rattle.std.proofs.KnownBytes.{Consumes-nil, Consumes-trans, Appends-nil, Appends-trans}
@@ -19,7 +19,7 @@ use Rattle.rv_http.specs.RequestLaws.{gives_more}
 use Rattle.rv_http.specs.Causes.{Counts, told_end, read_failed}
 use Rattle.rv_accounts.specs.File.{Served as Accounts}
 use Rattle.rv_serve.specs.declared.conn_end.ConnEnd.{ConnEnd}
-use Rattle.rv_serve.specs.declared.conn_end.ConnEnd.TheVariants.{Done, ReadFault, WriteFault, Memory}
+use Rattle.rv_serve.specs.declared.conn_end.ConnEnd.TheVariants.{Done, WriteFault}
 use Rattle.rv_serve.specs.Replies.{Replies}
 use Rattle.rv_serve.specs.Talk.{Exchange, closes_at, exchange_text, text_from, Ends, EndsUnread, AnswersEach, Talks}
 use Rattle.rv_serve.specs.Steps.{AnswersOne, EndsConn}

@@ -7,11 +7,9 @@ use rv_net::Listen;
 /// What was answered on a connection is a run of turns, one after another, of what its requests asked.
 pub fn talks_are_runs<T: Turns>()
     ensures { TalksAreRuns T.mutates T.pulls T.retires }
-{
-}
+{}
 
 /// So is all that was answered on the connections of a listener, in the order in which they were served.
 pub fn conns_are_runs<T: Turns, L: Listen>()
     ensures { ConnsAreRuns T.mutates T.pulls T.retires L.In.state L.Out.state L.In.fails_no_more L.Out.fails_no_more }
-{
-}
+{}

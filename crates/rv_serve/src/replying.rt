@@ -69,7 +69,13 @@ fn reply_push<T: Turns>(
     ensures { AnswersAsked T.mutates T.pulls T.retires turns.old (asked_at accounts.now request.now routes.Push) result turns.new }
 {
     match user_of(accounts, request) {
-        Some(user) => answer_push(alloc, turns, accounts.schemas(), user, request.body.as_slice()),
+        Some(user) => answer_push(
+            alloc,
+            turns,
+            accounts.schemas(),
+            user,
+            request.body.as_slice(),
+        ),
         None => Answer::Refused(ErrorBody::Unauthorized),
     }
 }
@@ -84,7 +90,13 @@ fn reply_pull<T: Turns>(
     ensures { AnswersAsked T.mutates T.pulls T.retires turns.old (asked_at accounts.now request.now routes.Pull) result turns.new }
 {
     match user_of(accounts, request) {
-        Some(user) => answer_pull(alloc, turns, accounts.schemas(), user, request.body.as_slice()),
+        Some(user) => answer_pull(
+            alloc,
+            turns,
+            accounts.schemas(),
+            user,
+            request.body.as_slice(),
+        ),
         None => Answer::Refused(ErrorBody::Unauthorized),
     }
 }

@@ -1,4 +1,4 @@
-use Rattle.std.proofs.Common.{true, false, arith, ◌<◌}
+use Rattle.std.proofs.Common.{arith}
 use Rattle.rv_serve.proofs.Talking.{going_first, going_on, closed, write_failed, refused, goes_below}
 use Rattle.rv_serve.proofs.serving.serve_requests.Goals as goal
 
@@ -32,8 +32,8 @@ pub loop-count-preserved : goal.loop-count-preserved
 loop-count-preserved g c =
     let told = rw c.in-Ok-false.field-0-test at c.in-Ok-false.ensures.answers in record {
       going = going_on g.T.Turns.mutates g.T.Turns.pulls g.T.Turns.retires c.args.accounts.now c.args.turns.now c.loop-count.turns (g.S.Source.state c.args.source.now) (g.S.Source.state c.loop-count.source) (g.S.Source.state c.read_request.new.source)
-      (g.O.Sink.state c.args.sink.now) (g.O.Sink.state c.loop-count.sink) (g.O.Sink.state c.answer_request.new.sink) c.loop-count.buffer c.read_request.new.buffer c.loop-count.count c.loop-count.invariant.going
-      c.in-Ok.request c.answer_request.new.turns c.in-Ok.ensures.reads c.in-Ok.ensures.counts told;
+          (g.O.Sink.state c.args.sink.now) (g.O.Sink.state c.loop-count.sink) (g.O.Sink.state c.answer_request.new.sink) c.loop-count.buffer c.read_request.new.buffer c.loop-count.count c.loop-count.invariant.going
+          c.in-Ok.request c.answer_request.new.turns c.in-Ok.ensures.reads c.in-Ok.ensures.counts told;
       below = goes_below c.loop-count.count c.in-Ok.request c.loop-count.invariant.below told.closes;
       source = λ steady. (c.in-Ok.ensures.steady (c.loop-count.invariant.source steady)).goes_on;
       sink = λ steady. (c.in-Ok-false.ensures.steady (c.loop-count.invariant.sink steady)).goes_on;
