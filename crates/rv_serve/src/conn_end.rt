@@ -7,6 +7,6 @@ pub enum ConnEnd {
     ReadFault,
     /// A write failed.
     WriteFault,
-    /// Memory was refused outside a turn and outside the reading of a body. A 503 that closes was tried.
+    /// Memory was refused outside a turn and outside the reading of a body's JSON. A 503 that closes was tried.
     Memory,
 }
