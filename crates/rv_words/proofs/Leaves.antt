@@ -68,7 +68,7 @@ abbrev pub IsPlain : Text → Type 0
 IsPlain word = (bytes_eq word (codes "--") ≡ false) × (is_flag word ≡ false)
 
 -- a hyphen is a character
-hyphen_counts : (rest : Text) → is_some (slice_get (chars (45 ∷ rest)) 0) ≡ true
+pub hyphen_counts : (rest : Text) → is_some (slice_get (chars (45 ∷ rest)) 0) ≡ true
 unfolding chars
 hyphen_counts [] = refl
 hyphen_counts (b ∷ rest) = refl

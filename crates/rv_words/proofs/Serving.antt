@@ -1,6 +1,6 @@
 -- How clap reads the words of `serve`.
-use Rattle.std.proofs.Common.{◌≡◌, ◌∙◌, ◌||◌, ◌&&◌, ◌++◌, ◌==◌, ap, ap₂, refl, subst, sym, inl, inr, List, [], ◌∷◌, Option, Some, None, Bool, cond, true, false, true≢false, codes, ℕ}
-use Rattle.std.specs.Prelude.{option_and_then}
+use Rattle.std.proofs.Common.{◌≡◌, ◌∙◌, ◌||◌, ◌&&◌, ◌++◌, ◌==◌, ap, ap₂, eqb-true, is_some, refl, subst, sym, inl, inr, List, [], ◌∷◌, Option, Some, None, Bool, cond, true, false, true≢false, codes, ℕ}
+use Rattle.std.specs.Prelude.{slice_get, option_and_then}
 use Rattle.std.specs.Option.{option_map_or}
 use Rattle.std.specs.Str.{bytes_eq, chars}
 use Rattle.std.specs.Cmp.Lexicographic.{same_text}
@@ -10,7 +10,7 @@ use Rattle.clap.specs.Walk.{Held, Row, Rule, Step, Text, Waiting, Walk, after_fl
 use Rattle.clap.specs.Faults.{long_fault, settle_fault, step_fault, turn_fault, use_fault, walk_fault}
 use Rattle.rv_words.specs.Words.{is_taken, serve_in}
 use Rattle.rv_words.specs.Plain.{Part, is_flag, is_option, option_name, option_value, parts_from, serve_with, with_part}
-use Rattle.rv_words.proofs.Leaves.{at, by_form, fault_at, goes, held, not_empty, plain_met, plain_turn, plain_walk, refuses}
+use Rattle.rv_words.proofs.Leaves.{hyphen_counts, at, by_form, fault_at, goes, held, not_empty, plain_met, plain_turn, plain_walk, refuses}
 use Rattle.rv_words.proofs.Parts.{AreOnce, asked, asked_more, asks_nothing, has_row_last, has_row_more, needs_store, once_more, rows_more, rows_with, serves_twice}
 use Rattle.rv_words.proofs.Verbs.{serve_leaf}
 use Rattle.rv_words.proofs.Rules.{Broken, Ended, Fine, Holds, Idle, IsOption, IsStored, Waits, ends, is_known, known_option, no_letters, option_rule, pending_holds, place, reads, rules, settled_holds, store, store_once, store_rule, stores, unknown_option, waits_at}
@@ -152,6 +152,19 @@ module _ (rows : List Row) (pending : Option (Text × List Text)) (parts : List 
 
 -- ---- any word, where nothing waits
 
+-- an option is a flag
+pub no_option : (word : Text) → is_flag word ≡ false → is_option word ≡ false
+no_option [] plain = refl
+no_option (b ∷ []) plain = elim (b == 45) as (λ x. ((x && false) && is_known (option_name (b ∷ []))) ≡ false) [ true ↦ refl | false ↦ refl ]
+no_option (b ∷ c ∷ rest) plain = go (b == 45) refl (c == 45) refl
+  where
+    go : (x : Bool) → (b == 45) ≡ x → (y : Bool) → (c == 45) ≡ y → ((x && (y && true)) && is_known (option_name (b ∷ c ∷ rest))) ≡ false
+    go true first true second =
+        let some : is_some (slice_get (chars (c ∷ rest)) 0) ≡ true = subst (λ (z : ℕ). is_some (slice_get (chars (z ∷ rest)) 0) ≡ true) (sym (eqb-true c 45 second)) (hyphen_counts rest) in
+        absurd (true≢false (sym (ap₂ (λ x y. x && y) first some) ∙ plain))
+    go true first false second = refl
+    go false first y second = refl
+
 -- a long flag of another name is refused
 unknown_long : (rows : List Row) (pending : Option (Text × List Text)) (y : ℕ) (ys : Text) → is_known (name_and_value (y ∷ ys)).0 ≡ false
     → is_taken (fault_at serve_leaf rows pending (45 ∷ 45 ∷ y ∷ ys)) ≡ false
@@ -190,7 +203,7 @@ module _ (rows : List Row) (pending : Option (Text × List Text)) (parts : List 
     where
       go : (closes : Bool) → bytes_eq word (codes "--") ≡ closes → (flag : Bool) → is_flag word ≡ flag
           → reads (at rows pending (place stored) false) (word ∷ words)
-          ≡ asked parts (cond closes (Some (stores words)) (cond flag (at_flag word) (with_part (store, word) (parts_from None words))))
+          ≡ asked parts (cond closes (Some (stores words)) (cond (is_option word) (option_parts (option_name word) (option_value word) words) (cond flag None (with_part (store, word) (parts_from None words)))))
       go true closes flag is_it =
           let is : word ≡ codes "--" = same_text word (codes "--") (sym closes) in
           subst (λ (w : Text). reads (at rows pending (place stored) false) (w ∷ words) ≡ asked parts (Some (stores words))) (sym is)
@@ -201,6 +214,7 @@ module _ (rows : List Row) (pending : Option (Text × List Text)) (parts : List 
           a_store false stored rows pending parts word words (parts_from None words) holds has
           (plain_turn serve_leaf rows pending (place stored) word (goes_on, is_it), plain_walk serve_leaf rows pending (place stored) word (goes_on, is_it))
           (λ rs p ps held_so is. idles rs p ps true held_so is)
+          ∙ sym (ap (λ b. asked parts (cond b (option_parts (option_name word) (option_value word) words) (with_part (store, word) (parts_from None words)))) (no_option word is_it))
 
 -- ---- any word, where an option waits
 

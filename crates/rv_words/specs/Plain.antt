@@ -42,7 +42,7 @@ Part = List ℕ × List ℕ
 abbrev pub option_names : List (List ℕ)
 option_names = codes "accounts" ∷ codes "port" ∷ codes "workers" ∷ codes "connections" ∷ []
 
--- what stands in `--NAME=VALUE` before the first `=` (61), and after it if there is one
+-- the NAME in `--NAME` or `--NAME=VALUE`, which ends before the first `=` (61), and the VALUE if there is one
 abbrev pub option_name : List ℕ → List ℕ
 option_name word = before_first (λ byte. byte == 61) (drop 2 word)
 
@@ -50,28 +50,28 @@ abbrev pub option_value : List ℕ → Option (List ℕ)
 option_value word =
     if list_any (λ byte. byte == 61) (drop 2 word) then Some (after_first (λ byte. byte == 61) (drop 2 word)) else None
 
--- `--NAME` or `--NAME=VALUE`, where NAME is an option's
+-- the word is `--NAME` or `--NAME=VALUE` of an option
 abbrev pub is_option : List ℕ → Bool
 is_option word = bytes_eq (take 2 word) (codes "--") && list_any (λ name. bytes_eq name (option_name word)) option_names
 
 abbrev pub with_part : Part → Option (List Part) → Option (List Part)
 with_part part = option_map (λ parts. part ∷ parts)
 
--- The words after `serve`, as names with their values in the order of the words. The first argument is the option that
--- waits for its value: a flag is none. Where none waits, each word after a first `--` is a STORE, and so is a word that
--- is no flag; a flag is an option, with its value in the word after `=` or else in the next word.
+-- The words after `serve` as names with their values, in the order of the words. The first argument is the option that
+-- waits for its value, which the next word is if it is no flag. Where none waits, each word after a first `--` is a
+-- STORE, an option has its value in its word or waits for it, no other word may be a flag, and what is none is a STORE.
 abbrev pub parts_from : Option (List ℕ) → List (List ℕ) → Option (List Part)
 parts_from None [] = Some []
 parts_from (Some name) [] = None
 parts_from None (word ∷ words) =
     if bytes_eq word (codes "--") then Some (map (λ store. (codes "STORE", store)) words)
-    else if is_flag word then (
-    if is_option word then option_map_or (λ value. with_part (option_name word, value) (parts_from None words))
+    else if is_option word then option_map_or (λ value. with_part (option_name word, value) (parts_from None words))
     (option_value word) (parts_from (Some (option_name word)) words)
-    else None)
+    else if is_flag word then None
     else with_part (codes "STORE", word) (parts_from None words)
 parts_from (Some name) (word ∷ words) = if is_flag word then None else with_part (name, word) (parts_from None words)
 
+-- the values of a name, in order
 abbrev pub values_of : List Part → List ℕ → List (List ℕ)
 values_of [] name = []
 values_of (part ∷ parts) name = if bytes_eq part.0 name then part.1 ∷ values_of parts name else values_of parts name
