@@ -70,6 +70,7 @@ short_lines = record {
   activity_alone = λ name. line_is_plain (name ∷ codes "activity" ∷ []);
   check_alone = λ name. line_is_plain (name ∷ codes "check" ∷ []);
   retire_alone = λ name. line_is_plain (name ∷ codes "retire" ∷ []);
+  serve_alone = λ name. line_is_plain (name ∷ codes "serve" ∷ []);
   no_group = λ name store. line_is_plain (name ∷ codes "retire" ∷ store ∷ []) ∙ alone store;
 }
   where

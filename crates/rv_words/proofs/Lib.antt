@@ -8,3 +8,4 @@ pub mod Rules
 pub mod Serving
 pub mod Lines
 pub mod Asked
+pub mod ServeLaws

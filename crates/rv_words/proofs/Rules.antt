@@ -80,23 +80,25 @@ pub record IsOption (name : Text) : Type 0 where
   pub by_long : arg_by_long rules name ≡ Some (option_rule name)
   pub gets : (rows : List Row) (word : Text)
       → option_word (Some (option_rule name)) name word (held rows (Some (name, []))) ≡ (held rows (Some (name, word ∷ [])), idle)
+  pub no_store : bytes_eq store name ≡ false
 
 pub each_option : AllByRecursion IsOption option_names
 each_option = (
-  known_as (codes "accounts") refl refl needs_accounts (λ rows word. refl),
+  known_as (codes "accounts") refl refl needs_accounts (λ rows word. refl) refl,
   (
-    known_as (codes "port") refl refl needs_port (λ rows word. refl),
+    known_as (codes "port") refl refl needs_port (λ rows word. refl) refl,
     (
-      known_as (codes "workers") refl refl needs_workers (λ rows word. refl),
-      (known_as (codes "connections") refl refl needs_connections (λ rows word. refl), tt),
+      known_as (codes "workers") refl refl needs_workers (λ rows word. refl) refl,
+      (known_as (codes "connections") refl refl needs_connections (λ rows word. refl) refl, tt),
     ),
   ),
 )
   where
     known_as : (name : Text) → arg_by_id rules name ≡ Some (option_rule name) → arg_by_long rules name ≡ Some (option_rule name) → IsNeeded name
         → ((rows : List Row) (word : Text) → option_word (Some (option_rule name)) name word (held rows (Some (name, []))) ≡ (held rows (Some (name, word ∷ [])), idle))
-        → IsOption name
-    known_as name by_id by_long needed gets = record { once = option_once name by_id needed; by_long = by_long; gets = gets }
+        → bytes_eq store name ≡ false → IsOption name
+    known_as name by_id by_long needed gets no_store =
+        record { once = option_once name by_id needed; by_long = by_long; gets = gets; no_store = no_store }
 
 abbrev pub is_known : Text → Bool
 is_known name = list_any (λ o. bytes_eq o name) option_names

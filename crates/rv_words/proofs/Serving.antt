@@ -218,7 +218,7 @@ module _ (rows : List Row) (pending : Option (Text × List Text)) (parts : List 
 
 -- ---- any word, where an option waits
 
-closing_is_flag : is_flag (codes "--") ≡ true
+pub closing_is_flag : is_flag (codes "--") ≡ true
 unfolding chars
 closing_is_flag = refl
 

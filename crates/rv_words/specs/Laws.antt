@@ -57,6 +57,7 @@ pub record AskForNothing : Type 0 where
   pub activity_alone : (name : List ℕ) → command_in (name ∷ codes "activity" ∷ []) ≡ None
   pub check_alone : (name : List ℕ) → command_in (name ∷ codes "check" ∷ []) ≡ None
   pub retire_alone : (name : List ℕ) → command_in (name ∷ codes "retire" ∷ []) ≡ None
+  pub serve_alone : (name : List ℕ) → command_in (name ∷ codes "serve" ∷ []) ≡ None
   pub no_group : (name store : List ℕ) → command_in (name ∷ codes "retire" ∷ store ∷ []) ≡ None
 
 -- no command goes by any other name: not by `help`, `--help`, `-h`, `--version` or `--` either

@@ -3,3 +3,4 @@ pub mod Table
 pub mod Words
 pub mod Plain
 pub mod Laws
+pub mod ServeLaws

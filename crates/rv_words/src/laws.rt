@@ -1,4 +1,5 @@
 //! What follows of what the words ask for, as contracts of functions that do nothing: a check of the crate proves them.
+ghost use Rattle.rv_words.specs.ServeLaws.{EachOptionStandsOnce, NoOtherFlagStands, ServeIsAsked};
 ghost use Rattle.rv_words.specs.Laws.{
   AskForNothing,
   EachGroupIsAsked,
@@ -11,7 +12,8 @@ ghost use Rattle.rv_words.specs.Laws.{
 };
 
 /// What `clap` makes of any words is what they ask for said without `clap`: the program's name, the command's, and its
-/// values, among which a first `--` is none and no other word before it begins with `-` and goes on.
+/// values, among which a first `--` is none and no other word before it begins with `-` and goes on, but for the options
+/// of `serve`.
 pub fn lines_are_plain()
     ensures { LinesArePlain }
 {}
@@ -50,4 +52,21 @@ pub fn short_lines_ask_for_nothing()
 /// Lines that name another command ask for nothing.
 pub fn others_ask_for_nothing()
     ensures { OthersAskForNothing }
+{}
+
+/// The words `serve STORE` and the four options, in this order, with the store last, or with `--NAME=VALUE` for each,
+/// ask to serve the store with these: for each text that doesn't begin with `-`, and each port and number of
+/// connections in bounds. After `=` any accounts file is taken, and after `--` any store.
+pub fn serve_is_asked()
+    ensures { ServeIsAsked }
+{}
+
+/// A line of `serve` where an option is missing or doubled asks for nothing.
+pub fn each_option_stands_once()
+    ensures { EachOptionStandsOnce }
+{}
+
+/// A line of `serve` with a flag before a first `--` that is none of its options asks for nothing.
+pub fn no_other_flag_stands()
+    ensures { NoOtherFlagStands }
 {}
