@@ -5,3 +5,5 @@ pub mod Causes
 pub mod Steps
 pub mod Listening
 pub mod Laws
+pub mod TalkLaws
+pub mod RunLaws

@@ -1,4 +1,4 @@
-use Rattle.rv_serve.proofs.Runs.{conns_run}
+use Rattle.rv_serve.specs.RunLaws.{conns_run}
 use Rattle.rv_serve.proofs.laws.conns_are_runs.Goals as goal
 
 pub returns : goal.returns

@@ -1,4 +1,4 @@
-use Rattle.rv_serve.proofs.Runs.{talk_runs}
+use Rattle.rv_serve.specs.RunLaws.{talk_runs}
 use Rattle.rv_serve.proofs.laws.talks_are_runs.Goals as goal
 
 pub returns : goal.returns

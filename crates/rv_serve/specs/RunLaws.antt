@@ -1,4 +1,4 @@
--- What is answered is a run.
+-- What is answered is a run: the laws of answers over anyone who takes turns.
 use Rattle.std.proofs.Common.{◌≡◌, ℕ, ◌+◌, List, [], ◌∷◌, ◌++◌, Result, Ok, Err, refl, sym, ap, ◌∙◌, subst, append_assoc}
 use Rattle.std.specs.List.{flat_map}
 use Rattle.rv_base.specs.Outside.{InputState, OutputState}
