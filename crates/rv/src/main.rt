@@ -1,9 +1,10 @@
-//! The program `rv`: the words of the command line, the stores of the machine, standard input and standard output, handed to
-//! `rv_cli::run`.
+//! The program `rv`: the words of the command line, the stores of the machine, standard input and standard output, and the machine's
+//! loopback address, handed to `rv_cli::run`.
 #![tactic(auto)]
 
 use rv_base::{Reading, Writing};
 use rv_cli::run;
+use rv_net::TcpNet;
 use rv_place::HostPlace;
 use std::alloc::Global;
 use std::process::ExitCode;
@@ -27,5 +28,6 @@ fn main(rt: HostRuntime) -> ExitCode {
     let mut place = HostPlace::new(&rt);
     let mut input = Reading::new(rt.reader());
     let mut output = Writing::new(io::writer(&rt));
-    ExitCode::from(run(alloc, &words, &mut place, &mut input, &mut output))
+    let mut net = TcpNet::new(&rt);
+    ExitCode::from(run(alloc, &words, &mut place, &mut input, &mut output, &mut net))
 }

@@ -4,6 +4,8 @@ pub mod Ended
 pub mod LawfulRuns
 pub mod Taking
 pub mod Storing
+pub mod Serving
+pub mod ServedRuns
 pub mod Troubled
 pub mod Fed
 pub mod Sound

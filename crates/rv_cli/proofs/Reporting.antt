@@ -1,8 +1,10 @@
 -- From the desk of a store, or a check of it, and the keeper that went back, to what a report promises.
-use Rattle.std.proofs.Common.{◌≡◌, ℕ, ◌-◌, ◌^◌, ◌++◌, List, None, Result, Ok, Err, IfOk, refl, sym, ap, ◌∙◌, subst, arith, decimal, codes}
+use Rattle.std.proofs.Common.{◌≡◌, ℕ, ◌-◌, ◌^◌, ◌++◌, List, None, Result, Ok, Err, IsOk, IsErr, IsErrAnd, IfOk, refl, sym, ap, ◌∙◌, subst, arith, decimal, codes}
 use Rattle.rv_base.specs.Outside.{OutputState}
 use Rattle.rv_base.specs.declared.memory.Memory.{Memory as Refused}
+use Rattle.rv_keeper.specs.declared.fault.KeepFault.{KeepFault}
 use Rattle.rv_keeper.specs.declared.loaded.Loaded.{Loaded}
+use Rattle.rv_keeper.specs.Keeping.{HasKeepCause}
 use Rattle.rv_keeper.specs.Stores.{OpensAs, OpensWith}
 use Rattle.rv_book.specs.Book.{Book}
 use Rattle.rv_desk.specs.Seated.{Seated, served, HoldsBook}
@@ -11,7 +13,8 @@ use Rattle.rv_cli.specs.declared.ending.Ending.TheVariants.{Done, Keeper, Damage
 use Rattle.rv_cli.specs.Headline.{Reported, TellsSound, WritesReport}
 use Rattle.rv_cli.specs.Reporting.{WritesText, WritesMade, WasSound, ChecksStore, ChecksKept}
 use Rattle.rv_cli.specs.Storing.{HasOpened}
-use Rattle.rv_cli.proofs.Storing.{WentBack, begins, leaves, store_opened}
+use Rattle.rv_cli.specs.Texts.{keep_ending}
+use Rattle.rv_cli.proofs.Storing.{WentBack, begins, leaves, not_given, store_opened}
 
 -- what was written of a text is written of a report that tells it
 pub reports_text : (Tells : List ℕ → Type 0) (text : List ℕ) (old new : OutputState) (ending : Ending) → Tells text → WritesText old new text ending → WritesReport Tells old new ending
@@ -66,6 +69,17 @@ module _ {P K : Type 0} (tells : P → Type 0) (holds : P → List ℕ → Loade
       }
   store_checked kept old mid new (Err ending) got none still checked =
       store_opened tells holds is_out faults kept_tells kept_holds kept_faults store kept old mid new (Err ending) got none still checked
+
+  -- the place gave no keeper, and so nothing was checked
+  pub check_refused : {T : Type 0} (old new : P) (fault : KeepFault) (result : Result ℕ Ending) → HasKeepCause {T = T} (faults old) (faults new) (Err fault) → IsErr result × IsErrAnd result (λ ending. ending ≡ keep_ending fault)
+      → ChecksStore tells holds faults store old result new
+  check_refused old new fault (Ok entries) cause is = absurd (let is = is.0 in cc)
+  check_refused old new fault (Err ending) cause is = not_given (tells new) (OpensAs store (holds old store)) (holds new store) (faults old) (faults new) fault ending cause is.1
+
+  -- a store is found sound only where it was there
+  pub checked_there : (There : Type 0) (kept : K) (mid new : P) (result : Result ℕ Ending) → (tells mid → There) → kept_faults kept ≡ 0 → ChecksKept tells holds faults kept_tells kept_holds kept_faults store kept mid result new → tells new → IsOk result → There
+  checked_there There kept mid new (Ok entries) there none checked t ok = there ((checked none).told t)
+  checked_there There kept mid new (Err ending) there none checked t ok = absurd (cc)
 
 -- the store was checked, and told to be sound
 pub has_checked : {P : Type 0} (tells : P → Type 0) (holds : P → List ℕ → Loaded → Type 0) (faults : P → ℕ) (store : List ℕ) (old new : P) (entries : ℕ) (out out' : OutputState) (ending : Ending)

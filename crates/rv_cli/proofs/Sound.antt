@@ -4,6 +4,7 @@ use Rattle.std.specs.Prelude.{codes}
 use Rattle.rv_base.specs.Outside.{InputState, OutputState}
 use Rattle.rv_words.specs.declared.command.Command.{Command}
 use Rattle.rv_words.specs.declared.command.Command.TheVariants as commands
+use Rattle.rv_words.specs.declared.serve_options.ServeOptions.{ServeOptions}
 use Rattle.rv_history.specs.LawfulBooks.{lawful_none}
 use Rattle.rv_history.specs.ReplayLaws.{replay_none}
 use Rattle.rv_news.specs.KeptRecords.{records_none}
@@ -101,3 +102,11 @@ activity_memory asked named store is same asks = same ∙ subst (λ (a : Option 
 
 pub check_memory : (asked : Option Command) (named store : List ℕ) → Some (commands.Check named) ≡ asked → store ≡ named → IsReportOf (codes "memory") asked → store ≡ codes "memory"
 check_memory asked named store is same asks = same ∙ subst (λ (a : Option Command). IsReportOf (codes "memory") a) (sym is) asks
+
+-- and with words that ask to serve it
+pub serves_memory : (asked : Option Command) (named store : List ℕ) (chosen options : ServeOptions) → Some (commands.Serve named chosen) ≡ asked → store ≡ named → asked ≡ Some (commands.Serve (codes "memory") options) → store ≡ codes "memory"
+serves_memory asked named store chosen options is same asks = cc
+
+-- words ask to serve one store, and so in one way
+pub serves_same : (asked : Option Command) (named store : List ℕ) (chosen options : ServeOptions) → Some (commands.Serve named chosen) ≡ asked → asked ≡ Some (commands.Serve store options) → (named ≡ store) × (chosen ≡ options)
+serves_same asked named store chosen options is asks = (cc, cc)

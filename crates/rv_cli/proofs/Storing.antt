@@ -1,9 +1,12 @@
 -- From the desk of a store, what was fed to it, and the keeper that went back, to what a run promises.
-use Rattle.std.proofs.Common.{◌≡◌, ℕ, zero, suc, ◌-◌, ◌^◌, ◌<◌, List, Option, Some, None, IfSome, Result, Ok, Err, refl, sym, ap, ◌∙◌, subst, arith}
+use Rattle.std.proofs.Common.{◌≡◌, ◌≢◌, ℕ, zero, suc, ◌-◌, ◌^◌, ◌<◌, List, Option, Some, None, IfSome, Result, Ok, Err, IsOk, IsErr, IsErrAnd, refl, sym, ap, ◌∙◌, subst, arith}
 use Rattle.rv_base.specs.Causes.{Rose}
 use Rattle.rv_base.specs.Outside.{InputState, OutputState, Writes}
 use Rattle.rv_history.specs.Served.{Served}
+use Rattle.rv_keeper.specs.declared.fault.KeepFault.{KeepFault}
+use Rattle.rv_keeper.specs.declared.fault.KeepFault.TheVariants as keeping
 use Rattle.rv_keeper.specs.declared.loaded.Loaded.{Loaded}
+use Rattle.rv_keeper.specs.Keeping.{HasKeepCause}
 use Rattle.rv_keeper.specs.Stores.{OpensAs, OpensWith, TakesUp}
 use Rattle.rv_desk.specs.Seated.{Seated, served}
 use Rattle.rv_desk.specs.Opened.{Opens, IsRefused, IsLeft}
@@ -13,7 +16,7 @@ use Rattle.rv_answering.specs.declared.answer.Answer.{Answer}
 use Rattle.rv_answering.specs.declared.request.Request.TheVariants.{Retire}
 use Rattle.rv_cli.specs.declared.ending.Ending.{Ending}
 use Rattle.rv_cli.specs.declared.ending.Ending.TheVariants.{Done, Keeper, Damaged, Read, Write, Memory, Malformed}
-use Rattle.rv_cli.specs.Texts.{fault_ending, status_text}
+use Rattle.rv_cli.specs.Texts.{fault_ending, keep_ending, status_of, status_text}
 use Rattle.rv_cli.specs.Headline.{Ends, Begins, Leaves, IsNotOpened, KeepsSo, HasFed, Replied}
 use Rattle.rv_cli.specs.Feeding.{IsLeftWith, RoseAt, FedAnswers, Feeds, FeedsWith}
 use Rattle.rv_cli.specs.Replying.{Retired, WritesReply}
@@ -59,6 +62,22 @@ module _ (Told Now : Type 0) (then : Now → Told) where
 
   pub feeds_later : (first now : Served) (input input' : InputState) (output output' : OutputState) (ending : Ending) → Feeds Told first now input input' output output' ending → Feeds Now first now input input' output output' ending
   feeds_later first now input input' output output' ending f = record { reads = f.reads; writes = f.writes; fed = fed_later input.left first now input' output output' ending f.fed }
+
+-- the place gave no keeper, and that is told
+pub not_given : {T : Type 0} (Told : Type 0) (Stored Holds : Loaded → Type 0) (before after : ℕ) (fault : KeepFault) (ending : Ending) → HasKeepCause {T = T} before after (Err fault) → ending ≡ keep_ending fault
+    → IsNotOpened Told Stored Holds before after ending
+not_given Told Stored Holds before after keeping.Failed ending cause is = subst (λ (e : Ending). IsNotOpened Told Stored Holds before after e) (sym is) (cause.failed refl)
+not_given Told Stored Holds before after keeping.Memory ending cause is = subst (λ (e : Ending). IsNotOpened Told Stored Holds before after e) (sym is) tt
+
+-- a store that did not open has no status 0
+pub refused_fails : (Told : Type 0) (Stored Holds : Loaded → Type 0) (before after : ℕ) (ending : Ending) (status : ℕ) → IsNotOpened Told Stored Holds before after ending → status ≡ status_of ending → status ≢ 0
+refused_fails Told Stored Holds before after Keeper status why is none = omega (arith, is, none)
+refused_fails Told Stored Holds before after (Damaged shelf key) status why is none = omega (arith, is, none)
+refused_fails Told Stored Holds before after Memory status why is none = omega (arith, is, none)
+refused_fails Told Stored Holds before after Done status why is none = why
+refused_fails Told Stored Holds before after Read status why is none = why
+refused_fails Told Stored Holds before after Write status why is none = why
+refused_fails Told Stored Holds before after (Malformed number) status why is none = why
 
 -- a count that rose from 0 is above it, and what takes it up rises
 above_none : (n : ℕ) → Rose 0 n → 0 < n
@@ -117,6 +136,17 @@ module _ {P K : Type 0} (tells : P → Type 0) (holds : P → List ℕ → Loade
       again Read told never = never
       again Write told never = never
       again (Malformed number) told never = never
+
+  -- the place gave no keeper, and so there is no desk
+  pub store_refused : {T : Type 0} (old new : P) (fault : KeepFault) (result : Result (Seated K) Ending) → HasKeepCause {T = T} (faults old) (faults new) (Err fault) → IsErr result × IsErrAnd result (λ ending. ending ≡ keep_ending fault)
+      → OpensStore tells holds is_out faults kept_tells kept_faults store old result new
+  store_refused old new fault (Ok desk) cause is = absurd (let is = is.0 in cc)
+  store_refused old new fault (Err ending) cause is = not_given (tells new) (OpensAs store (holds old store)) (holds new store) (faults old) (faults new) fault ending cause is.1
+
+  -- a desk is opened only of a store that was there
+  pub opened_there : (There : Type 0) (kept : K) (mid new : P) (result : Result (Seated K) Ending) → (tells mid → There) → OpensKept tells holds is_out faults kept_tells kept_holds kept_faults store kept mid result new → tells new → IsOk result → There
+  opened_there There kept mid new (Ok desk) there opened t ok = there (subst (λ (p : P). tells p) opened.same t)
+  opened_there There kept mid new (Err ending) there opened t ok = absurd (cc)
 
   keeps_so : (old mid new : P) (desk : Seated K) (keeper : K) (ending : Ending) → kept_faults desk.keeper ≡ 0 → faults mid ≡ faults old → WentBack mid new keeper
       → RoseAt kept_tells kept_holds kept_faults ending (kept_faults desk.keeper) keeper → KeepsSo (tells new) (faults old) (faults new) ending

@@ -6,3 +6,5 @@ pub mod Steadiness
 pub mod Replying
 pub mod Reporting
 pub mod Commands
+pub mod Serving
+pub mod ServingSteps

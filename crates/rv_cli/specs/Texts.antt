@@ -2,6 +2,8 @@
 use Rattle.std.specs.Prelude.{ℕ, ◌&&◌, ◌==◌, List, [], ◌∷◌, ◌++◌, codes, decimal, nat_le, not, if◌then◌else◌}
 use Rattle.std.specs.List.{flat_map}
 use Rattle.percent_encoding.specs.Percent.{percent_encode_byte}
+use Rattle.rv_keeper.specs.declared.fault.KeepFault.{KeepFault}
+use Rattle.rv_keeper.specs.declared.fault.KeepFault.TheVariants as keeping
 use Rattle.rv_answering.specs.declared.answer.Answer.{Answer}
 use Rattle.rv_answering.specs.Texts.{answer_status, answer_body}
 use Rattle.rv_desk.specs.declared.open_fault.OpenFault.{OpenFault}
@@ -23,6 +25,11 @@ abbrev pub fault_ending : OpenFault → Ending
 fault_ending faults.Keeper = Keeper
 fault_ending (faults.Damaged shelf key) = Damaged shelf key
 fault_ending faults.Memory = Memory
+
+-- and whose keeper the place does not give
+abbrev pub keep_ending : KeepFault → Ending
+keep_ending keeping.Failed = Keeper
+keep_ending keeping.Memory = Memory
 
 abbrev pub status_of : Ending → ℕ
 status_of Done = 0

@@ -1,5 +1,6 @@
 use rv_base::Bytes;
 use rv_desk::OpenFault;
+use rv_keeper::KeepFault;
 
 /// How a run ends.
 #[derive(Debug, Drop)]
@@ -47,6 +48,21 @@ impl Ending {
             Ending::Write => 7,
             Ending::Memory => 8,
             Ending::Malformed(_) => 10,
+        }
+    }
+}
+
+// How a run ends whose keeper the place does not give.
+impl From<KeepFault> for Ending {
+    ghost use Rattle.std.specs.Prelude.{◌≡◌};
+    ghost use Rattle.rv_cli.specs.Texts.{keep_ending};
+
+    ghost from_gives = { λ fault ending. ending ≡ keep_ending fault };
+
+    fn from(fault: KeepFault) -> Ending {
+        match fault {
+            KeepFault::Failed => Ending::Keeper,
+            KeepFault::Memory => Ending::Memory,
         }
     }
 }

@@ -1,6 +1,9 @@
 //! What follows from the clause of [`run`](crate::run), as contracts of functions that do nothing: a check of the crate
 //! proves them.
 ghost use Rattle.rv_cli.specs.Headline.{BooksAreLawful, PullsAreShown, TroublesHaveCauses};
+ghost use Rattle.rv_cli.specs.Serving.{ServedIsRun};
+
+use rv_net::Listen;
 
 /// In the book of a run from a lawful book each client's acts have the ids 1, 2, 3 and so on, and the orders of each group's looks
 /// rise.
@@ -28,4 +31,10 @@ pub fn pulls_are_shown()
 /// An answer that tells a trouble with what keeps the book comes only where a fault of that rose.
 pub fn troubles_have_causes()
     ensures { TroublesHaveCauses }
+{}
+
+/// What is answered over the connections of a listener is a run, so that the laws of runs hold of it: the book is lawful, each pull
+/// shows what its user sees, and a trouble has its cause.
+pub fn served_is_run<L: Listen>()
+    ensures { ServedIsRun L.In.state L.Out.state L.In.fails_no_more L.Out.fails_no_more }
 {}

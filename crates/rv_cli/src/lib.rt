@@ -11,9 +11,13 @@ pub mod laws;
 mod line;
 mod program;
 mod reports;
+mod serve;
+mod serve_ending;
 mod store;
 mod texts;
 
 pub use ending::Ending;
 pub use program::{run, run_feed, run_retire};
 pub use reports::{run_activity, run_check, run_lists};
+pub use serve::run_serve;
+pub use serve_ending::ServeEnding;

@@ -3,11 +3,13 @@ ghost use Rattle.std.specs.Prelude.{◌≡◌, ◌≢◌, ◌⊎◌, ℕ, List, 
 ghost use Rattle.rv_base.specs.Causes.{Rose};
 ghost use Rattle.rv_words.specs.Words.{command_in};
 ghost use Rattle.rv_words.specs.declared.command.Command.TheVariants as commands;
+ghost use Rattle.rv_words.specs.declared.serve_options.ServeOptions.{ServeOptions};
 ghost use Rattle.rv_keeper.specs.Stores.{OpensAs};
 ghost use Rattle.rv_answering.specs.declared.request.Request.TheVariants.{Retire};
 ghost use Rattle.rv_cli.specs.Texts.{usage_text, status_of, status_text};
 ghost use Rattle.rv_cli.specs.Headline.{RunsFeed, RunsOne, RunsReport, TellsActivity, TellsLists, TellsSound, WritesOnly, AllAsk, IsOther, KeptSound};
 ghost use Rattle.rv_cli.specs.Commands.{IsReportOf};
+ghost use Rattle.rv_cli.specs.Serving.{ListenerServes, NetServes, RunsServe};
 ghost use Rattle.rv_cli.specs.Replying.{Retired, WritesReply};
 ghost use Rattle.rv_cli.specs.Steadiness.{OutputIsSteady};
 ghost use Rattle.rv_cli.specs.declared.ending.Ending.TheVariants as endings;
@@ -15,12 +17,14 @@ ghost use Rattle.rv_cli.specs.declared.ending.Ending.TheVariants as endings;
 use crate::ending::Ending;
 use crate::feed::feed;
 use crate::reports::{run_activity, run_check, run_lists};
+use crate::serve::run_serve;
 use crate::store::{open_desk, refuse_opening};
 use crate::texts::{write_answer, write_ending, write_usage};
 use rv_answering::{Answer, retire_group};
 use rv_base::{Failed, Id, Memory, Sink, Source};
 use rv_desk::Desk;
 use rv_keeper::{Keeper, Place};
+use rv_net::Net;
 use rv_words::{Command, command_of};
 use std::alloc::Global;
 
@@ -128,17 +132,19 @@ fn give_up<O: Sink>(out: &mut O) -> u8
 /// Does what the words say, and answers the status of the process.
 ///
 /// The first word is the program's name and is not read. `feed STORE` answers the lines of the input, each as it was read, from the
-/// book that the store keeps; `retire STORE GROUP` retires a client group there; `lists STORE`, `activity STORE` and `check STORE` are reports of the store, which stays as it is. STORE is `memory`, which begins empty, or the
+/// book that the store keeps; `serve STORE` answers the requests of connections so; `retire STORE GROUP` retires a client group there; `lists STORE`, `activity STORE` and `check STORE` are reports of the store, which stays as it is. STORE is `memory`, which begins empty, or the
 /// name of a store of the place. Status 0: the input was read to its end, and all that was asked is answered. 2: the words are no
-/// line of the command set. 4: the place or the keeper failed in opening. 5: the store is damaged, first at this shelf and key. 6: a
-/// read failed. 7: a write failed. 8: memory was refused outside a request. 10: the line that is named is not of the form. Each but
+/// line of the command set. 3: the accounts file is not of the form. 4: the place or the keeper failed in opening, the accounts file
+/// could not be read, or a report is asked of a store that isn't there. 5: the store is damaged, first at this shelf and key. 6: a
+/// read failed. 7: a write failed. 8: memory was refused outside a request. 9: the net failed. 10: the line that is named is not of the form. Each but
 /// 0 and 7 has a text of its own, which is written last.
-pub fn run<P: Place, S: Source, O: Sink>(
+pub fn run<P: Place, S: Source, O: Sink, N: Net>(
     alloc: Global,
     words: &[String],
     place: &mut P,
     input: &mut S,
     out: &mut O,
+    net: &mut N,
 ) -> u8
     // The words are no line of the set exactly at 2, unless memory was refused in reading them. Then, and for every command
     // but `feed`, the input is not read.
@@ -147,6 +153,9 @@ pub fn run<P: Place, S: Source, O: Sink>(
     ensures usage_text { result ≡ 2 → WritesOnly (O.state out.old) (O.state out.new) usage_text }
     ensures reads { ((store : List ℕ) → command_in (map string_bytes words.now) ≡ Some (commands.Feed store) → ⊥) → input.new ≡ input.old }
     ensures stays { command_in (map string_bytes words.now) ≡ None → place.new ≡ place.old }
+
+    // For every command but `serve` the net is let alone.
+    ensures idle { ((store : List ℕ) (options : ServeOptions) → command_in (map string_bytes words.now) ≡ Some (commands.Serve store options) → ⊥) → net.new ≡ net.old }
 
     // What is written are the answers of a run from the book that the store kept over the lines that were read, and the store keeps
     // the book that the run leaves; or memory was refused in reading the words.
@@ -158,6 +167,17 @@ pub fn run<P: Place, S: Source, O: Sink>(
     ensures retire { (store group : List ℕ) → command_in (map string_bytes words.now) ≡ Some (commands.Retire store group)
         → RunsOne (P.tells place.new) (OpensAs store (P.holds place.old store)) (P.holds place.new store) (P.faults place.old) (P.faults place.new) (Ok (Retire group)) (O.state out.old) (O.state out.new) result
         ⊎ ((result ≡ 8) × (place.new ≡ place.old) × WritesOnly (O.state out.old) (O.state out.new) (status_text endings.Memory)) }
+
+    // What is written to connections are the answers to their requests, over turns that follow one another from the book that the
+    // store kept, and the store keeps the book that they leave.
+    ensures serve { (store : List ℕ) (options : ServeOptions) → command_in (map string_bytes words.now) ≡ Some (commands.Serve store options)
+        → RunsServe (P.tells place.new) (P.accounts place.old options.accounts) (P.holds place.old store) (OpensAs store (P.holds place.old store)) (P.holds place.new store) (P.faults place.old) (P.faults place.new)
+        (λ accounts first now. NetServes (N.tells net.new) N.Listen.tells
+        (λ given returned. ListenerServes accounts N.Listen.In.state N.Listen.Out.state N.Listen.In.fails_no_more N.Listen.Out.fails_no_more (N.Listen.tells returned) first now
+        (N.Listen.to_come given) (N.Listen.to_come returned) (N.Listen.came_back given) (N.Listen.came_back returned) (N.Listen.out given) (N.Listen.out returned) (N.Listen.ends given) (N.Listen.ends returned))
+        (N.to_give net.old) (N.to_give net.new) (N.came_back net.old) (N.came_back net.new))
+        (N.faults net.old) (N.faults net.new) (O.state out.old) (O.state out.new) result
+        ⊎ ((result ≡ 8) × (place.new ≡ place.old) × (net.new ≡ net.old) × WritesOnly (O.state out.old) (O.state out.new) (status_text endings.Memory)) }
 
     // A report is a text of the book that the store kept, which it still keeps.
     ensures lists { (store : List ℕ) → command_in (map string_bytes words.now) ≡ Some (commands.Lists store)
@@ -172,6 +192,7 @@ pub fn run<P: Place, S: Source, O: Sink>(
 
     // A fault is told exactly where one rose, but for a write of a status's own text that failed.
     ensures keeper { result ≡ 4 → Rose (P.faults place.old) (P.faults place.new) }
+    ensures net { result ≡ 9 → Rose (N.faults net.old) (N.faults net.new) }
     ensures read { result ≡ 6 → Rose (S.state input.old).faults (S.state input.new).faults }
     ensures read_told { result ≡ 6 ⊎ (S.state input.new).faults ≡ (S.state input.old).faults }
     ensures write { result ≡ 7 → Rose (O.state out.old).faults (O.state out.new).faults }
@@ -183,6 +204,9 @@ pub fn run<P: Place, S: Source, O: Sink>(
 
     ensures complete_reports { (store : List ℕ) → IsReportOf store (command_in (map string_bytes words.now)) → result ≡ 0 ⊎ result ≡ 4 ⊎ result ≡ 5 ⊎ result ≡ 7 ⊎ result ≡ 8 }
 
+    ensures complete_serve { (store : List ℕ) (options : ServeOptions) → command_in (map string_bytes words.now) ≡ Some (commands.Serve store options)
+        → result ≡ 0 ⊎ result ≡ 3 ⊎ result ≡ 4 ⊎ result ≡ 5 ⊎ result ≡ 7 ⊎ result ≡ 8 ⊎ result ≡ 9 }
+
     // Where the place tells, and the store kept a lawful book within the limit, the status is no damage.
     ensures sound { (store : List ℕ) → command_in (map string_bytes words.now) ≡ Some (commands.Feed store) → P.tells place.new
         → KeptSound (OpensAs store (P.holds place.old store)) → result ≢ 5 }
@@ -192,11 +216,18 @@ pub fn run<P: Place, S: Source, O: Sink>(
     ensures sound_reports { (store : List ℕ) → IsReportOf store (command_in (map string_bytes words.now)) → P.tells place.new
         → KeptSound (OpensAs store (P.holds place.old store)) → result ≢ 5 }
 
+    ensures sound_serve { (store : List ℕ) (options : ServeOptions) → command_in (map string_bytes words.now) ≡ Some (commands.Serve store options) → P.tells place.new
+        → KeptSound (OpensAs store (P.holds place.old store)) → result ≢ 5 }
+
+    // And status 0 of a report comes only of a store that is there.
+    ensures absent { (store : List ℕ) → IsReportOf store (command_in (map string_bytes words.now)) → P.tells place.new → result ≡ 0 → P.has place.old store }
+
     // So over a place that tells the store in memory is never damaged; and without a command no store is.
     ensures sound_memory_reports { IsReportOf (codes "memory") (command_in (map string_bytes words.now)) → P.tells place.new → result ≢ 5 }
     ensures sound_memory { (group : List ℕ)
         → command_in (map string_bytes words.now) ≡ Some (commands.Feed (codes "memory")) ⊎ command_in (map string_bytes words.now) ≡ Some (commands.Retire (codes "memory") group)
         → P.tells place.new → result ≢ 5 }
+    ensures sound_memory_serve { (options : ServeOptions) → command_in (map string_bytes words.now) ≡ Some (commands.Serve (codes "memory") options) → P.tells place.new → result ≢ 5 }
     ensures sound_none { command_in (map string_bytes words.now) ≡ None → result ≢ 5 }
 
     // Over an input and an output that fail no more it is none of the faults, but for want of memory in the output.
@@ -215,6 +246,14 @@ pub fn run<P: Place, S: Source, O: Sink>(
         Ok(Some(Command::Lists { store })) => run_lists(alloc, place, store.as_str(), out),
         Ok(Some(Command::Activity { store })) => run_activity(alloc, place, store.as_str(), out),
         Ok(Some(Command::Check { store })) => run_check(alloc, place, store.as_str(), out),
+        Ok(Some(Command::Serve { store, options })) => run_serve(
+            alloc,
+            place,
+            store.as_str(),
+            &options,
+            out,
+            net,
+        ),
         Ok(None) => refuse_words(out),
         Err(Memory) => give_up(out),
     }

@@ -7,7 +7,7 @@ ghost use Rattle.rv_cli.specs.Reporting.{WritesMade, WritesText};
 ghost use Rattle.rv_cli.specs.Steadiness.{OutputIsSteady};
 
 use crate::ending::Ending;
-use crate::store::{check_store, open_desk, refuse_opening};
+use crate::store::{check_store, open_existing_desk, refuse_opening};
 use crate::texts::{write_count, write_ending};
 use rv_base::{Bytes, Failed, Memory, Sink, write_all};
 use rv_keeper::Place;
@@ -51,16 +51,19 @@ fn report_sound<O: Sink>(out: &mut O, entries: u32) -> Ending
 }
 
 /// Writes the lists of the book that the store keeps, as [`lists_text`](rv_report::lists_text): the command `lists STORE`. The
-/// status is 0, 4, 5, 7 or 8. The store stays as it is.
+/// status is 0, 4, 5, 7 or 8; it is 4 where the store isn't there, and none is made. The store stays as it is.
 pub fn run_lists<P: Place, O: Sink>(alloc: Global, place: &mut P, store: &str, out: &mut O) -> u8
     ensures report { RunsReport (P.tells place.new) (OpensAs store.now (P.holds place.old store.now)) (P.holds place.new store.now) (P.faults place.old) (P.faults place.new)
         TellsLists (O.state out.old) (O.state out.new) result }
 
     // Where the place tells, and the store kept a lawful book within the limit, the status is no damage.
     ensures sound { P.tells place.new → KeptSound (OpensAs store.now (P.holds place.old store.now)) → result ≢ 5 }
+
+    // Where the place tells, status 0 comes only of a store that is there.
+    ensures absent { P.tells place.new → result ≡ 0 → P.has place.old store.now }
     ensures steady { O.fails_no_more out.old → O.fails_no_more out.new × (Rose (O.state out.old).refusals (O.state out.new).refusals ⊎ (result ≢ 7)) }
 {
-    match open_desk(alloc, place, store) {
+    match open_existing_desk(alloc, place, store) {
         Ok(desk) => {
             let report = lists_text(alloc, desk.tables());
             place.close_keeper(store, desk.close());
@@ -71,14 +74,15 @@ pub fn run_lists<P: Place, O: Sink>(alloc: Global, place: &mut P, store: &str, o
 }
 
 /// Writes who did how much in the book that the store keeps, as [`activity_text`](rv_report::activity_text): the command
-/// `activity STORE`. The status is 0, 4, 5, 7 or 8. The store stays as it is.
+/// `activity STORE`. The status is 0, 4, 5, 7 or 8; it is 4 where the store isn't there, and none is made. The store stays as it is.
 pub fn run_activity<P: Place, O: Sink>(alloc: Global, place: &mut P, store: &str, out: &mut O) -> u8
     ensures report { RunsReport (P.tells place.new) (OpensAs store.now (P.holds place.old store.now)) (P.holds place.new store.now) (P.faults place.old) (P.faults place.new)
         TellsActivity (O.state out.old) (O.state out.new) result }
     ensures sound { P.tells place.new → KeptSound (OpensAs store.now (P.holds place.old store.now)) → result ≢ 5 }
+    ensures absent { P.tells place.new → result ≡ 0 → P.has place.old store.now }
     ensures steady { O.fails_no_more out.old → O.fails_no_more out.new × (Rose (O.state out.old).refusals (O.state out.new).refusals ⊎ (result ≢ 7)) }
 {
-    match open_desk(alloc, place, store) {
+    match open_existing_desk(alloc, place, store) {
         Ok(desk) => {
             let report = activity_text(alloc, desk.book());
             place.close_keeper(store, desk.close());
@@ -89,11 +93,12 @@ pub fn run_activity<P: Place, O: Sink>(alloc: Global, place: &mut P, store: &str
 }
 
 /// Writes that the store is sound, with the number of its book's entries: the command `check STORE`. The status is 0, 4, 5, 7 or 8,
-/// where 5 tells what is wrong first. The store stays as it is.
+/// where 4 also tells that the store isn't there, and none is made, and 5 what is wrong first. The store stays as it is.
 pub fn run_check<P: Place, O: Sink>(alloc: Global, place: &mut P, store: &str, out: &mut O) -> u8
     ensures report { RunsReport (P.tells place.new) (OpensAs store.now (P.holds place.old store.now)) (P.holds place.new store.now) (P.faults place.old) (P.faults place.new)
         TellsSound (O.state out.old) (O.state out.new) result }
     ensures sound { P.tells place.new → KeptSound (OpensAs store.now (P.holds place.old store.now)) → result ≢ 5 }
+    ensures absent { P.tells place.new → result ≡ 0 → P.has place.old store.now }
     ensures steady { O.fails_no_more out.old → O.fails_no_more out.new × (Rose (O.state out.old).refusals (O.state out.new).refusals ⊎ (result ≢ 7)) }
 {
     match check_store(alloc, place, store) {

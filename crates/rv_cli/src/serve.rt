@@ -3,8 +3,9 @@ ghost use Rattle.std.specs.Prelude.{◌≡◌, ◌≢◌, ◌⊎◌};
 ghost use Rattle.rv_base.specs.Causes.{Rose};
 ghost use Rattle.rv_keeper.specs.Stores.{OpensAs};
 ghost use Rattle.rv_cli.specs.Headline.{KeptSound, WritesOnly};
-ghost use Rattle.rv_cli.specs.Serving.{RunsServe};
-ghost use Rattle.rv_cli.specs.ServingSteps.{AccountsRead, NetServed, TellsServed};
+ghost use Rattle.rv_desk.specs.Seated.{served};
+ghost use Rattle.rv_cli.specs.Serving.{ListenerServes, NetServes, RunsServe};
+ghost use Rattle.rv_cli.specs.ServingSteps.{AccountsRead, NetServed, TellsCount, TellsFile, TellsServed, count_text};
 ghost use Rattle.rv_cli.specs.Steadiness.{ServeIsSteady};
 ghost use Rattle.rv_cli.specs.Texts.{serve_status, serve_text};
 
@@ -22,7 +23,9 @@ use rv_words::ServeOptions;
 use std::alloc::Global;
 
 // What the bytes of an accounts file say.
-fn accounts_in(alloc: Global, bytes: &Bytes) -> Result<Accounts, ServeEnding> {
+fn accounts_in(alloc: Global, bytes: &Bytes) -> Result<Accounts, ServeEnding>
+    ensures { TellsFile bytes.now result }
+{
     match read_accounts(alloc, bytes.as_slice()) {
         Ok(accounts) => Ok(accounts),
         Err(AccountsFault::BadFile(number)) => Err(ServeEnding::BadAccounts(number)),
@@ -32,11 +35,7 @@ fn accounts_in(alloc: Global, bytes: &Bytes) -> Result<Accounts, ServeEnding> {
 }
 
 // The accounts of the file of this name; or why there are none.
-fn accounts_of<P: Place>(
-    alloc: Global,
-    place: &mut P,
-    name: &str,
-) -> Result<Accounts, ServeEnding>
+fn accounts_of<P: Place>(alloc: Global, place: &mut P, name: &str) -> Result<Accounts, ServeEnding>
     ensures { AccountsRead P.tells P.holds P.accounts P.faults name.now place.old result place.new }
 {
     match place.read_accounts(name) {
@@ -53,22 +52,27 @@ fn serve_net<K: Keeper, N: Net>(
     accounts: &Accounts,
     options: &ServeOptions,
     net: &mut N,
-) -> Result<(), NetFault> {
+) -> Result<(), NetFault>
+    ensures { NetServed (N.tells net.new) K.tells N.Listen.tells
+        (λ given returned. ListenerServes accounts.now N.Listen.In.state N.Listen.Out.state N.Listen.In.fails_no_more N.Listen.Out.fails_no_more (N.Listen.tells returned) (served K.faults desk.old) (served K.faults desk.new)
+        (N.Listen.to_come given) (N.Listen.to_come returned) (N.Listen.came_back given) (N.Listen.came_back returned) (N.Listen.out given) (N.Listen.out returned) (N.Listen.ends given) (N.Listen.ends returned))
+        (N.to_give net.old) (N.to_give net.new) (N.came_back net.old) (N.came_back net.new) (N.faults net.old) (N.faults net.new) desk.old desk.new result }
+{
     let mut listeners = net.listen(options.port, 1, options.connections)?;
-    if let Some(mut listener) = listeners.take() {
-        serve_listener(alloc, desk, accounts, &mut listener);
-        listeners.give(listener);
-    }
+    let Some(mut listener) = listeners.take() else {
+        unreachable!();
+    };
+    serve_listener(alloc, desk, accounts, &mut listener);
+    listeners.give(listener);
     net.done(listeners);
     Ok(())
 }
 
 // Writes how many entries the book has that was served; or why nothing was served.
-fn tell_served<O: Sink>(
-    out: &mut O,
-    served: Result<(), NetFault>,
-    entries: u32,
-) -> ServeEnding {
+fn tell_served<O: Sink>(out: &mut O, served: Result<(), NetFault>, entries: u32) -> ServeEnding
+    ensures tells { TellsServed served entries (O.state out.old) (O.state out.new) result }
+    ensures steady { O.fails_no_more out.old → ServeIsSteady (O.fails_no_more out.new) (O.state out.old).refusals (O.state out.new).refusals result }
+{
     match served {
         Ok(()) => tell_entries(out, entries),
         Err(NetFault::Failed) => tell(out, ServeEnding::Net),
@@ -76,7 +80,11 @@ fn tell_served<O: Sink>(
     }
 }
 
-fn tell_entries<O: Sink>(out: &mut O, entries: u32) -> ServeEnding {
+// Writes how many entries the book has.
+fn tell_entries<O: Sink>(out: &mut O, entries: u32) -> ServeEnding
+    ensures tells { TellsCount (count_text entries) (O.state out.old) (O.state out.new) result }
+    ensures steady { O.fails_no_more out.old → ServeIsSteady (O.fails_no_more out.new) (O.state out.old).refusals (O.state out.new).refusals result }
+{
     match write_count(out, b"entries ", u64::from(entries)) {
         Ok(()) => ServeEnding::Done,
         Err(Failed) => ServeEnding::Write,
@@ -84,22 +92,32 @@ fn tell_entries<O: Sink>(out: &mut O, entries: u32) -> ServeEnding {
 }
 
 // Writes the text of an ending.
-fn tell<O: Sink>(out: &mut O, ending: ServeEnding) -> ServeEnding {
+fn tell<O: Sink>(out: &mut O, ending: ServeEnding) -> ServeEnding
+    ensures ending { result ≡ ending }
+    ensures text { WritesOnly (O.state out.old) (O.state out.new) (serve_text ending) }
+    ensures steady { O.fails_no_more out.old → O.fails_no_more out.new }
+{
     let _ = write_serve_ending(out, &ending);
     ending
 }
 
-/// Answers the requests of connections, from the book that the store keeps: the command `serve STORE`. The accounts file is read
-/// before the store is opened, and the net is listened to after that. At the end the number of the book's entries is written. The
-/// status is 0, 3, 4, 5, 7, 8 or 9.
-pub fn run_serve<P: Place, O: Sink, N: Net>(
+// What `run_serve` does.
+fn serve_all<P: Place, O: Sink, N: Net>(
     alloc: Global,
     place: &mut P,
     store: &str,
     options: &ServeOptions,
     out: &mut O,
     net: &mut N,
-) -> u8 {
+) -> u8
+    ensures serve { RunsServe (P.tells place.new) (P.accounts place.old options.now.accounts) (P.holds place.old store.now) (OpensAs store.now (P.holds place.old store.now)) (P.holds place.new store.now) (P.faults place.old) (P.faults place.new)
+        (λ accounts first now. NetServes (N.tells net.new) N.Listen.tells
+        (λ given returned. ListenerServes accounts N.Listen.In.state N.Listen.Out.state N.Listen.In.fails_no_more N.Listen.Out.fails_no_more (N.Listen.tells returned) first now
+        (N.Listen.to_come given) (N.Listen.to_come returned) (N.Listen.came_back given) (N.Listen.came_back returned) (N.Listen.out given) (N.Listen.out returned) (N.Listen.ends given) (N.Listen.ends returned))
+        (N.to_give net.old) (N.to_give net.new) (N.came_back net.old) (N.came_back net.new))
+        (N.faults net.old) (N.faults net.new) (O.state out.old) (O.state out.new) result }
+    ensures steady { O.fails_no_more out.old → O.fails_no_more out.new × (Rose (O.state out.old).refusals (O.state out.new).refusals ⊎ (result ≢ 7)) }
+{
     let accounts = match accounts_of(alloc, place, options.accounts.as_str()) {
         Ok(accounts) => accounts,
         Err(ending) => return tell(out, ending).status(),
@@ -112,4 +130,38 @@ pub fn run_serve<P: Place, O: Sink, N: Net>(
     let entries = desk.book().len();
     place.close_keeper(store, desk.close());
     tell_served(out, served, entries).status()
+}
+
+/// Answers the requests of connections, from the book that the store keeps: the command `serve STORE`. The accounts file is read
+/// before the store is opened, and the net is listened to after that. At the end the number of the book's entries is written. The
+/// status is 0, 3, 4, 5, 7, 8 or 9.
+pub fn run_serve<P: Place, O: Sink, N: Net>(
+    alloc: Global,
+    place: &mut P,
+    store: &str,
+    options: &ServeOptions,
+    out: &mut O,
+    net: &mut N,
+) -> u8
+    // What is written are the answers to the requests of connections, over turns that follow one another from the book that the store
+    // kept, and the store keeps the book that they leave.
+    ensures serve { RunsServe (P.tells place.new) (P.accounts place.old options.now.accounts) (P.holds place.old store.now) (OpensAs store.now (P.holds place.old store.now)) (P.holds place.new store.now) (P.faults place.old) (P.faults place.new)
+        (λ accounts first now. NetServes (N.tells net.new) N.Listen.tells
+        (λ given returned. ListenerServes accounts N.Listen.In.state N.Listen.Out.state N.Listen.In.fails_no_more N.Listen.Out.fails_no_more (N.Listen.tells returned) first now
+        (N.Listen.to_come given) (N.Listen.to_come returned) (N.Listen.came_back given) (N.Listen.came_back returned) (N.Listen.out given) (N.Listen.out returned) (N.Listen.ends given) (N.Listen.ends returned))
+        (N.to_give net.old) (N.to_give net.new) (N.came_back net.old) (N.came_back net.new))
+        (N.faults net.old) (N.faults net.new) (O.state out.old) (O.state out.new) result }
+
+    // Where the place tells, and the store kept a lawful book within the limit, the status is no damage.
+    ensures sound { P.tells place.new → KeptSound (OpensAs store.now (P.holds place.old store.now)) → result ≢ 5 }
+
+    // A fault is told exactly where one rose, but for a write of a status's own text that failed.
+    ensures keeper { result ≡ 4 → Rose (P.faults place.old) (P.faults place.new) }
+    ensures net { result ≡ 9 → Rose (N.faults net.old) (N.faults net.new) }
+    ensures write { result ≡ 7 → Rose (O.state out.old).faults (O.state out.new).faults }
+    ensures write_told { result ≡ 7 ⊎ (O.state out.new).faults ≡ (O.state out.old).faults ⊎ ((result ≢ 0) × Rose (O.state out.old).faults (O.state out.new).faults) }
+    ensures complete { result ≡ 0 ⊎ result ≡ 3 ⊎ result ≡ 4 ⊎ result ≡ 5 ⊎ result ≡ 7 ⊎ result ≡ 8 ⊎ result ≡ 9 }
+    ensures steady { O.fails_no_more out.old → O.fails_no_more out.new × (Rose (O.state out.old).refusals (O.state out.new).refusals ⊎ (result ≢ 7)) }
+{
+    serve_all(alloc, place, store, options, out, net)
 }

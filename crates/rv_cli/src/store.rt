@@ -1,5 +1,5 @@
 // The desk of a store, a check of one, and why a store did not open.
-ghost use Rattle.std.specs.Prelude.{◌≡◌};
+ghost use Rattle.std.specs.Prelude.{◌≡◌, IsOk};
 ghost use Rattle.rv_cli.specs.Texts.{status_of, status_text};
 ghost use Rattle.rv_cli.specs.Headline.{WritesOnly};
 ghost use Rattle.rv_cli.specs.Storing.{OpensKept, OpensStore};
@@ -10,7 +10,7 @@ use crate::feed::BOOK_LIMIT;
 use crate::texts::write_ending;
 use rv_base::Sink;
 use rv_desk::Desk;
-use rv_keeper::{KeepFault, Place};
+use rv_keeper::Place;
 use rv_report::{CheckAnswer, check};
 use std::alloc::Global;
 
@@ -22,7 +22,8 @@ fn open_kept<P: Place>(
     kept: P::Kept,
 ) -> Result<Desk<P::Kept>, Ending>
     requires { P.tells place.old → P.is_out place.old store.now }
-    ensures { OpensKept P.tells P.holds P.is_out P.faults P.Kept.tells P.Kept.holds P.Kept.faults store.now kept place.old result place.new }
+    ensures opens { OpensKept P.tells P.holds P.is_out P.faults P.Kept.tells P.Kept.holds P.Kept.faults store.now kept place.old result place.new }
+    ensures told { P.tells place.new → P.tells place.old }
 {
     match Desk::open(alloc, kept, BOOK_LIMIT) {
         Ok(desk) => Ok(desk),
@@ -39,13 +40,24 @@ pub(crate) fn open_desk<P: Place>(
     place: &mut P,
     store: &str,
 ) -> Result<Desk<P::Kept>, Ending>
-    ensures { OpensStore P.tells P.holds P.is_out P.faults P.Kept.tells P.Kept.faults store.now place.old result place.new }
+    ensures opens { OpensStore P.tells P.holds P.is_out P.faults P.Kept.tells P.Kept.faults store.now place.old result place.new }
+    ensures told { P.tells place.new → P.tells place.old }
 {
-    match place.open_keeper(store) {
-        Ok(kept) => open_kept(alloc, place, store, kept),
-        Err(KeepFault::Failed) => Err(Ending::Keeper),
-        Err(KeepFault::Memory) => Err(Ending::Memory),
-    }
+    let kept = place.open_keeper(store)?;
+    open_kept(alloc, place, store, kept)
+}
+
+/// Opens the desk of a store that is there. Where it is not there, or does not open, none is made, and a keeper is given back.
+pub(crate) fn open_existing_desk<P: Place>(
+    alloc: Global,
+    place: &mut P,
+    store: &str,
+) -> Result<Desk<P::Kept>, Ending>
+    ensures opens { OpensStore P.tells P.holds P.is_out P.faults P.Kept.tells P.Kept.faults store.now place.old result place.new }
+    ensures there { P.tells place.new → IsOk result → P.has place.old store.now }
+{
+    let kept = place.open_existing(store)?;
+    open_kept(alloc, place, store, kept)
 }
 
 // What a check of the store's keeper finds, which then is back.
@@ -68,19 +80,17 @@ fn check_kept<P: Place>(
     }
 }
 
-/// How many entries the book has that the store is kept as; or why it is kept as none.
+/// How many entries the book has that the store is kept as, which is there; or why it is kept as none.
 pub(crate) fn check_store<P: Place>(
     alloc: Global,
     place: &mut P,
     store: &str,
 ) -> Result<u32, Ending>
-    ensures { ChecksStore P.tells P.holds P.faults store.now place.old result place.new }
+    ensures checks { ChecksStore P.tells P.holds P.faults store.now place.old result place.new }
+    ensures there { P.tells place.new → IsOk result → P.has place.old store.now }
 {
-    match place.open_keeper(store) {
-        Ok(kept) => check_kept(alloc, place, store, kept),
-        Err(KeepFault::Failed) => Err(Ending::Keeper),
-        Err(KeepFault::Memory) => Err(Ending::Memory),
-    }
+    let kept = place.open_existing(store)?;
+    check_kept(alloc, place, store, kept)
 }
 
 /// Why a store did not open, as the status's text.

@@ -1,8 +1,9 @@
 // Runs of the program's words over the stores of the machine.
 use crate::session::Session;
-use rv_base::{Memory, MemorySink, MemorySource};
+use rv_base::{Bytes, Memory, MemorySink, MemorySource};
 use rv_cli::run;
 use rv_keeper::Place;
+use rv_net::MemoryNet;
 use rv_place::HostPlace;
 use std::alloc::Global;
 
@@ -28,7 +29,8 @@ pub fn run_words(rt: &HostRuntime, session: &mut Session, line: &str) -> Result<
     let mut place = HostPlace::new(rt);
     let mut input = MemorySource::new(session.take_input(), 100_000, Vec::new(alloc));
     let mut out = MemorySink::new(alloc, 100_000, Vec::new(alloc));
-    let status = run(alloc, &words, &mut place, &mut input, &mut out);
+    let mut net = MemoryNet::new(alloc, Vec::new(alloc), Vec::new(alloc))?;
+    let status = run(alloc, &words, &mut place, &mut input, &mut out, &mut net);
     told(alloc, &out.bytes, status)
 }
 
@@ -44,5 +46,21 @@ pub fn run_beside(rt: &HostRuntime, session: &mut Session, store: &str) -> Resul
             text
         }
         Err(_) => Ok(String::from_str(alloc, "no keeper\n")?),
+    }
+}
+
+// How many bytes there are, and the text that they are, if they are one.
+fn read_text(alloc: Global, bytes: &Bytes) -> Result<String, Memory> {
+    let text = std::str::from_utf8(bytes.as_slice()).unwrap_or("no text\n");
+    Ok(format!(in alloc; "{} bytes\n{text}", bytes.len())?)
+}
+
+/// `accounts FILE`: what the place reads of an accounts file; or why it reads none, and how many faults it counts then.
+pub fn read_accounts(rt: &HostRuntime, path: &str) -> Result<String, Memory> {
+    let alloc = rt.alloc();
+    let mut place = HostPlace::new(rt);
+    match place.read_accounts(path) {
+        Ok(bytes) => read_text(alloc, &bytes),
+        Err(fault) => Ok(format!(in alloc; "{fault}, faults {}\n", place.fault_count())?),
     }
 }

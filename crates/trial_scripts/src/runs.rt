@@ -3,6 +3,7 @@ use crate::case::Case;
 use rv_base::{Memory, MemorySink, MemorySource};
 use rv_cli::run;
 use rv_keeper::Place;
+use rv_net::MemoryNet;
 use std::alloc::Global;
 use std::mem;
 
@@ -38,7 +39,8 @@ pub fn run_over<P: Place>(
     let bytes = Vec::from_slice(alloc, &case.input)?;
     let mut input = MemorySource::new(bytes, most, failing(alloc, read)?);
     let mut out = MemorySink::new(alloc, most, failing(alloc, write)?);
-    let status = run(alloc, &case.words, place, &mut input, &mut out);
+    let mut net = MemoryNet::new(alloc, Vec::new(alloc), Vec::new(alloc))?;
+    let status = run(alloc, &case.words, place, &mut input, &mut out, &mut net);
     Ok(Finished {
         status,
         written: out.bytes,

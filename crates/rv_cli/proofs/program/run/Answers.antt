@@ -1,4 +1,5 @@
-use Rattle.rv_cli.proofs.Sound.{activity_memory, check_memory, lists_memory, memory_sound, feeds_memory, retires_in_memory}
+use Rattle.std.proofs.Common.{inl}
+use Rattle.rv_cli.proofs.Sound.{activity_memory, check_memory, lists_memory, memory_sound, feeds_memory, retires_in_memory, serves_memory, serves_same}
 use Rattle.rv_cli.proofs.program.run.Goals as goal
 
 pub returns-in-Ok-Some-Feed-clause-sound_memory : goal.returns-in-Ok-Some-Feed-clause-sound_memory
@@ -25,3 +26,14 @@ pub returns-in-Ok-Some-Check-clause-sound_memory_reports : goal.returns-in-Ok-So
 returns-in-Ok-Some-Check-clause-sound_memory_reports g c = λ asks told.
     let is = rw (c.in-Ok-Some-Check.field-0-is, c.in-Ok-Some-Check.field-0-0-is) at c.in-Ok-Some-Check.ensures in
     c.run_check.ensures.sound told (memory_sound _ _ (check_memory _ _ _ is c.as_str-in-Ok-Some-Check.ensures asks))
+
+pub returns-in-Ok-Some-Serve-clause-sound_memory_serve : goal.returns-in-Ok-Some-Serve-clause-sound_memory_serve
+returns-in-Ok-Some-Serve-clause-sound_memory_serve g c = λ options asks told.
+    let is = rw (c.in-Ok-Some-Serve.field-0-is, c.in-Ok-Some-Serve.field-0-0-is) at c.in-Ok-Some-Serve.ensures in
+    c.run_serve.ensures.sound told (memory_sound _ _ (serves_memory _ _ _ _ options is c.as_str-in-Ok-Some-Serve.ensures asks))
+
+pub returns-in-Ok-Some-Serve-clause-serve : goal.returns-in-Ok-Some-Serve-clause-serve
+returns-in-Ok-Some-Serve-clause-serve g c = λ store options asks.
+    let is = rw (c.in-Ok-Some-Serve.field-0-is, c.in-Ok-Some-Serve.field-0-0-is) at c.in-Ok-Some-Serve.ensures in
+    let (named, chosen) = serves_same _ _ store _ options is asks in
+    inl (rw (← named, ← chosen, ← c.as_str-in-Ok-Some-Serve.ensures) c.run_serve.ensures.serve)

@@ -11,7 +11,7 @@ returns-in-Ok-clause-feed g c = (
   c.status.ensures,
   inr (has_fed g.P.Place.tells g.P.Place.holds g.P.Place.is_out g.P.Place.faults g.P.Kept.Keeper.tells g.P.Kept.Keeper.holds g.P.Kept.Keeper.faults c.args.store.now c.args.place.now c.open_desk.new.place c.close_keeper.new.self c.in-Ok.desk c.feed-ending.result
       (g.S.Source.state c.args.input.now) (g.S.Source.state c.feed-ending.new.input) (g.O.Sink.state c.args.out.now) (g.O.Sink.state c.feed-ending.new.out) (g.O.Sink.state c.write_ending.new.out) c.write_ending.result
-      c.in-Ok.ensures c.feed-ending.ensures.feeds (record { told = c.close_keeper.ensures.tells; held = c.close_keeper.ensures.kept; taken = c.close_keeper.ensures.faults }) c.write_ending.ensures.writes),
+      c.in-Ok.ensures.opens c.feed-ending.ensures.feeds (record { told = c.close_keeper.ensures.tells; held = c.close_keeper.ensures.kept; taken = c.close_keeper.ensures.faults }) c.write_ending.ensures.writes),
 )
 
 pub returns-in-Ok-clause-complete : goal.returns-in-Ok-clause-complete
@@ -23,4 +23,4 @@ pub returns-in-Ok-clause-sound : goal.returns-in-Ok-clause-sound
 returns-in-Ok-clause-sound g c = λ told kept. feed_sound _ _ _ _ _ told kept _ _ _ _ _ (returns-in-Ok-clause-feed g c)
 
 pub returns-in-Err-clause-sound : goal.returns-in-Err-clause-sound
-returns-in-Err-clause-sound g c = λ told kept. refused_sound _ _ _ _ _ told kept c.in-Err.ending _ c.in-Err.ensures c.refuse_opening.ensures.status
+returns-in-Err-clause-sound g c = λ told kept. refused_sound _ _ _ _ _ told kept c.in-Err.ending _ c.in-Err.ensures.opens c.refuse_opening.ensures.status

@@ -1,6 +1,7 @@
 use Rattle.std.proofs.Common.{inr}
 use Rattle.rv_cli.proofs.Reporting.{has_checked}
 use Rattle.rv_cli.proofs.Sound.{refused_sound}
+use Rattle.rv_cli.proofs.Storing.{refused_fails}
 use Rattle.rv_cli.proofs.reports.run_check.Goals as goal
 
 pub returns-in-Ok-clause-report : goal.returns-in-Ok-clause-report
@@ -8,8 +9,11 @@ returns-in-Ok-clause-report g c = (
   c.report_sound.result,
   c.status.ensures,
   inr (has_checked g.P.Place.tells g.P.Place.holds g.P.Place.faults c.args.store.now c.args.place.now c.check_store.new.place c.in-Ok.entries
-      (g.O.Sink.state c.args.out.now) (g.O.Sink.state c.report_sound.new.out) c.report_sound.result c.in-Ok.ensures c.report_sound.ensures.writes),
+      (g.O.Sink.state c.args.out.now) (g.O.Sink.state c.report_sound.new.out) c.report_sound.result c.in-Ok.ensures.checks c.report_sound.ensures.writes),
 )
 
 pub returns-in-Err-clause-sound : goal.returns-in-Err-clause-sound
-returns-in-Err-clause-sound g c = λ told kept. refused_sound _ _ _ _ _ told kept c.in-Err.ending _ c.in-Err.ensures c.refuse_opening.ensures.status
+returns-in-Err-clause-sound g c = λ told kept. refused_sound _ _ _ _ _ told kept c.in-Err.ending _ c.in-Err.ensures.checks c.refuse_opening.ensures.status
+
+pub returns-in-Err-clause-absent : goal.returns-in-Err-clause-absent
+returns-in-Err-clause-absent g c = λ told none. absurd (refused_fails _ _ _ _ _ c.in-Err.ending _ c.in-Err.ensures.checks c.refuse_opening.ensures.status none)

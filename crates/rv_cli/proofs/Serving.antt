@@ -1,0 +1,377 @@
+-- From the accounts, the desk of a store, a net that it served and the keeper that went back, to what `serve` promises.
+use Rattle.std.proofs.Common.{◌≡◌, ◌≢◌, ◌⊎◌, ℕ, suc, ◌-◌, ◌^◌, List, [], ◌∷◌, ◌++◌, length, length-append, Result, Ok, Err, refl, sym, ap, ◌∙◌, subst, arith, inl, inr}
+use Rattle.rv_base.specs.Causes.{Rose}
+use Rattle.rv_base.specs.Outside.{InputState, OutputState}
+use Rattle.rv_accounts.specs.File.{Served as AccountsServed}
+use Rattle.rv_wire.specs.declared.push.Mutation.{Mutation}
+use Rattle.rv_wire.specs.declared.pull.PullRequest.{PullRequest}
+use Rattle.rv_history.specs.declared.turn.Turn.{Turn}
+use Rattle.rv_history.specs.declared.pull_answer.PullAnswer.{PullAnswer}
+use Rattle.rv_history.specs.declared.retire_answer.RetireAnswer.{RetireAnswer}
+use Rattle.rv_history.specs.Machine.{Sender}
+use Rattle.rv_history.specs.Served.{Served, ServedMutates, ServedPulls, ServedRetires}
+use Rattle.rv_answering.specs.StepLaws.{shown_mutates, shown_pulls, shown_retires}
+use Rattle.rv_net.specs.declared.conn.Conn.{Conn}
+use Rattle.rv_net.specs.declared.net_fault.NetFault.{NetFault}
+use Rattle.rv_net.specs.declared.net_fault.NetFault.TheVariants as nets
+use Rattle.rv_serve.specs.Listening.{ServesAll}
+use Rattle.rv_serve.specs.TalkLaws.{all_shown}
+use Rattle.rv_keeper.specs.declared.loaded.Loaded.{Loaded}
+use Rattle.rv_keeper.specs.Stores.{OpensAs}
+use Rattle.rv_desk.specs.Seated.{Seated, HoldsBook, served}
+use Rattle.rv_book.specs.Book.{Book, size}
+use Rattle.rv_cli.specs.declared.ending.Ending.{Ending}
+use Rattle.rv_cli.specs.declared.ending.Ending.TheVariants as endings
+use Rattle.rv_cli.specs.declared.serve_ending.ServeEnding.{ServeEnding}
+use Rattle.rv_cli.specs.declared.serve_ending.ServeEnding.TheVariants.{Done, BadAccounts, TwiceAccounts, NotOpened, Net, Memory, Write}
+use Rattle.rv_cli.specs.Texts.{serve_status, serve_text, status_of}
+use Rattle.rv_cli.specs.Headline.{Begins, IsNotOpened, Leaves, WritesOnly, KeptSound}
+use Rattle.rv_cli.specs.Serving.{FileSays, HasNoAccounts, HasNoNet, HasNoStore, HasRefused, HasServed, IsNoNet, NetServes, RunsServe, TellsEntries}
+use Rattle.rv_cli.specs.ServingSteps.{AccountsRead, NetServed, TellsCount, TellsServed, count_text}
+use Rattle.rv_cli.specs.Storing.{HasOpened}
+use Rattle.rv_cli.specs.Feeding.{IsLeftWith}
+use Rattle.rv_cli.proofs.Sound.{refused_sound}
+use Rattle.rv_cli.proofs.Storing.{WentBack, begins, leaves}
+
+-- what is opened as one thing is opened as another that it implies
+opens_as : (name : List ℕ) (Stored Also : Loaded → Type 0) → ((held : Loaded) → Stored held → Also held) → (held : Loaded) → OpensAs name Stored held → OpensAs name Also held
+opens_as name Stored Also also held (inl memory) = inl memory
+opens_as name Stored Also also held (inr (other, was)) = inr (other, also held was)
+
+-- a store that did not open, said of what it held before
+not_opened_before : (Told : Type 0) (Stored Also Holds : Loaded → Type 0) (before mid after : ℕ) (ending : Ending)
+    → (Told → (held : Loaded) → Stored held → Also held) → mid ≡ before → IsNotOpened Told Also Holds mid after ending → IsNotOpened Told Stored Holds before after ending
+not_opened_before Told Stored Also Holds before mid after endings.Keeper also same rose = subst (λ (n : ℕ). Rose n after) same rose
+not_opened_before Told Stored Also Holds before mid after (endings.Damaged shelf key) also same (loaded, stored, damaged, left, still) =
+    (loaded, λ t held was. stored t held (also t held was), damaged, λ t held was. left t held (also t held was), still ∙ same)
+not_opened_before Told Stored Also Holds before mid after endings.Memory also same free = tt
+not_opened_before Told Stored Also Holds before mid after endings.Done also same never = never
+not_opened_before Told Stored Also Holds before mid after endings.Read also same never = never
+not_opened_before Told Stored Also Holds before mid after endings.Write also same never = never
+not_opened_before Told Stored Also Holds before mid after (endings.Malformed number) also same never = never
+
+-- the count that is told is that of the book
+pub tells_entries : (book : Book) (entries : ℕ) (old new : OutputState) (ending : ServeEnding) → entries ≡ size book → TellsCount (count_text entries) old new ending → TellsEntries book old new ending
+tells_entries book entries old new Done is (appended, still) = (rw (← is) appended, still)
+tells_entries book entries old new Write is (front, rose) = (rw (← is) front, rose)
+tells_entries book entries old new (BadAccounts number) is never = never
+tells_entries book entries old new (TwiceAccounts number) is never = never
+tells_entries book entries old new (NotOpened ending) is never = never
+tells_entries book entries old new Net is never = never
+tells_entries book entries old new Memory is never = never
+
+module _ {P K : Type 0} (tells : P → Type 0) (holds : P → List ℕ → Loaded → Type 0) (is_out : P → List ℕ → Type 0) (accounts : P → List ℕ → List ℕ → Type 0) (faults : P → ℕ) (kept_tells : K → Type 0) (kept_holds : K → Loaded → Type 0) (kept_faults : K → ℕ) (store name : List ℕ) where
+  abbrev Read : P → Result AccountsServed ServeEnding → P → Type 0
+  Read old result mid = AccountsRead tells holds accounts faults name old result mid
+
+  -- the file was read before the place told what it tells later
+  says_later : (Now : Type 0) (old mid : P) (said : Result AccountsServed _) → (Now → tells mid) → FileSays (tells mid) (accounts old name) said → FileSays Now (accounts old name) said
+  says_later Now old mid said before says = record { bytes = says.bytes; read = λ t. says.read (before t); says = says.says }
+
+  -- there are no accounts
+  pub has_refused : (old new : P) (ending : ServeEnding) (out out' : OutputState) → Read old (Err ending) new → WritesOnly out out' (serve_text ending)
+      → HasRefused (tells new) (accounts old name) (holds old store) (OpensAs store (holds old store)) (holds new store) (faults old) (faults new) out out' ending
+  has_refused old new ending out out' read text = record { why = read.tells_so; stays = λ t held was. read.stays t store held was; text = text }
+
+  -- the store did not open
+  pub has_no_store : (old mid new : P) (said : AccountsServed) (other : Ending) (out out' : OutputState) → Read old (Ok said) mid → (tells new → tells mid)
+      → IsNotOpened (tells new) (OpensAs store (holds mid store)) (holds new store) (faults mid) (faults new) other → WritesOnly out out' (serve_text (NotOpened other))
+      → HasNoStore (tells new) (accounts old name) (holds old store) (OpensAs store (holds old store)) (holds new store) (faults old) (faults new) out out' (NotOpened other)
+  has_no_store old mid new said other out out' read before why text = record {
+    other = other;
+    is = refl;
+    accounts = said;
+    says = says_later (tells new) old mid (Ok said) before read.tells_so.0;
+    why = not_opened_before (tells new) (OpensAs store (holds old store)) (OpensAs store (holds mid store)) (holds new store) (faults old) (faults mid) (faults new) other
+        (λ t. opens_as store (holds old store) (holds mid store) (λ held was. read.stays (before t) store held was)) read.tells_so.1 why;
+    text = text;
+  }
+
+  -- the store was opened, its desk came from the first to the last, and its keeper went back
+  module _ (old mid opened new : P) (said : AccountsServed) (first last : Seated K) (keeper : K) (read : Read old (Ok said) mid)
+      (opens : HasOpened tells holds is_out faults kept_tells kept_faults store mid first opened) (before : tells opened → tells mid) (is : keeper ≡ last.keeper)
+      (held : kept_tells last.keeper → HoldsBook (kept_holds last.keeper) last.book last.doubt) (kept_before : kept_tells last.keeper → kept_tells first.keeper)
+      (back : WentBack tells holds is_out faults kept_tells kept_holds kept_faults store opened new keeper) where
+    home : WentBack tells holds is_out faults kept_tells kept_holds kept_faults store opened new last.keeper
+    home = subst (λ (k : K). WentBack tells holds is_out faults kept_tells kept_holds kept_faults store opened new k) is back
+
+    told : tells new → tells mid
+    told t = before (home.told t).0
+
+    pub serve_begins : Begins (tells new) (OpensAs store (holds old store)) (served kept_faults first)
+    serve_begins =
+        let from = begins tells holds is_out faults kept_tells kept_holds kept_faults store mid opened new first last.keeper opens kept_before home in
+        record {
+          loaded = from.loaded;
+          stored = λ t held was. from.stored t held (opens_as store (holds old store) (holds mid store) (λ h w. read.stays (told t) store h w) held was);
+          opens = from.opens;
+          limit = from.limit;
+          doubt = from.doubt;
+          faults = from.faults;
+        }
+
+    pub serve_leaves : Leaves (tells new) (holds new store) (faults old) (faults new) (served kept_faults last)
+    serve_leaves = leaves tells holds is_out faults kept_tells kept_holds kept_faults store old opened new (served kept_faults last) last.keeper
+        (opens.same ∙ read.tells_so.1) (record { held = held; later = omega arith }) home
+
+    pub serve_says : FileSays (tells new) (accounts old name) (Ok said)
+    serve_says = says_later (tells new) old mid (Ok said) told read.tells_so.0
+
+    pub has_served : (Serves : AccountsServed → Served → Served → Type 0) (entries : ℕ) (out out' : OutputState) (ending : ServeEnding) → Serves said (served kept_faults first) (served kept_faults last)
+        → entries ≡ size last.book → TellsCount (count_text entries) out out' ending
+        → HasServed (tells new) (accounts old name) (holds old store) (OpensAs store (holds old store)) (holds new store) (faults old) (faults new) Serves out out' ending
+    has_served Serves entries out out' ending serves count text = record {
+      accounts = said;
+      says = serve_says;
+      first = served kept_faults first;
+      now = served kept_faults last;
+      begins = serve_begins;
+      serves = serves;
+      leaves = serve_leaves;
+      entries = tells_entries last.book entries out out' ending count text;
+    }
+
+    pub has_no_net : (net net' : ℕ) (out out' : OutputState) (ending : ServeEnding) → last ≡ first → IsNoNet net net' ending → WritesOnly out out' (serve_text ending)
+        → HasNoNet (tells new) (accounts old name) (holds old store) (OpensAs store (holds old store)) (holds new store) (faults old) (faults new) net net' out out' ending
+    has_no_net net net' out out' ending same why text = record {
+      accounts = said;
+      says = serve_says;
+      first = served kept_faults first;
+      begins = serve_begins;
+      why = why;
+      leaves = subst (λ (desk : Seated K). Leaves (tells new) (holds new store) (faults old) (faults new) (served kept_faults desk)) same serve_leaves;
+      text = text;
+    }
+
+-- where the desk's keeper tells at the end, it told at the beginning
+pub net_before : {L K : Type 0} (Told : Type 0) (kept_tells : K → Type 0) (tells : L → Type 0) (Serves : L → L → Type 0) (to_give left came_back back : List L) (before after : ℕ) (old new : Seated K) (result : Result (Unit {0}) NetFault)
+    → NetServed Told kept_tells tells Serves to_give left came_back back before after old new result → kept_tells new.keeper → kept_tells old.keeper
+net_before Told kept_tells tells Serves to_give left came_back back before after old new (Ok done) (serves, told, same) = told
+net_before Told kept_tells tells Serves to_give left came_back back before after old new (Err nets.Failed) (same, rose) = λ t. subst (λ (desk : Seated _). kept_tells desk.keeper) same t
+net_before Told kept_tells tells Serves to_give left came_back back before after old new (Err nets.Memory) same = λ t. subst (λ (desk : Seated _). kept_tells desk.keeper) same t
+
+module _ {P K : Type 0} (tells : P → Type 0) (holds : P → List ℕ → Loaded → Type 0) (is_out : P → List ℕ → Type 0) (accounts : P → List ℕ → List ℕ → Type 0) (faults : P → ℕ) (kept_tells : K → Type 0) (kept_holds : K → Loaded → Type 0) (kept_faults : K → ℕ) (store name : List ℕ) where
+  -- the store was opened, the net was served or not, and what is told of it
+  pub serve_ended : (old mid opened new : P) (said : AccountsServed) (first last : Seated K) (keeper : K) → AccountsRead tells holds accounts faults name old (Ok said) mid
+      → HasOpened tells holds is_out faults kept_tells kept_faults store mid first opened → (tells opened → tells mid) → keeper ≡ last.keeper
+      → (kept_tells last.keeper → HoldsBook (kept_holds last.keeper) last.book last.doubt)
+      → WentBack tells holds is_out faults kept_tells kept_holds kept_faults store opened new keeper
+      → {L : Type 0} (Told : Type 0) (listener_tells : L → Type 0) (Serves : AccountsServed → Served → Served → L → L → Type 0) (to_give left came_back back : List L) (net net' : ℕ)
+      (result : Result (Unit {0}) NetFault) (entries : ℕ) (out out' : OutputState) (ending : ServeEnding)
+      → NetServed Told kept_tells listener_tells (Serves said (served kept_faults first) (served kept_faults last)) to_give left came_back back net net' first last result
+      → entries ≡ size last.book → TellsServed result entries out out' ending
+      → HasNoNet (tells new) (accounts old name) (holds old store) (OpensAs store (holds old store)) (holds new store) (faults old) (faults new) net net' out out' ending
+      ⊎ HasServed (tells new) (accounts old name) (holds old store) (OpensAs store (holds old store)) (holds new store) (faults old) (faults new)
+      (λ a f n. NetServes Told listener_tells (Serves a f n) to_give left came_back back) out out' ending
+  serve_ended old mid opened new said first last keeper read opens before is held home Told listener_tells Serves to_give left came_back back net net' result entries out out' ending net_served count told =
+      by_result result net_served told
+    where
+      kept : kept_tells last.keeper → kept_tells first.keeper
+      kept = net_before Told kept_tells listener_tells (Serves said (served kept_faults first) (served kept_faults last)) to_give left came_back back net net' first last result net_served
+
+      no_net : (other : ServeEnding) → last ≡ first → IsNoNet net net' other → WritesOnly out out' (serve_text other)
+          → HasNoNet (tells new) (accounts old name) (holds old store) (OpensAs store (holds old store)) (holds new store) (faults old) (faults new) net net' out out' other
+      no_net other same why text = has_no_net tells holds is_out accounts faults kept_tells kept_holds kept_faults store name old mid opened new said first last keeper read opens before is held kept home net net' out out' other same why text
+
+      by_result : (r : Result (Unit {0}) NetFault) → NetServed Told kept_tells listener_tells (Serves said (served kept_faults first) (served kept_faults last)) to_give left came_back back net net' first last r
+          → TellsServed r entries out out' ending
+          → HasNoNet (tells new) (accounts old name) (holds old store) (OpensAs store (holds old store)) (holds new store) (faults old) (faults new) net net' out out' ending
+          ⊎ HasServed (tells new) (accounts old name) (holds old store) (OpensAs store (holds old store)) (holds new store) (faults old) (faults new)
+          (λ a f n. NetServes Told listener_tells (Serves a f n) to_give left came_back back) out out' ending
+      by_result (Ok done) (serves, on, same) tells_so = inr (has_served tells holds is_out accounts faults kept_tells kept_holds kept_faults store name old mid opened new said first last keeper read opens before is held kept home
+          (λ a f n. NetServes Told listener_tells (Serves a f n) to_give left came_back back) entries out out' ending serves count tells_so)
+      by_result (Err nets.Failed) (same, rose) (ends, text) = inl (subst (λ (e : ServeEnding). HasNoNet (tells new) (accounts old name) (holds old store) (OpensAs store (holds old store)) (holds new store) (faults old) (faults new) net net' out out' e) (sym ends) (no_net Net same rose text))
+      by_result (Err nets.Memory) same (ends, text) = inl (subst (λ (e : ServeEnding). HasNoNet (tells new) (accounts old name) (holds old store) (OpensAs store (holds old store)) (holds new store) (faults old) (faults new) net net' out out' e) (sym ends) (no_net Memory same tt text))
+
+-- ---- What a listener's connections are served by a desk is served by the server that it shows.
+
+module _ {K : Type 0} (kept_tells : K → Type 0) (kept_faults : K → ℕ) where
+  abbrev Before : Seated K → Seated K → Type 0
+  Before old new = kept_tells new.keeper → kept_tells old.keeper
+
+  abbrev mutating : Seated K → Sender → Mutation → Turn → Seated K → Type 0
+  mutating = shown_mutates (served kept_faults) Before (λ s t. t) (λ s t u p q x. p (q x)) ServedMutates ServedPulls ServedRetires
+
+  abbrev pulling : Seated K → List ℕ → PullRequest → PullAnswer → Seated K → Type 0
+  pulling = shown_pulls (served kept_faults) Before (λ s t. t) (λ s t u p q x. p (q x)) ServedMutates ServedPulls ServedRetires
+
+  abbrev retiring : Seated K → List ℕ → RetireAnswer → Seated K → Type 0
+  retiring = shown_retires (served kept_faults) Before (λ s t. t) (λ s t u p q x. p (q x)) ServedMutates ServedPulls ServedRetires
+
+  pub desk_serves : {I O : Type 0} (said : AccountsServed) (input : I → InputState) (output : O → OutputState) (input_steady : I → Type 0) (output_steady : O → Type 0) (Told : Type 0) (old new : Seated K) (to_come left came_back back : List (Conn I O)) (out out' : ℕ)
+      → ServesAll mutating pulling retiring said input output input_steady output_steady Told old new to_come left came_back back out out'
+      → ServesAll ServedMutates ServedPulls ServedRetires said input output input_steady output_steady Told (served kept_faults old) (served kept_faults new) to_come left came_back back out out' × Before old new
+  desk_serves said input output input_steady output_steady Told old new to_come left came_back back out out' all =
+      all_shown (served kept_faults) Before (λ s t. t) (λ s t u p q x. p (q x)) ServedMutates ServedPulls ServedRetires said input output input_steady output_steady Told old new to_come left came_back back out out' all
+
+-- the one listener of a list, where it was taken off and one given back
+pub one_listener : {L : Type 0} (given left : List L) (last : L) → length given ≡ 1 → given ≡ left ++ last ∷ [] → left ≡ []
+one_listener given [] last one is = refl
+one_listener given (l ∷ ls) last one is =
+    let some : length given ≡ suc (length (ls ++ last ∷ [])) = ap length is in
+    absurd (omega (arith, one, some, length-append ls (last ∷ [])))
+
+-- ---- A store that keeps a lawful book is not damaged.
+
+accounts_undamaged : (Told : Type 0) (HasFile : List ℕ → Type 0) (before after : ℕ) (ending : ServeEnding) → HasNoAccounts Told HasFile before after ending → serve_status ending ≢ 5
+accounts_undamaged Told HasFile before after (BadAccounts number) why is = omega (arith, is)
+accounts_undamaged Told HasFile before after (TwiceAccounts number) why is = omega (arith, is)
+accounts_undamaged Told HasFile before after (NotOpened endings.Keeper) why is = omega (arith, is)
+accounts_undamaged Told HasFile before after (NotOpened endings.Memory) why is = omega (arith, is)
+accounts_undamaged Told HasFile before after (NotOpened endings.Done) never is = never
+accounts_undamaged Told HasFile before after (NotOpened (endings.Damaged shelf key)) never is = never
+accounts_undamaged Told HasFile before after (NotOpened endings.Read) never is = never
+accounts_undamaged Told HasFile before after (NotOpened endings.Write) never is = never
+accounts_undamaged Told HasFile before after (NotOpened (endings.Malformed number)) never is = never
+accounts_undamaged Told HasFile before after Done never is = never
+accounts_undamaged Told HasFile before after Net never is = never
+accounts_undamaged Told HasFile before after Memory never is = never
+accounts_undamaged Told HasFile before after Write never is = never
+
+net_undamaged : (before after : ℕ) (ending : ServeEnding) → IsNoNet before after ending → serve_status ending ≢ 5
+net_undamaged before after Net why is = omega (arith, is)
+net_undamaged before after Memory why is = omega (arith, is)
+net_undamaged before after Done never is = never
+net_undamaged before after (BadAccounts number) never is = never
+net_undamaged before after (TwiceAccounts number) never is = never
+net_undamaged before after (NotOpened ending) never is = never
+net_undamaged before after Write never is = never
+
+served_undamaged : (book : Book) (old new : OutputState) (ending : ServeEnding) → TellsEntries book old new ending → serve_status ending ≢ 5
+served_undamaged book old new Done told is = omega (arith, is)
+served_undamaged book old new Write told is = omega (arith, is)
+served_undamaged book old new (BadAccounts number) never is = never
+served_undamaged book old new (TwiceAccounts number) never is = never
+served_undamaged book old new (NotOpened ending) never is = never
+served_undamaged book old new Net never is = never
+served_undamaged book old new Memory never is = never
+
+pub serve_sound : (Told : Type 0) (HasFile : List ℕ → Type 0) (Was Stored Holds : Loaded → Type 0) (before after : ℕ) (Serves : AccountsServed → Served → Served → Type 0) (net net' : ℕ) (out out' : OutputState) (status : ℕ)
+    → Told → KeptSound Stored → RunsServe Told HasFile Was Stored Holds before after Serves net net' out out' status → status ≢ 5
+serve_sound Told HasFile Was Stored Holds before after Serves net net' out out' status told kept (ending, is, inl refused) five =
+    accounts_undamaged Told HasFile before after ending refused.why (sym is ∙ five)
+serve_sound Told HasFile Was Stored Holds before after Serves net net' out out' status told kept (ending, is, inr (inl none)) five =
+    refused_sound Told Stored Holds before after told kept none.other status none.why (is ∙ ap serve_status none.is) five
+serve_sound Told HasFile Was Stored Holds before after Serves net net' out out' status told kept (ending, is, inr (inr (inl none))) five =
+    net_undamaged net net' ending none.why (sym is ∙ five)
+serve_sound Told HasFile Was Stored Holds before after Serves net net' out out' status told kept (ending, is, inr (inr (inr served))) five =
+    served_undamaged served.now.book out out' ending served.entries (sym is ∙ five)
+
+-- ---- What a run of `serve` tells by its status.
+
+pub record ServeFacts (before after net net' : ℕ) (out out' : OutputState) (status : ℕ) : Type 0 where
+  pub keeper : status ≡ 4 → Rose before after
+  pub net_rose : status ≡ 9 → Rose net net'
+  pub write : status ≡ 7 → Rose out.faults out'.faults
+  pub write_told : (status ≡ 7) ⊎ (out'.faults ≡ out.faults) ⊎ ((status ≢ 0) × Rose out.faults out'.faults)
+  pub complete : (status ≡ 0) ⊎ (status ≡ 3) ⊎ (status ≡ 4) ⊎ (status ≡ 5) ⊎ (status ≡ 7) ⊎ (status ≡ 8) ⊎ (status ≡ 9)
+
+abbrev IsServeStatus : ℕ → Type 0
+IsServeStatus status = (status ≡ 0) ⊎ (status ≡ 3) ⊎ (status ≡ 4) ⊎ (status ≡ 5) ⊎ (status ≡ 7) ⊎ (status ≡ 8) ⊎ (status ≡ 9)
+
+only_told : (out out' : OutputState) (text : List ℕ) (status : ℕ) → WritesOnly out out' text → status ≢ 0
+    → (status ≡ 7) ⊎ (out'.faults ≡ out.faults) ⊎ ((status ≢ 0) × Rose out.faults out'.faults)
+only_told out out' text status (own, appended, inl (same, still)) some = inr (inl still)
+only_told out out' text status (own, appended, inr (front, rose)) some = inr (inr (some, rose))
+
+module _ (before after net net' : ℕ) (out out' : OutputState) (status : ℕ) where
+  abbrev Facts : Type 0
+  Facts = ServeFacts before after net net' out out' status
+
+  -- a status that tells neither a trouble of the place, nor of the net, nor of the output
+  plain_facts : (k : ℕ) → status ≡ k → k ≢ 4 → k ≢ 7 → k ≢ 9 → IsServeStatus status
+      → (status ≡ 7) ⊎ (out'.faults ≡ out.faults) ⊎ ((status ≢ 0) × Rose out.faults out'.faults) → Facts
+  plain_facts k is four seven nine among told = record {
+    keeper = λ e. absurd (four (sym is ∙ e));
+    net_rose = λ e. absurd (nine (sym is ∙ e));
+    write = λ e. absurd (seven (sym is ∙ e));
+    write_told = told;
+    complete = among;
+  }
+
+  keeper_facts : status ≡ 4 → Rose before after → (text : List ℕ) → WritesOnly out out' text → Facts
+  keeper_facts is rose text only = record {
+    keeper = λ e. rose;
+    net_rose = λ e. absurd (omega (arith, is, e));
+    write = λ e. absurd (omega (arith, is, e));
+    write_told = only_told out out' text status only (λ e. omega (arith, is, e));
+    complete = inr (inr (inl is));
+  }
+
+  net_facts : status ≡ 9 → Rose net net' → (text : List ℕ) → WritesOnly out out' text → Facts
+  net_facts is rose text only = record {
+    keeper = λ e. absurd (omega (arith, is, e));
+    net_rose = λ e. rose;
+    write = λ e. absurd (omega (arith, is, e));
+    write_told = only_told out out' text status only (λ e. omega (arith, is, e));
+    complete = inr (inr (inr (inr (inr (inr is)))));
+  }
+
+  write_facts : status ≡ 7 → Rose out.faults out'.faults → Facts
+  write_facts is rose = record {
+    keeper = λ e. absurd (omega (arith, is, e));
+    net_rose = λ e. absurd (omega (arith, is, e));
+    write = λ e. rose;
+    write_told = inl is;
+    complete = inr (inr (inr (inr (inl is))));
+  }
+
+  accounts_facts : status ≡ 3 → (text : List ℕ) → WritesOnly out out' text → Facts
+  accounts_facts is text only = plain_facts 3 is (λ e. omega (arith, e)) (λ e. omega (arith, e)) (λ e. omega (arith, e)) (inr (inl is)) (only_told out out' text status only (λ e. omega (arith, is, e)))
+
+  damage_facts : status ≡ 5 → (text : List ℕ) → WritesOnly out out' text → Facts
+  damage_facts is text only = plain_facts 5 is (λ e. omega (arith, e)) (λ e. omega (arith, e)) (λ e. omega (arith, e)) (inr (inr (inr (inl is)))) (only_told out out' text status only (λ e. omega (arith, is, e)))
+
+  memory_facts : status ≡ 8 → (text : List ℕ) → WritesOnly out out' text → Facts
+  memory_facts is text only = plain_facts 8 is (λ e. omega (arith, e)) (λ e. omega (arith, e)) (λ e. omega (arith, e)) (inr (inr (inr (inr (inr (inl is)))))) (only_told out out' text status only (λ e. omega (arith, is, e)))
+
+  done_facts : status ≡ 0 → out'.faults ≡ out.faults → Facts
+  done_facts is still = plain_facts 0 is (λ e. omega (arith, e)) (λ e. omega (arith, e)) (λ e. omega (arith, e)) (inl is) (inr (inl still))
+
+  refused_facts : (Told : Type 0) (HasFile : List ℕ → Type 0) (ending : ServeEnding) → status ≡ serve_status ending → HasNoAccounts Told HasFile before after ending → WritesOnly out out' (serve_text ending) → Facts
+  refused_facts Told HasFile (BadAccounts number) is why only = accounts_facts is (serve_text (BadAccounts number)) only
+  refused_facts Told HasFile (TwiceAccounts number) is why only = accounts_facts is (serve_text (TwiceAccounts number)) only
+  refused_facts Told HasFile (NotOpened endings.Keeper) is why only = keeper_facts is why (serve_text (NotOpened endings.Keeper)) only
+  refused_facts Told HasFile (NotOpened endings.Memory) is why only = memory_facts is (serve_text (NotOpened endings.Memory)) only
+  refused_facts Told HasFile (NotOpened endings.Done) is never only = absurd never
+  refused_facts Told HasFile (NotOpened (endings.Damaged shelf key)) is never only = absurd never
+  refused_facts Told HasFile (NotOpened endings.Read) is never only = absurd never
+  refused_facts Told HasFile (NotOpened endings.Write) is never only = absurd never
+  refused_facts Told HasFile (NotOpened (endings.Malformed number)) is never only = absurd never
+  refused_facts Told HasFile Done is never only = absurd never
+  refused_facts Told HasFile Net is never only = absurd never
+  refused_facts Told HasFile Memory is never only = absurd never
+  refused_facts Told HasFile Write is never only = absurd never
+
+  store_facts : (Told : Type 0) (Stored Holds : Loaded → Type 0) (other : Ending) → status ≡ status_of other → IsNotOpened Told Stored Holds before after other → (text : List ℕ) → WritesOnly out out' text → Facts
+  store_facts Told Stored Holds endings.Keeper is why text only = keeper_facts is why text only
+  store_facts Told Stored Holds (endings.Damaged shelf key) is why text only = damage_facts is text only
+  store_facts Told Stored Holds endings.Memory is why text only = memory_facts is text only
+  store_facts Told Stored Holds endings.Done is never text only = absurd never
+  store_facts Told Stored Holds endings.Read is never text only = absurd never
+  store_facts Told Stored Holds endings.Write is never text only = absurd never
+  store_facts Told Stored Holds (endings.Malformed number) is never text only = absurd never
+
+  no_net_facts : (ending : ServeEnding) → status ≡ serve_status ending → IsNoNet net net' ending → WritesOnly out out' (serve_text ending) → Facts
+  no_net_facts Net is why only = net_facts is why (serve_text Net) only
+  no_net_facts Memory is why only = memory_facts is (serve_text Memory) only
+  no_net_facts Done is never only = absurd never
+  no_net_facts (BadAccounts number) is never only = absurd never
+  no_net_facts (TwiceAccounts number) is never only = absurd never
+  no_net_facts (NotOpened ending) is never only = absurd never
+  no_net_facts Write is never only = absurd never
+
+  served_facts : (book : Book) (ending : ServeEnding) → status ≡ serve_status ending → TellsEntries book out out' ending → Facts
+  served_facts book Done is (appended, still) = done_facts is still
+  served_facts book Write is (front, rose) = write_facts is rose
+  served_facts book (BadAccounts number) is never = absurd never
+  served_facts book (TwiceAccounts number) is never = absurd never
+  served_facts book (NotOpened ending) is never = absurd never
+  served_facts book Net is never = absurd never
+  served_facts book Memory is never = absurd never
+
+  pub serve_facts : (Told : Type 0) (HasFile : List ℕ → Type 0) (Was Stored Holds : Loaded → Type 0) (Serves : AccountsServed → Served → Served → Type 0) → RunsServe Told HasFile Was Stored Holds before after Serves net net' out out' status → Facts
+  serve_facts Told HasFile Was Stored Holds Serves (ending, is, inl refused) = refused_facts Told HasFile ending is refused.why refused.text
+  serve_facts Told HasFile Was Stored Holds Serves (ending, is, inr (inl none)) = store_facts Told Stored Holds none.other (is ∙ ap serve_status none.is) none.why (serve_text ending) none.text
+  serve_facts Told HasFile Was Stored Holds Serves (ending, is, inr (inr (inl none))) = no_net_facts ending is none.why none.text
+  serve_facts Told HasFile Was Stored Holds Serves (ending, is, inr (inr (inr served))) = served_facts served.now.book ending is served.entries

@@ -1,0 +1,59 @@
+-- The steps of `serve`: the accounts, the net, and what is written at the end, before they are put together.
+use Rattle.std.specs.Prelude.{ℕ, ◌≡◌, ◌⊎◌, List, ◌++◌, Result, Ok, Err, codes, decimal}
+use Rattle.std.specs.Io.KnownBytes.{Appends}
+use Rattle.rv_base.specs.Causes.{Rose}
+use Rattle.rv_base.specs.Outside.{OutputState}
+use Rattle.rv_base.specs.Writes.{AppendsFront}
+use Rattle.rv_keeper.specs.declared.loaded.Loaded.{Loaded}
+use Rattle.rv_accounts.specs.File.{Served as AccountsServed, file_in}
+use Rattle.rv_accounts.specs.declared.fault.AccountsFault.TheVariants as accounts
+use Rattle.rv_net.specs.declared.net_fault.NetFault.{NetFault}
+use Rattle.rv_net.specs.declared.net_fault.NetFault.TheVariants as nets
+use Rattle.rv_cli.specs.declared.ending.Ending.TheVariants as endings
+use Rattle.rv_cli.specs.declared.serve_ending.ServeEnding.{ServeEnding}
+use Rattle.rv_cli.specs.declared.serve_ending.ServeEnding.TheVariants.{Done, BadAccounts, TwiceAccounts, NotOpened, Net, Memory, Write}
+use Rattle.rv_cli.specs.Texts.{serve_text}
+use Rattle.rv_cli.specs.Headline.{WritesOnly}
+use Rattle.rv_desk.specs.Seated.{Seated}
+use Rattle.rv_cli.specs.Serving.{FileSays, HasNoAccounts, NetServes}
+
+-- what an accounts file of these bytes says, as it is told
+abbrev pub TellsFile : List ℕ → Result AccountsServed ServeEnding → Type 0
+TellsFile bytes (Ok served) = file_in bytes ≡ Ok served
+TellsFile bytes (Err (BadAccounts number)) = file_in bytes ≡ Err (accounts.BadFile number)
+TellsFile bytes (Err (TwiceAccounts number)) = file_in bytes ≡ Err (accounts.Twice number)
+TellsFile bytes (Err (NotOpened endings.Memory)) = Unit {0}
+TellsFile bytes (Err ending) = ⊥
+
+-- the accounts of a file, or why there are none
+abbrev pub TellsAccounts : Type 0 → (List ℕ → Type 0) → ℕ → ℕ → Result AccountsServed ServeEnding → Type 0
+TellsAccounts Told HasFile before after (Ok served) = FileSays Told HasFile (Ok served) × (after ≡ before)
+TellsAccounts Told HasFile before after (Err ending) = HasNoAccounts Told HasFile before after ending
+
+-- the file was read, and the stores stay as they are
+pub record AccountsRead {P : Type 0} (tells : P → Type 0) (holds : P → List ℕ → Loaded → Type 0) (accounts : P → List ℕ → List ℕ → Type 0) (faults : P → ℕ) (name : List ℕ) (old : P) (result : Result AccountsServed ServeEnding) (new : P) : Type 0 where
+  pub told : tells new → tells old
+  pub stays : tells new → (store : List ℕ) (held : Loaded) → holds old store held → holds new store held
+  pub tells_so : TellsAccounts (tells new) (accounts old name) (faults old) (faults new) result
+
+-- The net was served by the turns of a desk, or nothing was listened to and the desk is as it was.
+abbrev pub NetServed : {L K : Type 0} → Type 0 → (K → Type 0) → (L → Type 0) → (L → L → Type 0) → List L → List L → List L → List L → ℕ → ℕ → Seated K → Seated K → Result (Unit {0}) NetFault → Type 0
+NetServed Told kept_tells tells Serves to_give left came_back back before after old new (Ok done) =
+    NetServes Told tells Serves to_give left came_back back × (kept_tells new.keeper → kept_tells old.keeper) × (after ≡ before)
+NetServed Told kept_tells tells Serves to_give left came_back back before after old new (Err nets.Failed) = (new ≡ old) × Rose before after
+NetServed Told kept_tells tells Serves to_give left came_back back before after old new (Err nets.Memory) = new ≡ old
+
+-- all of a count and its label was written, or a front, and a write failed
+abbrev pub TellsCount : List ℕ → OutputState → OutputState → ServeEnding → Type 0
+TellsCount text old new Done = Appends old.written new.written text × (new.faults ≡ old.faults)
+TellsCount text old new Write = AppendsFront old.written new.written text × Rose old.faults new.faults
+TellsCount text old new ending = ⊥
+
+abbrev pub count_text : ℕ → List ℕ
+count_text entries = codes "entries " ++ (decimal entries ++ codes "\n")
+
+-- what is told of the net that served, or did not
+abbrev pub TellsServed : Result (Unit {0}) NetFault → ℕ → OutputState → OutputState → ServeEnding → Type 0
+TellsServed (Ok done) entries old new ending = TellsCount (count_text entries) old new ending
+TellsServed (Err nets.Failed) entries old new ending = (ending ≡ Net) × WritesOnly old new (serve_text Net)
+TellsServed (Err nets.Memory) entries old new ending = (ending ≡ Memory) × WritesOnly old new (serve_text Memory)
