@@ -16,6 +16,7 @@ fn printed(rt: &HostRuntime, session: &mut Session, line: &str) -> Result<Option
     let (word, rest) = line.split_once(' ').unwrap_or((line, ""));
     match word {
         "rv" => Ok(Some(runs::run_words(rt, session, line)?)),
+        "accounts" => Ok(Some(runs::read_accounts(rt, rest)?)),
         "while-open" => Ok(Some(runs::run_beside(rt, session, rest)?)),
         "remember" => Ok(Some(files::remember(rt, session, rest)?)),
         "is" => Ok(Some(files::compare(rt, session, rest)?)),
