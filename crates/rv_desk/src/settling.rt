@@ -1,14 +1,26 @@
 // Settling what is in doubt: the keeper's generation tells whether the entry was kept.
 ghost use Rattle.std.specs.Prelude.{◌≡◌, None, Some};
-ghost use Rattle.rv_desk.specs.Seated.{AreInStep, parts_served};
+ghost use Rattle.rv_desk.specs.Seated.{AreInStep, parts_served, served};
 ghost use Rattle.rv_desk.specs.Settling.{IsSettled};
 ghost use Rattle.rv_state.specs.Ready.{IsPrepared};
 
+use crate::desk::Desk;
 use crate::doubt::leave_in_doubt;
 use rv_base::Failed;
 use rv_history::Trouble;
 use rv_keeper::Keeper;
 use rv_state::{Prepared, State};
+
+impl<K: Keeper> Desk<K> {
+    /// Settles the entry in doubt, if there is one: it is entered where it was kept, and dropped where it was not. Where the keeper
+    /// does not say so, it stays in doubt. Every turn does this first. Takes no memory.
+    pub fn settle(&mut self) -> Result<(), Trouble>
+        ensures settled { IsSettled (served K.faults self.old) result (served K.faults self.new) }
+        ensures tells { K.tells self.new.keeper → K.tells self.old.keeper }
+    {
+        settle(&mut self.state, &mut self.doubt, &mut self.keeper)
+    }
+}
 
 // Settles the entry in doubt, if there is one. Takes no memory.
 pub(crate) fn settle<K: Keeper>(

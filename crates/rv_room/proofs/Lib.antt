@@ -1,0 +1,5 @@
+pub mod Totals
+pub mod Moves
+pub mod Ways
+pub mod Adding
+pub mod Ending

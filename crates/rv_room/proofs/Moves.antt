@@ -1,0 +1,566 @@
+-- Each step keeps the rule.
+use Rattle.std.proofs.Common.{◌≡◌, ◌≢◌, ◌⊎◌, ℕ, zero, suc, ◌+◌, ◌-◌, ◌%◌, ◌^◌, ◌<◌, ◌≤◌, List, [], ◌∷◌, ◌++◌, length, set, drop, refl, sym, ap, ◌∙◌, subst, inl, inr, ⊎_elim, arith, Some, None, Option, append-nil, length-append, mod-eq_of_lt}
+use Rattle.std.proofs.Math.Nat.{mod-add-mod}
+use Rattle.std.specs.Prelude.{slice_get, slice_index, slice_set}
+use Rattle.std.specs.List.{AllByRecursion}
+use mathlib.Core.Option.{some, none, some-injective, some-ne-none}
+use mathlib.Core.Option as maybe
+use mathlib.Core.Logic.{dite}
+use native.Mathlib.Decide.{ℕ_discrete}
+use lib.ListN.{get_elem?}
+use Rattle.atomic_table.specs.Table.{State, Me, Act, keeps, takes, gives, stepped, Allows, Valid, carried_after}
+use Rattle.atomic_table.proofs.Lists.{at_set, set_again, set_else, one_turn}
+use Rattle.rv_book.specs.declared.entry.Entry.{Entry}
+use Rattle.rv_book.specs.Book.{Book, size, since, with_entry}
+use Rattle.rv_desk.specs.Seated.{Seated}
+use Rattle.rv_room.specs.declared.view.SeatView.{SeatView}
+use Rattle.rv_room.specs.Lists.{hit, StartsWith, total, once_below, count_at, numbered}
+use Rattle.rv_room.specs.Views.{IsIdle, waiting, on_turn, grown, entered, listed, noted, with_faults, ended}
+use Rattle.rv_room.specs.Rule.{parts_of, waits_of, own_at, IsLeft, DoubtIsLeft, Fits, IsOut, Keeps, IsOf, AtHome, Kept, KeptIn}
+use Rattle.rv_room.specs.Plays.{TakesTicket, Looks, CountsSettled, CountsMade, NotesSettled, NotesFaults, Passes}
+use Rattle.rv_room.proofs.Totals.{total_set, total_le, total_has, here, same_at, all_map, all_append, get_front, get_last, starts_more, count_at-append, below_next, drop_front}
+
+value_or : {X : Type 0} → X → Option X → X
+value_or x None = x
+value_or x (Some y) = y
+
+pub some_same : {X : Type 0} (a b : X) → Some a ≡ Some b → a ≡ b
+unfolding value_or
+some_same a b e = ap (value_or a) e
+
+-- what was a front of the history, and what stood in it, is and does once it is longer
+still : (log : Book) (e : Entry) (now : Book) → now ≡ log ++ e ∷ [] → (l : Book) → StartsWith log l → StartsWith now l
+still log e now longer l s = subst (λ (x : Book). StartsWith x l) (sym longer) (starts_more log (e ∷ []) l s)
+
+stands : (log : Book) (e : Entry) (now : Book) → now ≡ log ++ e ∷ [] → (x : ℕ × Entry) → slice_get log x.0 ≡ Some x.1 → slice_get now x.0 ≡ Some x.1
+stands log e now longer x s = ap (λ (l : Book). slice_get l x.0) longer ∙ get_front log (e ∷ []) x.0 x.1 s
+
+up_to_top : (m n : ℕ) → m ≤ n → (xs : List ℕ) → AllByRecursion (λ (k : ℕ). k ≤ m) xs → AllByRecursion (λ (k : ℕ). k ≤ n) xs
+up_to_top m n le xs h = all_map _ _ xs (λ k l. omega arith) h
+
+module _ {K : Type 0} where
+  abbrev pub At : List (SeatView K) → ℕ → SeatView K → Type 0
+  At views j v = get_elem? views j ≡ some v
+
+  abbrev pub AllFit : Seated K → Book → ℕ → ℕ → ℕ → List (SeatView K) → Type 0
+  AllFit opened log front n top views = (j : ℕ) (v : SeatView K) → At views j v → Fits opened log front n top v
+
+  abbrev pub Apart : List (SeatView K) → Type 0
+  Apart views = (i j : ℕ) (v w : SeatView K) → At views i v → At views j w → v.waits ≡ 1 → w.waits ≡ 1 → v.ticket ≡ w.ticket → i ≡ j
+
+  -- what holds of one view and of all others holds after it has changed
+  pub each_set : (P : ℕ → SeatView K → Type 0) (views : List (SeatView K)) (j : ℕ) (w : SeatView K) → ((i : ℕ) (u : SeatView K) → i ≢ j → At views i u → P i u) → P j w → (i : ℕ) (u : SeatView K) → At (set views j w) i u → P i u
+  each_set P views j w others mine i u e =
+      ⊎_elim
+      (λ (t : (i ≡ j) × (w ≡ u)). subst (λ (y : ℕ × SeatView K). P y.0 y.1) (λ k. (sym t.0 k, t.1 k)) mine)
+      (λ (t : (i ≢ j) × At views i u). others i u t.0 t.1)
+      (at_set views j i w u e)
+
+  pub apart_set : (views : List (SeatView K)) (j : ℕ) (w : SeatView K) → Apart views → ((i : ℕ) (u : SeatView K) → i ≢ j → At views i u → w.waits ≡ 1 → u.waits ≡ 1 → w.ticket ≡ u.ticket → ⊥) → Apart (set views j w)
+  apart_set views j w apart mine i k a b ea eb =
+      each_set (λ (i : ℕ) (a : SeatView K). a.waits ≡ 1 → b.waits ≡ 1 → a.ticket ≡ b.ticket → i ≡ k) views j w
+      (λ i a ni ai. each_set (λ (k : ℕ) (b : SeatView K). a.waits ≡ 1 → b.waits ≡ 1 → a.ticket ≡ b.ticket → i ≡ k) views j w
+      (λ k b nk bk. apart i k a b ai bk)
+      (λ aw ww same. absurd (mine i a ni ai ww aw (sym same)))
+      k b eb)
+      (each_set (λ (k : ℕ) (b : SeatView K). w.waits ≡ 1 → b.waits ≡ 1 → w.ticket ≡ b.ticket → j ≡ k) views j w
+      (λ k b nk bk ww bw same. absurd (mine k b nk bk ww bw same))
+      (λ _ _ _. refl)
+      k b eb)
+      i a ea
+
+  pub all_set : (opened : Seated K) (log : Book) (front n top : ℕ) (views : List (SeatView K)) (j : ℕ) (w : SeatView K) → ((i : ℕ) (u : SeatView K) → i ≢ j → At views i u → Fits opened log front n top u) → Fits opened log front n top w
+      → AllFit opened log front n top (set views j w)
+  all_set opened log front n top = each_set (λ _. Fits opened log front n top)
+
+  -- what was left is left still, where a view's left only grows
+  pub left_set : (views : List (SeatView K)) (id : ℕ) (v w : SeatView K) → At views id v → (more : List Entry) → w.left ≡ v.left ++ more → (e : Entry) → IsLeft views e → IsLeft (set views id w) e
+  left_set views id v w at more grows e l =
+      dite (ℕ_discrete l.0 id)
+      (λ same. (id, w, here views id v w at, (l.3.0, ap (λ xs. slice_get xs l.3.0) grows ∙ get_front v.left more l.3.0 e (ap (λ (u : SeatView K). slice_get u.left l.3.0) (sym (same_at views l.0 id l.1 v l.2 at same)) ∙ l.3.1))))
+      (λ apart. (l.0, l.1, set_else views id l.0 w apart ∙ l.2, l.3))
+
+  pub doubt_set : (views : List (SeatView K)) (id : ℕ) (v w : SeatView K) → At views id v → (more : List Entry) → w.left ≡ v.left ++ more → (d : Option Entry) → DoubtIsLeft views d → DoubtIsLeft (set views id w) d
+  doubt_set views id v w at more grows d l e is = left_set views id v w at more grows e (l e is)
+
+module _ {K : Type 0} (faults : K → ℕ) (tells : K → Type 0) (opened : Seated K) (seats : ℕ) where
+  abbrev Homes : Type 0
+  Homes = List (maybe.Option (Option (Seated K)))
+
+  abbrev Rule : List ℕ → Homes → List (SeatView K) → Type 0
+  Rule = Kept faults tells opened seats
+
+  abbrev S : Type 0
+  S = State (Option (Seated K)) (SeatView K)
+
+  abbrev Home : Book → ℕ → Homes → List (SeatView K) → Type 0
+  Home = AtHome faults tells opened
+
+  abbrev Slot : Book → ℕ → Homes → List (SeatView K) → Type 0
+  Slot log top homes views = Home log top homes views ⊎ IsOut homes views
+
+  pub slot_set : (log : Book) (top : ℕ) (homes : Homes) (views : List (SeatView K)) (id : ℕ) (v w : SeatView K) → At views id v → v.turns ≡ 0 → w.turns ≡ 0 → (more : List Entry) → w.left ≡ v.left ++ more → Slot log top homes views → Slot log top homes (set views id w)
+  slot_set log top homes views id v w at vt wt more grows slot =
+      ⊎_elim
+      (λ (t : Home log top homes views). inl (record {
+        desk = t.desk;
+        home = t.home;
+        book = t.book;
+        count = t.count;
+        keeps = t.keeps;
+        doubt = doubt_set views id v w at more grows t.desk.doubt t.doubt;
+        nobody = each_set (λ _ u. u.turns ≡ 0) views id w (λ i u _ e. t.nobody i u e) wt;
+      }))
+      (λ (t : IsOut homes views).
+      let apart : t.who ≢ id = λ same. let e : t.view ≡ v = same_at views t.who id t.view v t.at at same in let e' = ap (λ (u : SeatView K). u.turns) e in let h = t.turn in omega arith in
+      inr (record {
+        empty = t.empty;
+        who = t.who;
+        view = t.view;
+        at = set_else views id t.who w apart ∙ t.at;
+        turn = t.turn;
+        doubt = doubt_set views id v w at more grows t.view.doubt t.doubt;
+      }))
+      slot
+
+  -- one view changes: what the rule then asks
+  changes : (words : List ℕ) (homes : Homes) (views : List (SeatView K)) (id : ℕ) (v w : SeatView K) (k : Rule words homes views) → At views id v
+      → (words' : List ℕ) (homes' : Homes) (log' : Book) (front' n' top' : ℕ)
+      → n' + v.waits ≡ total waits_of views + w.waits
+      → words' ≡ (front' + n') % 2 ^ 64 ∷ front' % 2 ^ 64 ∷ length log' ∷ []
+      → Slot log' top' homes' (set views id w)
+      → w.parts ≡ v.parts
+      → k.top ≤ top'
+      → StartsWith log' opened.book
+      → ((p : ℕ) → own_at p w + once_below p (length k.log) ≡ own_at p v + once_below p (length log'))
+      → ((i : ℕ) (u : SeatView K) → i ≢ id → At views i u → Fits opened log' front' n' top' u)
+      → Fits opened log' front' n' top' w
+      → ((i : ℕ) (u : SeatView K) → i ≢ id → At views i u → w.waits ≡ 1 → u.waits ≡ 1 → w.ticket ≡ u.ticket → ⊥)
+      → (more : List Entry) → w.left ≡ v.left ++ more
+      → AllByRecursion (IsLeft (set views id w)) w.settled
+      → Rule words' homes' (set views id w)
+  changes words homes views id v w k at words' homes' log' front' n' top' sum are slot parts up begun places others mine alone more grows settled =
+      let now : n' ≡ total waits_of (set views id w) = let t = total_set waits_of views id v w at in omega arith in record {
+        log = log';
+        front = front';
+        top = top';
+        words_are = subst (λ (n : ℕ). words' ≡ (front' + n) % 2 ^ 64 ∷ front' % 2 ^ 64 ∷ length log' ∷ []) now are;
+        slot = slot;
+        few = k.few;
+        parts = let t = total_set parts_of views id v w at in let q = k.parts in omega arith;
+        begun = begun;
+        risen = let q = k.risen in omega arith;
+        places = λ p. let t = total_set (own_at p) views id v w at in let q = k.places p in let r = places p in omega arith;
+        each = subst (λ (n : ℕ). AllFit opened log' front' n top' (set views id w)) now (all_set opened log' front' n' top' views id w others mine);
+        apart = apart_set views id w k.apart alone;
+        left = each_set (λ _ u. AllByRecursion (IsLeft (set views id w)) u.settled) views id w (λ i u _ e. all_map _ _ u.settled (left_set views id v w at more grows) (k.left i u e)) settled;
+      }
+
+  waiting_few : (words : List ℕ) (homes : Homes) (views : List (SeatView K)) → Rule words homes views → total waits_of views < 2 ^ 32
+  waiting_few words homes views k = let a = total_le waits_of parts_of views (λ j v e. (k.each j v e).part) in let b = k.parts in let c = k.few in omega arith
+
+  takes_fits : (log : Book) (front n top : ℕ) (u : SeatView K) → Fits opened log front n top u → Fits opened log front (n + 1) top u
+  takes_fits log front n top u f = record { once = f.once; part = f.part; waits = f.waits; line = (λ w. let l = f.line w in (l.0, omega (arith, l.1))); turn = f.turn; knows = f.knows; seen = f.seen; joined = f.joined; own = f.own; after = f.after; spent = f.spent }
+
+  -- what the view had settled was left, and is still
+  settled_still : (words : List ℕ) (homes : Homes) (views : List (SeatView K)) (k : Rule words homes views) (id : ℕ) (v w : SeatView K) → At views id v → (more : List Entry) → w.left ≡ v.left ++ more → AllByRecursion (IsLeft (set views id w)) v.settled
+  settled_still words homes views k id v w at more grows = all_map _ _ v.settled (left_set views id v w at more grows) (k.left id v at)
+
+  pub takes_ticket : (slots id : ℕ) (v : SeatView K) (c : List (ℕ × Option (Seated K))) → IsIdle v → 0 < v.parts → Allows (KeptIn faults tells opened seats) slots id (v, c) 0 (λ n. (n + 1) % 2 ^ 64) (TakesTicket (v, c))
+  takes_ticket slots id v c idle some_part s k len at bound =
+      let n : ℕ = total waits_of s.views in
+      let t : ℕ = k.front + n in
+      let w = waiting v t in
+      let f = k.each id v at in
+      let i0 = idle.0 in
+      let found : slice_index s.words 0 ≡ t % 2 ^ 64 = ap (λ ws. slice_index ws 0) k.words_are in
+      let more : (t % 2 ^ 64 + 1) % 2 ^ 64 ≡ (k.front + (n + 1)) % 2 ^ 64 = mod-add-mod t (2 ^ 64) 1 ∙ ap (λ (m : ℕ). m % 2 ^ 64) (omega arith) in (
+        w,
+        keeps,
+        tt,
+        changes s.words s.homes s.views id v w k at (slice_set s.words 0 ((slice_index s.words 0 + 1) % 2 ^ 64)) s.homes k.log k.front (n + 1) k.top
+            (omega arith)
+            (ap (λ ws. slice_set ws 0 ((slice_index ws 0 + 1) % 2 ^ 64)) k.words_are ∙ ap (λ (m : ℕ). m ∷ k.front % 2 ^ 64 ∷ length k.log ∷ []) more)
+            (slot_set k.log k.top s.homes s.views id v w at idle.1 refl [] (sym (append-nil v.left)) k.slot)
+            refl
+            (omega arith)
+            k.begun
+            (λ p. refl)
+            (λ i u _ e. takes_fits k.log k.front n k.top u (k.each i u e))
+            (record { once = omega arith; part = omega arith; waits = omega arith; line = (λ _. (omega arith, omega arith)); turn = (λ o. absurd (omega arith)); knows = f.knows; seen = f.seen; joined = f.joined; own = f.own; after = f.after; spent = f.spent })
+            (λ i u _ e _ uw same. let l = (k.each i u e).line uw in let x : u.ticket < t = l.1 in omega arith)
+            []
+            (sym (append-nil v.left))
+            (settled_still s.words s.homes s.views k id v w at [] (sym (append-nil v.left))),
+        (t, sym found, refl),
+      )
+
+  same_rule : (words : List ℕ) (homes : Homes) (views : List (SeatView K)) (id : ℕ) (v : SeatView K) → Rule words homes views → At views id v → Rule words homes (set views id v)
+  same_rule words homes views id v k at = subst (λ (vs : List (SeatView K)). Rule words homes vs) (sym (set_again views id v at)) k
+
+  -- the number of turns that have ended is read
+  pub looks : (slots id : ℕ) (v : SeatView K) (c : List (ℕ × Option (Seated K))) → v.waits ≡ 1 → v.turns ≡ 0 → Allows (KeptIn faults tells opened seats) slots id (v, c) 1 (λ n. n) (Looks faults tells (v, c))
+  looks slots id v c wait off s k len at bound = dite (ℕ_discrete (slice_index s.words 1) (v.ticket % 2 ^ 64)) mine other
+    where
+      same_words : slice_set s.words 1 (slice_index s.words 1) ≡ s.words
+      same_words = ap (λ ws. slice_set ws 1 (slice_index ws 1)) k.words_are ∙ sym k.words_are
+
+      Goes : Type 0
+      Goes = (w : SeatView K) × (a : Act (Option (Seated K))) × Valid s.homes c a × KeptIn faults tells opened seats (stepped s 1 (slice_index s.words 1) id c w a) × Looks faults tells (v, c) (slice_index s.words 1) (w, carried_after c a)
+
+      other : slice_index s.words 1 ≢ v.ticket % 2 ^ 64 → Goes
+      other ne = (v, keeps, tt, subst (λ (ws : List ℕ). Rule ws s.homes (set s.views id v)) (sym same_words) (same_rule s.words s.homes s.views id v k at), ((λ _. refl), (λ e. absurd (ne e))))
+
+      mine : slice_index s.words 1 ≡ v.ticket % 2 ^ 64 → Goes
+      mine e =
+          let f = k.each id v at in
+          let l = f.line wait in
+          let few = waiting_few s.words s.homes s.views k in
+          let found : slice_index s.words 1 ≡ k.front % 2 ^ 64 = ap (λ ws. slice_index ws 1) k.words_are in
+          let first : k.front ≡ v.ticket = one_turn k.front v.ticket (2 ^ 64) l.0 (omega (arith, l.1)) (sym found ∙ e) in
+          ⊎_elim (λ t. takes_desk t first) (λ t. absurd (two_turns t.who t.view t.at t.turn first)) k.slot
+        where
+          two_turns : (j : ℕ) (u : SeatView K) → At s.views j u → u.turns ≡ 1 → k.front ≡ v.ticket → ⊥
+          two_turns j u there on first =
+              let f = k.each j u there in
+              let once = f.once in
+              let waits = f.waits in
+              let t = f.turn on in
+              let same = k.apart j id u v there at (omega arith) wait (t.0 ∙ first) in
+              let e = ap (λ (u : SeatView K). u.turns) (same_at s.views j id u v there at same) in
+              omega arith
+
+          takes_desk : Home k.log k.top s.homes s.views → k.front ≡ v.ticket → Goes
+          takes_desk h first =
+              let d = h.desk in
+              let n : ℕ = total waits_of s.views in
+              let w = on_turn faults v d in
+              let f = k.each id v at in
+              let w0 = f.once in
+              let p0 = f.part in
+              let none_more = sym (append-nil v.left) in (
+                w,
+                takes 0 (Some d),
+                ap (λ hs. get_elem? hs 0) h.home,
+                subst (λ (ws : List ℕ). Rule ws (slice_set s.homes 0 none) (set s.views id w)) (sym same_words)
+                    (changes s.words s.homes s.views id v w k at s.words (slice_set s.homes 0 none) k.log k.front n k.top
+                    (omega arith)
+                    k.words_are
+                    (inr (record { empty = ap (λ hs. slice_set hs 0 none) h.home; who = id; view = w; at = here s.views id v w at; turn = refl; doubt = doubt_set s.views id v w at [] none_more d.doubt h.doubt }))
+                    refl
+                    (omega arith)
+                    k.begun
+                    (λ p. refl)
+                    (λ i u _ e. k.each i u e)
+                    (record { once = f.once; part = f.part; waits = omega arith; line = f.line; turn = (λ _. (sym first, h.book, h.count)); knows = f.knows; seen = f.seen; joined = f.joined; own = f.own; after = f.after; spent = f.spent })
+                    (λ i u ne e ww uw same. ne (k.apart i id u v e at uw wait (sym same)))
+                    []
+                    none_more
+                    (settled_still s.words s.homes s.views k id v w at [] none_more)),
+                ((λ ne. absurd (ne e)), (λ _. (d, (opened, f.knows (omega arith), h.keeps), (f.seen.0, h.book ∙ f.seen.1), up_to_top k.top (faults d.keeper) (omega (arith, h.count)) v.after f.after, refl))),
+              )
+
+  -- the view with the turn names the history, and the slot is empty
+  record OnTurn (s : S) (id : ℕ) (v : SeatView K) (k : KeptIn faults tells opened seats s) : Type 0 where
+    waits : v.waits ≡ 1
+    ticket : v.ticket ≡ k.front
+    named : v.book ≡ k.log
+    count : v.faults ≡ k.top
+    out : s.homes ≡ none ∷ []
+    doubt : DoubtIsLeft s.views v.doubt
+    others : (i : ℕ) (u : SeatView K) → i ≢ id → At s.views i u → u.turns ≡ 0
+
+  on_turn_now : (s : S) (id : ℕ) (v : SeatView K) (k : KeptIn faults tells opened seats s) → At s.views id v → v.turns ≡ 1 → OnTurn s id v k
+  on_turn_now s id v k at on =
+      let f = k.each id v at in
+      let once = f.once in
+      let waits = f.waits in
+      let wait : v.waits ≡ 1 = omega arith in
+      let t = f.turn on in
+      let o = out in record {
+        waits = wait;
+        ticket = t.0;
+        named = t.1;
+        count = t.2;
+        out = o.empty;
+        doubt = subst (λ (u : SeatView K). DoubtIsLeft s.views u.doubt) (mine o.who o.view o.at o.turn t.0 wait) o.doubt;
+        others = λ i u ne e. not_on i u ne e t.0 wait;
+      }
+    where
+      out : IsOut s.homes s.views
+      out = ⊎_elim (λ (h : Home k.log k.top s.homes s.views). let none_on = h.nobody id v at in absurd (omega arith)) (λ (h : IsOut s.homes s.views). h) k.slot
+
+      mine : (j : ℕ) (u : SeatView K) → At s.views j u → u.turns ≡ 1 → v.ticket ≡ k.front → v.waits ≡ 1 → u ≡ v
+      mine j u there o ticket wait = let f = k.each j u there in let once = f.once in let waits = f.waits in same_at s.views j id u v there at (k.apart j id u v there at (omega arith) wait ((f.turn o).0 ∙ sym ticket))
+
+      not_on : (i : ℕ) (u : SeatView K) → i ≢ id → At s.views i u → v.ticket ≡ k.front → v.waits ≡ 1 → u.turns ≡ 0
+      not_on i u ne e ticket wait =
+          let f = k.each i u e in
+          let once = f.once in
+          let waits = f.waits in
+          let absurd_if : u.turns ≡ 1 → ⊥ = λ o. ne (k.apart i id u v e at (omega arith) wait ((f.turn o).0 ∙ sym ticket)) in
+          zero_if u.turns (omega arith) absurd_if
+        where
+          zero_if : (n : ℕ) → n ≤ 1 → (n ≡ 1 → ⊥) → n ≡ 0
+          zero_if zero le h = refl
+          zero_if (suc n) le h = absurd (h (omega arith))
+
+  longer_fits : (log now : Book) (e : Entry) (front n top : ℕ) (u : SeatView K) → now ≡ log ++ e ∷ [] → Fits opened log front n top u → u.turns ≡ 0 → Fits opened now front n top u
+  longer_fits log now e front n top u longer f off = record { once = f.once; part = f.part; waits = f.waits; line = f.line; turn = (λ o. absurd (omega arith)); knows = f.knows; seen = still log e now longer u.seen f.seen; joined = all_map _ _ u.joined (still log e now longer) f.joined; own = all_map _ _ u.own (stands log e now longer) f.own; after = f.after; spent = f.spent }
+
+  -- the parts of a view that a longer history leaves as they are
+  record IsAsBefore (v w : SeatView K) : Type 0 where
+    parts : w.parts ≡ v.parts
+    waits : w.waits ≡ v.waits
+    turns : w.turns ≡ v.turns
+    ticket : w.ticket ≡ v.ticket
+    room : w.opened ≡ v.opened
+    count : w.faults ≡ v.faults
+    seen : w.seen ≡ v.seen
+    joined : w.joined ≡ v.joined
+    after : w.after ≡ v.after
+    left : w.left ≡ v.left
+
+  -- the history is one entry longer, which becomes own of the view with the turn
+  grows : (s : S) (id : ℕ) (v w : SeatView K) (k : KeptIn faults tells opened seats s) → At s.views id v → v.turns ≡ 1 → (e : Entry) (now : Book) → now ≡ v.book ++ e ∷ [] → length now < 2 ^ 63
+      → w.book ≡ now → w.own ≡ v.own ++ numbered (size v.book) (since (size v.book) now) → IsAsBefore v w
+      → DoubtIsLeft (set s.views id w) w.doubt → AllByRecursion (IsLeft (set s.views id w)) w.settled
+      → Rule (slice_set s.words 2 ((slice_index s.words 2 + 1) % 2 ^ 64)) s.homes (set s.views id w)
+  grows s id v w k at on e now is_longer short named own same doubt settled =
+      let o = on_turn_now s id v k at on in
+      let n : ℕ = total waits_of s.views in
+      let f = k.each id v at in
+      let longer : now ≡ k.log ++ e ∷ [] = is_longer ∙ ap (λ l. l ++ e ∷ []) o.named in
+      let size_is : length now ≡ length k.log + 1 = ap length longer ∙ length-append k.log (e ∷ []) in
+      let more : (length k.log + 1) % 2 ^ 64 ≡ length now = small (length k.log + 1) (length now) (sym size_is) short in
+      let one : w.own ≡ v.own ++ (size v.book, e) ∷ [] = own ∙ ap (λ (l : List Entry). v.own ++ numbered (size v.book) l) (ap (drop (size v.book)) is_longer ∙ drop_front v.book (e ∷ [])) in
+      let w1 = same.waits in let t1 = same.turns in let p1 = same.parts in let k1 = same.ticket in let v1 = o.waits in
+      changes s.words s.homes s.views id v w k at (slice_set s.words 2 ((slice_index s.words 2 + 1) % 2 ^ 64)) s.homes now k.front n k.top
+      (omega arith)
+      (ap (λ ws. slice_set ws 2 ((slice_index ws 2 + 1) % 2 ^ 64)) k.words_are ∙ ap (λ (m : ℕ). (k.front + n) % 2 ^ 64 ∷ k.front % 2 ^ 64 ∷ m ∷ []) more)
+      (inr (record { empty = o.out; who = id; view = w; at = here s.views id v w at; turn = t1 ∙ on; doubt = doubt }))
+      p1
+      (omega arith)
+      (subst (λ (l : Book). StartsWith l opened.book) (sym longer) (starts_more k.log (e ∷ []) opened.book k.begun))
+      (λ p. places p size_is o.named one)
+      (λ i u ne there. longer_fits k.log now e k.front n k.top u longer (k.each i u there) (o.others i u ne there))
+      (mine f o.ticket longer o.named o.count o.waits one)
+      (λ i u ne there ww uw ts. ne (k.apart i id u v there at uw o.waits (sym ts ∙ k1)))
+      []
+      (same.left ∙ sym (append-nil v.left))
+      settled
+    where
+      small : (a b : ℕ) → a ≡ b → b < 2 ^ 63 → a % 2 ^ 64 ≡ b
+      small a b e h = ap (λ (m : ℕ). m % 2 ^ 64) e ∙ mod-eq_of_lt (omega arith)
+
+      places : (p : ℕ) → length now ≡ length k.log + 1 → v.book ≡ k.log → w.own ≡ v.own ++ (size v.book, e) ∷ [] → own_at p w + once_below p (length k.log) ≡ own_at p v + once_below p (length now)
+      places p size_is is one =
+          let a = count_at-append p v.own ((size v.book, e) ∷ []) in
+          let a' : count_at p w.own ≡ count_at p (v.own ++ (size v.book, e) ∷ []) = ap (count_at p) one in
+          let b : hit (length v.book) p ≡ hit (length k.log) p = ap (λ (l : Book). hit (length l) p) is in
+          let c : once_below p (length now) ≡ hit (length k.log) p + once_below p (length k.log) = ap (once_below p) size_is ∙ below_next p (length k.log) in
+          omega arith
+
+      mine : Fits opened k.log k.front (total waits_of s.views) k.top v → v.ticket ≡ k.front → now ≡ k.log ++ e ∷ [] → v.book ≡ k.log → v.faults ≡ k.top → v.waits ≡ 1 → w.own ≡ v.own ++ (size v.book, e) ∷ [] → Fits opened now k.front (total waits_of s.views) k.top w
+      mine f ticket longer is count wait one =
+          let part = f.part in let once = f.once in let waits = f.waits in
+          let w1 = same.waits in let t1 = same.turns in let p1 = same.parts in let k1 = same.ticket in
+          let line = f.line wait in let l0 = line.0 in let l1 = line.1 in record {
+            once = omega arith;
+            part = omega arith;
+            waits = omega arith;
+            line = (λ _. (omega arith, omega arith));
+            turn = (λ _. (k1 ∙ ticket, named, same.count ∙ count));
+            knows = (λ some. same.room ∙ f.knows (omega arith));
+            seen = subst (λ (l : Book). StartsWith now l) (sym same.seen) (still k.log e now longer v.seen f.seen);
+            joined = subst (λ (l : List Book). AllByRecursion (StartsWith now) l) (sym same.joined) (all_map _ _ v.joined (still k.log e now longer) f.joined);
+            own = subst (λ (l : List (ℕ × Entry)). AllByRecursion (λ x. slice_get now x.0 ≡ Some x.1) l) (sym one)
+                (all_append _ v.own _ (all_map _ _ v.own (stands k.log e now longer) f.own) ((λ i. slice_get (longer i) (length (is i))) ∙ get_last k.log e, tt));
+            after = subst (λ (l : List ℕ). AllByRecursion (λ (m : ℕ). m ≤ k.top) l) (sym same.after) f.after;
+            spent = λ none. absurd (omega arith);
+          }
+
+  -- the entry that was in doubt has entered the book
+  pub counts_settled : (slots id : ℕ) (v : SeatView K) (c : List (ℕ × Option (Seated K))) (e : Entry) → v.turns ≡ 1 → v.doubt ≡ Some e → size (with_entry v.book e) < 2 ^ 63 → Allows (KeptIn faults tells opened seats) slots id (v, c) 2 (λ n. (n + 1) % 2 ^ 64) (CountsSettled (v, c))
+  counts_settled slots id v c e on is short s k len at bound =
+      let o = on_turn_now s id v k at on in
+      let now : Book = v.book ++ listed v.doubt in
+      let w = entered v now in
+      let longer : now ≡ v.book ++ e ∷ [] = ap (λ (d : Option Entry). v.book ++ listed d) is in
+      let none_more = sym (append-nil v.left) in
+      let new : since (size v.book) now ≡ e ∷ [] = ap (drop (size v.book)) longer ∙ drop_front v.book (e ∷ []) in (
+        w,
+        keeps,
+        tt,
+        grows s id v w k at on e now longer (subst (λ (l : Book). length l < 2 ^ 63) (sym longer) short) refl refl
+            (record { parts = refl; waits = refl; turns = refl; ticket = refl; room = refl; count = refl; seen = refl; joined = refl; after = refl; left = refl })
+            (doubt_set s.views id v w at [] none_more v.doubt o.doubt)
+            (all_append _ v.settled _ (settled_still s.words s.homes s.views k id v w at [] none_more)
+            (subst (λ (l : List Entry). AllByRecursion (IsLeft (set s.views id w)) l) (sym new) (left_set s.views id v w at [] none_more e (o.doubt e is), tt))),
+        refl,
+      )
+
+  -- one entry that the step made is counted
+  pub counts_made : (slots id : ℕ) (v : SeatView K) (d : Seated K) (e : Entry) → v.turns ≡ 1 → d.book ≡ with_entry v.book e → size d.book < 2 ^ 63
+      → Allows (KeptIn faults tells opened seats) slots id (v, (0, Some d) ∷ []) 2 (λ n. (n + 1) % 2 ^ 64) (CountsMade (v, (0, Some d) ∷ []))
+  counts_made slots id v d e on longer short s k len at bound =
+      let o = on_turn_now s id v k at on in
+      let w = grown v d.book in
+      let none_more = sym (append-nil v.left) in (
+        w,
+        keeps,
+        tt,
+        grows s id v w k at on e d.book longer short refl refl
+            (record { parts = refl; waits = refl; turns = refl; ticket = refl; room = refl; count = refl; seen = refl; joined = refl; after = refl; left = refl })
+            (doubt_set s.views id v w at [] none_more v.doubt o.doubt)
+            (settled_still s.words s.homes s.views k id v w at [] none_more),
+        refl,
+      )
+
+  -- the desk is looked at again: what a view with the turn becomes, of which the doubt was left
+  looked : (slots id : ℕ) (v w : SeatView K) (c : List (ℕ × Option (Seated K))) (Told : ℕ → Me (Option (Seated K)) (SeatView K) → Type 0) → v.turns ≡ 1 → v.faults ≤ w.faults
+      → (w.parts ≡ v.parts) × (w.waits ≡ v.waits) × (w.turns ≡ v.turns) × (w.ticket ≡ v.ticket) × (w.opened ≡ v.opened) × (w.book ≡ v.book) × (w.seen ≡ v.seen) × (w.joined ≡ v.joined) × (w.own ≡ v.own) × (w.after ≡ v.after) × (w.settled ≡ v.settled)
+      → (more : List Entry) → w.left ≡ v.left ++ more
+      → ((views : List (SeatView K)) → At views id v → DoubtIsLeft views v.doubt → DoubtIsLeft (set views id w) w.doubt)
+      → ((n : ℕ) → Told n (w, c))
+      → Allows (KeptIn faults tells opened seats) slots id (v, c) 1 (λ n. n) Told
+  looked slots id v w c Told on up same more more_left doubt told s k len at bound =
+      let o = on_turn_now s id v k at on in
+      let n : ℕ = total waits_of s.views in
+      let f = k.each id v at in
+      let c1 = o.count in
+      let same_words : slice_set s.words 1 (slice_index s.words 1) ≡ s.words = ap (λ ws. slice_set ws 1 (slice_index ws 1)) k.words_are ∙ sym k.words_are in
+      let p1 = same.0 in let w1 = same.1 in let t1 = same.2 in let k1 = same.3 in
+      let f0 = f.once in let f1 = f.part in let f2 = f.waits in let v1 = o.waits in (
+        w,
+        keeps,
+        tt,
+        changes s.words s.homes s.views id v w k at (slice_set s.words 1 (slice_index s.words 1)) s.homes k.log k.front n w.faults
+            (omega arith)
+            (same_words ∙ k.words_are)
+            (inr (record { empty = o.out; who = id; view = w; at = here s.views id v w at; turn = t1 ∙ on; doubt = doubt s.views at o.doubt }))
+            p1
+            (omega arith)
+            k.begun
+            (λ p. ap (λ (l : List (ℕ × Entry)). count_at p l + once_below p (length k.log)) same.8)
+            (λ i u ne there. others u (k.each i u there) (o.others i u ne there) o.count)
+            (record {
+              once = omega arith;
+              part = omega arith;
+              waits = omega arith;
+              line = (λ ww. let l = f.line v1 in let l0 = l.0 in let l1 = l.1 in (omega arith, omega arith));
+              turn = (λ _. (k1 ∙ o.ticket, same.5 ∙ o.named, refl));
+              knows = (λ some. same.4 ∙ f.knows (omega arith));
+              seen = subst (λ (l : Book). StartsWith k.log l) (sym same.6) f.seen;
+              joined = subst (λ (l : List Book). AllByRecursion (StartsWith k.log) l) (sym same.7) f.joined;
+              own = subst (λ (l : List (ℕ × Entry)). AllByRecursion (λ x. slice_get k.log x.0 ≡ Some x.1) l) (sym same.8) f.own;
+              after = subst (λ (l : List ℕ). AllByRecursion (λ (m : ℕ). m ≤ w.faults) l) (sym same.9) (up_to_top k.top w.faults (omega arith) v.after f.after);
+              spent = (λ none. absurd (omega arith));
+            })
+            (λ i u ne there ww uw ts. ne (k.apart i id u v there at uw o.waits (sym ts ∙ k1)))
+            more
+            more_left
+            (subst (λ (l : List Entry). AllByRecursion (IsLeft (set s.views id w)) l) (sym same.10) (all_map _ _ v.settled (left_set s.views id v w at more more_left) (k.left id v at))),
+        told (slice_index s.words 1),
+      )
+    where
+      others : (u : SeatView K) → Fits opened k.log k.front (total waits_of s.views) k.top u → u.turns ≡ 0 → v.faults ≡ k.top → Fits opened k.log k.front (total waits_of s.views) w.faults u
+      others u f off count = record { once = f.once; part = f.part; waits = f.waits; line = f.line; turn = (λ o. absurd (omega arith)); knows = f.knows; seen = f.seen; joined = f.joined; own = f.own; after = up_to_top k.top w.faults (omega arith) u.after f.after; spent = f.spent }
+
+  -- what a view's turn has left in doubt is left
+  newly_left : (views : List (SeatView K)) (id : ℕ) (v w : SeatView K) → At views id v → (d : Option Entry) → w.left ≡ v.left ++ listed d → DoubtIsLeft (set views id w) d
+  newly_left views id v w at d more e is =
+      (id, w, here views id v w at, (length v.left, ap (λ l. slice_get l (length v.left)) (more ∙ ap (λ (x : Option Entry). v.left ++ listed x) is) ∙ get_last v.left e))
+
+  -- the desk has settled and stepped
+  pub notes_settled : (slots id : ℕ) (v : SeatView K) (d : Seated K) → v.turns ≡ 1 → v.faults ≤ faults d.keeper → Allows (KeptIn faults tells opened seats) slots id (v, (0, Some d) ∷ []) 1 (λ n. n) (NotesSettled faults (v, (0, Some d) ∷ []))
+  notes_settled slots id v d on up =
+      let w = noted v d.doubt (faults d.keeper) in
+      looked slots id v w ((0, Some d) ∷ []) (NotesSettled faults (v, (0, Some d) ∷ [])) on up
+      (refl, refl, refl, refl, refl, refl, refl, refl, refl, refl, refl)
+      (listed d.doubt)
+      refl
+      (λ views at left. newly_left views id v w at d.doubt refl)
+      (λ n. refl)
+
+  -- the desk could not settle
+  pub notes_faults : (slots id : ℕ) (v : SeatView K) (d : Seated K) → v.turns ≡ 1 → v.faults ≤ faults d.keeper → Allows (KeptIn faults tells opened seats) slots id (v, (0, Some d) ∷ []) 1 (λ n. n) (NotesFaults faults (v, (0, Some d) ∷ []))
+  notes_faults slots id v d on up =
+      let w = with_faults v (faults d.keeper) in
+      looked slots id v w ((0, Some d) ∷ []) (NotesFaults faults (v, (0, Some d) ∷ [])) on up
+      (refl, refl, refl, refl, refl, refl, refl, refl, refl, refl, refl)
+      []
+      (sym (append-nil v.left))
+      (λ views at left. doubt_set views id v w at [] (sym (append-nil v.left)) v.doubt left)
+      (λ n. refl)
+
+  -- the turn is passed, and the desk is at home
+  pub passes : (slots id : ℕ) (v : SeatView K) (d : Seated K) → v.turns ≡ 1 → IsOf tells v d → d.book ≡ v.book → d.doubt ≡ v.doubt → faults d.keeper ≡ v.faults
+      → Allows (KeptIn faults tells opened seats) slots id (v, (0, Some d) ∷ []) 1 (λ n. (n + 1) % 2 ^ 64) (Passes (v, (0, Some d) ∷ []))
+  passes slots id v d on of is doubt count s k len at bound =
+      let o = on_turn_now s id v k at on in
+      let n : ℕ = total waits_of s.views in
+      let w = ended v in
+      let f = k.each id v at in
+      let some_wait = total_has waits_of s.views id v at in
+      let wait = o.waits in
+      let part = f.part in
+      let c1 = o.count in
+      let more : (k.front % 2 ^ 64 + 1) % 2 ^ 64 ≡ (k.front + 1) % 2 ^ 64 = mod-add-mod k.front (2 ^ 64) 1 in
+      let all : k.front + n ≡ (k.front + 1) + (n - 1) = omega arith in
+      let home : slice_set s.homes 0 (some (Some d)) ≡ some (Some d) ∷ [] = ap (λ hs. slice_set hs 0 (some (Some d))) o.out in
+      let none_more = sym (append-nil v.left) in
+      let same_room : of.0 ≡ opened = some_same _ _ (sym of.1 ∙ f.knows (omega arith)) in (
+        w,
+        gives,
+        tt,
+        changes s.words s.homes s.views id v w k at (slice_set s.words 1 ((slice_index s.words 1 + 1) % 2 ^ 64)) (slice_set s.homes 0 (some (Some d))) k.log (k.front + 1) (n - 1) k.top
+            (omega arith)
+            (ap (λ ws. slice_set ws 1 ((slice_index ws 1 + 1) % 2 ^ 64)) k.words_are ∙ (λ i. (all i) % 2 ^ 64 ∷ more i ∷ length k.log ∷ []))
+            (inl (record {
+              desk = d;
+              home = home;
+              book = is ∙ o.named;
+              count = count ∙ o.count;
+              keeps = subst (λ (x : Seated K). Keeps tells x d) same_room of.2;
+              doubt = subst (DoubtIsLeft (set s.views id w)) (sym doubt) (doubt_set s.views id v w at [] none_more v.doubt o.doubt);
+              nobody = each_set (λ _ u. u.turns ≡ 0) s.views id w o.others refl;
+            }))
+            refl
+            (omega arith)
+            k.begun
+            (λ p. refl)
+            (λ i u ne there. others i u (k.each i u there) (o.others i u ne there) (λ uw same. ne (k.apart i id u v there at uw wait same)) o.ticket some_wait wait)
+            (record { once = omega arith; part = omega arith; waits = omega arith; line = (λ o. absurd (omega arith)); turn = (λ o. absurd (omega arith)); knows = f.knows; seen = ([], sym o.named ∙ sym (append-nil v.book)); joined = f.joined; own = f.own; after = all_append _ v.after _ f.after (omega arith, tt); spent = f.spent })
+            (λ i u ne there ww uw same. omega arith)
+            []
+            none_more
+            (settled_still s.words s.homes s.views k id v w at [] none_more),
+        refl,
+      )
+    where
+      others : (i : ℕ) (u : SeatView K) → Fits opened k.log k.front (total waits_of s.views) k.top u → u.turns ≡ 0 → (u.waits ≡ 1 → u.ticket ≡ v.ticket → ⊥) → v.ticket ≡ k.front → v.waits ≤ total waits_of s.views → v.waits ≡ 1
+          → Fits opened k.log (k.front + 1) (total waits_of s.views - 1) k.top u
+      others i u f off ne ticket some_wait wait =
+          record { once = f.once; part = f.part; waits = f.waits; line = (λ w. let l0 = (f.line w).0 in let l1 = (f.line w).1 in let not_mine : u.ticket ≡ k.front → ⊥ = λ same. ne w (same ∙ sym ticket) in (omega arith, omega arith)); turn = (λ o. absurd (omega arith)); knows = f.knows; seen = f.seen; joined = f.joined; own = f.own; after = f.after; spent = f.spent }
+
+  -- the same for a seat that is known by an equation
+  abbrev Slots : Type 0
+  Slots = List (ℕ × Option (Seated K))
+
+  pub counts_made_as : (slots id : ℕ) (v : SeatView K) (c : Slots) (d : Seated K) (e : Entry) → c ≡ (0, Some d) ∷ [] → v.turns ≡ 1 → d.book ≡ with_entry v.book e → size d.book < 2 ^ 63
+      → Allows (KeptIn faults tells opened seats) slots id (v, c) 2 (λ n. (n + 1) % 2 ^ 64) (CountsMade (v, c))
+  counts_made_as slots id v c d e is on longer short = subst (λ (c : Slots). Allows (KeptIn faults tells opened seats) slots id (v, c) 2 (λ n. (n + 1) % 2 ^ 64) (CountsMade (v, c))) (sym is) (counts_made slots id v d e on longer short)
+
+  pub notes_settled_as : (slots id : ℕ) (v : SeatView K) (c : Slots) (d : Seated K) → c ≡ (0, Some d) ∷ [] → v.turns ≡ 1 → v.faults ≤ faults d.keeper → Allows (KeptIn faults tells opened seats) slots id (v, c) 1 (λ n. n) (NotesSettled faults (v, c))
+  notes_settled_as slots id v c d is on up = subst (λ (c : Slots). Allows (KeptIn faults tells opened seats) slots id (v, c) 1 (λ n. n) (NotesSettled faults (v, c))) (sym is) (notes_settled slots id v d on up)
+
+  pub notes_faults_as : (slots id : ℕ) (v : SeatView K) (c : Slots) (d : Seated K) → c ≡ (0, Some d) ∷ [] → v.turns ≡ 1 → v.faults ≤ faults d.keeper → Allows (KeptIn faults tells opened seats) slots id (v, c) 1 (λ n. n) (NotesFaults faults (v, c))
+  notes_faults_as slots id v c d is on up = subst (λ (c : Slots). Allows (KeptIn faults tells opened seats) slots id (v, c) 1 (λ n. n) (NotesFaults faults (v, c))) (sym is) (notes_faults slots id v d on up)
+
+  pub passes_as : (slots id : ℕ) (v : SeatView K) (c : Slots) (d : Seated K) → c ≡ (0, Some d) ∷ [] → v.turns ≡ 1 → IsOf tells v d → d.book ≡ v.book → d.doubt ≡ v.doubt → faults d.keeper ≡ v.faults
+      → Allows (KeptIn faults tells opened seats) slots id (v, c) 1 (λ n. (n + 1) % 2 ^ 64) (Passes (v, c))
+  passes_as slots id v c d is on of same doubt count = subst (λ (c : Slots). Allows (KeptIn faults tells opened seats) slots id (v, c) 1 (λ n. (n + 1) % 2 ^ 64) (Passes (v, c))) (sym is) (passes slots id v d on of same doubt count)
+
+  pub looks_as : (slots id : ℕ) (m : Me (Option (Seated K)) (SeatView K)) (v : SeatView K) (c : Slots) → m ≡ (v, c) → v.waits ≡ 1 → v.turns ≡ 0 → Allows (KeptIn faults tells opened seats) slots id m 1 (λ n. n) (Looks faults tells m)
+  looks_as slots id m v c is wait off = subst (λ (m : Me (Option (Seated K)) (SeatView K)). Allows (KeptIn faults tells opened seats) slots id m 1 (λ n. n) (Looks faults tells m)) (sym is) (looks slots id v c wait off)

@@ -1,0 +1,9 @@
+pub mod Lists
+pub mod Views
+pub mod Rule
+pub mod Plays
+pub mod Ends
+pub mod SeatTurns
+pub mod Closing
+pub mod Seats
+pub mod SeatLaws

@@ -1,0 +1,51 @@
+-- What each step at a room's table tells its seat.
+use Rattle.std.specs.Prelude.{◌≡◌, ◌≢◌, ℕ, ◌%◌, ◌^◌, ◌≤◌, List, [], ◌∷◌, ◌++◌, Option, Some, None}
+use Rattle.std.specs.List.{AllByRecursion}
+use Rattle.atomic_table.specs.Table.{Me}
+use Rattle.rv_desk.specs.Seated.{Seated}
+use Rattle.rv_room.specs.declared.view.SeatView.{SeatView}
+use Rattle.rv_room.specs.Lists.{StartsWith}
+use Rattle.rv_room.specs.Rule.{IsOf}
+use Rattle.rv_room.specs.Views.{waiting, on_turn, grown, entered, listed, noted, with_faults, ended}
+
+-- what a seat knows, and the slots that it holds
+abbrev pub Knows : Type 0 → Type 0
+Knows K = Me (Option (Seated K)) (SeatView K)
+
+module _ {K : Type 0} where
+  -- of the desk that the seat carries
+  abbrev pub carried : {X : Type 0} → (Seated K → X) → X → List (ℕ × Option (Seated K)) → X
+  carried f x ((k, Some d) ∷ slots) = f d
+  carried f x ((k, None) ∷ slots) = x
+  carried f x [] = x
+
+  -- the seat has the ticket that was next
+  abbrev pub TakesTicket : Knows K → ℕ → Knows K → Type 0
+  TakesTicket m n m' = (t : ℕ) × (t % 2 ^ 64 ≡ n) × (m' ≡ (waiting m.0 t, m.1))
+
+  -- The number of turns that have ended is another than the seat's ticket, and all stays; or it is the ticket, and the seat has the
+  -- turn and the desk, whose book begins with what the seat had seen, and whose keeper's count has not fallen since.
+  abbrev pub Looks : (K → ℕ) → (K → Type 0) → Knows K → ℕ → Knows K → Type 0
+  Looks faults tells m n m' =
+      (n ≢ m.0.ticket % 2 ^ 64 → m' ≡ m)
+      × (n ≡ m.0.ticket % 2 ^ 64 → (d : Seated K) × IsOf tells m.0 d × StartsWith d.book m.0.seen × AllByRecursion (λ k. k ≤ faults d.keeper) m.0.after × (m' ≡ (on_turn faults m.0 d, (0, Some d) ∷ m.1)))
+
+  -- the entry that was in doubt has entered the book
+  abbrev pub CountsSettled : Knows K → ℕ → Knows K → Type 0
+  CountsSettled m n m' = m' ≡ (entered m.0 (m.0.book ++ listed m.0.doubt), m.1)
+
+  -- the book has become that of the desk
+  abbrev pub CountsMade : Knows K → ℕ → Knows K → Type 0
+  CountsMade m n m' = m' ≡ (grown m.0 (carried (λ d. d.book) [] m.1), m.1)
+
+  -- this is in doubt now
+  abbrev pub NotesSettled : (K → ℕ) → Knows K → ℕ → Knows K → Type 0
+  NotesSettled faults m n m' = m' ≡ (noted m.0 (carried (λ d. d.doubt) None m.1) (carried (λ d. faults d.keeper) 0 m.1), m.1)
+
+  -- the keeper has failed so often now
+  abbrev pub NotesFaults : (K → ℕ) → Knows K → ℕ → Knows K → Type 0
+  NotesFaults faults m n m' = m' ≡ (with_faults m.0 (carried (λ d. faults d.keeper) 0 m.1), m.1)
+
+  -- the turn has ended, and the desk is at home
+  abbrev pub Passes : Knows K → ℕ → Knows K → Type 0
+  Passes m n m' = m' ≡ (ended m.0, [])

@@ -1,0 +1,238 @@
+// The steps of a seat at the table of its room.
+ghost use Rattle.std.specs.Prelude.{◌≡◌, ◌≢◌, ℕ, ◌%◌, ◌^◌, ◌<◌, ◌≤◌, true, false, [], ◌∷◌, Some, None};
+ghost use Rattle.std.specs.List.{AllByRecursion};
+ghost use Rattle.rv_book.specs.Book.{Book, size, with_entry};
+ghost use Rattle.rv_book.specs.declared.entry.Entry.{Entry};
+ghost use Rattle.rv_history.specs.Served.{Settles};
+ghost use Rattle.rv_desk.specs.Seated.{Seated};
+ghost use Rattle.rv_room.specs.Ends.{Adds, end_view, held_view};
+ghost use Rattle.rv_room.specs.Lists.{StartsWith};
+ghost use Rattle.rv_room.specs.Rule.{IsOf};
+ghost use Rattle.rv_room.specs.Views.{IsIdle, entered, ended, grown, noted, waiting, on_turn, with_faults};
+
+use crate::room::Room;
+use crate::rule::{
+    CountMade, CountSettled, LookAtTurn, NoteFaults, NoteSettled, PassTurn, TakeTicket,
+};
+use crate::seat::Token;
+use rv_desk::Desk;
+use rv_keeper::Keeper;
+use std::sync::Wait;
+use std::thread;
+
+// How often a seat looks for its turn before it sleeps. A turn in memory takes about as long as so many looks.
+const LOOKS: u32 = 128;
+
+// The words of the table: how many tickets were taken, how many turns have ended, and the length of the history.
+const TICKETS: usize = 0;
+
+const TURNS: usize = 1;
+
+const ENTRIES: usize = 2;
+
+// Whether two lengths differ.
+fn differs(before: u32, now: u32) -> bool
+    ensures yes { result ≡ true → now ≢ before }
+    ensures no { result ≡ false → now ≡ before }
+{
+    now != before
+}
+
+impl<K: Keeper> Room<K> {
+    // Takes the next ticket.
+    fn take_ticket(&self, token: &mut Token<K>) -> u64
+        requires table { token.old.table_id ≡ self.now.table.shared.table_id }
+        requires idle { IsIdle token.old.me.0 × (0 < token.old.me.0.parts) }
+        ensures same { (token.new.table_id ≡ token.old.table_id) × (token.new.id ≡ token.old.id) }
+        ensures waits { (t : ℕ) × (t % 2 ^ 64 ≡ result) × (token.new.me ≡ (waiting token.old.me.0 t, token.old.me.1)) }
+    {
+        self.table.shared.fetch_add::<TakeTicket>(token, TICKETS, 1)
+    }
+
+    // Waits for the turn of this ticket. The desk is then the seat's.
+    fn wait_for(&self, rt: &impl Wait, token: &mut Token<K>, ticket: u64)
+        requires table { token.old.table_id ≡ self.now.table.shared.table_id }
+        requires waits { (token.old.me.0.waits ≡ 1) × (token.old.me.0.turns ≡ 0) × (token.old.me.0.ticket % 2 ^ 64 ≡ ticket) }
+        ensures same { (token.new.table_id ≡ token.old.table_id) × (token.new.id ≡ token.old.id) }
+        ensures turn { (d : Seated K) × IsOf K.tells token.old.me.0 d × StartsWith d.book token.old.me.0.seen × AllByRecursion (λ (k : ℕ). k ≤ K.faults d.keeper) token.old.me.0.after × (token.new.me ≡ (on_turn K.faults token.old.me.0 d, (0, Some d) ∷ token.old.me.1)) }
+    {
+        let mut looks = 0;
+        for _ in rt.forever() {
+            let found = self.table.shared.load::<LookAtTurn>(token, TURNS);
+            if found == ticket {
+                return;
+            }
+            looks = self.rest(rt, found, looks);
+        }
+        unreachable!()
+    }
+
+    // Lets time pass, after so many looks of which the last found that so many turns had ended. A seat that has looked often sleeps
+    // until the number changes.
+    fn rest(&self, rt: &impl Wait, found: u64, looks: u32) -> u32 {
+        if looks < LOOKS {
+            thread::yield_now();
+            return looks + 1;
+        }
+        self.table
+            .shared
+            .park(rt, TURNS, (found % (1 << 32)) as u32);
+        looks
+    }
+
+    // Takes the desk out of its slot.
+    fn take_out(&self, token: &mut Token<K>) -> Desk<K>
+        requires table { token.old.table_id ≡ self.now.table.shared.table_id }
+        requires out { (d : Seated K) × (token.old.me.1 ≡ (0, Some d) ∷ []) }
+        ensures same { (token.new.table_id ≡ token.old.table_id) × (token.new.id ≡ token.old.id) }
+        ensures desk { token.old.me.1 ≡ (0, Some result) ∷ [] }
+        ensures empty { token.new.me ≡ (token.old.me.0, (0, None) ∷ []) }
+    {
+        let Some(desk) = self.table.shared.exchange(token, 0, None) else {
+            unreachable!()
+        };
+        desk
+    }
+
+    // Puts the desk into its slot.
+    fn put_home(&self, token: &mut Token<K>, desk: Desk<K>)
+        requires table { token.old.table_id ≡ self.now.table.shared.table_id }
+        requires empty { token.old.me.1 ≡ (0, None) ∷ [] }
+        ensures same { (token.new.table_id ≡ token.old.table_id) × (token.new.id ≡ token.old.id) }
+        ensures desk { token.new.me ≡ (token.old.me.0, (0, Some desk) ∷ []) }
+    {
+        let before = self.table.shared.exchange(token, 0, Some(desk));
+        let None = before else { unreachable!() };
+    }
+
+    // Counts the entry that was in doubt.
+    fn count_settled(&self, token: &mut Token<K>)
+        requires table { token.old.table_id ≡ self.now.table.shared.table_id }
+        requires doubt { (e : Entry) × (token.old.me.0.turns ≡ 1) × (token.old.me.0.doubt ≡ Some e) × (size (with_entry token.old.me.0.book e) < 2 ^ 63) }
+        ensures same { (token.new.table_id ≡ token.old.table_id) × (token.new.id ≡ token.old.id) }
+        ensures entered { (e : Entry) → token.old.me.0.doubt ≡ Some e → token.new.me ≡ (entered token.old.me.0 (with_entry token.old.me.0.book e), token.old.me.1) }
+    {
+        self.table
+            .shared
+            .fetch_add::<CountSettled>(token, ENTRIES, 1);
+    }
+
+    // Counts the entry that was in doubt, where it was entered: the settled book is one entry longer than the seat's.
+    fn count_settled_if(&self, token: &mut Token<K>, came: bool)
+        requires table { token.old.table_id ≡ self.now.table.shared.table_id }
+        requires doubt { came ≡ true → (e : Entry) × (token.old.me.0.turns ≡ 1) × (token.old.me.0.doubt ≡ Some e) × (size (with_entry token.old.me.0.book e) < 2 ^ 63) }
+        ensures same { (token.new.table_id ≡ token.old.table_id) × (token.new.id ≡ token.old.id) }
+        ensures entered { came ≡ true → (e : Entry) → token.old.me.0.doubt ≡ Some e → token.new.me ≡ (entered token.old.me.0 (with_entry token.old.me.0.book e), token.old.me.1) }
+        ensures not { came ≡ false → token.new.me ≡ token.old.me }
+    {
+        if came {
+            self.count_settled(token);
+        }
+    }
+
+    // Counts the entry that the step made.
+    fn count_made(&self, token: &mut Token<K>)
+        requires table { token.old.table_id ≡ self.now.table.shared.table_id }
+        requires grown { (d : Seated K) × (e : Entry) × (token.old.me.1 ≡ (0, Some d) ∷ []) × (token.old.me.0.turns ≡ 1) × (d.book ≡ with_entry token.old.me.0.book e) × (size d.book < 2 ^ 63) }
+        ensures same { (token.new.table_id ≡ token.old.table_id) × (token.new.id ≡ token.old.id) }
+        ensures counted { (d : Seated K) → token.old.me.1 ≡ (0, Some d) ∷ [] → token.new.me ≡ (grown token.old.me.0 d.book, token.old.me.1) }
+    {
+        self.table.shared.fetch_add::<CountMade>(token, ENTRIES, 1);
+    }
+
+    // Counts the entry that the step made, if it made one.
+    fn count_made_if(&self, token: &mut Token<K>, made: bool)
+        requires table { token.old.table_id ≡ self.now.table.shared.table_id }
+        requires grown { made ≡ true → (d : Seated K) × (e : Entry) × (token.old.me.1 ≡ (0, Some d) ∷ []) × (token.old.me.0.turns ≡ 1) × (d.book ≡ with_entry token.old.me.0.book e) × (size d.book < 2 ^ 63) }
+        ensures same { (token.new.table_id ≡ token.old.table_id) × (token.new.id ≡ token.old.id) }
+        ensures counted { made ≡ true → (d : Seated K) → token.old.me.1 ≡ (0, Some d) ∷ [] → token.new.me ≡ (grown token.old.me.0 d.book, token.old.me.1) }
+        ensures not { made ≡ false → token.new.me ≡ token.old.me }
+    {
+        if made {
+            self.count_made(token);
+        }
+    }
+
+    // Looks at the desk after it has settled and stepped.
+    fn note_settled(&self, token: &mut Token<K>)
+        requires table { token.old.table_id ≡ self.now.table.shared.table_id }
+        requires carries { (d : Seated K) × (token.old.me.1 ≡ (0, Some d) ∷ []) × (token.old.me.0.turns ≡ 1) × (token.old.me.0.faults ≤ K.faults d.keeper) }
+        ensures same { (token.new.table_id ≡ token.old.table_id) × (token.new.id ≡ token.old.id) }
+        ensures noted { (d : Seated K) → token.old.me.1 ≡ (0, Some d) ∷ [] → token.new.me ≡ (noted token.old.me.0 d.doubt (K.faults d.keeper), token.old.me.1) }
+    {
+        self.table.shared.load::<NoteSettled>(token, TURNS);
+    }
+
+    // Looks at the desk after it could not settle.
+    fn note_faults(&self, token: &mut Token<K>)
+        requires table { token.old.table_id ≡ self.now.table.shared.table_id }
+        requires carries { (d : Seated K) × (token.old.me.1 ≡ (0, Some d) ∷ []) × (token.old.me.0.turns ≡ 1) × (token.old.me.0.faults ≤ K.faults d.keeper) }
+        ensures same { (token.new.table_id ≡ token.old.table_id) × (token.new.id ≡ token.old.id) }
+        ensures noted { (d : Seated K) → token.old.me.1 ≡ (0, Some d) ∷ [] → token.new.me ≡ (with_faults token.old.me.0 (K.faults d.keeper), token.old.me.1) }
+    {
+        self.table.shared.load::<NoteFaults>(token, TURNS);
+    }
+
+    // Passes the turn on: the desk that lies in the slot is at home. Seats that sleep are woken, where others than this one have a
+    // ticket.
+    fn pass(&self, token: &mut Token<K>)
+        requires table { token.old.table_id ≡ self.now.table.shared.table_id }
+        requires home { (d : Seated K) × (token.old.me.1 ≡ (0, Some d) ∷ []) × (token.old.me.0.turns ≡ 1) × IsOf K.tells token.old.me.0 d × (d.book ≡ token.old.me.0.book) × (d.doubt ≡ token.old.me.0.doubt) × (K.faults d.keeper ≡ token.old.me.0.faults) }
+        ensures same { (token.new.table_id ≡ token.old.table_id) × (token.new.id ≡ token.old.id) }
+        ensures ended { token.new.me ≡ (ended token.old.me.0, []) }
+    {
+        let ended = self.table.shared.fetch_add::<PassTurn>(token, TURNS, 1);
+        if self.table.shared.peek(TICKETS) != ended.wrapping_add(1) {
+            self.table.shared.wake_all(TURNS);
+        }
+    }
+
+    // Waits for the next turn and takes the desk.
+    pub(crate) fn begin(&self, rt: &impl Wait, token: &mut Token<K>) -> Desk<K>
+        requires table { token.old.table_id ≡ self.now.table.shared.table_id }
+        requires idle { IsIdle token.old.me.0 × (0 < token.old.me.0.parts) × (token.old.me.1 ≡ []) }
+        ensures same { (token.new.table_id ≡ token.old.table_id) × (token.new.id ≡ token.old.id) }
+        ensures of { IsOf K.tells token.old.me.0 result }
+        ensures begins { StartsWith result.book token.old.me.0.seen }
+        ensures later { AllByRecursion (λ (k : ℕ). k ≤ K.faults result.keeper) token.old.me.0.after }
+        ensures view { (t : ℕ) × (token.new.me ≡ (on_turn K.faults (waiting token.old.me.0 t) result, (0, None) ∷ [])) }
+    {
+        let ticket = self.take_ticket(token);
+        self.wait_for(rt, token, ticket);
+        self.take_out(token)
+    }
+
+    // Puts the desk home after it could not settle, and passes the turn on.
+    pub(crate) fn end_held(&self, token: &mut Token<K>, desk: Desk<K>)
+        requires table { token.old.table_id ≡ self.now.table.shared.table_id }
+        requires empty { (token.old.me.1 ≡ (0, None) ∷ []) × (token.old.me.0.turns ≡ 1) }
+        requires of { IsOf K.tells token.old.me.0 desk }
+        requires stays { (desk.book ≡ token.old.me.0.book) × (desk.doubt ≡ token.old.me.0.doubt) × (token.old.me.0.faults ≤ K.faults desk.keeper) }
+        ensures same { (token.new.table_id ≡ token.old.table_id) × (token.new.id ≡ token.old.id) }
+        ensures ended { token.new.me ≡ (held_view token.old.me.0 (K.faults desk.keeper), []) }
+    {
+        self.put_home(token, desk);
+        self.note_faults(token);
+        self.pass(token);
+    }
+
+    // Puts the desk home after it has settled and stepped, and passes the turn on. The desk had so many entries as the turn began,
+    // and so many once it had settled.
+    pub(crate) fn end(&self, token: &mut Token<K>, desk: Desk<K>, began: u32, settled: u32)
+        requires table { token.old.table_id ≡ self.now.table.shared.table_id }
+        requires empty { (token.old.me.1 ≡ (0, None) ∷ []) × (token.old.me.0.turns ≡ 1) }
+        requires of { IsOf K.tells token.old.me.0 desk }
+        requires began { began ≡ size token.old.me.0.book }
+        requires settled { (s : Book) × (settled ≡ size s) × Settles token.old.me.0.book token.old.me.0.doubt s × Adds s desk.book }
+        requires later { token.old.me.0.faults ≤ K.faults desk.keeper }
+        ensures same { (token.new.table_id ≡ token.old.table_id) × (token.new.id ≡ token.old.id) }
+        ensures ended { (s : Book) → settled ≡ size s → Settles token.old.me.0.book token.old.me.0.doubt s → Adds s desk.book → token.new.me ≡ (end_view token.old.me.0 s desk.book desk.doubt (K.faults desk.keeper), []) }
+    {
+        let now = desk.book().len();
+        self.put_home(token, desk);
+        self.count_settled_if(token, differs(began, settled));
+        self.count_made_if(token, differs(settled, now));
+        self.note_settled(token);
+        self.pass(token);
+    }
+}

@@ -1,0 +1,40 @@
+use rv_book::Entry;
+use rv_desk::Desk;
+use rv_keeper::Keeper;
+use std::collections::LinkedList;
+
+/// What a seat knows. It stands in proofs alone: no value of it is made.
+pub struct SeatView<K: Keeper> {
+    /// How many seats it stands for.
+    pub parts: u64,
+    /// 1 while it waits for a turn or has one.
+    pub waits: u64,
+    /// 1 while it has the turn.
+    pub turns: u64,
+    /// The number of the turn that it waits for or has.
+    pub ticket: u64,
+    /// The desk as the room was opened. A view that stands for no seat has none.
+    pub opened: Option<Desk<K>>,
+    /// While it has the turn, the history.
+    pub book: LinkedList<Entry>,
+    /// While it has the turn, the entry in doubt.
+    pub doubt: Option<Entry>,
+    /// While it has the turn, how often the keeper has failed.
+    pub faults: u64,
+    /// The history as its last turn ended.
+    pub seen: LinkedList<Entry>,
+    /// The entries that its turns entered, each with the number of entries before it.
+    pub own: LinkedList<(u64, Entry)>,
+    /// Those of them that had been in doubt.
+    pub settled: LinkedList<Entry>,
+    /// The entries that its turns left in doubt.
+    pub left: LinkedList<Entry>,
+    /// The length of the history as each of its turns ended.
+    pub ends: LinkedList<u64>,
+    /// How often the keeper had failed as each of its turns began.
+    pub before: LinkedList<u64>,
+    /// How often the keeper had failed as each of its turns ended.
+    pub after: LinkedList<u64>,
+    /// What the seats that it was joined from had seen.
+    pub joined: LinkedList<LinkedList<Entry>>,
+}
