@@ -11,13 +11,15 @@ pub const SERVE: &str =
     "rv serve memory --accounts accounts.toml --port 8080 --workers 1 --connections 1";
 
 // The accounts files of the folder.
-const ACCOUNTS: [&str; 6] = [
+const ACCOUNTS: [&str; 8] = [
     "accounts.toml",
     "twice.toml",
     "no-user.toml",
     "no-tables.toml",
     "no-toml.toml",
     "one-schema.toml",
+    "long-key.toml",
+    "long-user.toml",
 ];
 
 // The words of a line.
