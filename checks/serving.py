@@ -41,12 +41,15 @@ def request(path, body, key="k-ann", extra=""):
 
 
 class Server:
-    """The program, serving so many connections."""
+    """The program, serving so many connections. Those that still run when the checks end are killed."""
+
+    running = []
 
     def __init__(self, program, port, store, accounts, connections):
         words = [program, "serve", str(store), "--accounts", str(accounts), "--port", str(port), "--workers", "1", f"--connections={connections}"]
         self.port = port
         self.process = subprocess.Popen(words, stdout=subprocess.PIPE, stdin=subprocess.DEVNULL)
+        Server.running.append(self.process)
 
     def connect(self):
         for _ in range(200):
@@ -78,7 +81,8 @@ def talk(server, pieces, expected):
             if len(pieces) > 1:
                 time.sleep(0.02)
         connection.shutdown(socket.SHUT_WR)
-    except (BrokenPipeError, ConnectionResetError):
+    except OSError:
+        # the program has closed before it took all; what it wrote is there
         pass
     got = b""
     while True:
@@ -180,4 +184,8 @@ def main():
 
 
 if __name__ == "__main__":
-    main()
+    try:
+        main()
+    finally:
+        for process in Server.running:
+            process.kill()
