@@ -1,0 +1,80 @@
+-- What stands the other way round.
+use Rattle.std.proofs.Common.{◌≡◌, ℕ, zero, suc, List, [], ◌∷◌, ◌++◌, length, take, map, refl, sym, ap, ◌∙◌, append_assoc, length-append, arith}
+use mathlib.Core.List.{map-append}
+use Rattle.std.specs.List.{AllByRecursion}
+use Rattle.rv_crew.specs.Working.{EachWorked}
+use Rattle.rv_workers.specs.Hiring.{turned}
+use Rattle.rv_workers.specs.Serving.{EachServes}
+
+-- the last one comes first
+pub turned-snoc : {X Y : Type 0} (f : X → Y) (xs : List X) (x : X) → turned f (xs ++ x ∷ []) ≡ f x ∷ turned f xs
+turned-snoc f [] x = refl
+turned-snoc f (y ∷ xs) x = ap (λ l. l ++ f y ∷ []) (turned-snoc f xs x)
+
+-- one is taken off the end of these, and one put at the end of those
+pub turned-moves : {X Y : Type 0} (f : X → Y) (all given rest : List Y) (y : Y) (xs : List X) (x : X) → given ++ turned f xs ≡ all → given ≡ rest ++ y ∷ [] → f x ≡ y → rest ++ turned f (xs ++ x ∷ []) ≡ all
+turned-moves f all given rest y xs x is taken same =
+    ap (λ l. rest ++ l) (turned-snoc f xs x ∙ ap (λ z. z ∷ turned f xs) same) ∙ (sym (append_assoc rest (y ∷ []) (turned f xs)) ∙ (ap (λ l. l ++ turned f xs) (sym taken) ∙ is))
+
+-- one is taken off the end of those, and what f gives of it put at the end of these
+pub turned-back : {X Y : Type 0} (f : X → Y) (all back : List Y) (xs rest : List X) (x : X) (y : Y) → back ++ turned f xs ≡ all → xs ≡ rest ++ x ∷ [] → y ≡ f x → (back ++ y ∷ []) ++ turned f rest ≡ all
+turned-back f all back xs rest x y is taken same =
+    ap (λ z. (back ++ z ∷ []) ++ turned f rest) same ∙ (append_assoc back (f x ∷ []) (turned f rest) ∙ (ap (λ l. back ++ l) (sym (turned-snoc f rest x) ∙ ap (turned f) (sym taken)) ∙ is))
+
+pub all_snoc : {X : Type 0} (P : X → Type 0) (xs : List X) (x : X) → AllByRecursion P xs → P x → AllByRecursion P (xs ++ x ∷ [])
+all_snoc P [] x e p = (p, tt)
+all_snoc P (y ∷ xs) x e p = (e.0, all_snoc P xs x e.1 p)
+
+pub all_last : {X : Type 0} (P : X → Type 0) (xs : List X) (x : X) → AllByRecursion P (xs ++ x ∷ []) → AllByRecursion P xs × P x
+all_last P [] x e = (tt, e.0)
+all_last P (y ∷ xs) x e = let r = all_last P xs x e.1 in ((e.0, r.0), r.1)
+
+pub turned-length : {X Y : Type 0} (f : X → Y) (xs : List X) → length (turned f xs) ≡ length xs
+turned-length f [] = refl
+turned-length f (x ∷ xs) = let a = length-append (turned f xs) (f x ∷ []) in let r = turned-length f xs in omega arith
+
+pub map-turned : {X Y Z : Type 0} (g : Y → Z) (f : X → Y) (xs : List X) → map g (turned f xs) ≡ turned (λ x. g (f x)) xs
+map-turned g f [] = refl
+map-turned g f (x ∷ xs) = map-append g (turned f xs) (f x ∷ []) ∙ ap (λ l. l ++ g (f x) ∷ []) (map-turned g f xs)
+
+-- the front of a list that was cut where it ends
+pub front : {X : Type 0} (ys zs : List X) (n : ℕ) → n ≡ length ys → take n (ys ++ zs) ≡ ys
+front [] zs zero e = refl
+front [] zs (suc n) e = absurd (omega arith)
+front (y ∷ ys) zs zero e = absurd (omega arith)
+front (y ∷ ys) zs (suc n) e = ap (λ l. y ∷ l) (front ys zs n (omega arith))
+
+-- ---- Jobs that were worked on.
+
+pub worked-length : {J : Type 0} (worked : J → J → Type 0) (xs ys : List J) → EachWorked worked xs ys → length ys ≡ length xs
+worked-length worked [] [] e = refl
+worked-length worked (x ∷ xs) (y ∷ ys) e = let r = worked-length worked xs ys e.1 in omega arith
+worked-length worked [] (y ∷ ys) e = absurd e
+worked-length worked (x ∷ xs) [] e = absurd e
+
+-- what holds of each before tells what holds of each after
+pub all-worked : {J : Type 0} (worked : J → J → Type 0) (P Q : J → Type 0) → ((x y : J) → P x → worked x y → Q y) → (xs ys : List J) → AllByRecursion P xs → EachWorked worked xs ys → AllByRecursion Q ys
+all-worked worked P Q go [] [] all e = tt
+all-worked worked P Q go (x ∷ xs) (y ∷ ys) all e = (go x y all.0 e.0, all-worked worked P Q go xs ys all.1 e.1)
+all-worked worked P Q go [] (y ∷ ys) all e = absurd e
+all-worked worked P Q go (x ∷ xs) [] all e = absurd e
+
+-- ---- Listeners that were served.
+
+serves-snoc : {V L : Type 0} (Serves : V → L → V → L → Type 0) (first : V) (givens : List L) (lasts : List V) (backs : List L) (given : L) (last : V) (back : L)
+    → EachServes Serves first givens lasts backs → Serves first given last back → EachServes Serves first (givens ++ given ∷ []) (lasts ++ last ∷ []) (backs ++ back ∷ [])
+serves-snoc Serves first [] [] [] given last back each one = (one, tt)
+serves-snoc Serves first (g ∷ gs) (l ∷ ls) (b ∷ bs) given last back each one = (each.0, serves-snoc Serves first gs ls bs given last back each.1 one)
+serves-snoc Serves first [] [] (b ∷ bs) given last back each one = absurd each
+serves-snoc Serves first [] (l ∷ ls) bs given last back each one = absurd each
+serves-snoc Serves first (g ∷ gs) [] bs given last back each one = absurd each
+serves-snoc Serves first (g ∷ gs) (l ∷ ls) [] given last back each one = absurd each
+
+-- the listeners of workers that were worked on
+pub each-serves : {W V L : Type 0} (worked : W → W → Type 0) (Serves : V → L → V → L → Type 0) (first : V) (listener : W → L) (view : W → V) (Hired : W → Type 0)
+    → ((w w' : W) → Hired w → worked w w' → Serves first (listener w) (view w') (listener w')) → (ws ws' : List W) → AllByRecursion Hired ws → EachWorked worked ws ws'
+    → EachServes Serves first (turned listener ws) (turned view ws') (turned listener ws')
+each-serves worked Serves first listener view Hired go [] [] all e = tt
+each-serves worked Serves first listener view Hired go (w ∷ ws) (w' ∷ ws') all e = serves-snoc Serves first (turned listener ws) (turned view ws') (turned listener ws') (listener w) (view w') (listener w') (each-serves worked Serves first listener view Hired go ws ws' all.1 e.1) (go w w' all.0 e.0)
+each-serves worked Serves first listener view Hired go [] (w' ∷ ws') all e = absurd e
+each-serves worked Serves first listener view Hired go (w ∷ ws) [] all e = absurd e

@@ -1,0 +1,20 @@
+use Rattle.std.proofs.Common.{subst, map}
+use Rattle.rv_desk.specs.Seated.{Seated}
+use Rattle.rv_room.specs.declared.view.SeatView.{SeatView}
+use Rattle.rv_room.specs.Closing.{Closes}
+use Rattle.rv_room.specs.Seats.{view_of}
+use Rattle.rv_room.specs.Views.{newcomer}
+use Rattle.rv_workers.specs.Serving.{EachServes, IsServed}
+use Rattle.rv_workers.proofs.serving.serve_listeners.Goals as goal
+
+pub returns : goal.returns
+returns g c =
+    let f = g.K.Keeper.faults in
+    let is = c.in-Ok-open.ensures.about.1 in
+    let Serves : SeatView g.row.K.Denot → g.row.L.Denot → SeatView g.row.K.Denot → g.row.L.Denot → Type 0 = λ first given last back. IsServed f c.args.accounts.now g.L.In.Source.state g.L.Out.Sink.state g.L.In.Source.fails_no_more g.L.Out.Sink.fails_no_more g.L.Listen.tells g.L.Listen.to_come g.L.Listen.came_back g.L.Listen.out g.L.Listen.ends first given last back in
+    let views = map view_of c.serve_in-seats.result.0.list.items in
+    record {
+      views = views;
+      serves = subst (λ (d : Seated g.row.K.Denot). EachServes Serves (newcomer 1 d) c.args.listeners.items views c.serve_in-seats.result.1.items) is c.serve_in-seats.ensures.serves;
+      closes = subst (λ (d : Seated g.row.K.Denot). Closes f g.K.Keeper.tells d views c.close.result) is c.close.ensures;
+    }

@@ -1,0 +1,3 @@
+pub mod Hiring
+pub mod Serving
+pub mod Working

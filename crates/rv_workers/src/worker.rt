@@ -1,0 +1,80 @@
+ghost use Rattle.std.specs.Prelude.{◌≡◌};
+ghost use Rattle.rv_room.specs.Seats.{id_of, room_of};
+
+use rv_accounts::Accounts;
+use rv_crew::Job;
+use rv_keeper::Keeper;
+use rv_net::Listen;
+use rv_room::{Room, Seat, SeatTurns};
+use rv_serve::serve_listener;
+use std::alloc::Global;
+use std::sync::Wait;
+
+/// One worker, which serves the connections of its listener by the turns of its seat.
+pub struct Worker<'a, R: Wait, K: Keeper, L: Listen> {
+    alloc: Global,
+    turns: SeatTurns<'a, R, K>,
+    accounts: &'a Accounts,
+    listener: L,
+}
+
+impl<'a, R: Wait, K: Keeper, L: Listen> Worker<'a, R, K, L> {
+    /// A worker with a seat of this room.
+    pub(crate) fn new(
+        alloc: Global,
+        runtime: &'a R,
+        room: &'a Room<K>,
+        accounts: &'a Accounts,
+        seat: Seat<K>,
+        listener: L,
+    ) -> Worker<'a, R, K, L>
+        requires { room_of seat ≡ id_of room.now }
+        ensures room { result.turns.room.now ≡ room.now }
+        ensures seat { result.turns.seat ≡ seat }
+        ensures accounts { result.accounts.now ≡ accounts.now }
+        ensures listener { result.listener ≡ listener }
+    {
+        Worker {
+            alloc,
+            turns: SeatTurns::new(runtime, room, seat),
+            accounts,
+            listener,
+        }
+    }
+
+    /// Its seat and its listener.
+    pub(crate) fn dismiss(self) -> (Seat<K>, L)
+        ensures seat { result.0 ≡ self.entry.turns.seat }
+        ensures at { room_of result.0 ≡ id_of self.entry.turns.room.now }
+        ensures listener { result.1 ≡ self.entry.listener }
+    {
+        let Worker {
+            alloc: _alloc,
+            turns,
+            accounts: _accounts,
+            listener,
+        } = self;
+        (turns.into_seat(), listener)
+    }
+}
+
+impl<'a, R: Wait + Sync, K: Keeper + Send, L: Listen + Send> Job for Worker<'a, R, K, L>
+where
+    L::In: Send,
+    L::Out: Send,
+{
+    ghost use Rattle.rv_workers.specs.Working.{HasServed};
+
+    ghost needs = { λ worker. Unit {0} };
+
+    ghost worked = { λ old new. HasServed K.faults L.In.state L.Out.state L.In.fails_no_more L.Out.fails_no_more L.tells L.to_come L.came_back L.out L.ends old new };
+
+    fn work(&mut self) {
+        serve_listener(
+            self.alloc,
+            &mut self.turns,
+            self.accounts,
+            &mut self.listener,
+        );
+    }
+}
