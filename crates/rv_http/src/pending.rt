@@ -53,6 +53,13 @@ impl Pending {
         Ok(Pending { bytes, end: 0 })
     }
 
+    /// Lets them go. It clears and takes no memory.
+    pub(crate) fn clear(&mut self)
+        ensures { self.new ≡ [] }
+    {
+        self.end = 0;
+    }
+
     /// The bytes.
     pub(crate) fn bytes(&self) -> &[u8]
         ensures value { result.now ≡ self.now }

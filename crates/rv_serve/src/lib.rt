@@ -11,6 +11,7 @@ mod listening;
 mod replying;
 mod serving;
 mod telling;
+mod tools;
 
 pub use conn_end::ConnEnd;
 pub use listening::serve_listener;

@@ -3,7 +3,7 @@ ghost use Rattle.std.specs.Prelude.{◌≡◌};
 ghost use Rattle.rv_base.specs.Outside.{counted};
 ghost use Rattle.rv_serve.specs.Listening.{ServesAll};
 
-use crate::serving::serve_connection;
+use crate::serving::serve_with;
 use rv_accounts::Accounts;
 use rv_history::Turns;
 use rv_net::{Accepted, Listen};
@@ -20,11 +20,13 @@ pub fn serve_listener<T: Turns, L: Listen>(
     ensures tells { L.tells listener.new → L.tells listener.old }
     ensures ends { L.ends listener.new ≡ counted (L.ends listener.old) }
 {
+    let mut tools = None;
     loop {
         match listener.accept() {
             Accepted::Conn(conn) => {
                 let mut conn = conn;
-                let _end = serve_connection(alloc, turns, accounts, &mut conn);
+                let (_end, left) = serve_with(alloc, turns, accounts, tools, &mut conn);
+                tools = left;
                 listener.done(conn);
             }
             Accepted::End => return,

@@ -10,6 +10,7 @@ ghost use Rattle.rv_serve.specs.Steps.{AnswersOne, EndsConn, WritesLast};
 use crate::conn_end::ConnEnd;
 use crate::replying::reply;
 use crate::telling::{write_answer, write_refusal};
+use crate::tools::Tools;
 use rv_accounts::Accounts;
 use rv_base::{Sink, Source};
 use rv_history::Turns;
@@ -121,6 +122,35 @@ fn serve_requests<T: Turns, S: Source, O: Sink>(
     unreachable!()
 }
 
+/// Answers the requests of a connection as [`serve_connection`] does, with the tools of the connection before it, if there are any, and
+/// gives the tools for the next one.
+pub(crate) fn serve_with<T: Turns, S: Source, O: Sink>(
+    alloc: Global,
+    turns: &mut T,
+    accounts: &Accounts,
+    tools: Option<Tools>,
+    conn: &mut Conn<S, O>,
+) -> (ConnEnd, Option<Tools>)
+    ensures talks { Talks T.mutates T.pulls T.retires accounts.now turns.old turns.new (S.state conn.old.source) (S.state conn.new.source) (O.state conn.old.sink) (O.state conn.new.sink) result.0 }
+    ensures cause { ConnCause (S.state conn.old.source) (S.state conn.new.source) (O.state conn.old.sink) (O.state conn.new.sink) result.0 }
+    ensures steady_input { S.fails_no_more conn.old.source → InputIsSteady (S.fails_no_more conn.new.source) result.0 }
+    ensures steady_output { O.fails_no_more conn.old.sink → OutputIsSteady (O.fails_no_more conn.new.sink) (O.state conn.old.sink) (O.state conn.new.sink) result.0 }
+{
+    let Ok(mut tools) = Tools::ready(alloc, tools) else {
+        return (refuse_memory(&mut conn.sink, false), None);
+    };
+    let end = serve_requests(
+        alloc,
+        turns,
+        accounts,
+        &tools.routes,
+        &mut tools.buffer,
+        &mut conn.source,
+        &mut conn.sink,
+    );
+    (end, Some(tools))
+}
+
 /// Answers the requests of a connection, each by its turns, until one is answered that closes, none can be read, or the
 /// connection ends.
 pub fn serve_connection<T: Turns, S: Source, O: Sink>(
@@ -134,19 +164,6 @@ pub fn serve_connection<T: Turns, S: Source, O: Sink>(
     ensures steady_input { S.fails_no_more conn.old.source → InputIsSteady (S.fails_no_more conn.new.source) result }
     ensures steady_output { O.fails_no_more conn.old.sink → OutputIsSteady (O.fails_no_more conn.new.sink) (O.state conn.old.sink) (O.state conn.new.sink) result }
 {
-    let Ok(mut buffer) = Buffer::new(alloc) else {
-        return refuse_memory(&mut conn.sink, false);
-    };
-    let Ok(routes) = Routes::new(alloc) else {
-        return refuse_memory(&mut conn.sink, false);
-    };
-    serve_requests(
-        alloc,
-        turns,
-        accounts,
-        &routes,
-        &mut buffer,
-        &mut conn.source,
-        &mut conn.sink,
-    )
+    let (end, _tools) = serve_with(alloc, turns, accounts, None, conn);
+    end
 }
