@@ -17,7 +17,7 @@ use Rattle.rv_room.specs.declared.view.SeatView.{SeatView}
 use Rattle.rv_room.specs.Lists.{hit, StartsWith, total, once_below, count_at, numbered}
 use Rattle.rv_room.specs.Views.{IsIdle, waiting, on_turn, grown, entered, listed, noted, with_faults, ended}
 use Rattle.rv_room.specs.Rule.{parts_of, waits_of, own_at, IsLeft, DoubtIsLeft, Fits, IsOut, Keeps, IsOf, AtHome, Kept, KeptIn}
-use Rattle.rv_room.specs.Plays.{TakesTicket, Looks, CountsSettled, CountsMade, NotesSettled, NotesFaults, Passes}
+use Rattle.rv_room.specs.Plays.{TakesTicket, Looks, CountsSettled, CountsMade, NotesSettled, NotesFaults, Passes, Rings}
 use Rattle.rv_room.proofs.Totals.{total_set, total_le, total_has, here, same_at, all_map, all_append, get_front, get_last, starts_more, count_at-append, below_next, drop_front}
 
 value_or : {X : Type 0} → X → Option X → X
@@ -127,7 +127,7 @@ module _ {K : Type 0} (faults : K → ℕ) (tells : K → Type 0) (opened : Seat
   changes : (words : List ℕ) (homes : Homes) (views : List (SeatView K)) (id : ℕ) (v w : SeatView K) (k : Rule words homes views) → At views id v
       → (words' : List ℕ) (homes' : Homes) (log' : Book) (front' n' top' : ℕ)
       → n' + v.waits ≡ total waits_of views + w.waits
-      → words' ≡ (front' + n') % 2 ^ 64 ∷ front' % 2 ^ 64 ∷ length log' ∷ []
+      → words' ≡ (front' + n') % 2 ^ 64 ∷ front' % 2 ^ 64 ∷ length log' ∷ k.bells
       → Slot log' top' homes' (set views id w)
       → w.parts ≡ v.parts
       → k.top ≤ top'
@@ -144,7 +144,8 @@ module _ {K : Type 0} (faults : K → ℕ) (tells : K → Type 0) (opened : Seat
         log = log';
         front = front';
         top = top';
-        words_are = subst (λ (n : ℕ). words' ≡ (front' + n) % 2 ^ 64 ∷ front' % 2 ^ 64 ∷ length log' ∷ []) now are;
+        bells = k.bells;
+        words_are = subst (λ (n : ℕ). words' ≡ (front' + n) % 2 ^ 64 ∷ front' % 2 ^ 64 ∷ length log' ∷ k.bells) now are;
         slot = slot;
         few = k.few;
         parts = let t = total_set parts_of views id v w at in let q = k.parts in omega arith;
@@ -180,7 +181,7 @@ module _ {K : Type 0} (faults : K → ℕ) (tells : K → Type 0) (opened : Seat
         tt,
         changes s.words s.homes s.views id v w k at (slice_set s.words 0 ((slice_index s.words 0 + 1) % 2 ^ 64)) s.homes k.log k.front (n + 1) k.top
             (omega arith)
-            (ap (λ ws. slice_set ws 0 ((slice_index ws 0 + 1) % 2 ^ 64)) k.words_are ∙ ap (λ (m : ℕ). m ∷ k.front % 2 ^ 64 ∷ length k.log ∷ []) more)
+            (ap (λ ws. slice_set ws 0 ((slice_index ws 0 + 1) % 2 ^ 64)) k.words_are ∙ ap (λ (m : ℕ). m ∷ k.front % 2 ^ 64 ∷ length k.log ∷ k.bells) more)
             (slot_set k.log k.top s.homes s.views id v w at idle.1 refl [] (sym (append-nil v.left)) k.slot)
             refl
             (omega arith)
@@ -337,7 +338,7 @@ module _ {K : Type 0} (faults : K → ℕ) (tells : K → Type 0) (opened : Seat
       let w1 = same.waits in let t1 = same.turns in let p1 = same.parts in let k1 = same.ticket in let v1 = o.waits in
       changes s.words s.homes s.views id v w k at (slice_set s.words 2 ((slice_index s.words 2 + 1) % 2 ^ 64)) s.homes now k.front n k.top
       (omega arith)
-      (ap (λ ws. slice_set ws 2 ((slice_index ws 2 + 1) % 2 ^ 64)) k.words_are ∙ ap (λ (m : ℕ). (k.front + n) % 2 ^ 64 ∷ k.front % 2 ^ 64 ∷ m ∷ []) more)
+      (ap (λ ws. slice_set ws 2 ((slice_index ws 2 + 1) % 2 ^ 64)) k.words_are ∙ ap (λ (m : ℕ). (k.front + n) % 2 ^ 64 ∷ k.front % 2 ^ 64 ∷ m ∷ k.bells) more)
       (inr (record { empty = o.out; who = id; view = w; at = here s.views id v w at; turn = t1 ∙ on; doubt = doubt }))
       p1
       (omega arith)
@@ -516,7 +517,7 @@ module _ {K : Type 0} (faults : K → ℕ) (tells : K → Type 0) (opened : Seat
         tt,
         changes s.words s.homes s.views id v w k at (slice_set s.words 1 ((slice_index s.words 1 + 1) % 2 ^ 64)) (slice_set s.homes 0 (some (Some d))) k.log (k.front + 1) (n - 1) k.top
             (omega arith)
-            (ap (λ ws. slice_set ws 1 ((slice_index ws 1 + 1) % 2 ^ 64)) k.words_are ∙ (λ i. (all i) % 2 ^ 64 ∷ more i ∷ length k.log ∷ []))
+            (ap (λ ws. slice_set ws 1 ((slice_index ws 1 + 1) % 2 ^ 64)) k.words_are ∙ (λ i. (all i) % 2 ^ 64 ∷ more i ∷ length k.log ∷ k.bells))
             (inl (record {
               desk = d;
               home = home;
@@ -543,6 +544,37 @@ module _ {K : Type 0} (faults : K → ℕ) (tells : K → Type 0) (opened : Seat
           → Fits opened k.log (k.front + 1) (total waits_of s.views - 1) k.top u
       others i u f off ne ticket some_wait wait =
           record { once = f.once; part = f.part; waits = f.waits; line = (λ w. let l0 = (f.line w).0 in let l1 = (f.line w).1 in let not_mine : u.ticket ≡ k.front → ⊥ = λ same. ne w (same ∙ sym ticket) in (omega arith, omega arith)); turn = (λ o. absurd (omega arith)); knows = f.knows; seen = f.seen; joined = f.joined; own = f.own; after = f.after; spent = f.spent }
+
+  -- a bell is rung
+  pub rings : (slots id bell : ℕ) (v : SeatView K) (c : List (ℕ × Option (Seated K))) → Allows (KeptIn faults tells opened seats) slots id (v, c) (suc (suc (suc bell))) (λ n. (n + 1) % 2 ^ 64) (Rings (v, c))
+  rings slots id bell v c s k len at bound =
+      let now : ℕ = (slice_index s.words (suc (suc (suc bell))) + 1) % 2 ^ 64 in (
+        v,
+        keeps,
+        tt,
+        subst (λ (vs : List (SeatView K)). Rule (slice_set s.words (suc (suc (suc bell))) now) s.homes vs) (sym (set_again s.views id v at)) (record {
+          log = k.log;
+          front = k.front;
+          top = k.top;
+          bells = slice_set k.bells bell now;
+          words_are = ap (λ ws. slice_set ws (suc (suc (suc bell))) now) k.words_are;
+          slot = k.slot;
+          few = k.few;
+          parts = k.parts;
+          begun = k.begun;
+          risen = k.risen;
+          places = k.places;
+          each = k.each;
+          apart = k.apart;
+          left = k.left;
+        }),
+        refl,
+      )
+
+  pub rings_at : (slots id word bell : ℕ) (v : SeatView K) (c : List (ℕ × Option (Seated K))) → word ≡ 3 + bell → Allows (KeptIn faults tells opened seats) slots id (v, c) word (λ n. (n + 1) % 2 ^ 64) (Rings (v, c))
+  rings_at slots id word bell v c is =
+      let e : suc (suc (suc bell)) ≡ word = omega (arith, is) in
+      subst (λ (w : ℕ). Allows (KeptIn faults tells opened seats) slots id (v, c) w (λ n. (n + 1) % 2 ^ 64) (Rings (v, c))) e (rings slots id bell v c)
 
   -- the same for a seat that is known by an equation
   abbrev Slots : Type 0

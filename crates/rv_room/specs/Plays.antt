@@ -46,6 +46,10 @@ module _ {K : Type 0} where
   abbrev pub NotesFaults : (K → ℕ) → Knows K → ℕ → Knows K → Type 0
   NotesFaults faults m n m' = m' ≡ (with_faults m.0 (carried (λ d. faults d.keeper) 0 m.1), m.1)
 
+  -- nothing changes but the bell
+  abbrev pub Rings : Knows K → ℕ → Knows K → Type 0
+  Rings m n m' = m' ≡ m
+
   -- the turn has ended, and the desk is at home
   abbrev pub Passes : Knows K → ℕ → Knows K → Type 0
   Passes m n m' = m' ≡ (ended m.0, [])

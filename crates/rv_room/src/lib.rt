@@ -1,7 +1,7 @@
 //! A desk that several seats share: each turn of a seat is a turn of the desk, and all turns form one history.
 //!
 //! A [`Room`] has the desk in the one slot of a table, and three words: how many tickets were taken, how many turns have ended, and
-//! how many entries the book has. A [`Seat`] takes a ticket, waits until so many turns have ended, and then has the desk for
+//! how many entries the book has; and bells, at which seats sleep. A [`Seat`] takes a ticket, waits until so many turns have ended, and then has the desk for
 //! itself. What a seat knows is a [`SeatView`]. [`Room::close`] gives the desk back, whose book is the history of all turns.
 #![tactic(auto)]
 

@@ -79,7 +79,8 @@ impl<K: Keeper> Room<K> {
             seats,
             opened: Snapshot::of(&desk),
         };
-        let words = [0, 0, u64::from(desk.book().len())];
+        let length = u64::from(desk.book().len());
+        let words = [0, 0, length, 0, 0, 0, 0, 0, 0, 0, 0, 0, 0, 0, 0, 0, 0, 0, 0];
         slots.push_reserved(Some(desk));
         match RoomTable::<K>::new(alloc, &words, slots, &about) {
             Ok((table, first)) => {

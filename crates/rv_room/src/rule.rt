@@ -92,6 +92,15 @@ impl<K: Keeper> Play<Option<Desk<K>>, SeatView<K>> for PassTurn {
     ghost then = { λ _. Passes };
 }
 
+// A bell is rung.
+pub(crate) struct RingBell;
+
+impl<K: Keeper> Play<Option<Desk<K>>, SeatView<K>> for RingBell {
+    ghost use Rattle.rv_room.specs.Plays.{Rings};
+
+    ghost then = { λ _. Rings };
+}
+
 // A seat is cut off one that stands for several.
 pub(crate) struct CutOne;
 

@@ -1,5 +1,5 @@
 // The steps of a seat at the table of its room.
-ghost use Rattle.std.specs.Prelude.{◌≡◌, ◌≢◌, ℕ, ◌%◌, ◌^◌, ◌<◌, ◌≤◌, true, false, [], ◌∷◌, Some, None};
+ghost use Rattle.std.specs.Prelude.{◌≡◌, ◌≢◌, ◌+◌, ℕ, ◌%◌, ◌^◌, ◌<◌, ◌≤◌, true, false, [], ◌∷◌, Some, None};
 ghost use Rattle.std.specs.List.{AllByRecursion};
 ghost use Rattle.rv_book.specs.Book.{Book, size, with_entry};
 ghost use Rattle.rv_book.specs.declared.entry.Entry.{Entry};
@@ -12,7 +12,7 @@ ghost use Rattle.rv_room.specs.Views.{IsIdle, entered, ended, grown, noted, wait
 
 use crate::room::Room;
 use crate::rule::{
-    CountMade, CountSettled, LookAtTurn, NoteFaults, NoteSettled, PassTurn, TakeTicket,
+    CountMade, CountSettled, LookAtTurn, NoteFaults, NoteSettled, PassTurn, RingBell, TakeTicket,
 };
 use crate::seat::Token;
 use rv_desk::Desk;
@@ -23,12 +23,24 @@ use std::thread;
 // How often a seat looks for its turn before it sleeps. A turn in memory takes about as long as so many looks.
 const LOOKS: u32 = 128;
 
-// The words of the table: how many tickets were taken, how many turns have ended, and the length of the history.
+// The words of the table: how many tickets were taken, how many turns have ended, the length of the history, and sixteen bells. A seat
+// that waits sleeps at the bell of its ticket, so the end of a turn wakes just those whose ticket has that bell.
 const TICKETS: usize = 0;
 
 const TURNS: usize = 1;
 
 const ENTRIES: usize = 2;
+
+const BELLS: usize = 3;
+
+const BELL_COUNT: u64 = 16;
+
+// The bell of a ticket.
+fn bell_of(ticket: u64) -> usize
+    ensures { result ≡ 3 + ticket % 16 }
+{
+    BELLS + (ticket % BELL_COUNT) as usize
+}
 
 // Whether two lengths differ.
 fn differs(before: u32, now: u32) -> bool
@@ -56,28 +68,39 @@ impl<K: Keeper> Room<K> {
         ensures same { (token.new.table_id ≡ token.old.table_id) × (token.new.id ≡ token.old.id) }
         ensures turn { (d : Seated K) × IsOf K.tells token.old.me.0 d × StartsWith d.book token.old.me.0.seen × AllByRecursion (λ (k : ℕ). k ≤ K.faults d.keeper) token.old.me.0.after × (token.new.me ≡ (on_turn K.faults token.old.me.0 d, (0, Some d) ∷ token.old.me.1)) }
     {
+        let bell = bell_of(ticket);
         let mut looks = 0;
         for _ in rt.forever() {
+            let rung = self.table.shared.peek(bell);
             let found = self.table.shared.load::<LookAtTurn>(token, TURNS);
             if found == ticket {
                 return;
             }
-            looks = self.rest(rt, found, looks);
+            looks = self.rest(rt, bell, rung, looks);
         }
         unreachable!()
     }
 
-    // Lets time pass, after so many looks of which the last found that so many turns had ended. A seat that has looked often sleeps
-    // until the number changes.
-    fn rest(&self, rt: &impl Wait, found: u64, looks: u32) -> u32 {
+    // Lets time pass, after so many looks. A seat that has looked often sleeps until the bell is rung again.
+    fn rest(&self, rt: &impl Wait, bell: usize, rung: u64, looks: u32) -> u32
+        requires { bell < 19 }
+    {
         if looks < LOOKS {
             thread::yield_now();
             return looks + 1;
         }
-        self.table
-            .shared
-            .park(rt, TURNS, (found % (1 << 32)) as u32);
+        self.table.shared.park(rt, bell, (rung % (1 << 32)) as u32);
         looks
+    }
+
+    // Rings the bell of a ticket, and wakes who sleeps at it.
+    fn ring(&self, token: &mut Token<K>, ticket: u64)
+        requires table { token.old.table_id ≡ self.now.table.shared.table_id }
+        ensures { (token.new.table_id ≡ token.old.table_id) × (token.new.id ≡ token.old.id) × (token.new.me ≡ token.old.me) }
+    {
+        let bell = bell_of(ticket);
+        self.table.shared.fetch_add::<RingBell>(token, bell, 1);
+        self.table.shared.wake_all(bell);
     }
 
     // Takes the desk out of its slot.
@@ -182,8 +205,9 @@ impl<K: Keeper> Room<K> {
         ensures ended { token.new.me ≡ (ended token.old.me.0, []) }
     {
         let ended = self.table.shared.fetch_add::<PassTurn>(token, TURNS, 1);
-        if self.table.shared.peek(TICKETS) != ended.wrapping_add(1) {
-            self.table.shared.wake_all(TURNS);
+        let next = ended.wrapping_add(1);
+        if self.table.shared.peek(TICKETS) != next {
+            self.ring(token, next);
         }
     }
 

@@ -3,4 +3,4 @@ use Rattle.rv_room.proofs.Ways.{begins_as}
 use Rattle.rv_room.proofs.room.Room.open.Goals as goal
 
 pub new-requires : goal.new-requires
-new-requires g c = begins_as g.K.Keeper.faults g.K.Keeper.tells _ _ c.args.desk _ _ (search rules) (sym c.of.ensures) c.requires.1 (search rules) (search rules)
+new-requires g c = begins_as g.K.Keeper.faults g.K.Keeper.tells _ _ _ c.args.desk _ _ (search rules) (sym c.of.ensures) c.requires.1 (search rules) (search rules)
