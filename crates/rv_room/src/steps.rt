@@ -20,7 +20,7 @@ use rv_keeper::Keeper;
 use std::sync::Wait;
 use std::thread;
 
-// How often a seat looks for its turn before it sleeps. A turn in memory takes about as long as so many looks.
+// How often a seat looks for its turn, and lets other threads run, before it sleeps.
 const LOOKS: u32 = 128;
 
 // The words of the table: how many tickets were taken, how many turns have ended, the length of the history, and sixteen bells. A seat
