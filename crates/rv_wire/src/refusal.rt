@@ -39,6 +39,39 @@ fn put_which(out: &mut [u8; 128], at: usize, which: Which) -> usize
     }
 }
 
+fn put_limit(out: &mut [u8; 128], which: Which, number: u64) -> usize
+    ensures bound { result ≤ 128 }
+    ensures text { take result out.new ≡ (codes "{\"at\":" ++ decimal number) ++ (codes ",\"error\":\"Limit\",\"which\":\"" ++ which_text which ++ codes "\"}") }
+{
+    let at = put(out, 0, b"{\"at\":");
+    let at = put_number(out, at, number);
+    put_which(out, at, which)
+}
+
+// Writes a text after the first bytes of an object, and ends both.
+fn put_text(out: &mut [u8; 128], first: &[u8], text: &[u8]) -> usize
+    requires { length first.now + length text.now + 2 ≤ 128 }
+    ensures bound { result ≤ 128 }
+    ensures text { take result out.new ≡ (first.now ++ text.now) ++ codes "\"}" }
+{
+    let at = put(out, 0, first);
+    let at = put(out, at, text);
+    put(out, at, b"\"}")
+}
+
+// Writes two numbers, each after what names it, and ends the object.
+fn put_numbers(out: &mut [u8; 128], first: &[u8], one: u64, second: &[u8], other: u64) -> usize
+    requires { length first.now + length second.now + 41 ≤ 128 }
+    ensures bound { result ≤ 128 }
+    ensures text { take result out.new ≡ (((first.now ++ decimal one) ++ second.now) ++ decimal other) ++ codes "}" }
+{
+    let at = put(out, 0, first);
+    let at = put_number(out, at, one);
+    let at = put(out, at, second);
+    let at = put_number(out, at, other);
+    put(out, at, b"}")
+}
+
 /// Writes the JSON text of a refusal to the buffer's front, and answers how many bytes it has. Takes no memory.
 pub fn error_text(error: &ErrorBody, out: &mut [u8; 128]) -> usize
     ensures length { result ≤ 128 }
@@ -46,43 +79,35 @@ pub fn error_text(error: &ErrorBody, out: &mut [u8; 128]) -> usize
 {
     match error {
         ErrorBody::ClientStateNotFound => put(out, 0, b"{\"error\":\"ClientStateNotFound\"}"),
-        ErrorBody::VersionNotSupported(kind) => {
-            let at = put(
-                out,
-                0,
-                b"{\"error\":\"VersionNotSupported\",\"versionType\":\"",
-            );
-            let at = put(out, at, kind.name().as_bytes());
-            put(out, at, b"\"}")
-        }
+        ErrorBody::VersionNotSupported(kind) => put_text(
+            out,
+            b"{\"error\":\"VersionNotSupported\",\"versionType\":\"",
+            kind.name().as_bytes(),
+        ),
         ErrorBody::NotJson => put(out, 0, b"{\"error\":\"NotJson\"}"),
-        ErrorBody::Field(field) => {
-            let at = put(out, 0, b"{\"error\":\"Field\",\"field\":\"");
-            let at = put(out, at, field.name().as_bytes());
-            put(out, at, b"\"}")
-        }
+        ErrorBody::Field(field) => put_text(
+            out,
+            b"{\"error\":\"Field\",\"field\":\"",
+            field.name().as_bytes(),
+        ),
         ErrorBody::GroupOfOther => put(out, 0, b"{\"error\":\"GroupOfOther\"}"),
         ErrorBody::ClientOfOther => put(out, 0, b"{\"error\":\"ClientOfOther\"}"),
         ErrorBody::NoGroup => put(out, 0, b"{\"error\":\"NoGroup\"}"),
-        ErrorBody::Future { expected, got } => {
-            let at = put(out, 0, b"{\"error\":\"Future\",\"expected\":");
-            let at = put_number(out, at, expected.get());
-            let at = put(out, at, b",\"got\":");
-            let at = put_number(out, at, got.get());
-            put(out, at, b"}")
-        }
-        ErrorBody::Limit(which, number) => {
-            let at = put(out, 0, b"{\"at\":");
-            let at = put_number(out, at, number.get());
-            put_which(out, at, *which)
-        }
-        ErrorBody::Changed { found, kept } => {
-            let at = put(out, 0, b"{\"error\":\"Changed\",\"found\":");
-            let at = put_number(out, at, *found);
-            let at = put(out, at, b",\"kept\":");
-            let at = put_number(out, at, *kept);
-            put(out, at, b"}")
-        }
+        ErrorBody::Future { expected, got } => put_numbers(
+            out,
+            b"{\"error\":\"Future\",\"expected\":",
+            expected.get(),
+            b",\"got\":",
+            got.get(),
+        ),
+        ErrorBody::Limit(which, number) => put_limit(out, *which, number.get()),
+        ErrorBody::Changed { found, kept } => put_numbers(
+            out,
+            b"{\"error\":\"Changed\",\"found\":",
+            *found,
+            b",\"kept\":",
+            *kept,
+        ),
         ErrorBody::Keeper => put(out, 0, b"{\"error\":\"keeper\"}"),
         ErrorBody::Memory => put(out, 0, b"{\"error\":\"memory\"}"),
         ErrorBody::BadHead => put(out, 0, b"{\"error\":\"BadHead\"}"),

@@ -3,22 +3,22 @@ use Rattle.rv_wire.proofs.ErrorTexts.{future_text, limit_text, changed_text, kee
 use Rattle.rv_wire.proofs.refusal.error_text.Goals as goal
 
 pub returns-in-VersionNotSupported-clause-text : goal.returns-in-VersionNotSupported-clause-text
-returns-in-VersionNotSupported-clause-text c = rw (c.put-in-VersionNotSupported.ensures.text, c.put-at-in-VersionNotSupported.ensures.text, c.put-at.ensures.text, c.as_bytes.ensures.value, c.name.ensures.name, c.in-VersionNotSupported.is) (version_error_text _)
+returns-in-VersionNotSupported-clause-text c = rw (c.put_text.ensures.text, c.as_bytes.ensures.value, c.name.ensures.name, c.in-VersionNotSupported.is) (version_error_text _)
 
 pub returns-in-NotJson-clause-text : goal.returns-in-NotJson-clause-text
 returns-in-NotJson-clause-text c = rw (c.put-in-NotJson.ensures.text, c.in-NotJson.is, not_json_text) refl
 
 pub returns-in-Field-clause-text : goal.returns-in-Field-clause-text
-returns-in-Field-clause-text c = rw (c.put-in-Field.ensures.text, c.put-at-in-Field-2.ensures.text, c.put-at-in-Field.ensures.text, c.as_bytes-in-Field.ensures.value, c.name-in-Field.ensures.name, c.in-Field.is) (field_error_text _)
+returns-in-Field-clause-text c = rw (c.put_text-in-Field.ensures.text, c.as_bytes-in-Field.ensures.value, c.name-in-Field.ensures.name, c.in-Field.is) (field_error_text _)
 
 pub returns-in-Future-clause-text : goal.returns-in-Future-clause-text
-returns-in-Future-clause-text c = rw (c.put-in-Future.ensures.text, c.put_number-at-in-Future.ensures.text, c.put-at-in-Future-2.ensures.text, c.put_number-at.ensures.text, c.put-at-in-Future.ensures.text, c.get.ensures.value, c.get-in-Future.ensures.value, c.in-Future.is) (future_text _ _)
+returns-in-Future-clause-text c = rw (c.put_numbers.ensures.text, c.get.ensures.value, c.get-in-Future.ensures.value, c.in-Future.is) (future_text _ _)
 
 pub returns-in-Limit-clause-text : goal.returns-in-Limit-clause-text
-returns-in-Limit-clause-text c = rw (c.put_which.ensures.text, c.put_number-at-in-Limit.ensures.text, c.put-at-in-Limit.ensures.text, c.get-in-Limit.ensures.value, c.in-Limit.is) (limit_text _ _)
+returns-in-Limit-clause-text c = rw (c.put_limit.ensures.text, c.get-in-Limit.ensures.value, c.in-Limit.is) (limit_text _ _)
 
 pub returns-in-Changed-clause-text : goal.returns-in-Changed-clause-text
-returns-in-Changed-clause-text c = rw (c.put-in-Changed.ensures.text, c.put_number-at-in-Changed-2.ensures.text, c.put-at-in-Changed-2.ensures.text, c.put_number-at-in-Changed.ensures.text, c.put-at-in-Changed.ensures.text, c.in-Changed.is) (changed_text _ _)
+returns-in-Changed-clause-text c = rw (c.put_numbers-in-Changed.ensures.text, c.in-Changed.is) (changed_text _ _)
 
 pub returns-in-Keeper-clause-text : goal.returns-in-Keeper-clause-text
 returns-in-Keeper-clause-text c = rw (c.put-in-Keeper.ensures.text, c.in-Keeper.is, keeper_text) refl
