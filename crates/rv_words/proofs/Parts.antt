@@ -135,8 +135,8 @@ needs_port values none = no_options values lacks
     lacks : (accounts : Text) → options_with values accounts ≡ None
     lacks accounts = rw none refl
 
-abbrev made : Text → ℕ → Option ℕ → Option ServeOptions
-made accounts port connections = connections >>= (λ c. Some (record { accounts = accounts; port = port; connections = c }))
+abbrev made : Text → ℕ → ℕ → Option ℕ → Option ServeOptions
+made accounts port workers connections = connections >>= (λ c. Some (record { accounts = accounts; port = port; workers = workers; connections = c }))
 
 pub needs_workers : IsNeeded (codes "workers")
 unfolding options_with
@@ -145,7 +145,7 @@ needs_workers values none = no_options values lacks
     lacks : (accounts : Text) → options_with values accounts ≡ None
     lacks accounts =
         let connections = option_and_then (number_in 1 1000000) (values (codes "connections")) in
-        ap (λ w. option_and_then (number_in 1 65535) (values (codes "port")) >>= (λ port. option_and_then (number_in 1 1) w >>= (λ one. made accounts port connections))) none
+        ap (λ w. option_and_then (number_in 1 65535) (values (codes "port")) >>= (λ port. option_and_then (number_in 1 16) w >>= (λ workers. made accounts port workers connections))) none
         ∙ go (option_and_then (number_in 1 65535) (values (codes "port")))
       where
         go : (port : Option ℕ) → ◌>>=◌ {B = ServeOptions} port (λ p. None) ≡ None
@@ -158,11 +158,11 @@ needs_connections values none = no_options values lacks
   where
     lacks : (accounts : Text) → options_with values accounts ≡ None
     lacks accounts =
-        ap (λ c. option_and_then (number_in 1 65535) (values (codes "port")) >>= (λ port. option_and_then (number_in 1 1) (values (codes "workers")) >>= (λ one. made accounts port (option_and_then (number_in 1 1000000) c)))) none
-        ∙ go (option_and_then (number_in 1 65535) (values (codes "port"))) (option_and_then (number_in 1 1) (values (codes "workers")))
+        ap (λ c. option_and_then (number_in 1 65535) (values (codes "port")) >>= (λ port. option_and_then (number_in 1 16) (values (codes "workers")) >>= (λ workers. made accounts port workers (option_and_then (number_in 1 1000000) c)))) none
+        ∙ go (option_and_then (number_in 1 65535) (values (codes "port"))) (option_and_then (number_in 1 16) (values (codes "workers")))
       where
-        go : (port one : Option ℕ) → ◌>>=◌ {B = ServeOptions} port (λ p. one >>= (λ w. None)) ≡ None
-        go None one = refl
+        go : (port workers : Option ℕ) → ◌>>=◌ {B = ServeOptions} port (λ p. workers >>= (λ w. None)) ≡ None
+        go None workers = refl
         go (Some p) None = refl
         go (Some p) (Some w) = refl
 

@@ -8,7 +8,7 @@ use Rattle.std.specs.Str.{bytes_eq}
 use Rattle.std.specs.Char.{digit_value}
 use Rattle.std.specs.Str.Parse.{AllDigits}
 use Rattle.std.specs.Cmp.Lexicographic.{same_text}
-use Rattle.std.proofs.lemmas.Fmt.{decimal_digit, decimal_is_IsNumeral}
+use Rattle.std.proofs.lemmas.Fmt.{decimal_is_IsNumeral}
 use Rattle.rv_base.specs.Places.{equals}
 use Rattle.rv_words.specs.Numbers.{number_in}
 use Rattle.rv_words.specs.Words.{command_in, options_with, serve_by}
@@ -58,15 +58,13 @@ decimal_is_plain number most = no_flag (decimal number) (digit_is_plain (decimal
 in_bounds : (least most number : ℕ) → most ≤ 1000000 → IsInRange least most number → number_in least most (decimal number) ≡ Some number
 in_bounds least most number small range = sym (number_read least most number (decimal number) (omega (arith, small)) (equals (decimal number)) range.0 range.1)
 
-one_worker : number_in 1 1 (codes "1") ≡ Some 1
-one_worker = ap (number_in 1 1) (sym (decimal_digit 1 (omega arith))) ∙ in_bounds 1 1 1 (omega arith) (omega arith, omega arith)
-
-serves_values : (values : List ℕ → Option (List ℕ)) (store accounts : List ℕ) (port connections : ℕ) → IsInRange 1 65535 port → IsInRange 1 1000000 connections
+serves_values : (values : List ℕ → Option (List ℕ)) (store accounts : List ℕ) (port workers connections : ℕ)
+    → IsInRange 1 65535 port → IsInRange 1 16 workers → IsInRange 1 1000000 connections
     → values (codes "STORE") ≡ Some store → values (codes "accounts") ≡ Some accounts → values (codes "port") ≡ Some (decimal port)
-    → values (codes "workers") ≡ Some (codes "1") → values (codes "connections") ≡ Some (decimal connections)
-    → serve_by values ≡ Some (Serve store (record { accounts = accounts; port = port; connections = connections }))
+    → values (codes "workers") ≡ Some (decimal workers) → values (codes "connections") ≡ Some (decimal connections)
+    → serve_by values ≡ Some (Serve store (record { accounts = accounts; port = port; workers = workers; connections = connections }))
 unfolding options_with
-serves_values values store accounts port connections ports counts is_store is_accounts is_port is_workers is_connections =
+serves_values values store accounts port workers connections ports crew counts is_store is_accounts is_port is_workers is_connections =
     rw (
       is_store,
       is_accounts,
@@ -74,80 +72,83 @@ serves_values values store accounts port connections ports counts is_store is_ac
       is_workers,
       is_connections,
       in_bounds 1 65535 port (omega arith) ports,
-      one_worker,
+      in_bounds 1 16 workers (omega arith) crew,
       in_bounds 1 1000000 connections (omega arith) counts,
     ) refl
 
 -- ---- lines that ask to serve
 
-abbrev asks_to_serve : List ℕ → List ℕ → ℕ → ℕ → Option Command
-asks_to_serve store accounts port connections = Some (Serve store (record { accounts = accounts; port = port; connections = connections }))
+abbrev asks_to_serve : List ℕ → List ℕ → ℕ → ℕ → ℕ → Option Command
+asks_to_serve store accounts port workers connections = Some (Serve store (record { accounts = accounts; port = port; workers = workers; connections = connections }))
 
 -- a line of these parts
 by_parts : (name : List ℕ) (words : List (List ℕ)) (parts : List Part) → parts_from None words ≡ Some parts → command_in (name ∷ codes "serve" ∷ words) ≡ serve_with parts
 by_parts name words parts is = line_is_plain (name ∷ codes "serve" ∷ words) ∙ ap (option_and_then serve_with) is
 
-abbrev option_words : List ℕ → List ℕ → List ℕ → List (List ℕ) → List (List ℕ)
-option_words accounts port connections rest =
-    codes "--accounts" ∷ accounts ∷ codes "--port" ∷ port ∷ codes "--workers" ∷ codes "1" ∷ codes "--connections" ∷ connections ∷ rest
+abbrev option_words : List ℕ → List ℕ → List ℕ → List ℕ → List (List ℕ) → List (List ℕ)
+option_words accounts port workers connections rest =
+    codes "--accounts" ∷ accounts ∷ codes "--port" ∷ port ∷ codes "--workers" ∷ workers ∷ codes "--connections" ∷ connections ∷ rest
 
-abbrev joined_words : List ℕ → List ℕ → List ℕ → List (List ℕ) → List (List ℕ)
-joined_words accounts port connections rest =
-    joined (codes "accounts") accounts ∷ joined (codes "port") port ∷ joined (codes "workers") (codes "1") ∷ joined (codes "connections") connections ∷ rest
+abbrev joined_words : List ℕ → List ℕ → List ℕ → List ℕ → List (List ℕ) → List (List ℕ)
+joined_words accounts port workers connections rest =
+    joined (codes "accounts") accounts ∷ joined (codes "port") port ∷ joined (codes "workers") workers ∷ joined (codes "connections") connections ∷ rest
 
-abbrev option_parts : List ℕ → List ℕ → List ℕ → List Part → List Part
-option_parts accounts port connections rest =
-    (codes "accounts", accounts) ∷ (codes "port", port) ∷ (codes "workers", codes "1") ∷ (codes "connections", connections) ∷ rest
+abbrev option_parts : List ℕ → List ℕ → List ℕ → List ℕ → List Part → List Part
+option_parts accounts port workers connections rest =
+    (codes "accounts", accounts) ∷ (codes "port", port) ∷ (codes "workers", workers) ∷ (codes "connections", connections) ∷ rest
 
-options_apart : (accounts port connections : List ℕ) (rest : List (List ℕ)) (parts : List Part) → is_flag accounts ≡ false → is_flag port ≡ false → is_flag connections ≡ false
-    → parts_from None rest ≡ Some parts → parts_from None (option_words accounts port connections rest) ≡ Some (option_parts accounts port connections parts)
-options_apart accounts port connections rest parts no_a no_p no_c is =
+options_apart : (accounts port workers connections : List ℕ) (rest : List (List ℕ)) (parts : List Part)
+    → is_flag accounts ≡ false → is_flag port ≡ false → is_flag workers ≡ false → is_flag connections ≡ false
+    → parts_from None rest ≡ Some parts → parts_from None (option_words accounts port workers connections rest) ≡ Some (option_parts accounts port workers connections parts)
+options_apart accounts port workers connections rest parts no_a no_p no_w no_c is =
     let counted : List (List ℕ) = codes "--connections" ∷ connections ∷ rest in
-    let working : List (List ℕ) = codes "--workers" ∷ codes "1" ∷ counted in
+    let working : List (List ℕ) = codes "--workers" ∷ workers ∷ counted in
     let ported : List (List ℕ) = codes "--port" ∷ port ∷ working in
     plain_value (codes "accounts") accounts ported no_a
     ∙ ap (with_part (codes "accounts", accounts)) (plain_value (codes "port") port working no_p
-    ∙ ap (with_part (codes "port", port)) (plain_value (codes "workers") (codes "1") counted refl
-    ∙ ap (with_part (codes "workers", codes "1")) (plain_value (codes "connections") connections rest no_c
+    ∙ ap (with_part (codes "port", port)) (plain_value (codes "workers") workers counted no_w
+    ∙ ap (with_part (codes "workers", workers)) (plain_value (codes "connections") connections rest no_c
     ∙ ap (with_part (codes "connections", connections)) is)))
 
-options_joined : (accounts port connections : List ℕ) (rest : List (List ℕ)) (parts : List Part) → parts_from None rest ≡ Some parts
-    → parts_from None (joined_words accounts port connections rest) ≡ Some (option_parts accounts port connections parts)
-options_joined accounts port connections rest parts is = ap (λ more.
-    with_part (codes "accounts", accounts) (with_part (codes "port", port) (with_part (codes "workers", codes "1") (with_part (codes "connections", connections) more)))) is
+options_joined : (accounts port workers connections : List ℕ) (rest : List (List ℕ)) (parts : List Part) → parts_from None rest ≡ Some parts
+    → parts_from None (joined_words accounts port workers connections rest) ≡ Some (option_parts accounts port workers connections parts)
+options_joined accounts port workers connections rest parts is = ap (λ more.
+    with_part (codes "accounts", accounts) (with_part (codes "port", port) (with_part (codes "workers", workers) (with_part (codes "connections", connections) more)))) is
 
-store_first : (store accounts : List ℕ) (port connections : ℕ) → IsInRange 1 65535 port → IsInRange 1 1000000 connections
-    → serve_with ((codes "STORE", store) ∷ option_parts accounts (decimal port) (decimal connections) []) ≡ asks_to_serve store accounts port connections
-store_first store accounts port connections ports counts =
-    serves_values (given ((codes "STORE", store) ∷ option_parts accounts (decimal port) (decimal connections) [])) store accounts port connections ports counts refl refl refl refl refl
+store_first : (store accounts : List ℕ) (port workers connections : ℕ) → IsInRange 1 65535 port → IsInRange 1 16 workers → IsInRange 1 1000000 connections
+    → serve_with ((codes "STORE", store) ∷ option_parts accounts (decimal port) (decimal workers) (decimal connections) []) ≡ asks_to_serve store accounts port workers connections
+store_first store accounts port workers connections ports crew counts =
+    serves_values (given ((codes "STORE", store) ∷ option_parts accounts (decimal port) (decimal workers) (decimal connections) []))
+    store accounts port workers connections ports crew counts refl refl refl refl refl
 
-store_at_end : (store accounts : List ℕ) (port connections : ℕ) → IsInRange 1 65535 port → IsInRange 1 1000000 connections
-    → serve_with (option_parts accounts (decimal port) (decimal connections) ((codes "STORE", store) ∷ [])) ≡ asks_to_serve store accounts port connections
-store_at_end store accounts port connections ports counts =
-    serves_values (given (option_parts accounts (decimal port) (decimal connections) ((codes "STORE", store) ∷ []))) store accounts port connections ports counts refl refl refl refl refl
+store_at_end : (store accounts : List ℕ) (port workers connections : ℕ) → IsInRange 1 65535 port → IsInRange 1 16 workers → IsInRange 1 1000000 connections
+    → serve_with (option_parts accounts (decimal port) (decimal workers) (decimal connections) ((codes "STORE", store) ∷ [])) ≡ asks_to_serve store accounts port workers connections
+store_at_end store accounts port workers connections ports crew counts =
+    serves_values (given (option_parts accounts (decimal port) (decimal workers) (decimal connections) ((codes "STORE", store) ∷ [])))
+    store accounts port workers connections ports crew counts refl refl refl refl refl
 
 pub serve_asked : ServeIsAsked
 serve_asked = record {
-  in_order = λ name store accounts port connections pass ports counts.
-      by_parts name (store ∷ option_words accounts (decimal port) (decimal connections) []) _
-      (plain_store store (option_words accounts (decimal port) (decimal connections) []) (no_flag store pass.0)
-      ∙ ap (with_part (codes "STORE", store)) (options_apart accounts (decimal port) (decimal connections) [] [] (no_flag accounts pass.1)
-      (decimal_is_plain port (omega (arith, ports.1))) (decimal_is_plain connections counts.1) refl))
-      ∙ store_first store accounts port connections ports counts;
-  store_last = λ name store accounts port connections pass ports counts.
-      by_parts name (option_words accounts (decimal port) (decimal connections) (store ∷ [])) _
-      (options_apart accounts (decimal port) (decimal connections) (store ∷ []) ((codes "STORE", store) ∷ []) (no_flag accounts pass.1)
-      (decimal_is_plain port (omega (arith, ports.1))) (decimal_is_plain connections counts.1) (plain_store store [] (no_flag store pass.0)))
-      ∙ store_at_end store accounts port connections ports counts;
-  joined_values = λ name store accounts port connections pass ports counts.
-      by_parts name (store ∷ joined_words accounts (decimal port) (decimal connections) []) _
-      (plain_store store (joined_words accounts (decimal port) (decimal connections) []) (no_flag store pass)
-      ∙ ap (with_part (codes "STORE", store)) (options_joined accounts (decimal port) (decimal connections) [] [] refl))
-      ∙ store_first store accounts port connections ports counts;
-  any_store = λ name store accounts port connections pass ports counts.
-      by_parts name (joined_words accounts (decimal port) (decimal connections) (codes "--" ∷ store ∷ [])) _
-      (options_joined accounts (decimal port) (decimal connections) (codes "--" ∷ store ∷ []) ((codes "STORE", store) ∷ []) refl)
-      ∙ store_at_end store accounts port connections ports counts;
+  in_order = λ name store accounts port workers connections pass ports crew counts.
+      by_parts name (store ∷ option_words accounts (decimal port) (decimal workers) (decimal connections) []) _
+      (plain_store store (option_words accounts (decimal port) (decimal workers) (decimal connections) []) (no_flag store pass.0)
+      ∙ ap (with_part (codes "STORE", store)) (options_apart accounts (decimal port) (decimal workers) (decimal connections) [] [] (no_flag accounts pass.1)
+      (decimal_is_plain port (omega (arith, ports.1))) (decimal_is_plain workers (omega (arith, crew.1))) (decimal_is_plain connections counts.1) refl))
+      ∙ store_first store accounts port workers connections ports crew counts;
+  store_last = λ name store accounts port workers connections pass ports crew counts.
+      by_parts name (option_words accounts (decimal port) (decimal workers) (decimal connections) (store ∷ [])) _
+      (options_apart accounts (decimal port) (decimal workers) (decimal connections) (store ∷ []) ((codes "STORE", store) ∷ []) (no_flag accounts pass.1)
+      (decimal_is_plain port (omega (arith, ports.1))) (decimal_is_plain workers (omega (arith, crew.1))) (decimal_is_plain connections counts.1) (plain_store store [] (no_flag store pass.0)))
+      ∙ store_at_end store accounts port workers connections ports crew counts;
+  joined_values = λ name store accounts port workers connections pass ports crew counts.
+      by_parts name (store ∷ joined_words accounts (decimal port) (decimal workers) (decimal connections) []) _
+      (plain_store store (joined_words accounts (decimal port) (decimal workers) (decimal connections) []) (no_flag store pass)
+      ∙ ap (with_part (codes "STORE", store)) (options_joined accounts (decimal port) (decimal workers) (decimal connections) [] [] refl))
+      ∙ store_first store accounts port workers connections ports crew counts;
+  any_store = λ name store accounts port workers connections pass ports crew counts.
+      by_parts name (joined_words accounts (decimal port) (decimal workers) (decimal connections) (codes "--" ∷ store ∷ [])) _
+      (options_joined accounts (decimal port) (decimal workers) (decimal connections) (codes "--" ∷ store ∷ []) ((codes "STORE", store) ∷ []) refl)
+      ∙ store_at_end store accounts port workers connections ports crew counts;
 }
 
 -- ---- what the first word comes to, where nothing waits

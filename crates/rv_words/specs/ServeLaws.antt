@@ -12,26 +12,27 @@ use Rattle.rv_words.specs.declared.command.Command.TheVariants.{Serve}
 abbrev pub joined : List ℕ → List ℕ → List ℕ
 joined name value = codes "--" ++ (name ++ (codes "=" ++ value))
 
--- with each store and each accounts file that pass, and each port and number of connections in bounds, these words ask
--- to serve
-abbrev pub AskToServe : (List ℕ → List ℕ → Type 0) → (List ℕ → List ℕ → List ℕ → List ℕ → List (List ℕ)) → Type 0
-AskToServe Pass words = (name store accounts : List ℕ) (port connections : ℕ) → Pass store accounts → IsInRange 1 65535 port → IsInRange 1 1000000 connections
-    → command_in (name ∷ codes "serve" ∷ words store accounts (decimal port) (decimal connections))
-    ≡ Some (Serve store (record { accounts = accounts; port = port; connections = connections }))
+-- with each store and each accounts file that pass, and each port, number of workers and number of connections in
+-- bounds, these words ask to serve
+abbrev pub AskToServe : (List ℕ → List ℕ → Type 0) → (List ℕ → List ℕ → List ℕ → List ℕ → List ℕ → List (List ℕ)) → Type 0
+AskToServe Pass words = (name store accounts : List ℕ) (port workers connections : ℕ)
+    → Pass store accounts → IsInRange 1 65535 port → IsInRange 1 16 workers → IsInRange 1 1000000 connections
+    → command_in (name ∷ codes "serve" ∷ words store accounts (decimal port) (decimal workers) (decimal connections))
+    ≡ Some (Serve store (record { accounts = accounts; port = port; workers = workers; connections = connections }))
 
 abbrev pub NeitherBeginsWithHyphen : List ℕ → List ℕ → Type 0
 NeitherBeginsWithHyphen store accounts = (begins_with_hyphen store ≡ false) × (begins_with_hyphen accounts ≡ false)
 
 pub record ServeIsAsked : Type 0 where
-  pub in_order : AskToServe NeitherBeginsWithHyphen (λ store accounts port connections.
-      store ∷ codes "--accounts" ∷ accounts ∷ codes "--port" ∷ port ∷ codes "--workers" ∷ codes "1" ∷ codes "--connections" ∷ connections ∷ [])
-  pub store_last : AskToServe NeitherBeginsWithHyphen (λ store accounts port connections.
-      codes "--accounts" ∷ accounts ∷ codes "--port" ∷ port ∷ codes "--workers" ∷ codes "1" ∷ codes "--connections" ∷ connections ∷ store ∷ [])
+  pub in_order : AskToServe NeitherBeginsWithHyphen (λ store accounts port workers connections.
+      store ∷ codes "--accounts" ∷ accounts ∷ codes "--port" ∷ port ∷ codes "--workers" ∷ workers ∷ codes "--connections" ∷ connections ∷ [])
+  pub store_last : AskToServe NeitherBeginsWithHyphen (λ store accounts port workers connections.
+      codes "--accounts" ∷ accounts ∷ codes "--port" ∷ port ∷ codes "--workers" ∷ workers ∷ codes "--connections" ∷ connections ∷ store ∷ [])
   -- any accounts file stands after `=`, and any store after `--`
-  pub joined_values : AskToServe (λ store accounts. begins_with_hyphen store ≡ false) (λ store accounts port connections.
-      store ∷ joined (codes "accounts") accounts ∷ joined (codes "port") port ∷ joined (codes "workers") (codes "1") ∷ joined (codes "connections") connections ∷ [])
-  pub any_store : AskToServe (λ store accounts. ⊤) (λ store accounts port connections.
-      joined (codes "accounts") accounts ∷ joined (codes "port") port ∷ joined (codes "workers") (codes "1") ∷ joined (codes "connections") connections ∷ codes "--" ∷ store ∷ [])
+  pub joined_values : AskToServe (λ store accounts. begins_with_hyphen store ≡ false) (λ store accounts port workers connections.
+      store ∷ joined (codes "accounts") accounts ∷ joined (codes "port") port ∷ joined (codes "workers") workers ∷ joined (codes "connections") connections ∷ [])
+  pub any_store : AskToServe (λ store accounts. ⊤) (λ store accounts port workers connections.
+      joined (codes "accounts") accounts ∷ joined (codes "port") port ∷ joined (codes "workers") workers ∷ joined (codes "connections") connections ∷ codes "--" ∷ store ∷ [])
 
 -- the words before a first `--`
 abbrev pub before_hyphens : List (List ℕ) → List (List ℕ)

@@ -32,13 +32,13 @@ retire_group_in store group = if is_id group then Some (Retire store group) else
 abbrev pub retire_in : List Row → Option Command
 retire_in rows = option_and_then (λ store. option_and_then (retire_group_in store) (first_of (codes "GROUP") rows)) (first_of (codes "STORE") rows)
 
--- how requests are served, by the values of the names: a port, one worker, and a number of connections
+-- how requests are served, by the values of the names: a port, a number of workers, and one of connections
 unfoldable pub options_with : (Text → Option Text) → Text → Option ServeOptions
 options_with given accounts = do
   port ← option_and_then (number_in 1 65535) (given (codes "port"))
-  one ← option_and_then (number_in 1 1) (given (codes "workers"))
+  workers ← option_and_then (number_in 1 16) (given (codes "workers"))
   connections ← option_and_then (number_in 1 1000000) (given (codes "connections"))
-  Some (record { accounts = accounts; port = port; connections = connections })
+  Some (record { accounts = accounts; port = port; workers = workers; connections = connections })
 
 -- what `serve` asks for, by the values of its names
 abbrev pub serve_by : (Text → Option Text) → Option Command

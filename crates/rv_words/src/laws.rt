@@ -55,8 +55,8 @@ pub fn others_ask_for_nothing()
 {}
 
 /// The words `serve STORE` and the four options, in this order, with the store last, or with `--NAME=VALUE` for each,
-/// ask to serve the store with these: for each text that doesn't begin with `-`, and each port and number of
-/// connections in bounds. After `=` any accounts file is taken, and after `--` any store.
+/// ask to serve the store with these: for each text that doesn't begin with `-`, and each port, number of workers and
+/// number of connections in bounds. After `=` any accounts file is taken, and after `--` any store.
 pub fn serve_is_asked()
     ensures { ServeIsAsked }
 {}

@@ -117,11 +117,12 @@ fn options_with(matches: &ArgMatches<'_>, accounts: Name) -> Option<ServeOptions
     ensures { result ≡ options_with (λ name. first_of name (rows_of (found_of matches.now))) accounts }
 {
     let port = number_at(matches, "port", 1, 65_535)?;
-    let _one = number_at(matches, "workers", 1, 1)?;
+    let workers = number_at(matches, "workers", 1, 16)?;
     let connections = number_at(matches, "connections", 1, 1_000_000)?;
     Some(ServeOptions {
         accounts,
         port: port as u16,
+        workers,
         connections,
     })
 }

@@ -1,12 +1,14 @@
 use crate::name::Name;
 
-/// How the requests of connections are served: the values of `--accounts`, `--port` and `--connections`. That of `--workers` is 1.
+/// How the requests of connections are served: the values of `--accounts`, `--port`, `--workers` and `--connections`.
 #[derive(Debug, Drop)]
 pub struct ServeOptions {
     /// The name of the accounts file.
     pub accounts: Name,
     /// The port at which connections are accepted, from 1 to 65,535.
     pub port: u16,
+    /// How many workers serve connections side by side, from 1 to 16.
+    pub workers: u32,
     /// The most connections that are accepted, from 1 to 1,000,000.
     pub connections: u32,
 }

@@ -27,8 +27,9 @@ fn served(alloc: Global, store: &Name, options: &ServeOptions) -> Result<String,
     let store = quoted(alloc, store.as_str())?;
     let accounts = quoted(alloc, options.accounts.as_str())?;
     let port = options.port;
+    let workers = options.workers;
     let connections = options.connections;
-    Ok(format!(in alloc; "serve {store} {accounts} {port} {connections}")?)
+    Ok(format!(in alloc; "serve {store} {accounts} {port} {workers} {connections}")?)
 }
 
 // What the words ask for.
