@@ -169,6 +169,10 @@ module _ {K A : Type 0} (faults : K → ℕ) (tells : K → Type 0) (trouble : A
       record {
         opened = of.0;
         turn = p;
+        desk = d;
+        desk' = d';
+        first = (refl, refl, refl);
+        last = (sym last, refl);
         room = of.1;
         begins = begins;
         since = later;
@@ -197,6 +201,10 @@ module _ {K A : Type 0} (faults : K → ℕ) (tells : K → Type 0) (trouble : A
       record {
         opened = of.0;
         turn = p;
+        desk = d;
+        desk' = d';
+        first = (refl, refl, refl);
+        last = (stays tr settled.settled ∙ sym whole, refl);
         room = of.1;
         begins = begins;
         since = later;
@@ -213,6 +221,10 @@ module _ {K A : Type 0} (faults : K → ℕ) (tells : K → Type 0) (trouble : A
         after = refl;
       }
     where
+      stays : (tr : Trouble) → SettlesOrNot (served faults d) (Err tr) (served faults d') → d'.book ≡ d.book
+      stays Failed u = u.2.0
+      stays (Changed kept found) u = u.5.0
+
       go : (tr : Trouble) → SettlesOrNot (served faults d) (Err tr) (served faults d') → TurnAs trouble (Step of.0.limit) (record { history = d.book; doubt = d.doubt; came = []; made = []; left = []; first = faults d.keeper; last = faults d'.keeper }) a (Some tr)
       go Failed u = (u.0, refl, inl (record { doubt = u.1; came = refl; left = refl }))
       go (Changed kept found) u = (u.0, refl, record { doubt = u.1; came = refl; left = refl }, u.2, u.3, u.4)

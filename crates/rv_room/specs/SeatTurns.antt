@@ -63,12 +63,17 @@ module _ {A : Type 0} (trouble : A → Option Trouble) (Step : Book → A → Bo
       Rose turn.first turn.last × (turn.made ≡ []) × IsHeld turn × (kept ≡ size turn.history) × ¬ (found ≡ kept) × ¬ (found ≡ kept + 1)
 
 module _ {K A : Type 0} (faults : K → ℕ) (trouble : A → Option Trouble) (Step : ℕ → Book → A → Book → Type 0) where
-  -- A turn of a seat, by what it knows before and after. The history as it begins starts with all that the seat had seen, and the
-  -- keeper's count has not fallen since. The turn is one of the server at that history, under the limit of the room's desk. Then the
-  -- seat has seen the history as the turn ended, has what was added as its own, and remembers the rest.
+  -- A turn of a seat, by what it knows before and after. The history as it begins is the book of the room's desk, and starts with all
+  -- that the seat had seen; the keeper's count has not fallen since. The turn is one of the server at that history, under the limit of
+  -- the desk that the room was opened with, and its two counts are those of the desk's keeper. Then the seat has seen the history as the
+  -- turn ended, which is the desk's book, has what was added as its own, and remembers the rest.
   pub record IsSeatTurn (old : SeatView K) (answer : A) (new : SeatView K) : Type 0 where
     pub opened : Seated K
     pub turn : Parts
+    pub desk : Seated K
+    pub desk' : Seated K
+    pub first : (desk.book ≡ turn.history) × (desk.doubt ≡ turn.doubt) × (faults desk.keeper ≡ turn.first)
+    pub last : (desk'.book ≡ last_book turn) × (faults desk'.keeper ≡ turn.last)
     pub room : old.opened ≡ Some opened
     pub begins : StartsWith turn.history old.seen
     pub since : AllByRecursion (λ count. count ≤ turn.first) old.after
