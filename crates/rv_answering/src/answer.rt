@@ -13,3 +13,43 @@ pub enum Answer {
     /// The request was refused.
     Refused(ErrorBody),
 }
+
+impl Answer {
+    ghost use Rattle.std.specs.Prelude.{◌≡◌};
+    ghost use Rattle.rv_answering.specs.Texts.{answer_status};
+
+    /// The status that it is told with.
+    pub fn status(&self) -> u16
+        ensures { result ≡ answer_status self.now }
+    {
+        match self {
+            Answer::Pushed => 200,
+            Answer::Pulled(_) => 200,
+            Answer::Retired(_) => 200,
+            Answer::Refused(refusal) => refusal.status(),
+        }
+    }
+}
+
+/// What a request is answered, and whether something acted for it.
+#[derive(Debug, Drop)]
+pub struct Answered {
+    /// The answer.
+    pub answer: Answer,
+    /// Whether a mutation acted. It is a hint, of which no clause speaks.
+    pub acted: bool,
+}
+
+impl Answered {
+    ghost use Rattle.std.specs.Prelude.{◌≡◌};
+
+    /// An answer for which nothing acted.
+    pub fn without_act(answer: Answer) -> Answered
+        ensures { result.answer ≡ answer }
+    {
+        Answered {
+            answer,
+            acted: false,
+        }
+    }
+}

@@ -5,21 +5,23 @@ ghost use Rattle.rv_answering.specs.Reads.{IsReading};
 ghost use Rattle.rv_answering.specs.Steps.{Answers, Step};
 ghost use Rattle.rv_answering.specs.declared.request.Request.TheVariants as requests;
 
-use crate::answer::Answer;
+use crate::answer::{Answer, Answered};
 use crate::asking::Asked;
 use crate::request::Request;
 use rv_base::{Id, User};
-use rv_history::{Turns, push};
+use rv_history::{PushEnd, Turns, push};
 use rv_wire::{PullRequest, Push};
 
 /// Answers a push of a user by its turns.
-pub fn run_push<T: Turns>(turns: &mut T, user: &User, body: Push) -> Answer
-    ensures { Answers T.mutates T.pulls T.retires turns.old (requests.Push user.now body) result turns.new }
+pub fn run_push<T: Turns>(turns: &mut T, user: &User, body: Push) -> Answered
+    ensures { Answers T.mutates T.pulls T.retires turns.old (requests.Push user.now body) result.answer turns.new }
 {
-    match push(turns, user, body) {
+    let PushEnd { refusal, acted } = push(turns, user, body);
+    let answer = match refusal {
         None => Answer::Pushed,
         Some(refusal) => Answer::Refused(refusal),
-    }
+    };
+    Answered { answer, acted }
 }
 
 /// Answers a pull of a user by its turn.
@@ -47,7 +49,7 @@ pub fn serve_request<T: Turns>(turns: &mut T, request: Request) -> Answer
     ensures { Answers T.mutates T.pulls T.retires turns.old request result turns.new }
 {
     match request {
-        Request::Push { user, push } => run_push(turns, &user, push),
+        Request::Push { user, push } => run_push(turns, &user, push).answer,
         Request::Pull { user, pull } => run_pull(turns, &user, &pull),
         Request::Retire { group } => retire_group(turns, &group),
     }

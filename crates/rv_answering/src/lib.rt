@@ -12,7 +12,7 @@ mod line;
 mod request;
 mod schemas;
 
-pub use answer::Answer;
+pub use answer::{Answer, Answered};
 pub use answering::{retire_group, run_pull, run_push, serve_asked, serve_request};
 pub use asking::{Asked, line_of};
 pub use line::Line;

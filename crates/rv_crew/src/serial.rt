@@ -1,8 +1,10 @@
 use crate::crew::Crew;
+use crate::gate::OpenGate;
+use rv_base::Memory;
 use std::marker::PhantomData;
 use std::thread::Threads;
 
-/// Runs jobs one after the other.
+/// Runs jobs one after the other. Its gates hold no request.
 #[derive(Drop)]
 pub struct Serial<R: Threads + Sync> {
     runtime: PhantomData<R>,
@@ -20,7 +22,13 @@ impl<R: Threads + Sync> Serial<R> {
 impl<R: Threads + Sync> Crew for Serial<R> {
     type Runtime = R;
 
+    type Gate = OpenGate;
+
     fn runtime(&self) -> Option<&R> {
         None
+    }
+
+    fn gate(&mut self, _worker: u32) -> Result<OpenGate, Memory> {
+        Ok(OpenGate)
     }
 }

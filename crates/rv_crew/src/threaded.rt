@@ -1,7 +1,9 @@
 use crate::crew::Crew;
+use crate::gate::OpenGate;
+use rv_base::Memory;
 use std::thread::Threads;
 
-/// Runs jobs in threads.
+/// Runs jobs in threads. Its gates hold no request.
 #[derive(Drop)]
 pub struct Threaded<'r, R: Threads + Sync> {
     runtime: &'r R,
@@ -17,7 +19,13 @@ impl<'r, R: Threads + Sync> Threaded<'r, R> {
 impl<'r, R: Threads + Sync> Crew for Threaded<'r, R> {
     type Runtime = R;
 
+    type Gate = OpenGate;
+
     fn runtime(&self) -> Option<&R> {
         Some(self.runtime)
+    }
+
+    fn gate(&mut self, _worker: u32) -> Result<OpenGate, Memory> {
+        Ok(OpenGate)
     }
 }

@@ -19,7 +19,7 @@ mod turns;
 pub use order::next_order;
 pub use pull_answer::PullAnswer;
 pub use pull_reply::PullReply;
-pub use pushing::push;
+pub use pushing::{PushEnd, push};
 pub use retire_answer::RetireAnswer;
 pub use trouble::Trouble;
 pub use turn::Turn;

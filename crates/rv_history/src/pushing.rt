@@ -1,30 +1,46 @@
 // A push: mutations of a client group, one turn each.
-ghost use Rattle.std.specs.Prelude.{◌≡◌};
-ghost use Rattle.rv_history.specs.declared.turn.Turn.{Turn};
-ghost use Rattle.rv_history.specs.Machine.{Pushes, refusal};
+ghost use Rattle.rv_history.specs.Machine.{Pushes};
 
+use crate::turn::Turn;
 use crate::turns::Turns;
 use rv_base::{Id, User};
 use rv_wire::{ErrorBody, Mutation, Push};
 
-// One mutation of a group.
-fn run<T: Turns>(turns: &mut T, user: &User, group: &Id, mutation: Mutation) -> Option<ErrorBody>
-    ensures { (turn : Turn) × T.mutates turns.old (record { user = user.now; group = group.now }) mutation turn turns.new × (result ≡ refusal turn) }
-{
-    let Mutation { client, id, call } = mutation;
-    turns.mutate(user, group, &client, id, call).refusal()
+/// How a push ended.
+#[derive(Clone, Copy, Debug, PartialEq, Eq)]
+pub struct PushEnd {
+    /// The first refusal: none where each mutation was run or skipped.
+    pub refusal: Option<ErrorBody>,
+    /// Whether a mutation acted. It is a hint, of which no clause speaks.
+    pub acted: bool,
 }
 
-/// Runs the mutations of a push in order, up to the first refusal, which it gives: none where each mutation was run or
-/// skipped.
-pub fn push<T: Turns>(turns: &mut T, user: &User, push: Push) -> Option<ErrorBody>
-    ensures { Pushes T.mutates (record { user = user.now; group = push.group }) push.mutations turns.old result turns.new }
+// One mutation of a group.
+fn run<T: Turns>(turns: &mut T, user: &User, group: &Id, mutation: Mutation) -> Turn
+    ensures { T.mutates turns.old (record { user = user.now; group = group.now }) mutation result turns.new }
+{
+    let Mutation { client, id, call } = mutation;
+    turns.mutate(user, group, &client, id, call)
+}
+
+/// Runs the mutations of a push in order, up to the first refusal.
+pub fn push<T: Turns>(turns: &mut T, user: &User, push: Push) -> PushEnd
+    ensures { Pushes T.mutates (record { user = user.now; group = push.group }) push.mutations turns.old result.refusal turns.new }
 {
     let Push { group, mutations } = push;
+    let mut acted = false;
     for mutation in mutations.into_vec() {
-        if let Some(refusal) = run(turns, user, &group, mutation) {
-            return Some(refusal);
+        let turn = run(turns, user, &group, mutation);
+        acted |= matches!(turn, Turn::Acted(_));
+        if let Some(refusal) = turn.refusal() {
+            return PushEnd {
+                refusal: Some(refusal),
+                acted,
+            };
         }
     }
-    None
+    PushEnd {
+        refusal: None,
+        acted,
+    }
 }

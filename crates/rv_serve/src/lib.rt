@@ -1,8 +1,9 @@
 //! Connections are served: their requests are read, answered by turns, and the answers are written.
 //!
 //! [`serve_connection`] serves one connection, and [`serve_listener`] those of a listener, one after the other. Turns are taken
-//! by anything that implements [`rv_history::Turns`]: a server by itself, or one of several that share a book. A connection
-//! ends after an answer that closes, at its 100th request, where it ends itself, or at a fault, which [`ConnEnd`] tells.
+//! by anything that implements [`rv_history::Turns`]: a server by itself, or one of several that share a book. A request passes a
+//! [`rv_crew::Gate`] before its turns. A connection ends after an answer that closes, at its 100th request, where it ends itself, or
+//! at a fault, which [`ConnEnd`] tells.
 #![tactic(auto)]
 
 mod conn_end;

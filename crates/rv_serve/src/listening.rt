@@ -5,15 +5,17 @@ ghost use Rattle.rv_serve.specs.Listening.{ServesAll};
 
 use crate::serving::serve_with;
 use rv_accounts::Accounts;
+use rv_crew::Gate;
 use rv_history::Turns;
 use rv_net::{Accepted, Listen};
 use std::alloc::Global;
 
 /// Serves the connections of a listener, one after the other, until none is to come. Each goes back to it, whatever its end.
-pub fn serve_listener<T: Turns, L: Listen>(
+pub fn serve_listener<T: Turns, G: Gate, L: Listen>(
     alloc: Global,
     turns: &mut T,
     accounts: &Accounts,
+    gate: &mut G,
     listener: &mut L,
 )
     ensures serves { ServesAll T.mutates T.pulls T.retires accounts.now L.In.state L.Out.state L.In.fails_no_more L.Out.fails_no_more (L.tells listener.new) turns.old turns.new (L.to_come listener.old) (L.to_come listener.new) (L.came_back listener.old) (L.came_back listener.new) (L.out listener.old) (L.out listener.new) }
@@ -25,7 +27,7 @@ pub fn serve_listener<T: Turns, L: Listen>(
         match listener.accept() {
             Accepted::Conn(conn) => {
                 let mut conn = conn;
-                let (_end, left) = serve_with(alloc, turns, accounts, tools, &mut conn);
+                let (_end, left) = serve_with(alloc, turns, accounts, gate, tools, &mut conn);
                 tools = left;
                 listener.done(conn);
             }

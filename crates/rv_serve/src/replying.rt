@@ -10,7 +10,7 @@ ghost use Rattle.rv_serve.specs.Replies.{serves, user_of, asked_at, AnswersAsked
 ghost use Rattle.rv_serve.specs.Steps.{user_found};
 
 use rv_accounts::{Accounts, Schemas};
-use rv_answering::{Answer, run_pull, run_push};
+use rv_answering::{Answer, Answered, run_pull, run_push};
 use rv_base::User;
 use rv_history::Turns;
 use rv_http::{Request, Route, Routes};
@@ -34,12 +34,12 @@ fn answer_push<T: Turns>(
     schemas: &Schemas,
     user: &User,
     body: &[u8],
-) -> Answer
-    ensures { Step T.mutates T.pulls T.retires turns.old (push_asked user.now (push_body (serves (map string_bytes schemas.now)) body.now)) result turns.new }
+) -> Answered
+    ensures { Step T.mutates T.pulls T.retires turns.old (push_asked user.now (push_body (serves (map string_bytes schemas.now)) body.now)) result.answer turns.new }
 {
     match read_push(alloc, body, schemas) {
         Ok(push) => run_push(turns, user, push),
-        Err(fault) => Answer::Refused(fault.refusal()),
+        Err(fault) => Answered::without_act(Answer::Refused(fault.refusal())),
     }
 }
 
@@ -65,8 +65,8 @@ fn reply_push<T: Turns>(
     turns: &mut T,
     accounts: &Accounts,
     request: &Request,
-) -> Answer
-    ensures { AnswersAsked T.mutates T.pulls T.retires turns.old (asked_at accounts.now request.now routes.Push) result turns.new }
+) -> Answered
+    ensures { AnswersAsked T.mutates T.pulls T.retires turns.old (asked_at accounts.now request.now routes.Push) result.answer turns.new }
 {
     match user_of(accounts, request) {
         Some(user) => answer_push(
@@ -76,7 +76,7 @@ fn reply_push<T: Turns>(
             user,
             request.body.as_slice(),
         ),
-        None => Answer::Refused(ErrorBody::Unauthorized),
+        None => Answered::without_act(Answer::Refused(ErrorBody::Unauthorized)),
     }
 }
 
@@ -108,13 +108,13 @@ pub(crate) fn reply<T: Turns>(
     accounts: &Accounts,
     routes: &Routes,
     request: &Request,
-) -> Answer
-    ensures { Replies T.mutates T.pulls T.retires accounts.now turns.old request.now result turns.new }
+) -> Answered
+    ensures { Replies T.mutates T.pulls T.retires accounts.now turns.old request.now result.answer turns.new }
 {
     match routes.route(&request.method, request.path.as_slice()) {
-        Route::NoRoute => Answer::Refused(ErrorBody::NoRoute),
-        Route::OtherMethod => Answer::Refused(ErrorBody::OtherMethod),
+        Route::NoRoute => Answered::without_act(Answer::Refused(ErrorBody::NoRoute)),
+        Route::OtherMethod => Answered::without_act(Answer::Refused(ErrorBody::OtherMethod)),
         Route::Push => reply_push(alloc, turns, accounts, request),
-        Route::Pull => reply_pull(alloc, turns, accounts, request),
+        Route::Pull => Answered::without_act(reply_pull(alloc, turns, accounts, request)),
     }
 }

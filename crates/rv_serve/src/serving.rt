@@ -12,7 +12,9 @@ use crate::replying::reply;
 use crate::telling::{write_answer, write_refusal};
 use crate::tools::Tools;
 use rv_accounts::Accounts;
+use rv_answering::Answered;
 use rv_base::{Sink, Source};
+use rv_crew::Gate;
 use rv_history::Turns;
 use rv_http::{Buffer, HttpEnd, Request, Routes, WriteFault, read_request};
 use rv_net::Conn;
@@ -29,12 +31,14 @@ fn closes_at(number: u32, request: &Request) -> bool
     request.closes || number == LAST
 }
 
-// Answers a connection's so many-th request, writes the answer, and tells whether it closes.
-fn answer_request<T: Turns, O: Sink>(
+// Answers a connection's so many-th request, writes the answer, and tells whether it closes. The gate may hold the request first, and
+// hears of the answer, whether or not it could be written.
+fn answer_request<T: Turns, G: Gate, O: Sink>(
     alloc: Global,
     turns: &mut T,
     accounts: &Accounts,
     routes: &Routes,
+    gate: &mut G,
     request: &Request,
     number: u32,
     sink: &mut O,
@@ -42,9 +46,12 @@ fn answer_request<T: Turns, O: Sink>(
     ensures answers { AnswersOne T.mutates T.pulls T.retires accounts.now number turns.old request.now (O.state sink.old) (O.state sink.new) turns.new result }
     ensures steady { O.fails_no_more sink.old → IsSteady (O.fails_no_more sink.new) (O.state sink.old) (O.state sink.new) result }
 {
-    let answer = reply(alloc, turns, accounts, routes, request);
+    gate.before(number);
+    let Answered { answer, acted } = reply(alloc, turns, accounts, routes, request);
     let closes = closes_at(number, request);
-    match write_answer(sink, &answer, closes, request.head_only) {
+    let written = write_answer(sink, &answer, closes, request.head_only);
+    gate.after(answer.status(), acted);
+    match written {
         Ok(()) => Ok(closes),
         Err(WriteFault) => Err(WriteFault),
     }
@@ -93,11 +100,12 @@ fn refuse<O: Sink>(sink: &mut O, cause: HttpEnd, count: u32) -> ConnEnd
 }
 
 // Answers requests until something ends the connection.
-fn serve_requests<T: Turns, S: Source, O: Sink>(
+fn serve_requests<T: Turns, G: Gate, S: Source, O: Sink>(
     alloc: Global,
     turns: &mut T,
     accounts: &Accounts,
     routes: &Routes,
+    gate: &mut G,
     buffer: &mut Buffer,
     source: &mut S,
     sink: &mut O,
@@ -113,7 +121,16 @@ fn serve_requests<T: Turns, S: Source, O: Sink>(
             Ok(request) => request,
             Err(cause) => return refuse(sink, cause, count),
         };
-        match answer_request(alloc, turns, accounts, routes, &request, count + 1, sink) {
+        match answer_request(
+            alloc,
+            turns,
+            accounts,
+            routes,
+            gate,
+            &request,
+            count + 1,
+            sink,
+        ) {
             Ok(true) => return ConnEnd::Done(count + 1),
             Ok(false) => {}
             Err(WriteFault) => return ConnEnd::WriteFault,
@@ -124,10 +141,11 @@ fn serve_requests<T: Turns, S: Source, O: Sink>(
 
 /// Answers the requests of a connection as [`serve_connection`] does, with the tools of the connection before it, if there are any, and
 /// gives the tools for the next one.
-pub(crate) fn serve_with<T: Turns, S: Source, O: Sink>(
+pub(crate) fn serve_with<T: Turns, G: Gate, S: Source, O: Sink>(
     alloc: Global,
     turns: &mut T,
     accounts: &Accounts,
+    gate: &mut G,
     tools: Option<Tools>,
     conn: &mut Conn<S, O>,
 ) -> (ConnEnd, Option<Tools>)
@@ -144,6 +162,7 @@ pub(crate) fn serve_with<T: Turns, S: Source, O: Sink>(
         turns,
         accounts,
         &tools.routes,
+        gate,
         &mut tools.buffer,
         &mut conn.source,
         &mut conn.sink,
@@ -152,11 +171,12 @@ pub(crate) fn serve_with<T: Turns, S: Source, O: Sink>(
 }
 
 /// Answers the requests of a connection, each by its turns, until one is answered that closes, none can be read, or the
-/// connection ends.
-pub fn serve_connection<T: Turns, S: Source, O: Sink>(
+/// connection ends. Each request that was read passes the gate before its turns.
+pub fn serve_connection<T: Turns, G: Gate, S: Source, O: Sink>(
     alloc: Global,
     turns: &mut T,
     accounts: &Accounts,
+    gate: &mut G,
     conn: &mut Conn<S, O>,
 ) -> ConnEnd
     ensures talks { Talks T.mutates T.pulls T.retires accounts.now turns.old turns.new (S.state conn.old.source) (S.state conn.new.source) (O.state conn.old.sink) (O.state conn.new.sink) result }
@@ -164,6 +184,6 @@ pub fn serve_connection<T: Turns, S: Source, O: Sink>(
     ensures steady_input { S.fails_no_more conn.old.source → InputIsSteady (S.fails_no_more conn.new.source) result }
     ensures steady_output { O.fails_no_more conn.old.sink → OutputIsSteady (O.fails_no_more conn.new.sink) (O.state conn.old.sink) (O.state conn.new.sink) result }
 {
-    let (end, _tools) = serve_with(alloc, turns, accounts, None, conn);
+    let (end, _tools) = serve_with(alloc, turns, accounts, gate, None, conn);
     end
 }

@@ -25,7 +25,7 @@ fn pushed<T: Turns>(
     body: Push,
 ) -> Result<String, Memory> {
     turns.taken.clear();
-    let refusal = push(turns, user, body);
+    let refusal = push(turns, user, body).refusal;
     let mut text = taken(alloc, &turns.taken)?;
     match refusal {
         None => words::add(&mut text, "pushed")?,

@@ -14,8 +14,8 @@ cut_so {U = U} old new fault fault' text text' same w =
 
 pub returns-clause-answers : goal.returns-clause-answers
 returns-clause-answers g c = record {
-  answer = c.reply-answer.result;
+  answer = c.reply-answer.result.answer;
   replies = c.reply-answer.ensures;
-  writes = cut_so {T = Unit {0}} (g.O.Sink.state c.args.sink.now) (g.O.Sink.state c.write_answer.new.sink) c.in-Err.field-0 (record {}) _ _ (ap (λ (b : Bool). answer_text c.reply-answer.result b c.args.request.now.head_only) c.closes_at-closes.ensures) c.in-Err.ensures.writes;
+  writes = cut_so {T = Unit {0}} (g.O.Sink.state c.args.sink.now) (g.O.Sink.state c.write_answer-written.new.sink) c.in-Err.field-0 (record {}) _ _ (ap (λ (b : Bool). answer_text c.reply-answer.result.answer b c.args.request.now.head_only) c.closes_at-closes.ensures) c.in-Err.ensures.writes;
   closes = tt;
 }
