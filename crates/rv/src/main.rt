@@ -1,9 +1,10 @@
-//! The program `rv`: the words of the command line, the stores of the machine, standard input and standard output, and the machine's
-//! loopback address, handed to `rv_cli::run`.
+//! The program `rv`: the words of the command line, the stores of the machine, standard input and standard output, the machine's
+//! loopback address, and its threads, handed to `rv_cli::run`.
 #![tactic(auto)]
 
 use rv_base::{Reading, Writing};
 use rv_cli::run;
+use rv_crew::Threaded;
 use rv_net::TcpNet;
 use rv_place::HostPlace;
 use std::alloc::Global;
@@ -29,5 +30,15 @@ fn main(rt: HostRuntime) -> ExitCode {
     let mut input = Reading::new(rt.reader());
     let mut output = Writing::new(io::writer(&rt));
     let mut net = TcpNet::new(&rt);
-    ExitCode::from(run(alloc, &words, &mut place, &mut input, &mut output, &mut net))
+    let mut crew = Threaded::new(&rt);
+    ExitCode::from(run(
+        alloc,
+        &rt,
+        &words,
+        &mut place,
+        &mut input,
+        &mut output,
+        &mut net,
+        &mut crew,
+    ))
 }

@@ -90,16 +90,16 @@ module _ (pushes : PushesKeepLaw) (pulled : PullsKeepLaw) (retired : Retirements
       record { sound = kept.sound; more = kept.more; ids = λ client. ids now.book client kept.sound.lawful; orders = λ group. orders now.book group kept.sound.lawful; later = kept.later }
 
 -- no push and no retirement is answered by a reply
-no_push : (reply : PullReply) (refused : Option ErrorBody) → Pulled reply ≡ push_answer refused → ⊥
+pub no_push : (reply : PullReply) (refused : Option ErrorBody) → Pulled reply ≡ push_answer refused → ⊥
 no_push reply None e = cc
 no_push reply (Some refusal) e = cc
 
-no_retirement : (reply : PullReply) (outcome : Result ℕ ErrorBody) → Pulled reply ≡ retire_answer outcome → ⊥
+pub no_retirement : (reply : PullReply) (outcome : Result ℕ ErrorBody) → Pulled reply ≡ retire_answer outcome → ⊥
 no_retirement reply (Ok place) e = cc
 no_retirement reply (Err refusal) e = cc
 
 -- the reply is the machine's
-same_reply : (reply : PullReply) (outcome : PullAnswer) → Pulled reply ≡ pull_answer (pull_outcome outcome) → outcome ≡ pulls.Pulled reply
+pub same_reply : (reply : PullReply) (outcome : PullAnswer) → Pulled reply ≡ pull_answer (pull_outcome outcome) → outcome ≡ pulls.Pulled reply
 same_reply reply (pulls.Pulled other) e = let same : other ≡ reply = cc in ap (λ (r : PullReply). pulls.Pulled r) same
 same_reply reply pulls.GroupOfOther e = absurd (cc)
 same_reply reply pulls.NotFound e = absurd (cc)

@@ -1,21 +1,195 @@
--- What is served is a run.
-use Rattle.std.proofs.Common.{◌≡◌, Bool, true, List, [], ◌∷◌, map}
-use Rattle.std.specs.Prelude.{Some}
-use Rattle.rv_history.specs.Served.{Served, ServedMutates, ServedPulls, ServedRetires}
-use Rattle.rv_answering.specs.Requests.{Asked}
-use Rattle.rv_answering.specs.declared.answer.Answer.{Answer}
-use Rattle.rv_answering.specs.declared.line.Line.TheVariants.{Asks}
+-- What is served side by side stands in one book: its turns, its pulls, and its troubles.
+use Rattle.std.proofs.Common.{◌≡◌, ◌⊎◌, ℕ, ◌≤◌, List, [], ◌∷◌, ◌++◌, Bool, true, false, Option, Some, None, Ok, Err, refl, sym, ap, ◌∙◌, subst, append_assoc, append-nil, arith, inl, inr}
+use Rattle.std.specs.List.{AllByRecursion, flat_map}
+use Rattle.rv_base.specs.Causes.{Rose}
 use Rattle.rv_base.specs.Outside.{InputState, OutputState}
-use Rattle.rv_serve.specs.Laws.{RunsTurns}
+use Rattle.rv_accounts.specs.File.{Served as AccountsServed}
+use Rattle.rv_wire.specs.declared.pull.PullRequest.{PullRequest}
+use Rattle.rv_book.specs.Book.{Book}
+use Rattle.rv_history.specs.declared.trouble.Trouble.{Trouble}
+use Rattle.rv_history.specs.declared.trouble.Trouble.TheVariants.{Failed, Changed}
+use Rattle.rv_history.specs.declared.pull_reply.PullReply.{PullReply}
+use Rattle.rv_history.specs.declared.pull_answer.PullAnswer.{PullAnswer}
+use Rattle.rv_history.specs.declared.pull_answer.PullAnswer.TheVariants as pulls
+use Rattle.rv_history.specs.Laws.{IdsCountUp, OrdersRise, PullsShow}
+use Rattle.rv_history.specs.Served.{IsSound}
+use Rattle.rv_desk.specs.Seated.{Seated, served}
+use Rattle.rv_answering.specs.declared.answer.Answer.{Answer}
+use Rattle.rv_answering.specs.declared.answer.Answer.TheVariants.{Pulled, Pushed, Retired, Refused}
+use Rattle.rv_answering.specs.declared.request.Request.TheVariants.{Push, Pull, Retire}
+use Rattle.rv_answering.specs.Requests.{Asked}
+use Rattle.rv_answering.specs.Steps.{Step, pull_answer}
+use Rattle.rv_net.specs.declared.conn.Conn.{Conn}
+use Rattle.rv_room.specs.declared.view.SeatView.{SeatView}
+use Rattle.rv_room.specs.Lists.{StartsWith}
+use Rattle.rv_room.specs.SeatTurns.{IsSeatTurn, Parts, SeatMutates, SeatPulls, SeatRetires, TurnAs, last_book, settled_book}
+use Rattle.rv_room.specs.Views.{newcomer}
+use Rattle.rv_serve.specs.Laws.{RunsTurns, turns_of}
 use Rattle.rv_serve.specs.RunLaws.{conns_run}
-use Rattle.rv_cli.specs.Headline.{Run}
-use Rattle.rv_cli.specs.Serving.{ServedIsRun}
+use Rattle.rv_workers.specs.Serving.{EachServes, IsServed, ServesTogether}
+use Rattle.rv_cli.specs.Headline.{IsLawfulRun, ShowsAt, TellsTrouble}
+use Rattle.rv_cli.specs.Serving.{IsShownIn, ServedBooksAreLawful, ServedPullsAreShown, ServedTroublesHaveCauses, Serves, ShowsIn, StandsIn, TurnsStand, turns_served}
+use Rattle.rv_cli.proofs.LawfulRuns.{no_push, no_retirement, same_reply}
+use Rattle.rv_cli.proofs.Troubled.{HasTrouble, any_step_causes, turns_each}
 
-turns_run : (Told : Type 0) (first now : Served) (turns : List (Asked × Answer)) → RunsTurns ServedMutates ServedPulls ServedRetires first turns now
-    → Run Told first (map (λ turn. Asks turn.0) turns) (map (λ turn. Some turn.1) turns) now
-turns_run Told first now [] same = same
-turns_run Told first now (turn ∷ turns) (mid, step, rest) = (mid, step, turns_run Told mid now turns rest)
+-- ---- Fronts of lists.
 
-pub served_run : {I O : Type 0} (input : I → InputState) (output : O → OutputState) (input_steady : I → Type 0) (output_steady : O → Type 0) → ServedIsRun input output input_steady output_steady
-served_run input output input_steady output_steady told accounts first now conns serves =
-    turns_run (told ≡ true) first now _ (conns_run ServedMutates ServedPulls ServedRetires input output input_steady output_steady accounts first now conns serves)
+starts_same : {X : Type 0} (xs : List X) → StartsWith xs xs
+starts_same xs = ([], sym (append-nil xs))
+
+starts_on : {X : Type 0} (xs ys zs : List X) → StartsWith xs ys → StartsWith ys zs → StartsWith xs zs
+starts_on {X} xs ys zs (more, p) (some, q) = (some ++ more, p ∙ ap (λ (l : List X). l ++ more) q ∙ append_assoc zs some more)
+
+all_front : {X : Type 0} (Holds : X → Type 0) (xs more : List X) → AllByRecursion Holds (xs ++ more) → AllByRecursion Holds xs
+all_front Holds [] more all = tt
+all_front Holds (x ∷ xs) more (one, rest) = (one, all_front Holds xs more rest)
+
+all_last : {X : Type 0} (Holds : X → Type 0) (xs : List X) (x : X) → AllByRecursion Holds (xs ++ x ∷ []) → Holds x
+all_last Holds [] x (one, rest) = one
+all_last Holds (y ∷ ys) x (one, rest) = all_last Holds ys x rest
+
+all_both : {X : Type 0} (Holds : X → Type 0) (xs ys : List X) → AllByRecursion Holds xs → AllByRecursion Holds ys → AllByRecursion Holds (xs ++ ys)
+all_both Holds [] ys none all = all
+all_both Holds (x ∷ xs) ys (one, rest) all = (one, all_both Holds xs ys rest all)
+
+-- ---- A turn of a seat.
+
+-- what it has seen goes on, and it remembers all counts that it remembered
+record SeatGoes {K : Type 0} (old new : SeatView K) : Type 0 where
+  pub seen : StartsWith new.seen old.seen
+  pub after : StartsWith new.after old.after
+
+-- no fault of the keeper is remembered
+abbrev Quiet : {K : Type 0} → SeatView K → Type 0
+Quiet v = AllByRecursion (λ (count : ℕ). count ≤ 0) v.after
+
+module _ {K : Type 0} where
+  goes_same : (v : SeatView K) → SeatGoes v v
+  goes_same v = record { seen = starts_same v.seen; after = starts_same v.after }
+
+  goes_on : (v w u : SeatView K) → SeatGoes v w → SeatGoes w u → SeatGoes v u
+  goes_on v w u before after = record { seen = starts_on u.seen w.seen v.seen after.seen before.seen; after = starts_on u.after w.after v.after after.after before.after }
+
+  quiet_before : (v w : SeatView K) → SeatGoes v w → Quiet w → Quiet v
+  quiet_before v w goes quiet = all_front (λ (count : ℕ). count ≤ 0) v.after goes.after.0 (subst (λ (l : List ℕ). AllByRecursion (λ (count : ℕ). count ≤ 0) l) goes.after.1 quiet)
+
+module _ {K A : Type 0} (faults : K → ℕ) (trouble : A → Option Trouble) (Steps : ℕ → Book → A → Book → Type 0) (old : SeatView K) (answer : A) (new : SeatView K) (turn : IsSeatTurn faults trouble Steps old answer new) where
+  turn_goes : SeatGoes old new
+  turn_goes =
+      let p = turn.turn in
+      let grown : StartsWith new.seen p.history = (p.came ++ p.made, turn.seen ∙ append_assoc p.history p.came p.made) in
+      record { seen = starts_on new.seen p.history old.seen grown turn.begins; after = (p.last ∷ [], turn.after) }
+
+  -- where it tells a trouble, the keeper's count rose
+  turn_rises : HasTrouble (trouble answer) → Quiet new → ⊥
+  turn_rises (tr, is) quiet =
+      let last : turn.turn.last ≤ 0 = all_last (λ (count : ℕ). count ≤ 0) old.after turn.turn.last (subst (λ (l : List ℕ). AllByRecursion (λ (count : ℕ). count ≤ 0) l) turn.after quiet) in
+      risen tr (subst (λ (found : Option Trouble). TurnAs trouble (Steps turn.opened.limit) turn.turn answer found) is turn.is) last
+    where
+      none : (before now : ℕ) → Rose before now → now ≤ 0 → ⊥
+      none before now rose le = omega (arith, rose, le)
+
+      risen : (tr : Trouble) → TurnAs trouble (Steps turn.opened.limit) turn.turn answer (Some tr) → turn.turn.last ≤ 0 → ⊥
+      risen Failed took le = none turn.turn.first turn.turn.last took.0 le
+      risen (Changed kept found) took le = none turn.turn.first turn.turn.last took.0 le
+
+  turn_causes : SeatGoes old new × (HasTrouble (trouble answer) → Quiet new → ⊥)
+  turn_causes = (turn_goes, turn_rises)
+
+module _ {K : Type 0} (faults : K → ℕ) where
+  seat_step : (old new : SeatView K) (asked : Asked) (answer : Answer) → Step (SeatMutates faults) (SeatPulls faults) (SeatRetires faults) old asked answer new
+      → SeatGoes old new × (TellsTrouble (Some answer) → Quiet new → ⊥)
+  seat_step = any_step_causes (SeatMutates faults) (SeatPulls faults) (SeatRetires faults) SeatGoes (λ old new. Quiet new → ⊥) goes_same goes_on (λ s t u goes rises. rises)
+      (λ from m old new turn taken. turn_causes faults _ _ old turn new taken) (λ user request old new outcome taken. turn_causes faults _ _ old outcome new taken) (λ group old new outcome taken. turn_causes faults _ _ old outcome new taken)
+
+  seat_each : (Holds : Asked × Answer → Type 0) (last : SeatView K)
+      → ((old new : SeatView K) (turn : Asked × Answer) → Step (SeatMutates faults) (SeatPulls faults) (SeatRetires faults) old turn.0 turn.1 new → SeatGoes new last → Holds turn)
+      → (old : SeatView K) (turns : List (Asked × Answer)) → RunsTurns (SeatMutates faults) (SeatPulls faults) (SeatRetires faults) old turns last → AllByRecursion Holds turns
+  seat_each = turns_each (SeatMutates faults) (SeatPulls faults) (SeatRetires faults) SeatGoes (λ old new. Quiet new → ⊥) goes_same goes_on (λ s t u goes rises. rises)
+      (λ from m old new turn taken. turn_causes faults _ _ old turn new taken) (λ user request old new outcome taken. turn_causes faults _ _ old outcome new taken) (λ group old new outcome taken. turn_causes faults _ _ old outcome new taken)
+
+  -- ---- A pull.
+
+  shown_pull : PullsShow → (book : Book) (old new : SeatView K) (user : List ℕ) (request : PullRequest) (reply : PullReply) (outcome : PullAnswer) → StartsWith book new.seen → outcome ≡ pulls.Pulled reply → SeatPulls faults old user request outcome new
+      → IsShownIn book (Ok (Pull user request)) reply
+  shown_pull show book old new user request reply outcome within is taken =
+      let here : SeatPulls faults old user request (pulls.Pulled reply) new = subst (λ (o : PullAnswer). SeatPulls faults old user request o new) is taken in
+      let p = here.turn in record {
+        point = settled_book p;
+        new = last_book p;
+        shows = record { user = user; request = request; asks = refl; tells = show here.opened.limit user request (settled_book p) (last_book p) reply here.is.1 };
+        here = (p.made, refl);
+        within = subst (λ (b : Book). StartsWith book b) here.seen within;
+      }
+
+  shown_step : PullsShow → (book : Book) (old new : SeatView K) (asked : Asked) (reply : PullReply) → StartsWith book new.seen → Step (SeatMutates faults) (SeatPulls faults) (SeatRetires faults) old asked (Pulled reply) new → IsShownIn book asked reply
+  shown_step show book old new (Ok (Push user push)) reply within (inl wants) = absurd (let no = wants.0 in cc)
+  shown_step show book old new (Ok (Push user push)) reply within (inr (refused, h, is)) = absurd (no_push reply refused is)
+  shown_step show book old new (Ok (Pull user pull)) reply within (inl wants) = absurd (let no = wants.0 in cc)
+  shown_step show book old new (Ok (Pull user pull)) reply within (inr (outcome, h, is)) = shown_pull show book old new user pull reply outcome within (same_reply reply outcome is) h
+  shown_step show book old new (Ok (Retire group)) reply within (outcome, h, is) = absurd (no_retirement reply _ is)
+  shown_step show book old new (Err fault) reply within (inl wants) = absurd (let no = wants.0 in cc)
+  shown_step show book old new (Err fault) reply within (inr told) = absurd (let no = told.0 in cc)
+
+  shows_in : PullsShow → (book : Book) (old new : SeatView K) (asked : Asked) (answer : Answer) → StartsWith book new.seen → Step (SeatMutates faults) (SeatPulls faults) (SeatRetires faults) old asked answer new → ShowsIn book (asked, answer)
+  shows_in show book old new asked (Pulled reply) within step = shown_step show book old new asked reply within step
+  shows_in show book old new asked Pushed within step = tt
+  shows_in show book old new asked (Retired place) within step = tt
+  shows_in show book old new asked (Refused why) within step = tt
+
+-- ---- All that is served.
+
+module _ {K L I O : Type 0} (faults : K → ℕ) (kept_tells : K → Type 0) (accounts : AccountsServed) (input : I → InputState) (output : O → OutputState) (input_steady : I → Type 0) (output_steady : O → Type 0)
+    (tells : L → Type 0) (to_come came_back : L → List (Conn I O)) (out ends : L → ℕ) where
+  abbrev Is : SeatView K → L → SeatView K → L → Type 0
+  Is = Serves faults kept_tells accounts input output input_steady output_steady tells to_come came_back out ends
+
+  abbrev turns_in : (first : SeatView K) (givens : List L) (lasts : List (SeatView K)) (backs : List L) → EachServes Is first givens lasts backs → List (Asked × Answer)
+  turns_in = turns_served faults kept_tells accounts input output input_steady output_steady tells to_come came_back out ends
+
+  -- what holds of each turn of a seat whose last view is known to be good
+  served_each : (Good : SeatView K → Type 0) (Holds : Asked × Answer → Type 0)
+      → ((last old new : SeatView K) (turn : Asked × Answer) → Good last → Step (SeatMutates faults) (SeatPulls faults) (SeatRetires faults) old turn.0 turn.1 new → SeatGoes new last → Holds turn)
+      → (first : SeatView K) (givens : List L) (lasts : List (SeatView K)) (backs : List L) (each : EachServes Is first givens lasts backs) → AllByRecursion Good lasts → AllByRecursion Holds (turns_in first givens lasts backs each)
+  served_each Good Holds holds first (given ∷ givens) (last ∷ lasts) (back ∷ backs) (is, each) (good, goods) =
+      all_both Holds (turns_of accounts (flat_map (λ conn. conn.answers) is.serves.conns)) (turns_in first givens lasts backs each)
+      (seat_each faults Holds last (λ old new turn step goes. holds last old new turn good step goes) first (turns_of accounts (flat_map (λ conn. conn.answers) is.serves.conns))
+      (conns_run (SeatMutates faults) (SeatPulls faults) (SeatRetires faults) input output input_steady output_steady accounts first last is.serves.conns is.serves.serves))
+      (served_each Good Holds holds first givens lasts backs each goods)
+  served_each Good Holds holds first [] lasts backs each goods = tt
+  served_each Good Holds holds first (given ∷ givens) [] backs each goods = tt
+  served_each Good Holds holds first (given ∷ givens) (last ∷ lasts) [] each goods = tt
+
+  pub turns_stand : TurnsStand faults kept_tells accounts input output input_steady output_steady tells to_come came_back out ends
+  turns_stand opened now givens backs together =
+      served_each (λ v. StartsWith now.book v.seen) (StandsIn faults now.book)
+      (λ last old new turn within step goes. record {
+        old = old;
+        new = new;
+        step = step;
+        grows = (seat_step faults old new turn.0 turn.1 step).0.seen;
+        within = starts_on now.book last.seen new.seen within goes.seen;
+      })
+      (newcomer 1 opened) givens together.views backs together.serves together.closes.seen
+
+  pub pulls_are_shown : PullsShow → ServedPullsAreShown faults kept_tells accounts input output input_steady output_steady tells to_come came_back out ends
+  pulls_are_shown show opened now givens backs together =
+      served_each (λ v. StartsWith now.book v.seen) (ShowsIn now.book)
+      (λ last old new turn within step goes. shows_in faults show now.book old new turn.0 turn.1 (starts_on now.book last.seen new.seen within goes.seen) step)
+      (newcomer 1 opened) givens together.views backs together.serves together.closes.seen
+
+  pub troubles_have_causes : ServedTroublesHaveCauses faults kept_tells accounts input output input_steady output_steady tells to_come came_back out ends
+  troubles_have_causes opened now givens backs together =
+      served_each (λ v. AllByRecursion (λ (count : ℕ). count ≤ faults now.keeper) v.after) (λ turn. faults now.keeper ≡ 0 → TellsTrouble (Some turn.1) → ⊥)
+      (λ last old new turn counts step goes none told.
+      (seat_step faults old new turn.0 turn.1 step).1 told (quiet_before new last goes (subst (λ (n : ℕ). AllByRecursion (λ (count : ℕ). count ≤ n) last.after) none counts)))
+      (newcomer 1 opened) givens together.views backs together.serves together.closes.after
+
+  pub books_are_lawful : IdsCountUp → OrdersRise → ServedBooksAreLawful faults kept_tells accounts input output input_steady output_steady tells to_come came_back out ends
+  books_are_lawful ids orders opened now givens backs together sound = record {
+    sound = sound;
+    more = λ told. together.closes.begun;
+    ids = λ client. ids now.book client sound.lawful;
+    orders = λ group. orders now.book group sound.lawful;
+    later = together.closes.risen;
+  }

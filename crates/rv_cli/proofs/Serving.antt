@@ -3,23 +3,18 @@ use Rattle.std.proofs.Common.{◌≡◌, ◌≢◌, ◌⊎◌, ℕ, suc, ◌-◌
 use Rattle.rv_base.specs.Causes.{Rose}
 use Rattle.rv_base.specs.Outside.{InputState, OutputState}
 use Rattle.rv_accounts.specs.File.{Served as AccountsServed}
-use Rattle.rv_wire.specs.declared.push.Mutation.{Mutation}
-use Rattle.rv_wire.specs.declared.pull.PullRequest.{PullRequest}
-use Rattle.rv_history.specs.declared.turn.Turn.{Turn}
-use Rattle.rv_history.specs.declared.pull_answer.PullAnswer.{PullAnswer}
-use Rattle.rv_history.specs.declared.retire_answer.RetireAnswer.{RetireAnswer}
-use Rattle.rv_history.specs.Machine.{Sender}
-use Rattle.rv_history.specs.Served.{Served, ServedMutates, ServedPulls, ServedRetires}
-use Rattle.rv_answering.specs.StepLaws.{shown_mutates, shown_pulls, shown_retires}
-use Rattle.rv_net.specs.declared.conn.Conn.{Conn}
+use Rattle.rv_history.specs.Served.{IsSound}
 use Rattle.rv_net.specs.declared.net_fault.NetFault.{NetFault}
 use Rattle.rv_net.specs.declared.net_fault.NetFault.TheVariants as nets
-use Rattle.rv_serve.specs.Listening.{ServesAll}
-use Rattle.rv_serve.specs.TalkLaws.{all_shown}
 use Rattle.rv_keeper.specs.declared.loaded.Loaded.{Loaded}
 use Rattle.rv_keeper.specs.Stores.{OpensAs}
 use Rattle.rv_desk.specs.Seated.{Seated, HoldsBook, served}
 use Rattle.rv_book.specs.Book.{Book, size}
+use Rattle.rv_base.specs.declared.memory.Memory.{Memory as MemoryFault}
+use Rattle.rv_room.specs.declared.view.SeatView.{SeatView}
+use Rattle.rv_room.specs.Views.{newcomer}
+use Rattle.rv_workers.specs.Serving.{EachServes, ServesTogether}
+use Rattle.std.specs.Prelude.{MatchResult}
 use Rattle.rv_cli.specs.declared.ending.Ending.{Ending}
 use Rattle.rv_cli.specs.declared.ending.Ending.TheVariants as endings
 use Rattle.rv_cli.specs.declared.serve_ending.ServeEnding.{ServeEnding}
@@ -70,13 +65,13 @@ module _ {P K : Type 0} (tells : P → Type 0) (holds : P → List ℕ → Loade
 
   -- there are no accounts
   pub has_refused : (old new : P) (ending : ServeEnding) (out out' : OutputState) → Read old (Err ending) new → WritesOnly out out' (serve_text ending)
-      → HasRefused (tells new) (accounts old name) (holds old store) (OpensAs store (holds old store)) (holds new store) (faults old) (faults new) out out' ending
+      → HasRefused kept_faults (tells new) (accounts old name) (holds old store) (OpensAs store (holds old store)) (holds new store) (faults old) (faults new) out out' ending
   has_refused old new ending out out' read text = record { why = read.tells_so; stays = λ t held was. read.stays t store held was; text = text }
 
   -- the store did not open
   pub has_no_store : (old mid new : P) (said : AccountsServed) (other : Ending) (out out' : OutputState) → Read old (Ok said) mid → (tells new → tells mid)
       → IsNotOpened (tells new) (OpensAs store (holds mid store)) (holds new store) (faults mid) (faults new) other → WritesOnly out out' (serve_text (NotOpened other))
-      → HasNoStore (tells new) (accounts old name) (holds old store) (OpensAs store (holds old store)) (holds new store) (faults old) (faults new) out out' (NotOpened other)
+      → HasNoStore kept_faults (tells new) (accounts old name) (holds old store) (OpensAs store (holds old store)) (holds new store) (faults old) (faults new) out out' (NotOpened other)
   has_no_store old mid new said other out out' read before why text = record {
     other = other;
     is = refl;
@@ -117,22 +112,23 @@ module _ {P K : Type 0} (tells : P → Type 0) (holds : P → List ℕ → Loade
     pub serve_says : FileSays (tells new) (accounts old name) (Ok said)
     serve_says = says_later (tells new) old mid (Ok said) told read.tells_so.0
 
-    pub has_served : (Serves : AccountsServed → Served → Served → Type 0) (entries : ℕ) (out out' : OutputState) (ending : ServeEnding) → Serves said (served kept_faults first) (served kept_faults last)
-        → entries ≡ size last.book → TellsCount (count_text entries) out out' ending
-        → HasServed (tells new) (accounts old name) (holds old store) (OpensAs store (holds old store)) (holds new store) (faults old) (faults new) Serves out out' ending
-    has_served Serves entries out out' ending serves count text = record {
+    pub has_served : (Serves : AccountsServed → Seated K → Seated K → Type 0) (entries : ℕ) (out out' : OutputState) (ending : ServeEnding) → Serves said first last
+        → IsSound (served kept_faults last) → entries ≡ size last.book → TellsCount (count_text entries) out out' ending
+        → HasServed kept_faults (tells new) (accounts old name) (holds old store) (OpensAs store (holds old store)) (holds new store) (faults old) (faults new) Serves out out' ending
+    has_served Serves entries out out' ending serves sound count text = record {
       accounts = said;
       says = serve_says;
-      first = served kept_faults first;
-      now = served kept_faults last;
+      first = first;
+      now = last;
       begins = serve_begins;
       serves = serves;
+      sound = sound;
       leaves = serve_leaves;
       entries = tells_entries last.book entries out out' ending count text;
     }
 
     pub has_no_net : (net net' : ℕ) (out out' : OutputState) (ending : ServeEnding) → last ≡ first → IsNoNet net net' ending → WritesOnly out out' (serve_text ending)
-        → HasNoNet (tells new) (accounts old name) (holds old store) (OpensAs store (holds old store)) (holds new store) (faults old) (faults new) net net' out out' ending
+        → HasNoNet kept_faults (tells new) (accounts old name) (holds old store) (OpensAs store (holds old store)) (holds new store) (faults old) (faults new) net net' out out' ending
     has_no_net net net' out out' ending same why text = record {
       accounts = said;
       says = serve_says;
@@ -143,73 +139,59 @@ module _ {P K : Type 0} (tells : P → Type 0) (holds : P → List ℕ → Loade
       text = text;
     }
 
+-- as many listeners come back as were given
+each_back : {V L : Type 0} (Serves : V → L → V → L → Type 0) (first : V) (givens : List L) (lasts : List V) (backs : List L) → EachServes Serves first givens lasts backs → length backs ≡ length givens
+each_back Serves first [] [] [] each = refl
+each_back Serves first (given ∷ givens) (last ∷ lasts) (back ∷ backs) (one, each) = let more = each_back Serves first givens lasts backs each in omega (arith, more)
+each_back Serves first [] [] (back ∷ backs) never = absurd never
+each_back Serves first [] (last ∷ lasts) backs never = absurd never
+each_back Serves first (given ∷ givens) [] backs never = absurd never
+each_back Serves first (given ∷ givens) (last ∷ lasts) [] never = absurd never
+
+pub all_back : {K L : Type 0} (kept_faults : K → ℕ) (kept_tells : K → Type 0) (Serves : SeatView K → L → SeatView K → L → Type 0) (opened desk : Seated K) (givens backs : List L) (result : Result (Unit {0}) MemoryFault)
+    → MatchResult result (λ done. ServesTogether kept_faults kept_tells Serves opened givens desk backs) (λ refused. (desk ≡ opened) × (backs ≡ givens)) → length backs ≡ length givens
+all_back kept_faults kept_tells Serves opened desk givens backs (Ok done) together = each_back Serves (newcomer 1 opened) givens together.views backs together.serves
+all_back kept_faults kept_tells Serves opened desk givens backs (Err refused) (same, is) = ap length is
+
 -- where the desk's keeper tells at the end, it told at the beginning
-pub net_before : {L K : Type 0} (Told : Type 0) (kept_tells : K → Type 0) (tells : L → Type 0) (Serves : L → L → Type 0) (to_give left came_back back : List L) (before after : ℕ) (old new : Seated K) (result : Result (Unit {0}) NetFault)
-    → NetServed Told kept_tells tells Serves to_give left came_back back before after old new result → kept_tells new.keeper → kept_tells old.keeper
-net_before Told kept_tells tells Serves to_give left came_back back before after old new (Ok done) (serves, told, same) = told
-net_before Told kept_tells tells Serves to_give left came_back back before after old new (Err nets.Failed) (same, rose) = λ t. subst (λ (desk : Seated _). kept_tells desk.keeper) same t
-net_before Told kept_tells tells Serves to_give left came_back back before after old new (Err nets.Memory) same = λ t. subst (λ (desk : Seated _). kept_tells desk.keeper) same t
+pub net_before : {L K : Type 0} (Told : Type 0) (kept_tells : K → Type 0) (tells : L → Type 0) (Serves : List L → List L → Type 0) (workers : ℕ) (to_give left came_back back : List L) (before after : ℕ) (old new : Seated K) (result : Result (Unit {0}) NetFault)
+    → NetServed Told kept_tells tells Serves workers to_give left came_back back before after old new result → kept_tells new.keeper → kept_tells old.keeper
+net_before Told kept_tells tells Serves workers to_give left came_back back before after old new (Ok done) (serves, told, same) = told
+net_before Told kept_tells tells Serves workers to_give left came_back back before after old new (Err nets.Failed) (same, rose) = λ t. subst (λ (desk : Seated _). kept_tells desk.keeper) same t
+net_before Told kept_tells tells Serves workers to_give left came_back back before after old new (Err nets.Memory) same = λ t. subst (λ (desk : Seated _). kept_tells desk.keeper) same t
 
 module _ {P K : Type 0} (tells : P → Type 0) (holds : P → List ℕ → Loaded → Type 0) (is_out : P → List ℕ → Type 0) (accounts : P → List ℕ → List ℕ → Type 0) (faults : P → ℕ) (kept_tells : K → Type 0) (kept_holds : K → Loaded → Type 0) (kept_faults : K → ℕ) (store name : List ℕ) where
   -- the store was opened, the net was served or not, and what is told of it
   pub serve_ended : (old mid opened new : P) (said : AccountsServed) (first last : Seated K) (keeper : K) → AccountsRead tells holds accounts faults name old (Ok said) mid
       → HasOpened tells holds is_out faults kept_tells kept_faults store mid first opened → (tells opened → tells mid) → keeper ≡ last.keeper
-      → (kept_tells last.keeper → HoldsBook (kept_holds last.keeper) last.book last.doubt)
+      → (kept_tells last.keeper → HoldsBook (kept_holds last.keeper) last.book last.doubt) → IsSound (served kept_faults last)
       → WentBack tells holds is_out faults kept_tells kept_holds kept_faults store opened new keeper
-      → {L : Type 0} (Told : Type 0) (listener_tells : L → Type 0) (Serves : AccountsServed → Served → Served → L → L → Type 0) (to_give left came_back back : List L) (net net' : ℕ)
+      → {L : Type 0} (Told : Type 0) (listener_tells : L → Type 0) (Serves : AccountsServed → Seated K → Seated K → List L → List L → Type 0) (workers : ℕ) (to_give left came_back back : List L) (net net' : ℕ)
       (result : Result (Unit {0}) NetFault) (entries : ℕ) (out out' : OutputState) (ending : ServeEnding)
-      → NetServed Told kept_tells listener_tells (Serves said (served kept_faults first) (served kept_faults last)) to_give left came_back back net net' first last result
+      → NetServed Told kept_tells listener_tells (Serves said first last) workers to_give left came_back back net net' first last result
       → entries ≡ size last.book → TellsServed result entries out out' ending
-      → HasNoNet (tells new) (accounts old name) (holds old store) (OpensAs store (holds old store)) (holds new store) (faults old) (faults new) net net' out out' ending
-      ⊎ HasServed (tells new) (accounts old name) (holds old store) (OpensAs store (holds old store)) (holds new store) (faults old) (faults new)
-      (λ a f n. NetServes Told listener_tells (Serves a f n) to_give left came_back back) out out' ending
-  serve_ended old mid opened new said first last keeper read opens before is held home Told listener_tells Serves to_give left came_back back net net' result entries out out' ending net_served count told =
+      → HasNoNet kept_faults (tells new) (accounts old name) (holds old store) (OpensAs store (holds old store)) (holds new store) (faults old) (faults new) net net' out out' ending
+      ⊎ HasServed kept_faults (tells new) (accounts old name) (holds old store) (OpensAs store (holds old store)) (holds new store) (faults old) (faults new)
+      (λ a f n. NetServes Told listener_tells (Serves a f n) workers to_give left came_back back) out out' ending
+  serve_ended old mid opened new said first last keeper read opens before is held sound home Told listener_tells Serves workers to_give left came_back back net net' result entries out out' ending net_served count told =
       by_result result net_served told
     where
       kept : kept_tells last.keeper → kept_tells first.keeper
-      kept = net_before Told kept_tells listener_tells (Serves said (served kept_faults first) (served kept_faults last)) to_give left came_back back net net' first last result net_served
+      kept = net_before Told kept_tells listener_tells (Serves said first last) workers to_give left came_back back net net' first last result net_served
 
       no_net : (other : ServeEnding) → last ≡ first → IsNoNet net net' other → WritesOnly out out' (serve_text other)
-          → HasNoNet (tells new) (accounts old name) (holds old store) (OpensAs store (holds old store)) (holds new store) (faults old) (faults new) net net' out out' other
+          → HasNoNet kept_faults (tells new) (accounts old name) (holds old store) (OpensAs store (holds old store)) (holds new store) (faults old) (faults new) net net' out out' other
       no_net other same why text = has_no_net tells holds is_out accounts faults kept_tells kept_holds kept_faults store name old mid opened new said first last keeper read opens before is held kept home net net' out out' other same why text
 
-      by_result : (r : Result (Unit {0}) NetFault) → NetServed Told kept_tells listener_tells (Serves said (served kept_faults first) (served kept_faults last)) to_give left came_back back net net' first last r
+      by_result : (r : Result (Unit {0}) NetFault) → NetServed Told kept_tells listener_tells (Serves said first last) workers to_give left came_back back net net' first last r
           → TellsServed r entries out out' ending
-          → HasNoNet (tells new) (accounts old name) (holds old store) (OpensAs store (holds old store)) (holds new store) (faults old) (faults new) net net' out out' ending
-          ⊎ HasServed (tells new) (accounts old name) (holds old store) (OpensAs store (holds old store)) (holds new store) (faults old) (faults new)
-          (λ a f n. NetServes Told listener_tells (Serves a f n) to_give left came_back back) out out' ending
+          → HasNoNet kept_faults (tells new) (accounts old name) (holds old store) (OpensAs store (holds old store)) (holds new store) (faults old) (faults new) net net' out out' ending
+          ⊎ HasServed kept_faults (tells new) (accounts old name) (holds old store) (OpensAs store (holds old store)) (holds new store) (faults old) (faults new)
+          (λ a f n. NetServes Told listener_tells (Serves a f n) workers to_give left came_back back) out out' ending
       by_result (Ok done) (serves, on, same) tells_so = inr (has_served tells holds is_out accounts faults kept_tells kept_holds kept_faults store name old mid opened new said first last keeper read opens before is held kept home
-          (λ a f n. NetServes Told listener_tells (Serves a f n) to_give left came_back back) entries out out' ending serves count tells_so)
-      by_result (Err nets.Failed) (same, rose) (ends, text) = inl (subst (λ (e : ServeEnding). HasNoNet (tells new) (accounts old name) (holds old store) (OpensAs store (holds old store)) (holds new store) (faults old) (faults new) net net' out out' e) (sym ends) (no_net Net same rose text))
-      by_result (Err nets.Memory) same (ends, text) = inl (subst (λ (e : ServeEnding). HasNoNet (tells new) (accounts old name) (holds old store) (OpensAs store (holds old store)) (holds new store) (faults old) (faults new) net net' out out' e) (sym ends) (no_net Memory same tt text))
-
--- ---- What a listener's connections are served by a desk is served by the server that it shows.
-
-module _ {K : Type 0} (kept_tells : K → Type 0) (kept_faults : K → ℕ) where
-  abbrev Before : Seated K → Seated K → Type 0
-  Before old new = kept_tells new.keeper → kept_tells old.keeper
-
-  abbrev mutating : Seated K → Sender → Mutation → Turn → Seated K → Type 0
-  mutating = shown_mutates (served kept_faults) Before (λ s t. t) (λ s t u p q x. p (q x)) ServedMutates ServedPulls ServedRetires
-
-  abbrev pulling : Seated K → List ℕ → PullRequest → PullAnswer → Seated K → Type 0
-  pulling = shown_pulls (served kept_faults) Before (λ s t. t) (λ s t u p q x. p (q x)) ServedMutates ServedPulls ServedRetires
-
-  abbrev retiring : Seated K → List ℕ → RetireAnswer → Seated K → Type 0
-  retiring = shown_retires (served kept_faults) Before (λ s t. t) (λ s t u p q x. p (q x)) ServedMutates ServedPulls ServedRetires
-
-  pub desk_serves : {I O : Type 0} (said : AccountsServed) (input : I → InputState) (output : O → OutputState) (input_steady : I → Type 0) (output_steady : O → Type 0) (Told : Type 0) (old new : Seated K) (to_come left came_back back : List (Conn I O)) (out out' : ℕ)
-      → ServesAll mutating pulling retiring said input output input_steady output_steady Told old new to_come left came_back back out out'
-      → ServesAll ServedMutates ServedPulls ServedRetires said input output input_steady output_steady Told (served kept_faults old) (served kept_faults new) to_come left came_back back out out' × Before old new
-  desk_serves said input output input_steady output_steady Told old new to_come left came_back back out out' all =
-      all_shown (served kept_faults) Before (λ s t. t) (λ s t u p q x. p (q x)) ServedMutates ServedPulls ServedRetires said input output input_steady output_steady Told old new to_come left came_back back out out' all
-
--- the one listener of a list, where it was taken off and one given back
-pub one_listener : {L : Type 0} (given left : List L) (last : L) → length given ≡ 1 → given ≡ left ++ last ∷ [] → left ≡ []
-one_listener given [] last one is = refl
-one_listener given (l ∷ ls) last one is =
-    let some : length given ≡ suc (length (ls ++ last ∷ [])) = ap length is in
-    absurd (omega (arith, one, some, length-append ls (last ∷ [])))
+          (λ a f n. NetServes Told listener_tells (Serves a f n) workers to_give left came_back back) entries out out' ending serves sound count tells_so)
+      by_result (Err nets.Failed) (same, rose) (ends, text) = inl (subst (λ (e : ServeEnding). HasNoNet kept_faults (tells new) (accounts old name) (holds old store) (OpensAs store (holds old store)) (holds new store) (faults old) (faults new) net net' out out' e) (sym ends) (no_net Net same rose text))
+      by_result (Err nets.Memory) same (ends, text) = inl (subst (λ (e : ServeEnding). HasNoNet kept_faults (tells new) (accounts old name) (holds old store) (OpensAs store (holds old store)) (holds new store) (faults old) (faults new) net net' out out' e) (sym ends) (no_net Memory same tt text))
 
 -- ---- A store that keeps a lawful book is not damaged.
 
@@ -246,15 +228,15 @@ served_undamaged book old new (NotOpened ending) never is = never
 served_undamaged book old new Net never is = never
 served_undamaged book old new Memory never is = never
 
-pub serve_sound : (Told : Type 0) (HasFile : List ℕ → Type 0) (Was Stored Holds : Loaded → Type 0) (before after : ℕ) (Serves : AccountsServed → Served → Served → Type 0) (net net' : ℕ) (out out' : OutputState) (status : ℕ)
-    → Told → KeptSound Stored → RunsServe Told HasFile Was Stored Holds before after Serves net net' out out' status → status ≢ 5
-serve_sound Told HasFile Was Stored Holds before after Serves net net' out out' status told kept (ending, is, inl refused) five =
+pub serve_sound : {K : Type 0} (kept_faults : K → ℕ) (Told : Type 0) (HasFile : List ℕ → Type 0) (Was Stored Holds : Loaded → Type 0) (before after : ℕ) (Serves : AccountsServed → Seated K → Seated K → Type 0) (net net' : ℕ) (out out' : OutputState) (status : ℕ)
+    → Told → KeptSound Stored → RunsServe kept_faults Told HasFile Was Stored Holds before after Serves net net' out out' status → status ≢ 5
+serve_sound kept_faults Told HasFile Was Stored Holds before after Serves net net' out out' status told kept (ending, is, inl refused) five =
     accounts_undamaged Told HasFile before after ending refused.why (sym is ∙ five)
-serve_sound Told HasFile Was Stored Holds before after Serves net net' out out' status told kept (ending, is, inr (inl none)) five =
+serve_sound kept_faults Told HasFile Was Stored Holds before after Serves net net' out out' status told kept (ending, is, inr (inl none)) five =
     refused_sound Told Stored Holds before after told kept none.other status none.why (is ∙ ap serve_status none.is) five
-serve_sound Told HasFile Was Stored Holds before after Serves net net' out out' status told kept (ending, is, inr (inr (inl none))) five =
+serve_sound kept_faults Told HasFile Was Stored Holds before after Serves net net' out out' status told kept (ending, is, inr (inr (inl none))) five =
     net_undamaged net net' ending none.why (sym is ∙ five)
-serve_sound Told HasFile Was Stored Holds before after Serves net net' out out' status told kept (ending, is, inr (inr (inr served))) five =
+serve_sound kept_faults Told HasFile Was Stored Holds before after Serves net net' out out' status told kept (ending, is, inr (inr (inr served))) five =
     served_undamaged served.now.book out out' ending served.entries (sym is ∙ five)
 
 -- ---- What a run of `serve` tells by its status.
@@ -370,8 +352,8 @@ module _ (before after net net' : ℕ) (out out' : OutputState) (status : ℕ) w
   served_facts book Net is never = absurd never
   served_facts book Memory is never = absurd never
 
-  pub serve_facts : (Told : Type 0) (HasFile : List ℕ → Type 0) (Was Stored Holds : Loaded → Type 0) (Serves : AccountsServed → Served → Served → Type 0) → RunsServe Told HasFile Was Stored Holds before after Serves net net' out out' status → Facts
-  serve_facts Told HasFile Was Stored Holds Serves (ending, is, inl refused) = refused_facts Told HasFile ending is refused.why refused.text
-  serve_facts Told HasFile Was Stored Holds Serves (ending, is, inr (inl none)) = store_facts Told Stored Holds none.other (is ∙ ap serve_status none.is) none.why (serve_text ending) none.text
-  serve_facts Told HasFile Was Stored Holds Serves (ending, is, inr (inr (inl none))) = no_net_facts ending is none.why none.text
-  serve_facts Told HasFile Was Stored Holds Serves (ending, is, inr (inr (inr served))) = served_facts served.now.book ending is served.entries
+  pub serve_facts : {K : Type 0} (kept_faults : K → ℕ) (Told : Type 0) (HasFile : List ℕ → Type 0) (Was Stored Holds : Loaded → Type 0) (Serves : AccountsServed → Seated K → Seated K → Type 0) → RunsServe kept_faults Told HasFile Was Stored Holds before after Serves net net' out out' status → Facts
+  serve_facts kept_faults Told HasFile Was Stored Holds Serves (ending, is, inl refused) = refused_facts Told HasFile ending is refused.why refused.text
+  serve_facts kept_faults Told HasFile Was Stored Holds Serves (ending, is, inr (inl none)) = store_facts Told Stored Holds none.other (is ∙ ap serve_status none.is) none.why (serve_text ending) none.text
+  serve_facts kept_faults Told HasFile Was Stored Holds Serves (ending, is, inr (inr (inl none))) = no_net_facts ending is none.why none.text
+  serve_facts kept_faults Told HasFile Was Stored Holds Serves (ending, is, inr (inr (inr served))) = served_facts served.now.book ending is served.entries

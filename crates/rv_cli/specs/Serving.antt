@@ -1,7 +1,7 @@
--- What `run` promises of `serve`. The accounts file is read, then the store is opened, then the net is listened to; the connections
--- are served by turns of the server that follow one another; and at the end the length of the book is written.
-use Rattle.std.specs.Prelude.{ℕ, ◌≡◌, ◌⊎◌, Bool, true, List, ◌∷◌, ◌++◌, [], map, Some, Result, Ok, Err, codes, decimal}
-use Rattle.std.specs.List.{flat_map}
+-- What `run` promises of `serve`. The accounts file is read, then the store is opened, then the net is listened to; the listeners are
+-- served side by side, each by the turns of a seat; and at the end the length of the book is written.
+use Rattle.std.specs.Prelude.{ℕ, ◌≡◌, ◌⊎◌, List, ◌∷◌, ◌++◌, [], length, Some, Result, Ok, Err, codes, decimal}
+use Rattle.std.specs.List.{flat_map, AllByRecursion}
 use Rattle.std.specs.Io.KnownBytes.{Appends}
 use Rattle.rv_base.specs.Causes.{Rose}
 use Rattle.rv_base.specs.Outside.{InputState, OutputState, counted}
@@ -11,17 +11,26 @@ use Rattle.rv_accounts.specs.File.{Served as AccountsServed, file_in}
 use Rattle.rv_accounts.specs.declared.fault.AccountsFault.{AccountsFault}
 use Rattle.rv_accounts.specs.declared.fault.AccountsFault.TheVariants as accounts
 use Rattle.rv_book.specs.Book.{Book, size}
-use Rattle.rv_history.specs.Served.{Served, ServedMutates, ServedPulls, ServedRetires}
+use Rattle.rv_history.specs.Served.{Served, IsSound}
+use Rattle.rv_history.specs.declared.pull_reply.PullReply.{PullReply}
+use Rattle.rv_desk.specs.Seated.{Seated, served}
+use Rattle.rv_answering.specs.declared.answer.Answer.{Answer}
+use Rattle.rv_answering.specs.declared.answer.Answer.TheVariants.{Pulled}
+use Rattle.rv_answering.specs.Requests.{Asked}
+use Rattle.rv_answering.specs.Steps.{Step}
 use Rattle.rv_net.specs.declared.conn.Conn.{Conn}
+use Rattle.rv_room.specs.declared.view.SeatView.{SeatView}
+use Rattle.rv_room.specs.Lists.{StartsWith}
+use Rattle.rv_room.specs.SeatTurns.{SeatMutates, SeatPulls, SeatRetires}
+use Rattle.rv_room.specs.Views.{newcomer}
 use Rattle.rv_serve.specs.Laws.{turns_of}
-use Rattle.rv_serve.specs.Listening.{ServedConn, ServesAll, ServesEach}
-use Rattle.rv_answering.specs.declared.line.Line.TheVariants.{Asks}
+use Rattle.rv_workers.specs.Serving.{EachServes, IsServed, ServesTogether}
 use Rattle.rv_cli.specs.declared.ending.Ending.{Ending}
 use Rattle.rv_cli.specs.declared.ending.Ending.TheVariants as endings
 use Rattle.rv_cli.specs.declared.serve_ending.ServeEnding.{ServeEnding}
 use Rattle.rv_cli.specs.declared.serve_ending.ServeEnding.TheVariants.{Done, BadAccounts, TwiceAccounts, NotOpened, Net, Memory, Write}
 use Rattle.rv_cli.specs.Texts.{serve_status, serve_text}
-use Rattle.rv_cli.specs.Headline.{Begins, IsNotOpened, Leaves, Run, WritesOnly}
+use Rattle.rv_cli.specs.Headline.{Begins, IsLawfulRun, IsNotOpened, Leaves, ShowsAt, TellsTrouble, WritesOnly}
 
 -- ---- The accounts file. Where the place tells, it has these bytes.
 
@@ -49,20 +58,16 @@ IsNoNet before after Net = Rose before after
 IsNoNet before after Memory = Unit {0}
 IsNoNet before after ending = ⊥
 
--- One listener was served. Where the net tells, so does the listener; it was the first that the net had to give, and it came back.
-pub record NetServes {L : Type 0} (Told : Type 0) (tells : L → Type 0) (Serves : L → L → Type 0) (to_give left came_back back : List L) : Type 0 where
-  pub given : L
-  pub returned : L
+-- As many listeners were served as there are workers. Where the net tells, so does each of them; they were the first that the net had
+-- to give, and they came back, in order.
+pub record NetServes {L : Type 0} (Told : Type 0) (tells : L → Type 0) (Serves : List L → List L → Type 0) (workers : ℕ) (to_give left came_back back : List L) : Type 0 where
+  pub given : List L
+  pub returned : List L
+  pub count : length given ≡ workers
   pub serves : Serves given returned
-  pub told : Told → tells returned
-  pub first : Told → to_give ≡ given ∷ left
-  pub last : Told → back ≡ came_back ++ returned ∷ []
-
--- A listener was served: its connections were, from one state of the server to another, and it said once that no more were to come.
-pub record ListenerServes {I O : Type 0} (accounts : AccountsServed) (input : I → InputState) (output : O → OutputState) (input_steady : I → Type 0) (output_steady : O → Type 0) (Told : Type 0) (first now : Served)
-    (to_come left came_back back : List (Conn I O)) (out out' ends ends' : ℕ) : Type 0 where
-  pub serves : ServesAll ServedMutates ServedPulls ServedRetires accounts input output input_steady output_steady Told first now to_come left came_back back out out'
-  pub ended : ends' ≡ counted ends
+  pub told : Told → AllByRecursion tells returned
+  pub first : Told → to_give ≡ given ++ left
+  pub last : Told → back ≡ came_back ++ returned
 
 -- ---- The length of the book at the end.
 
@@ -75,10 +80,10 @@ TellsEntries book old new Done = Appends old.written new.written (entries_text b
 TellsEntries book old new Write = AppendsFront old.written new.written (entries_text book) × Rose old.faults new.faults
 TellsEntries book old new ending = ⊥
 
--- ---- What becomes of a run. The store held this before, is opened with this and holds this afterwards; connections are served so,
--- with these accounts, from a state of the server to another.
+-- ---- What becomes of a run. The store held this before, is opened with this and holds this afterwards; the net is served so, with
+-- these accounts, between opening a desk and closing it.
 
-module _ (Told : Type 0) (HasFile : List ℕ → Type 0) (Was Stored Holds : Loaded → Type 0) (before after : ℕ) where
+module _ {K : Type 0} (kept_faults : K → ℕ) (Told : Type 0) (HasFile : List ℕ → Type 0) (Was Stored Holds : Loaded → Type 0) (before after : ℕ) where
   -- the store was not opened, and is left as it was
   pub record HasRefused (output output' : OutputState) (ending : ServeEnding) : Type 0 where
     pub why : HasNoAccounts Told HasFile before after ending
@@ -104,27 +109,78 @@ module _ (Told : Type 0) (HasFile : List ℕ → Type 0) (Was Stored Holds : Loa
     pub leaves : Leaves Told Holds before after first
     pub text : WritesOnly output output' (serve_text ending)
 
-  -- the connections were served, and the store keeps the book that is left
-  pub record HasServed (Serves : AccountsServed → Served → Served → Type 0) (output output' : OutputState) (ending : ServeEnding) : Type 0 where
+  -- the net was served, and the store keeps the book that is left, which is lawful
+  pub record HasServed (Serves : AccountsServed → Seated K → Seated K → Type 0) (output output' : OutputState) (ending : ServeEnding) : Type 0 where
     pub accounts : AccountsServed
     pub says : FileSays Told HasFile (Ok accounts)
-    pub first : Served
-    pub now : Served
-    pub begins : Begins Told Stored first
+    pub first : Seated K
+    pub now : Seated K
+    pub begins : Begins Told Stored (served kept_faults first)
     pub serves : Serves accounts first now
-    pub leaves : Leaves Told Holds before after now
+    pub sound : IsSound (served kept_faults now)
+    pub leaves : Leaves Told Holds before after (served kept_faults now)
     pub entries : TellsEntries now.book output output' ending
 
   -- the status is that of an ending, and the run ended so
-  abbrev pub RunsServe : (AccountsServed → Served → Served → Type 0) → ℕ → ℕ → OutputState → OutputState → ℕ → Type 0
+  abbrev pub RunsServe : (AccountsServed → Seated K → Seated K → Type 0) → ℕ → ℕ → OutputState → OutputState → ℕ → Type 0
   RunsServe Serves net net' output output' status = (ending : ServeEnding) × (status ≡ serve_status ending)
       × (HasRefused output output' ending ⊎ HasNoStore output output' ending ⊎ HasNoNet net net' output output' ending ⊎ HasServed Serves output output' ending)
 
 -- ---- What follows.
 
--- What was answered over connections that were served one after another is one run, of what their requests asked. Nothing is closed
--- and opened again in it. So what holds of runs holds of what is served.
-abbrev pub ServedIsRun : {I O : Type 0} → (I → InputState) → (O → OutputState) → (I → Type 0) → (O → Type 0) → Type 0
-ServedIsRun {I} {O} input output input_steady output_steady = (told : Bool) (accounts : AccountsServed) (first now : Served) (conns : List (ServedConn I O))
-    → ServesEach ServedMutates ServedPulls ServedRetires accounts input output input_steady output_steady first conns now
-    → (let turns = turns_of accounts (flat_map (λ conn. conn.answers) conns) in Run (told ≡ true) first (map (λ turn. Asks turn.0) turns) (map (λ turn. Some turn.1) turns) now)
+-- A turn of a seat that is closed: what was asked, with its answer. The seat's book as the turn began is a front of its book as the turn
+-- ended, and that one is a front of the book at the end.
+pub record StandsIn {K : Type 0} (faults : K → ℕ) (book : Book) (turn : Asked × Answer) : Type 0 where
+  pub old : SeatView K
+  pub new : SeatView K
+  pub step : Step (SeatMutates faults) (SeatPulls faults) (SeatRetires faults) old turn.0 turn.1 new
+  pub grows : StartsWith new.seen old.seen
+  pub within : StartsWith book new.seen
+
+-- A pull that was answered shows what its user sees at a point of the book at the end.
+pub record IsShownIn (book : Book) (asked : Asked) (reply : PullReply) : Type 0 where
+  pub point : Book
+  pub new : Book
+  pub shows : ShowsAt asked reply point new
+  pub here : StartsWith new point
+  pub within : StartsWith book new
+
+-- where the answer is a pull's
+abbrev pub ShowsIn : Book → Asked × Answer → Type 0
+ShowsIn book (asked, Pulled reply) = IsShownIn book asked reply
+ShowsIn book (asked, answer) = Unit {0}
+
+module _ {K L I O : Type 0} (faults : K → ℕ) (kept_tells : K → Type 0) (accounts : AccountsServed) (input : I → InputState) (output : O → OutputState) (input_steady : I → Type 0) (output_steady : O → Type 0)
+    (tells : L → Type 0) (to_come came_back : L → List (Conn I O)) (out ends : L → ℕ) where
+  -- a listener is served, by its seat
+  abbrev pub Serves : SeatView K → L → SeatView K → L → Type 0
+  Serves first given last back = IsServed faults accounts input output input_steady output_steady tells to_come came_back out ends first given last back
+
+  -- All that was asked over the connections of the listeners, with its answers, listener by listener.
+  abbrev pub turns_served : (first : SeatView K) (givens : List L) (lasts : List (SeatView K)) (backs : List L) → EachServes Serves first givens lasts backs → List (Asked × Answer)
+  turns_served first (given ∷ givens) (last ∷ lasts) (back ∷ backs) (is, each) = turns_of accounts (flat_map (λ conn. conn.answers) is.serves.conns) ++ turns_served first givens lasts backs each
+  turns_served first [] lasts backs each = []
+  turns_served first (given ∷ givens) [] backs each = []
+  turns_served first (given ∷ givens) (last ∷ lasts) [] each = []
+
+  -- something holds of all that was asked, where the desk was opened as the first and closed as the last
+  abbrev pub OfAllServed : (Seated K → Seated K → Asked × Answer → Type 0) → Type 0
+  OfAllServed Holds = (opened now : Seated K) (givens backs : List L) (together : ServesTogether faults kept_tells Serves opened givens now backs)
+      → AllByRecursion (Holds opened now) (turns_served (newcomer 1 opened) givens together.views backs together.serves)
+
+  -- Each turn stands in the book at the end.
+  abbrev pub TurnsStand : Type 0
+  TurnsStand = OfAllServed (λ opened now turn. StandsIn faults now.book turn)
+
+  -- The patch of each pull, applied to the view that its cookie names, gives exactly what the user sees at that point of the book.
+  abbrev pub ServedPullsAreShown : Type 0
+  ServedPullsAreShown = OfAllServed (λ opened now turn. ShowsIn now.book turn)
+
+  -- Where no fault of what keeps the book rose, no answer tells a trouble with it.
+  abbrev pub ServedTroublesHaveCauses : Type 0
+  ServedTroublesHaveCauses = OfAllServed (λ opened now turn. faults now.keeper ≡ 0 → TellsTrouble (Some turn.1) → ⊥)
+
+  -- The book at the end begins with the first, each client's acts in it have the ids 1, 2, 3 and so on, and the orders of each group's
+  -- looks rise.
+  abbrev pub ServedBooksAreLawful : Type 0
+  ServedBooksAreLawful = (opened now : Seated K) (givens backs : List L) → ServesTogether faults kept_tells Serves opened givens now backs → IsSound (served faults now) → IsLawfulRun (Unit {0}) (served faults opened) (served faults now)

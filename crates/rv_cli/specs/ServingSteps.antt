@@ -36,12 +36,12 @@ pub record AccountsRead {P : Type 0} (tells : P → Type 0) (holds : P → List 
   pub stays : tells new → (store : List ℕ) (held : Loaded) → holds old store held → holds new store held
   pub tells_so : TellsAccounts (tells new) (accounts old name) (faults old) (faults new) result
 
--- The net was served by the turns of a desk, or nothing was listened to and the desk is as it was.
-abbrev pub NetServed : {L K : Type 0} → Type 0 → (K → Type 0) → (L → Type 0) → (L → L → Type 0) → List L → List L → List L → List L → ℕ → ℕ → Seated K → Seated K → Result (Unit {0}) NetFault → Type 0
-NetServed Told kept_tells tells Serves to_give left came_back back before after old new (Ok done) =
-    NetServes Told tells Serves to_give left came_back back × (kept_tells new.keeper → kept_tells old.keeper) × (after ≡ before)
-NetServed Told kept_tells tells Serves to_give left came_back back before after old new (Err nets.Failed) = (new ≡ old) × Rose before after
-NetServed Told kept_tells tells Serves to_give left came_back back before after old new (Err nets.Memory) = new ≡ old
+-- The net was served at a desk, or nothing was served and the desk is as it was.
+abbrev pub NetServed : {L K : Type 0} → Type 0 → (K → Type 0) → (L → Type 0) → (List L → List L → Type 0) → ℕ → List L → List L → List L → List L → ℕ → ℕ → Seated K → Seated K → Result (Unit {0}) NetFault → Type 0
+NetServed Told kept_tells tells Serves workers to_give left came_back back before after old new (Ok done) =
+    NetServes Told tells Serves workers to_give left came_back back × (kept_tells new.keeper → kept_tells old.keeper) × (after ≡ before)
+NetServed Told kept_tells tells Serves workers to_give left came_back back before after old new (Err nets.Failed) = (new ≡ old) × Rose before after
+NetServed Told kept_tells tells Serves workers to_give left came_back back before after old new (Err nets.Memory) = new ≡ old
 
 -- all of a count and its label was written, or a front, and a write failed
 abbrev pub TellsCount : List ℕ → OutputState → OutputState → ServeEnding → Type 0

@@ -1,8 +1,10 @@
 //! What follows from the clause of [`run`](crate::run), as contracts of functions that do nothing: a check of the crate
 //! proves them.
+ghost use Rattle.rv_accounts.specs.File.{Served as AccountsServed};
 ghost use Rattle.rv_cli.specs.Headline.{BooksAreLawful, PullsAreShown, TroublesHaveCauses};
-ghost use Rattle.rv_cli.specs.Serving.{ServedIsRun};
+ghost use Rattle.rv_cli.specs.Serving.{ServedBooksAreLawful, ServedPullsAreShown, ServedTroublesHaveCauses, TurnsStand};
 
+use rv_keeper::Keeper;
 use rv_net::Listen;
 
 /// In the book of a run from a lawful book each client's acts have the ids 1, 2, 3 and so on, and the orders of each group's looks
@@ -33,8 +35,29 @@ pub fn troubles_have_causes()
     ensures { TroublesHaveCauses }
 {}
 
-/// What is answered over the connections of a listener is a run, so that the laws of runs hold of it: the book is lawful, each pull
-/// shows what its user sees, and a trouble has its cause.
-pub fn served_is_run<L: Listen>()
-    ensures { ServedIsRun L.In.state L.Out.state L.In.fails_no_more L.Out.fails_no_more }
+/// What is answered over the connections of listeners that are served side by side stands in one book: each turn began at a front of it
+/// that its seat had seen, or a longer one, and ended at one.
+pub fn turns_stand<K: Keeper, L: Listen>()
+    ensures { (accounts : AccountsServed) → TurnsStand K.faults K.tells accounts L.In.state L.Out.state L.In.fails_no_more L.Out.fails_no_more L.tells L.to_come L.came_back L.out L.ends }
+{}
+
+/// In that book each client's acts have the ids 1, 2, 3 and so on, and the orders of each group's looks rise.
+pub fn served_books_are_lawful<K: Keeper, L: Listen>()
+    ensures { (accounts : AccountsServed) → ServedBooksAreLawful K.faults K.tells accounts L.In.state L.Out.state L.In.fails_no_more L.Out.fails_no_more L.tells L.to_come L.came_back L.out L.ends }
+{
+    rv_history::laws::ids_count_up();
+    rv_history::laws::orders_rise();
+}
+
+/// The patch of each pull that was answered so, applied to the view that its cookie names, gives exactly what the user sees at a point of
+/// that book.
+pub fn served_pulls_are_shown<K: Keeper, L: Listen>()
+    ensures { (accounts : AccountsServed) → ServedPullsAreShown K.faults K.tells accounts L.In.state L.Out.state L.In.fails_no_more L.Out.fails_no_more L.tells L.to_come L.came_back L.out L.ends }
+{
+    rv_history::laws::pulls_show();
+}
+
+/// An answer that tells a trouble with what keeps the book comes only where a fault of that rose.
+pub fn served_troubles_have_causes<K: Keeper, L: Listen>()
+    ensures { (accounts : AccountsServed) → ServedTroublesHaveCauses K.faults K.tells accounts L.In.state L.Out.state L.In.fails_no_more L.Out.fails_no_more L.tells L.to_come L.came_back L.out L.ends }
 {}

@@ -9,10 +9,11 @@ ghost use Rattle.rv_answering.specs.declared.request.Request.TheVariants.{Retire
 ghost use Rattle.rv_cli.specs.Texts.{usage_text, status_of, status_text};
 ghost use Rattle.rv_cli.specs.Headline.{RunsFeed, RunsOne, RunsReport, TellsActivity, TellsLists, TellsSound, WritesOnly, AllAsk, IsOther, KeptSound};
 ghost use Rattle.rv_cli.specs.Commands.{IsReportOf};
-ghost use Rattle.rv_cli.specs.Serving.{ListenerServes, NetServes, RunsServe};
+ghost use Rattle.rv_cli.specs.Serving.{NetServes, RunsServe};
 ghost use Rattle.rv_cli.specs.Replying.{Retired, WritesReply};
 ghost use Rattle.rv_cli.specs.Steadiness.{OutputIsSteady};
 ghost use Rattle.rv_cli.specs.declared.ending.Ending.TheVariants as endings;
+ghost use Rattle.rv_workers.specs.Serving.{IsServed, ServesTogether};
 
 use crate::ending::Ending;
 use crate::feed::feed;
@@ -22,11 +23,13 @@ use crate::store::{open_desk, refuse_opening};
 use crate::texts::{write_answer, write_ending, write_usage};
 use rv_answering::{Answer, retire_group};
 use rv_base::{Failed, Id, Memory, Sink, Source};
+use rv_crew::Crew;
 use rv_desk::Desk;
 use rv_keeper::{Keeper, Place};
-use rv_net::Net;
+use rv_net::{Listen, Net};
 use rv_words::{Command, command_of};
 use std::alloc::Global;
+use std::sync::Wait;
 
 /// Answers the lines of the input, each as it was read, from the book that the store keeps: the command `feed STORE`. The status is
 /// 0, 4, 5, 6, 7, 8 or 10, as [`run`] says.
@@ -132,20 +135,25 @@ fn give_up<O: Sink>(out: &mut O) -> u8
 /// Does what the words say, and answers the status of the process.
 ///
 /// The first word is the program's name and is not read. `feed STORE` answers the lines of the input, each as it was read, from the
-/// book that the store keeps; `serve STORE` answers the requests of connections so; `retire STORE GROUP` retires a client group there; `lists STORE`, `activity STORE` and `check STORE` are reports of the store, which stays as it is. STORE is `memory`, which begins empty, or the
+/// book that the store keeps; `serve STORE` answers the requests of connections so, which workers serve side by side; `retire STORE GROUP` retires a client group there; `lists STORE`, `activity STORE` and `check STORE` are reports of the store, which stays as it is. STORE is `memory`, which begins empty, or the
 /// name of a store of the place. Status 0: the input was read to its end, and all that was asked is answered. 2: the words are no
 /// line of the command set. 3: the accounts file is not of the form. 4: the place or the keeper failed in opening, the accounts file
 /// could not be read, or a report is asked of a store that isn't there. 5: the store is damaged, first at this shelf and key. 6: a
 /// read failed. 7: a write failed. 8: memory was refused outside a request. 9: the net failed. 10: the line that is named is not of the form. Each but
 /// 0 and 7 has a text of its own, which is written last.
-pub fn run<P: Place, S: Source, O: Sink, N: Net>(
+pub fn run<R: Wait + Sync, P: Place, S: Source, O: Sink, N: Net, C: Crew>(
     alloc: Global,
+    runtime: &R,
     words: &[String],
     place: &mut P,
     input: &mut S,
     out: &mut O,
     net: &mut N,
+    crew: &mut C,
 ) -> u8
+where
+    <N::Listen as Listen>::In: Send,
+    <N::Listen as Listen>::Out: Send,
     // The words are no line of the set exactly at 2, unless memory was refused in reading them. Then, and for every command
     // but `feed`, the input is not read.
     ensures usage { result ≡ 2 → command_in (map string_bytes words.now) ≡ None }
@@ -168,14 +176,15 @@ pub fn run<P: Place, S: Source, O: Sink, N: Net>(
         → RunsOne (P.tells place.new) (OpensAs store (P.holds place.old store)) (P.holds place.new store) (P.faults place.old) (P.faults place.new) (Ok (Retire group)) (O.state out.old) (O.state out.new) result
         ⊎ ((result ≡ 8) × (place.new ≡ place.old) × WritesOnly (O.state out.old) (O.state out.new) (status_text endings.Memory)) }
 
-    // What is written to connections are the answers to their requests, over turns that follow one another from the book that the
-    // store kept, and the store keeps the book that they leave.
+    // What is written to connections are the answers to their requests, over turns of seats at one book from the one that the store
+    // kept, and the store keeps the book that they leave.
     ensures serve { (store : List ℕ) (options : ServeOptions) → command_in (map string_bytes words.now) ≡ Some (commands.Serve store options)
-        → RunsServe (P.tells place.new) (P.accounts place.old options.accounts) (P.holds place.old store) (OpensAs store (P.holds place.old store)) (P.holds place.new store) (P.faults place.old) (P.faults place.new)
+        → RunsServe P.Kept.faults (P.tells place.new) (P.accounts place.old options.accounts) (P.holds place.old store) (OpensAs store (P.holds place.old store)) (P.holds place.new store) (P.faults place.old) (P.faults place.new)
         (λ accounts first now. NetServes (N.tells net.new) N.Listen.tells
-        (λ given returned. ListenerServes accounts N.Listen.In.state N.Listen.Out.state N.Listen.In.fails_no_more N.Listen.Out.fails_no_more (N.Listen.tells returned) first now
-        (N.Listen.to_come given) (N.Listen.to_come returned) (N.Listen.came_back given) (N.Listen.came_back returned) (N.Listen.out given) (N.Listen.out returned) (N.Listen.ends given) (N.Listen.ends returned))
-        (N.to_give net.old) (N.to_give net.new) (N.came_back net.old) (N.came_back net.new))
+        (λ given returned. ServesTogether P.Kept.faults P.Kept.tells
+        (λ view listener view' listener'. IsServed P.Kept.faults accounts N.Listen.In.state N.Listen.Out.state N.Listen.In.fails_no_more N.Listen.Out.fails_no_more N.Listen.tells N.Listen.to_come N.Listen.came_back N.Listen.out N.Listen.ends view listener view' listener')
+        first given now returned)
+        options.workers (N.to_give net.old) (N.to_give net.new) (N.came_back net.old) (N.came_back net.new))
         (N.faults net.old) (N.faults net.new) (O.state out.old) (O.state out.new) result
         ⊎ ((result ≡ 8) × (place.new ≡ place.old) × (net.new ≡ net.old) × WritesOnly (O.state out.old) (O.state out.new) (status_text endings.Memory)) }
 
@@ -248,6 +257,8 @@ pub fn run<P: Place, S: Source, O: Sink, N: Net>(
         Ok(Some(Command::Check { store })) => run_check(alloc, place, store.as_str(), out),
         Ok(Some(Command::Serve { store, options })) => run_serve(
             alloc,
+            runtime,
+            crew,
             place,
             store.as_str(),
             &options,

@@ -1,26 +1,28 @@
 // The command `serve`: the accounts are read, the store is opened, and its desk serves the connections of a net.
-ghost use Rattle.std.specs.Prelude.{◌≡◌, ◌≢◌, ◌⊎◌};
+ghost use Rattle.std.specs.Prelude.{◌≡◌, ◌≢◌, ◌⊎◌, None};
 ghost use Rattle.rv_base.specs.Causes.{Rose};
 ghost use Rattle.rv_keeper.specs.Stores.{OpensAs};
 ghost use Rattle.rv_cli.specs.Headline.{KeptSound, WritesOnly};
-ghost use Rattle.rv_desk.specs.Seated.{served};
-ghost use Rattle.rv_cli.specs.Serving.{ListenerServes, NetServes, RunsServe};
+ghost use Rattle.rv_cli.specs.Serving.{NetServes, RunsServe};
 ghost use Rattle.rv_cli.specs.ServingSteps.{AccountsRead, NetServed, TellsCount, TellsFile, TellsServed, count_text};
 ghost use Rattle.rv_cli.specs.Steadiness.{ServeIsSteady};
 ghost use Rattle.rv_cli.specs.Texts.{serve_status, serve_text};
+ghost use Rattle.rv_workers.specs.Serving.{IsServed, ServesTogether};
 
 use crate::ending::Ending;
 use crate::serve_ending::ServeEnding;
 use crate::store::open_desk;
 use crate::texts::{write_count, write_serve_ending};
 use rv_accounts::{Accounts, AccountsFault, read_accounts};
-use rv_base::{Bytes, Failed, Sink};
+use rv_base::{Bytes, Failed, Memory, Sink};
+use rv_crew::Crew;
 use rv_desk::Desk;
 use rv_keeper::{KeepFault, Keeper, Place};
-use rv_net::{Net, NetFault};
-use rv_serve::serve_listener;
+use rv_net::{Listen, Listeners, Net, NetFault};
 use rv_words::ServeOptions;
+use rv_workers::serve_listeners;
 use std::alloc::Global;
+use std::sync::Wait;
 
 // What the bytes of an accounts file say.
 fn accounts_in(alloc: Global, bytes: &Bytes) -> Result<Accounts, ServeEnding>
@@ -45,27 +47,38 @@ fn accounts_of<P: Place>(alloc: Global, place: &mut P, name: &str) -> Result<Acc
     }
 }
 
-// Serves the connections of one listener by the turns of a desk.
-fn serve_net<K: Keeper, N: Net>(
+// Serves the connections of as many listeners as there are workers, side by side at a desk, and gives the desk back.
+fn serve_net<R: Wait + Sync, K: Keeper + Send, N: Net, C: Crew>(
     alloc: Global,
-    desk: &mut Desk<K>,
+    runtime: &R,
+    crew: &mut C,
     accounts: &Accounts,
+    desk: Desk<K>,
     options: &ServeOptions,
     net: &mut N,
-) -> Result<(), NetFault>
+) -> (Result<(), NetFault>, Desk<K>)
+where
+    <N::Listen as Listen>::In: Send,
+    <N::Listen as Listen>::Out: Send,
+    requires { desk.doubt ≡ None }
     ensures { NetServed (N.tells net.new) K.tells N.Listen.tells
-        (λ given returned. ListenerServes accounts.now N.Listen.In.state N.Listen.Out.state N.Listen.In.fails_no_more N.Listen.Out.fails_no_more (N.Listen.tells returned) (served K.faults desk.old) (served K.faults desk.new)
-        (N.Listen.to_come given) (N.Listen.to_come returned) (N.Listen.came_back given) (N.Listen.came_back returned) (N.Listen.out given) (N.Listen.out returned) (N.Listen.ends given) (N.Listen.ends returned))
-        (N.to_give net.old) (N.to_give net.new) (N.came_back net.old) (N.came_back net.new) (N.faults net.old) (N.faults net.new) desk.old desk.new result }
+        (λ given returned. ServesTogether K.faults K.tells
+        (λ view listener view' listener'. IsServed K.faults accounts.now N.Listen.In.state N.Listen.Out.state N.Listen.In.fails_no_more N.Listen.Out.fails_no_more N.Listen.tells N.Listen.to_come N.Listen.came_back N.Listen.out N.Listen.ends view listener view' listener')
+        desk given result.1 returned)
+        options.now.workers (N.to_give net.old) (N.to_give net.new) (N.came_back net.old) (N.came_back net.new) (N.faults net.old) (N.faults net.new) desk result.1 result.0 }
 {
-    let mut listeners = net.listen(options.port, 1, options.connections)?;
-    let Some(mut listener) = listeners.take() else {
-        unreachable!();
+    let listeners = match net.listen(options.port, options.workers, options.connections) {
+        Ok(listeners) => listeners.into_vec(),
+        Err(fault) => return (Err(fault), desk),
     };
-    serve_listener(alloc, desk, accounts, &mut listener);
-    listeners.give(listener);
-    net.done(listeners);
-    Ok(())
+    let (served, desk, listeners) = serve_listeners(
+        alloc, runtime, crew, accounts, desk, listeners,
+    );
+    net.done(Listeners::from_vec(listeners));
+    match served {
+        Ok(()) => (Ok(()), desk),
+        Err(Memory) => (Err(NetFault::Memory), desk),
+    }
 }
 
 // Writes how many entries the book has that was served; or why nothing was served.
@@ -102,19 +115,25 @@ fn tell<O: Sink>(out: &mut O, ending: ServeEnding) -> ServeEnding
 }
 
 // What `run_serve` does.
-fn serve_all<P: Place, O: Sink, N: Net>(
+fn serve_all<R: Wait + Sync, P: Place, O: Sink, N: Net, C: Crew>(
     alloc: Global,
+    runtime: &R,
+    crew: &mut C,
     place: &mut P,
     store: &str,
     options: &ServeOptions,
     out: &mut O,
     net: &mut N,
 ) -> u8
-    ensures serve { RunsServe (P.tells place.new) (P.accounts place.old options.now.accounts) (P.holds place.old store.now) (OpensAs store.now (P.holds place.old store.now)) (P.holds place.new store.now) (P.faults place.old) (P.faults place.new)
+where
+    <N::Listen as Listen>::In: Send,
+    <N::Listen as Listen>::Out: Send,
+    ensures serve { RunsServe P.Kept.faults (P.tells place.new) (P.accounts place.old options.now.accounts) (P.holds place.old store.now) (OpensAs store.now (P.holds place.old store.now)) (P.holds place.new store.now) (P.faults place.old) (P.faults place.new)
         (λ accounts first now. NetServes (N.tells net.new) N.Listen.tells
-        (λ given returned. ListenerServes accounts N.Listen.In.state N.Listen.Out.state N.Listen.In.fails_no_more N.Listen.Out.fails_no_more (N.Listen.tells returned) first now
-        (N.Listen.to_come given) (N.Listen.to_come returned) (N.Listen.came_back given) (N.Listen.came_back returned) (N.Listen.out given) (N.Listen.out returned) (N.Listen.ends given) (N.Listen.ends returned))
-        (N.to_give net.old) (N.to_give net.new) (N.came_back net.old) (N.came_back net.new))
+        (λ given returned. ServesTogether P.Kept.faults P.Kept.tells
+        (λ view listener view' listener'. IsServed P.Kept.faults accounts N.Listen.In.state N.Listen.Out.state N.Listen.In.fails_no_more N.Listen.Out.fails_no_more N.Listen.tells N.Listen.to_come N.Listen.came_back N.Listen.out N.Listen.ends view listener view' listener')
+        first given now returned)
+        options.now.workers (N.to_give net.old) (N.to_give net.new) (N.came_back net.old) (N.came_back net.new))
         (N.faults net.old) (N.faults net.new) (O.state out.old) (O.state out.new) result }
     ensures steady { O.fails_no_more out.old → O.fails_no_more out.new × (Rose (O.state out.old).refusals (O.state out.new).refusals ⊎ (result ≢ 7)) }
 {
@@ -122,34 +141,41 @@ fn serve_all<P: Place, O: Sink, N: Net>(
         Ok(accounts) => accounts,
         Err(ending) => return tell(out, ending).status(),
     };
-    let mut desk = match open_desk(alloc, place, store) {
+    let desk = match open_desk(alloc, place, store) {
         Ok(desk) => desk,
         Err(ending) => return tell(out, ServeEnding::NotOpened(ending)).status(),
     };
-    let served = serve_net(alloc, &mut desk, &accounts, options, net);
+    let (served, desk) = serve_net(alloc, runtime, crew, &accounts, desk, options, net);
     let entries = desk.book().len();
     place.close_keeper(store, desk.close());
     tell_served(out, served, entries).status()
 }
 
 /// Answers the requests of connections, from the book that the store keeps: the command `serve STORE`. The accounts file is read
-/// before the store is opened, and the net is listened to after that. At the end the number of the book's entries is written. The
+/// before the store is opened, and the net is listened to after that. As many workers as the options say serve connections side by
+/// side, each those of a listener of its own, and the crew runs them. At the end the number of the book's entries is written. The
 /// status is 0, 3, 4, 5, 7, 8 or 9.
-pub fn run_serve<P: Place, O: Sink, N: Net>(
+pub fn run_serve<R: Wait + Sync, P: Place, O: Sink, N: Net, C: Crew>(
     alloc: Global,
+    runtime: &R,
+    crew: &mut C,
     place: &mut P,
     store: &str,
     options: &ServeOptions,
     out: &mut O,
     net: &mut N,
 ) -> u8
-    // What is written are the answers to the requests of connections, over turns that follow one another from the book that the store
-    // kept, and the store keeps the book that they leave.
-    ensures serve { RunsServe (P.tells place.new) (P.accounts place.old options.now.accounts) (P.holds place.old store.now) (OpensAs store.now (P.holds place.old store.now)) (P.holds place.new store.now) (P.faults place.old) (P.faults place.new)
+where
+    <N::Listen as Listen>::In: Send,
+    <N::Listen as Listen>::Out: Send,
+    // What is written are the answers to the requests of connections, over turns of seats at one book from the one that the store kept,
+    // and the store keeps the book that they leave.
+    ensures serve { RunsServe P.Kept.faults (P.tells place.new) (P.accounts place.old options.now.accounts) (P.holds place.old store.now) (OpensAs store.now (P.holds place.old store.now)) (P.holds place.new store.now) (P.faults place.old) (P.faults place.new)
         (λ accounts first now. NetServes (N.tells net.new) N.Listen.tells
-        (λ given returned. ListenerServes accounts N.Listen.In.state N.Listen.Out.state N.Listen.In.fails_no_more N.Listen.Out.fails_no_more (N.Listen.tells returned) first now
-        (N.Listen.to_come given) (N.Listen.to_come returned) (N.Listen.came_back given) (N.Listen.came_back returned) (N.Listen.out given) (N.Listen.out returned) (N.Listen.ends given) (N.Listen.ends returned))
-        (N.to_give net.old) (N.to_give net.new) (N.came_back net.old) (N.came_back net.new))
+        (λ given returned. ServesTogether P.Kept.faults P.Kept.tells
+        (λ view listener view' listener'. IsServed P.Kept.faults accounts N.Listen.In.state N.Listen.Out.state N.Listen.In.fails_no_more N.Listen.Out.fails_no_more N.Listen.tells N.Listen.to_come N.Listen.came_back N.Listen.out N.Listen.ends view listener view' listener')
+        first given now returned)
+        options.now.workers (N.to_give net.old) (N.to_give net.new) (N.came_back net.old) (N.came_back net.new))
         (N.faults net.old) (N.faults net.new) (O.state out.old) (O.state out.new) result }
 
     // Where the place tells, and the store kept a lawful book within the limit, the status is no damage.
@@ -163,5 +189,5 @@ pub fn run_serve<P: Place, O: Sink, N: Net>(
     ensures complete { result ≡ 0 ⊎ result ≡ 3 ⊎ result ≡ 4 ⊎ result ≡ 5 ⊎ result ≡ 7 ⊎ result ≡ 8 ⊎ result ≡ 9 }
     ensures steady { O.fails_no_more out.old → O.fails_no_more out.new × (Rose (O.state out.old).refusals (O.state out.new).refusals ⊎ (result ≢ 7)) }
 {
-    serve_all(alloc, place, store, options, out, net)
+    serve_all(alloc, runtime, crew, place, store, options, out, net)
 }

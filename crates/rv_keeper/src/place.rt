@@ -10,7 +10,7 @@ use rv_base::Bytes;
 /// Where the keepers of stores come from, by the stores' names, and go back to; and where accounts files are read.
 pub trait Place {
     /// What keeps one store.
-    type Kept: Keeper;
+    type Kept: Keeper + Send;
 
     /// The place tells what its stores hold. One that has once stopped to tell does not tell again.
     ghost tells: { Self → Type 0 };

@@ -29,7 +29,7 @@ impl<L> Listeners<L> {
     }
 
     /// The listeners as a vector, which are not moved.
-    pub(crate) fn into_vec(self) -> Vec<L>
+    pub fn into_vec(self) -> Vec<L>
         ensures { result.items ≡ self.listeners }
     {
         let Listeners { items } = self;

@@ -11,7 +11,7 @@ use crate::net_fault::NetFault;
 /// Where listeners come from, and go back to when their connections are served.
 pub trait Net {
     /// What gives the connections.
-    type Listen: Listen;
+    type Listen: Listen + Send;
 
     /// The net tells which listeners it gives and which came back. One that has once stopped to tell does not tell again.
     ghost tells: { Self → Type 0 };

@@ -8,11 +8,11 @@ use Rattle.rv_room.specs.Seats.{view_of}
 use Rattle.rv_serve.specs.Listening.{ServesAll}
 use Rattle.rv_workers.specs.declared.worker.Worker.{Worker}
 
-module _ {R K L I O : Type 0} {G : Ghosts K} (faults : K → ℕ) (input : I → InputState) (output : O → OutputState) (input_steady : I → Type 0) (output_steady : O → Type 0)
+module _ {R K L W I O : Type 0} {G : Ghosts K} (faults : K → ℕ) (input : I → InputState) (output : O → OutputState) (input_steady : I → Type 0) (output_steady : O → Type 0)
     (tells : L → Type 0) (to_come came_back : L → List (Conn I O)) (out ends : L → ℕ) where
   -- It is in the same room. Its listener's connections were served by turns of its seat, one after the other, and the listener said once
   -- that no more were to come.
-  abbrev pub HasServed : Worker R K L I O G → Worker R K L I O G → Type 0
+  abbrev pub HasServed : Worker R K L W I O G → Worker R K L W I O G → Type 0
   HasServed old new =
       (new.turns.room.now ≡ old.turns.room.now)
       × (tells new.listener → tells old.listener)

@@ -7,24 +7,28 @@ ghost use Rattle.rv_workers.specs.Hiring.{turned};
 
 use crate::worker::Worker;
 use rv_accounts::Accounts;
+use rv_crew::Gate;
 use rv_keeper::Keeper;
 use rv_net::Listen;
 use rv_room::{Room, Seats};
 use std::alloc::Global;
 use std::sync::Wait;
 
-/// Hires a worker for each listener, each with a seat of its own. The worker of the last listener comes first. It takes no memory.
-pub(crate) fn hire_all<'x, R: Wait, K: Keeper, L: Listen>(
+/// Hires a worker for each listener, each with a seat and a gate of its own. The worker of the last listener comes first. It takes no
+/// memory.
+pub(crate) fn hire_all<'x, R: Wait, K: Keeper, L: Listen, G: Gate>(
     alloc: Global,
     runtime: &'x R,
     room: &'x Room<K>,
     accounts: &'x Accounts,
     seats: &mut Seats<K>,
     listeners: &mut Vec<L>,
-    workers: &mut Vec<Worker<'x, R, K, L>>,
+    gates: &mut Vec<G>,
+    workers: &mut Vec<Worker<'x, R, K, L, G>>,
 )
     requires new { AllNew (id_of room.now) (opened_of room.now) seats.old.list.items }
     requires enough { vec_len seats.old.list ≡ vec_len listeners.old }
+    requires gated { vec_len gates.old ≡ vec_len listeners.old }
     requires fits { (workers.old.items ≡ []) × (vec_len listeners.old ≤ vec_capacity workers.old) }
     ensures listeners { (listeners.new.items ≡ []) × (vec_capacity listeners.new ≡ vec_capacity listeners.old) }
     ensures seats { (seats.new.list.items ≡ []) × (vec_capacity seats.new.list ≡ vec_capacity seats.old.list) }
@@ -35,14 +39,17 @@ pub(crate) fn hire_all<'x, R: Wait, K: Keeper, L: Listen>(
         let Some(seat) = seats.take() else {
             unreachable!()
         };
-        workers.push_reserved(Worker::new(alloc, runtime, room, accounts, seat, listener));
+        let Some(gate) = gates.pop() else {
+            unreachable!()
+        };
+        workers.push_reserved(Worker::new(alloc, runtime, room, accounts, seat, listener, gate));
     }
 }
 
 /// Takes seats and listeners back from workers: those of the last worker come first. It takes no memory.
-pub(crate) fn dismiss_all<'x, R: Wait, K: Keeper, L: Listen>(
+pub(crate) fn dismiss_all<'x, R: Wait, K: Keeper, L: Listen, G: Gate>(
     room: &'x Room<K>,
-    mut workers: Vec<Worker<'x, R, K, L>>,
+    mut workers: Vec<Worker<'x, R, K, L, G>>,
     seats: &mut Seats<K>,
     listeners: &mut Vec<L>,
 )

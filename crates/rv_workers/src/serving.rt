@@ -1,5 +1,5 @@
 // Listeners are served side by side.
-ghost use Rattle.std.specs.Prelude.{◌≡◌, ◌<◌, ◌≤◌, ◌^◌, [], map, None, vec_len, vec_capacity, MatchResult};
+ghost use Rattle.std.specs.Prelude.{◌≡◌, ◌<◌, ◌≤◌, ◌^◌, [], map, None, vec_len, vec_capacity, IfOk, MatchResult};
 ghost use Rattle.rv_base.specs.Outside.{counted};
 ghost use Rattle.rv_room.specs.Seats.{id_of, opened_of, view_of, AllNew, AllOf};
 ghost use Rattle.rv_room.specs.Views.{newcomer};
@@ -17,6 +17,17 @@ use rv_room::{Room, Seats};
 use std::alloc::Global;
 use std::sync::Wait;
 
+// The gates of so many workers, that of the first worker last.
+fn gates_of<C: Crew>(alloc: Global, crew: &mut C, count: u32) -> Result<Vec<C::Gate>, Memory>
+    ensures { IfOk result (λ gates. vec_len gates ≡ count) }
+{
+    let mut gates = Vec::with_capacity(alloc, count as usize)?;
+    for taken in 0..count {
+        gates.push_reserved(crew.gate(count - taken)?);
+    }
+    Ok(gates)
+}
+
 // Serves listeners in a room, with its seats, and gives both back.
 fn serve_in<'x, R: Wait + Sync, K: Keeper + Send, L: Listen + Send, C: Crew>(
     alloc: Global,
@@ -24,7 +35,8 @@ fn serve_in<'x, R: Wait + Sync, K: Keeper + Send, L: Listen + Send, C: Crew>(
     crew: &C,
     accounts: &'x Accounts,
     room: &'x Room<K>,
-    mut workers: Vec<Worker<'x, R, K, L>>,
+    mut workers: Vec<Worker<'x, R, K, L, C::Gate>>,
+    mut gates: Vec<C::Gate>,
     mut seats: Seats<K>,
     mut listeners: Vec<L>,
 ) -> (Seats<K>, Vec<L>)
@@ -33,6 +45,7 @@ where
     L::Out: Send,
     requires new { AllNew (id_of room.now) (opened_of room.now) seats.list.items }
     requires enough { vec_len seats.list ≡ vec_len listeners }
+    requires gated { vec_len gates ≡ vec_len listeners }
     requires fits { (workers.items ≡ []) × (vec_len listeners ≤ vec_capacity workers) }
     ensures seats { vec_len result.0.list ≡ vec_len seats.list }
     ensures of { AllOf (id_of room.now) result.0.list.items }
@@ -45,6 +58,7 @@ where
         accounts,
         &mut seats,
         &mut listeners,
+        &mut gates,
         &mut workers,
     );
     run_all(crew, workers.as_mut_slice());
@@ -57,7 +71,7 @@ where
 pub fn serve_listeners<R: Wait + Sync, K: Keeper + Send, L: Listen + Send, C: Crew>(
     alloc: Global,
     runtime: &R,
-    crew: &C,
+    crew: &mut C,
     accounts: &Accounts,
     desk: Desk<K>,
     listeners: Vec<L>,
@@ -65,12 +79,18 @@ pub fn serve_listeners<R: Wait + Sync, K: Keeper + Send, L: Listen + Send, C: Cr
 where
     L::In: Send,
     L::Out: Send,
-    requires some { (0 < vec_len listeners) × (vec_len listeners < 2 ^ 32) }
+    requires few { vec_len listeners < 2 ^ 32 }
     requires settled { desk.doubt ≡ None }
     ensures { MatchResult result.0
         (λ done. ServesTogether K.faults K.tells (λ first given last back. IsServed K.faults accounts.now L.In.state L.Out.state L.In.fails_no_more L.Out.fails_no_more L.tells L.to_come L.came_back L.out L.ends first given last back) desk listeners.items result.1 result.2.items)
         (λ refused. (result.1 ≡ desk) × (result.2.items ≡ listeners.items)) }
 {
+    if listeners.is_empty() {
+        return (Ok(()), desk, listeners);
+    }
+    let Ok(gates) = gates_of(alloc, crew, listeners.len() as u32) else {
+        return (Err(Memory), desk, listeners);
+    };
     let Ok(workers) = Vec::with_capacity(alloc, listeners.len()) else {
         return (Err(Memory), desk, listeners);
     };
@@ -82,7 +102,7 @@ where
         }
     };
     let (seats, listeners) = serve_in(
-        alloc, runtime, crew, accounts, &room, workers, seats, listeners,
+        alloc, runtime, crew, accounts, &room, workers, gates, seats, listeners,
     );
     (Ok(()), room.close(seats), listeners)
 }

@@ -2,7 +2,7 @@ ghost use Rattle.std.specs.Prelude.{◌≡◌};
 ghost use Rattle.rv_room.specs.Seats.{id_of, room_of};
 
 use rv_accounts::Accounts;
-use rv_crew::Job;
+use rv_crew::{Gate, Job};
 use rv_keeper::Keeper;
 use rv_net::Listen;
 use rv_room::{Room, Seat, SeatTurns};
@@ -10,16 +10,17 @@ use rv_serve::serve_listener;
 use std::alloc::Global;
 use std::sync::Wait;
 
-/// One worker, which serves the connections of its listener by the turns of its seat.
-pub struct Worker<'a, R: Wait, K: Keeper, L: Listen> {
+/// One worker, which serves the connections of its listener by the turns of its seat. Each request passes its gate.
+pub struct Worker<'a, R: Wait, K: Keeper, L: Listen, G: Gate> {
     alloc: Global,
     turns: SeatTurns<'a, R, K>,
     accounts: &'a Accounts,
     listener: L,
+    gate: G,
 }
 
-impl<'a, R: Wait, K: Keeper, L: Listen> Worker<'a, R, K, L> {
-    /// A worker with a seat of this room.
+impl<'a, R: Wait, K: Keeper, L: Listen, G: Gate> Worker<'a, R, K, L, G> {
+    /// A worker with a seat of this room, and its gate.
     pub(crate) fn new(
         alloc: Global,
         runtime: &'a R,
@@ -27,7 +28,8 @@ impl<'a, R: Wait, K: Keeper, L: Listen> Worker<'a, R, K, L> {
         accounts: &'a Accounts,
         seat: Seat<K>,
         listener: L,
-    ) -> Worker<'a, R, K, L>
+        gate: G,
+    ) -> Worker<'a, R, K, L, G>
         requires { room_of seat ≡ id_of room.now }
         ensures room { result.turns.room.now ≡ room.now }
         ensures seat { result.turns.seat ≡ seat }
@@ -39,6 +41,7 @@ impl<'a, R: Wait, K: Keeper, L: Listen> Worker<'a, R, K, L> {
             turns: SeatTurns::new(runtime, room, seat),
             accounts,
             listener,
+            gate,
         }
     }
 
@@ -53,12 +56,14 @@ impl<'a, R: Wait, K: Keeper, L: Listen> Worker<'a, R, K, L> {
             turns,
             accounts: _accounts,
             listener,
+            gate: _gate,
         } = self;
         (turns.into_seat(), listener)
     }
 }
 
-impl<'a, R: Wait + Sync, K: Keeper + Send, L: Listen + Send> Job for Worker<'a, R, K, L>
+impl<'a, R: Wait + Sync, K: Keeper + Send, L: Listen + Send, G: Gate + Send> Job
+    for Worker<'a, R, K, L, G>
 where
     L::In: Send,
     L::Out: Send,
@@ -74,6 +79,7 @@ where
             self.alloc,
             &mut self.turns,
             self.accounts,
+            &mut self.gate,
             &mut self.listener,
         );
     }

@@ -7,26 +7,38 @@
 mod files;
 mod runs;
 mod session;
+mod stage;
 
 use rv_base::Memory;
 use session::Session;
+use stage::Stage;
+use std::sync::Wait;
+use std::thread::Threads;
 
 // What a command prints, where it is one.
-fn printed(rt: &HostRuntime, session: &mut Session, line: &str) -> Result<Option<String>, Memory> {
+fn printed<R: Threads + Wait + Sync>(
+    stage: &Stage<'_, R>,
+    session: &mut Session,
+    line: &str,
+) -> Result<Option<String>, Memory> {
     let (word, rest) = line.split_once(' ').unwrap_or((line, ""));
     match word {
-        "rv" => Ok(Some(runs::run_words(rt, session, line)?)),
-        "accounts" => Ok(Some(runs::read_accounts(rt, rest)?)),
-        "while-open" => Ok(Some(runs::run_beside(rt, session, rest)?)),
-        "remember" => Ok(Some(files::remember(rt, session, rest)?)),
-        "is" => Ok(Some(files::compare(rt, session, rest)?)),
+        "rv" => Ok(Some(runs::run_words(stage, session, line)?)),
+        "accounts" => Ok(Some(runs::read_accounts(stage.host, rest)?)),
+        "while-open" => Ok(Some(runs::run_beside(stage, session, rest)?)),
+        "remember" => Ok(Some(files::remember(stage.host, session, rest)?)),
+        "is" => Ok(Some(files::compare(stage.host, session, rest)?)),
         _ => Ok(None),
     }
 }
 
 // What a line prints, each with LF at its end.
-fn answer(rt: &HostRuntime, session: &mut Session, line: &str) -> Result<String, Memory> {
-    let alloc = rt.alloc();
+fn answer<R: Threads + Wait + Sync>(
+    stage: &Stage<'_, R>,
+    session: &mut Session,
+    line: &str,
+) -> Result<String, Memory> {
+    let alloc = stage.host.alloc();
     if line.starts_with("== ") {
         return Ok(format!(in alloc; "{line}\n")?);
     }
@@ -34,25 +46,33 @@ fn answer(rt: &HostRuntime, session: &mut Session, line: &str) -> Result<String,
         session.add_line(line)?;
         return Ok(String::new(alloc));
     }
-    match printed(rt, session, line)? {
+    match printed(stage, session, line)? {
         Some(text) => Ok(text),
         None => Ok(format!(in alloc; "?? {line}\n")?),
     }
 }
 
 // Prints what a line prints.
-fn print_answer(rt: &HostRuntime, session: &mut Session, line: &str) -> anyhow::Result<()> {
+fn print_answer<R: Threads + Wait + Sync>(
+    stage: &Stage<'_, R>,
+    session: &mut Session,
+    line: &str,
+) -> anyhow::Result<()> {
     if !line.starts_with('#') {
-        let text = answer(rt, session, line)?;
-        print!(rt; "{text}")?;
+        let text = answer(stage, session, line)?;
+        print!(stage.host; "{text}")?;
     }
     Ok(())
 }
 
 fn main(rt: HostRuntime) -> anyhow::Result<()> {
     let mut session = Session::new(rt.alloc());
+    let stage = Stage {
+        host: &rt,
+        threads: &rt,
+    };
     for line in rt.lines(rt.alloc()) {
-        print_answer(&rt, &mut session, line?.as_str())?;
+        print_answer(&stage, &mut session, line?.as_str())?;
     }
     Ok(())
 }

@@ -2,9 +2,12 @@
 use crate::files::connection;
 use crate::nets::{answers_in, conn, net_of, served, written};
 use crate::runs::{SERVE, run_line};
+use crate::stage::Stage;
 use rv_base::Memory;
 use rv_net::{MemoryConn, MemoryNet};
 use std::alloc::Global;
+use std::sync::Wait;
+use std::thread::Threads;
 
 // One of these two words.
 fn said(test: bool, yes: &'static str, no: &'static str) -> &'static str {
@@ -19,10 +22,13 @@ fn only<T: Drop>(alloc: Global, item: T) -> Result<Vec<T>, Memory> {
 }
 
 // Serves these connections one after the other, and gives the net with what was told.
-fn serve_conns(rt: &HostRuntime, conns: Vec<MemoryConn>) -> Result<(MemoryNet, String), Memory> {
-    let alloc = rt.alloc();
+fn serve_conns<R: Threads + Wait + Sync>(
+    stage: &Stage<'_, R>,
+    conns: Vec<MemoryConn>,
+) -> Result<(MemoryNet, String), Memory> {
+    let alloc = stage.host.alloc();
     let mut net = net_of(alloc, conns, Vec::new(alloc))?;
-    let told = run_line(rt, SERVE, &mut net)?;
+    let told = run_line(stage, SERVE, &mut net)?;
     Ok((net, told))
 }
 
@@ -43,19 +49,23 @@ fn left_over(alloc: Global, net: &MemoryNet, number: usize) -> Result<String, Me
 
 /// `serves NAME MOST`: the connection NAME in pieces of at most so many bytes. Prints whether what was written is what must come, how
 /// many answers there are, and what the program told.
-pub fn serves(rt: &HostRuntime, rest: &str) -> Result<Option<String>, Memory> {
-    let alloc = rt.alloc();
+pub fn serves<R: Threads + Wait + Sync>(
+    stage: &Stage<'_, R>,
+    rest: &str,
+) -> Result<Option<String>, Memory> {
+    let alloc = stage.host.alloc();
     let Some((name, most)) = rest.split_once(' ') else {
         return Ok(None);
     };
-    let (Ok(most), Some((sent, expected))) = (most.parse::<usize>(), connection(rt, name)?) else {
+    let (Ok(most), Some((sent, expected))) = (most.parse::<usize>(), connection(stage.host, name)?)
+    else {
         return Ok(None);
     };
     let conns = only(
         alloc,
         conn(alloc, sent, most, Vec::new(alloc), Vec::new(alloc)),
     )?;
-    let (net, told) = serve_conns(rt, conns)?;
+    let (net, told) = serve_conns(stage, conns)?;
     let same = said(
         written(&net, 0) == expected.as_slice(),
         "the same",
@@ -66,20 +76,20 @@ pub fn serves(rt: &HostRuntime, rest: &str) -> Result<Option<String>, Memory> {
 }
 
 // How many answers come where the connection ends after so many bytes; none where they are not those that must come.
-fn answers_of_front(
-    rt: &HostRuntime,
+fn answers_of_front<R: Threads + Wait + Sync>(
+    stage: &Stage<'_, R>,
     sent: &[u8],
     count: usize,
     expected: &[u8],
 ) -> Result<Option<usize>, Memory> {
-    let alloc = rt.alloc();
+    let alloc = stage.host.alloc();
     let (front, _rest) = sent.split_at(count.min(sent.len()));
     let bytes = front.to_vec(alloc)?;
     let conns = only(
         alloc,
         conn(alloc, bytes, 100_000, Vec::new(alloc), Vec::new(alloc)),
     )?;
-    let (net, _told) = serve_conns(rt, conns)?;
+    let (net, _told) = serve_conns(stage, conns)?;
     let text = written(&net, 0);
     if expected.starts_with(text) {
         Ok(Some(answers_in(text)))
@@ -108,15 +118,18 @@ fn note(
 }
 
 /// `ends NAME`: the connection NAME ends after each number of its bytes. Prints how many answers come, and from which number on.
-pub fn ends(rt: &HostRuntime, name: &str) -> Result<Option<String>, Memory> {
-    let Some((sent, expected)) = connection(rt, name)? else {
+pub fn ends<R: Threads + Wait + Sync>(
+    stage: &Stage<'_, R>,
+    name: &str,
+) -> Result<Option<String>, Memory> {
+    let Some((sent, expected)) = connection(stage.host, name)? else {
         return Ok(None);
     };
-    let mut text = String::from_str(rt.alloc(), name)?;
+    let mut text = String::from_str(stage.host.alloc(), name)?;
     let mut before = None;
     for count in 0..=sent.len() {
-        let answers = answers_of_front(rt, &sent, count, &expected)?;
-        note(rt.alloc(), &mut text, count, answers, before)?;
+        let answers = answers_of_front(stage, &sent, count, &expected)?;
+        note(stage.host.alloc(), &mut text, count, answers, before)?;
         before = answers;
     }
     text.push_str("\n")?;
@@ -124,22 +137,22 @@ pub fn ends(rt: &HostRuntime, name: &str) -> Result<Option<String>, Memory> {
 }
 
 // The connection NAME, of which a call fails, and after it one without a key.
-fn fails(
-    rt: &HostRuntime,
+fn fails<R: Threads + Wait + Sync>(
+    stage: &Stage<'_, R>,
     name: &str,
     reads: Vec<u64>,
     writes: Vec<u64>,
 ) -> Result<Option<String>, Memory> {
-    let alloc = rt.alloc();
+    let alloc = stage.host.alloc();
     let (Some((sent, expected)), Some((other, refused))) = (
-        connection(rt, name)?,
-        connection(rt, "no-key")?,
+        connection(stage.host, name)?,
+        connection(stage.host, "no-key")?,
     ) else {
         return Ok(None);
     };
     let mut conns = only(alloc, conn(alloc, sent, 64, reads, writes))?;
     conns.push(conn(alloc, other, 64, Vec::new(alloc), Vec::new(alloc)))?;
-    let (net, told) = serve_conns(rt, conns)?;
+    let (net, told) = serve_conns(stage, conns)?;
     let front = said(
         expected.starts_with(written(&net, 0)),
         "a front",
@@ -164,35 +177,44 @@ fn named_call(rest: &str) -> Option<(&str, u64)> {
 
 /// `read-fails NAME CALL`: the read with this number fails. Prints what was written, what is left, and whether the next connection
 /// is served.
-pub fn read_fails(rt: &HostRuntime, rest: &str) -> Result<Option<String>, Memory> {
-    let alloc = rt.alloc();
+pub fn read_fails<R: Threads + Wait + Sync>(
+    stage: &Stage<'_, R>,
+    rest: &str,
+) -> Result<Option<String>, Memory> {
+    let alloc = stage.host.alloc();
     match named_call(rest) {
-        Some((name, call)) => fails(rt, name, only(alloc, call)?, Vec::new(alloc)),
+        Some((name, call)) => fails(stage, name, only(alloc, call)?, Vec::new(alloc)),
         None => Ok(None),
     }
 }
 
 /// `write-fails NAME CALL`: the write with this number fails.
-pub fn write_fails(rt: &HostRuntime, rest: &str) -> Result<Option<String>, Memory> {
-    let alloc = rt.alloc();
+pub fn write_fails<R: Threads + Wait + Sync>(
+    stage: &Stage<'_, R>,
+    rest: &str,
+) -> Result<Option<String>, Memory> {
+    let alloc = stage.host.alloc();
     match named_call(rest) {
-        Some((name, call)) => fails(rt, name, Vec::new(alloc), only(alloc, call)?),
+        Some((name, call)) => fails(stage, name, Vec::new(alloc), only(alloc, call)?),
         None => Ok(None),
     }
 }
 
 /// `net-fails`: nothing can be listened to.
-pub fn net_fails(rt: &HostRuntime) -> Result<Option<String>, Memory> {
-    let alloc = rt.alloc();
+pub fn net_fails<R: Threads + Wait + Sync>(stage: &Stage<'_, R>) -> Result<Option<String>, Memory> {
+    let alloc = stage.host.alloc();
     let mut net = net_of(alloc, Vec::new(alloc), only(alloc, 1)?)?;
-    let told = run_line(rt, SERVE, &mut net)?;
+    let told = run_line(stage, SERVE, &mut net)?;
     Ok(Some(format!(in alloc; "{told}\n")?))
 }
 
 /// `rv WORD ..`: runs these words over a net to which no connection comes, and prints what was told.
-pub fn run_words(rt: &HostRuntime, line: &str) -> Result<Option<String>, Memory> {
-    let alloc = rt.alloc();
+pub fn run_words<R: Threads + Wait + Sync>(
+    stage: &Stage<'_, R>,
+    line: &str,
+) -> Result<Option<String>, Memory> {
+    let alloc = stage.host.alloc();
     let mut net = net_of(alloc, Vec::new(alloc), Vec::new(alloc))?;
-    let told = run_line(rt, line, &mut net)?;
+    let told = run_line(stage, line, &mut net)?;
     Ok(Some(format!(in alloc; "{told}\n")?))
 }

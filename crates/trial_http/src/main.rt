@@ -8,47 +8,58 @@ mod commands;
 mod files;
 mod nets;
 mod runs;
+mod stage;
 
 use rv_base::Memory;
+use stage::Stage;
+use std::sync::Wait;
+use std::thread::Threads;
 
 // What a command prints, where it is one.
-fn printed(rt: &HostRuntime, line: &str) -> Result<Option<String>, Memory> {
+fn printed<R: Threads + Wait + Sync>(
+    stage: &Stage<'_, R>,
+    line: &str,
+) -> Result<Option<String>, Memory> {
     let (word, rest) = line.split_once(' ').unwrap_or((line, ""));
     match word {
-        "serves" => commands::serves(rt, rest),
-        "ends" => commands::ends(rt, rest),
-        "read-fails" => commands::read_fails(rt, rest),
-        "write-fails" => commands::write_fails(rt, rest),
-        "net-fails" => commands::net_fails(rt),
-        "rv" => commands::run_words(rt, line),
+        "serves" => commands::serves(stage, rest),
+        "ends" => commands::ends(stage, rest),
+        "read-fails" => commands::read_fails(stage, rest),
+        "write-fails" => commands::write_fails(stage, rest),
+        "net-fails" => commands::net_fails(stage),
+        "rv" => commands::run_words(stage, line),
         _ => Ok(None),
     }
 }
 
 // What a line prints, each with LF at its end.
-fn answer(rt: &HostRuntime, line: &str) -> Result<String, Memory> {
-    let alloc = rt.alloc();
+fn answer<R: Threads + Wait + Sync>(stage: &Stage<'_, R>, line: &str) -> Result<String, Memory> {
+    let alloc = stage.host.alloc();
     if line.starts_with("== ") {
         return Ok(format!(in alloc; "{line}\n")?);
     }
-    match printed(rt, line)? {
+    match printed(stage, line)? {
         Some(text) => Ok(text),
         None => Ok(format!(in alloc; "?? {line}\n")?),
     }
 }
 
 // Prints what a line prints.
-fn print_answer(rt: &HostRuntime, line: &str) -> anyhow::Result<()> {
+fn print_answer<R: Threads + Wait + Sync>(stage: &Stage<'_, R>, line: &str) -> anyhow::Result<()> {
     if !line.starts_with('#') {
-        let text = answer(rt, line)?;
-        print!(rt; "{text}")?;
+        let text = answer(stage, line)?;
+        print!(stage.host; "{text}")?;
     }
     Ok(())
 }
 
 fn main(rt: HostRuntime) -> anyhow::Result<()> {
+    let stage = Stage {
+        host: &rt,
+        threads: &rt,
+    };
     for line in rt.lines(rt.alloc()) {
-        print_answer(&rt, line?.as_str())?;
+        print_answer(&stage, line?.as_str())?;
     }
     Ok(())
 }

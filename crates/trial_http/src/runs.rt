@@ -1,10 +1,14 @@
 // Runs of `rv serve` over stores and accounts in memory, and a net.
 use crate::files::bytes_of;
+use crate::stage::Stage;
 use rv_base::{Bytes, Memory, MemorySink, MemorySource};
 use rv_cli::run;
+use rv_crew::Threaded;
 use rv_keeper::MemoryPlace;
 use rv_net::MemoryNet;
 use std::alloc::Global;
+use std::sync::Wait;
+use std::thread::Threads;
 
 /// The words that serve a store in memory with the folder's accounts.
 pub const SERVE: &str =
@@ -44,13 +48,27 @@ fn place_of(rt: &HostRuntime) -> Result<MemoryPlace, Memory> {
 }
 
 /// Runs the words of a line over a net, and gives what was written, with the status.
-pub fn run_line(rt: &HostRuntime, line: &str, net: &mut MemoryNet) -> Result<String, Memory> {
-    let alloc = rt.alloc();
+pub fn run_line<R: Threads + Wait + Sync>(
+    stage: &Stage<'_, R>,
+    line: &str,
+    net: &mut MemoryNet,
+) -> Result<String, Memory> {
+    let alloc = stage.host.alloc();
     let words = words_of(alloc, line)?;
-    let mut place = place_of(rt)?;
+    let mut place = place_of(stage.host)?;
     let mut input = MemorySource::new(Vec::new(alloc), 1, Vec::new(alloc));
     let mut out = MemorySink::new(alloc, 100_000, Vec::new(alloc));
-    let status = run(alloc, &words, &mut place, &mut input, &mut out, net);
+    let mut crew = Threaded::new(stage.threads);
+    let status = run(
+        alloc,
+        stage.threads,
+        &words,
+        &mut place,
+        &mut input,
+        &mut out,
+        net,
+        &mut crew,
+    );
     let text = std::str::from_utf8(&out.bytes).unwrap_or("no text");
     let text = text.trim_end();
     Ok(format!(in alloc; "{text}, status {status}")?)

@@ -3,10 +3,13 @@ use crate::expected::{activity_report, check_report, lists_report, user_count};
 use crate::model::Model;
 use crate::requests::Requests;
 use crate::runs::run_command;
+use crate::stage::Stage;
 use rv_base::Memory;
 use rv_keeper::MemoryPlace;
 use std::alloc::Global;
 use std::mem;
+use std::sync::Wait;
+use std::thread::Threads;
 
 // The first line that differs, and what stands there in the other.
 fn first_difference(alloc: Global, told: &str, wanted: &str) -> Result<String, Memory> {
@@ -22,13 +25,14 @@ fn first_difference(alloc: Global, told: &str, wanted: &str) -> Result<String, M
 }
 
 // What differs in the report of a command, if anything does.
-fn difference(
-    alloc: Global,
+fn difference<R: Threads + Wait + Sync>(
+    stage: &Stage<'_, R>,
     place: &mut MemoryPlace,
     command: &str,
     wanted: &str,
 ) -> Result<Option<String>, Memory> {
-    let finished = run_command(alloc, place, command, Vec::new(alloc))?;
+    let alloc = stage.host.alloc();
+    let finished = run_command(stage, place, command, Vec::new(alloc))?;
     let told = std::str::from_utf8(&finished.written).unwrap_or("no text\n");
     if finished.status != 0 {
         return Ok(Some(format!(in alloc; "{command} has status {}", finished.status)?));
@@ -40,37 +44,51 @@ fn difference(
 }
 
 // What differs first in the three reports, or `same`.
-fn verdict(alloc: Global, place: &mut MemoryPlace, model: &Model) -> Result<String, Memory> {
+fn verdict<R: Threads + Wait + Sync>(
+    stage: &Stage<'_, R>,
+    place: &mut MemoryPlace,
+    model: &Model,
+) -> Result<String, Memory> {
+    let alloc = stage.host.alloc();
     let lists = lists_report(alloc, model)?;
-    if let Some(text) = difference(alloc, place, "lists", lists.as_str())? {
+    if let Some(text) = difference(stage, place, "lists", lists.as_str())? {
         return Ok(text);
     }
     let activity = activity_report(alloc, model)?;
-    if let Some(text) = difference(alloc, place, "activity", activity.as_str())? {
+    if let Some(text) = difference(stage, place, "activity", activity.as_str())? {
         return Ok(text);
     }
     let check = check_report(alloc, model)?;
-    match difference(alloc, place, "check", check.as_str())? {
+    match difference(stage, place, "check", check.as_str())? {
         Some(text) => Ok(text),
         None => Ok(String::from_str(alloc, "same")?),
     }
 }
 
 // Feeds the lines, and tells the verdict on the reports.
-fn fed(alloc: Global, requests: &mut Requests) -> Result<String, Memory> {
+fn fed<R: Threads + Wait + Sync>(
+    stage: &Stage<'_, R>,
+    requests: &mut Requests,
+) -> Result<String, Memory> {
+    let alloc = stage.host.alloc();
     let mut place = MemoryPlace::new(alloc, Vec::new(alloc), Vec::new(alloc));
     let lines = mem::replace(&mut requests.lines, Vec::new(alloc));
-    let finished = run_command(alloc, &mut place, "feed", lines)?;
+    let finished = run_command(stage, &mut place, "feed", lines)?;
     if finished.status != 0 {
         return Ok(format!(in alloc; "feed has status {}", finished.status)?);
     }
-    verdict(alloc, &mut place, &requests.model)
+    verdict(stage, &mut place, &requests.model)
 }
 
 /// How many rows, lists, users and entries the store has that a seed draws, and the verdict on its reports.
-pub fn compared(alloc: Global, rows: usize, seed: u64) -> Result<String, Memory> {
+pub fn compared<R: Threads + Wait + Sync>(
+    stage: &Stage<'_, R>,
+    rows: usize,
+    seed: u64,
+) -> Result<String, Memory> {
+    let alloc = stage.host.alloc();
     let mut requests = Requests::drawn(alloc, rows, seed)?;
-    let verdict = fed(alloc, &mut requests)?;
+    let verdict = fed(stage, &mut requests)?;
     let model = &requests.model;
     let count = model.rows.count();
     let lists = model.rows.lists.len();

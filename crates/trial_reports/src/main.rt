@@ -14,10 +14,13 @@ mod requests;
 mod rows;
 mod runs;
 mod spelling;
+mod stage;
 mod texts;
 
 use rv_base::Memory;
-use std::alloc::Global;
+use stage::Stage;
+use std::sync::Wait;
+use std::thread::Threads;
 
 // The two numbers of a line.
 fn numbers_in(line: &str) -> Option<(usize, u64)> {
@@ -26,25 +29,30 @@ fn numbers_in(line: &str) -> Option<(usize, u64)> {
 }
 
 // What a line prints.
-fn answer(alloc: Global, line: &str) -> Result<String, Memory> {
+fn answer<R: Threads + Wait + Sync>(stage: &Stage<'_, R>, line: &str) -> Result<String, Memory> {
+    let alloc = stage.host.alloc();
     match numbers_in(line) {
-        Some((rows, seed)) => comparing::compared(alloc, rows, seed),
+        Some((rows, seed)) => comparing::compared(stage, rows, seed),
         None => Ok(String::from_str(alloc, "no case")?),
     }
 }
 
 // Prints what a line prints.
-fn print_answer(rt: &HostRuntime, line: &str) -> anyhow::Result<()> {
+fn print_answer<R: Threads + Wait + Sync>(stage: &Stage<'_, R>, line: &str) -> anyhow::Result<()> {
     if !line.starts_with('#') {
-        let text = answer(rt.alloc(), line)?;
-        println!(rt; "{line}: {text}")?;
+        let text = answer(stage, line)?;
+        println!(stage.host; "{line}: {text}")?;
     }
     Ok(())
 }
 
 fn main(rt: HostRuntime) -> anyhow::Result<()> {
+    let stage = Stage {
+        host: &rt,
+        threads: &rt,
+    };
     for line in rt.lines(rt.alloc()) {
-        print_answer(&rt, line?.as_str())?;
+        print_answer(&stage, line?.as_str())?;
     }
     Ok(())
 }

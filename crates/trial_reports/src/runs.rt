@@ -1,9 +1,13 @@
 // Runs over the store `big` of a place.
+use crate::stage::Stage;
 use rv_base::{Memory, MemorySink, MemorySource};
 use rv_cli::run;
+use rv_crew::Serial;
 use rv_keeper::MemoryPlace;
 use rv_net::MemoryNet;
 use std::alloc::Global;
+use std::sync::Wait;
+use std::thread::Threads;
 
 /// How a run ended, and what it wrote.
 #[derive(Drop)]
@@ -22,17 +26,28 @@ fn words_of(alloc: Global, command: &str) -> Result<Vec<String>, Memory> {
 }
 
 /// Runs a command over the store and an input.
-pub fn run_command(
-    alloc: Global,
+pub fn run_command<R: Threads + Wait + Sync>(
+    stage: &Stage<'_, R>,
     place: &mut MemoryPlace,
     command: &str,
     input: Vec<u8>,
 ) -> Result<Finished, Memory> {
+    let alloc = stage.host.alloc();
     let words = words_of(alloc, command)?;
     let mut input = MemorySource::new(input, 65_536, Vec::new(alloc));
     let mut out = MemorySink::new(alloc, 65_536, Vec::new(alloc));
     let mut net = MemoryNet::new(alloc, Vec::new(alloc), Vec::new(alloc))?;
-    let status = run(alloc, &words, place, &mut input, &mut out, &mut net);
+    let mut crew = Serial::<R>::new();
+    let status = run(
+        alloc,
+        stage.threads,
+        &words,
+        place,
+        &mut input,
+        &mut out,
+        &mut net,
+        &mut crew,
+    );
     Ok(Finished {
         status,
         written: out.bytes,

@@ -3,9 +3,12 @@ use crate::case::{Case, words_of_kept};
 use crate::cells::{body_at, cell_of, copied, put, remove, shelf_in};
 use crate::kept::Kept;
 use crate::runs::run_once;
+use crate::stage::Stage;
 use rv_base::Memory;
 use rv_keeper::{Cell, Shelves};
 use std::alloc::Global;
+use std::sync::Wait;
+use std::thread::Threads;
 
 // What becomes of the cell at a place.
 #[derive(Clone, Copy)]
@@ -118,7 +121,12 @@ fn damaged(alloc: Global, kept: &Kept, text: &str) -> Result<Option<Kept>, Memor
 /// `damaged CELL | CHANGE` prints what is written, and the status, where the store is opened with one thing changed. CELL is
 /// `SHELF KEY`, and CHANGE is one of `without it`, `body BODY`, `a space before the body`, `on the next shelf`, `key with x at its
 /// end`, and `added with body BODY`; or CELL is `generation`, and CHANGE another one.
-pub fn command(alloc: Global, case: &Case, text: &str) -> Result<Option<String>, Memory> {
+pub fn command<R: Threads + Wait + Sync>(
+    stage: &Stage<'_, R>,
+    case: &Case,
+    text: &str,
+) -> Result<Option<String>, Memory> {
+    let alloc = stage.host.alloc();
     let Some(kept) = damaged(alloc, &case.kept, text)? else {
         return Ok(None);
     };
@@ -128,5 +136,5 @@ pub fn command(alloc: Global, case: &Case, text: &str) -> Result<Option<String>,
         kept,
         place: None,
     };
-    Ok(Some(run_once(alloc, &opened)?))
+    Ok(Some(run_once(stage, &opened)?))
 }

@@ -3,6 +3,7 @@ use crate::case::Case;
 use crate::cells::lines_of_cells;
 use crate::runs::{Finished, run_over};
 use crate::sqlite_place::SqlitePlace;
+use crate::stage::Stage;
 use crate::stores::held_text;
 use rv_base::Memory;
 use rv_keeper::{KeepFault, Keeper, Loaded};
@@ -10,6 +11,8 @@ use rv_sqlite::SqliteKeeper;
 use sqlite::MemStore;
 use std::alloc::Global;
 use std::mem;
+use std::sync::Wait;
+use std::thread::Threads;
 
 // The generation that the keeper answers where this one was loaded.
 fn asked(keeper: &mut SqliteKeeper<MemStore>, loaded: u64) -> Option<u64> {
@@ -45,23 +48,32 @@ fn closed_text(alloc: Global, place: SqlitePlace) -> Result<String, Memory> {
 }
 
 // Runs the case over the store in memory: how it ended, and what the store then holds.
-fn in_memory(alloc: Global, case: &Case) -> Result<(Finished, String), Memory> {
+fn in_memory<R: Threads + Wait + Sync>(
+    stage: &Stage<'_, R>,
+    case: &Case,
+) -> Result<(Finished, String), Memory> {
+    let alloc = stage.host.alloc();
     let mut place = case.kept.place(alloc)?;
-    let finished = run_over(alloc, case, &mut place, 100_000, 0, 0)?;
+    let finished = run_over(stage, case, &mut place, 100_000, 0, 0)?;
     Ok((finished, held_text(alloc, &place, "memory")?))
 }
 
 // Runs it so over a fresh database.
-fn in_sqlite(alloc: Global, case: &Case) -> Result<(Finished, String), Memory> {
+fn in_sqlite<R: Threads + Wait + Sync>(
+    stage: &Stage<'_, R>,
+    case: &Case,
+) -> Result<(Finished, String), Memory> {
+    let alloc = stage.host.alloc();
     let mut place = SqlitePlace::new(alloc);
-    let finished = run_over(alloc, case, &mut place, 100_000, 0, 0)?;
+    let finished = run_over(stage, case, &mut place, 100_000, 0, 0)?;
     Ok((finished, closed_text(alloc, place)?))
 }
 
 // What is the same of both runs.
-fn compared(alloc: Global, case: &Case) -> Result<String, Memory> {
-    let (finished, held) = in_memory(alloc, case)?;
-    let (other, kept) = in_sqlite(alloc, case)?;
+fn compared<R: Threads + Wait + Sync>(stage: &Stage<'_, R>, case: &Case) -> Result<String, Memory> {
+    let alloc = stage.host.alloc();
+    let (finished, held) = in_memory(stage, case)?;
+    let (other, kept) = in_sqlite(stage, case)?;
     let answers = if finished.is_as(&other) {
         "the same answers"
     } else {
@@ -77,10 +89,14 @@ fn compared(alloc: Global, case: &Case) -> Result<String, Memory> {
 
 /// `sqlite` runs the case with a stop after each line, over the store in memory and over a SQLite database in memory, and prints
 /// whether both wrote the same bytes with the same status, and hold the same cells at the same generation.
-pub fn command(alloc: Global, case: &mut Case) -> Result<String, Memory> {
+pub fn command<R: Threads + Wait + Sync>(
+    stage: &Stage<'_, R>,
+    case: &mut Case,
+) -> Result<String, Memory> {
+    let alloc = stage.host.alloc();
     let stopped = case.with_stops(alloc)?;
     let input = mem::replace(&mut case.input, stopped);
-    let text = compared(alloc, case);
+    let text = compared(stage, case);
     case.input = input;
     text
 }

@@ -15,23 +15,31 @@ mod kept;
 mod places;
 mod runs;
 mod sqlite_place;
+mod stage;
 mod stores;
 
 use case::Case;
 use rv_base::Memory;
-use std::alloc::Global;
+use stage::Stage;
+use std::sync::Wait;
+use std::thread::Threads;
 
 // What a command prints, where it is one.
-fn printed(alloc: Global, case: &mut Case, line: &str) -> Result<Option<String>, Memory> {
+fn printed<R: Threads + Wait + Sync>(
+    stage: &Stage<'_, R>,
+    case: &mut Case,
+    line: &str,
+) -> Result<Option<String>, Memory> {
+    let alloc = stage.host.alloc();
     let (word, rest) = line.split_once(' ').unwrap_or((line, ""));
     match word {
-        "run" | "once" | "stops" => runs::command(alloc, case, word),
-        "failing-reads" | "failing-writes" => faults::command(alloc, case, word),
+        "run" | "once" | "stops" => runs::command(stage, case, word),
+        "failing-reads" | "failing-writes" => faults::command(stage, case, word),
         "length" | "rows" | "voids" | "viewers" => books::command(alloc, case, word),
-        "keep" | "cells" | "retire" => stores::command(alloc, case, word, rest),
-        "next" | "held" => places::command(alloc, case, word, rest),
-        "damaged" => damages::command(alloc, case, rest),
-        "sqlite" => Ok(Some(databases::command(alloc, case)?)),
+        "keep" | "cells" | "retire" => stores::command(stage, case, word, rest),
+        "next" | "held" => places::command(stage, case, word, rest),
+        "damaged" => damages::command(stage, case, rest),
+        "sqlite" => Ok(Some(databases::command(stage, case)?)),
         "cell" | "generation-is" => case.state(alloc, word, rest),
         "open" | "load" | "generation" | "before" | "after" => case.kept.fail(alloc, word, rest),
         _ => case.command(alloc, word, rest),
@@ -39,7 +47,12 @@ fn printed(alloc: Global, case: &mut Case, line: &str) -> Result<Option<String>,
 }
 
 // What a line prints, each with LF at its end.
-fn answer(alloc: Global, case: &mut Case, line: &str) -> Result<String, Memory> {
+fn answer<R: Threads + Wait + Sync>(
+    stage: &Stage<'_, R>,
+    case: &mut Case,
+    line: &str,
+) -> Result<String, Memory> {
+    let alloc = stage.host.alloc();
     if line.starts_with("== ") {
         *case = Case::new(alloc)?;
         return Ok(format!(in alloc; "{line}\n")?);
@@ -48,25 +61,33 @@ fn answer(alloc: Global, case: &mut Case, line: &str) -> Result<String, Memory> 
         case.add_line(line)?;
         return Ok(String::new(alloc));
     }
-    match printed(alloc, case, line)? {
+    match printed(stage, case, line)? {
         Some(text) => Ok(text),
         None => Ok(format!(in alloc; "?? {line}\n")?),
     }
 }
 
 // Prints what a line prints.
-fn print_answer(rt: &HostRuntime, case: &mut Case, line: &str) -> anyhow::Result<()> {
+fn print_answer<R: Threads + Wait + Sync>(
+    stage: &Stage<'_, R>,
+    case: &mut Case,
+    line: &str,
+) -> anyhow::Result<()> {
     if !line.starts_with('#') {
-        let text = answer(rt.alloc(), case, line)?;
-        print!(rt; "{text}")?;
+        let text = answer(stage, case, line)?;
+        print!(stage.host; "{text}")?;
     }
     Ok(())
 }
 
 fn main(rt: HostRuntime) -> anyhow::Result<()> {
     let mut case = Case::new(rt.alloc())?;
+    let stage = Stage {
+        host: &rt,
+        threads: &rt,
+    };
     for line in rt.lines(rt.alloc()) {
-        print_answer(&rt, &mut case, line?.as_str())?;
+        print_answer(&stage, &mut case, line?.as_str())?;
     }
     Ok(())
 }

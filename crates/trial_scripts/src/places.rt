@@ -1,10 +1,13 @@
 // Runs over one place, which stays as each leaves it.
 use crate::case::Case;
 use crate::runs::{run_over, told};
+use crate::stage::Stage;
 use crate::stores::held_text;
 use rv_base::Memory;
 use rv_keeper::MemoryPlace;
 use std::alloc::Global;
+use std::sync::Wait;
+use std::thread::Threads;
 
 // The place of a case, which begins with the case's store.
 fn place_of(alloc: Global, case: &mut Case) -> Result<MemoryPlace, Memory> {
@@ -15,9 +18,13 @@ fn place_of(alloc: Global, case: &mut Case) -> Result<MemoryPlace, Memory> {
 }
 
 // Runs the case over its place. From here on there is no input.
-fn run_next(alloc: Global, case: &mut Case) -> Result<String, Memory> {
+fn run_next<R: Threads + Wait + Sync>(
+    stage: &Stage<'_, R>,
+    case: &mut Case,
+) -> Result<String, Memory> {
+    let alloc = stage.host.alloc();
     let mut place = place_of(alloc, case)?;
-    let finished = run_over(alloc, case, &mut place, 7, 0, 0)?;
+    let finished = run_over(stage, case, &mut place, 7, 0, 0)?;
     case.place = Some(place);
     case.input = Vec::new(alloc);
     told(alloc, &finished.written, finished.status)
@@ -34,15 +41,15 @@ fn held(alloc: Global, case: &mut Case, name: &str) -> Result<String, Memory> {
 /// `next` runs the case in pieces of 7 bytes over a place that stays as it is left until the case ends, prints what is written and
 /// the status, and leaves no input. `held NAME` prints the cells that the store of a name holds in that place, each as
 /// `SHELF KEY BODY`, and the generation.
-pub fn command(
-    alloc: Global,
+pub fn command<R: Threads + Wait + Sync>(
+    stage: &Stage<'_, R>,
     case: &mut Case,
     word: &str,
     rest: &str,
 ) -> Result<Option<String>, Memory> {
     match word {
-        "next" => Ok(Some(run_next(alloc, case)?)),
-        "held" => Ok(Some(held(alloc, case, rest)?)),
+        "next" => Ok(Some(run_next(stage, case)?)),
+        "held" => Ok(Some(held(stage.host.alloc(), case, rest)?)),
         _ => Ok(None),
     }
 }

@@ -2,15 +2,22 @@
 use crate::case::Case;
 use crate::cells::lines_of;
 use crate::runs::{run_over, told};
+use crate::stage::Stage;
 use rv_base::{Id, Memory, MemorySink, TextRefusal};
 use rv_cli::run_retire;
 use rv_keeper::MemoryPlace;
 use std::alloc::Global;
+use std::sync::Wait;
+use std::thread::Threads;
 
 // The place after a run of the case.
-fn place_after(alloc: Global, case: &Case) -> Result<MemoryPlace, Memory> {
+fn place_after<R: Threads + Wait + Sync>(
+    stage: &Stage<'_, R>,
+    case: &Case,
+) -> Result<MemoryPlace, Memory> {
+    let alloc = stage.host.alloc();
     let mut place = case.kept.place(alloc)?;
-    let _finished = run_over(alloc, case, &mut place, 100_000, 0, 0)?;
+    let _finished = run_over(stage, case, &mut place, 100_000, 0, 0)?;
     Ok(place)
 }
 
@@ -24,14 +31,16 @@ pub fn held_text(alloc: Global, place: &MemoryPlace, name: &str) -> Result<Strin
 }
 
 // Runs the case, and tells what its store then holds.
-fn held(alloc: Global, case: &Case) -> Result<String, Memory> {
-    let place = place_after(alloc, case)?;
+fn held<R: Threads + Wait + Sync>(stage: &Stage<'_, R>, case: &Case) -> Result<String, Memory> {
+    let alloc = stage.host.alloc();
+    let place = place_after(stage, case)?;
     held_text(alloc, &place, case.kept.name())
 }
 
 // Runs the case. From here on its store is what this left, and there is no input.
-fn keep(alloc: Global, case: &mut Case) -> Result<String, Memory> {
-    let place = place_after(alloc, case)?;
+fn keep<R: Threads + Wait + Sync>(stage: &Stage<'_, R>, case: &mut Case) -> Result<String, Memory> {
+    let alloc = stage.host.alloc();
+    let place = place_after(stage, case)?;
     case.take(alloc, &place)?;
     case.input = Vec::new(alloc);
     Ok(String::new(alloc))
@@ -58,15 +67,16 @@ fn retire_named(alloc: Global, case: &mut Case, name: &str) -> Result<Option<Str
 /// `cells` runs the case, and prints the cells that its store then holds, each as `SHELF KEY BODY`, and the generation. `keep` runs it
 /// too, and `retire GROUP` retires a group of its store; from there on the store is one of the place, with what this left. `keep`
 /// leaves no input, and `retire` prints what is written and the status.
-pub fn command(
-    alloc: Global,
+pub fn command<R: Threads + Wait + Sync>(
+    stage: &Stage<'_, R>,
     case: &mut Case,
     word: &str,
     rest: &str,
 ) -> Result<Option<String>, Memory> {
+    let alloc = stage.host.alloc();
     match word {
-        "cells" => Ok(Some(held(alloc, case)?)),
-        "keep" => Ok(Some(keep(alloc, case)?)),
+        "cells" => Ok(Some(held(stage, case)?)),
+        "keep" => Ok(Some(keep(stage, case)?)),
         "retire" => retire_named(alloc, case, rest),
         _ => Ok(None),
     }

@@ -20,8 +20,9 @@ returns-clause-serve g c =
       c.tell_served.result,
       c.status-2.ensures,
       inr (inr (serve_ended g.P.Place.tells g.P.Place.holds g.P.Place.is_out g.P.Place.accounts g.P.Place.faults g.P.Kept.Keeper.tells g.P.Kept.Keeper.holds g.P.Kept.Keeper.faults c.args.store.now c.args.options.now.accounts
-          c.args.place.now c.accounts_of.new.place c.open_desk.new.place c.close_keeper.new.self c.in-Ok.accounts c.in-Ok-open_desk.desk c.serve_net-served.new.desk c.close.result read c.in-Ok-open_desk.ensures.opens c.open_desk.ensures.told c.close.ensures.keeper c.close.ensures.held
+          c.args.place.now c.accounts_of.new.place c.open_desk.new.place c.close_keeper.new.self c.in-Ok.accounts c.in-Ok-open_desk.desk c.serve_net-served.result.1 c.close.result read c.in-Ok-open_desk.ensures.opens c.open_desk.ensures.told c.close.ensures.keeper c.close.ensures.held
+          (record { lawful = c.close.ensures.lawful; within = c.close.ensures.within.0; next = c.close.ensures.next })
           (record { told = c.close_keeper.ensures.tells; held = c.close_keeper.ensures.kept; taken = c.close_keeper.ensures.faults })
-          _ _ _ _ _ _ _ _ _ c.serve_net-served.result c.len-entries.result (g.O.Sink.state c.args.out.now) (g.O.Sink.state c.tell_served.new.out) c.tell_served.result
+          _ _ _ _ _ _ _ _ _ _ c.serve_net-served.result.0 c.len-entries.result (g.O.Sink.state c.args.out.now) (g.O.Sink.state c.tell_served.new.out) c.tell_served.result
           c.serve_net-served.ensures (c.len-entries.ensures.value ∙ ap size c.book.ensures.book) c.tell_served.ensures.tells)),
     )

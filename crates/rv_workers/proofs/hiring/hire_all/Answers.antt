@@ -19,6 +19,8 @@ loop-listener-preserved g c =
     let q = c.push_reserved.ensures.len in
     let e = i.2 in
     let f = i.3 in
+    let gates = i.7 in
+    let gone = c.in-Some-pop.ensures.len in
     let cap = c.push_reserved.ensures.capacity in (
       subst (λ ws. c.pop.new.self.items ++ turned (λ worker. worker.listener) ws ≡ c.args.listeners.now.items) (sym c.push_reserved.ensures.items)
           (turned-moves (λ worker. worker.listener) _ _ c.pop.new.self.items c.in-Some.listener c.loop-listener.workers.items c.new.result i.0 c.in-Some.ensures.items c.new.ensures.listener),
@@ -28,4 +30,5 @@ loop-listener-preserved g c =
       c.in-Some.ensures.capacity ∙ i.4,
       c.in-Some-take.ensures.room ∙ i.5,
       subst (AllByRecursion _) (sym c.push_reserved.ensures.items) (all_snoc _ c.loop-listener.workers.items c.new.result i.6 (c.new.ensures.room, c.new.ensures.accounts, ap view_of c.new.ensures.seat ∙ n.1.1)),
+      omega arith,
     )

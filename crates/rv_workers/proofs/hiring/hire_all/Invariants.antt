@@ -14,6 +14,7 @@ invariant-loop-listener g l = (l.listeners.items ++ turned (λ worker. worker.li
     × (vec_capacity l.listeners ≡ vec_capacity l.fn.listeners)
     × (vec_capacity l.seats.list ≡ vec_capacity l.fn.seats.list)
     × AllByRecursion (λ worker. (worker.turns.room.now ≡ l.room) × (worker.accounts.now ≡ l.accounts) × (view_of worker.turns.seat ≡ newcomer 1 (opened_of l.room))) l.workers.items
+    × (vec_len l.gates ≡ vec_len l.listeners)
 
 abbrev pub decreases-loop-listener : goal.decreases-loop-listener
 decreases-loop-listener g l = vec_len l.listeners

@@ -17,7 +17,7 @@ use Rattle.rv_workers.proofs.serving.serve_in.Goals as goal
 pub dismiss_all-requires-clause-room : goal.dismiss_all-requires-clause-room
 dismiss_all-requires-clause-room g c =
     let hired = c.hire_all.new.workers in
-    let W : Type 0 = Worker g.row.R.Denot g.row.K.Denot g.row.L.Denot g.row.L-In.Denot g.row.L-Out.Denot g.K.Keeper in
+    let W : Type 0 = Worker g.row.R.Denot g.row.K.Denot g.row.L.Denot g.row.C-Gate.Denot g.row.L-In.Denot g.row.L-Out.Denot g.K.Keeper in
     let done : W → W → Type 0 = HasServed g.K.Keeper.faults g.L.In.Source.state g.L.Out.Sink.state g.L.In.Source.fails_no_more g.L.Out.Sink.fails_no_more g.L.Listen.tells g.L.Listen.to_come g.L.Listen.came_back g.L.Listen.out g.L.Listen.ends in
     let worked : EachWorked done hired.items c.run_all.new.jobs = subst (λ l. EachWorked done l c.run_all.new.jobs) c.as_mut_slice.ensures.value c.run_all.ensures in
     let whole = front c.run_all.new.jobs (drop (length c.run_all.new.jobs) hired.items) hired.len (hired.ok.0 ∙ sym (worked-length done hired.items c.run_all.new.jobs worked)) in
@@ -49,7 +49,7 @@ dismiss_all-requires-clause-listeners g c =
 pub returns-clause-seats : goal.returns-clause-seats
 returns-clause-seats g c =
     let hired = c.hire_all.new.workers in
-    let W : Type 0 = Worker g.row.R.Denot g.row.K.Denot g.row.L.Denot g.row.L-In.Denot g.row.L-Out.Denot g.K.Keeper in
+    let W : Type 0 = Worker g.row.R.Denot g.row.K.Denot g.row.L.Denot g.row.C-Gate.Denot g.row.L-In.Denot g.row.L-Out.Denot g.K.Keeper in
     let done : W → W → Type 0 = HasServed g.K.Keeper.faults g.L.In.Source.state g.L.Out.Sink.state g.L.In.Source.fails_no_more g.L.Out.Sink.fails_no_more g.L.Listen.tells g.L.Listen.to_come g.L.Listen.came_back g.L.Listen.out g.L.Listen.ends in
     let worked : EachWorked done hired.items c.run_all.new.jobs = subst (λ l. EachWorked done l c.run_all.new.jobs) c.as_mut_slice.ensures.value c.run_all.ensures in
     let len = worked-length done hired.items c.run_all.new.jobs worked in
@@ -67,7 +67,7 @@ pub returns-clause-serves : goal.returns-clause-serves
 returns-clause-serves g c =
     let f = g.K.Keeper.faults in
     let hired = c.hire_all.new.workers in
-    let W : Type 0 = Worker g.row.R.Denot g.row.K.Denot g.row.L.Denot g.row.L-In.Denot g.row.L-Out.Denot g.K.Keeper in
+    let W : Type 0 = Worker g.row.R.Denot g.row.K.Denot g.row.L.Denot g.row.C-Gate.Denot g.row.L-In.Denot g.row.L-Out.Denot g.K.Keeper in
     let done : W → W → Type 0 = HasServed g.K.Keeper.faults g.L.In.Source.state g.L.Out.Sink.state g.L.In.Source.fails_no_more g.L.Out.Sink.fails_no_more g.L.Listen.tells g.L.Listen.to_come g.L.Listen.came_back g.L.Listen.out g.L.Listen.ends in
     let worked : EachWorked done hired.items c.run_all.new.jobs = subst (λ l. EachWorked done l c.run_all.new.jobs) c.as_mut_slice.ensures.value c.run_all.ensures in
     let whole = front c.run_all.new.jobs (drop (length c.run_all.new.jobs) hired.items) hired.len (hired.ok.0 ∙ sym (worked-length done hired.items c.run_all.new.jobs worked)) in

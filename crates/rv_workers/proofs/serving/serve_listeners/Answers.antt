@@ -1,11 +1,16 @@
-use Rattle.std.proofs.Common.{subst, map}
+use Rattle.std.proofs.Common.{subst, map, arith, sym, ◌∙◌}
+use Rattle.std.proofs.lemmas.Bool.{eqb-true}
 use Rattle.rv_desk.specs.Seated.{Seated}
 use Rattle.rv_room.specs.declared.view.SeatView.{SeatView}
 use Rattle.rv_room.specs.Closing.{Closes}
 use Rattle.rv_room.specs.Seats.{view_of}
 use Rattle.rv_room.specs.Views.{newcomer}
 use Rattle.rv_workers.specs.Serving.{EachServes, IsServed}
+use Rattle.rv_workers.proofs.Nobody.{serves_none}
 use Rattle.rv_workers.proofs.serving.serve_listeners.Goals as goal
+
+pub returns-then-is_empty : goal.returns-then-is_empty
+returns-then-is_empty g c = let whole = c.args.listeners.ok.0 in serves_none g.K.Keeper.faults g.K.Keeper.tells _ c.args.desk c.args.listeners.items c.requires.settled (let none = eqb-true _ _ (sym c.is_empty.ensures ∙ c.if-is_empty.true) in omega (arith, whole, none))
 
 pub returns : goal.returns
 returns g c =
