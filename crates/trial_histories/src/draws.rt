@@ -1,0 +1,29 @@
+/// Numbers that are drawn one after another, the same for each run of a seed.
+#[derive(Clone, Copy, Debug)]
+pub struct Draws {
+    state: u64,
+}
+
+impl Draws {
+    /// The draws of a seed.
+    pub fn new(seed: u64) -> Draws {
+        Draws { state: seed }
+    }
+
+    /// A number below `bound`, or 0 where there is none.
+    pub fn below(&mut self, bound: usize) -> usize {
+        self.state = self
+            .state
+            .wrapping_mul(6_364_136_223_846_793_005)
+            .wrapping_add(1_442_695_040_888_963_407);
+        if bound == 0 {
+            return 0;
+        }
+        (self.state >> 33) as usize % bound
+    }
+
+    /// True once in so many draws.
+    pub fn once_in(&mut self, bound: usize) -> bool {
+        self.below(bound) == 0
+    }
+}
