@@ -17,10 +17,10 @@ use crate::rule::{
 use crate::seat::Token;
 use rv_desk::Desk;
 use rv_keeper::Keeper;
+use std::hint;
 use std::sync::Wait;
-use std::thread;
 
-// How often a seat looks for its turn, and lets other threads run, before it sleeps.
+// How often a seat looks for its turn before it sleeps: for as long as a few short turns take.
 const LOOKS: u32 = 128;
 
 // The words of the table: how many tickets were taken, how many turns have ended, the length of the history, and sixteen bells. A seat
@@ -86,7 +86,7 @@ impl<K: Keeper> Room<K> {
         requires { bell < 19 }
     {
         if looks < LOOKS {
-            thread::yield_now();
+            hint::spin_loop();
             return looks + 1;
         }
         self.table.shared.park(rt, bell, (rung % (1 << 32)) as u32);
