@@ -2,7 +2,7 @@
 """Counts what `rv serve` answers a second by 1, 4 and 16 workers, outside the gate: bench/workers.py PROGRAM [FOLDER]
 
 PROGRAM is the program `rv` as it was built; FOLDER is on the disk that is to be measured (the one of temporary files). Needs gcc. As
-many connections as workers ask at once, each one request after another. Prints the requests a second, the best of three runs, of
+many connections as workers ask at once, each one request after another. Prints the requests a second, the best of five runs, of
 requests without a key (which take no turn), pulls with nothing to tell, of no row and of 1,000 rows, and pushes in memory and to a
 file. The clients run on the same processors. docs/costs.md keeps the figures.
 """
@@ -12,8 +12,9 @@ import subprocess
 import sys
 import tempfile
 
-COUNT = 16000
+COUNT = 64000
 ROWS = 1000
+RUNS = 5
 # below the ports that outgoing connections get
 PORTS = iter(range(22180, 32768))
 ACCOUNTS = '[[account]]\nkey = "k-ann"\nuser = "ann"\n'
@@ -40,9 +41,9 @@ def rows(count):
     return push("c", [(1, "createList", {"id": "l", "name": "Home", "ownerID": "ann"})] + todos)
 
 
-def pushes(connections):
+def pushes(connections, count):
     """For each connection a client of its own, whose mutations have no effect."""
-    return [push(f"c{part}", [(number, "paint", None)]) for part in range(connections) for number in range(1, COUNT // connections + 1)]
+    return [push(f"c{part}", [(number, "paint", None)]) for part in range(connections) for number in range(1, count // connections + 1)]
 
 
 class Bench:
@@ -75,7 +76,7 @@ class Bench:
         return took
 
     def rate(self, workers, before, requests, store="memory"):
-        return len(requests) / min(self.run(workers, before, requests, store) for _ in range(3))
+        return len(requests) / min(self.run(workers, before, requests, store) for _ in range(RUNS))
 
 
 def main():
@@ -88,9 +89,9 @@ def main():
         kinds = (
             ("without a key", lambda workers: bench.rate(workers, [], [pull(None, "k-bob")] * COUNT)),
             ("a pull with nothing to tell", lambda workers: bench.rate(workers, [pull(None)], [pull(first)] * COUNT)),
-            (f"the same of {ROWS} rows", lambda workers: bench.rate(workers, [rows(ROWS), pull(None)], [pull(after_rows)] * (COUNT // 16))),
-            ("a push in memory", lambda workers: bench.rate(workers, [], pushes(workers))),
-            ("a push to a file", lambda workers: bench.rate(workers, [], pushes(workers), file)),
+            (f"the same of {ROWS} rows", lambda workers: bench.rate(workers, [rows(ROWS), pull(None)], [pull(after_rows)] * (COUNT // 8))),
+            ("a push in memory", lambda workers: bench.rate(workers, [], pushes(workers, COUNT))),
+            ("a push to a file", lambda workers: bench.rate(workers, [], pushes(workers, COUNT // 16), file)),
         )
         for name, rate in kinds:
             print(f"{name}: " + ", ".join(f"{rate(workers):,.0f} by {workers}" for workers in (1, 4, 16)), flush=True)

@@ -1,5 +1,5 @@
 -- Each step keeps the rule.
-use Rattle.std.proofs.Common.{◌≡◌, ◌≢◌, ◌⊎◌, ℕ, zero, suc, ◌+◌, ◌-◌, ◌%◌, ◌^◌, ◌<◌, ◌≤◌, List, [], ◌∷◌, ◌++◌, length, set, drop, refl, sym, ap, ◌∙◌, subst, inl, inr, ⊎_elim, arith, Some, None, Option, append-nil, length-append, mod-eq_of_lt}
+use Rattle.std.proofs.Common.{◌≡◌, ◌≢◌, ◌⊎◌, ℕ, zero, suc, ◌+◌, ◌-◌, ◌%◌, ◌^◌, ◌<◌, ◌≤◌, ◌==◌, List, [], ◌∷◌, ◌++◌, length, set, drop, refl, sym, ap, ◌∙◌, subst, inl, inr, ⊎_elim, arith, Some, None, Option, append-nil, length-append, mod-eq_of_lt}
 use Rattle.std.proofs.Math.Nat.{mod-add-mod}
 use Rattle.std.specs.Prelude.{slice_get, slice_index, slice_set}
 use Rattle.std.specs.List.{AllByRecursion}
@@ -8,8 +8,9 @@ use mathlib.Core.Option as maybe
 use mathlib.Core.Logic.{dite}
 use native.Mathlib.Decide.{ℕ_discrete}
 use lib.ListN.{get_elem?}
+use prog.Atomic.{either}
 use Rattle.atomic_table.specs.Table.{State, Me, Act, keeps, takes, gives, stepped, Allows, Valid, carried_after}
-use Rattle.atomic_table.proofs.Lists.{at_set, set_again, set_else, one_turn}
+use Rattle.atomic_table.proofs.Lists.{at_set, set_again, set_else, one_turn, exchanged}
 use Rattle.rv_book.specs.declared.entry.Entry.{Entry}
 use Rattle.rv_book.specs.Book.{Book, size, since, with_entry}
 use Rattle.rv_desk.specs.Seated.{Seated}
@@ -17,7 +18,7 @@ use Rattle.rv_room.specs.declared.view.SeatView.{SeatView}
 use Rattle.rv_room.specs.Lists.{hit, StartsWith, total, once_below, count_at, numbered}
 use Rattle.rv_room.specs.Views.{IsIdle, waiting, on_turn, grown, entered, listed, noted, with_faults, ended}
 use Rattle.rv_room.specs.Rule.{parts_of, waits_of, own_at, IsLeft, DoubtIsLeft, Fits, IsOut, Keeps, IsOf, AtHome, Kept, KeptIn}
-use Rattle.rv_room.specs.Plays.{TakesTicket, Looks, CountsSettled, CountsMade, NotesSettled, NotesFaults, Passes, Rings}
+use Rattle.rv_room.specs.Plays.{TakesTicket, TakesIfNext, Looks, CountsSettled, CountsMade, NotesSettled, NotesFaults, Passes, Signals}
 use Rattle.rv_room.proofs.Totals.{total_set, total_le, total_has, here, same_at, all_map, all_append, get_front, get_last, starts_more, count_at-append, below_next, drop_front}
 
 value_or : {X : Type 0} → X → Option X → X
@@ -127,7 +128,7 @@ module _ {K : Type 0} (faults : K → ℕ) (tells : K → Type 0) (opened : Seat
   changes : (words : List ℕ) (homes : Homes) (views : List (SeatView K)) (id : ℕ) (v w : SeatView K) (k : Rule words homes views) → At views id v
       → (words' : List ℕ) (homes' : Homes) (log' : Book) (front' n' top' : ℕ)
       → n' + v.waits ≡ total waits_of views + w.waits
-      → words' ≡ (front' + n') % 2 ^ 64 ∷ front' % 2 ^ 64 ∷ length log' ∷ k.bells
+      → words' ≡ (front' + n') % 2 ^ 64 ∷ front' % 2 ^ 64 ∷ length log' ∷ k.signals
       → Slot log' top' homes' (set views id w)
       → w.parts ≡ v.parts
       → k.top ≤ top'
@@ -144,8 +145,8 @@ module _ {K : Type 0} (faults : K → ℕ) (tells : K → Type 0) (opened : Seat
         log = log';
         front = front';
         top = top';
-        bells = k.bells;
-        words_are = subst (λ (n : ℕ). words' ≡ (front' + n) % 2 ^ 64 ∷ front' % 2 ^ 64 ∷ length log' ∷ k.bells) now are;
+        signals = k.signals;
+        words_are = subst (λ (n : ℕ). words' ≡ (front' + n) % 2 ^ 64 ∷ front' % 2 ^ 64 ∷ length log' ∷ k.signals) now are;
         slot = slot;
         few = k.few;
         parts = let t = total_set parts_of views id v w at in let q = k.parts in omega arith;
@@ -181,7 +182,7 @@ module _ {K : Type 0} (faults : K → ℕ) (tells : K → Type 0) (opened : Seat
         tt,
         changes s.words s.homes s.views id v w k at (slice_set s.words 0 ((slice_index s.words 0 + 1) % 2 ^ 64)) s.homes k.log k.front (n + 1) k.top
             (omega arith)
-            (ap (λ ws. slice_set ws 0 ((slice_index ws 0 + 1) % 2 ^ 64)) k.words_are ∙ ap (λ (m : ℕ). m ∷ k.front % 2 ^ 64 ∷ length k.log ∷ k.bells) more)
+            (ap (λ ws. slice_set ws 0 ((slice_index ws 0 + 1) % 2 ^ 64)) k.words_are ∙ ap (λ (m : ℕ). m ∷ k.front % 2 ^ 64 ∷ length k.log ∷ k.signals) more)
             (slot_set k.log k.top s.homes s.views id v w at idle.1 refl [] (sym (append-nil v.left)) k.slot)
             refl
             (omega arith)
@@ -198,6 +199,33 @@ module _ {K : Type 0} (faults : K → ℕ) (tells : K → Type 0) (opened : Seat
 
   same_rule : (words : List ℕ) (homes : Homes) (views : List (SeatView K)) (id : ℕ) (v : SeatView K) → Rule words homes views → At views id v → Rule words homes (set views id v)
   same_rule words homes views id v k at = subst (λ (vs : List (SeatView K)). Rule words homes vs) (sym (set_again views id v at)) k
+
+  -- the ticket is taken if it still is the next one
+  pub takes_if_next : (slots id : ℕ) (v : SeatView K) (c : List (ℕ × Option (Seated K))) → IsIdle v → 0 < v.parts → (ticket next : ℕ) → next ≡ (ticket + 1) % 2 ^ 64 → Allows (KeptIn faults tells opened seats) slots id (v, c) 0 (λ n. either (n == ticket) next n) (TakesIfNext ticket (v, c))
+  takes_if_next slots id v c idle some_part ticket next is s k len at bound = exchanged (slice_index s.words 0) ticket next Goes hit miss
+    where
+      Goes : ℕ → Type 0
+      Goes n = (w : SeatView K) × (a : Act (Option (Seated K))) × Valid s.homes c a × KeptIn faults tells opened seats (stepped s 0 n id c w a) × TakesIfNext ticket (v, c) (slice_index s.words 0) (w, carried_after c a)
+
+      hit : slice_index s.words 0 ≡ ticket → Goes next
+      hit e =
+          let t = takes_ticket slots id v c idle some_part s k len at bound in
+          let more : (slice_index s.words 0 + 1) % 2 ^ 64 ≡ next = ap (λ (n : ℕ). (n + 1) % 2 ^ 64) e ∙ sym is in (
+            t.0,
+            t.1,
+            t.2,
+            subst (λ (n : ℕ). KeptIn faults tells opened seats (stepped s 0 n id c t.0 t.1)) more t.3,
+            ((λ _. t.4), (λ ne. absurd (ne e))),
+          )
+
+      miss : slice_index s.words 0 ≢ ticket → Goes (slice_index s.words 0)
+      miss ne = (
+        v,
+        keeps,
+        tt,
+        subst (λ (ws : List ℕ). Rule ws s.homes (set s.views id v)) (sym (ap (λ ws. slice_set ws 0 (slice_index ws 0)) k.words_are ∙ sym k.words_are)) (same_rule s.words s.homes s.views id v k at),
+        ((λ e. absurd (ne e)), (λ _. refl)),
+      )
 
   -- the number of turns that have ended is read
   pub looks : (slots id : ℕ) (v : SeatView K) (c : List (ℕ × Option (Seated K))) → v.waits ≡ 1 → v.turns ≡ 0 → Allows (KeptIn faults tells opened seats) slots id (v, c) 1 (λ n. n) (Looks faults tells (v, c))
@@ -338,7 +366,7 @@ module _ {K : Type 0} (faults : K → ℕ) (tells : K → Type 0) (opened : Seat
       let w1 = same.waits in let t1 = same.turns in let p1 = same.parts in let k1 = same.ticket in let v1 = o.waits in
       changes s.words s.homes s.views id v w k at (slice_set s.words 2 ((slice_index s.words 2 + 1) % 2 ^ 64)) s.homes now k.front n k.top
       (omega arith)
-      (ap (λ ws. slice_set ws 2 ((slice_index ws 2 + 1) % 2 ^ 64)) k.words_are ∙ ap (λ (m : ℕ). (k.front + n) % 2 ^ 64 ∷ k.front % 2 ^ 64 ∷ m ∷ k.bells) more)
+      (ap (λ ws. slice_set ws 2 ((slice_index ws 2 + 1) % 2 ^ 64)) k.words_are ∙ ap (λ (m : ℕ). (k.front + n) % 2 ^ 64 ∷ k.front % 2 ^ 64 ∷ m ∷ k.signals) more)
       (inr (record { empty = o.out; who = id; view = w; at = here s.views id v w at; turn = t1 ∙ on; doubt = doubt }))
       p1
       (omega arith)
@@ -517,7 +545,7 @@ module _ {K : Type 0} (faults : K → ℕ) (tells : K → Type 0) (opened : Seat
         tt,
         changes s.words s.homes s.views id v w k at (slice_set s.words 1 ((slice_index s.words 1 + 1) % 2 ^ 64)) (slice_set s.homes 0 (some (Some d))) k.log (k.front + 1) (n - 1) k.top
             (omega arith)
-            (ap (λ ws. slice_set ws 1 ((slice_index ws 1 + 1) % 2 ^ 64)) k.words_are ∙ (λ i. (all i) % 2 ^ 64 ∷ more i ∷ length k.log ∷ k.bells))
+            (ap (λ ws. slice_set ws 1 ((slice_index ws 1 + 1) % 2 ^ 64)) k.words_are ∙ (λ i. (all i) % 2 ^ 64 ∷ more i ∷ length k.log ∷ k.signals))
             (inl (record {
               desk = d;
               home = home;
@@ -545,19 +573,19 @@ module _ {K : Type 0} (faults : K → ℕ) (tells : K → Type 0) (opened : Seat
       others i u f off ne ticket some_wait wait =
           record { once = f.once; part = f.part; waits = f.waits; line = (λ w. let l0 = (f.line w).0 in let l1 = (f.line w).1 in let not_mine : u.ticket ≡ k.front → ⊥ = λ same. ne w (same ∙ sym ticket) in (omega arith, omega arith)); turn = (λ o. absurd (omega arith)); knows = f.knows; seen = f.seen; joined = f.joined; own = f.own; after = f.after; spent = f.spent }
 
-  -- a bell is rung
-  pub rings : (slots id bell : ℕ) (v : SeatView K) (c : List (ℕ × Option (Seated K))) → Allows (KeptIn faults tells opened seats) slots id (v, c) (suc (suc (suc bell))) (λ n. (n + 1) % 2 ^ 64) (Rings (v, c))
-  rings slots id bell v c s k len at bound =
-      let now : ℕ = (slice_index s.words (suc (suc (suc bell))) + 1) % 2 ^ 64 in (
+  -- a word changes that only wakes seats
+  pub signals_word : (slots id place : ℕ) (v : SeatView K) (c : List (ℕ × Option (Seated K))) (f : ℕ → ℕ) → Allows (KeptIn faults tells opened seats) slots id (v, c) (suc (suc (suc place))) f (Signals (v, c))
+  signals_word slots id place v c f s k len at bound =
+      let now : ℕ = f (slice_index s.words (suc (suc (suc place)))) in (
         v,
         keeps,
         tt,
-        subst (λ (vs : List (SeatView K)). Rule (slice_set s.words (suc (suc (suc bell))) now) s.homes vs) (sym (set_again s.views id v at)) (record {
+        subst (λ (vs : List (SeatView K)). Rule (slice_set s.words (suc (suc (suc place))) now) s.homes vs) (sym (set_again s.views id v at)) (record {
           log = k.log;
           front = k.front;
           top = k.top;
-          bells = slice_set k.bells bell now;
-          words_are = ap (λ ws. slice_set ws (suc (suc (suc bell))) now) k.words_are;
+          signals = slice_set k.signals place now;
+          words_are = ap (λ ws. slice_set ws (suc (suc (suc place))) now) k.words_are;
           slot = k.slot;
           few = k.few;
           parts = k.parts;
@@ -571,10 +599,10 @@ module _ {K : Type 0} (faults : K → ℕ) (tells : K → Type 0) (opened : Seat
         refl,
       )
 
-  pub rings_at : (slots id word bell : ℕ) (v : SeatView K) (c : List (ℕ × Option (Seated K))) → word ≡ 3 + bell → Allows (KeptIn faults tells opened seats) slots id (v, c) word (λ n. (n + 1) % 2 ^ 64) (Rings (v, c))
-  rings_at slots id word bell v c is =
-      let e : suc (suc (suc bell)) ≡ word = omega (arith, is) in
-      subst (λ (w : ℕ). Allows (KeptIn faults tells opened seats) slots id (v, c) w (λ n. (n + 1) % 2 ^ 64) (Rings (v, c))) e (rings slots id bell v c)
+  pub signals_at : (slots id word place : ℕ) (v : SeatView K) (c : List (ℕ × Option (Seated K))) (f : ℕ → ℕ) → word ≡ 3 + place → Allows (KeptIn faults tells opened seats) slots id (v, c) word f (Signals (v, c))
+  signals_at slots id word place v c f is =
+      let e : suc (suc (suc place)) ≡ word = omega (arith, is) in
+      subst (λ (w : ℕ). Allows (KeptIn faults tells opened seats) slots id (v, c) w f (Signals (v, c))) e (signals_word slots id place v c f)
 
   -- the same for a seat that is known by an equation
   abbrev Slots : Type 0

@@ -94,12 +94,12 @@ module _ {K : Type 0} (faults : K → ℕ) (tells : K → Type 0) (opened : Seat
       inr (record { empty = t.empty; who = t.who; view = t.view; at = set_else (set views id b) other t.who gone a2 ∙ (set_else views id t.who b a1 ∙ t.at); turn = t.turn; doubt = (λ e d. still e (t.doubt e d)) }))
       slot
 
-  pub begins : (bells : List ℕ) → seats < 2 ^ 32 → opened.doubt ≡ None → Holds (opening (0 ∷ 0 ∷ size opened.book ∷ bells) (Some opened ∷ []) (newcomer seats opened))
-  begins bells few sure = record {
+  pub begins : (signals : List ℕ) → seats < 2 ^ 32 → opened.doubt ≡ None → Holds (opening (0 ∷ 0 ∷ size opened.book ∷ signals) (Some opened ∷ []) (newcomer seats opened))
+  begins signals few sure = record {
     log = opened.book;
     front = 0;
     top = faults opened.keeper;
-    bells = bells;
+    signals = signals;
     words_are = refl;
     slot = inl (record {
       desk = opened;
@@ -140,8 +140,8 @@ module _ {K : Type 0} (faults : K → ℕ) (tells : K → Type 0) (opened : Seat
         log = k.log;
         front = k.front;
         top = k.top;
-        bells = k.bells;
-        words_are = subst (λ (n : ℕ). s.words ≡ (k.front + n) % 2 ^ 64 ∷ k.front % 2 ^ 64 ∷ length k.log ∷ k.bells) now k.words_are;
+        signals = k.signals;
+        words_are = subst (λ (n : ℕ). s.words ≡ (k.front + n) % 2 ^ 64 ∷ k.front % 2 ^ 64 ∷ length k.log ∷ k.signals) now k.words_are;
         slot = slot_snoc k.log k.top s.homes views w refl (slot_set faults tells opened seats k.log k.top s.homes s.views id v l at refl refl [] refl k.slot);
         left = snoc_all (λ _ u. AllByRecursion (IsLeft (views ++ w ∷ [])) u.settled) views w
             (each_set (λ _ u. AllByRecursion (IsLeft (views ++ w ∷ [])) u.settled) s.views id l
@@ -180,8 +180,8 @@ module _ {K : Type 0} (faults : K → ℕ) (tells : K → Type 0) (opened : Seat
         log = k.log;
         front = k.front;
         top = k.top;
-        bells = k.bells;
-        words_are = subst (λ (n : ℕ). s.words ≡ (k.front + n) % 2 ^ 64 ∷ k.front % 2 ^ 64 ∷ length k.log ∷ k.bells) now k.words_are;
+        signals = k.signals;
+        words_are = subst (λ (n : ℕ). s.words ≡ (k.front + n) % 2 ^ 64 ∷ k.front % 2 ^ 64 ∷ length k.log ∷ k.signals) now k.words_are;
         slot = slot_joined k.log k.top s.homes s.views id other v w b gone at was apart refl v1 w1 v1 refl k.slot;
         left = let still = left_joined s.views id other v w b gone at was apart refl in
             each_set (λ _ u. AllByRecursion (IsLeft (set one other gone)) u.settled) one other gone
@@ -323,13 +323,13 @@ module _ {K : Type 0} (faults : K → ℕ) (tells : K → Type 0) (opened : Seat
   pub splits_as : (seats id : ℕ) (v : SeatView K) (n : ℕ) → v ≡ newcomer n opened → 1 < n → Splits (KeptIn faults tells opened seats) id v (less_one v) (one_more v)
   splits_as seats id v n is many = subst (λ (v : SeatView K). Splits (KeptIn faults tells opened seats) id v (less_one v) (one_more v)) (sym is) (splits faults tells opened seats id n many)
 
-  pub begins_as : (bells : List ℕ) (seats : ℕ) (d : Seated K) (len : ℕ) (items : List (Option (Seated K))) → seats < 2 ^ 32 → d ≡ opened → d.doubt ≡ None → len ≡ size d.book → items ≡ Some d ∷ []
-      → KeptIn faults tells opened seats (opening (0 ∷ 0 ∷ len ∷ bells) items (newcomer seats opened))
-  begins_as bells seats d len items few is sure size_is all =
+  pub begins_as : (signals : List ℕ) (seats : ℕ) (d : Seated K) (len : ℕ) (items : List (Option (Seated K))) → seats < 2 ^ 32 → d ≡ opened → d.doubt ≡ None → len ≡ size d.book → items ≡ Some d ∷ []
+      → KeptIn faults tells opened seats (opening (0 ∷ 0 ∷ len ∷ signals) items (newcomer seats opened))
+  begins_as signals seats d len items few is sure size_is all =
       let sure' : opened.doubt ≡ None = subst (λ (x : Seated K). x.doubt ≡ None) is sure in
-      subst (λ (t : ℕ × List (Option (Seated K))). KeptIn faults tells opened seats (opening (0 ∷ 0 ∷ t.0 ∷ bells) t.1 (newcomer seats opened)))
+      subst (λ (t : ℕ × List (Option (Seated K))). KeptIn faults tells opened seats (opening (0 ∷ 0 ∷ t.0 ∷ signals) t.1 (newcomer seats opened)))
       (λ i. (sym (size_is ∙ ap (λ (x : Seated K). size x.book) is) i, sym (all ∙ ap (λ (x : Seated K). Some x ∷ []) is) i))
-      (begins faults tells opened seats bells few sure')
+      (begins faults tells opened seats signals few sure')
 
   pub joins_as : (seats id : ℕ) (v : SeatView K) (other : ℕ) (w first : SeatView K) (done : List (SeatView K)) → v ≡ gather first done → IsIdle first → first.parts ≡ 1 → IsIdle w → Joins (KeptIn faults tells opened seats) id v other w (both v w) spent
   joins_as seats id v other w first done is idle one iw =

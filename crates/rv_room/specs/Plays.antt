@@ -23,6 +23,10 @@ module _ {K : Type 0} where
   abbrev pub TakesTicket : Knows K → ℕ → Knows K → Type 0
   TakesTicket m n m' = (t : ℕ) × (t % 2 ^ 64 ≡ n) × (m' ≡ (waiting m.0 t, m.1))
 
+  -- The ticket was still the next one, and the seat has it; or another was, and all stays.
+  abbrev pub TakesIfNext : ℕ → Knows K → ℕ → Knows K → Type 0
+  TakesIfNext ticket m n m' = (n ≡ ticket → TakesTicket m n m') × (n ≢ ticket → m' ≡ m)
+
   -- The number of turns that have ended is another than the seat's ticket, and all stays; or it is the ticket, and the seat has the
   -- turn and the desk, whose book begins with what the seat had seen, and whose keeper's count has not fallen since.
   abbrev pub Looks : (K → ℕ) → (K → Type 0) → Knows K → ℕ → Knows K → Type 0
@@ -46,9 +50,9 @@ module _ {K : Type 0} where
   abbrev pub NotesFaults : (K → ℕ) → Knows K → ℕ → Knows K → Type 0
   NotesFaults faults m n m' = m' ≡ (with_faults m.0 (carried (λ d. faults d.keeper) 0 m.1), m.1)
 
-  -- nothing changes but the bell
-  abbrev pub Rings : Knows K → ℕ → Knows K → Type 0
-  Rings m n m' = m' ≡ m
+  -- nothing changes that a seat knows
+  abbrev pub Signals : Knows K → ℕ → Knows K → Type 0
+  Signals m n m' = m' ≡ m
 
   -- the turn has ended, and the desk is at home
   abbrev pub Passes : Knows K → ℕ → Knows K → Type 0

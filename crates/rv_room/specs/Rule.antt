@@ -1,5 +1,5 @@
 -- The rule of a room. The words of its table are how many tickets were taken and how many turns have ended, both modulo 2^64, the
--- length of the history, and the bells, which may be any.
+-- length of the history, and then those that only wake seats, which may be any.
 use Rattle.std.specs.Prelude.{◌≡◌, ◌⊎◌, ℕ, ◌+◌, ◌%◌, ◌^◌, ◌<◌, ◌≤◌, List, [], ◌∷◌, length, Option, Some, slice_get}
 use Rattle.std.specs.List.{AllByRecursion}
 use mathlib.Core.Option.{some, none}
@@ -78,8 +78,8 @@ module _ {K : Type 0} (faults : K → ℕ) (tells : K → Type 0) where
     pub log : Book
     pub front : ℕ
     pub top : ℕ
-    pub bells : List ℕ
-    pub words_are : words ≡ (front + total waits_of views) % 2 ^ 64 ∷ front % 2 ^ 64 ∷ length log ∷ bells
+    pub signals : List ℕ
+    pub words_are : words ≡ (front + total waits_of views) % 2 ^ 64 ∷ front % 2 ^ 64 ∷ length log ∷ signals
     pub slot : AtHome opened log top homes views ⊎ IsOut homes views
     pub few : seats < 2 ^ 32
     pub parts : total parts_of views ≡ seats

@@ -63,10 +63,11 @@ module _ {A : Type 0} (trouble : A → Option Trouble) (Step : Book → A → Bo
       Rose turn.first turn.last × (turn.made ≡ []) × IsHeld turn × (kept ≡ size turn.history) × ¬ (found ≡ kept) × ¬ (found ≡ kept + 1)
 
 module _ {K A : Type 0} (faults : K → ℕ) (trouble : A → Option Trouble) (Step : ℕ → Book → A → Book → Type 0) where
-  -- A turn of a seat, by what it knows before and after. The history as it begins is the book of the room's desk, and starts with all
-  -- that the seat had seen; the keeper's count has not fallen since. The turn is one of the server at that history, under the limit of
-  -- the desk that the room was opened with, and its two counts are those of the desk's keeper. Then the seat has seen the history as the
-  -- turn ended, which is the desk's book, has what was added as its own, and remembers the rest.
+  -- A turn of a seat, by what it knows before and after. The history as it begins starts with all that the seat had seen, and the first
+  -- count is not below any that it remembers. The turn is one of the server at that history, under the limit of the desk that the room
+  -- was opened with. Then the seat has seen the history as the turn ended, has what was added as its own, and remembers the rest. There
+  -- is a desk with the history and the doubt as the turn began and with the first count, and one with the history as it ended and with
+  -- the second; that these are the desk in the room, the rule of its table says.
   pub record IsSeatTurn (old : SeatView K) (answer : A) (new : SeatView K) : Type 0 where
     pub opened : Seated K
     pub turn : Parts

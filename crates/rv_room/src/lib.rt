@@ -1,8 +1,9 @@
 //! A desk that several seats share: each turn of a seat is a turn of the desk, and all turns form one history.
 //!
 //! A [`Room`] has the desk in the one slot of a table, and three words: how many tickets were taken, how many turns have ended, and
-//! how many entries the book has; and bells, at which seats sleep. A [`Seat`] takes a ticket, waits until so many turns have ended, and then has the desk for
-//! itself. What a seat knows is a [`SeatView`]. [`Room::close`] gives the desk back, whose book is the history of all turns.
+//! how many entries the book has; and words that only wake seats that sleep. A [`Seat`] takes a ticket, waits until so many turns have
+//! ended, and then has the desk for itself. It takes the ticket as a rule when its turn has come, so that nobody waits for a seat that
+//! sleeps. What a seat knows is a [`SeatView`]. [`Room::close`] gives the desk back, whose book is the history of all turns.
 #![tactic(auto)]
 
 mod opening;
@@ -14,6 +15,7 @@ mod seats;
 mod steps;
 mod turning;
 mod view;
+mod waiting;
 
 pub use room::Room;
 pub use rule::{About, OneHistory};

@@ -80,7 +80,9 @@ impl<K: Keeper> Room<K> {
             opened: Snapshot::of(&desk),
         };
         let length = u64::from(desk.book().len());
-        let words = [0, 0, length, 0, 0, 0, 0, 0, 0, 0, 0, 0, 0, 0, 0, 0, 0, 0, 0];
+        let words = [
+            0, 0, length, 0, 0, 0, 0, 0, 0, 0, 0, 0, 0, 0, 0, 0, 0, 0, 0, 0, 0,
+        ];
         slots.push_reserved(Some(desk));
         match RoomTable::<K>::new(alloc, &words, slots, &about) {
             Ok((table, first)) => {

@@ -17,6 +17,6 @@ pub(crate) type SharedTable<K> = Shared<Option<Desk<K>>, SeatView<K>, About<K>, 
 /// A room where seats share a desk. It is not dropped but closed.
 pub struct Room<K: Keeper> {
     pub(crate) table: RoomTable<K>,
-    ghost sized: { (table.shared.table_id.words ≡ 19) × (table.shared.table_id.slots ≡ 1) },
+    ghost sized: { (table.shared.table_id.words ≡ 21) × (table.shared.table_id.slots ≡ 1) },
     ghost some_seat: { 0 < table.shared.key.seats },
 }

@@ -38,6 +38,15 @@ impl<K: Keeper> Play<Option<Desk<K>>, SeatView<K>> for TakeTicket {
     ghost then = { λ _. TakesTicket };
 }
 
+// A ticket is taken if it still is the next one.
+pub(crate) struct TakeFreeTicket;
+
+impl<K: Keeper> Play<Option<Desk<K>>, SeatView<K>> for TakeFreeTicket {
+    ghost use Rattle.rv_room.specs.Plays.{TakesIfNext};
+
+    ghost then = { λ step. TakesIfNext step.first };
+}
+
 // The number of turns that have ended is read. Where it is the seat's ticket, the seat has the turn, and the desk.
 pub(crate) struct LookAtTurn;
 
@@ -92,13 +101,13 @@ impl<K: Keeper> Play<Option<Desk<K>>, SeatView<K>> for PassTurn {
     ghost then = { λ _. Passes };
 }
 
-// A bell is rung.
-pub(crate) struct RingBell;
+// A word changes that only wakes seats: a bell, or how many sleep.
+pub(crate) struct Signal;
 
-impl<K: Keeper> Play<Option<Desk<K>>, SeatView<K>> for RingBell {
-    ghost use Rattle.rv_room.specs.Plays.{Rings};
+impl<K: Keeper> Play<Option<Desk<K>>, SeatView<K>> for Signal {
+    ghost use Rattle.rv_room.specs.Plays.{Signals};
 
-    ghost then = { λ _. Rings };
+    ghost then = { λ _. Signals };
 }
 
 // A seat is cut off one that stands for several.

@@ -1,5 +1,5 @@
 // The steps of a seat at the table of its room.
-ghost use Rattle.std.specs.Prelude.{◌≡◌, ◌≢◌, ◌+◌, ℕ, ◌%◌, ◌^◌, ◌<◌, ◌≤◌, true, false, [], ◌∷◌, Some, None};
+ghost use Rattle.std.specs.Prelude.{◌≡◌, ◌≢◌, ℕ, ◌^◌, ◌<◌, ◌≤◌, true, false, [], ◌∷◌, Some, None};
 ghost use Rattle.std.specs.List.{AllByRecursion};
 ghost use Rattle.rv_book.specs.Book.{Book, size, with_entry};
 ghost use Rattle.rv_book.specs.declared.entry.Entry.{Entry};
@@ -8,39 +8,18 @@ ghost use Rattle.rv_desk.specs.Seated.{Seated};
 ghost use Rattle.rv_room.specs.Ends.{Adds, end_view, held_view};
 ghost use Rattle.rv_room.specs.Lists.{StartsWith};
 ghost use Rattle.rv_room.specs.Rule.{IsOf};
-ghost use Rattle.rv_room.specs.Views.{IsIdle, entered, ended, grown, noted, waiting, on_turn, with_faults};
+ghost use Rattle.rv_room.specs.Views.{IsIdle, entered, grown, noted, waiting, on_turn, with_faults};
 
 use crate::room::Room;
-use crate::rule::{
-    CountMade, CountSettled, LookAtTurn, NoteFaults, NoteSettled, PassTurn, RingBell, TakeTicket,
-};
+use crate::rule::{CountMade, CountSettled, NoteFaults, NoteSettled};
 use crate::seat::Token;
+use crate::waiting::TURNS;
 use rv_desk::Desk;
 use rv_keeper::Keeper;
-use std::hint;
 use std::sync::Wait;
 
-// How often a seat looks for its turn before it sleeps: for as long as a few short turns take.
-const LOOKS: u32 = 128;
-
-// The words of the table: how many tickets were taken, how many turns have ended, the length of the history, and sixteen bells. A seat
-// that waits sleeps at the bell of its ticket, so the end of a turn wakes just those whose ticket has that bell.
-const TICKETS: usize = 0;
-
-const TURNS: usize = 1;
-
+// The word that counts the entries.
 const ENTRIES: usize = 2;
-
-const BELLS: usize = 3;
-
-const BELL_COUNT: u64 = 16;
-
-// The bell of a ticket.
-fn bell_of(ticket: u64) -> usize
-    ensures { result ≡ 3 + ticket % 16 }
-{
-    BELLS + (ticket % BELL_COUNT) as usize
-}
 
 // Whether two lengths differ.
 fn differs(before: u32, now: u32) -> bool
@@ -51,58 +30,6 @@ fn differs(before: u32, now: u32) -> bool
 }
 
 impl<K: Keeper> Room<K> {
-    // Takes the next ticket.
-    fn take_ticket(&self, token: &mut Token<K>) -> u64
-        requires table { token.old.table_id ≡ self.now.table.shared.table_id }
-        requires idle { IsIdle token.old.me.0 × (0 < token.old.me.0.parts) }
-        ensures same { (token.new.table_id ≡ token.old.table_id) × (token.new.id ≡ token.old.id) }
-        ensures waits { (t : ℕ) × (t % 2 ^ 64 ≡ result) × (token.new.me ≡ (waiting token.old.me.0 t, token.old.me.1)) }
-    {
-        self.table.shared.fetch_add::<TakeTicket>(token, TICKETS, 1)
-    }
-
-    // Waits for the turn of this ticket. The desk is then the seat's.
-    fn wait_for(&self, rt: &impl Wait, token: &mut Token<K>, ticket: u64)
-        requires table { token.old.table_id ≡ self.now.table.shared.table_id }
-        requires waits { (token.old.me.0.waits ≡ 1) × (token.old.me.0.turns ≡ 0) × (token.old.me.0.ticket % 2 ^ 64 ≡ ticket) }
-        ensures same { (token.new.table_id ≡ token.old.table_id) × (token.new.id ≡ token.old.id) }
-        ensures turn { (d : Seated K) × IsOf K.tells token.old.me.0 d × StartsWith d.book token.old.me.0.seen × AllByRecursion (λ (k : ℕ). k ≤ K.faults d.keeper) token.old.me.0.after × (token.new.me ≡ (on_turn K.faults token.old.me.0 d, (0, Some d) ∷ token.old.me.1)) }
-    {
-        let bell = bell_of(ticket);
-        let mut looks = 0;
-        for _ in rt.forever() {
-            let rung = self.table.shared.peek(bell);
-            let found = self.table.shared.load::<LookAtTurn>(token, TURNS);
-            if found == ticket {
-                return;
-            }
-            looks = self.rest(rt, bell, rung, looks);
-        }
-        unreachable!()
-    }
-
-    // Lets time pass, after so many looks. A seat that has looked often sleeps until the bell is rung again.
-    fn rest(&self, rt: &impl Wait, bell: usize, rung: u64, looks: u32) -> u32
-        requires { bell < 19 }
-    {
-        if looks < LOOKS {
-            hint::spin_loop();
-            return looks + 1;
-        }
-        self.table.shared.park(rt, bell, (rung % (1 << 32)) as u32);
-        looks
-    }
-
-    // Rings the bell of a ticket, and wakes who sleeps at it.
-    fn ring(&self, token: &mut Token<K>, ticket: u64)
-        requires table { token.old.table_id ≡ self.now.table.shared.table_id }
-        ensures { (token.new.table_id ≡ token.old.table_id) × (token.new.id ≡ token.old.id) × (token.new.me ≡ token.old.me) }
-    {
-        let bell = bell_of(ticket);
-        self.table.shared.fetch_add::<RingBell>(token, bell, 1);
-        self.table.shared.wake_all(bell);
-    }
-
     // Takes the desk out of its slot.
     fn take_out(&self, token: &mut Token<K>) -> Desk<K>
         requires table { token.old.table_id ≡ self.now.table.shared.table_id }
@@ -196,21 +123,6 @@ impl<K: Keeper> Room<K> {
         self.table.shared.load::<NoteFaults>(token, TURNS);
     }
 
-    // Passes the turn on: the desk that lies in the slot is at home. Seats that sleep are woken, where others than this one have a
-    // ticket.
-    fn pass(&self, token: &mut Token<K>)
-        requires table { token.old.table_id ≡ self.now.table.shared.table_id }
-        requires home { (d : Seated K) × (token.old.me.1 ≡ (0, Some d) ∷ []) × (token.old.me.0.turns ≡ 1) × IsOf K.tells token.old.me.0 d × (d.book ≡ token.old.me.0.book) × (d.doubt ≡ token.old.me.0.doubt) × (K.faults d.keeper ≡ token.old.me.0.faults) }
-        ensures same { (token.new.table_id ≡ token.old.table_id) × (token.new.id ≡ token.old.id) }
-        ensures ended { token.new.me ≡ (ended token.old.me.0, []) }
-    {
-        let ended = self.table.shared.fetch_add::<PassTurn>(token, TURNS, 1);
-        let next = ended.wrapping_add(1);
-        if self.table.shared.peek(TICKETS) != next {
-            self.ring(token, next);
-        }
-    }
-
     // Waits for the next turn and takes the desk.
     pub(crate) fn begin(&self, rt: &impl Wait, token: &mut Token<K>) -> Desk<K>
         requires table { token.old.table_id ≡ self.now.table.shared.table_id }
@@ -221,7 +133,7 @@ impl<K: Keeper> Room<K> {
         ensures later { AllByRecursion (λ (k : ℕ). k ≤ K.faults result.keeper) token.old.me.0.after }
         ensures view { (t : ℕ) × (token.new.me ≡ (on_turn K.faults (waiting token.old.me.0 t) result, (0, None) ∷ [])) }
     {
-        let ticket = self.take_ticket(token);
+        let ticket = self.take_ticket(rt, token);
         self.wait_for(rt, token, ticket);
         self.take_out(token)
     }
