@@ -188,6 +188,10 @@ where
         (N.faults net.old) (N.faults net.new) (O.state out.old) (O.state out.new) result
         ⊎ ((result ≡ 8) × (place.new ≡ place.old) × (net.new ≡ net.old) × WritesOnly (O.state out.old) (O.state out.new) (status_text endings.Memory)) }
 
+    // What the net was asked for, if it was: at the port of the words as many listeners as workers, each for as many connections.
+    ensures wanted { (store : List ℕ) (options : ServeOptions) → command_in (map string_bytes words.now) ≡ Some (commands.Serve store options)
+        → (net.new ≡ net.old) ⊎ (N.tells net.new → N.wanted net.new ≡ Some (record { port = options.port; count = options.workers; most = options.connections })) }
+
     // A report is a text of the book that the store kept, which it still keeps.
     ensures lists { (store : List ℕ) → command_in (map string_bytes words.now) ≡ Some (commands.Lists store)
         → RunsReport (P.tells place.new) (OpensAs store (P.holds place.old store)) (P.holds place.new store) (P.faults place.old) (P.faults place.new) TellsLists (O.state out.old) (O.state out.new) result

@@ -1,5 +1,5 @@
 // The command `serve`: the accounts are read, the store is opened, and its desk serves the connections of a net.
-ghost use Rattle.std.specs.Prelude.{◌≡◌, ◌≢◌, ◌⊎◌, None};
+ghost use Rattle.std.specs.Prelude.{◌≡◌, ◌≢◌, ◌⊎◌, None, Some};
 ghost use Rattle.rv_base.specs.Causes.{Rose};
 ghost use Rattle.rv_keeper.specs.Stores.{OpensAs};
 ghost use Rattle.rv_cli.specs.Headline.{KeptSound, WritesOnly};
@@ -61,11 +61,12 @@ where
     <N::Listen as Listen>::In: Send,
     <N::Listen as Listen>::Out: Send,
     requires { desk.doubt ≡ None }
-    ensures { NetServed (N.tells net.new) K.tells N.Listen.tells
+    ensures serves { NetServed (N.tells net.new) K.tells N.Listen.tells
         (λ given returned. ServesTogether K.faults K.tells
         (λ view listener view' listener'. IsServed K.faults accounts.now N.Listen.In.state N.Listen.Out.state N.Listen.In.fails_no_more N.Listen.Out.fails_no_more N.Listen.tells N.Listen.to_come N.Listen.came_back N.Listen.out N.Listen.ends view listener view' listener')
         desk given result.1 returned)
         options.now.workers (N.to_give net.old) (N.to_give net.new) (N.came_back net.old) (N.came_back net.new) (N.faults net.old) (N.faults net.new) desk result.1 result.0 }
+    ensures wanted { N.tells net.new → N.wanted net.new ≡ Some (record { port = options.now.port; count = options.now.workers; most = options.now.connections }) }
 {
     let listeners = match net.listen(options.port, options.workers, options.connections) {
         Ok(listeners) => listeners.into_vec(),
@@ -135,6 +136,7 @@ where
         first given now returned)
         options.now.workers (N.to_give net.old) (N.to_give net.new) (N.came_back net.old) (N.came_back net.new))
         (N.faults net.old) (N.faults net.new) (O.state out.old) (O.state out.new) result }
+    ensures wanted { (net.new ≡ net.old) ⊎ (N.tells net.new → N.wanted net.new ≡ Some (record { port = options.now.port; count = options.now.workers; most = options.now.connections })) }
     ensures steady { O.fails_no_more out.old → O.fails_no_more out.new × (Rose (O.state out.old).refusals (O.state out.new).refusals ⊎ (result ≢ 7)) }
 {
     let accounts = match accounts_of(alloc, place, options.accounts.as_str()) {
@@ -177,6 +179,9 @@ where
         first given now returned)
         options.now.workers (N.to_give net.old) (N.to_give net.new) (N.came_back net.old) (N.came_back net.new))
         (N.faults net.old) (N.faults net.new) (O.state out.old) (O.state out.new) result }
+
+    // What the net was asked for, if it was: at the port of the options as many listeners as workers, each for as many connections.
+    ensures wanted { (net.new ≡ net.old) ⊎ (N.tells net.new → N.wanted net.new ≡ Some (record { port = options.now.port; count = options.now.workers; most = options.now.connections })) }
 
     // Where the place tells, and the store kept a lawful book within the limit, the status is no damage.
     ensures sound { P.tells place.new → KeptSound (OpensAs store.now (P.holds place.old store.now)) → result ≢ 5 }

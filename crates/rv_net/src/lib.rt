@@ -16,6 +16,7 @@ mod net;
 mod net_fault;
 mod tcp_listen;
 mod tcp_net;
+mod wanted;
 
 pub use accepted::Accepted;
 pub use conn::{Conn, MemoryConn};
@@ -27,3 +28,4 @@ pub use net::Net;
 pub use net_fault::NetFault;
 pub use tcp_listen::{IDLE_SECONDS, TcpConn, TcpListen};
 pub use tcp_net::TcpNet;
+pub use wanted::Wanted;

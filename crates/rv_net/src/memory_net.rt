@@ -1,5 +1,5 @@
 // A net in memory, which fails at the calls of a list.
-ghost use Rattle.std.specs.Prelude.{◌≡◌, ◌+◌, ◌≤◌, ◌++◌, ◌||◌, [], length, nat_lt, vec_len, vec_capacity, IfOk, IsErrOf};
+ghost use Rattle.std.specs.Prelude.{◌≡◌, ◌+◌, ◌≤◌, ◌++◌, ◌||◌, [], length, nat_lt, vec_len, vec_capacity, Some, None, IfOk, IsErrOf};
 ghost use Rattle.rv_base.specs.Causes.{Counts, Rose};
 ghost use Rattle.rv_base.specs.InMemory.{fails_next};
 ghost use Rattle.rv_base.specs.Outside.{counted, counted_if};
@@ -10,12 +10,14 @@ use crate::listeners::Listeners;
 use crate::memory_listen::MemoryListen;
 use crate::net::Net;
 use crate::net_fault::NetFault;
+use crate::wanted::Wanted;
 use rv_base::Memory;
 use std::alloc::Global;
 use std::mem;
 
-/// Gives the listeners of a list, and keeps those that come back. It tells which. It fails at the calls of a list, and
-/// where fewer listeners are left than are asked for. Its counts of calls and faults stand still at 2^64 - 1.
+/// Gives the listeners of a list, and keeps those that come back. It tells which, and what it was asked for. It fails at
+/// the calls of a list, and where fewer listeners are left than are asked for. Its counts of calls and faults stand still
+/// at 2^64 - 1.
 #[derive(Drop)]
 pub struct MemoryNet {
     /// The listeners that it has to give, the next one first.
@@ -24,6 +26,8 @@ pub struct MemoryNet {
     pub came_back: Vec<MemoryListen>,
     /// How many listeners were given and have not come back.
     pub out: usize,
+    /// What the last call of `listen` asked for.
+    pub wanted: Option<Wanted>,
     /// The numbers of the calls of `listen` that fail, from 1.
     pub failing: Vec<u64>,
     /// How many calls of `listen` there were.
@@ -40,6 +44,7 @@ impl MemoryNet {
         ensures to_give { IfOk result (λ made. made.to_give ≡ to_give) }
         ensures came_back { IfOk result (λ made. made.came_back.items ≡ []) }
         ensures failing { IfOk result (λ made. made.failing ≡ failing) }
+        ensures wanted { IfOk result (λ made. made.wanted ≡ None) }
         ensures counts { IfOk result (λ made. (made.out ≡ 0) × (made.calls ≡ 0) × (made.faults ≡ 0)) }
     {
         let came_back = Vec::with_capacity(alloc, to_give.len())?;
@@ -47,6 +52,7 @@ impl MemoryNet {
             to_give,
             came_back,
             out: 0,
+            wanted: None,
             failing,
             calls: 0,
             faults: 0,
@@ -60,6 +66,7 @@ impl MemoryNet {
         ensures to_give { self.new.to_give ≡ self.old.to_give }
         ensures back { self.new.came_back ≡ self.old.came_back }
         ensures out { self.new.out ≡ self.old.out }
+        ensures wanted { self.new.wanted ≡ self.old.wanted }
         ensures failing { self.new.failing ≡ self.old.failing }
     {
         self.faults = self.faults.saturating_add(1);
@@ -78,17 +85,20 @@ impl Net for MemoryNet {
 
     ghost out = { λ s. s.out };
 
+    ghost wanted = { λ s. s.wanted };
+
     ghost faults = { λ s. s.faults };
 
     fn listen(
         &mut self,
-        _port: u16,
+        port: u16,
         count: u32,
-        _most: u32,
+        most: u32,
     ) -> Result<Listeners<MemoryListen>, NetFault>
         ensures count { IfOk result (λ given. length given.listeners ≡ count) }
         ensures given { Gives self.old.to_give.items self.old.out self.new.to_give.items self.new.out result }
         ensures back { self.new.came_back ≡ self.old.came_back }
+        ensures wanted { self.new.wanted ≡ Some (record { port = port; count = count; most = most }) }
         ensures faults { Counts self.old.faults self.new.faults result }
         ensures failed { IsErrOf result NetFault.Failed → Rose self.old.faults self.new.faults }
         ensures fails { has_failed result ≡ (fails_next self.old.calls self.old.failing.items || nat_lt (vec_len self.old.to_give) count) }
@@ -97,6 +107,7 @@ impl Net for MemoryNet {
         ensures counted { self.new.faults ≡ counted_if (has_failed result) self.old.faults }
     {
         self.calls = self.calls.saturating_add(1);
+        self.wanted = Some(Wanted { port, count, most });
         let count = count as usize;
         if self.failing.contains(&self.calls) || self.to_give.len() < count {
             self.count_fault();
@@ -114,6 +125,7 @@ impl Net for MemoryNet {
         ensures out { self.old.out ≡ self.new.out + length listeners.listeners }
         ensures to_give { self.new.to_give ≡ self.old.to_give }
         ensures failing { self.new.failing ≡ self.old.failing }
+        ensures wanted { self.new.wanted ≡ self.old.wanted }
         ensures counts { (self.new.calls ≡ self.old.calls) × (self.new.faults ≡ self.old.faults) }
     {
         let mut listeners = listeners.into_vec();

@@ -1,7 +1,8 @@
-ghost use Rattle.std.specs.Prelude.{◌≡◌, ◌+◌, ◌≤◌, ◌++◌, ℕ, List, length, IfOk, IsErrOf};
+ghost use Rattle.std.specs.Prelude.{◌≡◌, ◌+◌, ◌≤◌, ◌++◌, ℕ, List, length, Option, Some, IfOk, IsErrOf};
 ghost use Rattle.std.specs.List.{AllByRecursion};
 ghost use Rattle.rv_base.specs.Causes.{Counts, Rose};
 ghost use Rattle.rv_net.specs.declared.net_fault.NetFault.TheVariants as NetFault;
+ghost use Rattle.rv_net.specs.declared.wanted.Wanted.{Wanted};
 ghost use Rattle.rv_net.specs.Giving.{Gives};
 
 use crate::listen::Listen;
@@ -25,6 +26,9 @@ pub trait Net {
     /// How many listeners were given and have not come back. It is said where the net tells.
     ghost out: { Self → ℕ };
 
+    /// What the last call of `listen` asked for. It is said where the net tells.
+    ghost wanted: { Self → Option Wanted };
+
     /// How often a call has failed. It stands still at 2^64 - 1.
     ghost faults: { Self → ℕ };
 
@@ -40,6 +44,7 @@ pub trait Net {
         ensures tells { tells self.new → tells self.old }
         ensures given { tells self.new → Gives (to_give self.old) (out self.old) (to_give self.new) (out self.new) result }
         ensures back { tells self.new → came_back self.new ≡ came_back self.old }
+        ensures wanted { tells self.new → wanted self.new ≡ Some (record { port = port; count = count; most = most }) }
         ensures faults { Counts (faults self.old) (faults self.new) result }
         ensures failed { IsErrOf result NetFault.Failed → Rose (faults self.old) (faults self.new) };
 
@@ -50,5 +55,6 @@ pub trait Net {
         ensures back { tells self.new → came_back self.new ≡ came_back self.old ++ listeners.listeners }
         ensures out { tells self.new → out self.old ≡ out self.new + length listeners.listeners }
         ensures to_give { tells self.new → to_give self.new ≡ to_give self.old }
+        ensures wanted { tells self.new → wanted self.new ≡ wanted self.old }
         ensures faults { faults self.new ≡ faults self.old };
 }

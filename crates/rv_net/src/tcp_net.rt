@@ -1,5 +1,5 @@
 // A net over TCP.
-ghost use Rattle.std.specs.Prelude.{◌≡◌, [], IfOk, All, IsErrOf, length, vec_len};
+ghost use Rattle.std.specs.Prelude.{◌≡◌, [], None, IfOk, All, IsErrOf, length, vec_len};
 ghost use Rattle.rv_base.specs.Causes.{Counts, Rose};
 ghost use Rattle.rv_net.specs.declared.net_fault.NetFault.TheVariants as NetFault;
 
@@ -71,6 +71,8 @@ impl Net for TcpNet<'_> {
     ghost came_back = { λ s. [] };
 
     ghost out = { λ s. 0 };
+
+    ghost wanted = { λ s. None };
 
     ghost faults = { λ s. s.faults };
 

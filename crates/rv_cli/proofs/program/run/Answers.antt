@@ -37,3 +37,9 @@ returns-in-Ok-Some-Serve-clause-serve g c = λ store options asks.
     let is = rw (c.in-Ok-Some-Serve.field-0-is, c.in-Ok-Some-Serve.field-0-0-is) at c.in-Ok-Some-Serve.ensures in
     let (named, chosen) = serves_same _ _ store _ options is asks in
     inl (rw (← named, ← chosen, ← c.as_str-in-Ok-Some-Serve.ensures) c.run_serve.ensures.serve)
+
+pub returns-in-Ok-Some-Serve-clause-wanted : goal.returns-in-Ok-Some-Serve-clause-wanted
+returns-in-Ok-Some-Serve-clause-wanted g c = λ store options asks.
+    let is = rw (c.in-Ok-Some-Serve.field-0-is, c.in-Ok-Some-Serve.field-0-0-is) at c.in-Ok-Some-Serve.ensures in
+    let (named, chosen) = serves_same _ _ store _ options is asks in
+    rw (← chosen) c.run_serve.ensures.wanted

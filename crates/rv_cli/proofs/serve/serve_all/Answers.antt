@@ -24,5 +24,5 @@ returns-clause-serve g c =
           (record { lawful = c.close.ensures.lawful; within = c.close.ensures.within.0; next = c.close.ensures.next })
           (record { told = c.close_keeper.ensures.tells; held = c.close_keeper.ensures.kept; taken = c.close_keeper.ensures.faults })
           _ _ _ _ _ _ _ _ _ _ c.serve_net-served.result.0 c.len-entries.result (g.O.Sink.state c.args.out.now) (g.O.Sink.state c.tell_served.new.out) c.tell_served.result
-          c.serve_net-served.ensures (c.len-entries.ensures.value ∙ ap size c.book.ensures.book) c.tell_served.ensures.tells)),
+          c.serve_net-served.ensures.serves (c.len-entries.ensures.value ∙ ap size c.book.ensures.book) c.tell_served.ensures.tells)),
     )

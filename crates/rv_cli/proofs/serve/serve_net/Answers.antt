@@ -11,8 +11,8 @@ done-requires g c = λ told.
     let given = ap length c.into_vec-listeners.ensures in
     omega (arith, back, out, returned, given)
 
-pub returns-in-Ok-served : goal.returns-in-Ok-served
-returns-in-Ok-served g c =
+pub returns-in-Ok-served-clause-serves : goal.returns-in-Ok-served-clause-serves
+returns-in-Ok-served-clause-serves g c =
     let together = rw c.in-Ok-served.is at c.serve_listeners-served.ensures in
     let given = c.into_vec-listeners.result.items in
     let returned = c.serve_listeners-served.result.2.items in (

@@ -8,6 +8,7 @@ listen-tells g c = record {
   tells = λ told. told;
   given = λ told. absurd told;
   back = λ told. refl;
+  wanted = λ told. absurd told;
   faults = c.ensures.faults;
   failed = c.ensures.failed;
 }
@@ -18,5 +19,6 @@ done-tells g c = record {
   back = λ told. absurd told;
   out = λ told. absurd told;
   to_give = λ told. refl;
+  wanted = λ told. refl;
   faults = ap (λ s. s.faults) c.ensures;
 }
