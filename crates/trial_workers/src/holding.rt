@@ -1,4 +1,4 @@
-// A crew whose first worker holds its requests until the second has answered one.
+// A crew whose first worker holds its requests until the second has answered one, and whose gates look at what they hear.
 use rv_base::Memory;
 use rv_crew::{Crew, Gate};
 use std::sync::atomic::{AtomicU64, Ordering};
@@ -8,31 +8,68 @@ use std::thread::Threads;
 // How often the first worker's gate looks whether the second has answered.
 const LOOKS: u32 = 1_000_000;
 
-/// The gate of a worker.
+/// What the gates of a run count.
+#[derive(Drop)]
+pub struct Counts {
+    /// The answers of the second worker that acted.
+    pub answers: AtomicU64,
+    /// How often the first worker's gate gave up.
+    pub given_up: AtomicU64,
+    /// How often a gate heard what should not come then.
+    pub misheard: AtomicU64,
+}
+
+impl Counts {
+    /// Nothing was counted.
+    pub fn new() -> Counts {
+        Counts {
+            answers: AtomicU64::new(0),
+            given_up: AtomicU64::new(0),
+            misheard: AtomicU64::new(0),
+        }
+    }
+}
+
+/// The gate of a worker. It must hear the requests of each connection by their numbers, from 1 on, and after each of them its end.
 #[derive(Drop)]
 pub struct HoldingGate<'x> {
     worker: u32,
-    answers: &'x AtomicU64,
-    given_up: &'x AtomicU64,
+    last: u32,
+    is_open: bool,
+    counts: &'x Counts,
+}
+
+impl HoldingGate<'_> {
+    // Counts a call that should not come now.
+    fn hear(&self, is_right: bool) {
+        if !is_right {
+            self.counts.misheard.fetch_add(1, Ordering::SeqCst);
+        }
+    }
 }
 
 impl Gate for HoldingGate<'_> {
-    fn before(&mut self, _number: u32) {
+    fn before(&mut self, number: u32) {
+        self.hear(!self.is_open && (number == 1 || number == self.last.wrapping_add(1)));
+        self.last = number;
+        self.is_open = true;
         if self.worker != 1 {
             return;
         }
         for _ in 0..LOOKS {
-            if self.answers.load(Ordering::SeqCst) > 0 {
+            if self.counts.answers.load(Ordering::SeqCst) > 0 {
                 return;
             }
             thread::yield_now();
         }
-        self.given_up.fetch_add(1, Ordering::SeqCst);
+        self.counts.given_up.fetch_add(1, Ordering::SeqCst);
     }
 
     fn after(&mut self, status: u16, acted: bool) {
+        self.hear(self.is_open);
+        self.is_open = false;
         if self.worker == 2 && status == 200 && acted {
-            self.answers.fetch_add(1, Ordering::SeqCst);
+            self.counts.answers.fetch_add(1, Ordering::SeqCst);
         }
     }
 }
@@ -41,22 +78,13 @@ impl Gate for HoldingGate<'_> {
 #[derive(Drop)]
 pub struct HoldingCrew<'x, R: Threads + Sync> {
     runtime: Option<&'x R>,
-    answers: &'x AtomicU64,
-    given_up: &'x AtomicU64,
+    counts: &'x Counts,
 }
 
 impl<'x, R: Threads + Sync> HoldingCrew<'x, R> {
-    /// A crew that counts the second worker's answers here, and there how often its first worker's gate gave up.
-    pub fn new(
-        runtime: Option<&'x R>,
-        answers: &'x AtomicU64,
-        given_up: &'x AtomicU64,
-    ) -> HoldingCrew<'x, R> {
-        HoldingCrew {
-            runtime,
-            answers,
-            given_up,
-        }
+    /// A crew whose gates count here.
+    pub fn new(runtime: Option<&'x R>, counts: &'x Counts) -> HoldingCrew<'x, R> {
+        HoldingCrew { runtime, counts }
     }
 }
 
@@ -72,8 +100,9 @@ impl<'x, R: Threads + Sync> Crew for HoldingCrew<'x, R> {
     fn gate(&mut self, worker: u32) -> Result<HoldingGate<'x>, Memory> {
         Ok(HoldingGate {
             worker,
-            answers: self.answers,
-            given_up: self.given_up,
+            last: 0,
+            is_open: false,
+            counts: self.counts,
         })
     }
 }

@@ -2,8 +2,9 @@
 //! and how many connections each has; how many mutations each connection sends, one a request; and `same`, where all are of one client,
 //! or `own`, where each listener has a client of its own and each connection goes on from the one before. Printed are the answers of
 //! status 200, other answers, and what the program wrote, with its status. After `held` the first worker's gate holds each request until
-//! the second worker has answered one, and gives up after 1,000,000 looks; printed is then also how often. A line that begins with `#`
-//! is none.
+//! the second worker has answered one, and gives up after 1,000,000 looks; printed is then also how often, and how often a gate heard
+//! what should not come then: a number that is neither 1 nor the next one, a request before the last one's end, or an end without one.
+//! A line that begins with `#` is none.
 #![tactic(auto)]
 
 mod asking;
@@ -12,7 +13,7 @@ mod stage;
 mod telling;
 
 use asking::Plan;
-use holding::HoldingCrew;
+use holding::{Counts, HoldingCrew};
 use rv_base::{Bytes, Memory, MemorySink, MemorySource};
 use rv_cli::run;
 use rv_crew::{Crew, Serial, Threaded};
@@ -21,7 +22,7 @@ use rv_net::MemoryNet;
 use stage::Stage;
 use std::alloc::Global;
 use std::sync::Wait;
-use std::sync::atomic::{AtomicU64, Ordering};
+use std::sync::atomic::Ordering;
 use std::thread::Threads;
 
 // The one account.
@@ -75,17 +76,17 @@ fn held<R: Threads + Wait + Sync>(
     has_threads: bool,
     words: &str,
 ) -> Result<String, Memory> {
-    let answers = AtomicU64::new(0);
-    let given_up = AtomicU64::new(0);
+    let counts = Counts::new();
     let runtime = if has_threads {
         Some(stage.threads)
     } else {
         None
     };
-    let mut crew = HoldingCrew::new(runtime, &answers, &given_up);
+    let mut crew = HoldingCrew::new(runtime, &counts);
     let text = played(stage, &mut crew, words)?;
-    let given_up = given_up.load(Ordering::SeqCst);
-    Ok(format!(in stage.host.alloc(); "{text}, gave up {given_up} times")?)
+    let given_up = counts.given_up.load(Ordering::SeqCst);
+    let misheard = counts.misheard.load(Ordering::SeqCst);
+    Ok(format!(in stage.host.alloc(); "{text}, gave up {given_up} times, misheard {misheard}")?)
 }
 
 // What a line prints.
