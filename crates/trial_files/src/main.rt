@@ -7,13 +7,12 @@
 mod files;
 mod runs;
 mod session;
-mod stage;
 
 use rv_base::Memory;
 use session::Session;
-use stage::Stage;
 use std::sync::Wait;
 use std::thread::Threads;
+use trial_stage::Stage;
 
 // What a command prints, where it is one.
 fn printed<R: Threads + Wait + Sync>(

@@ -1,6 +1,5 @@
 // Runs of the program's words over the stores of the machine.
 use crate::session::Session;
-use crate::stage::Stage;
 use rv_base::{Bytes, Memory, MemorySink, MemorySource};
 use rv_cli::run;
 use rv_crew::Serial;
@@ -10,6 +9,7 @@ use rv_place::HostPlace;
 use std::alloc::Global;
 use std::sync::Wait;
 use std::thread::Threads;
+use trial_stage::Stage;
 
 // The words of a line.
 fn words_of(alloc: Global, line: &str) -> Result<Vec<String>, Memory> {

@@ -12,7 +12,6 @@
 
 mod answers;
 mod cells;
-mod draws;
 mod entries;
 mod fault;
 mod history;
@@ -22,16 +21,15 @@ mod playing;
 mod requests;
 mod runs;
 mod sending;
-mod stage;
 
 use fault::Fault;
 use plan::plan_of;
 use playing::played;
 use rv_base::Memory;
 use rv_crew::{Crew, Serial, Threaded};
-use stage::Stage;
 use std::sync::Wait;
 use std::thread::Threads;
+use trial_stage::Stage;
 
 // What the words of a plan print, with a crew.
 fn told<R: Threads + Wait + Sync, C: Crew>(

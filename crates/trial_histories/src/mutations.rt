@@ -1,7 +1,7 @@
 // Mutations on ids of a small common set.
-use crate::draws::Draws;
 use rv_base::Memory;
 use std::alloc::Global;
+use trial_stage::Draws;
 
 /// The users.
 pub static USERS: [&str; 3] = ["ann", "bob", "cid"];

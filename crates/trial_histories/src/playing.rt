@@ -8,7 +8,6 @@ use crate::plan::Plan;
 use crate::requests::{Connection, connections_of};
 use crate::runs::{Finished, run_alone, run_with};
 use crate::sending::listeners;
-use crate::stage::Stage;
 use rv_base::{Bytes, Memory};
 use rv_crew::Crew;
 use rv_keeper::MemoryPlace;
@@ -16,6 +15,7 @@ use rv_net::MemoryNet;
 use std::alloc::Global;
 use std::sync::Wait;
 use std::thread::Threads;
+use trial_stage::Stage;
 
 // The accounts of the three users.
 const ACCOUNTS: &str =

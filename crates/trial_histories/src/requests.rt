@@ -1,9 +1,9 @@
 // The requests of connections, drawn by a seed.
-use crate::draws::Draws;
 use crate::mutations::{USERS, mutation};
 use crate::plan::Plan;
 use rv_base::Memory;
 use std::alloc::Global;
+use trial_stage::Draws;
 
 /// What a request is.
 #[derive(Clone, Copy, Debug, PartialEq, Eq)]

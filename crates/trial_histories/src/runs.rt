@@ -1,5 +1,4 @@
 // Runs over a place.
-use crate::stage::Stage;
 use rv_base::{Memory, MemorySink, MemorySource};
 use rv_cli::run;
 use rv_crew::{Crew, Serial};
@@ -8,6 +7,7 @@ use rv_net::MemoryNet;
 use std::alloc::Global;
 use std::sync::Wait;
 use std::thread::Threads;
+use trial_stage::Stage;
 
 /// How a run ended, and what it wrote.
 #[derive(Drop)]

@@ -2,12 +2,12 @@
 use crate::files::connection;
 use crate::nets::{answers_in, conn, net_of, served, written};
 use crate::runs::{SERVE, run_line};
-use crate::stage::Stage;
 use rv_base::Memory;
 use rv_net::{MemoryConn, MemoryNet};
 use std::alloc::Global;
 use std::sync::Wait;
 use std::thread::Threads;
+use trial_stage::Stage;
 
 // One of these two words.
 fn said(test: bool, yes: &'static str, no: &'static str) -> &'static str {

@@ -8,12 +8,11 @@ mod commands;
 mod files;
 mod nets;
 mod runs;
-mod stage;
 
 use rv_base::Memory;
-use stage::Stage;
 use std::sync::Wait;
 use std::thread::Threads;
+use trial_stage::Stage;
 
 // What a command prints, where it is one.
 fn printed<R: Threads + Wait + Sync>(

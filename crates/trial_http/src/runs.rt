@@ -1,6 +1,5 @@
 // Runs of `rv serve` over stores and accounts in memory, and a net.
 use crate::files::bytes_of;
-use crate::stage::Stage;
 use rv_base::{Bytes, Memory, MemorySink, MemorySource};
 use rv_cli::run;
 use rv_crew::Threaded;
@@ -9,6 +8,7 @@ use rv_net::MemoryNet;
 use std::alloc::Global;
 use std::sync::Wait;
 use std::thread::Threads;
+use trial_stage::Stage;
 
 /// The words that serve a store in memory with the folder's accounts.
 pub const SERVE: &str =

@@ -3,13 +3,13 @@ use crate::expected::{activity_report, check_report, lists_report, user_count};
 use crate::model::Model;
 use crate::requests::Requests;
 use crate::runs::run_command;
-use crate::stage::Stage;
 use rv_base::Memory;
 use rv_keeper::MemoryPlace;
 use std::alloc::Global;
 use std::mem;
 use std::sync::Wait;
 use std::thread::Threads;
+use trial_stage::Stage;
 
 // The first line that differs, and what stands there in the other.
 fn first_difference(alloc: Global, told: &str, wanted: &str) -> Result<String, Memory> {

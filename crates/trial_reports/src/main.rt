@@ -7,20 +7,18 @@
 
 mod act;
 mod comparing;
-mod draws;
 mod expected;
 mod model;
 mod requests;
 mod rows;
 mod runs;
 mod spelling;
-mod stage;
 mod texts;
 
 use rv_base::Memory;
-use stage::Stage;
 use std::sync::Wait;
 use std::thread::Threads;
+use trial_stage::Stage;
 
 // The two numbers of a line.
 fn numbers_in(line: &str) -> Option<(usize, u64)> {

@@ -1,11 +1,11 @@
 // Requests that are drawn, and what they leave.
 use crate::act::Act;
-use crate::draws::Draws;
 use crate::model::{Group, Model};
 use crate::spelling::{add_mutation, cookie_text, pull_line, push_line, retire_line};
 use crate::texts::{READER, USERS};
 use rv_base::Memory;
 use std::alloc::Global;
+use trial_stage::Draws;
 
 /// Requests, one after another, and a model of the store that they leave.
 #[derive(Drop)]

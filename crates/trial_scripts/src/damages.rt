@@ -3,12 +3,12 @@ use crate::case::{Case, words_of_kept};
 use crate::cells::{body_at, cell_of, copied, put, remove, shelf_in};
 use crate::kept::Kept;
 use crate::runs::run_once;
-use crate::stage::Stage;
 use rv_base::Memory;
 use rv_keeper::{Cell, Shelves};
 use std::alloc::Global;
 use std::sync::Wait;
 use std::thread::Threads;
+use trial_stage::Stage;
 
 // What becomes of the cell at a place.
 #[derive(Clone, Copy)]

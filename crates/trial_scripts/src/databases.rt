@@ -3,7 +3,6 @@ use crate::case::Case;
 use crate::cells::lines_of_cells;
 use crate::runs::{Finished, run_over};
 use crate::sqlite_place::SqlitePlace;
-use crate::stage::Stage;
 use crate::stores::held_text;
 use rv_base::Memory;
 use rv_keeper::{KeepFault, Keeper, Loaded};
@@ -13,6 +12,7 @@ use std::alloc::Global;
 use std::mem;
 use std::sync::Wait;
 use std::thread::Threads;
+use trial_stage::Stage;
 
 // The generation that the keeper answers where this one was loaded.
 fn asked(keeper: &mut SqliteKeeper<MemStore>, loaded: u64) -> Option<u64> {

@@ -1,11 +1,11 @@
 // Runs in which one read or one write fails.
 use crate::case::Case;
 use crate::runs::{Finished, run_case};
-use crate::stage::Stage;
 use rv_base::Memory;
 use std::alloc::Global;
 use std::sync::Wait;
 use std::thread::Threads;
+use trial_stage::Stage;
 
 // The status, the number of lines that were written, whether they are a front of the whole output, and the faults.
 fn line_of(alloc: Global, call: u64, whole: &Finished, some: &Finished) -> Result<String, Memory> {

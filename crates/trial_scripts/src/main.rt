@@ -15,14 +15,13 @@ mod kept;
 mod places;
 mod runs;
 mod sqlite_place;
-mod stage;
 mod stores;
 
 use case::Case;
 use rv_base::Memory;
-use stage::Stage;
 use std::sync::Wait;
 use std::thread::Threads;
+use trial_stage::Stage;
 
 // What a command prints, where it is one.
 fn printed<R: Threads + Wait + Sync>(

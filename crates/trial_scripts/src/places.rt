@@ -1,13 +1,13 @@
 // Runs over one place, which stays as each leaves it.
 use crate::case::Case;
 use crate::runs::{run_over, told};
-use crate::stage::Stage;
 use crate::stores::held_text;
 use rv_base::Memory;
 use rv_keeper::MemoryPlace;
 use std::alloc::Global;
 use std::sync::Wait;
 use std::thread::Threads;
+use trial_stage::Stage;
 
 // The place of a case, which begins with the case's store.
 fn place_of(alloc: Global, case: &mut Case) -> Result<MemoryPlace, Memory> {

@@ -1,6 +1,5 @@
 // Runs, in pieces of several sizes.
 use crate::case::Case;
-use crate::stage::Stage;
 use rv_base::{Memory, MemorySink, MemorySource};
 use rv_cli::run;
 use rv_crew::Serial;
@@ -10,6 +9,7 @@ use std::alloc::Global;
 use std::mem;
 use std::sync::Wait;
 use std::thread::Threads;
+use trial_stage::Stage;
 
 /// How a run ended, and what it wrote.
 #[derive(Drop)]

@@ -2,13 +2,13 @@
 use crate::case::Case;
 use crate::cells::lines_of;
 use crate::runs::{run_over, told};
-use crate::stage::Stage;
 use rv_base::{Id, Memory, MemorySink, TextRefusal};
 use rv_cli::run_retire;
 use rv_keeper::MemoryPlace;
 use std::alloc::Global;
 use std::sync::Wait;
 use std::thread::Threads;
+use trial_stage::Stage;
 
 // The place after a run of the case.
 fn place_after<R: Threads + Wait + Sync>(

@@ -9,7 +9,6 @@
 
 mod asking;
 mod holding;
-mod stage;
 mod telling;
 
 use asking::Plan;
@@ -19,11 +18,11 @@ use rv_cli::run;
 use rv_crew::{Crew, Serial, Threaded};
 use rv_keeper::MemoryPlace;
 use rv_net::MemoryNet;
-use stage::Stage;
 use std::alloc::Global;
 use std::sync::Wait;
 use std::sync::atomic::Ordering;
 use std::thread::Threads;
+use trial_stage::Stage;
 
 // The one account.
 const ACCOUNTS: &str = "[[account]]\nkey = \"k-ann\"\nuser = \"ann\"\n";
