@@ -2,10 +2,10 @@
 """Kills `rv serve` while 16 connections push: checks/workers.py PROGRAM [SECONDS [PORT]]
 
 PROGRAM is the program `rv` as it was built, with 16 workers over a store in a file; SECONDS how long it is pushed to (20), PORT the
-first port that is tried (21180; one below those that outgoing connections get, which could be one of them). Each of 16 clients pushes one mutation after another. The program is killed again and again, and
-started anew on the same file; a client sends again what was not answered. At the end the file is sound, and in its entries each
-client's mutations stand once, in the order of their ids: all that were answered, and at most one that was not. Ends with status 1 at
-the first difference.
+first port that is tried (21180; one below those that outgoing connections get, which could be one of them). Each of 16 clients pushes
+one mutation after another. The program is killed again and again, and started anew on the same file; a client sends again what was not
+answered. At the end the file is sound, and in its entries each client's mutations stand once, in the order of their ids: all that were
+answered, and at most one that was not. Ends with status 1 at the first difference.
 """
 import contextlib
 import json
