@@ -14,7 +14,7 @@ use Rattle.rv_base.specs.declared.memory.Memory.{Memory as MemoryFault}
 use Rattle.rv_room.specs.declared.view.SeatView.{SeatView}
 use Rattle.rv_room.specs.Views.{newcomer}
 use Rattle.rv_workers.specs.Serving.{EachServes, ServesTogether}
-use Rattle.std.specs.Prelude.{MatchResult}
+use Rattle.std.specs.Prelude.{MatchResult, IfErr}
 use Rattle.rv_cli.specs.declared.ending.Ending.{Ending}
 use Rattle.rv_cli.specs.declared.ending.Ending.TheVariants as endings
 use Rattle.rv_cli.specs.declared.serve_ending.ServeEnding.{ServeEnding}
@@ -192,6 +192,18 @@ module _ {P K : Type 0} (tells : P → Type 0) (holds : P → List ℕ → Loade
           (λ a f n. NetServes Told listener_tells (Serves a f n) workers to_give left came_back back) entries out out' ending serves sound count tells_so)
       by_result (Err nets.Failed) (same, rose) (ends, text) = inl (subst (λ (e : ServeEnding). HasNoNet kept_faults (tells new) (accounts old name) (holds old store) (OpensAs store (holds old store)) (holds new store) (faults old) (faults new) net net' out out' e) (sym ends) (no_net Net same rose text))
       by_result (Err nets.Memory) same (ends, text) = inl (subst (λ (e : ServeEnding). HasNoNet kept_faults (tells new) (accounts old name) (holds old store) (OpensAs store (holds old store)) (holds new store) (faults old) (faults new) net net' out out' e) (sym ends) (no_net Memory same tt text))
+
+-- at other statuses than 0 and 7 the net did not serve
+pub unserved_by : (Unserves : Type 0) (result : Result (Unit {0}) NetFault) (entries : ℕ) (out out' : OutputState) (ending : ServeEnding) (status : ℕ)
+    → TellsServed result entries out out' ending → status ≡ serve_status ending → IfErr result (λ fault. Unserves) → (status ≡ 0) ⊎ (status ≡ 7) ⊎ Unserves
+unserved_by Unserves (Err fault) entries out out' ending status tells is why = inr (inr why)
+unserved_by Unserves (Ok done) entries out out' Done status tells is why = inl is
+unserved_by Unserves (Ok done) entries out out' Write status tells is why = inr (inl is)
+unserved_by Unserves (Ok done) entries out out' (BadAccounts number) status tells is why = absurd tells
+unserved_by Unserves (Ok done) entries out out' (TwiceAccounts number) status tells is why = absurd tells
+unserved_by Unserves (Ok done) entries out out' (NotOpened other) status tells is why = absurd tells
+unserved_by Unserves (Ok done) entries out out' Net status tells is why = absurd tells
+unserved_by Unserves (Ok done) entries out out' Memory status tells is why = absurd tells
 
 -- ---- A store that keeps a lawful book is not damaged.
 

@@ -69,6 +69,12 @@ pub record NetServes {L : Type 0} (Told : Type 0) (tells : L → Type 0) (Serves
   pub first : Told → to_give ≡ given ++ left
   pub last : Told → back ≡ came_back ++ returned
 
+-- Nothing was served: the listeners that were given, if some were, came back as they were.
+pub record Unserved {L : Type 0} (to_give left came_back back : List L) : Type 0 where
+  pub given : List L
+  pub first : to_give ≡ given ++ left
+  pub last : back ≡ came_back ++ given
+
 -- ---- The length of the book at the end.
 
 abbrev pub entries_text : Book → List ℕ

@@ -9,7 +9,7 @@ ghost use Rattle.rv_answering.specs.declared.request.Request.TheVariants.{Retire
 ghost use Rattle.rv_cli.specs.Texts.{usage_text, status_of, status_text};
 ghost use Rattle.rv_cli.specs.Headline.{RunsFeed, RunsOne, RunsReport, TellsActivity, TellsLists, TellsSound, WritesOnly, AllAsk, IsOther, KeptSound};
 ghost use Rattle.rv_cli.specs.Commands.{IsReportOf};
-ghost use Rattle.rv_cli.specs.Serving.{NetServes, RunsServe};
+ghost use Rattle.rv_cli.specs.Serving.{NetServes, RunsServe, Unserved};
 ghost use Rattle.rv_cli.specs.Replying.{Retired, WritesReply};
 ghost use Rattle.rv_cli.specs.Steadiness.{OutputIsSteady};
 ghost use Rattle.rv_cli.specs.declared.ending.Ending.TheVariants as endings;
@@ -187,6 +187,10 @@ where
         options.workers (N.to_give net.old) (N.to_give net.new) (N.came_back net.old) (N.came_back net.new))
         (N.faults net.old) (N.faults net.new) (O.state out.old) (O.state out.new) result
         ⊎ ((result ≡ 8) × (place.new ≡ place.old) × (net.new ≡ net.old) × WritesOnly (O.state out.old) (O.state out.new) (status_text endings.Memory)) }
+
+    // At other statuses than 0 and 7 nothing was served.
+    ensures unserved { (store : List ℕ) (options : ServeOptions) → command_in (map string_bytes words.now) ≡ Some (commands.Serve store options)
+        → (net.new ≡ net.old) ⊎ (result ≡ 0) ⊎ (result ≡ 7) ⊎ (N.tells net.new → Unserved (N.to_give net.old) (N.to_give net.new) (N.came_back net.old) (N.came_back net.new)) }
 
     // What the net was asked for, if it was: at the port of the words as many listeners as workers, each for as many connections.
     ensures wanted { (store : List ℕ) (options : ServeOptions) → command_in (map string_bytes words.now) ≡ Some (commands.Serve store options)

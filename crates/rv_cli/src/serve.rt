@@ -1,9 +1,9 @@
 // The command `serve`: the accounts are read, the store is opened, and its desk serves the connections of a net.
-ghost use Rattle.std.specs.Prelude.{◌≡◌, ◌≢◌, ◌⊎◌, None, Some};
+ghost use Rattle.std.specs.Prelude.{◌≡◌, ◌≢◌, ◌⊎◌, None, Some, IfErr};
 ghost use Rattle.rv_base.specs.Causes.{Rose};
 ghost use Rattle.rv_keeper.specs.Stores.{OpensAs};
 ghost use Rattle.rv_cli.specs.Headline.{KeptSound, WritesOnly};
-ghost use Rattle.rv_cli.specs.Serving.{NetServes, RunsServe};
+ghost use Rattle.rv_cli.specs.Serving.{NetServes, RunsServe, Unserved};
 ghost use Rattle.rv_cli.specs.ServingSteps.{AccountsRead, NetServed, TellsCount, TellsFile, TellsServed, count_text};
 ghost use Rattle.rv_cli.specs.Steadiness.{ServeIsSteady};
 ghost use Rattle.rv_cli.specs.Texts.{serve_status, serve_text};
@@ -66,6 +66,7 @@ where
         (λ view listener view' listener'. IsServed K.faults accounts.now N.Listen.In.state N.Listen.Out.state N.Listen.In.fails_no_more N.Listen.Out.fails_no_more N.Listen.tells N.Listen.to_come N.Listen.came_back N.Listen.out N.Listen.ends view listener view' listener')
         desk given result.1 returned)
         options.now.workers (N.to_give net.old) (N.to_give net.new) (N.came_back net.old) (N.came_back net.new) (N.faults net.old) (N.faults net.new) desk result.1 result.0 }
+    ensures unserved { IfErr result.0 (λ fault. N.tells net.new → Unserved (N.to_give net.old) (N.to_give net.new) (N.came_back net.old) (N.came_back net.new)) }
     ensures wanted { N.tells net.new → N.wanted net.new ≡ Some (record { port = options.now.port; count = options.now.workers; most = options.now.connections }) }
 {
     let listeners = match net.listen(options.port, options.workers, options.connections) {
@@ -136,6 +137,7 @@ where
         first given now returned)
         options.now.workers (N.to_give net.old) (N.to_give net.new) (N.came_back net.old) (N.came_back net.new))
         (N.faults net.old) (N.faults net.new) (O.state out.old) (O.state out.new) result }
+    ensures unserved { (net.new ≡ net.old) ⊎ (result ≡ 0) ⊎ (result ≡ 7) ⊎ (N.tells net.new → Unserved (N.to_give net.old) (N.to_give net.new) (N.came_back net.old) (N.came_back net.new)) }
     ensures wanted { (net.new ≡ net.old) ⊎ (N.tells net.new → N.wanted net.new ≡ Some (record { port = options.now.port; count = options.now.workers; most = options.now.connections })) }
     ensures steady { O.fails_no_more out.old → O.fails_no_more out.new × (Rose (O.state out.old).refusals (O.state out.new).refusals ⊎ (result ≢ 7)) }
 {
@@ -179,6 +181,9 @@ where
         first given now returned)
         options.now.workers (N.to_give net.old) (N.to_give net.new) (N.came_back net.old) (N.came_back net.new))
         (N.faults net.old) (N.faults net.new) (O.state out.old) (O.state out.new) result }
+
+    // At other statuses than 0 and 7 nothing was served.
+    ensures unserved { (net.new ≡ net.old) ⊎ (result ≡ 0) ⊎ (result ≡ 7) ⊎ (N.tells net.new → Unserved (N.to_give net.old) (N.to_give net.new) (N.came_back net.old) (N.came_back net.new)) }
 
     // What the net was asked for, if it was: at the port of the options as many listeners as workers, each for as many connections.
     ensures wanted { (net.new ≡ net.old) ⊎ (N.tells net.new → N.wanted net.new ≡ Some (record { port = options.now.port; count = options.now.workers; most = options.now.connections })) }

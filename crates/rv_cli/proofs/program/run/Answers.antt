@@ -43,3 +43,6 @@ returns-in-Ok-Some-Serve-clause-wanted g c = λ store options asks.
     let is = rw (c.in-Ok-Some-Serve.field-0-is, c.in-Ok-Some-Serve.field-0-0-is) at c.in-Ok-Some-Serve.ensures in
     let (named, chosen) = serves_same _ _ store _ options is asks in
     rw (← chosen) c.run_serve.ensures.wanted
+
+pub returns-in-Ok-Some-Serve-clause-unserved : goal.returns-in-Ok-Some-Serve-clause-unserved
+returns-in-Ok-Some-Serve-clause-unserved g c = λ store options asks. c.run_serve.ensures.unserved

@@ -1,7 +1,7 @@
 use Rattle.std.proofs.Common.{inl, inr, ap, ◌∙◌}
 use Rattle.rv_book.specs.Book.{size}
 use Rattle.rv_cli.specs.declared.serve_ending.ServeEnding.TheVariants.{NotOpened}
-use Rattle.rv_cli.proofs.Serving.{has_no_store, net_before, serve_ended}
+use Rattle.rv_cli.proofs.Serving.{has_no_store, net_before, serve_ended, unserved_by}
 use Rattle.rv_cli.proofs.serve.serve_all.Goals as goal
 
 pub returns-in-Err-open_desk-clause-serve : goal.returns-in-Err-open_desk-clause-serve
@@ -26,3 +26,6 @@ returns-clause-serve g c =
           _ _ _ _ _ _ _ _ _ _ c.serve_net-served.result.0 c.len-entries.result (g.O.Sink.state c.args.out.now) (g.O.Sink.state c.tell_served.new.out) c.tell_served.result
           c.serve_net-served.ensures.serves (c.len-entries.ensures.value ∙ ap size c.book.ensures.book) c.tell_served.ensures.tells)),
     )
+
+pub returns-clause-unserved : goal.returns-clause-unserved
+returns-clause-unserved g c = inr (unserved_by _ c.serve_net-served.result.0 c.len-entries.result (g.O.Sink.state c.args.out.now) (g.O.Sink.state c.tell_served.new.out) c.tell_served.result _ c.tell_served.ensures.tells c.status-2.ensures c.serve_net-served.ensures.unserved)

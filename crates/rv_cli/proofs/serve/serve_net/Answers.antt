@@ -1,4 +1,4 @@
-use Rattle.std.proofs.Common.{◌≡◌, List, ◌++◌, length, ap, sym, subst, ◌∙◌, arith}
+use Rattle.std.proofs.Common.{◌≡◌, List, [], ◌++◌, length, ap, sym, subst, ◌∙◌, arith, append-nil}
 use Rattle.std.specs.List.{AllByRecursion}
 use Rattle.rv_cli.proofs.Serving.{all_back}
 use Rattle.rv_cli.proofs.serve.serve_net.Goals as goal
@@ -32,3 +32,24 @@ returns-in-Ok-served-clause-serves g c =
       together.closes.keeps.told,
       c.done.ensures.faults ∙ c.in-Ok.ensures.faults.still,
     )
+
+pub returns-in-Err-clause-unserved : goal.returns-in-Err-clause-unserved
+returns-in-Err-clause-unserved g c = λ t. record {
+  given = [];
+  first = sym (c.in-Err.ensures.given t).0;
+  last = c.in-Err.ensures.back t ∙ sym (append-nil (g.N.Net.came_back c.args.net.now));
+}
+
+pub returns-in-Err-served-clause-unserved : goal.returns-in-Err-served-clause-unserved
+returns-in-Err-served-clause-unserved g c =
+    let same = rw c.in-Err-served.is at c.serve_listeners-served.ensures in
+    let given = c.into_vec-listeners.result.items in
+    λ t. record {
+      given = given;
+      first =
+          let mid = (c.done.ensures.tells t).0 in
+          (c.in-Ok.ensures.given mid).0 ∙ ap (λ ls. ls ++ g.N.Net.to_give c.listen.new.self) (sym c.into_vec-listeners.ensures) ∙ ap (λ ls. given ++ ls) (sym (c.done.ensures.to_give t));
+      last =
+          let mid = (c.done.ensures.tells t).0 in
+          c.done.ensures.back t ∙ ap (λ ls. g.N.Net.came_back c.listen.new.self ++ ls) (c.from_vec.ensures.listeners ∙ same.1) ∙ ap (λ ls. ls ++ given) (c.in-Ok.ensures.back mid);
+    }
