@@ -1,8 +1,13 @@
-//! What several trials stand on: the runtime that they are given, and numbers that are drawn.
+//! What the trials stand on: how the commands of cases are read and played, texts and numbers in them, the runtime that a trial is
+//! given, and numbers that are drawn.
 #![tactic(auto)]
 
 mod draws;
+mod player;
 mod stage;
+mod texts;
 
 pub use draws::Draws;
+pub use player::{Player, play};
 pub use stage::Stage;
+pub use texts::{digits_of, first_word, joined, named, number_in, text_of, words_of};

@@ -1,0 +1,50 @@
+use rv_base::Memory;
+use std::alloc::Global;
+
+/// The first word of a text, and what stands after the blank that ends it.
+pub fn first_word(text: &str) -> (&str, &str) {
+    text.split_once(' ').unwrap_or((text, ""))
+}
+
+/// These texts, one after the other.
+pub fn joined(alloc: Global, parts: &[&str]) -> Result<String, Memory> {
+    let mut text = String::new(alloc);
+    for part in parts {
+        text.push_str(part)?;
+    }
+    Ok(text)
+}
+
+/// The words of a text.
+pub fn words_of(alloc: Global, text: &str) -> Result<Vec<String>, Memory> {
+    let mut words = Vec::new(alloc);
+    for word in text.split_whitespace() {
+        words.push(String::from_str(alloc, word)?)?;
+    }
+    Ok(words)
+}
+
+/// The number that a text is, if it is one of 64 bits.
+pub fn number_in(text: &str) -> Option<u64> {
+    text.parse::<u64>().ok()
+}
+
+/// A number in decimal digits.
+pub fn digits_of(alloc: Global, number: u64) -> Result<String, Memory> {
+    Ok(format!(in alloc; "{number}")?)
+}
+
+/// The text that bytes are, or that they are none.
+pub fn text_of(bytes: &[u8]) -> &str {
+    std::str::from_utf8(bytes).unwrap_or("no text\n")
+}
+
+/// What has a name in a table.
+pub fn named<T: Copy>(table: &[(&str, T)], name: &str) -> Option<T> {
+    for (other, item) in table {
+        if *other == name {
+            return Some(*item);
+        }
+    }
+    None
+}
