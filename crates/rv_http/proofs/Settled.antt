@@ -32,7 +32,7 @@ stay bytes rest more rest' (HeadTooLarge false) r (inr g) = inr (judged_more byt
 stay bytes rest more rest' LengthRequired r g = judged_more bytes more LengthRequired g
 stay bytes rest more rest' (BodyTooLarge flag) r g = judged_more bytes more (BodyTooLarge flag) g
 stay bytes rest more rest' (CodingNotServed flag) r g = judged_more bytes more (CodingNotServed flag) g
-stay bytes rest more rest' (Memory flag) r (head, next, begins, is) = (head, next ++ more, begins_more bytes next head more begins, is)
+stay bytes rest more rest' (Memory flag) r (head, next, n, begins, judged, is) = (head, next ++ more, n, begins_more bytes next head more begins, judged, is)
 
 -- a complete head stands within the first bytes that may be one
 head_in_window : (bytes more : List ℕ) (head : Head) → (begins : Begins bytes head more) → (rest : List ℕ) × ReadsRequest (window bytes) begins.tree rest
@@ -135,7 +135,7 @@ none_is_refused bytes e empty (inr (inr (is, le, waiting))) = omega (arith, le, 
 
 refusal_only : (bytes rest' : List ℕ) (e : HttpEnd) (result : Result Request HttpEnd) → Reason bytes e → Gives bytes rest' result → IsThisRefusal e result
 refusal_only bytes rest' e (Ok request) r (head, more, body, begins, judged, split, is) = no_reason bytes e (length body) (head, more, begins, judged) r
-refusal_only bytes rest' e (Err (Memory flag)) r o = tt
+refusal_only bytes rest' e (Err (Memory flag)) r (head, more, n, begins, judged, is) = no_reason bytes e n (head, more, begins, judged) r
 refusal_only bytes rest' e (Err End) r o = none_is_refused bytes e o r
 refusal_only bytes rest' e (Err Cut) r (some, waits) = refused_waits_not bytes e r waits
 refusal_only bytes rest' e (Err ReadFault) r waits = refused_waits_not bytes e r waits

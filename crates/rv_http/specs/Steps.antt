@@ -91,10 +91,10 @@ body_end bodies.Ended flag = Cut
 body_end bodies.Fault flag = ReadFault
 body_end bodies.Memory flag = Memory flag
 
--- the head is taken off, or refused
+-- the head is taken off, or refused; or it passes its checks, and memory was refused
 abbrev pub TakesHead : Head → List ℕ → List ℕ → Result (Parts × ℕ) HttpEnd → Type 0
 TakesHead head more rest (Ok taken) = (taken.0 ≡ parts_of head) × (judge head ≡ Ok taken.1) × (rest ≡ more)
-TakesHead head more rest (Err e) = (judge head ≡ Err e) ⊎ (e ≡ Memory (is_head head))
+TakesHead head more rest (Err e) = (judge head ≡ Err e) ⊎ ((n : ℕ) × (judge head ≡ Ok n) × (e ≡ Memory (is_head head)))
 
 abbrev pub Takes : List ℕ → List ℕ → Result (Parts × ℕ) HttpEnd → Type 0
 Takes bytes rest result = (head : Head) × (more : List ℕ) × Begins bytes head more × TakesHead head more rest result
