@@ -162,6 +162,13 @@ module _ {A : Type 0} (trouble : A → Option Trouble) (Step : Book → A → Bo
   law_taken : (answer : A) (new : Served) → TakesTurn trouble Step old answer new → IsSound old → KeepsLaw old new
   law_taken answer new taken sound = law_turn answer new (trouble answer) taken.turn sound taken.limit taken.later
 
+-- a settled book is lawful
+pub settled_lawful : (old : Served) (settled : Book) → Settles old.book old.doubt settled → IsSound old → IsLawful settled
+settled_lawful old settled settling sound = (settles old.limit old.book old.doubt settled settling (sound.lawful, sound.within) sound.next).0.0
+
+pub mutates_keep : (from : Sender) (m : Mutation) (old new : Served) (turn : Turn) → ServedMutates old from m turn new → IsSound old → KeepsLaw old new
+mutates_keep from m old new turn taken sound = law_taken turn_trouble (Mutates old.limit from m) old (mutates_advance old.limit from m) turn new taken sound
+
 -- a refusal ends the push, and what is no refusal lets it go on
 module _ (from : Sender) (ms : List Mutation) (answer : Option ErrorBody) (old mid new : Served) where
   law_rest : (refused : Option ErrorBody) → ((mid new : Served) → Pushes ServedMutates from ms mid answer new → IsSound mid → KeepsLaw mid new) → KeepsLaw old mid
@@ -173,7 +180,7 @@ pub pushes_keep : (from : Sender) (mutations : List Mutation) (old new : Served)
 pushes_keep from [] old new answer (is, same) sound = law_same old new same sound
 pushes_keep from (m ∷ ms) old new answer (turn, mid, taken, rest) sound =
     law_rest from ms answer old mid new (refusal turn) (λ mid new goes sound. pushes_keep from ms mid new answer goes sound)
-    (law_taken turn_trouble (Mutates old.limit from m) old (mutates_advance old.limit from m) turn mid taken sound) rest
+    (mutates_keep from m old mid turn taken sound) rest
 
 pub pulls_keep : (user : List ℕ) (request : PullRequest) (old new : Served) (answer : PullAnswer) → ServedPulls old user request answer new → IsSound old → KeepsLaw old new
 pulls_keep user request old new answer taken sound = law_taken pull_trouble (Pulls old.limit user request) old (pulls_advance old.limit user request) answer new taken sound

@@ -1,7 +1,7 @@
 -- What the reply to a pull tells.
-use Rattle.std.proofs.Common.{◌≡◌, ℕ, zero, suc, ◌<◌, ◌≤◌, ◌==◌, ◌&&◌, ◌⊎◌, inl, inr, Bool, true, false, cond, not, List, [], ◌∷◌, map, Option, Some, None, refl, sym, ap, ◌∙◌, subst, arith}
+use Rattle.std.proofs.Common.{◌≡◌, ℕ, zero, suc, ◌<◌, ◌≤◌, ◌==◌, ◌&&◌, ◌⊎◌, inl, inr, Bool, true, false, cond, not, List, [], ◌∷◌, ◌++◌, map, Option, Some, None, refl, sym, ap, ◌∙◌, subst, arith}
 use Rattle.std.specs.Prelude.{option_and_then}
-use Rattle.std.specs.List.{Contains, filter, list_any}
+use Rattle.std.specs.List.{AllByRecursion, Contains, filter, list_any}
 use Rattle.std.specs.Option.{option_map_or}
 use Rattle.std.specs.Str.{bytes_eq}
 use Rattle.std.proofs.lemmas.Bool.Decides.{Decides-eqb}
@@ -24,8 +24,8 @@ use Rattle.rv_history.specs.Replay.{rows_of}
 use Rattle.rv_history.specs.Bases.{base_of, base_group}
 use Rattle.rv_history.specs.Patches.{ClientView, client_view, apply}
 use Rattle.rv_history.specs.History.{is_absent, is_news, patch_since, is_among, ids_since}
-use Rattle.rv_history.specs.Machine.{Replies, Pulls, cookie_order, patch_for, ids_for, same_reply, reply_to}
-use Rattle.rv_history.specs.Laws.{IsBaseView, is_clear, ClearsWithoutBase, known_ids, Tells}
+use Rattle.rv_history.specs.Machine.{Replies, Pulls, cookie_order, next_order, patch_for, ids_for, same_reply, reply_to}
+use Rattle.rv_history.specs.Laws.{IsBaseView, IsPermitted, is_clear, ClearsWithoutBase, EntersLook, known_ids, Tells}
 use Rattle.rv_history.specs.Based.{first_and, last_and}
 use Rattle.rv_history.specs.Based.{next_above}
 use Rattle.rv_history.specs.PatchLaws.{patch_applies, patch_anew}
@@ -59,6 +59,15 @@ patch_clears user book (Some place) =
     list_any-append is_clear (map (λ row. Del (row_key row)) gone) (map (λ row. Put row) news)
     ∙ rw (dels_clear_nothing gone) (puts_clear_nothing news)
 
+-- what holds of each element
+each_within : {X : Type 0} (P : X → Type 0) (xs : List X) → ((x : X) → Contains xs x → P x) → AllByRecursion P xs
+each_within P [] holds = tt
+each_within P (x ∷ xs) holds = (holds x (0, omega arith, refl), each_within P xs (λ y there. holds y (Contains-append_right (x ∷ []) xs y there)))
+
+all_both : {X : Type 0} (P : X → Type 0) (xs ys : List X) → AllByRecursion P xs → AllByRecursion P ys → AllByRecursion P (xs ++ ys)
+all_both P [] ys none all = all
+all_both P (x ∷ xs) ys (one, rest) all = (one, all_both P xs ys rest all)
+
 -- an element that passes is in the filter
 filter_contains : {X : Type 0} (p : X → Bool) (xs : List X) (x : X) → p x ≡ true → Contains xs x → Contains (filter p xs) x
 filter_contains p [] x passes (k, lt, is) = absurd (omega arith)
@@ -73,6 +82,29 @@ filter_contains p (y ∷ ys) x passes (suc k, lt, is) =
 -- and what is in the filter is an element
 filter_from : {X : Type 0} (p : X → Bool) (xs : List X) (x : X) → Contains (filter p xs) x → Contains xs x
 filter_from p xs x there = All-contains (Contains xs) (filter p xs) x (All-filter p (Contains xs) xs (All-contains_itself xs)) there
+
+-- a patch names only what its user sees or saw
+puts_permitted : (user : List ℕ) (book : Book) (base : Option ℕ) (rows : List Row) → AllByRecursion (Contains (seen user (rows_of book))) rows → AllByRecursion (IsPermitted user book base) (map (λ row. Put row) rows)
+puts_permitted user book base [] all = tt
+puts_permitted user book base (row ∷ rows) (one, all) = (one, puts_permitted user book base rows all)
+
+dels_permitted : (user : List ℕ) (book : Book) (place : ℕ) (rows : List Row) → AllByRecursion (Contains (seen user (rows_of (up_to place book)))) rows → AllByRecursion (IsPermitted user book (Some place)) (map (λ row. Del (row_key row)) rows)
+dels_permitted user book place [] all = tt
+dels_permitted user book place (row ∷ rows) (one, all) = ((row, one, refl), dels_permitted user book place rows all)
+
+pub patch_permitted : (book : Book) (user : List ℕ) (base : Option ℕ) → AllByRecursion (IsPermitted user book base) (patch_since user book base)
+patch_permitted book user None =
+    let now : List Row = seen user (rows_of book) in
+    (tt, puts_permitted user book None now (each_within (Contains now) now (λ row there. there)))
+patch_permitted book user (Some place) =
+    let rows : List Row = rows_of (up_to place book) in
+    let base : List Row = seen user rows in
+    let now : List Row = seen user (rows_of book) in
+    let gone : List Row = filter (is_absent now) base in
+    let news : List Row = filter (is_news base rows (since place book)) now in
+    all_both (IsPermitted user book (Some place)) (map (λ row. Del (row_key row)) gone) (map (λ row. Put row) news)
+    (dels_permitted user book place gone (each_within (Contains base) gone (λ row there. filter_from (is_absent now) base row there)))
+    (puts_permitted user book (Some place) news (each_within (Contains now) news (λ row there. filter_from (is_news base rows (since place book)) now row there)))
 
 same_pair : (a b : List ℕ × ℕ) → (bytes_eq b.0 a.0 && (b.1 == a.1)) ≡ true → a ≡ b
 same_pair a b is =
@@ -118,19 +150,21 @@ ids_news group book (Some base) pair there known =
     cc
 
 -- a reply with the machine's patch and ids, of these cookies
-abbrev Cookies : PullRequest → Book → Book → PullReply → Type 0
-Cookies request book new reply =
+abbrev Cookies : List ℕ → PullRequest → Book → Book → PullReply → Type 0
+Cookies user request book new reply =
     (cookie_order request.cookie ≤ cookie_order reply.cookie)
     × (reply.same ≡ true → (reply.ops ≡ []) × (reply.ids ≡ []) × (reply.cookie ≡ request.cookie) × (new ≡ book))
     × (reply.same ≡ false → (last_order request.group book < cookie_order reply.cookie) × (cookie_order request.cookie < cookie_order reply.cookie))
+    × (reply.same ≡ false → EntersLook user request book new reply.cookie)
 
-tells : (user : List ℕ) (request : PullRequest) (book new : Book) (reply : PullReply) → reply.ops ≡ patch_for user request book → reply.ids ≡ ids_for user request book → reply.text ≡ compact_text (pull_data reply.cookie reply.ids reply.ops) → Cookies request book new reply → Tells user request book new reply
+tells : (user : List ℕ) (request : PullRequest) (book new : Book) (reply : PullReply) → reply.ops ≡ patch_for user request book → reply.ids ≡ ids_for user request book → reply.text ≡ compact_text (pull_data reply.cookie reply.ids reply.ops) → Cookies user request book new reply → Tells user request book new reply
 tells user request book new reply ops told text cookies =
     let base : Option ℕ = base_of user request.cookie book in
     let group : Option (ℕ × List ℕ) = option_and_then (base_group book) base in
     record {
       shows = λ view is. ap (λ (t : List Op). apply t view) ops ∙ patch_shows user book base view is;
       clears = subst (λ (t : List Op). ClearsWithoutBase base t) (sym ops) (patch_clears user book base);
+      permitted = subst (λ (t : List Op). AllByRecursion (IsPermitted user book base) t) (sym ops) (patch_permitted book user base);
       complete = λ pair there. subst (λ (t : List (List ℕ × ℕ)). Contains (known_ids user request book) pair ⊎ Contains t pair) (sym told) (ids_complete request.group book group pair there);
       sound = λ pair there. ids_sound request.group book group pair (subst (λ (t : List (List ℕ × ℕ)). Contains t pair) told there);
       news = λ pair there. ids_news request.group book group pair (subst (λ (t : List (List ℕ × ℕ)). Contains t pair) told there);
@@ -138,6 +172,7 @@ tells user request book new reply ops told text cookies =
       same = cookies.1;
       text = text;
       above = cookies.2;
+      looks = cookies.3;
     }
 
 -- a reply with the text of its parts
@@ -152,12 +187,12 @@ replies_tell limit user request book new true reply (none, is, stays) =
     let ops : reply.ops ≡ [] = ap (λ (r : PullReply). r.ops) is in
     let told : reply.ids ≡ [] = ap (λ (r : PullReply). r.ids) is in
     tells user request book new reply (ops ∙ sym none.0) (told ∙ sym none.1) (own_text reply (same_reply request) is refl)
-    (omega arith, (λ yes. (ops, told, cookie, stays)), (λ no. absurd (let both : true ≡ false = sym own ∙ no in cc)))
+    (omega arith, (λ yes. (ops, told, cookie, stays)), (λ no. absurd (let both : true ≡ false = sym own ∙ no in cc)), (λ no. absurd (let both : true ≡ false = sym own ∙ no in cc)))
 replies_tell limit user request book new false reply (some, fits, room, is, more) =
     let other : reply.same ≡ false = ap (λ (r : PullReply). r.same) is in
     let rises = next_above (cookie_order request.cookie) (last_order request.group book) (cookie_order reply.cookie) (ap (λ (r : PullReply). cookie_order r.cookie) is) in
     tells user request book new reply (ap (λ (r : PullReply). r.ops) is) (ap (λ (r : PullReply). r.ids) is) (own_text reply (reply_to user request book) is refl)
-    (omega arith, (λ yes. absurd (let both : true ≡ false = sym yes ∙ other in cc)), (λ no. (rises.1, rises.0)))
+    (omega arith, (λ yes. absurd (let both : true ≡ false = sym yes ∙ other in cc)), (λ no. (rises.1, rises.0)), (λ no. (next_order request book, ap (λ (r : PullReply). r.cookie) is, more)))
 
 pub pulls_show : (limit : ℕ) (user : List ℕ) (request : PullRequest) (book new : Book) (reply : PullReply) → Pulls limit user request book (Pulled reply) new → Tells user request book new reply
 pulls_show limit user request book new reply (admits, replies) = replies_tell limit user request book new reply.same reply replies

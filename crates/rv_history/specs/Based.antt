@@ -69,6 +69,14 @@ base_look user Null book place e = absurd (cc)
 base_look user (Bare order) book place e = absurd (cc)
 base_look user (Named text order) book place e = base_is_look user text order book place (found_passes (names_base user text order book) (range_with_len 1 (size book)) place e)
 
+-- and its place is spelled by the cookie
+pub base_spelled : (user text : List ℕ) (order : ℕ) (book : Book) (place : ℕ) → base_of user (Named text order) book ≡ Some place → decimal place ≡ text
+unfolding names_base
+base_spelled user text order book place e =
+    let spelled : Bool = bytes_eq (decimal place) text in
+    let passes : names_base user text order book place ≡ true = found_passes (names_base user text order book) (range_with_len 1 (size book)) place e in
+    (bytes_eq-Decides (decimal place) text).0 (first_and spelled (kept place book) (first_and (spelled && kept place book) (by_look user order book place) passes))
+
 -- the next order is above the cookie's and above the group's last
 pub next_above : (cookie last next : ℕ) → next ≡ max cookie last + 1 → (cookie < next) × (last < next)
 next_above cookie last next is = (omega arith, omega arith)

@@ -1,6 +1,6 @@
 -- What follows from the machine, for every book that it makes.
-use Rattle.std.specs.Prelude.{◌≡◌, ℕ, ◌<◌, ◌≤◌, ◌⊎◌, Bool, true, false, List, [], ◌∷◌, ◌++◌, Option, Some, None, Contains, option_and_then, if◌then◌else◌}
-use Rattle.std.specs.List.{filter_map, list_any, range_with_len}
+use Rattle.std.specs.Prelude.{◌≡◌, ℕ, ◌<◌, ◌≤◌, ◌⊎◌, Bool, true, false, List, [], ◌∷◌, ◌++◌, Option, Some, None, Contains, option_and_then, decimal, ◌+◌, if◌then◌else◌}
+use Rattle.std.specs.List.{filter_map, list_any, range_with_len, AllByRecursion}
 use Rattle.std.specs.Option.{option_map_or}
 use Rattle.std.specs.List.Sorted.{IsStrictlyIncreasing}
 use Rattle.std.specs.Str.{bytes_eq}
@@ -17,12 +17,20 @@ use Rattle.rv_history.specs.declared.pull_answer.PullAnswer.{PullAnswer}
 use Rattle.rv_history.specs.declared.pull_answer.PullAnswer.TheVariants.{Pulled}
 use Rattle.rv_history.specs.declared.pull_reply.PullReply.{PullReply}
 use Rattle.rv_history.specs.declared.retire_answer.RetireAnswer.{RetireAnswer}
-use Rattle.rv_book.specs.Book.{Book, bound, group_of, last, last_order, ids, up_to}
+use Rattle.rv_book.specs.Book.{Book, bound, group_of, last, last_order, ids, size, up_to, with_entry}
+use Rattle.rv_rows.specs.declared.row.Row.{Row}
+use Rattle.rv_rows.specs.declared.call.Call.{Call}
+use Rattle.rv_rows.specs.Keys.{row_key}
+use Rattle.rv_rows.specs.Sharing.{seen}
+use Rattle.rv_views.specs.declared.cookie.Cookie.{Cookie}
+use Rattle.rv_views.specs.declared.cookie.Cookie.TheVariants.{Named}
 use Rattle.rv_history.specs.Bases.{base_of, base_group}
+use Rattle.rv_history.specs.Replay.{rows_of}
+use Rattle.rv_history.specs.declared.turn.Turn.{Turn}
 use Rattle.rv_history.specs.Lawful.{IsLawful}
 use Rattle.rv_history.specs.Patches.{ClientView, client_view, apply}
 use Rattle.rv_history.specs.History.{patch_since}
-use Rattle.rv_history.specs.Machine.{Sender, Pulls, Pushes, cookie_order}
+use Rattle.rv_history.specs.Machine.{Sender, Mutates, Pulls, Pushes, cookie_order, refusal}
 use Rattle.rv_history.specs.Served.{Served, ServedMutates, ServedPulls, ServedRetires, IsSound, KeepsLaw}
 
 abbrev pub act_id : List ℕ → Entry → Option ℕ
@@ -97,6 +105,20 @@ PullsKeepLaw = (user : List ℕ) (request : PullRequest) (old new : Served) (ans
 abbrev pub RetirementsKeepLaw : Type 0
 RetirementsKeepLaw = (group : List ℕ) (old new : Served) (answer : RetireAnswer) → ServedRetires old group answer new → IsSound old → KeepsLaw old new
 
+-- The mutation stands in the book, as an act of its sender, of its client and with its id. If it was skipped, the call is that of the
+-- one that came first.
+abbrev pub IsEntered : Sender → Book → Mutation → Type 0
+IsEntered from book m = (call : Call) × Contains book (Act from.user from.group m.client m.id call)
+
+-- A mutation that is run or skipped at a lawful book stands in the book that is left; but for an id of 0, which is skipped and stands
+-- nowhere.
+abbrev pub MutationsStand : Type 0
+MutationsStand = (limit : ℕ) (from : Sender) (m : Mutation) (book new : Book) (turn : Turn) → Mutates limit from m book turn new → refusal turn ≡ None → IsLawful book → 1 ≤ m.id → IsEntered from new m
+
+-- So does each mutation of a push that is not refused.
+abbrev pub PushesStand : Type 0
+PushesStand = (from : Sender) (mutations : List Mutation) (old new : Served) → Pushes ServedMutates from mutations old None new → IsSound old → AllByRecursion (λ m. 1 ≤ m.id → IsEntered from new.book m) mutations
+
 -- A patch shows what the user sees: since any place, and so since each kept look of the user, it makes of the view at that place
 -- the view at the book's end; and without a base it does so of any view.
 abbrev pub PatchesShow : Type 0
@@ -114,6 +136,18 @@ is_clear Clear = true
 is_clear (Del key) = false
 is_clear (Put row) = false
 
+-- What an operation of a patch since a base may name: a row that is put is one that the user sees at the book; a key that is deleted
+-- is that of a row that the user saw at the base.
+abbrev pub IsPermitted : List ℕ → Book → Option ℕ → Op → Type 0
+IsPermitted user book base Clear = Unit {0}
+IsPermitted user book base (Put row) = Contains (seen user (rows_of book)) row
+IsPermitted user book (Some place) (Del key) = (row : Row) × Contains (seen user (rows_of (up_to place book))) row × (row_key row ≡ key)
+IsPermitted user book None (Del key) = ⊥
+
+-- A patch names nothing else.
+abbrev pub PatchesArePermitted : Type 0
+PatchesArePermitted = (book : Book) (user : List ℕ) (base : Option ℕ) → AllByRecursion (IsPermitted user book base) (patch_since user book base)
+
 -- without a base a patch begins with its one clear, and with a base it has none
 abbrev pub ClearsWithoutBase : Option ℕ → List Op → Type 0
 ClearsWithoutBase None ops = (others : List Op) × (ops ≡ Clear ∷ others) × (list_any is_clear others ≡ false)
@@ -123,14 +157,20 @@ ClearsWithoutBase (Some place) ops = list_any is_clear ops ≡ false
 abbrev pub known_ids : List ℕ → PullRequest → Book → List (List ℕ × ℕ)
 known_ids user request book = option_map_or (λ base. ids base.1 (up_to base.0 book)) (option_and_then (base_group book) (base_of user request.cookie book)) []
 
+-- the cookie names the look that was entered for the request, at the next place
+abbrev pub EntersLook : List ℕ → PullRequest → Book → Book → Cookie → Type 0
+EntersLook user request book new cookie = (order : ℕ) × (cookie ≡ Named (decimal (size book + 1)) order) × (new ≡ with_entry book (Look user request.group order (base_of user request.cookie book)))
+
 -- What the reply to a pull tells at a book. Its patch, applied to the view that the cookie names, gives exactly what the
--- user sees; it begins with a clear exactly where there is no base. Each last mutation id of the group is known by the
--- cookie or told, and nothing else is told; what is told was not known. The order is not below the request's. A reply of
--- the same cookie has an empty patch and no ids, and leaves the book as it is; any other has an order above the group's last
--- and the request's. The text is the compact JSON of the cookie, the ids and the patch.
+-- user sees; it begins with a clear exactly where there is no base, and names only what the user sees, or saw at the base. Each
+-- last mutation id of the group is known by the cookie or told, and nothing else is told; what is told was not known. The order is
+-- not below the request's. A reply of the same cookie has an empty patch and no ids, and leaves the book as it is; any other names
+-- the look that it enters, at the next place, and has an order above the group's last and the request's. The text is the compact
+-- JSON of the cookie, the ids and the patch.
 pub record Tells (user : List ℕ) (request : PullRequest) (book new : Book) (reply : PullReply) : Type 0 where
   pub shows : (view : ClientView) → IsBaseView user book (base_of user request.cookie book) view → apply reply.ops view ≡ client_view user book
   pub clears : ClearsWithoutBase (base_of user request.cookie book) reply.ops
+  pub permitted : AllByRecursion (IsPermitted user book (base_of user request.cookie book)) reply.ops
   pub complete : (pair : List ℕ × ℕ) → Contains (ids request.group book) pair → Contains (known_ids user request book) pair ⊎ Contains reply.ids pair
   pub sound : (pair : List ℕ × ℕ) → Contains reply.ids pair → Contains (ids request.group book) pair
   pub news : (pair : List ℕ × ℕ) → Contains reply.ids pair → ¬ Contains (known_ids user request book) pair
@@ -138,6 +178,7 @@ pub record Tells (user : List ℕ) (request : PullRequest) (book new : Book) (re
   pub same : reply.same ≡ true → (reply.ops ≡ []) × (reply.ids ≡ []) × (reply.cookie ≡ request.cookie) × (new ≡ book)
   pub text : reply.text ≡ compact_text (pull_data reply.cookie reply.ids reply.ops)
   pub above : reply.same ≡ false → (last_order request.group book < cookie_order reply.cookie) × (cookie_order request.cookie < cookie_order reply.cookie)
+  pub looks : reply.same ≡ false → EntersLook user request book new reply.cookie
 
 -- So does each reply that the machine gives.
 abbrev pub PullsShow : Type 0

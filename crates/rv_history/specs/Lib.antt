@@ -13,3 +13,5 @@ pub mod Machine
 pub mod Troubles
 pub mod Served
 pub mod Laws
+pub mod LookIds
+pub mod Clients

@@ -1,5 +1,6 @@
 //! What follows from the machine, as contracts of functions that do nothing: a check of the crate proves them.
-ghost use Rattle.rv_history.specs.Laws.{IdsCountUp, OrdersRise, GroupsHaveOneUser, ClientsHaveOneGroup, RetiredGroupsRest, EntriesStandOnce, PushesKeepLaw, PullsKeepLaw, RetirementsKeepLaw, PullsShow, PatchesShow};
+ghost use Rattle.rv_history.specs.Clients.{ClientsFollow};
+ghost use Rattle.rv_history.specs.Laws.{IdsCountUp, OrdersRise, GroupsHaveOneUser, ClientsHaveOneGroup, RetiredGroupsRest, EntriesStandOnce, PushesKeepLaw, PullsKeepLaw, RetirementsKeepLaw, PullsShow, PatchesShow, PatchesArePermitted, MutationsStand, PushesStand};
 
 /// In a lawful book each client's acts have the ids 1, 2, 3 and so on.
 pub fn ids_count_up()
@@ -46,6 +47,23 @@ pub fn retirements_keep_law()
     ensures { RetirementsKeepLaw }
 {}
 
+/// A mutation that is run or skipped stands in the book that is left, as an act of its user, group and client with its id; but for an
+/// id of 0, which is skipped and stands nowhere.
+pub fn mutations_stand()
+    ensures { MutationsStand }
+{}
+
+/// So does each mutation of a push that is not refused.
+pub fn pushes_stand()
+    ensures { PushesStand }
+{}
+
+/// A patch names only what its user may know: each row that is put is one that the user sees at the book, and each key that is
+/// deleted is that of a row that the user saw at the base.
+pub fn patches_are_permitted()
+    ensures { PatchesArePermitted }
+{}
+
 /// The patch since a place of a book, applied to what the user saw there, gives exactly what the user sees at its end; and the
 /// patch without a base does so of any view.
 pub fn patches_show()
@@ -53,9 +71,17 @@ pub fn patches_show()
 {}
 
 /// The patch of a pull's reply, applied to the view that the request's cookie names, gives exactly what the user sees; where
-/// the cookie names no kept look of the user, it begins with a clear and may be applied to any view. Each last mutation id of
-/// the group is told or known by the cookie. A reply of the request's own cookie tells nothing and leaves the book; the order
-/// of any other is above the request's and above the group's last. The reply's text is its JSON.
+/// the cookie names no kept look of the user, it begins with a clear and may be applied to any view. It names only what the user
+/// sees, or saw at the base. Each last mutation id of the group is told or known by the cookie. A reply of the request's own cookie
+/// tells nothing and leaves the book; any other names the look that it enters, and its order is above the request's and above the
+/// group's last. The reply's text is its JSON.
 pub fn pulls_show()
     ensures { PullsShow }
+{}
+
+/// A client that begins with nothing, applies each patch to the view that it holds under the cookie with which it asked, and keeps the
+/// cookie that it is answered, holds after each of its pulls exactly what its user sees at the point of the book at which that pull was
+/// answered, and the last mutation ids of its group there: whatever else the book has, and whichever replies it lost.
+pub fn clients_follow()
+    ensures { ClientsFollow }
 {}

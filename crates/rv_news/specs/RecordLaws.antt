@@ -1,19 +1,18 @@
 -- What becomes of kept looks and of their records when the book goes on.
-use Rattle.std.proofs.Common.{◌≡◌, ℕ, ◌+◌, ◌≤◌, Bool, true, false, cond, not, ◌&&◌, ◌||◌, nat_lt, List, [], ◌∷◌, Option, Some, None, refl, sym, ap, ◌∙◌, subst, arith, append-nil}
-use Rattle.std.specs.List.{count_by, filter_map, cons_option}
+use Rattle.std.proofs.Common.{◌≡◌, ℕ, ◌+◌, ◌≤◌, Bool, true, false, cond, not, ◌&&◌, ◌||◌, nat_lt, List, [], ◌∷◌, Option, Some, None, refl, sym, ap, ◌∙◌, subst, arith}
+use Rattle.std.specs.List.{count_by}
 use Rattle.std.specs.Option.{option_map_or, option_and_then}
 use Rattle.std.specs.Str.{bytes_eq}
 use Rattle.std.proofs.lemmas.Bool.Decides.{nat_tests}
-use Rattle.std.proofs.lemmas.List.Elements.{filter_map-append}
-use Rattle.rv_base.specs.Sorted.{sorted_by}
 use Rattle.rv_rows.specs.declared.call.Call.{Call}
 use Rattle.rv_views.specs.Viewed.{Viewed}
 use Rattle.rv_book.specs.declared.entry.Entry.{Entry}
 use Rattle.rv_book.specs.declared.entry.Entry.TheVariants.{Act, Look, Retire}
-use Rattle.rv_book.specs.Book.{Book, entry_at, retires, retired, last, group_of, client_in, ids, since, size, with_entry}
+use Rattle.rv_book.specs.Book.{Book, entry_at, retires, retired, since, size, with_entry}
 use Rattle.rv_book.specs.Kept.{look_of, look_at, is_look_of, kept}
-use Rattle.rv_book.specs.BookWords.{count-with_entry, entry_at-end, entry_at-with_entry, entry_at-within, last-with_entry, retired-with_entry, since-with_entry, up_to-end, up_to-with_entry}
+use Rattle.rv_book.specs.BookWords.{count-with_entry, entry_at-end, entry_at-with_entry, entry_at-within, retired-with_entry, since-with_entry, up_to-end, up_to-with_entry}
 use Rattle.rv_news.specs.Records.{IsViewAt, IsRecord}
+use Rattle.rv_history.specs.LookIds.{ids_look}
 use Rattle.rv_history.specs.ReplayLaws.{replay_look}
 
 some_entry : (o : Option Entry) (look : List ℕ × List ℕ × ℕ) → option_and_then look_of o ≡ Some look → (e : Entry) × (o ≡ Some e)
@@ -111,33 +110,6 @@ kept_after place book e le h =
           kept_look place book look there
           ∙ both_before (retired look.1 book) (retires look.1 e) (count_by (is_look_of look.1) (since place book)) (cond (is_look_of look.1 e) 1 0) 16 (sym (kept_next place book e look there) ∙ h)
     ] refl
-
--- a look adds no client and changes no last mutation id
-group_of_look : (client : List ℕ) (book : Book) (user group : List ℕ) (order : ℕ) (base : Option ℕ) → group_of client (with_entry book (Look user group order base)) ≡ group_of client book
-group_of_look client [] user group order base = refl
-group_of_look client (Act u g actor id call ∷ book) user group order base = ap (λ (o : Option (List ℕ)). cond (bytes_eq actor client) (Some g) o) (group_of_look client book user group order base)
-group_of_look client (Look u g o b ∷ book) user group order base = group_of_look client book user group order base
-group_of_look client (Retire g ∷ book) user group order base = group_of_look client book user group order base
-
-last_look : (client : List ℕ) (book : Book) (user group : List ℕ) (order : ℕ) (base : Option ℕ) → last client (with_entry book (Look user group order base)) ≡ last client book
-last_look client book user group order base = last-with_entry client book (Look user group order base) ∙ omega arith
-
-client_in_look : (group : List ℕ) (book : Book) (user other : List ℕ) (order : ℕ) (base : Option ℕ) (e : Entry) → client_in group (with_entry book (Look user other order base)) e ≡ client_in group book e
-client_in_look group book user other order base (Act u g client id call) =
-    (λ i. cond (option_map_or (λ (home : List ℕ). bytes_eq home group) (group_of_look client book user other order base i) false) (Some (client, last_look client book user other order base i)) None)
-client_in_look group book user other order base (Look u g o b) = refl
-client_in_look group book user other order base (Retire g) = refl
-
-filter_map-same : {X Y : Type 0} (f g : X → Option Y) (xs : List X) → ((x : X) → f x ≡ g x) → filter_map f xs ≡ filter_map g xs
-filter_map-same f g [] same = refl
-filter_map-same f g (x ∷ xs) same = (λ i. cons_option (same x i) (filter_map-same f g xs same i))
-
-pub ids_look : (group : List ℕ) (book : Book) (user other : List ℕ) (order : ℕ) (base : Option ℕ) → ids group (with_entry book (Look user other order base)) ≡ ids group book
-ids_look group book user other order base =
-    let e : Entry = Look user other order base in
-    ap (sorted_by (λ (pair : List ℕ × ℕ). pair.0))
-    (filter_map-append (client_in group (with_entry book e)) book (e ∷ []) ∙ append-nil _
-    ∙ filter_map-same (client_in group (with_entry book e)) (client_in group book) book (client_in_look group book user other order base))
 
 -- a look changes nothing of what is seen
 pub view_look : (book : Book) (user group : List ℕ) (viewed : Viewed) (other_user other : List ℕ) (order : ℕ) (base : Option ℕ) → IsViewAt book user group viewed → IsViewAt (with_entry book (Look other_user other order base)) user group viewed

@@ -1,0 +1,63 @@
+-- A client of the server: what it holds after pulls of its own, and that this is what its user sees.
+use Rattle.std.specs.Prelude.{◌≡◌, ℕ, ◌<◌, ◌^◌, List, [], ◌∷◌, ◌++◌, Some, Contains}
+use Rattle.std.specs.List.{AllByRecursion}
+use Rattle.rv_base.specs.Sorted.{find_by}
+use Rattle.rv_views.specs.declared.cookie.Cookie.{Cookie}
+use Rattle.rv_views.specs.declared.cookie.Cookie.TheVariants.{Null}
+use Rattle.rv_wire.specs.declared.pull.PullRequest.{PullRequest}
+use Rattle.rv_book.specs.Book.{Book, ids, size}
+use Rattle.rv_history.specs.declared.pull_reply.PullReply.{PullReply}
+use Rattle.rv_history.specs.Patches.{ClientView, client_view, apply}
+use Rattle.rv_history.specs.Laws.{Tells}
+
+-- What a client holds under a cookie: its view, and the last mutation ids that it was told, of which the first of a client counts.
+pub record Held : Type 0 where
+  pub cookie : Cookie
+  pub view : ClientView
+  pub ids : List (List ℕ × ℕ)
+
+-- A client begins with nothing, under the null cookie.
+abbrev pub nothing : Held
+nothing = record { cookie = Null; view = []; ids = [] }
+
+-- a pull of a client: what it began from, what it asked and what it was replied
+pub record ClientPull : Type 0 where
+  pub base : Held
+  pub request : PullRequest
+  pub reply : PullReply
+
+-- What the client holds then, under the cookie of the reply: the patch is applied, and the ids that were told come first.
+abbrev pub held_then : ClientPull → Held
+held_then pull = record { cookie = pull.reply.cookie; view = apply pull.reply.ops pull.base.view; ids = pull.reply.ids ++ pull.base.ids }
+
+-- The pulls of a client that holds this much: each begins from something that the client holds, and asks with its cookie. A reply that
+-- was lost is none of them.
+abbrev pub ArePulls : List Held → List ClientPull → Type 0
+ArePulls held [] = Unit {0}
+ArePulls held (pull ∷ pulls) = Contains held pull.base × (pull.request.cookie ≡ pull.base.cookie) × ArePulls (held_then pull ∷ held) pulls
+
+-- a client that begins with nothing
+abbrev pub IsClient : List ClientPull → Type 0
+IsClient pulls = ArePulls (nothing ∷ []) pulls
+
+-- What is held is what the user sees at the book, with the last mutation id of each client of the group that has one.
+pub record IsCurrent (user group : List ℕ) (book : Book) (held : Held) : Type 0 where
+  pub view : held.view ≡ client_view user book
+  pub ids : (pair : List ℕ × ℕ) → Contains (ids group book) pair → find_by (λ other. other.0) pair.0 held.ids ≡ Some pair
+
+-- The pull was answered at a point of the book, and the book goes on from the one that it left.
+pub record WasTold (user : List ℕ) (book : Book) (pull : ClientPull) : Type 0 where
+  pub point : Book
+  pub new : Book
+  pub tells : Tells user pull.request point new pull.reply
+  pub within : (more : Book) × (book ≡ new ++ more)
+
+-- each pull leaves the client with what its user sees at the point at which it was answered
+abbrev pub EachCurrent : (user : List ℕ) (book : Book) (pulls : List ClientPull) → AllByRecursion (WasTold user book) pulls → Type 0
+EachCurrent user book [] told = Unit {0}
+EachCurrent user book (pull ∷ pulls) (told, rest) = IsCurrent user pull.request.group told.point (held_then pull) × EachCurrent user book pulls rest
+
+-- Clients follow: a client that begins with nothing, and whose pulls were answered at points of one book, holds after each of them what
+-- its user sees at that point, whatever else stands in the book and whichever replies it lost.
+abbrev pub ClientsFollow : Type 0
+ClientsFollow = (user : List ℕ) (book : Book) (pulls : List ClientPull) → size book < 2 ^ 64 → IsClient pulls → (told : AllByRecursion (WasTold user book) pulls) → EachCurrent user book pulls told
