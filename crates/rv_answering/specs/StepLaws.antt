@@ -1,7 +1,9 @@
 -- Turns that are those of what a state shows, and by which a state goes on to the next: then so do pushes, answers and steps.
-use Rattle.std.proofs.Common.{◌≡◌, ℕ, List, [], ◌∷◌, Option, Some, None, Ok, Err, ap, sym, subst, inl, inr}
+use Rattle.std.proofs.Common.{◌≡◌, ℕ, Bool, false, List, [], ◌∷◌, Option, Some, None, Ok, Err, ap, sym, subst, inl, inr}
 use Rattle.std.specs.Option.{MatchOption}
 use Rattle.rv_wire.specs.declared.error_body.ErrorBody.{ErrorBody}
+use Rattle.rv_wire.specs.declared.error_body.ErrorBody.TheVariants.{Memory}
+use Rattle.rv_wire.specs.Errors.{fault_error}
 use Rattle.rv_wire.specs.declared.push.Mutation.{Mutation}
 use Rattle.rv_wire.specs.declared.pull.PullRequest.{PullRequest}
 use Rattle.rv_history.specs.declared.turn.Turn.{Turn}
@@ -12,7 +14,7 @@ use Rattle.rv_answering.specs.declared.request.Request.{Request}
 use Rattle.rv_answering.specs.declared.request.Request.TheVariants.{Push, Pull, Retire}
 use Rattle.rv_answering.specs.declared.answer.Answer.{Answer}
 use Rattle.rv_answering.specs.Requests.{Asked}
-use Rattle.rv_answering.specs.Steps.{Answers, WantsMemory, Step}
+use Rattle.rv_answering.specs.Steps.{Answers, RefusesWith, Step, StepActing}
 
 module _ {S V : Type 0} (shown : S → V) (Goes : S → S → Type 0) (goes_same : (s : S) → Goes s s) (goes_on : (s t u : S) → Goes s t → Goes t u → Goes s u)
     (mutates : V → Sender → Mutation → Turn → V → Type 0) (pulls : V → List ℕ → PullRequest → PullAnswer → V → Type 0) (retires : V → List ℕ → RetireAnswer → V → Type 0) where
@@ -28,34 +30,37 @@ module _ {S V : Type 0} (shown : S → V) (Goes : S → S → Type 0) (goes_same
   same_goes : (old new : S) → new ≡ old → Goes old new
   same_goes old new same = subst (λ (s : S). Goes old s) (sym same) (goes_same old)
 
-  push_rest : (from : Sender) (ms : List Mutation) (old mid new : S) (answer refused : Option ErrorBody) → Goes old mid
-      → (Pushes shown_mutates from ms mid answer new → Pushes mutates from ms (shown mid) answer (shown new) × Goes mid new)
-      → MatchOption refused (Pushes shown_mutates from ms mid answer new) (λ why. (answer ≡ Some why) × (new ≡ mid))
-      → MatchOption refused (Pushes mutates from ms (shown mid) answer (shown new)) (λ why. (answer ≡ Some why) × (shown new ≡ shown mid)) × Goes old new
-  push_rest from ms old mid new answer None goes more rest = let on = more rest in (on.0, goes_on old mid new goes on.1)
-  push_rest from ms old mid new answer (Some why) goes more (is, same) = ((is, ap shown same), goes_on old mid new goes (same_goes mid new same))
+  push_rest : (from : Sender) (ms : List Mutation) (old mid new : S) (answer refused : Option ErrorBody) (later : Bool) → Goes old mid
+      → (Pushes shown_mutates from ms mid answer later new → Pushes mutates from ms (shown mid) answer later (shown new) × Goes mid new)
+      → MatchOption refused (Pushes shown_mutates from ms mid answer later new) (λ why. (answer ≡ Some why) × (later ≡ false) × (new ≡ mid))
+      → MatchOption refused (Pushes mutates from ms (shown mid) answer later (shown new)) (λ why. (answer ≡ Some why) × (later ≡ false) × (shown new ≡ shown mid)) × Goes old new
+  push_rest from ms old mid new answer None later goes more rest = let on = more rest in (on.0, goes_on old mid new goes on.1)
+  push_rest from ms old mid new answer (Some why) later goes more (is, none, same) = ((is, none, ap shown same), goes_on old mid new goes (same_goes mid new same))
 
-  pub pushes_shown : (from : Sender) (ms : List Mutation) (old new : S) (answer : Option ErrorBody) → Pushes shown_mutates from ms old answer new → Pushes mutates from ms (shown old) answer (shown new) × Goes old new
-  pushes_shown from [] old new answer (is, same) = ((is, ap shown same), same_goes old new same)
-  pushes_shown from (m ∷ ms) old new answer (turn, mid, (step, goes), rest) =
-      let on = push_rest from ms old mid new answer (refusal turn) goes (pushes_shown from ms mid new answer) rest in
-      ((turn, shown mid, step, on.0), on.1)
+  pub pushes_shown : (from : Sender) (ms : List Mutation) (old new : S) (answer : Option ErrorBody) (acted : Bool) → Pushes shown_mutates from ms old answer acted new → Pushes mutates from ms (shown old) answer acted (shown new) × Goes old new
+  pushes_shown from [] old new answer acted (is, none, same) = ((is, none, ap shown same), same_goes old new same)
+  pushes_shown from (m ∷ ms) old new answer acted (turn, mid, later, (step, goes), acts, rest) =
+      let on = push_rest from ms old mid new answer (refusal turn) later goes (pushes_shown from ms mid new answer later) rest in
+      ((turn, shown mid, later, step, acts, on.0), on.1)
 
-  pub answers_shown : (old new : S) (request : Request) (answer : Answer) → Answers shown_mutates shown_pulls shown_retires old request answer new → Answers mutates pulls retires (shown old) request answer (shown new) × Goes old new
-  answers_shown old new (Push user push) answer (refused, pushed, is) =
-      let on = pushes_shown (record { user = user; group = push.group }) push.mutations old new refused pushed in
+  pub answers_shown : (old new : S) (request : Request) (answer : Answer) (acted : Bool) → Answers shown_mutates shown_pulls shown_retires old request answer acted new → Answers mutates pulls retires (shown old) request answer acted (shown new) × Goes old new
+  answers_shown old new (Push user push) answer acted (refused, pushed, is) =
+      let on = pushes_shown (record { user = user; group = push.group }) push.mutations old new refused acted pushed in
       ((refused, on.0, is), on.1)
-  answers_shown old new (Pull user pull) answer (outcome, (pulled, goes), is) = ((outcome, pulled, is), goes)
-  answers_shown old new (Retire group) answer (outcome, (retired, goes), is) = ((outcome, retired, is), goes)
+  answers_shown old new (Pull user pull) answer acted (outcome, (pulled, goes), is, none) = ((outcome, pulled, is, none), goes)
+  answers_shown old new (Retire group) answer acted (outcome, (retired, goes), is, none) = ((outcome, retired, is, none), goes)
 
-  wants_shown : (old new : S) (answer : Answer) → WantsMemory shown_mutates shown_pulls shown_retires old answer new → WantsMemory mutates pulls retires (shown old) answer (shown new) × Goes old new
-  wants_shown old new answer (is, same) = ((is, ap shown same), same_goes old new same)
+  refuses_shown : (refusal : ErrorBody) (old new : S) (answer : Answer) (acted : Bool) → RefusesWith refusal old answer acted new → RefusesWith refusal (shown old) answer acted (shown new) × Goes old new
+  refuses_shown refusal old new answer acted (is, none, same) = ((is, none, ap shown same), same_goes old new same)
+
+  pub acting_shown : (old new : S) (asked : Asked) (answer : Answer) (acted : Bool) → StepActing shown_mutates shown_pulls shown_retires old asked answer acted new → StepActing mutates pulls retires (shown old) asked answer acted (shown new) × Goes old new
+  acting_shown old new (Ok (Push user push)) answer acted (inl wants) = let on = refuses_shown Memory old new answer acted wants in (inl on.0, on.1)
+  acting_shown old new (Ok (Push user push)) answer acted (inr told) = let on = answers_shown old new (Push user push) answer acted told in (inr on.0, on.1)
+  acting_shown old new (Ok (Pull user pull)) answer acted (inl wants) = let on = refuses_shown Memory old new answer acted wants in (inl on.0, on.1)
+  acting_shown old new (Ok (Pull user pull)) answer acted (inr told) = let on = answers_shown old new (Pull user pull) answer acted told in (inr on.0, on.1)
+  acting_shown old new (Ok (Retire group)) answer acted told = answers_shown old new (Retire group) answer acted told
+  acting_shown old new (Err fault) answer acted (inl wants) = let on = refuses_shown Memory old new answer acted wants in (inl on.0, on.1)
+  acting_shown old new (Err fault) answer acted (inr told) = let on = refuses_shown (fault_error fault) old new answer acted told in (inr on.0, on.1)
 
   pub step_shown : (old new : S) (asked : Asked) (answer : Answer) → Step shown_mutates shown_pulls shown_retires old asked answer new → Step mutates pulls retires (shown old) asked answer (shown new) × Goes old new
-  step_shown old new (Ok (Push user push)) answer (inl wants) = let on = wants_shown old new answer wants in (inl on.0, on.1)
-  step_shown old new (Ok (Push user push)) answer (inr told) = let on = answers_shown old new (Push user push) answer told in (inr on.0, on.1)
-  step_shown old new (Ok (Pull user pull)) answer (inl wants) = let on = wants_shown old new answer wants in (inl on.0, on.1)
-  step_shown old new (Ok (Pull user pull)) answer (inr told) = let on = answers_shown old new (Pull user pull) answer told in (inr on.0, on.1)
-  step_shown old new (Ok (Retire group)) answer told = answers_shown old new (Retire group) answer told
-  step_shown old new (Err fault) answer (inl wants) = let on = wants_shown old new answer wants in (inl on.0, on.1)
-  step_shown old new (Err fault) answer (inr (is, same)) = (inr (is, ap shown same), same_goes old new same)
+  step_shown old new asked answer (acted, step) = let on = acting_shown old new asked answer acted step in ((acted, on.0), on.1)

@@ -31,21 +31,22 @@ impl Answer {
     }
 }
 
-/// What a request is answered, and whether something acted for it.
+/// What a request is answered, and whether a mutation was run for it.
 #[derive(Debug, Drop)]
 pub struct Answered {
     /// The answer.
     pub answer: Answer,
-    /// Whether a mutation acted. It is a hint, of which no clause speaks.
+    /// Whether a mutation was run.
     pub acted: bool,
 }
 
 impl Answered {
-    ghost use Rattle.std.specs.Prelude.{◌≡◌};
+    ghost use Rattle.std.specs.Prelude.{◌≡◌, false};
 
-    /// An answer for which nothing acted.
+    /// An answer for which no mutation was run.
     pub fn without_act(answer: Answer) -> Answered
-        ensures { result.answer ≡ answer }
+        ensures answer { result.answer ≡ answer }
+        ensures acted { result.acted ≡ false }
     {
         Answered {
             answer,

@@ -1,5 +1,5 @@
 // What is asked, answered by turns.
-ghost use Rattle.std.specs.Prelude.{◌≡◌};
+ghost use Rattle.std.specs.Prelude.{◌≡◌, Bool, false};
 ghost use Rattle.rv_answering.specs.Requests.{Asked};
 ghost use Rattle.rv_answering.specs.Reads.{IsReading};
 ghost use Rattle.rv_answering.specs.Steps.{Answers, Step};
@@ -14,7 +14,7 @@ use rv_wire::{PullRequest, Push};
 
 /// Answers a push of a user by its turns.
 pub fn run_push<T: Turns>(turns: &mut T, user: &User, body: Push) -> Answered
-    ensures { Answers T.mutates T.pulls T.retires turns.old (requests.Push user.now body) result.answer turns.new }
+    ensures { Answers T.mutates T.pulls T.retires turns.old (requests.Push user.now body) result.answer result.acted turns.new }
 {
     let PushEnd { refusal, acted } = push(turns, user, body);
     let answer = match refusal {
@@ -26,7 +26,7 @@ pub fn run_push<T: Turns>(turns: &mut T, user: &User, body: Push) -> Answered
 
 /// Answers a pull of a user by its turn.
 pub fn run_pull<T: Turns>(turns: &mut T, user: &User, body: &PullRequest) -> Answer
-    ensures { Answers T.mutates T.pulls T.retires turns.old (requests.Pull user.now body.now) result turns.new }
+    ensures { Answers T.mutates T.pulls T.retires turns.old (requests.Pull user.now body.now) result false turns.new }
 {
     match turns.pull(user, body).outcome() {
         Ok(reply) => Answer::Pulled(reply),
@@ -36,7 +36,7 @@ pub fn run_pull<T: Turns>(turns: &mut T, user: &User, body: &PullRequest) -> Ans
 
 /// Retires a client group.
 pub fn retire_group<T: Turns>(turns: &mut T, group: &Id) -> Answer
-    ensures { Answers T.mutates T.pulls T.retires turns.old (requests.Retire group.now) result turns.new }
+    ensures { Answers T.mutates T.pulls T.retires turns.old (requests.Retire group.now) result false turns.new }
 {
     match turns.retire(group).outcome() {
         Ok(place) => Answer::Retired(place),
@@ -45,13 +45,13 @@ pub fn retire_group<T: Turns>(turns: &mut T, group: &Id) -> Answer
 }
 
 /// Answers a request by its turns.
-pub fn serve_request<T: Turns>(turns: &mut T, request: Request) -> Answer
-    ensures { Answers T.mutates T.pulls T.retires turns.old request result turns.new }
+pub fn serve_request<T: Turns>(turns: &mut T, request: Request) -> Answered
+    ensures { Answers T.mutates T.pulls T.retires turns.old request result.answer result.acted turns.new }
 {
     match request {
-        Request::Push { user, push } => run_push(turns, &user, push).answer,
-        Request::Pull { user, pull } => run_pull(turns, &user, &pull),
-        Request::Retire { group } => retire_group(turns, &group),
+        Request::Push { user, push } => run_push(turns, &user, push),
+        Request::Pull { user, pull } => Answered::without_act(run_pull(turns, &user, &pull)),
+        Request::Retire { group } => Answered::without_act(retire_group(turns, &group)),
     }
 }
 
@@ -60,7 +60,7 @@ pub fn serve_asked<T: Turns>(turns: &mut T, read: Asked) -> Answer
     ensures { (asked : Asked) → IsReading asked read → Step T.mutates T.pulls T.retires turns.old asked result turns.new }
 {
     match read {
-        Ok(request) => serve_request(turns, request),
+        Ok(request) => serve_request(turns, request).answer,
         Err(fault) => Answer::Refused(fault.refusal()),
     }
 }

@@ -57,19 +57,19 @@ kept_reopened : (Told : Type 0) (old new : Served) → Reopens Told old new → 
 kept_reopened Told old new r = record { sound = r.sound; more = λ told. settles_go old.book new.book old.doubt (r.settled told); later = let n = r.faults in omega (arith, n) }
 
 module _ (pushes : PushesKeepLaw) (pulled : PullsKeepLaw) (retired : RetirementsKeepLaw) where
-  answers_keep : (old new : Served) (request : Request) (answer : Answer) → Answers ServedMutates ServedPulls ServedRetires old request answer new → IsSound old → KeepsLaw old new
-  answers_keep old new (Push user push) answer (refused, h, is) sound = pushes (record { user = user; group = push.group }) push.mutations old new refused h sound
-  answers_keep old new (Pull user pull) answer (outcome, h, is) sound = pulled user pull old new outcome h sound
-  answers_keep old new (Retire group) answer (outcome, h, is) sound = retired group old new outcome h sound
+  answers_keep : (old new : Served) (request : Request) (answer : Answer) (acted : Bool) → Answers ServedMutates ServedPulls ServedRetires old request answer acted new → IsSound old → KeepsLaw old new
+  answers_keep old new (Push user push) answer acted (refused, h, is) sound = pushes (record { user = user; group = push.group }) push.mutations old new refused acted h sound
+  answers_keep old new (Pull user pull) answer acted (outcome, h, is, none) sound = pulled user pull old new outcome h sound
+  answers_keep old new (Retire group) answer acted (outcome, h, is, none) sound = retired group old new outcome h sound
 
   step_keeps : (old new : Served) (asked : Asked) (answer : Answer) → Step old asked answer new → IsSound old → KeepsLaw old new
-  step_keeps old new (Ok (Push user push)) answer (inl wants) sound = law_same old new wants.1 sound
-  step_keeps old new (Ok (Push user push)) answer (inr h) sound = answers_keep old new (Push user push) answer h sound
-  step_keeps old new (Ok (Pull user pull)) answer (inl wants) sound = law_same old new wants.1 sound
-  step_keeps old new (Ok (Pull user pull)) answer (inr h) sound = answers_keep old new (Pull user pull) answer h sound
-  step_keeps old new (Ok (Retire group)) answer h sound = answers_keep old new (Retire group) answer h sound
-  step_keeps old new (Err fault) answer (inl wants) sound = law_same old new wants.1 sound
-  step_keeps old new (Err fault) answer (inr told) sound = law_same old new told.1 sound
+  step_keeps old new (Ok (Push user push)) answer (acted, inl wants) sound = law_same old new wants.2 sound
+  step_keeps old new (Ok (Push user push)) answer (acted, inr h) sound = answers_keep old new (Push user push) answer acted h sound
+  step_keeps old new (Ok (Pull user pull)) answer (acted, inl wants) sound = law_same old new wants.2 sound
+  step_keeps old new (Ok (Pull user pull)) answer (acted, inr h) sound = answers_keep old new (Pull user pull) answer acted h sound
+  step_keeps old new (Ok (Retire group)) answer (acted, h) sound = answers_keep old new (Retire group) answer acted h sound
+  step_keeps old new (Err fault) answer (acted, inl wants) sound = law_same old new wants.2 sound
+  step_keeps old new (Err fault) answer (acted, inr told) sound = law_same old new told.2 sound
 
   takes_keep : (Told : Type 0) (old new : Served) (line : Line) (answer : Option Answer) → Takes Told old line answer new → IsSound old → Kept Told old new
   takes_keep Told old new (Asks asked) (Some answer) step sound = kept_law Told old new (step_keeps old new asked answer step sound)
@@ -131,13 +131,13 @@ pulled_at show point new user pull reply outcome same taken =
     replied limit user request book new false reply (some, fits, room, is, more) = (Look user request.group (next_order request book) (base_of user request.cookie book) ∷ [], more)
 
 shown_at : PullsShow → (point new : Served) (asked : Asked) (reply : PullReply) → Step point asked (Pulled reply) new → AnswersPull point new asked reply
-shown_at show point new (Ok (Push user push)) reply (inl wants) = absurd (let no = wants.0 in cc)
-shown_at show point new (Ok (Push user push)) reply (inr (refused, h, is)) = absurd (no_push reply refused is)
-shown_at show point new (Ok (Pull user pull)) reply (inl wants) = absurd (let no = wants.0 in cc)
-shown_at show point new (Ok (Pull user pull)) reply (inr (outcome, h, is)) = pulled_at show point new user pull reply outcome (same_reply reply outcome is) h
-shown_at show point new (Ok (Retire group)) reply (outcome, h, is) = absurd (no_retirement reply (retire_outcome outcome) is)
-shown_at show point new (Err fault) reply (inl wants) = absurd (let no = wants.0 in cc)
-shown_at show point new (Err fault) reply (inr told) = absurd (let no = told.0 in cc)
+shown_at show point new (Ok (Push user push)) reply (acted, inl wants) = absurd (let no = wants.0 in cc)
+shown_at show point new (Ok (Push user push)) reply (acted, inr (refused, h, is)) = absurd (no_push reply refused is)
+shown_at show point new (Ok (Pull user pull)) reply (acted, inl wants) = absurd (let no = wants.0 in cc)
+shown_at show point new (Ok (Pull user pull)) reply (acted, inr (outcome, h, is, none)) = pulled_at show point new user pull reply outcome (same_reply reply outcome is) h
+shown_at show point new (Ok (Retire group)) reply (acted, (outcome, h, is, none)) = absurd (no_retirement reply (retire_outcome outcome) is)
+shown_at show point new (Err fault) reply (acted, inl wants) = absurd (let no = wants.0 in cc)
+shown_at show point new (Err fault) reply (acted, inr told) = absurd (let no = told.0 in cc)
 
 pub pulls_are_shown : PushesKeepLaw → PullsKeepLaw → RetirementsKeepLaw → PullsShow → (Told : Type 0) (first now : Served) (before after : List Line) (answered answers : List (Option Answer)) (asked : Asked) (reply : PullReply) → IsSound first → length before ≡ length answered
     → Run Told first (before ++ Asks asked ∷ after) (answered ++ Some (Pulled reply) ∷ answers) now → IsShown Told first now before answered asked reply

@@ -123,13 +123,13 @@ module _ {K : Type 0} (faults : K → ℕ) where
       }
 
   shown_step : PullsShow → (book : Book) (old new : SeatView K) (asked : Asked) (reply : PullReply) → StartsWith book new.seen → Step (SeatMutates faults) (SeatPulls faults) (SeatRetires faults) old asked (Pulled reply) new → IsShownIn book asked reply
-  shown_step show book old new (Ok (Push user push)) reply within (inl wants) = absurd (let no = wants.0 in cc)
-  shown_step show book old new (Ok (Push user push)) reply within (inr (refused, h, is)) = absurd (no_push reply refused is)
-  shown_step show book old new (Ok (Pull user pull)) reply within (inl wants) = absurd (let no = wants.0 in cc)
-  shown_step show book old new (Ok (Pull user pull)) reply within (inr (outcome, h, is)) = shown_pull show book old new user pull reply outcome within (same_reply reply outcome is) h
-  shown_step show book old new (Ok (Retire group)) reply within (outcome, h, is) = absurd (no_retirement reply _ is)
-  shown_step show book old new (Err fault) reply within (inl wants) = absurd (let no = wants.0 in cc)
-  shown_step show book old new (Err fault) reply within (inr told) = absurd (let no = told.0 in cc)
+  shown_step show book old new (Ok (Push user push)) reply within (acted, inl wants) = absurd (let no = wants.0 in cc)
+  shown_step show book old new (Ok (Push user push)) reply within (acted, inr (refused, h, is)) = absurd (no_push reply refused is)
+  shown_step show book old new (Ok (Pull user pull)) reply within (acted, inl wants) = absurd (let no = wants.0 in cc)
+  shown_step show book old new (Ok (Pull user pull)) reply within (acted, inr (outcome, h, is, none)) = shown_pull show book old new user pull reply outcome within (same_reply reply outcome is) h
+  shown_step show book old new (Ok (Retire group)) reply within (acted, (outcome, h, is, none)) = absurd (no_retirement reply _ is)
+  shown_step show book old new (Err fault) reply within (acted, inl wants) = absurd (let no = wants.0 in cc)
+  shown_step show book old new (Err fault) reply within (acted, inr told) = absurd (let no = told.0 in cc)
 
   shows_in : PullsShow → (book : Book) (old new : SeatView K) (asked : Asked) (answer : Answer) → StartsWith book new.seen → Step (SeatMutates faults) (SeatPulls faults) (SeatRetires faults) old asked answer new → ShowsIn book (asked, answer)
   shows_in show book old new asked (Pulled reply) within step = shown_step show book old new asked reply within step

@@ -1,5 +1,5 @@
 -- A trouble with what keeps the book is told only where its count of faults rose.
-use Rattle.std.proofs.Common.{◌≡◌, ℕ, ◌≤◌, List, [], ◌∷◌, Option, Some, None, Ok, Err, refl, sym, ap, subst, arith, inl, inr}
+use Rattle.std.proofs.Common.{◌≡◌, ℕ, ◌≤◌, List, [], ◌∷◌, Bool, false, Option, Some, None, Ok, Err, refl, sym, ap, subst, arith, inl, inr}
 use Rattle.std.specs.List.{AllByRecursion}
 use Rattle.std.specs.Option.{MatchOption}
 use Rattle.rv_base.specs.Causes.{Rose, rose_before}
@@ -30,7 +30,7 @@ use Rattle.rv_answering.specs.declared.line.Line.{Line}
 use Rattle.rv_answering.specs.declared.line.Line.TheVariants.{Asks, Stop}
 use Rattle.rv_answering.specs.Requests.{Asked}
 use Rattle.rv_answering.specs.Steps as steps
-use Rattle.rv_answering.specs.Steps.{push_answer, pull_answer, retire_answer}
+use Rattle.rv_answering.specs.Steps.{RefusesWith, push_answer, pull_answer, retire_answer}
 use Rattle.rv_serve.specs.Laws.{RunsTurns}
 use Rattle.rv_cli.specs.Headline.{Step, Takes, Run, TellsTrouble}
 
@@ -98,42 +98,42 @@ module _ {S : Type 0} (mutates : S → Sender → Mutation → Turn → S → Ty
   same_later : (old new : S) → new ≡ old → Later old new
   same_later old new same = subst (λ (s : S). Later old s) (sym same) (later_same old)
 
-  push_rest : (from : Sender) (ms : List Mutation) (old mid new : S) (answer told : Option ErrorBody) → Causes old mid (refused told) → (Pushes mutates from ms mid answer new → Causes mid new (refused answer))
-      → MatchOption told (Pushes mutates from ms mid answer new) (λ why. (answer ≡ Some why) × (new ≡ mid)) → Causes old new (refused answer)
-  push_rest from ms old mid new answer None (later, rises) goes rest = let (more, risen) = goes rest in (later_on old mid new later more, λ told. rises_after old mid new later (risen told))
-  push_rest from ms old mid new answer (Some why) (later, rises) goes (is, same) =
+  push_rest : (from : Sender) (ms : List Mutation) (old mid new : S) (answer told : Option ErrorBody) (acted : Bool) → Causes old mid (refused told) → (Pushes mutates from ms mid answer acted new → Causes mid new (refused answer))
+      → MatchOption told (Pushes mutates from ms mid answer acted new) (λ why. (answer ≡ Some why) × (acted ≡ false) × (new ≡ mid)) → Causes old new (refused answer)
+  push_rest from ms old mid new answer None acted (later, rises) goes rest = let (more, risen) = goes rest in (later_on old mid new later more, λ told. rises_after old mid new later (risen told))
+  push_rest from ms old mid new answer (Some why) acted (later, rises) goes (is, none, same) =
       subst (λ (s : S). Causes old s (refused answer)) (sym same) (later, λ told. rises (subst (λ (a : Option ErrorBody). TellsTrouble (refused a)) is told))
 
-  pushes_cause : (from : Sender) (ms : List Mutation) (old new : S) (answer : Option ErrorBody) → Pushes mutates from ms old answer new → Causes old new (refused answer)
-  pushes_cause from [] old new answer (is, same) = (same_later old new same, λ told. absurd (subst (λ (a : Option ErrorBody). TellsTrouble (refused a)) is told))
-  pushes_cause from (m ∷ ms) old new answer (turn, mid, taken, rest) =
+  pushes_cause : (from : Sender) (ms : List Mutation) (old new : S) (answer : Option ErrorBody) (acted : Bool) → Pushes mutates from ms old answer acted new → Causes old new (refused answer)
+  pushes_cause from [] old new answer acted (is, none, same) = (same_later old new same, λ told. absurd (subst (λ (a : Option ErrorBody). TellsTrouble (refused a)) is told))
+  pushes_cause from (m ∷ ms) old new answer acted (turn, mid, others, taken, acts, rest) =
       let (later, rises) = mutated from m old mid turn taken in
-      push_rest from ms old mid new answer (refusal turn) (later, λ told. rises (turn_told turn told)) (pushes_cause from ms mid new answer) rest
+      push_rest from ms old mid new answer (refusal turn) others (later, λ told. rises (turn_told turn told)) (pushes_cause from ms mid new answer others) rest
 
   as_told : (old new : S) (answer told : Answer) → answer ≡ told → Causes old new (Some told) → Causes old new (Some answer)
   as_told old new answer told is causes = subst (λ (a : Answer). Causes old new (Some a)) (sym is) causes
 
-  answers_cause : (old new : S) (request : Request) (answer : Answer) → steps.Answers mutates pulling retiring old request answer new → Causes old new (Some answer)
-  answers_cause old new (Push user push) answer (refused', pushed, is) =
-      let (later, rises) = pushes_cause (record { user = user; group = push.group }) push.mutations old new refused' pushed in
+  answers_cause : (old new : S) (request : Request) (answer : Answer) (acted : Bool) → steps.Answers mutates pulling retiring old request answer acted new → Causes old new (Some answer)
+  answers_cause old new (Push user push) answer acted (refused', pushed, is) =
+      let (later, rises) = pushes_cause (record { user = user; group = push.group }) push.mutations old new refused' acted pushed in
       as_told old new answer (push_answer refused') is (later, λ told. rises (push_told refused' told))
-  answers_cause old new (Pull user pull) answer (outcome, taken, is) =
+  answers_cause old new (Pull user pull) answer acted (outcome, taken, is, none) =
       let (later, rises) = pulled user pull old new outcome taken in as_told old new answer (pull_answer (pull_outcome outcome)) is (later, λ told. rises (pull_told outcome told))
-  answers_cause old new (Retire group) answer (outcome, taken, is) =
+  answers_cause old new (Retire group) answer acted (outcome, taken, is, none) =
       let (later, rises) = retired group old new outcome taken in as_told old new answer (retire_answer (retire_outcome outcome)) is (later, λ told. rises (retire_told outcome told))
 
   -- want of memory is no trouble
-  wants_cause : (old new : S) (answer : Answer) → (answer ≡ Refused errors.Memory) × (new ≡ old) → Causes old new (Some answer)
-  wants_cause old new answer (is, same) = as_told old new answer (Refused errors.Memory) is (same_later old new same, λ none. absurd none)
+  wants_cause : (old new : S) (answer : Answer) (acted : Bool) → RefusesWith errors.Memory old answer acted new → Causes old new (Some answer)
+  wants_cause old new answer acted (is, none, same) = as_told old new answer (Refused errors.Memory) is (same_later old new same, λ none. absurd none)
 
   pub any_step_causes : (old new : S) (asked : Asked) (answer : Answer) → steps.Step mutates pulling retiring old asked answer new → Causes old new (Some answer)
-  any_step_causes old new (Ok (Push user push)) answer (inl wants) = wants_cause old new answer wants
-  any_step_causes old new (Ok (Push user push)) answer (inr told) = answers_cause old new (Push user push) answer told
-  any_step_causes old new (Ok (Pull user pull)) answer (inl wants) = wants_cause old new answer wants
-  any_step_causes old new (Ok (Pull user pull)) answer (inr told) = answers_cause old new (Pull user pull) answer told
-  any_step_causes old new (Ok (Retire group)) answer told = answers_cause old new (Retire group) answer told
-  any_step_causes old new (Err fault) answer (inl wants) = wants_cause old new answer wants
-  any_step_causes old new (Err fault) answer (inr (is, same)) = as_told old new answer (Refused (fault_error fault)) is (same_later old new same, λ told. absurd (wrong_told fault told))
+  any_step_causes old new (Ok (Push user push)) answer (acted, inl wants) = wants_cause old new answer acted wants
+  any_step_causes old new (Ok (Push user push)) answer (acted, inr told) = answers_cause old new (Push user push) answer acted told
+  any_step_causes old new (Ok (Pull user pull)) answer (acted, inl wants) = wants_cause old new answer acted wants
+  any_step_causes old new (Ok (Pull user pull)) answer (acted, inr told) = answers_cause old new (Pull user pull) answer acted told
+  any_step_causes old new (Ok (Retire group)) answer (acted, told) = answers_cause old new (Retire group) answer acted told
+  any_step_causes old new (Err fault) answer (acted, inl wants) = wants_cause old new answer acted wants
+  any_step_causes old new (Err fault) answer (acted, inr (is, none, same)) = as_told old new answer (Refused (fault_error fault)) is (same_later old new same, λ told. absurd (wrong_told fault told))
 
   turns_later : (old new : S) (turns : List (Asked × Answer)) → RunsTurns mutates pulling retiring old turns new → Later old new
   turns_later old new [] same = same_later old new same

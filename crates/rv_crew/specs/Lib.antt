@@ -1,1 +1,4 @@
+pub mod Hearing
+pub mod HearingLaws
+pub mod MemoryGates
 pub mod Working

@@ -1,17 +1,31 @@
-/// Where the requests of one worker pass. It may hold a request, and hears of its answer. Nothing is claimed of what it does.
+/// Where the requests of one worker pass. It may hold a request, and hears of its answer.
 pub trait Gate: Drop {
-    /// A request was read, a connection's so many-th, from 1. It may wait before the request is answered.
-    fn before(&mut self, number: u32);
+    ghost use Rattle.std.specs.Prelude.{List, [], ◌∷◌, Option};
+    ghost use Rattle.rv_crew.specs.Hearing.{Hears};
+    ghost use Rattle.rv_crew.specs.declared.heard.Heard.{Heard};
+    ghost use Rattle.rv_crew.specs.declared.heard.Heard.TheVariants.{Before, After};
 
-    /// The request was answered with this status, and for it something acted, or nothing did.
-    fn after(&mut self, status: u16, acted: bool);
+    /// What it has heard, in order, where it tells.
+    ghost heard: { Self → Option (List Heard) };
+
+    /// A request was read, a connection's so many-th, from 1. It may wait before the request is answered.
+    fn before(&mut self, number: u32)
+        ensures { Hears (heard self.old) (heard self.new) (Before number ∷ []) };
+
+    /// The request was answered with this status, and a mutation was run for it, or none was.
+    fn after(&mut self, status: u16, acted: bool)
+        ensures { Hears (heard self.old) (heard self.new) (After status acted ∷ []) };
 }
 
-/// A gate that holds no request.
+/// A gate that holds no request, and tells nothing.
 #[derive(Debug, Drop)]
 pub struct OpenGate;
 
 impl Gate for OpenGate {
+    ghost use Rattle.std.specs.Prelude.{None};
+
+    ghost heard = { λ gate. None };
+
     fn before(&mut self, _number: u32) {}
 
     fn after(&mut self, _status: u16, _acted: bool) {}

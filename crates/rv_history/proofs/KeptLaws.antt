@@ -170,16 +170,16 @@ pub mutates_keep : (from : Sender) (m : Mutation) (old new : Served) (turn : Tur
 mutates_keep from m old new turn taken sound = law_taken turn_trouble (Mutates old.limit from m) old (mutates_advance old.limit from m) turn new taken sound
 
 -- a refusal ends the push, and what is no refusal lets it go on
-module _ (from : Sender) (ms : List Mutation) (answer : Option ErrorBody) (old mid new : Served) where
-  law_rest : (refused : Option ErrorBody) → ((mid new : Served) → Pushes ServedMutates from ms mid answer new → IsSound mid → KeepsLaw mid new) → KeepsLaw old mid
-      → MatchOption refused (Pushes ServedMutates from ms mid answer new) (λ refusal. (answer ≡ Some refusal) × (new ≡ mid)) → KeepsLaw old new
+module _ (from : Sender) (ms : List Mutation) (answer : Option ErrorBody) (later : Bool) (old mid new : Served) where
+  law_rest : (refused : Option ErrorBody) → ((mid new : Served) → Pushes ServedMutates from ms mid answer later new → IsSound mid → KeepsLaw mid new) → KeepsLaw old mid
+      → MatchOption refused (Pushes ServedMutates from ms mid answer later new) (λ refusal. (answer ≡ Some refusal) × (later ≡ false) × (new ≡ mid)) → KeepsLaw old new
   law_rest None goes kept rest = law_through old mid new kept (goes mid new rest kept.sound)
-  law_rest (Some refusal) goes kept (is, same) = law_through old mid new kept (law_same mid new same kept.sound)
+  law_rest (Some refusal) goes kept (is, none, same) = law_through old mid new kept (law_same mid new same kept.sound)
 
-pub pushes_keep : (from : Sender) (mutations : List Mutation) (old new : Served) (answer : Option ErrorBody) → Pushes ServedMutates from mutations old answer new → IsSound old → KeepsLaw old new
-pushes_keep from [] old new answer (is, same) sound = law_same old new same sound
-pushes_keep from (m ∷ ms) old new answer (turn, mid, taken, rest) sound =
-    law_rest from ms answer old mid new (refusal turn) (λ mid new goes sound. pushes_keep from ms mid new answer goes sound)
+pub pushes_keep : (from : Sender) (mutations : List Mutation) (old new : Served) (answer : Option ErrorBody) (acted : Bool) → Pushes ServedMutates from mutations old answer acted new → IsSound old → KeepsLaw old new
+pushes_keep from [] old new answer acted (is, none, same) sound = law_same old new same sound
+pushes_keep from (m ∷ ms) old new answer acted (turn, mid, later, taken, acts, rest) sound =
+    law_rest from ms answer later old mid new (refusal turn) (λ mid new goes sound. pushes_keep from ms mid new answer later goes sound)
     (mutates_keep from m old mid turn taken sound) rest
 
 pub pulls_keep : (user : List ℕ) (request : PullRequest) (old new : Served) (answer : PullAnswer) → ServedPulls old user request answer new → IsSound old → KeepsLaw old new

@@ -135,15 +135,16 @@ stands_on from m book more new is (call, there) =
     (call, subst (λ (b : Book). Contains b e) (sym is) (Contains-append_left book more e there))
 
 -- a push that is not refused goes on after each mutation
-went_on : (from : Sender) (ms : List Mutation) (mid new : Served) (refused : Option ErrorBody) → MatchOption refused (Pushes ServedMutates from ms mid None new) (λ why. (None ≡ Some why) × (new ≡ mid))
-    → (refused ≡ None) × Pushes ServedMutates from ms mid None new
-went_on from ms mid new None goes = (refl, goes)
-went_on from ms mid new (Some why) (is, same) = absurd (cc)
+went_on : (from : Sender) (ms : List Mutation) (mid new : Served) (later : Bool) (refused : Option ErrorBody)
+    → MatchOption refused (Pushes ServedMutates from ms mid None later new) (λ why. (None ≡ Some why) × (later ≡ false) × (new ≡ mid))
+    → (refused ≡ None) × Pushes ServedMutates from ms mid None later new
+went_on from ms mid new later None goes = (refl, goes)
+went_on from ms mid new later (Some why) (is, none, same) = absurd (cc)
 
-pub pushes_stand : (from : Sender) (mutations : List Mutation) (old new : Served) → Pushes ServedMutates from mutations old None new → IsSound old → AllByRecursion (λ m. 1 ≤ m.id → IsEntered from new.book m) mutations
-pushes_stand from [] old new pushed sound = tt
-pushes_stand from (m ∷ ms) old new (turn, mid, taken, rest) sound =
-    let (none, goes) = went_on from ms mid new (refusal turn) rest in
+pub pushes_stand : (from : Sender) (mutations : List Mutation) (old new : Served) (acted : Bool) → Pushes ServedMutates from mutations old None acted new → IsSound old → AllByRecursion (λ m. 1 ≤ m.id → IsEntered from new.book m) mutations
+pushes_stand from [] old new acted pushed sound = tt
+pushes_stand from (m ∷ ms) old new acted (turn, mid, later, taken, acts, rest) sound =
+    let (none, goes) = went_on from ms mid new later (refusal turn) rest in
     let kept = mutates_keep from m old mid turn taken sound in
-    let more = (pushes_keep from ms mid new None goes kept.sound).more in
-    (λ first. stands_on from m mid.book more.0 new.book more.1 (turn_stands from m old mid turn taken none sound first), pushes_stand from ms mid new goes kept.sound)
+    let more = (pushes_keep from ms mid new None later goes kept.sound).more in
+    (λ first. stands_on from m mid.book more.0 new.book more.1 (turn_stands from m old mid turn taken none sound first), pushes_stand from ms mid new later goes kept.sound)

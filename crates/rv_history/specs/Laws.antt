@@ -95,7 +95,7 @@ EntriesStandOnce = (book before between after : Book) (entry : Entry) → IsLawf
 
 -- The turns of a push leave a sound server sound, only add to its book, and leave its limit.
 abbrev pub PushesKeepLaw : Type 0
-PushesKeepLaw = (from : Sender) (mutations : List Mutation) (old new : Served) (answer : Option ErrorBody) → Pushes ServedMutates from mutations old answer new → IsSound old → KeepsLaw old new
+PushesKeepLaw = (from : Sender) (mutations : List Mutation) (old new : Served) (answer : Option ErrorBody) (acted : Bool) → Pushes ServedMutates from mutations old answer acted new → IsSound old → KeepsLaw old new
 
 -- So does that of a pull.
 abbrev pub PullsKeepLaw : Type 0
@@ -117,7 +117,7 @@ MutationsStand = (limit : ℕ) (from : Sender) (m : Mutation) (book new : Book) 
 
 -- So does each mutation of a push that is not refused.
 abbrev pub PushesStand : Type 0
-PushesStand = (from : Sender) (mutations : List Mutation) (old new : Served) → Pushes ServedMutates from mutations old None new → IsSound old → AllByRecursion (λ m. 1 ≤ m.id → IsEntered from new.book m) mutations
+PushesStand = (from : Sender) (mutations : List Mutation) (old new : Served) (acted : Bool) → Pushes ServedMutates from mutations old None acted new → IsSound old → AllByRecursion (λ m. 1 ≤ m.id → IsEntered from new.book m) mutations
 
 -- A patch shows what the user sees: since any place, and so since each kept look of the user, it makes of the view at that place
 -- the view at the book's end; and without a base it does so of any view.

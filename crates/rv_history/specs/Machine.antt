@@ -1,5 +1,5 @@
 -- The machine: what a mutation, a pull, a retirement and a push may be answered at a book, and which book is left.
-use Rattle.std.specs.Prelude.{◌≡◌, ℕ, ◌+◌, ◌-◌, ◌^◌, ◌<◌, ◌≤◌, Bool, true, false, max, List, [], ◌∷◌, Option, Some, None, IsSome, MatchOption, option_and_then, decimal, Result, Ok, Err}
+use Rattle.std.specs.Prelude.{◌≡◌, ℕ, ◌+◌, ◌-◌, ◌^◌, ◌<◌, ◌≤◌, Bool, true, false, ◌||◌, max, List, [], ◌∷◌, Option, Some, None, IsSome, MatchOption, option_and_then, decimal, Result, Ok, Err}
 use Rattle.serde_json.specs.Written.{compact_text}
 use Rattle.rv_book.specs.declared.entry.Entry.TheVariants.{Act, Look, Retire}
 use Rattle.rv_book.specs.Book.{Book, bound, retired, last, last_order, size, with_entry}
@@ -147,9 +147,23 @@ retire_outcome retires.Keeper = Err errors.Keeper
 retire_outcome (retires.Changed kept found) = Err (errors.Changed found kept)
 retire_outcome retires.Memory = Err errors.Memory
 
--- A push takes its mutations in order, one turn each, from a state to the next, up to the first refusal, which is its answer.
-abbrev pub Pushes : {S : Type 0} → (S → Sender → Mutation → Turn → S → Type 0) → Sender → List Mutation → S → Option ErrorBody → S → Type 0
-Pushes mutates from [] old answer new = (answer ≡ None) × (new ≡ old)
-Pushes {S} mutates from (m ∷ ms) old answer new =
-    (turn : Turn) × (mid : S) × mutates old from m turn mid
-    × MatchOption (refusal turn) (Pushes mutates from ms mid answer new) (λ refused. (answer ≡ Some refused) × (new ≡ mid))
+-- its mutation was run
+abbrev pub has_acted : Turn → Bool
+has_acted (Acted place) = true
+has_acted (Skipped number) = false
+has_acted (Future expected got) = false
+has_acted GroupOfOther = false
+has_acted ClientOfOther = false
+has_acted NotFound = false
+has_acted (Limit what at) = false
+has_acted Keeper = false
+has_acted (Changed kept found) = false
+has_acted Memory = false
+
+-- A push takes its mutations in order, one turn each, from a state to the next, up to the first refusal, which is its answer. It
+-- acted where one of these turns has.
+abbrev pub Pushes : {S : Type 0} → (S → Sender → Mutation → Turn → S → Type 0) → Sender → List Mutation → S → Option ErrorBody → Bool → S → Type 0
+Pushes mutates from [] old answer acted new = (answer ≡ None) × (acted ≡ false) × (new ≡ old)
+Pushes {S} mutates from (m ∷ ms) old answer acted new =
+    (turn : Turn) × (mid : S) × (later : Bool) × mutates old from m turn mid × (acted ≡ (has_acted turn || later))
+    × MatchOption (refusal turn) (Pushes mutates from ms mid answer later new) (λ refused. (answer ≡ Some refused) × (later ≡ false) × (new ≡ mid))

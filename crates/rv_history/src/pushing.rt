@@ -11,7 +11,7 @@ use rv_wire::{ErrorBody, Mutation, Push};
 pub struct PushEnd {
     /// The first refusal: none where each mutation was run or skipped.
     pub refusal: Option<ErrorBody>,
-    /// Whether a mutation acted. It is a hint, of which no clause speaks.
+    /// Whether a mutation was run.
     pub acted: bool,
 }
 
@@ -25,13 +25,13 @@ fn run<T: Turns>(turns: &mut T, user: &User, group: &Id, mutation: Mutation) -> 
 
 /// Runs the mutations of a push in order, up to the first refusal.
 pub fn push<T: Turns>(turns: &mut T, user: &User, push: Push) -> PushEnd
-    ensures { Pushes T.mutates (record { user = user.now; group = push.group }) push.mutations turns.old result.refusal turns.new }
+    ensures { Pushes T.mutates (record { user = user.now; group = push.group }) push.mutations turns.old result.refusal result.acted turns.new }
 {
     let Push { group, mutations } = push;
     let mut acted = false;
     for mutation in mutations.into_vec() {
         let turn = run(turns, user, &group, mutation);
-        acted |= matches!(turn, Turn::Acted(_));
+        acted |= turn.has_acted();
         if let Some(refusal) = turn.refusal() {
             return PushEnd {
                 refusal: Some(refusal),

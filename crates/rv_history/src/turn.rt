@@ -40,7 +40,7 @@ pub enum Turn {
 }
 
 impl Turn {
-    ghost use Rattle.rv_history.specs.Machine.{refusal};
+    ghost use Rattle.rv_history.specs.Machine.{has_acted, refusal};
     ghost use Rattle.rv_history.specs.Troubles.{turn_trouble};
 
     /// The refusal that it is told as. That the mutation was run or skipped is none.
@@ -59,6 +59,13 @@ impl Turn {
             Turn::Changed { kept, found } => Some(ErrorBody::Changed { found, kept }),
             Turn::Memory => Some(ErrorBody::Memory),
         }
+    }
+
+    /// Whether the mutation was run.
+    pub fn has_acted(&self) -> bool
+        ensures { result ≡ has_acted self.now }
+    {
+        matches!(self, Turn::Acted(_))
     }
 
     /// What is answered where the keeper gives trouble.

@@ -3,3 +3,4 @@ pub mod Counting
 pub mod Talking
 pub mod Asked
 pub mod Conns
+pub mod Hearing

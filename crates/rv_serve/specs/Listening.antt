@@ -1,5 +1,6 @@
 -- The connections of a listener, served one after another.
-use Rattle.std.specs.Prelude.{◌≡◌, ℕ, List, [], ◌∷◌, ◌++◌, map}
+use Rattle.std.specs.Prelude.{◌≡◌, ℕ, List, [], ◌∷◌, ◌++◌, map, Option}
+use Rattle.std.specs.List.{flat_map}
 use Rattle.rv_base.specs.Outside.{InputState, OutputState}
 use Rattle.rv_net.specs.declared.conn.Conn.{Conn}
 use Rattle.rv_wire.specs.declared.push.Mutation.{Mutation}
@@ -9,8 +10,10 @@ use Rattle.rv_history.specs.declared.pull_answer.PullAnswer.{PullAnswer}
 use Rattle.rv_history.specs.declared.retire_answer.RetireAnswer.{RetireAnswer}
 use Rattle.rv_history.specs.Machine.{Sender}
 use Rattle.rv_accounts.specs.File.{Served as Accounts}
+use Rattle.rv_crew.specs.declared.heard.Heard.{Heard}
+use Rattle.rv_crew.specs.Hearing.{Hears}
 use Rattle.rv_serve.specs.declared.conn_end.ConnEnd.{ConnEnd}
-use Rattle.rv_serve.specs.Talk.{Exchange, Talks, answered}
+use Rattle.rv_serve.specs.Talk.{Exchange, Talks, answered, heard_from}
 use Rattle.rv_serve.specs.Causes.{ConnCause, InputIsSteady, OutputIsSteady}
 
 -- a connection as it was given and as it went back, how serving it ended, and all that was answered on it
@@ -19,6 +22,10 @@ pub record ServedConn (I O : Type 0) : Type 0 where
   pub back : Conn I O
   pub end : ConnEnd
   pub answers : List Exchange
+
+-- what a gate hears of connections that are served one after another, of each with the numbers from 1 on
+abbrev pub heard_over : {I O : Type 0} → List (ServedConn I O) → List Heard
+heard_over conns = flat_map (λ conn. heard_from 1 conn.answers) conns
 
 -- Where the connections of a listener are told: these are all that were to come and none is to come now, each is back, in order,
 -- and as many are out as before.
@@ -48,3 +55,8 @@ module _ {S I O : Type 0} (mutates : S → Sender → Mutation → Turn → S �
     pub conns : List (ServedConn I O)
     pub serves : ServesEach old conns new
     pub are_back : Told → AreBack conns to_come to_come' came_back came_back' out out'
+
+  -- They are served past a gate, which heard of all that was answered on them and of nothing else.
+  pub record ServesPast (Told : Type 0) (old new : S) (to_come to_come' came_back came_back' : List (Conn I O)) (out out' : ℕ) (heard heard' : Option (List Heard)) : Type 0 where
+    pub all : ServesAll Told old new to_come to_come' came_back came_back' out out'
+    pub hears : Hears heard heard' (heard_over all.conns)

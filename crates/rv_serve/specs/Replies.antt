@@ -1,5 +1,5 @@
 -- What a request asks, and what it is answered. The state, and the turns on it, are anyone's who takes turns.
-use Rattle.std.specs.Prelude.{◌≡◌, ℕ, Bool, List, bytes_eq, Result, Ok, Err, option_and_then}
+use Rattle.std.specs.Prelude.{ℕ, Bool, List, bytes_eq, Result, Ok, Err, option_and_then}
 use Rattle.std.specs.List.{list_any}
 use Rattle.rv_base.specs.Chains.{◌>>=◌, need}
 use Rattle.rv_wire.specs.Bodies.{push_body, pull_body}
@@ -17,9 +17,8 @@ use Rattle.rv_http.specs.declared.routes.Route.TheVariants.{Push, Pull, NoRoute,
 use Rattle.rv_http.specs.Routes.{route_of}
 use Rattle.rv_accounts.specs.File.{Served as Accounts, user_in}
 use Rattle.rv_answering.specs.declared.answer.Answer.{Answer}
-use Rattle.rv_answering.specs.declared.answer.Answer.TheVariants.{Refused}
 use Rattle.rv_answering.specs.Requests.{Asked, push_asked, pull_asked}
-use Rattle.rv_answering.specs.Steps.{Step}
+use Rattle.rv_answering.specs.Steps.{RefusesWith, StepActing}
 
 -- a schema version is served where it is one of these
 abbrev pub serves : List (List ℕ) → List ℕ → Bool
@@ -43,11 +42,12 @@ abbrev pub asked_of : Accounts → Request → Result Asked ErrorBody
 asked_of accounts request = asked_at accounts request (route_of request.method request.path)
 
 module _ {S : Type 0} (mutates : S → Sender → Mutation → Turn → S → Type 0) (pulls : S → List ℕ → PullRequest → PullAnswer → S → Type 0) (retires : S → List ℕ → RetireAnswer → S → Type 0) where
-  -- What is asked is answered by its turns. Where nothing is asked the refusal is the answer, and nothing changes.
-  abbrev pub AnswersAsked : S → Result Asked ErrorBody → Answer → S → Type 0
-  AnswersAsked old (Ok asked) answer new = Step mutates pulls retires old asked answer new
-  AnswersAsked old (Err refusal) answer new = (answer ≡ Refused refusal) × (new ≡ old)
+  -- What is asked is answered by its turns, and acted tells whether a mutation was run for it. Where nothing is asked the refusal is
+  -- the answer, and nothing changes.
+  abbrev pub AnswersAsked : S → Result Asked ErrorBody → Answer → Bool → S → Type 0
+  AnswersAsked old (Ok asked) answer acted new = StepActing mutates pulls retires old asked answer acted new
+  AnswersAsked old (Err refusal) answer acted new = RefusesWith refusal old answer acted new
 
   -- a request is answered so
-  abbrev pub Replies : Accounts → S → Request → Answer → S → Type 0
-  Replies accounts old request answer new = AnswersAsked old (asked_of accounts request) answer new
+  abbrev pub Replies : Accounts → S → Request → Answer → Bool → S → Type 0
+  Replies accounts old request answer acted new = AnswersAsked old (asked_of accounts request) answer acted new

@@ -1,5 +1,5 @@
 -- What is answered is a run: the laws of answers over anyone who takes turns.
-use Rattle.std.proofs.Common.{◌≡◌, ℕ, ◌+◌, List, [], ◌∷◌, ◌++◌, Result, Ok, Err, refl, sym, ap, ◌∙◌, subst, append_assoc}
+use Rattle.std.proofs.Common.{◌≡◌, ℕ, ◌+◌, Bool, List, [], ◌∷◌, ◌++◌, Result, Ok, Err, refl, sym, ap, ◌∙◌, subst, append_assoc}
 use Rattle.std.specs.List.{flat_map}
 use Rattle.rv_base.specs.Outside.{InputState, OutputState}
 use Rattle.rv_wire.specs.declared.error_body.ErrorBody.{ErrorBody}
@@ -32,17 +32,17 @@ module _ {S : Type 0} (mutates : S → Sender → Mutation → Turn → S → Ty
   run_after old mid new (t ∷ ts) us (next, step, rest) run = (next, step, run_after next mid new ts us rest run)
 
   -- what one request asked
-  asked_runs : (old new : S) (asked : Result Asked ErrorBody) (answer : Answer) → AnswersAsked mutates pulls retires old asked answer new → Runs old (turn_of asked answer) new
-  asked_runs old new (Ok asked) answer step = (new, step, refl)
-  asked_runs old new (Err refusal) answer (is, same) = same
+  asked_runs : (old new : S) (asked : Result Asked ErrorBody) (answer : Answer) (acted : Bool) → AnswersAsked mutates pulls retires old asked answer acted new → Runs old (turn_of asked answer) new
+  asked_runs old new (Ok asked) answer acted step = (new, (acted, step), refl)
+  asked_runs old new (Err refusal) answer acted (is, none, same) = same
 
   each_runs : (accounts : Accounts) (number : ℕ) (old new : S) (bytes rest : List ℕ) (xs : List Exchange) → AnswersEach mutates pulls retires accounts number old bytes xs new rest → Runs old (turns_of accounts xs) new
   each_runs accounts number old new bytes rest [] (same, left) = same
   each_runs accounts number old new bytes rest (x ∷ xs) (after, mid, gives, replies, on, each) =
-      run_after old mid new (turn_of (asked_of accounts x.request) x.answer) (turns_of accounts xs) (asked_runs old mid (asked_of accounts x.request) x.answer replies) (each_runs accounts (number + 1) mid new after rest xs each)
+      run_after old mid new (turn_of (asked_of accounts x.request) x.answer) (turns_of accounts xs) (asked_runs old mid (asked_of accounts x.request) x.answer x.acted replies) (each_runs accounts (number + 1) mid new after rest xs each)
 
   last_runs : (accounts : Accounts) (old new : S) (last : Result Exchange HttpEnd) → AnswersLast mutates pulls retires accounts old last new → Runs old (turns_of accounts (last_of last)) new
-  last_runs accounts old new (Ok x) replies = run_after old new new (turn_of (asked_of accounts x.request) x.answer) [] (asked_runs old new (asked_of accounts x.request) x.answer replies) refl
+  last_runs accounts old new (Ok x) replies = run_after old new new (turn_of (asked_of accounts x.request) x.answer) [] (asked_runs old new (asked_of accounts x.request) x.answer x.acted replies) refl
   last_runs accounts old new (Err cause) same = same
 
   pub talk_runs : TalksAreRuns mutates pulls retires

@@ -14,11 +14,13 @@ use Rattle.rv_http.specs.declared.http_end.HttpEnd.{HttpEnd}
 use Rattle.rv_http.specs.declared.response.WriteFault.{WriteFault}
 use Rattle.rv_accounts.specs.File.{Served as Accounts}
 use Rattle.rv_answering.specs.declared.answer.Answer.{Answer}
+use Rattle.rv_crew.specs.declared.heard.Heard.{Heard}
+use Rattle.rv_crew.specs.Hearing.{Hears}
 use Rattle.rv_wire.specs.declared.error_body.ErrorBody.{ErrorBody}
 use Rattle.rv_wire.specs.declared.error_body.ErrorBody.TheVariants as errors
 use Rattle.rv_serve.specs.declared.conn_end.ConnEnd.{ConnEnd}
 use Rattle.rv_serve.specs.Replies.{Replies}
-use Rattle.rv_serve.specs.Talk.{closes_at, exchange_text, TellsLast, EndsUnread}
+use Rattle.rv_serve.specs.Talk.{closes_at, exchange_text, heard_of, TellsLast, EndsUnread}
 use Rattle.rv_serve.specs.Causes.{OutputCause}
 
 -- the user that was found, or the refusal where there is none
@@ -41,9 +43,12 @@ pub record EndsConn (count : ℕ) (unread : HttpEnd) (output output' : OutputSta
   pub cause : OutputCause output output' end
 
 module _ {S : Type 0} (mutates : S → Sender → Mutation → Turn → S → Type 0) (pulls : S → List ℕ → PullRequest → PullAnswer → S → Type 0) (retires : S → List ℕ → RetireAnswer → S → Type 0) (accounts : Accounts) where
-  -- A request, a connection's so many-th, is answered, and its response is written, or a front of it. Whether it closes is told.
-  pub record AnswersOne (number : ℕ) (old : S) (request : Request) (output output' : OutputState) (new : S) (result : Result Bool WriteFault) : Type 0 where
+  -- A request, a connection's so many-th, is answered, and its response is written, or a front of it. Whether it closes is told, and
+  -- the gate hears of it.
+  pub record AnswersOne (number : ℕ) (old : S) (request : Request) (output output' : OutputState) (heard heard' : Option (List Heard)) (new : S) (result : Result Bool WriteFault) : Type 0 where
     pub answer : Answer
-    pub replies : Replies mutates pulls retires accounts old request answer new
-    pub writes : Writes output output' result (exchange_text number (record { request = request; answer = answer }))
+    pub acted : Bool
+    pub replies : Replies mutates pulls retires accounts old request answer acted new
+    pub writes : Writes output output' result (exchange_text number (record { request = request; answer = answer; acted = acted }))
+    pub hears : Hears heard heard' (heard_of number (record { request = request; answer = answer; acted = acted }))
     pub closes : IfOk result (λ closes. closes ≡ closes_at number request)

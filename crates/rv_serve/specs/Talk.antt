@@ -1,5 +1,5 @@
 -- What is written over the bytes of a connection, and how that ends.
-use Rattle.std.specs.Prelude.{◌≡◌, ◌⊎◌, ℕ, ◌+◌, ◌==◌, Bool, true, false, ◌||◌, List, [], ◌∷◌, ◌++◌, length, Result, Ok, Err}
+use Rattle.std.specs.Prelude.{◌≡◌, ◌⊎◌, ℕ, ◌+◌, ◌==◌, Bool, true, false, ◌||◌, List, [], ◌∷◌, ◌++◌, length, Option, Result, Ok, Err}
 use Rattle.std.specs.Io.KnownBytes.{Consumes, Appends}
 use Rattle.rv_base.specs.Causes.{Rose}
 use Rattle.rv_base.specs.Outside.{InputState, OutputState}
@@ -18,15 +18,20 @@ use Rattle.rv_http.specs.Requests.{Gives, EndsSo}
 use Rattle.rv_http.specs.Causes.{Counts, told_end, read_failed}
 use Rattle.rv_accounts.specs.File.{Served as Accounts}
 use Rattle.rv_answering.specs.declared.answer.Answer.{Answer}
+use Rattle.rv_answering.specs.Texts.{answer_status}
+use Rattle.rv_crew.specs.declared.heard.Heard.{Heard}
+use Rattle.rv_crew.specs.declared.heard.Heard.TheVariants.{Before, After}
+use Rattle.rv_crew.specs.Hearing.{Hears}
 use Rattle.rv_serve.specs.declared.conn_end.ConnEnd.{ConnEnd}
 use Rattle.rv_serve.specs.declared.conn_end.ConnEnd.TheVariants.{Done, ReadFault, WriteFault, Memory}
 use Rattle.rv_serve.specs.Replies.{Replies}
 use Rattle.rv_serve.specs.Texts.{answer_text, refusal_text, memory_text}
 
--- a request and its answer
+-- a request and its answer, and whether a mutation was run for it
 pub record Exchange : Type 0 where
   pub request : Request
   pub answer : Answer
+  pub acted : Bool
 
 -- The answer to a connection's so many-th request closes where the request asks so, and at the 100th (RFC 9112, sections 9.3
 -- and 9.6).
@@ -41,6 +46,16 @@ exchange_text number x = answer_text x.answer (closes_at number x.request) x.req
 abbrev pub text_from : ℕ → List Exchange → List ℕ
 text_from number [] = []
 text_from number (x ∷ xs) = exchange_text number x ++ text_from (number + 1) xs
+
+-- What a gate hears of a connection's so many-th request: that it was read, and then with which status it was answered, and whether
+-- a mutation was run for it.
+abbrev pub heard_of : ℕ → Exchange → List Heard
+heard_of number x = Before number ∷ After (answer_status x.answer) x.acted ∷ []
+
+-- the same of requests in order, from the one with this number on
+abbrev pub heard_from : ℕ → List Exchange → List Heard
+heard_from number [] = []
+heard_from number (x ∷ xs) = heard_of number x ++ heard_from (number + 1) xs
 
 -- what was read last: a request, or none for this cause
 abbrev pub read_of : Result Exchange HttpEnd → Result Request HttpEnd
@@ -97,12 +112,12 @@ module _ {S : Type 0} (mutates : S → Sender → Mutation → Turn → S → Ty
   abbrev pub AnswersEach : ℕ → S → List ℕ → List Exchange → S → List ℕ → Type 0
   AnswersEach number old bytes [] new rest = (new ≡ old) × (rest ≡ bytes)
   AnswersEach number old bytes (x ∷ xs) new rest =
-      (after : List ℕ) × (mid : S) × Gives bytes after (Ok x.request) × Replies mutates pulls retires accounts old x.request x.answer mid
+      (after : List ℕ) × (mid : S) × Gives bytes after (Ok x.request) × Replies mutates pulls retires accounts old x.request x.answer x.acted mid
       × (closes_at number x.request ≡ false) × AnswersEach (number + 1) mid after xs new rest
 
   -- the request that was read last is answered; where none was read, nothing changes
   abbrev pub AnswersLast : S → Result Exchange HttpEnd → S → Type 0
-  AnswersLast old (Ok x) new = Replies mutates pulls retires accounts old x.request x.answer new
+  AnswersLast old (Ok x) new = Replies mutates pulls retires accounts old x.request x.answer x.acted new
   AnswersLast old (Err cause) new = new ≡ old
 
   -- A connection was served: these bytes were read, these requests were answered in turn, then this was read last, and this text
@@ -127,3 +142,8 @@ module _ {S : Type 0} (mutates : S → Sender → Mutation → Turn → S → Ty
   -- all that was answered on the connection; of the last answer a front may have been written, but its turns stand
   abbrev pub answered : {old new : S} {input input' : InputState} {output output' : OutputState} {end : ConnEnd} → Talks old new input input' output output' end → List Exchange
   answered talk = talk.exchanges ++ last_of talk.last
+
+  -- A connection was served past a gate, which heard of all that was answered on it and of nothing else.
+  pub record TalksPast (old new : S) (input input' : InputState) (output output' : OutputState) (heard heard' : Option (List Heard)) (end : ConnEnd) : Type 0 where
+    pub talks : Talks old new input input' output output' end
+    pub hears : Hears heard heard' (heard_from 1 (answered talks))

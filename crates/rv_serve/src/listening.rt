@@ -1,7 +1,7 @@
 // The connections of a listener are served.
 ghost use Rattle.std.specs.Prelude.{◌≡◌};
 ghost use Rattle.rv_base.specs.Outside.{counted};
-ghost use Rattle.rv_serve.specs.Listening.{ServesAll};
+ghost use Rattle.rv_serve.specs.Listening.{ServesPast};
 
 use crate::serving::serve_with;
 use rv_accounts::Accounts;
@@ -10,7 +10,8 @@ use rv_history::Turns;
 use rv_net::{Accepted, Listen};
 use std::alloc::Global;
 
-/// Serves the connections of a listener, one after the other, until none is to come. Each goes back to it, whatever its end.
+/// Serves the connections of a listener, one after the other, until none is to come. Each goes back to it, whatever its end. The gate
+/// hears of each request that is answered.
 pub fn serve_listener<T: Turns, G: Gate, L: Listen>(
     alloc: Global,
     turns: &mut T,
@@ -18,7 +19,7 @@ pub fn serve_listener<T: Turns, G: Gate, L: Listen>(
     gate: &mut G,
     listener: &mut L,
 )
-    ensures serves { ServesAll T.mutates T.pulls T.retires accounts.now L.In.state L.Out.state L.In.fails_no_more L.Out.fails_no_more (L.tells listener.new) turns.old turns.new (L.to_come listener.old) (L.to_come listener.new) (L.came_back listener.old) (L.came_back listener.new) (L.out listener.old) (L.out listener.new) }
+    ensures serves { ServesPast T.mutates T.pulls T.retires accounts.now L.In.state L.Out.state L.In.fails_no_more L.Out.fails_no_more (L.tells listener.new) turns.old turns.new (L.to_come listener.old) (L.to_come listener.new) (L.came_back listener.old) (L.came_back listener.new) (L.out listener.old) (L.out listener.new) (G.heard gate.old) (G.heard gate.new) }
     ensures tells { L.tells listener.new → L.tells listener.old }
     ensures ends { L.ends listener.new ≡ counted (L.ends listener.old) }
 {

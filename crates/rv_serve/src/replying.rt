@@ -1,10 +1,10 @@
 // The answer to one request.
-ghost use Rattle.std.specs.Prelude.{◌≡◌, map, string_bytes};
+ghost use Rattle.std.specs.Prelude.{◌≡◌, false, map, string_bytes};
 ghost use Rattle.rv_base.specs.Chains.{need};
 ghost use Rattle.rv_wire.specs.Bodies.{push_body, pull_body};
 ghost use Rattle.rv_wire.specs.declared.error_body.ErrorBody.TheVariants as errors;
 ghost use Rattle.rv_answering.specs.Requests.{push_asked, pull_asked};
-ghost use Rattle.rv_answering.specs.Steps.{Step};
+ghost use Rattle.rv_answering.specs.Steps.{StepActing};
 ghost use Rattle.rv_http.specs.declared.routes.Route.TheVariants as routes;
 ghost use Rattle.rv_serve.specs.Replies.{serves, user_of, asked_at, AnswersAsked, Replies};
 ghost use Rattle.rv_serve.specs.Steps.{user_found};
@@ -35,7 +35,7 @@ fn answer_push<T: Turns>(
     user: &User,
     body: &[u8],
 ) -> Answered
-    ensures { Step T.mutates T.pulls T.retires turns.old (push_asked user.now (push_body (serves (map string_bytes schemas.now)) body.now)) result.answer turns.new }
+    ensures { StepActing T.mutates T.pulls T.retires turns.old (push_asked user.now (push_body (serves (map string_bytes schemas.now)) body.now)) result.answer result.acted turns.new }
 {
     match read_push(alloc, body, schemas) {
         Ok(push) => run_push(turns, user, push),
@@ -51,7 +51,7 @@ fn answer_pull<T: Turns>(
     user: &User,
     body: &[u8],
 ) -> Answer
-    ensures { Step T.mutates T.pulls T.retires turns.old (pull_asked user.now (pull_body (serves (map string_bytes schemas.now)) body.now)) result turns.new }
+    ensures { StepActing T.mutates T.pulls T.retires turns.old (pull_asked user.now (pull_body (serves (map string_bytes schemas.now)) body.now)) result false turns.new }
 {
     match read_pull(alloc, body, schemas) {
         Ok(pull) => run_pull(turns, user, &pull),
@@ -66,7 +66,7 @@ fn reply_push<T: Turns>(
     accounts: &Accounts,
     request: &Request,
 ) -> Answered
-    ensures { AnswersAsked T.mutates T.pulls T.retires turns.old (asked_at accounts.now request.now routes.Push) result.answer turns.new }
+    ensures { AnswersAsked T.mutates T.pulls T.retires turns.old (asked_at accounts.now request.now routes.Push) result.answer result.acted turns.new }
 {
     match user_of(accounts, request) {
         Some(user) => answer_push(
@@ -87,7 +87,7 @@ fn reply_pull<T: Turns>(
     accounts: &Accounts,
     request: &Request,
 ) -> Answer
-    ensures { AnswersAsked T.mutates T.pulls T.retires turns.old (asked_at accounts.now request.now routes.Pull) result turns.new }
+    ensures { AnswersAsked T.mutates T.pulls T.retires turns.old (asked_at accounts.now request.now routes.Pull) result false turns.new }
 {
     match user_of(accounts, request) {
         Some(user) => answer_pull(
@@ -109,7 +109,7 @@ pub(crate) fn reply<T: Turns>(
     routes: &Routes,
     request: &Request,
 ) -> Answered
-    ensures { Replies T.mutates T.pulls T.retires accounts.now turns.old request.now result.answer turns.new }
+    ensures { Replies T.mutates T.pulls T.retires accounts.now turns.old request.now result.answer result.acted turns.new }
 {
     match routes.route(&request.method, request.path.as_slice()) {
         Route::NoRoute => Answered::without_act(Answer::Refused(ErrorBody::NoRoute)),

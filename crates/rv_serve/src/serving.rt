@@ -3,7 +3,7 @@ ghost use Rattle.std.specs.Prelude.{◌≡◌, ◌+◌, ◌<◌, ◌^◌, []};
 ghost use Rattle.rv_base.specs.Outside.{IsSteady};
 ghost use Rattle.rv_http.specs.declared.http_end.HttpEnd.TheVariants as reading;
 ghost use Rattle.rv_serve.specs.Texts.{refusal_text};
-ghost use Rattle.rv_serve.specs.Talk.{closes_at, Talks};
+ghost use Rattle.rv_serve.specs.Talk.{closes_at, TalksPast};
 ghost use Rattle.rv_serve.specs.Causes.{ConnCause, InputIsSteady, OutputIsSteady};
 ghost use Rattle.rv_serve.specs.Steps.{AnswersOne, EndsConn, WritesLast};
 
@@ -43,7 +43,7 @@ fn answer_request<T: Turns, G: Gate, O: Sink>(
     number: u32,
     sink: &mut O,
 ) -> Result<bool, WriteFault>
-    ensures answers { AnswersOne T.mutates T.pulls T.retires accounts.now number turns.old request.now (O.state sink.old) (O.state sink.new) turns.new result }
+    ensures answers { AnswersOne T.mutates T.pulls T.retires accounts.now number turns.old request.now (O.state sink.old) (O.state sink.new) (G.heard gate.old) (G.heard gate.new) turns.new result }
     ensures steady { O.fails_no_more sink.old → IsSteady (O.fails_no_more sink.new) (O.state sink.old) (O.state sink.new) result }
 {
     gate.before(number);
@@ -111,7 +111,7 @@ fn serve_requests<T: Turns, G: Gate, S: Source, O: Sink>(
     sink: &mut O,
 ) -> ConnEnd
     requires { buffer.old ≡ [] }
-    ensures talks { Talks T.mutates T.pulls T.retires accounts.now turns.old turns.new (S.state source.old) (S.state source.new) (O.state sink.old) (O.state sink.new) result }
+    ensures talks { TalksPast T.mutates T.pulls T.retires accounts.now turns.old turns.new (S.state source.old) (S.state source.new) (O.state sink.old) (O.state sink.new) (G.heard gate.old) (G.heard gate.new) result }
     ensures cause { ConnCause (S.state source.old) (S.state source.new) (O.state sink.old) (O.state sink.new) result }
     ensures steady_input { S.fails_no_more source.old → InputIsSteady (S.fails_no_more source.new) result }
     ensures steady_output { O.fails_no_more sink.old → OutputIsSteady (O.fails_no_more sink.new) (O.state sink.old) (O.state sink.new) result }
@@ -149,7 +149,7 @@ pub(crate) fn serve_with<T: Turns, G: Gate, S: Source, O: Sink>(
     tools: Option<Tools>,
     conn: &mut Conn<S, O>,
 ) -> (ConnEnd, Option<Tools>)
-    ensures talks { Talks T.mutates T.pulls T.retires accounts.now turns.old turns.new (S.state conn.old.source) (S.state conn.new.source) (O.state conn.old.sink) (O.state conn.new.sink) result.0 }
+    ensures talks { TalksPast T.mutates T.pulls T.retires accounts.now turns.old turns.new (S.state conn.old.source) (S.state conn.new.source) (O.state conn.old.sink) (O.state conn.new.sink) (G.heard gate.old) (G.heard gate.new) result.0 }
     ensures cause { ConnCause (S.state conn.old.source) (S.state conn.new.source) (O.state conn.old.sink) (O.state conn.new.sink) result.0 }
     ensures steady_input { S.fails_no_more conn.old.source → InputIsSteady (S.fails_no_more conn.new.source) result.0 }
     ensures steady_output { O.fails_no_more conn.old.sink → OutputIsSteady (O.fails_no_more conn.new.sink) (O.state conn.old.sink) (O.state conn.new.sink) result.0 }
@@ -179,7 +179,7 @@ pub fn serve_connection<T: Turns, G: Gate, S: Source, O: Sink>(
     gate: &mut G,
     conn: &mut Conn<S, O>,
 ) -> ConnEnd
-    ensures talks { Talks T.mutates T.pulls T.retires accounts.now turns.old turns.new (S.state conn.old.source) (S.state conn.new.source) (O.state conn.old.sink) (O.state conn.new.sink) result }
+    ensures talks { TalksPast T.mutates T.pulls T.retires accounts.now turns.old turns.new (S.state conn.old.source) (S.state conn.new.source) (O.state conn.old.sink) (O.state conn.new.sink) (G.heard gate.old) (G.heard gate.new) result }
     ensures cause { ConnCause (S.state conn.old.source) (S.state conn.new.source) (O.state conn.old.sink) (O.state conn.new.sink) result }
     ensures steady_input { S.fails_no_more conn.old.source → InputIsSteady (S.fails_no_more conn.new.source) result }
     ensures steady_output { O.fails_no_more conn.old.sink → OutputIsSteady (O.fails_no_more conn.new.sink) (O.state conn.old.sink) (O.state conn.new.sink) result }

@@ -49,6 +49,10 @@ impl HoldingGate<'_> {
 }
 
 impl Gate for HoldingGate<'_> {
+    ghost use Rattle.std.specs.Prelude.{None};
+
+    ghost heard = { λ gate. None };
+
     fn before(&mut self, number: u32) {
         self.hear(!self.is_open && (number == 1 || number == self.last.wrapping_add(1)));
         self.last = number;

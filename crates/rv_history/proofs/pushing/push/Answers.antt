@@ -1,15 +1,25 @@
-use Rattle.std.proofs.Common.{None, ◌∙◌, sym}
-use Rattle.rv_history.proofs.Pushes.{push_goes, push_stops, push_same, push_ends}
+use Rattle.std.proofs.Common.{None, false, ◌∙◌, sym}
+use Rattle.std.proofs.Math.Bool.{or_assoc}
+use Rattle.rv_history.proofs.Pushes.{Turned, or_false, push_goes, push_stops, push_same, push_acted, push_ends}
 use Rattle.rv_history.proofs.pushing.push.Goals as goal
 
 pub loop-mutation-init : goal.loop-mutation-init
-loop-mutation-init g c = λ answer new. push_same g.T.Turns.mutates _ _ _ _ _ _ (c.into_iter-mutation-iterator.ensures.into_iter_gives.0 ∙ c.into_vec-mutation-items.ensures)
+loop-mutation-init g c = λ answer later new. push_same g.T.Turns.mutates _ _ _ _ _ _ _ (c.into_iter-mutation-iterator.ensures.into_iter_gives.0 ∙ c.into_vec-mutation-items.ensures)
 
 pub returns-in-Some-refusal : goal.returns-in-Some-refusal
-returns-in-Some-refusal g c = c.loop-mutation.invariant _ _ (rw c.in-Some.ensures.steps.0 (push_stops g.T.Turns.mutates _ _ _ _ _ _ _ c.in-Some-refusal.is (c.run-turn.result, c.run-turn.ensures, c.refusal.ensures)))
+returns-in-Some-refusal g c =
+    let turned : Turned g.T.Turns.mutates _ c.in-Some.mutation c.loop-mutation.turns c.refusal.result c.has_acted-acted.result c.run-turn.new.turns =
+    record { turn = c.run-turn.result; step = c.run-turn.ensures; told = c.refusal.ensures; acted = c.has_acted-acted.ensures } in
+    c.loop-mutation.invariant _ _ _ (rw c.in-Some.ensures.steps.0 (push_stops g.T.Turns.mutates _ _ _ _ _ _ _ _ c.in-Some-refusal.is turned))
 
 pub loop-mutation-preserved : goal.loop-mutation-preserved
-loop-mutation-preserved g c = λ answer new goes. c.loop-mutation.invariant answer new (rw c.in-Some.ensures.steps.0 (push_goes g.T.Turns.mutates _ _ _ _ _ _ _ _ c.in_default-refusal.is (c.run-turn.result, c.run-turn.ensures, c.refusal.ensures) goes))
+loop-mutation-preserved g c = λ answer later new goes.
+    let turned : Turned g.T.Turns.mutates _ c.in-Some.mutation c.loop-mutation.turns c.refusal.result c.has_acted-acted.result c.run-turn.new.turns =
+    record { turn = c.run-turn.result; step = c.run-turn.ensures; told = c.refusal.ensures; acted = c.has_acted-acted.ensures } in
+    push_acted g.T.Turns.mutates _ _ _ _ _ _ _ (sym (or_assoc c.loop-mutation.acted c.has_acted-acted.result later))
+    (c.loop-mutation.invariant answer _ new (rw c.in-Some.ensures.steps.0 (push_goes g.T.Turns.mutates _ _ _ _ _ _ _ _ _ _ c.in_default.is turned goes)))
 
 pub returns : goal.returns
-returns g c = c.loop-mutation.invariant None _ (push_ends g.T.Turns.mutates _ _ _ (sym c.loop-mutation.mutation-iterator.rest.ok.0 ∙ c.in-None.ensures.steps.0))
+returns g c =
+    push_acted g.T.Turns.mutates _ _ _ _ _ _ _ (or_false c.loop-mutation.acted)
+    (c.loop-mutation.invariant None false _ (push_ends g.T.Turns.mutates _ _ _ (sym c.loop-mutation.mutation-iterator.rest.ok.0 ∙ c.in-None.ensures.steps.0)))

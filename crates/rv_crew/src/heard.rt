@@ -1,0 +1,8 @@
+/// What a gate has heard.
+#[derive(Clone, Copy, Debug, PartialEq, Eq)]
+pub enum Heard {
+    /// A request was read, a connection's so many-th, from 1.
+    Before(u32),
+    /// The request was answered with this status, and a mutation was run for it, or none was.
+    After(u16, bool),
+}
