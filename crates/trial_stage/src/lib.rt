@@ -10,4 +10,6 @@ mod texts;
 pub use draws::Draws;
 pub use player::{Player, play};
 pub use stage::Stage;
-pub use texts::{digits_of, first_word, joined, named, number_in, text_of, words_of};
+pub use texts::{
+    Part, digits_of, first_word, joined, named, number_in, text_of, told, words_at_blanks, words_of,
+};

@@ -15,6 +15,45 @@ pub fn joined(alloc: Global, parts: &[&str]) -> Result<String, Memory> {
     Ok(text)
 }
 
+/// A part of a text that is told.
+#[derive(Clone, Copy, Debug)]
+pub enum Part<'a> {
+    /// This text.
+    Text(&'a str),
+    /// A number, in decimal digits.
+    Number(u64),
+}
+
+// Adds a part to a text.
+fn add_part(alloc: Global, text: &mut String, part: Part<'_>) -> Result<(), Memory> {
+    match part {
+        Part::Text(part) => text.push_str(part)?,
+        Part::Number(number) => text.push_str(digits_of(alloc, number)?.as_str())?,
+    }
+    Ok(())
+}
+
+/// These parts, one after the other.
+pub fn told(alloc: Global, parts: &[Part<'_>]) -> Result<String, Memory> {
+    let mut text = String::new(alloc);
+    for part in parts {
+        add_part(alloc, &mut text, *part)?;
+    }
+    Ok(text)
+}
+
+/// The words of a text that single blanks part; of an empty text none.
+pub fn words_at_blanks(alloc: Global, text: &str) -> Result<Vec<String>, Memory> {
+    let mut words = Vec::new(alloc);
+    if text.is_empty() {
+        return Ok(words);
+    }
+    for word in text.split(' ') {
+        words.push(String::from_str(alloc, word)?)?;
+    }
+    Ok(words)
+}
+
 /// The words of a text.
 pub fn words_of(alloc: Global, text: &str) -> Result<Vec<String>, Memory> {
     let mut words = Vec::new(alloc);
