@@ -3,3 +3,4 @@ pub mod Reads
 pub mod Steps
 pub mod Texts
 pub mod StepLaws
+pub mod StepMaps

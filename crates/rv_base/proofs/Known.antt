@@ -40,16 +40,3 @@ write_done text done rest old new e none f = rw (e, nil_from_length rest none, a
 
 pub write_stopped : (text done rest : List ℕ) (old mid new : Option (List ℕ)) → text ≡ done ++ rest → 0 < length rest → Appends old mid done → Keeps mid new → AppendsFront old new text
 write_stopped text done rest old mid new e lt f g = (done, (rest, e, lt), appends_keeps old mid new done f g)
-
--- the next call of a list fails only where its number is on the list
-no_next : (calls : ℕ) (failing : List ℕ) → AllByRecursion (λ call. call < counted calls) failing → fails_next calls failing ≡ false
-no_next calls [] h = refl
-no_next calls (call ∷ failing) h = rw (no_next calls failing h.1) (let ne : call ≢ counted calls = omega (arith, h.0) in grind (arith, common_steps))
-
--- each number of the list is below the next call's, and so below the one after
-pub fails_no_more_later : (calls : ℕ) (failing : List ℕ) → FailsNoMore calls failing → FailsNoMore (counted calls) failing
-fails_no_more_later calls [] h = tt
-fails_no_more_later calls (call ∷ failing) h = (omega (arith, h.0), fails_no_more_later calls failing h.1)
-
-pub not_next : (calls : ℕ) (failing : List ℕ) → FailsNoMore calls failing → fails_next calls failing ≡ false
-not_next calls failing h = no_next calls failing h

@@ -1,6 +1,7 @@
 pub mod Causes
 pub mod Outside
 pub mod InMemory
+pub mod InMemoryLaws
 pub mod Writes
 pub mod WritesLaws
 pub mod Texts

@@ -64,7 +64,7 @@ impl Source for MemorySource {
     // No number of a call to come is on the list.
     ghost fails_no_more = { λ s. FailsNoMore s.calls s.failing.items };
 
-    #[tactic(auto, using(crate::proofs::Known::not_next, crate::proofs::Known::fails_no_more_later))]
+    #[tactic(auto, using(crate::specs::InMemoryLaws::not_next, crate::specs::InMemoryLaws::fails_no_more_later))]
     fn read(&mut self, piece: &mut [u8]) -> Result<usize, Failed>
         ensures bound { ReadsAtMost result piece.new }
         ensures reads { Reads (source_state self.old) (source_state self.new) result piece.new }
@@ -135,7 +135,7 @@ impl Sink for MemorySink {
     // No number of a call to come is on the list.
     ghost fails_no_more = { λ s. FailsNoMore s.calls s.failing.items };
 
-    #[tactic(auto, using(crate::proofs::Known::not_next, crate::proofs::Known::fails_no_more_later))]
+    #[tactic(auto, using(crate::specs::InMemoryLaws::not_next, crate::specs::InMemoryLaws::fails_no_more_later))]
     fn write(&mut self, piece: &[u8]) -> Result<usize, Failed>
         ensures bound { WritesAtMost result piece.now }
         ensures some { 0 < length piece.now → IfOk result (λ n. 0 < n) }

@@ -18,7 +18,7 @@ use Rattle.rv_cli.specs.declared.ending.Ending.TheVariants.{Done, Keeper, Damage
 use Rattle.rv_cli.specs.Texts.{text_of}
 use Rattle.rv_cli.specs.Headline.{line_at, Answered}
 use Rattle.rv_cli.specs.Feeding.{Stays, WritesAnswer, CutsAnswer, Stopped, EndsLine, FedAnswers, Feeds}
-use Rattle.rv_cli.proofs.Runs.{line_as, too_long, too_late, answered_later, answered_more, answered_none}
+use Rattle.rv_cli.specs.RunLaws.{line_as, too_long, too_late, answered_later, answered_more, answered_none}
 
 -- All lines so far were ended and taken, and no fault rose.
 pub record Going (Told : Type 0) (begun : Served) (start input : InputState) (first out : OutputState) (pending : List ℕ) (number : ℕ) (now : Served) : Type 0 where

@@ -1,5 +1,5 @@
 -- Runs keep the law, each pull is shown, and each trouble has its cause.
-use Rattle.std.proofs.Common.{◌≡◌, ℕ, List, [], ◌∷◌, ◌++◌, ◌≤◌, length, Bool, true, false, Option, Some, None, Result, Ok, Err, refl, sym, ap, ◌∙◌, subst, append_assoc, append-nil, inl, inr, arith}
+use Rattle.std.proofs.Common.{◌≡◌, ℕ, List, [], ◌∷◌, ◌++◌, ◌≤◌, ◌-◌, ◌^◌, length, Bool, true, false, Option, Some, None, Result, Ok, Err, refl, sym, ap, ◌∙◌, subst, append_assoc, append-nil, inl, inr, arith}
 use Rattle.rv_wire.specs.declared.error_body.ErrorBody.{ErrorBody}
 use Rattle.rv_book.specs.declared.entry.Entry.{Entry}
 use Rattle.rv_book.specs.declared.entry.Entry.TheVariants.{Look}
@@ -37,16 +37,18 @@ record Kept (Told : Type 0) (old new : Served) : Type 0 where
   pub sound : IsSound new
   pub more : Told → Goes old new
   pub later : old.faults ≤ new.faults
+  pub limit : old.limit ≡ 2 ^ 32 - 1 → new.limit ≡ 2 ^ 32 - 1
 
 kept_on : (Told : Type 0) (old mid new : Served) → Kept Told old mid → Kept Told mid new → Kept Told old new
 kept_on Told old mid new before after = record {
   sound = after.sound;
   more = λ told. goes_on old mid new (before.more told) (after.more told);
   later = let one = before.later in let two = after.later in omega (arith, one, two);
+  limit = λ is. after.limit (before.limit is);
 }
 
 kept_law : (Told : Type 0) (old new : Served) → KeepsLaw old new → Kept Told old new
-kept_law Told old new law = record { sound = law.sound; more = λ told. law.more; later = law.later }
+kept_law Told old new law = record { sound = law.sound; more = λ told. law.more; later = law.later; limit = λ is. law.limit ∙ is }
 
 settles_go : (book settled : Book) (doubt : Option Entry) → Settles book doubt settled → (more : Book) × (settled ≡ book ++ more)
 settles_go book settled None same = ([], same ∙ sym (append-nil book))
@@ -54,7 +56,7 @@ settles_go book settled (Some entry) (inl same) = ([], same ∙ sym (append-nil 
 settles_go book settled (Some entry) (inr is) = (entry ∷ [], is)
 
 kept_reopened : (Told : Type 0) (old new : Served) → Reopens Told old new → Kept Told old new
-kept_reopened Told old new r = record { sound = r.sound; more = λ told. settles_go old.book new.book old.doubt (r.settled told); later = let n = r.faults in omega (arith, n) }
+kept_reopened Told old new r = record { sound = r.sound; more = λ told. settles_go old.book new.book old.doubt (r.settled told); later = let n = r.faults in omega (arith, n); limit = λ is. r.limit }
 
 module _ (pushes : PushesKeepLaw) (pulled : PullsKeepLaw) (retired : RetirementsKeepLaw) where
   answers_keep : (old new : Served) (request : Request) (answer : Answer) (acted : Bool) → Answers ServedMutates ServedPulls ServedRetires old request answer acted new → IsSound old → KeepsLaw old new
@@ -87,7 +89,7 @@ module _ (pushes : PushesKeepLaw) (pulled : PullsKeepLaw) (retired : Retirements
   pub books_are_lawful : IdsCountUp → OrdersRise → (Told : Type 0) (first now : Served) (lines : List Line) (answers : List (Option Answer)) → Run Told first lines answers now → IsSound first → IsLawfulRun Told first now
   books_are_lawful ids orders Told first now lines answers run sound =
       let kept = run_keeps Told first now lines answers run sound in
-      record { sound = kept.sound; more = kept.more; ids = λ client. ids now.book client kept.sound.lawful; orders = λ group. orders now.book group kept.sound.lawful; later = kept.later }
+      record { sound = kept.sound; more = kept.more; ids = λ client. ids now.book client kept.sound.lawful; orders = λ group. orders now.book group kept.sound.lawful; later = kept.later; limit = kept.limit }
 
 -- no push and no retirement is answered by a reply
 pub no_push : (reply : PullReply) (refused : Option ErrorBody) → Pulled reply ≡ push_answer refused → ⊥
@@ -118,7 +120,7 @@ record AnswersPull (point new : Served) (asked : Asked) (reply : PullReply) : Ty
 pulled_at : PullsShow → (point new : Served) (user : List ℕ) (pull : PullRequest) (reply : PullReply) (outcome : PullAnswer) → outcome ≡ pulls.Pulled reply → ServedPulls point user pull outcome new → AnswersPull point new (Ok (Pull user pull)) reply
 pulled_at show point new user pull reply outcome same taken =
     let here : ServedPulls point user pull (pulls.Pulled reply) new = subst (λ (o : PullAnswer). ServedPulls point user pull o new) same taken in
-    let (settled, settles, step, none) = here.turn in
+    let (settled, settles, step, none, still) = here.turn in
     record {
       settled = settled;
       settles = settles;

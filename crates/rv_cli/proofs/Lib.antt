@@ -1,4 +1,3 @@
-pub mod Runs
 pub mod Going
 pub mod Ended
 pub mod LawfulRuns
@@ -10,3 +9,5 @@ pub mod Troubled
 pub mod Fed
 pub mod Sound
 mod Reporting
+mod Steady
+mod Named

@@ -1,5 +1,5 @@
 -- From the desk of a store, or a check of it, and the keeper that went back, to what a report promises.
-use Rattle.std.proofs.Common.{◌≡◌, ℕ, ◌-◌, ◌^◌, ◌++◌, List, None, Result, Ok, Err, IsOk, IsErr, IsErrAnd, IfOk, refl, sym, ap, ◌∙◌, subst, arith, decimal, codes}
+use Rattle.std.proofs.Common.{◌≡◌, ℕ, ◌-◌, ◌^◌, ◌++◌, List, None, Result, Ok, Err, IsOk, IsErr, IsErrAnd, IfOk, refl, sym, ap, ◌∙◌, subst, arith, decimal, codes, inl}
 use Rattle.rv_base.specs.Outside.{OutputState}
 use Rattle.rv_base.specs.declared.memory.Memory.{Memory as Refused}
 use Rattle.rv_keeper.specs.declared.fault.KeepFault.{KeepFault}
@@ -35,9 +35,9 @@ reports_made Tells (Err refused) old new ending is (e, w) = subst (λ (ending : 
 pub if_ok : {T E : Type 0} (P : T → Type 0) (r : Result T E) (x : T) → IfOk r P → r ≡ Ok x → P x
 if_ok P r x holds is = let Q : Result _ _ → Type 0 = λ r. IfOk r P in subst Q is holds
 
-module _ {P K : Type 0} (tells : P → Type 0) (holds : P → List ℕ → Loaded → Type 0) (is_out : P → List ℕ → Type 0) (faults : P → ℕ) (kept_tells : K → Type 0) (kept_holds : K → Loaded → Type 0) (kept_faults : K → ℕ) (store : List ℕ) where
+module _ {P K : Type 0} (tells : P → Type 0) (holds : P → List ℕ → Loaded → Type 0) (is_out : P → List ℕ → Type 0) (faults : P → ℕ) (kept_tells kept_steady : K → Type 0) (kept_holds : K → Loaded → Type 0) (kept_faults : K → ℕ) (store : List ℕ) where
   abbrev Back : P → P → K → Type 0
-  Back mid new keeper = WentBack tells holds is_out faults kept_tells kept_holds kept_faults store mid new keeper
+  Back mid new keeper = WentBack tells holds is_out faults kept_tells kept_steady kept_holds kept_faults store mid new keeper
 
   -- the desk was opened and reported of, and its keeper went back
   pub has_reported : (Tells : Book → List ℕ → Type 0) (old mid new : P) (desk : Seated K) (keeper : K) (out out' : OutputState) (ending : Ending)
@@ -48,9 +48,9 @@ module _ {P K : Type 0} (tells : P → Type 0) (holds : P → List ℕ → Loade
       let home = subst (λ (k : K). Back mid new k) is back in
       record {
         first = served kept_faults desk;
-        begins = begins tells holds is_out faults kept_tells kept_holds kept_faults store old mid new desk desk.keeper opened (λ t. t) home;
+        begins = begins tells holds is_out faults kept_tells kept_steady kept_holds kept_faults store old mid new desk desk.keeper opened (λ t. t) home;
         writes = w;
-        leaves = leaves tells holds is_out faults kept_tells kept_holds kept_faults store old mid new (served kept_faults desk) desk.keeper opened.same (record { held = held; later = omega arith }) home;
+        leaves = leaves tells holds is_out faults kept_tells kept_steady kept_holds kept_faults store old mid new (served kept_faults desk) desk.keeper opened.same (record { held = held; later = omega arith }) home;
       }
 
   -- the store's keeper was fetched and checked
@@ -68,13 +68,13 @@ module _ {P K : Type 0} (tells : P → Type 0) (holds : P → List ℕ → Loade
         same = sound.same ∙ still;
       }
   store_checked kept old mid new (Err ending) got none still checked =
-      store_opened tells holds is_out faults kept_tells kept_holds kept_faults store kept old mid new (Err ending) got none still checked
+      store_opened tells holds is_out faults kept_tells kept_steady kept_holds kept_faults store kept old mid new (Err ending) got none still checked
 
   -- the place gave no keeper, and so nothing was checked
-  pub check_refused : {T : Type 0} (old new : P) (fault : KeepFault) (result : Result ℕ Ending) → HasKeepCause {T = T} (faults old) (faults new) (Err fault) → IsErr result × IsErrAnd result (λ ending. ending ≡ keep_ending fault)
+  pub check_refused : {T : Type 0} (old new : P) (fault : KeepFault) (result : Result ℕ Ending) → HasKeepCause {T = T} (faults old) (faults new) (Err fault) → IsErr result × IsErrAnd result (λ ending. ending ≡ keep_ending fault) → (tells new → (held : Loaded) → holds old store held → holds new store held)
       → ChecksStore tells holds faults store old result new
-  check_refused old new fault (Ok entries) cause is = absurd (let is = is.0 in cc)
-  check_refused old new fault (Err ending) cause is = not_given (tells new) (OpensAs store (holds old store)) (holds new store) (faults old) (faults new) fault ending cause is.1
+  check_refused old new fault (Ok entries) cause is same = absurd (let is = is.0 in cc)
+  check_refused old new fault (Err ending) cause is same = (not_given (tells new) (OpensAs store (holds old store)) (holds new store) (faults old) (faults new) fault ending cause is.1, λ t. inl (same t))
 
   -- a store is found sound only where it was there
   pub checked_there : (There : Type 0) (kept : K) (mid new : P) (result : Result ℕ Ending) → (tells mid → There) → kept_faults kept ≡ 0 → ChecksKept tells holds faults kept_tells kept_holds kept_faults store kept mid result new → tells new → IsOk result → There

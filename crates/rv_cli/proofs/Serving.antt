@@ -1,5 +1,5 @@
 -- From the accounts, the desk of a store, a net that it served and the keeper that went back, to what `serve` promises.
-use Rattle.std.proofs.Common.{◌≡◌, ◌≢◌, ◌⊎◌, ℕ, suc, ◌-◌, ◌^◌, List, [], ◌∷◌, ◌++◌, length, length-append, Result, Ok, Err, refl, sym, ap, ◌∙◌, subst, arith, inl, inr}
+use Rattle.std.proofs.Common.{◌≡◌, ◌≢◌, ◌⊎◌, ⊎_elim, ℕ, suc, ◌-◌, ◌^◌, List, [], ◌∷◌, ◌++◌, length, length-append, Result, Ok, Err, refl, sym, ap, ◌∙◌, subst, arith, inl, inr}
 use Rattle.rv_base.specs.Causes.{Rose}
 use Rattle.rv_base.specs.Outside.{InputState, OutputState}
 use Rattle.rv_accounts.specs.File.{Served as AccountsServed}
@@ -20,7 +20,7 @@ use Rattle.rv_cli.specs.declared.ending.Ending.TheVariants as endings
 use Rattle.rv_cli.specs.declared.serve_ending.ServeEnding.{ServeEnding}
 use Rattle.rv_cli.specs.declared.serve_ending.ServeEnding.TheVariants.{Done, BadAccounts, TwiceAccounts, NotOpened, Net, Memory, Write}
 use Rattle.rv_cli.specs.Texts.{serve_status, serve_text, status_of}
-use Rattle.rv_cli.specs.Headline.{Begins, IsNotOpened, Leaves, WritesOnly, KeptSound}
+use Rattle.rv_cli.specs.Headline.{Begins, IsLeftAs, IsNotOpened, Leaves, WritesOnly, KeptSound}
 use Rattle.rv_cli.specs.Serving.{FileSays, HasNoAccounts, HasNoNet, HasNoStore, HasRefused, HasServed, IsNoNet, NetServes, RunsServe, TellsEntries}
 use Rattle.rv_cli.specs.ServingSteps.{AccountsRead, NetServed, TellsCount, TellsServed, count_text}
 use Rattle.rv_cli.specs.Storing.{HasOpened}
@@ -55,7 +55,7 @@ tells_entries book entries old new (NotOpened ending) is never = never
 tells_entries book entries old new Net is never = never
 tells_entries book entries old new Memory is never = never
 
-module _ {P K : Type 0} (tells : P → Type 0) (holds : P → List ℕ → Loaded → Type 0) (is_out : P → List ℕ → Type 0) (accounts : P → List ℕ → List ℕ → Type 0) (faults : P → ℕ) (kept_tells : K → Type 0) (kept_holds : K → Loaded → Type 0) (kept_faults : K → ℕ) (store name : List ℕ) where
+module _ {P K : Type 0} (tells : P → Type 0) (holds : P → List ℕ → Loaded → Type 0) (is_out : P → List ℕ → Type 0) (accounts : P → List ℕ → List ℕ → Type 0) (faults : P → ℕ) (kept_tells kept_steady : K → Type 0) (kept_holds : K → Loaded → Type 0) (kept_faults : K → ℕ) (store name : List ℕ) where
   abbrev Read : P → Result AccountsServed ServeEnding → P → Type 0
   Read old result mid = AccountsRead tells holds accounts faults name old result mid
 
@@ -70,15 +70,18 @@ module _ {P K : Type 0} (tells : P → Type 0) (holds : P → List ℕ → Loade
 
   -- the store did not open
   pub has_no_store : (old mid new : P) (said : AccountsServed) (other : Ending) (out out' : OutputState) → Read old (Ok said) mid → (tells new → tells mid)
-      → IsNotOpened (tells new) (OpensAs store (holds mid store)) (holds new store) (faults mid) (faults new) other → WritesOnly out out' (serve_text (NotOpened other))
+      → IsNotOpened (tells new) (OpensAs store (holds mid store)) (holds new store) (faults mid) (faults new) other × IsLeftAs (tells new) (holds mid store) (OpensAs store (holds mid store)) (holds new store)
+      → WritesOnly out out' (serve_text (NotOpened other))
       → HasNoStore kept_faults (tells new) (accounts old name) (holds old store) (OpensAs store (holds old store)) (holds new store) (faults old) (faults new) out out' (NotOpened other)
-  has_no_store old mid new said other out out' read before why text = record {
+  has_no_store old mid new said other out out' read before (why, left) text = record {
     other = other;
     is = refl;
     accounts = said;
     says = says_later (tells new) old mid (Ok said) before read.tells_so.0;
     why = not_opened_before (tells new) (OpensAs store (holds old store)) (OpensAs store (holds mid store)) (holds new store) (faults old) (faults mid) (faults new) other
         (λ t. opens_as store (holds old store) (holds mid store) (λ held was. read.stays (before t) store held was)) read.tells_so.1 why;
+    left = λ t. ⊎_elim (λ same. inl (λ held was. same held (read.stays (before t) store held was)))
+        (λ same. inr (λ held was. same held (opens_as store (holds old store) (holds mid store) (λ h w. read.stays (before t) store h w) held was))) (left t);
     text = text;
   }
 
@@ -86,16 +89,16 @@ module _ {P K : Type 0} (tells : P → Type 0) (holds : P → List ℕ → Loade
   module _ (old mid opened new : P) (said : AccountsServed) (first last : Seated K) (keeper : K) (read : Read old (Ok said) mid)
       (opens : HasOpened tells holds is_out faults kept_tells kept_faults store mid first opened) (before : tells opened → tells mid) (is : keeper ≡ last.keeper)
       (held : kept_tells last.keeper → HoldsBook (kept_holds last.keeper) last.book last.doubt) (kept_before : kept_tells last.keeper → kept_tells first.keeper)
-      (back : WentBack tells holds is_out faults kept_tells kept_holds kept_faults store opened new keeper) where
-    home : WentBack tells holds is_out faults kept_tells kept_holds kept_faults store opened new last.keeper
-    home = subst (λ (k : K). WentBack tells holds is_out faults kept_tells kept_holds kept_faults store opened new k) is back
+      (back : WentBack tells holds is_out faults kept_tells kept_steady kept_holds kept_faults store opened new keeper) where
+    home : WentBack tells holds is_out faults kept_tells kept_steady kept_holds kept_faults store opened new last.keeper
+    home = subst (λ (k : K). WentBack tells holds is_out faults kept_tells kept_steady kept_holds kept_faults store opened new k) is back
 
     told : tells new → tells mid
     told t = before (home.told t).0
 
     pub serve_begins : Begins (tells new) (OpensAs store (holds old store)) (served kept_faults first)
     serve_begins =
-        let from = begins tells holds is_out faults kept_tells kept_holds kept_faults store mid opened new first last.keeper opens kept_before home in
+        let from = begins tells holds is_out faults kept_tells kept_steady kept_holds kept_faults store mid opened new first last.keeper opens kept_before home in
         record {
           loaded = from.loaded;
           stored = λ t held was. from.stored t held (opens_as store (holds old store) (holds mid store) (λ h w. read.stays (told t) store h w) held was);
@@ -106,7 +109,7 @@ module _ {P K : Type 0} (tells : P → Type 0) (holds : P → List ℕ → Loade
         }
 
     pub serve_leaves : Leaves (tells new) (holds new store) (faults old) (faults new) (served kept_faults last)
-    serve_leaves = leaves tells holds is_out faults kept_tells kept_holds kept_faults store old opened new (served kept_faults last) last.keeper
+    serve_leaves = leaves tells holds is_out faults kept_tells kept_steady kept_holds kept_faults store old opened new (served kept_faults last) last.keeper
         (opens.same ∙ read.tells_so.1) (record { held = held; later = omega arith }) home
 
     pub serve_says : FileSays (tells new) (accounts old name) (Ok said)
@@ -148,10 +151,10 @@ each_back Serves first [] (last ∷ lasts) backs never = absurd never
 each_back Serves first (given ∷ givens) [] backs never = absurd never
 each_back Serves first (given ∷ givens) (last ∷ lasts) [] never = absurd never
 
-pub all_back : {K L : Type 0} (kept_faults : K → ℕ) (kept_tells : K → Type 0) (Serves : SeatView K → L → SeatView K → L → Type 0) (opened desk : Seated K) (givens backs : List L) (result : Result (Unit {0}) MemoryFault)
-    → MatchResult result (λ done. ServesTogether kept_faults kept_tells Serves opened givens desk backs) (λ refused. (desk ≡ opened) × (backs ≡ givens)) → length backs ≡ length givens
-all_back kept_faults kept_tells Serves opened desk givens backs (Ok done) together = each_back Serves (newcomer 1 opened) givens together.views backs together.serves
-all_back kept_faults kept_tells Serves opened desk givens backs (Err refused) (same, is) = ap length is
+pub all_back : {K L : Type 0} (kept_faults : K → ℕ) (follows : K → K → Type 0) (Serves : SeatView K → L → SeatView K → L → Type 0) (opened desk : Seated K) (givens backs : List L) (result : Result (Unit {0}) MemoryFault)
+    → MatchResult result (λ done. ServesTogether kept_faults follows Serves opened givens desk backs) (λ refused. (desk ≡ opened) × (backs ≡ givens)) → length backs ≡ length givens
+all_back kept_faults follows Serves opened desk givens backs (Ok done) together = each_back Serves (newcomer 1 opened) givens together.views backs together.serves
+all_back kept_faults follows Serves opened desk givens backs (Err refused) (same, is) = ap length is
 
 -- where the desk's keeper tells at the end, it told at the beginning
 pub net_before : {L K : Type 0} (Told : Type 0) (kept_tells : K → Type 0) (tells : L → Type 0) (Serves : List L → List L → Type 0) (workers : ℕ) (to_give left came_back back : List L) (before after : ℕ) (old new : Seated K) (result : Result (Unit {0}) NetFault)
@@ -160,12 +163,12 @@ net_before Told kept_tells tells Serves workers to_give left came_back back befo
 net_before Told kept_tells tells Serves workers to_give left came_back back before after old new (Err nets.Failed) (same, rose) = λ t. subst (λ (desk : Seated _). kept_tells desk.keeper) same t
 net_before Told kept_tells tells Serves workers to_give left came_back back before after old new (Err nets.Memory) same = λ t. subst (λ (desk : Seated _). kept_tells desk.keeper) same t
 
-module _ {P K : Type 0} (tells : P → Type 0) (holds : P → List ℕ → Loaded → Type 0) (is_out : P → List ℕ → Type 0) (accounts : P → List ℕ → List ℕ → Type 0) (faults : P → ℕ) (kept_tells : K → Type 0) (kept_holds : K → Loaded → Type 0) (kept_faults : K → ℕ) (store name : List ℕ) where
+module _ {P K : Type 0} (tells : P → Type 0) (holds : P → List ℕ → Loaded → Type 0) (is_out : P → List ℕ → Type 0) (accounts : P → List ℕ → List ℕ → Type 0) (faults : P → ℕ) (kept_tells kept_steady : K → Type 0) (kept_holds : K → Loaded → Type 0) (kept_faults : K → ℕ) (store name : List ℕ) where
   -- the store was opened, the net was served or not, and what is told of it
   pub serve_ended : (old mid opened new : P) (said : AccountsServed) (first last : Seated K) (keeper : K) → AccountsRead tells holds accounts faults name old (Ok said) mid
       → HasOpened tells holds is_out faults kept_tells kept_faults store mid first opened → (tells opened → tells mid) → keeper ≡ last.keeper
       → (kept_tells last.keeper → HoldsBook (kept_holds last.keeper) last.book last.doubt) → IsSound (served kept_faults last)
-      → WentBack tells holds is_out faults kept_tells kept_holds kept_faults store opened new keeper
+      → WentBack tells holds is_out faults kept_tells kept_steady kept_holds kept_faults store opened new keeper
       → {L : Type 0} (Told : Type 0) (listener_tells : L → Type 0) (Serves : AccountsServed → Seated K → Seated K → List L → List L → Type 0) (workers : ℕ) (to_give left came_back back : List L) (net net' : ℕ)
       (result : Result (Unit {0}) NetFault) (entries : ℕ) (out out' : OutputState) (ending : ServeEnding)
       → NetServed Told kept_tells listener_tells (Serves said first last) workers to_give left came_back back net net' first last result
@@ -181,14 +184,14 @@ module _ {P K : Type 0} (tells : P → Type 0) (holds : P → List ℕ → Loade
 
       no_net : (other : ServeEnding) → last ≡ first → IsNoNet net net' other → WritesOnly out out' (serve_text other)
           → HasNoNet kept_faults (tells new) (accounts old name) (holds old store) (OpensAs store (holds old store)) (holds new store) (faults old) (faults new) net net' out out' other
-      no_net other same why text = has_no_net tells holds is_out accounts faults kept_tells kept_holds kept_faults store name old mid opened new said first last keeper read opens before is held kept home net net' out out' other same why text
+      no_net other same why text = has_no_net tells holds is_out accounts faults kept_tells kept_steady kept_holds kept_faults store name old mid opened new said first last keeper read opens before is held kept home net net' out out' other same why text
 
       by_result : (r : Result (Unit {0}) NetFault) → NetServed Told kept_tells listener_tells (Serves said first last) workers to_give left came_back back net net' first last r
           → TellsServed r entries out out' ending
           → HasNoNet kept_faults (tells new) (accounts old name) (holds old store) (OpensAs store (holds old store)) (holds new store) (faults old) (faults new) net net' out out' ending
           ⊎ HasServed kept_faults (tells new) (accounts old name) (holds old store) (OpensAs store (holds old store)) (holds new store) (faults old) (faults new)
           (λ a f n. NetServes Told listener_tells (Serves a f n) workers to_give left came_back back) out out' ending
-      by_result (Ok done) (serves, on, same) tells_so = inr (has_served tells holds is_out accounts faults kept_tells kept_holds kept_faults store name old mid opened new said first last keeper read opens before is held kept home
+      by_result (Ok done) (serves, on, same) tells_so = inr (has_served tells holds is_out accounts faults kept_tells kept_steady kept_holds kept_faults store name old mid opened new said first last keeper read opens before is held kept home
           (λ a f n. NetServes Told listener_tells (Serves a f n) workers to_give left came_back back) entries out out' ending serves sound count tells_so)
       by_result (Err nets.Failed) (same, rose) (ends, text) = inl (subst (λ (e : ServeEnding). HasNoNet kept_faults (tells new) (accounts old name) (holds old store) (OpensAs store (holds old store)) (holds new store) (faults old) (faults new) net net' out out' e) (sym ends) (no_net Net same rose text))
       by_result (Err nets.Memory) same (ends, text) = inl (subst (λ (e : ServeEnding). HasNoNet kept_faults (tells new) (accounts old name) (holds old store) (OpensAs store (holds old store)) (holds new store) (faults old) (faults new) net net' out out' e) (sym ends) (no_net Memory same tt text))

@@ -18,7 +18,7 @@ use Rattle.rv_cli.specs.declared.ending.Ending.{Ending}
 use Rattle.rv_cli.specs.declared.ending.Ending.TheVariants.{Done, Keeper, Damaged, Read, Write, Memory, Malformed}
 use Rattle.rv_cli.specs.Texts.{status_of}
 use Rattle.rv_cli.specs.Commands.{IsReportOf}
-use Rattle.rv_cli.specs.Headline.{IsNotOpened, NotFed, HasFed, RunsFeed, NotOpened, Replied, RunsOne, EndsOne, KeepsSo, KeptSound}
+use Rattle.rv_cli.specs.Headline.{IsLeftAs, IsNotOpened, NotFed, HasFed, RunsFeed, NotOpened, Replied, RunsOne, EndsOne, KeepsSo, KeptSound}
 
 -- an ending whose status is that of damage is damage
 no_damage : (ending : Ending) → ((shelf : ℕ) (key : List ℕ) → ending ≢ Damaged shelf key) → status_of ending ≢ 5
@@ -40,10 +40,10 @@ module _ (Told : Type 0) (Stored Holds : Loaded → Type 0) (before after : ℕ)
   pub refused_sound : (ending : Ending) (status : ℕ) → IsNotOpened Told Stored Holds before after ending → status ≡ status_of ending → status ≢ 5
   refused_sound ending status why is five = no_damage ending (λ shelf key e. opens_sound shelf key ending e why) (sym is ∙ five)
 
-  fed_sound : (input input' : InputState) (output output' : OutputState) (ending : Ending) → NotFed Told Stored Holds before after input input' output output' ending ⊎ HasFed Told Stored Holds before after input input' output output' ending
+  fed_sound : (Was : Loaded → Type 0) (input input' : InputState) (output output' : OutputState) (ending : Ending) → (NotFed Told Stored Holds before after input input' output output' ending × IsLeftAs Told Was Stored Holds) ⊎ HasFed Told Stored Holds before after input input' output output' ending
       → (shelf : ℕ) (key : List ℕ) → ending ≢ Damaged shelf key
-  fed_sound input input' output output' ending (inl none) shelf key is = opens_sound shelf key ending is none.why
-  fed_sound input input' output output' ending (inr fed) shelf key is = untold ending is fed.keeps
+  fed_sound Was input input' output output' ending (inl (none, left)) shelf key is = opens_sound shelf key ending is none.why
+  fed_sound Was input input' output output' ending (inr fed) shelf key is = untold ending is fed.keeps
     where
       untold : (ending : Ending) → ending ≡ Damaged shelf key → KeepsSo Told before after ending → ⊥
       untold Done is keeps = cc
@@ -54,16 +54,16 @@ module _ (Told : Type 0) (Stored Holds : Loaded → Type 0) (before after : ℕ)
       untold Memory is keeps = cc
       untold (Malformed number) is keeps = cc
 
-  pub feed_sound : (input input' : InputState) (output output' : OutputState) (status : ℕ) → RunsFeed Told Stored Holds before after input input' output output' status → status ≢ 5
-  feed_sound input input' output output' status (ending, is, runs) five = no_damage ending (fed_sound input input' output output' ending runs) (sym is ∙ five)
+  pub feed_sound : (Was : Loaded → Type 0) (input input' : InputState) (output output' : OutputState) (status : ℕ) → RunsFeed Told Stored Holds before after Was input input' output output' status → status ≢ 5
+  feed_sound Was input input' output output' status (ending, is, runs) five = no_damage ending (fed_sound Was input input' output output' ending runs) (sym is ∙ five)
 
-  replied_sound : (asked : Asked) (output output' : OutputState) (ending : Ending) → NotOpened Told Stored Holds before after output output' ending ⊎ Replied Told Stored Holds before after asked output output' ending
+  replied_sound : (Was : Loaded → Type 0) (asked : Asked) (output output' : OutputState) (ending : Ending) → (NotOpened Told Stored Holds before after output output' ending × IsLeftAs Told Was Stored Holds) ⊎ Replied Told Stored Holds before after asked output output' ending
       → (shelf : ℕ) (key : List ℕ) → ending ≢ Damaged shelf key
-  replied_sound asked output output' ending (inl none) shelf key is = opens_sound shelf key ending is none.why
-  replied_sound asked output output' ending (inr replied) shelf key is = subst (λ (e : Ending). EndsOne replied.first asked replied.text replied.now e) is replied.ends
+  replied_sound Was asked output output' ending (inl (none, left)) shelf key is = opens_sound shelf key ending is none.why
+  replied_sound Was asked output output' ending (inr replied) shelf key is = subst (λ (e : Ending). EndsOne replied.first asked replied.text replied.now e) is replied.ends
 
-  pub retire_sound : (asked : Asked) (output output' : OutputState) (status : ℕ) → RunsOne Told Stored Holds before after asked output output' status → status ≢ 5
-  retire_sound asked output output' status (ending, is, runs) five = no_damage ending (replied_sound asked output output' ending runs) (sym is ∙ five)
+  pub retire_sound : (Was : Loaded → Type 0) (asked : Asked) (output output' : OutputState) (status : ℕ) → RunsOne Told Stored Holds before after Was asked output output' status → status ≢ 5
+  retire_sound Was asked output output' status (ending, is, runs) five = no_damage ending (replied_sound Was asked output output' ending runs) (sym is ∙ five)
 
 -- the store in memory is opened with the empty book
 pub memory_sound : (store : List ℕ) (Stored : Loaded → Type 0) → store ≡ codes "memory" → KeptSound (OpensAs store Stored)

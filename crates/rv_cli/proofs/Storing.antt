@@ -1,5 +1,5 @@
 -- From the desk of a store, what was fed to it, and the keeper that went back, to what a run promises.
-use Rattle.std.proofs.Common.{◌≡◌, ◌≢◌, ℕ, zero, suc, ◌-◌, ◌^◌, ◌<◌, List, Option, Some, None, IfSome, Result, Ok, Err, IsOk, IsErr, IsErrAnd, refl, sym, ap, ◌∙◌, subst, arith}
+use Rattle.std.proofs.Common.{◌≡◌, ◌≢◌, ℕ, zero, suc, ◌-◌, ◌^◌, ◌<◌, List, Option, Some, None, IfSome, Result, Ok, Err, IsOk, IsErr, IsErrAnd, refl, sym, ap, ◌∙◌, subst, arith, inl, inr}
 use Rattle.rv_base.specs.Causes.{Rose}
 use Rattle.rv_base.specs.Outside.{InputState, OutputState, Writes}
 use Rattle.rv_history.specs.Served.{Served}
@@ -21,7 +21,7 @@ use Rattle.rv_cli.specs.Headline.{Ends, Begins, Leaves, IsNotOpened, KeepsSo, Ha
 use Rattle.rv_cli.specs.Feeding.{IsLeftWith, RoseAt, FedAnswers, Feeds, FeedsWith}
 use Rattle.rv_cli.specs.Replying.{Retired, WritesReply}
 use Rattle.rv_cli.specs.Storing.{HasOpened, OpensStore, KeptOpened, OpensKept}
-use Rattle.rv_cli.proofs.Runs.{answered_later}
+use Rattle.rv_cli.specs.RunLaws.{answered_later}
 use Rattle.rv_cli.proofs.Ended.{ended}
 
 -- what is told later was told before
@@ -91,23 +91,26 @@ pub none_taken : (n before after : ℕ) → n ≡ 0 → TakesUp n before after �
 none_taken zero before after none taken = taken
 none_taken (suc n) before after none taken = absurd (omega (arith, none))
 
-module _ {P K : Type 0} (tells : P → Type 0) (holds : P → List ℕ → Loaded → Type 0) (is_out : P → List ℕ → Type 0) (faults : P → ℕ) (kept_tells : K → Type 0) (kept_holds : K → Loaded → Type 0) (kept_faults : K → ℕ) (store : List ℕ) where
+module _ {P K : Type 0} (tells : P → Type 0) (holds : P → List ℕ → Loaded → Type 0) (is_out : P → List ℕ → Type 0) (faults : P → ℕ) (kept_tells kept_steady : K → Type 0) (kept_holds : K → Loaded → Type 0) (kept_faults : K → ℕ) (store : List ℕ) where
   -- a keeper that went back to the place
   pub record WentBack (before after : P) (keeper : K) : Type 0 where
     pub told : tells after → tells before × kept_tells keeper
     pub held : tells after → (held : Loaded) → kept_holds keeper held → holds after store held
     pub taken : TakesUp (kept_faults keeper) (faults before) (faults after)
 
-  pub kept_opened : (kept : K) (old : P) (desk : Seated K) → Opens kept_tells kept_holds kept_faults (2 ^ 32 - 1) kept desk → KeptOpened tells holds is_out faults kept_tells kept_holds kept_faults kept old desk old
+  pub kept_opened : (kept : K) (old : P) (desk : Seated K) → Opens kept_tells kept_steady kept_holds kept_faults (2 ^ 32 - 1) kept desk → KeptOpened tells holds is_out faults kept_tells kept_holds kept_faults kept old desk old
   kept_opened kept old desk opens = record { loaded = opens.loaded; stored = λ now. opens.was.told now; opens = opens.opens; limit = opens.most; doubt = opens.doubt; still = opens.still; same = refl }
 
-  pub kept_refused : (kept now : K) (old new : P) (fault : OpenFault) → IsRefused kept_tells kept_holds kept_faults (2 ^ 32 - 1) kept fault now → IsLeft kept_tells kept_holds kept_faults kept now → WentBack old new now → kept_faults kept ≡ 0
-      → (tells new → tells old) × IsNotOpened (tells new) (kept_holds kept) (holds new store) (faults old) (faults new) (fault_ending fault)
-  kept_refused kept now old new faulting.Keeper rose left back none =
-      (λ t. (back.told t).0, rises (kept_faults now) (faults old) (faults new) (above_none (kept_faults now) (subst (λ (n : ℕ). Rose n (kept_faults now)) none rose)) back.taken)
+  given_back : (kept now : K) (old new : P) → IsLeft kept_tells kept_steady kept_holds kept_faults kept now → WentBack old new now → tells new → (held : Loaded) → kept_holds kept held → holds new store held
+  given_back kept now old new left back t held was = back.held t held (left.held (back.told t).1 held was)
+
+  pub kept_refused : (kept now : K) (old new : P) (fault : OpenFault) → IsRefused kept_tells kept_steady kept_holds kept_faults (2 ^ 32 - 1) kept fault now → IsLeft kept_tells kept_steady kept_holds kept_faults kept now → WentBack old new now → kept_faults kept ≡ 0
+      → (tells new → tells old) × IsNotOpened (tells new) (kept_holds kept) (holds new store) (faults old) (faults new) (fault_ending fault) × (tells new → (held : Loaded) → kept_holds kept held → holds new store held)
+  kept_refused kept now old new faulting.Keeper (rose, unsteady) left back none =
+      (λ t. (back.told t).0, rises (kept_faults now) (faults old) (faults new) (above_none (kept_faults now) (subst (λ (n : ℕ). Rose n (kept_faults now)) none rose)) back.taken, given_back kept now old new left back)
   kept_refused kept now old new (faulting.Damaged shelf key) damaged left back none =
-      (λ t. (back.told t).0, (damaged.loaded, λ t. damaged.was.told (back.told t).1, damaged.damaged, λ t held was. back.held t held (left.held (back.told t).1 held was), none_taken (kept_faults now) (faults old) (faults new) (damaged.still ∙ none) back.taken))
-  kept_refused kept now old new faulting.Memory free left back none = (λ t. (back.told t).0, tt)
+      (λ t. (back.told t).0, (damaged.loaded, λ t. damaged.was.told (back.told t).1, damaged.damaged, λ t held was. back.held t held (left.held (back.told t).1 held was), none_taken (kept_faults now) (faults old) (faults new) (damaged.still ∙ none) back.taken), given_back kept now old new left back)
+  kept_refused kept now old new faulting.Memory free left back none = (λ t. (back.told t).0, tt, given_back kept now old new left back)
 
   -- the store's keeper was fetched, and its desk opened or not
   pub store_opened : (kept : K) (old mid new : P) (result : Result (Seated K) Ending) → (tells mid → is_out mid store × OpensWith store (holds old store) (kept_holds kept)) → kept_faults kept ≡ 0 → faults mid ≡ faults old
@@ -123,8 +126,8 @@ module _ {P K : Type 0} (tells : P → Type 0) (holds : P → List ℕ → Loade
     same = ap faults opened.same ∙ still;
   }
   store_opened kept old mid new (Err ending) got none still opened =
-      let (told, why) = opened none in
-      again ending told why
+      let (told, why, back) = opened none in
+      (again ending told why, λ t. inr (λ held was. back t held ((got (told t)).1 held was)))
     where
       again : (ending : Ending) → (tells new → tells mid) → IsNotOpened (tells new) (kept_holds kept) (holds new store) (faults mid) (faults new) ending
           → IsNotOpened (tells new) (OpensAs store (holds old store)) (holds new store) (faults old) (faults new) ending
@@ -138,10 +141,10 @@ module _ {P K : Type 0} (tells : P → Type 0) (holds : P → List ℕ → Loade
       again (Malformed number) told never = never
 
   -- the place gave no keeper, and so there is no desk
-  pub store_refused : {T : Type 0} (old new : P) (fault : KeepFault) (result : Result (Seated K) Ending) → HasKeepCause {T = T} (faults old) (faults new) (Err fault) → IsErr result × IsErrAnd result (λ ending. ending ≡ keep_ending fault)
+  pub store_refused : {T : Type 0} (old new : P) (fault : KeepFault) (result : Result (Seated K) Ending) → HasKeepCause {T = T} (faults old) (faults new) (Err fault) → IsErr result × IsErrAnd result (λ ending. ending ≡ keep_ending fault) → (tells new → (held : Loaded) → holds old store held → holds new store held)
       → OpensStore tells holds is_out faults kept_tells kept_faults store old result new
-  store_refused old new fault (Ok desk) cause is = absurd (let is = is.0 in cc)
-  store_refused old new fault (Err ending) cause is = not_given (tells new) (OpensAs store (holds old store)) (holds new store) (faults old) (faults new) fault ending cause is.1
+  store_refused old new fault (Ok desk) cause is same = absurd (let is = is.0 in cc)
+  store_refused old new fault (Err ending) cause is same = (not_given (tells new) (OpensAs store (holds old store)) (holds new store) (faults old) (faults new) fault ending cause is.1, λ t. inl (same t))
 
   -- a desk is opened only of a store that was there
   pub opened_there : (There : Type 0) (kept : K) (mid new : P) (result : Result (Seated K) Ending) → (tells mid → There) → OpensKept tells holds is_out faults kept_tells kept_holds kept_faults store kept mid result new → tells new → IsOk result → There

@@ -8,19 +8,28 @@ use Rattle.rv_book.specs.Book.{Book, size, with_entry}
 use Rattle.rv_book.specs.BookWords.{size-with_entry}
 use Rattle.rv_history.specs.Lawful.{IsLawful}
 use Rattle.rv_history.specs.LawfulBooks.{lawful_more}
-use Rattle.rv_history.specs.Served.{ServedMutates, ServedPulls, ServedRetires, Settles, MayStand}
+use Rattle.rv_history.specs.declared.trouble.Trouble.{Trouble}
+use Rattle.rv_history.specs.declared.turn.Turn.{Turn}
+use Rattle.rv_history.specs.declared.pull_answer.PullAnswer.{PullAnswer}
+use Rattle.rv_history.specs.declared.retire_answer.RetireAnswer.{RetireAnswer}
+use Rattle.rv_history.specs.Machine.{Sender}
+use Rattle.rv_history.specs.Troubles.{turn_trouble, pull_trouble, retire_trouble}
+use Rattle.rv_wire.specs.declared.push.Mutation.{Mutation}
+use Rattle.rv_wire.specs.declared.pull.PullRequest.{PullRequest}
+use Rattle.rv_history.specs.Served.{ServedMutates, ServedPulls, ServedRetires, Settles, MayStand, TakesTurn, TurnOf}
 use Rattle.rv_keeper.specs.declared.loaded.Loaded.{Loaded}
 use Rattle.rv_record.specs.EntryReading.{EntryFits}
 use Rattle.rv_store.specs.Opening.{MayOpen}
 use Rattle.rv_store.specs.OpeningLaws.{opens-not_damaged}
 use Rattle.rv_store.specs.StoreBooks.{IsKeptInDoubt, settled_unique}
-use Rattle.rv_desk.specs.Seated.{Seated, HoldsBook, IsKeptWith, served}
+use Rattle.rv_desk.specs.Seated.{Assures, Seated, HoldsBook, IsKeptWith, served}
 use Rattle.rv_desk.specs.Opened.{Opens, IsDamagedIn, IsRefused, IsLeft}
 use Rattle.rv_desk.specs.declared.open_fault.OpenFault.{OpenFault}
 use Rattle.rv_desk.specs.declared.open_fault.OpenFault.TheVariants as faulting
 use Rattle.rv_answering.specs.declared.answer.Answer.{Answer}
 use Rattle.rv_answering.specs.Steps as steps
 use Rattle.rv_answering.specs.StepLaws.{shown_mutates, shown_pulls, shown_retires, step_shown}
+use Rattle.rv_answering.specs.StepMaps.{map_step}
 use Rattle.rv_answering.specs.declared.line.Line.{Line}
 use Rattle.rv_answering.specs.declared.line.Line.TheVariants.{Asks, Stop}
 use Rattle.rv_answering.specs.Reads.{IsReading, IsLineRead, AreLines}
@@ -29,6 +38,7 @@ use Rattle.rv_cli.specs.declared.ending.Ending.{Ending}
 use Rattle.rv_cli.specs.declared.ending.Ending.TheVariants.{Done, Keeper, Damaged, Read, Write, Memory, Malformed}
 use Rattle.rv_cli.specs.Texts.{fault_ending, text_of}
 use Rattle.rv_cli.specs.Headline.{Reopens, Step}
+use Rattle.rv_cli.specs.Steadiness.{KeeperIsSteady, LineKeepsSteady}
 use Rattle.rv_cli.specs.Feeding.{IsLeftWith, ServesOrNot, ReopensOrNot, GoesOn, LastLine, TakesLine}
 use Rattle.rv_cli.proofs.Troubled.{step_causes}
 
@@ -44,10 +54,10 @@ none_next : (book : Book) (limit : ℕ) (doubt : Option Entry) → doubt ≡ Non
 none_next book limit None none = tt
 none_next book limit (Some entry) none = absurd (cc)
 
-module _ {K : Type 0} (tells : K → Type 0) (holds : K → Loaded → Type 0) (faults : K → ℕ) where
+module _ {K : Type 0} (tells fails_no_more : K → Type 0) (holds : K → Loaded → Type 0) (faults : K → ℕ) where
   -- the desk that is opened from the keeper of a closed one
   pub reopened : (old new : Seated K) (kept : K) → kept ≡ old.keeper → AllByRecursion EntryFits old.book × IfSome old.doubt EntryFits → (tells old.keeper → HoldsBook (holds old.keeper) old.book old.doubt)
-      → Opens tells holds faults (2 ^ 32 - 1) kept new → Reopens (tells new.keeper) (served faults old) (served faults new) × (tells new.keeper → tells old.keeper)
+      → Opens tells fails_no_more holds faults (2 ^ 32 - 1) kept new → Reopens (tells new.keeper) (served faults old) (served faults new) × (tells new.keeper → tells old.keeper)
   reopened old new kept is fits held opens =
       let told : tells new.keeper → tells old.keeper = λ now. subst (λ (k : K). tells k) is (opens.told now) in (
         record {
@@ -70,7 +80,7 @@ module _ {K : Type 0} (tells : K → Type 0) (holds : K → Loaded → Type 0) (
           settled_unique old.book new.book old.doubt opens.loaded fits.0 fits.1 opens.opens.sound.fits opens.opens.kept (in_doubt old.book old.doubt opens.loaded (subst (λ (l : Loaded). IsKeptWith old.book old.doubt l) same with))
 
   -- the keeper of a desk that is not opened again
-  left_closed : (old : Seated K) (kept now : K) → kept ≡ old.keeper → (tells old.keeper → HoldsBook (holds old.keeper) old.book old.doubt) → IsLeft tells holds faults kept now
+  left_closed : (old : Seated K) (kept now : K) → kept ≡ old.keeper → (tells old.keeper → HoldsBook (holds old.keeper) old.book old.doubt) → IsLeft tells fails_no_more holds faults kept now
       → IsLeftWith tells holds faults (served faults old) now × (tells now → tells old.keeper)
   left_closed old kept now is held left =
       let told : tells now → tells old.keeper = λ t. subst (λ (k : K). tells k) is (left.told t) in (
@@ -102,7 +112,7 @@ module _ {K : Type 0} (tells : K → Type 0) (holds : K → Loaded → Type 0) (
       )
 
   untold : (old : Seated K) (kept now : K) (shelf : ℕ) (key : List ℕ) → kept ≡ old.keeper → IsLawful old.book → AllByRecursion EntryFits old.book × IfSome old.doubt EntryFits → (size old.book ≤ old.limit) × (old.limit < 2 ^ 32) → MayStand old.book old.limit old.doubt
-      → (tells old.keeper → HoldsBook (holds old.keeper) old.book old.doubt) → IsLeft tells holds faults kept now → IsDamagedIn tells holds faults (2 ^ 32 - 1) kept now shelf key → tells now → ⊥
+      → (tells old.keeper → HoldsBook (holds old.keeper) old.book old.doubt) → IsLeft tells fails_no_more holds faults kept now → IsDamagedIn tells fails_no_more holds faults (2 ^ 32 - 1) kept now shelf key → tells now → ⊥
   untold old kept now shelf key is lawful fits within next held left damaged t =
       let (h, was, with) = held (subst (λ (k : K). tells k) is (left.told t)) in
       let same : h ≡ damaged.loaded = damaged.was.told t h (subst (λ (k : K). holds k h) (sym is) was) in
@@ -111,35 +121,65 @@ module _ {K : Type 0} (tells : K → Type 0) (holds : K → Loaded → Type 0) (
 
   pub not_reopened : (old : Seated K) (kept now : K) (fault : OpenFault) → kept ≡ old.keeper → IsLawful old.book → AllByRecursion EntryFits old.book × IfSome old.doubt EntryFits → (size old.book ≤ old.limit) × (old.limit < 2 ^ 32) → MayStand old.book old.limit old.doubt
       → (tells old.keeper → HoldsBook (holds old.keeper) old.book old.doubt)
-      → IsRefused tells holds faults (2 ^ 32 - 1) kept fault now × IsLeft tells holds faults kept now → ReopensOrNot tells holds faults old (Err (fault_ending fault, now))
-  not_reopened old kept now faulting.Keeper is lawful fits within next held (rose, left) =
+      → IsRefused tells fails_no_more holds faults (2 ^ 32 - 1) kept fault now × IsLeft tells fails_no_more holds faults kept now → ReopensOrNot tells holds faults old (Err (fault_ending fault, now))
+  not_reopened old kept now faulting.Keeper is lawful fits within next held ((rose, unsteady), left) =
       let (with, told) = left_closed old kept now is held left in (tt, with, told, subst (λ (k : K). Rose (faults k) (faults now)) is rose)
   not_reopened old kept now (faulting.Damaged shelf key) is lawful fits within next held (damaged, left) =
       let (with, told) = left_closed old kept now is held left in (tt, with, told, untold old kept now shelf key is lawful fits within next held left damaged)
   not_reopened old kept now faulting.Memory is lawful fits within next held (free, left) =
       let (with, told) = left_closed old kept now is held left in (tt, with, told, tt)
 
-  -- a turn of a desk is one of the server that it shows
-  abbrev pub Before : Seated K → Seated K → Type 0
-  Before old new = tells new.keeper → tells old.keeper
+  -- the keeper of a desk tells only if it told, and one that fails no more goes on so, with no fault
+  pub record Before (old new : Seated K) : Type 0 where
+    pub told : tells new.keeper → tells old.keeper
+    pub steady : fails_no_more old.keeper → fails_no_more new.keeper × (faults new.keeper ≡ faults old.keeper)
+
+  before_same : (s : Seated K) → Before s s
+  before_same s = record { told = λ t. t; steady = λ f. (f, refl) }
+
+  before_on : (s t u : Seated K) → Before s t → Before t u → Before s u
+  before_on s t u first next = record { told = λ x. first.told (next.told x); steady = λ f. let (g, same) = first.steady f in let (h, also) = next.steady g in (h, also ∙ same) }
+
+  -- a turn of a desk, with what is known besides
+  abbrev desk_mutates : Seated K → Sender → Mutation → Turn → Seated K → Type 0
+  desk_mutates old from m turn new = ServedMutates (served faults old) from m turn (served faults new) × Assures tells fails_no_more old.keeper (turn_trouble turn) new.keeper
+
+  abbrev desk_pulls : Seated K → List ℕ → PullRequest → PullAnswer → Seated K → Type 0
+  desk_pulls old user request answer new = ServedPulls (served faults old) user request answer (served faults new) × Assures tells fails_no_more old.keeper (pull_trouble answer) new.keeper
+
+  abbrev desk_retires : Seated K → List ℕ → RetireAnswer → Seated K → Type 0
+  desk_retires old group answer new = ServedRetires (served faults old) group answer (served faults new) × Assures tells fails_no_more old.keeper (retire_trouble answer) new.keeper
+
+  pub turn_before : {A : Type 0} (trouble : A → Option Trouble) (Turns : Book → A → Book → Type 0) (old new : Seated K) (answer : A) → TakesTurn trouble Turns (served faults old) answer (served faults new)
+      → Assures tells fails_no_more old.keeper (trouble answer) new.keeper → Before old new
+  turn_before trouble Turns old new answer turn assured = record {
+    told = assured.told;
+    steady = λ f. (assured.goes_on f, (subst (λ (t : Option Trouble). TurnOf trouble Turns (served faults old) answer (served faults new) t) (assured.sure f) turn.turn).4);
+  }
 
   pub desk_step : (old new : Seated K) (asked : Asked) (answer : Answer)
-      → steps.Step (shown_mutates (served faults) Before (λ s t. t) (λ s t u p q x. p (q x)) ServedMutates ServedPulls ServedRetires) (shown_pulls (served faults) Before (λ s t. t) (λ s t u p q x. p (q x)) ServedMutates ServedPulls ServedRetires)
-      (shown_retires (served faults) Before (λ s t. t) (λ s t u p q x. p (q x)) ServedMutates ServedPulls ServedRetires) old asked answer new → Step (served faults old) asked answer (served faults new) × Before old new
-  desk_step old new asked answer step = step_shown (served faults) Before (λ s t. t) (λ s t u p q x. p (q x)) ServedMutates ServedPulls ServedRetires old new asked answer step
+      → steps.Step desk_mutates desk_pulls desk_retires old asked answer new → Step (served faults old) asked answer (served faults new) × Before old new
+  desk_step old new asked answer step = step_shown (served faults) Before before_same before_on ServedMutates ServedPulls ServedRetires old new asked answer
+      (map_step desk_mutates (shown_mutates (served faults) Before before_same before_on ServedMutates ServedPulls ServedRetires)
+      desk_pulls (shown_pulls (served faults) Before before_same before_on ServedMutates ServedPulls ServedRetires)
+      desk_retires (shown_retires (served faults) Before before_same before_on ServedMutates ServedPulls ServedRetires)
+      (λ old new from m turn (taken, assured). (taken, turn_before turn_trouble _ old new turn taken assured))
+      (λ old new user request answer (taken, assured). (taken, turn_before pull_trouble _ old new answer taken assured))
+      (λ old new group answer (taken, assured). (taken, turn_before retire_trouble _ old new answer taken assured))
+      old new asked answer step)
 
   pub serves_whole : {E : Type 0} (old new : Seated K) (asked : Asked) (answer : Answer) (before now : OutputState) (result : Result (Unit {0}) E) → result ≡ Ok tt → Step (served faults old) asked answer (served faults new) × Before old new
       → Writes before now result (text_of answer) → ServesOrNot tells holds faults old asked (Ok new) before now
-  serves_whole {E} old new asked answer before now result is (step, told) w =
+  serves_whole {E} old new asked answer before now result is (step, goes) w =
       let all = subst (λ (r : Result (Unit {0}) E). Writes before now r (text_of answer)) is w in
-      ((answer, step, all.bytes), record { faults = all.cause.still; refusals = all.memory.still }, told)
+      ((answer, step, all.bytes), record { faults = all.cause.still; refusals = all.memory.still }, goes.told)
 
   pub serves_front : {T E : Type 0} (old new : Seated K) (keeper : K) (asked : Asked) (answer : Answer) (before now : OutputState) (result : Result T E) (fault : E) → result ≡ Err fault → Step (served faults old) asked answer (served faults new) × Before old new
       → Writes before now result (text_of answer) → keeper ≡ new.keeper → (tells new.keeper → HoldsBook (holds new.keeper) new.book new.doubt) → ServesOrNot tells holds faults old asked (Err (Write, keeper)) before now
-  serves_front {T} {E} old new keeper asked answer before now result fault is (step, told) w same held =
+  serves_front {T} {E} old new keeper asked answer before now result fault is (step, goes) w same held =
       let part = subst (λ (r : Result T E). Writes before now r (text_of answer)) is w in
       subst (λ (k : K). ServesOrNot tells holds faults old asked (Err (Write, k)) before now) (sym same)
-      ((answer, served faults new, step, part.bytes, record { held = held; later = omega arith }), part.cause.failed, told)
+      ((answer, served faults new, step, part.bytes, record { held = held; later = omega arith }), part.cause.failed, goes.told)
 
   -- a line that asks something
   lines_ask : (line : List ℕ) (read : Asked) → AreLines (line_of line) (Some (Asks read)) → (asked : Asked) × (line_of line ≡ Some (Asks asked)) × IsReading asked read
@@ -209,3 +249,42 @@ module _ {K : Type 0} (tells : K → Type 0) (holds : K → Loaded → Type 0) (
   pub last_done : (old new : Seated K) (keeper : K) (line : List ℕ) (number : ℕ) (before now : OutputState) → keeper ≡ new.keeper → (tells new.keeper → HoldsBook (holds new.keeper) new.book new.doubt)
       → TakesLine tells holds faults old line number (Ok new) before now → LastLine tells holds faults old line number (Done, keeper) before now
   last_done old new keeper line number before now is held taken = LastLine.done new taken (record { held = held; later = omega arith }) (ap (λ (k : K). (Done, k)) is)
+
+  -- ---- What fails no more.
+
+  -- the lines end with a keeper that has gone on so
+  pub ends_steady : (before : K) (new : Seated K) (keeper : K) (ending : Ending) → keeper ≡ new.keeper → (ending ≡ Keeper → ⊥) → fails_no_more new.keeper × (faults new.keeper ≡ faults before)
+      → KeeperIsSteady fails_no_more faults before (ending, keeper)
+  ends_steady before new keeper ending is never (goes, same) = record { goes_on = subst fails_no_more (sym is) goes; still = ap faults is ∙ same; no_fault = never }
+
+  pub later_steady : (before mid : K) (ended : Ending × K) → faults mid ≡ faults before → KeeperIsSteady fails_no_more faults mid ended → KeeperIsSteady fails_no_more faults before ended
+  later_steady before mid ended same e = record { goes_on = e.goes_on; still = e.still ∙ same; no_fault = e.no_fault }
+
+  pub reopened_steady : (old new : Seated K) (kept : K) → kept ≡ old.keeper → Opens tells fails_no_more holds faults (2 ^ 32 - 1) kept new → fails_no_more old.keeper → LineKeepsSteady fails_no_more faults old.keeper (Ok new)
+  reopened_steady old new kept is opens f = (opens.goes_on (subst fails_no_more (sym is) f), opens.still ∙ ap faults is)
+
+  pub refused_steady : (old : Seated K) (kept now : K) (fault : OpenFault) → kept ≡ old.keeper → IsRefused tells fails_no_more holds faults (2 ^ 32 - 1) kept fault now × IsLeft tells fails_no_more holds faults kept now → fails_no_more old.keeper
+      → KeeperIsSteady fails_no_more faults old.keeper (fault_ending fault, now)
+  refused_steady old kept now faulting.Keeper is ((rose, unsteady), left) f = absurd (unsteady (subst fails_no_more (sym is) f))
+  refused_steady old kept now (faulting.Damaged shelf key) is (damaged, left) f = record { goes_on = left.goes_on (subst fails_no_more (sym is) f); still = damaged.still ∙ ap faults is; no_fault = λ e. absurd (cc) }
+  refused_steady old kept now faulting.Memory is (same, left) f = record { goes_on = left.goes_on (subst fails_no_more (sym is) f); still = same ∙ ap faults is; no_fault = λ e. absurd (cc) }
+
+  pub asked_steady : (before : K) (line : List ℕ) (read : Asked) (result : Result (Seated K) (Ending × K)) → AreLines (line_of line) (Some (Asks read))
+      → ((asked : Asked) → IsReading asked read → fails_no_more before → LineKeepsSteady fails_no_more faults before result) → fails_no_more before → LineKeepsSteady fails_no_more faults before result
+  asked_steady before line read result lines serves f = let (asked, is, reading) = lines_ask line read lines in serves asked reading f
+
+-- the endings that tell of no keeper
+pub not_write : Write ≡ Keeper → ⊥
+not_write e = absurd (cc)
+
+pub not_done : Done ≡ Keeper → ⊥
+not_done e = absurd (cc)
+
+pub not_read : Read ≡ Keeper → ⊥
+not_read e = absurd (cc)
+
+pub not_memory : Memory ≡ Keeper → ⊥
+not_memory e = absurd (cc)
+
+pub not_malformed : (number : ℕ) → Malformed number ≡ Keeper → ⊥
+not_malformed number e = absurd (cc)

@@ -135,7 +135,7 @@ module _ {S : Type 0} (mutates : S → Sender → Mutation → Turn → S → Ty
   any_step_causes old new (Err fault) answer (acted, inl wants) = wants_cause old new answer acted wants
   any_step_causes old new (Err fault) answer (acted, inr (is, none, same)) = as_told old new answer (Refused (fault_error fault)) is (same_later old new same, λ told. absurd (wrong_told fault told))
 
-  turns_later : (old new : S) (turns : List (Asked × Answer)) → RunsTurns mutates pulling retiring old turns new → Later old new
+  pub turns_later : (old new : S) (turns : List (Asked × Answer)) → RunsTurns mutates pulling retiring old turns new → Later old new
   turns_later old new [] same = same_later old new same
   turns_later old new (turn ∷ turns) (mid, step, rest) = later_on old mid new (any_step_causes old mid turn.0 turn.1 step).0 (turns_later mid new turns rest)
 

@@ -1,4 +1,4 @@
--- Which commands are reports.
+-- Which commands are reports, which store a command names, and that an accounts file is there.
 use Rattle.std.specs.Prelude.{◌≡◌, ℕ, List, Option, Some, None}
 use Rattle.rv_words.specs.declared.command.Command.{Command}
 use Rattle.rv_words.specs.declared.command.Command.TheVariants.{Feed, Retire, Lists, Activity, Check, Serve}
@@ -12,3 +12,17 @@ IsReportOf store (Some (Serve other options)) = ⊥
 IsReportOf store (Some (Lists other)) = other ≡ store
 IsReportOf store (Some (Activity other)) = other ≡ store
 IsReportOf store (Some (Check other)) = other ≡ store
+
+-- the words name the store
+abbrev pub IsOfStore : List ℕ → Option Command → Type 0
+IsOfStore store None = ⊥
+IsOfStore store (Some (Feed other)) = other ≡ store
+IsOfStore store (Some (Retire other group)) = other ≡ store
+IsOfStore store (Some (Serve other options)) = other ≡ store
+IsOfStore store (Some (Lists other)) = other ≡ store
+IsOfStore store (Some (Activity other)) = other ≡ store
+IsOfStore store (Some (Check other)) = other ≡ store
+
+-- there is an accounts file of the name
+abbrev pub HasFile : (List ℕ → List ℕ → Type 0) → List ℕ → Type 0
+HasFile accounts name = (file : List ℕ) × accounts name file

@@ -236,6 +236,10 @@ IsNotOpened Told Stored Holds before after (Damaged shelf key) =
 IsNotOpened Told Stored Holds before after Memory = Unit {0}
 IsNotOpened Told Stored Holds before after ending = ⊥
 
+-- Where the place tells, a store that did not open holds what it held: it was not given, or its keeper went back as it was opened.
+abbrev pub IsLeftAs : Type 0 → (Loaded → Type 0) → (Loaded → Type 0) → (Loaded → Type 0) → Type 0
+IsLeftAs Told Was Stored Holds = Told → ((held : Loaded) → Was held → Holds held) ⊎ ((held : Loaded) → Stored held → Holds held)
+
 -- At a stop a trouble with what keeps the book is told only where the place's count of faults rose, and a damage only where the
 -- place doesn't tell.
 abbrev pub KeepsSo : Type 0 → ℕ → ℕ → Ending → Type 0
@@ -261,9 +265,9 @@ module _ (Told : Type 0) (Stored Holds : Loaded → Type 0) (before after : ℕ)
     pub keeps : KeepsSo Told before after ending
     pub leaves : Leaves Told Holds before after now
 
-  abbrev pub RunsFeed : InputState → InputState → OutputState → OutputState → ℕ → Type 0
-  RunsFeed input input' output output' status =
-      (ending : Ending) × (status ≡ status_of ending) × (NotFed input input' output output' ending ⊎ HasFed input input' output output' ending)
+  abbrev pub RunsFeed : (Loaded → Type 0) → InputState → InputState → OutputState → OutputState → ℕ → Type 0
+  RunsFeed Was input input' output output' status = (ending : Ending) × (status ≡ status_of ending)
+      × ((NotFed input input' output output' ending × IsLeftAs Told Was Stored Holds) ⊎ HasFed input input' output output' ending)
 
 -- where the source tells and all its lines are of the form, P
 abbrev pub AllAsk : Option (List ℕ) → Type 0 → Type 0
@@ -302,8 +306,9 @@ module _ (Told : Type 0) (Stored Holds : Loaded → Type 0) (before after : ℕ)
     pub leaves : Leaves Told Holds before after now
 
   -- the status is that of an ending, and the run of this one request ended so
-  abbrev pub RunsOne : Asked → OutputState → OutputState → ℕ → Type 0
-  RunsOne asked output output' status = (ending : Ending) × (status ≡ status_of ending) × (NotOpened output output' ending ⊎ Replied asked output output' ending)
+  abbrev pub RunsOne : (Loaded → Type 0) → Asked → OutputState → OutputState → ℕ → Type 0
+  RunsOne Was asked output output' status = (ending : Ending) × (status ≡ status_of ending)
+      × ((NotOpened output output' ending × IsLeftAs Told Was Stored Holds) ⊎ Replied asked output output' ending)
 
 -- ---- And of a report: it is a text of the book that the store was kept as, which stays kept.
 
@@ -334,9 +339,9 @@ module _ (Told : Type 0) (Stored Holds : Loaded → Type 0) (before after : ℕ)
     pub leaves : Leaves Told Holds before after first
 
   -- the status is that of an ending, and the store did not open, or was reported so
-  abbrev pub RunsReport : (Book → List ℕ → Type 0) → OutputState → OutputState → ℕ → Type 0
-  RunsReport Tells output output' status =
-      (ending : Ending) × (status ≡ status_of ending) × (NotOpened Told Stored Holds before after output output' ending ⊎ Reported Tells output output' ending)
+  abbrev pub RunsReport : (Loaded → Type 0) → (Book → List ℕ → Type 0) → OutputState → OutputState → ℕ → Type 0
+  RunsReport Was Tells output output' status = (ending : Ending) × (status ≡ status_of ending)
+      × ((NotOpened Told Stored Holds before after output output' ending × IsLeftAs Told Was Stored Holds) ⊎ Reported Tells output output' ending)
 
 -- ---- What follows.
 
@@ -348,6 +353,7 @@ pub record IsLawfulRun (Told : Type 0) (first now : Served) : Type 0 where
   pub ids : (client : List ℕ) → act_ids client now.book ≡ range_with_len 1 (last client now.book)
   pub orders : (group : List ℕ) → IsStrictlyIncreasing (look_orders group now.book)
   pub later : first.faults ≤ now.faults
+  pub limit : first.limit ≡ 2 ^ 32 - 1 → now.limit ≡ 2 ^ 32 - 1
 
 -- Of runs where what is kept is told, and of those where it is not.
 abbrev pub BooksAreLawful : Type 0

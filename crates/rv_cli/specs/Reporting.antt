@@ -12,7 +12,7 @@ use Rattle.rv_store.specs.Opening.{MayOpen}
 use Rattle.rv_cli.specs.declared.ending.Ending.{Ending}
 use Rattle.rv_cli.specs.declared.ending.Ending.TheVariants.{Done, Write, Memory}
 use Rattle.rv_cli.specs.Texts.{status_text}
-use Rattle.rv_cli.specs.Headline.{IsNotOpened, WritesOnly}
+use Rattle.rv_cli.specs.Headline.{IsLeftAs, IsNotOpened, WritesOnly}
 
 -- what was written of a text
 abbrev pub WritesText : OutputState → OutputState → List ℕ → Ending → Type 0
@@ -38,7 +38,8 @@ module _ {P : Type 0} (tells : P → Type 0) (holds : P → List ℕ → Loaded 
 
   abbrev pub ChecksStore : List ℕ → P → Result ℕ Ending → P → Type 0
   ChecksStore store old (Ok entries) new = WasSound store old new entries
-  ChecksStore store old (Err ending) new = IsNotOpened (tells new) (OpensAs store (holds old store)) (holds new store) (faults old) (faults new) ending
+  ChecksStore store old (Err ending) new =
+      IsNotOpened (tells new) (OpensAs store (holds old store)) (holds new store) (faults old) (faults new) ending × IsLeftAs (tells new) (holds old store) (OpensAs store (holds old store)) (holds new store)
 
   -- the same of a keeper that is out, whose count of faults is 0, and which came back
   module _ {K : Type 0} (kept_tells : K → Type 0) (kept_holds : K → Loaded → Type 0) (kept_faults : K → ℕ) where
@@ -54,4 +55,4 @@ module _ {P : Type 0} (tells : P → Type 0) (holds : P → List ℕ → Loaded 
 
     abbrev pub ChecksKept : List ℕ → K → P → Result ℕ Ending → P → Type 0
     ChecksKept store kept old (Ok entries) new = kept_faults kept ≡ 0 → KeptSound store kept old new entries
-    ChecksKept store kept old (Err ending) new = kept_faults kept ≡ 0 → (tells new → tells old) × IsNotOpened (tells new) (kept_holds kept) (holds new store) (faults old) (faults new) ending
+    ChecksKept store kept old (Err ending) new = kept_faults kept ≡ 0 → (tells new → tells old) × IsNotOpened (tells new) (kept_holds kept) (holds new store) (faults old) (faults new) ending × (tells new → (held : Loaded) → kept_holds kept held → holds new store held)

@@ -1,8 +1,10 @@
--- Of a sink that fails no more: it goes on so, and a write failed only where memory was refused to it.
+-- Of a source, a sink, a keeper and a place that fail no more: they go on so, and no call of them failed; but of a sink where memory was
+-- refused to it.
 use Rattle.std.specs.Prelude.{ℕ, ◌≡◌, Result, Ok, Err}
 use Rattle.rv_base.specs.Causes.{Rose}
+use Rattle.rv_desk.specs.Seated.{Seated}
 use Rattle.rv_cli.specs.declared.ending.Ending.{Ending}
-use Rattle.rv_cli.specs.declared.ending.Ending.TheVariants.{Read, Write}
+use Rattle.rv_cli.specs.declared.ending.Ending.TheVariants.{Keeper, Read, Write}
 use Rattle.rv_cli.specs.declared.serve_ending.ServeEnding.{ServeEnding}
 use Rattle.rv_cli.specs.declared.serve_ending.ServeEnding.TheVariants as serves
 
@@ -25,3 +27,35 @@ pub record ServeIsSteady (steady : Type 0) (before now : ℕ) (ending : ServeEnd
 abbrev pub LineIsSteady : {T K : Type 0} → Type 0 → ℕ → ℕ → Result T (Ending × K) → Type 0
 LineIsSteady steady before now (Ok going) = steady
 LineIsSteady steady before now (Err ended) = OutputIsSteady steady before now ended.0
+
+-- a keeper that fails no more goes on so, its count of faults stays, and it is not told to have failed
+pub record KeeperIsSteady {K : Type 0} (fails_no_more : K → Type 0) (faults : K → ℕ) (before : K) (ended : Ending × K) : Type 0 where
+  pub goes_on : fails_no_more ended.1
+  pub still : faults ended.1 ≡ faults before
+  pub no_fault : ended.0 ≡ Keeper → ⊥
+
+-- the same after a line
+abbrev pub LineKeepsSteady : {K : Type 0} → (K → Type 0) → (K → ℕ) → K → Result (Seated K) (Ending × K) → Type 0
+LineKeepsSteady fails_no_more faults before (Ok desk) = fails_no_more desk.keeper × (faults desk.keeper ≡ faults before)
+LineKeepsSteady fails_no_more faults before (Err ended) = KeeperIsSteady fails_no_more faults before ended
+
+-- the same of a store's desk, whose keeper is new, or of why there is none
+abbrev pub DeskIsSteady : {K : Type 0} → (K → Type 0) → (K → ℕ) → Result (Seated K) Ending → Type 0
+DeskIsSteady fails_no_more faults (Ok desk) = fails_no_more desk.keeper × (faults desk.keeper ≡ 0)
+DeskIsSteady fails_no_more faults (Err ending) = ending ≡ Keeper → ⊥
+
+-- a place that fails no more goes on so, its count of faults stays, and the status is not that of a fault of it
+pub record PlaceIsSteady {P : Type 0} (fails_no_more : P → Type 0) (faults : P → ℕ) (old new : P) (status : ℕ) : Type 0 where
+  pub goes_on : fails_no_more new
+  pub still : faults new ≡ faults old
+  pub no_fault : status ≡ 4 → ⊥
+
+-- the same of a check, whose keeper went back
+abbrev pub CheckIsSteady : Result ℕ Ending → Type 0
+CheckIsSteady (Ok entries) = Unit {0}
+CheckIsSteady (Err ending) = ending ≡ Keeper → ⊥
+
+-- and of the accounts, where their file is there: they are not wanting for a fault
+abbrev pub AccountsAreSteady : {T : Type 0} → Result T ServeEnding → Type 0
+AccountsAreSteady (Ok accounts) = Unit {0}
+AccountsAreSteady (Err ending) = ending ≡ serves.NotOpened Keeper → ⊥

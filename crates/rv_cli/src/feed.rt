@@ -1,6 +1,6 @@
 // Lines are answered until something ends it.
 ghost use Rattle.rv_cli.specs.Feeding.{FeedsWith, LastLine};
-ghost use Rattle.rv_cli.specs.Steadiness.{InputIsSteady, OutputIsSteady};
+ghost use Rattle.rv_cli.specs.Steadiness.{InputIsSteady, KeeperIsSteady, OutputIsSteady};
 
 use crate::ending::Ending;
 use crate::line::take_line;
@@ -26,6 +26,7 @@ fn take_last<K: Keeper, O: Sink>(
 ) -> (Ending, K)
     ensures takes { LastLine K.tells K.holds K.faults desk line.now number result (O.state out.old) (O.state out.new) }
     ensures steady { O.fails_no_more out.old → OutputIsSteady (O.fails_no_more out.new) (O.state out.old).refusals (O.state out.new).refusals result.0 }
+    ensures steady_keeper { K.fails_no_more desk.keeper → KeeperIsSteady K.fails_no_more K.faults desk.keeper result }
 {
     match take_line(alloc, desk, line, number, out) {
         Ok(desk) => (Ending::Done, desk.close()),
@@ -43,6 +44,7 @@ pub(crate) fn feed<K: Keeper, S: Source, O: Sink>(
     ensures feeds { FeedsWith K.tells K.holds K.faults desk (S.state input.old) (S.state input.new) (O.state out.old) (O.state out.new) result }
     ensures steady_input { S.fails_no_more input.old → InputIsSteady (S.fails_no_more input.new) result.0 }
     ensures steady_output { O.fails_no_more out.old → OutputIsSteady (O.fails_no_more out.new) (O.state out.old).refusals (O.state out.new).refusals result.0 }
+    ensures steady_keeper { K.fails_no_more desk.keeper → KeeperIsSteady K.fails_no_more K.faults desk.keeper result }
 {
     let mut desk = desk;
     let mut reader = LineReader::new(alloc);

@@ -4,7 +4,7 @@ ghost use Rattle.rv_answering.specs.declared.line.Line.TheVariants.{Asks};
 ghost use Rattle.rv_answering.specs.Reads.{IsReading};
 ghost use Rattle.rv_answering.specs.Requests.{Asked};
 ghost use Rattle.rv_cli.specs.Feeding.{ReopensOrNot, ServesOrNot, TakesLine};
-ghost use Rattle.rv_cli.specs.Steadiness.{LineIsSteady};
+ghost use Rattle.rv_cli.specs.Steadiness.{LineIsSteady, LineKeepsSteady};
 
 use crate::ending::Ending;
 use crate::feed::BOOK_LIMIT;
@@ -23,6 +23,7 @@ fn serve<K: Keeper, O: Sink>(
 ) -> Result<Desk<K>, (Ending, K)>
     ensures serves { (asked : Asked) → IsReading asked read → ServesOrNot K.tells K.holds K.faults desk asked result (O.state out.old) (O.state out.new) }
     ensures steady { O.fails_no_more out.old → LineIsSteady (O.fails_no_more out.new) (O.state out.old).refusals (O.state out.new).refusals result }
+    ensures steady_keeper { (asked : Asked) → IsReading asked read → K.fails_no_more desk.keeper → LineKeepsSteady K.fails_no_more K.faults desk.keeper result }
 {
     let mut desk = desk;
     let answer = serve_asked(&mut desk, read);
@@ -34,7 +35,8 @@ fn serve<K: Keeper, O: Sink>(
 
 // Closes the desk, and opens it again from its keeper.
 fn reopen<K: Keeper>(alloc: Global, desk: Desk<K>) -> Result<Desk<K>, (Ending, K)>
-    ensures { ReopensOrNot K.tells K.holds K.faults desk result }
+    ensures reopens { ReopensOrNot K.tells K.holds K.faults desk result }
+    ensures steady_keeper { K.fails_no_more desk.keeper → LineKeepsSteady K.fails_no_more K.faults desk.keeper result }
 {
     match Desk::open(alloc, desk.close(), BOOK_LIMIT) {
         Ok(opened) => Ok(opened),
@@ -53,6 +55,7 @@ pub(crate) fn take_line<K: Keeper, O: Sink>(
 ) -> Result<Desk<K>, (Ending, K)>
     ensures takes { TakesLine K.tells K.holds K.faults desk line.now number result (O.state out.old) (O.state out.new) }
     ensures steady { O.fails_no_more out.old → LineIsSteady (O.fails_no_more out.new) (O.state out.old).refusals (O.state out.new).refusals result }
+    ensures steady_keeper { K.fails_no_more desk.keeper → LineKeepsSteady K.fails_no_more K.faults desk.keeper result }
 {
     match line_of(alloc, line) {
         Ok(Some(Line::Asks(read))) => serve(desk, read, out),

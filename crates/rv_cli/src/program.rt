@@ -1,17 +1,18 @@
 // The program.
-ghost use Rattle.std.specs.Prelude.{◌≡◌, ◌≢◌, ◌⊎◌, ℕ, List, map, string_bytes, Some, None, Ok, codes};
+ghost use Rattle.std.specs.Prelude.{◌≡◌, ◌≢◌, ◌≤◌, ◌⊎◌, ℕ, List, length, map, string_bytes, Some, None, Ok, codes};
 ghost use Rattle.rv_base.specs.Causes.{Rose};
 ghost use Rattle.rv_words.specs.Words.{command_in};
 ghost use Rattle.rv_words.specs.declared.command.Command.TheVariants as commands;
 ghost use Rattle.rv_words.specs.declared.serve_options.ServeOptions.{ServeOptions};
-ghost use Rattle.rv_keeper.specs.Stores.{OpensAs};
+ghost use Rattle.rv_keeper.specs.Keeping.{Follows};
+ghost use Rattle.rv_keeper.specs.Stores.{OpensAs, OthersStay};
 ghost use Rattle.rv_answering.specs.declared.request.Request.TheVariants.{Retire};
 ghost use Rattle.rv_cli.specs.Texts.{usage_text, status_of, status_text};
 ghost use Rattle.rv_cli.specs.Headline.{RunsFeed, RunsOne, RunsReport, TellsActivity, TellsLists, TellsSound, WritesOnly, AllAsk, IsOther, KeptSound};
-ghost use Rattle.rv_cli.specs.Commands.{IsReportOf};
+ghost use Rattle.rv_cli.specs.Commands.{HasFile, IsOfStore, IsReportOf};
 ghost use Rattle.rv_cli.specs.Serving.{NetServes, RunsServe, Unserved};
 ghost use Rattle.rv_cli.specs.Replying.{Retired, WritesReply};
-ghost use Rattle.rv_cli.specs.Steadiness.{OutputIsSteady};
+ghost use Rattle.rv_cli.specs.Steadiness.{OutputIsSteady, PlaceIsSteady};
 ghost use Rattle.rv_cli.specs.declared.ending.Ending.TheVariants as endings;
 ghost use Rattle.rv_workers.specs.Serving.{IsServed, ServesTogether};
 
@@ -42,7 +43,7 @@ pub fn run_feed<P: Place, S: Source, O: Sink>(
 ) -> u8
     // What is written are the answers of a run from the book that the store kept over the lines that were read, and the store keeps
     // the book that the run leaves.
-    ensures feed { RunsFeed (P.tells place.new) (OpensAs store.now (P.holds place.old store.now)) (P.holds place.new store.now) (P.faults place.old) (P.faults place.new)
+    ensures feed { RunsFeed (P.tells place.new) (OpensAs store.now (P.holds place.old store.now)) (P.holds place.new store.now) (P.faults place.old) (P.faults place.new) (P.holds place.old store.now)
         (S.state input.old) (S.state input.new) (O.state out.old) (O.state out.new) result }
 
     // Where all lines are of the form, the status is none of a line that isn't.
@@ -54,6 +55,10 @@ pub fn run_feed<P: Place, S: Source, O: Sink>(
     // Over an input and an output that fail no more it is none of the faults, but for want of memory in the output.
     ensures steady_input { S.fails_no_more input.old → S.fails_no_more input.new × (result ≢ 6) }
     ensures steady_output { O.fails_no_more out.old → O.fails_no_more out.new × (Rose (O.state out.old).refusals (O.state out.new).refusals ⊎ (result ≢ 7)) }
+
+    // Stores and files of other names are as they were. Over a place that fails no more the status is no fault of it.
+    ensures others { P.tells place.new → OthersStay P.holds P.is_out P.has P.accounts store.now place.old place.new }
+    ensures steady_place { P.fails_no_more place.old → PlaceIsSteady P.fails_no_more P.faults place.old place.new result }
 {
     match open_desk(alloc, place, store) {
         Ok(desk) => {
@@ -68,7 +73,8 @@ pub fn run_feed<P: Place, S: Source, O: Sink>(
 
 // The answer of a desk to a retirement, with its keeper.
 fn retired<K: Keeper>(desk: Desk<K>, group: &Id) -> (Answer, K)
-    ensures { Retired K.tells K.holds K.faults desk group.now result }
+    ensures retired { Retired K.tells K.holds K.faults desk group.now result }
+    ensures steady { K.fails_no_more desk.keeper → K.fails_no_more result.1 × (K.faults result.1 ≡ K.faults desk.keeper) }
 {
     let mut desk = desk;
     let answer = retire_group(&mut desk, group);
@@ -95,12 +101,14 @@ pub fn run_retire<P: Place, O: Sink>(
     out: &mut O,
 ) -> u8
     // What is written is the answer at the book that the store kept, and the store keeps the book that it leaves.
-    ensures retire { RunsOne (P.tells place.new) (OpensAs store.now (P.holds place.old store.now)) (P.holds place.new store.now) (P.faults place.old) (P.faults place.new)
+    ensures retire { RunsOne (P.tells place.new) (OpensAs store.now (P.holds place.old store.now)) (P.holds place.new store.now) (P.faults place.old) (P.faults place.new) (P.holds place.old store.now)
         (Ok (Retire group.now)) (O.state out.old) (O.state out.new) result }
 
     // Where the place tells, and the store kept a lawful book within the limit, the status is no damage.
     ensures sound { P.tells place.new → KeptSound (OpensAs store.now (P.holds place.old store.now)) → result ≢ 5 }
     ensures steady { O.fails_no_more out.old → O.fails_no_more out.new × (Rose (O.state out.old).refusals (O.state out.new).refusals ⊎ (result ≢ 7)) }
+    ensures others { P.tells place.new → OthersStay P.holds P.is_out P.has P.accounts store.now place.old place.new }
+    ensures steady_place { P.fails_no_more place.old → PlaceIsSteady P.fails_no_more P.faults place.old place.new result }
 {
     match open_desk(alloc, place, store) {
         Ok(desk) => {
@@ -168,12 +176,12 @@ where
     // What is written are the answers of a run from the book that the store kept over the lines that were read, and the store keeps
     // the book that the run leaves; or memory was refused in reading the words.
     ensures feed { (store : List ℕ) → command_in (map string_bytes words.now) ≡ Some (commands.Feed store)
-        → RunsFeed (P.tells place.new) (OpensAs store (P.holds place.old store)) (P.holds place.new store) (P.faults place.old) (P.faults place.new) (S.state input.old) (S.state input.new) (O.state out.old) (O.state out.new) result
+        → RunsFeed (P.tells place.new) (OpensAs store (P.holds place.old store)) (P.holds place.new store) (P.faults place.old) (P.faults place.new) (P.holds place.old store) (S.state input.old) (S.state input.new) (O.state out.old) (O.state out.new) result
         ⊎ ((result ≡ 8) × (input.new ≡ input.old) × (place.new ≡ place.old) × WritesOnly (O.state out.old) (O.state out.new) (status_text endings.Memory)) }
 
     // And so over the one line that retires the group.
     ensures retire { (store group : List ℕ) → command_in (map string_bytes words.now) ≡ Some (commands.Retire store group)
-        → RunsOne (P.tells place.new) (OpensAs store (P.holds place.old store)) (P.holds place.new store) (P.faults place.old) (P.faults place.new) (Ok (Retire group)) (O.state out.old) (O.state out.new) result
+        → RunsOne (P.tells place.new) (OpensAs store (P.holds place.old store)) (P.holds place.new store) (P.faults place.old) (P.faults place.new) (P.holds place.old store) (Ok (Retire group)) (O.state out.old) (O.state out.new) result
         ⊎ ((result ≡ 8) × (place.new ≡ place.old) × WritesOnly (O.state out.old) (O.state out.new) (status_text endings.Memory)) }
 
     // What is written to connections are the answers to their requests, over turns of seats at one book from the one that the store
@@ -181,8 +189,8 @@ where
     ensures serve { (store : List ℕ) (options : ServeOptions) → command_in (map string_bytes words.now) ≡ Some (commands.Serve store options)
         → RunsServe P.Kept.faults (P.tells place.new) (P.accounts place.old options.accounts) (P.holds place.old store) (OpensAs store (P.holds place.old store)) (P.holds place.new store) (P.faults place.old) (P.faults place.new)
         (λ accounts first now. NetServes (N.tells net.new) N.Listen.tells
-        (λ given returned. ServesTogether P.Kept.faults P.Kept.tells
-        (λ view listener view' listener'. IsServed P.Kept.faults accounts N.Listen.In.state N.Listen.Out.state N.Listen.In.fails_no_more N.Listen.Out.fails_no_more N.Listen.tells N.Listen.to_come N.Listen.came_back N.Listen.out N.Listen.ends view listener view' listener')
+        (λ given returned. ServesTogether P.Kept.faults (Follows P.Kept.faults P.Kept.tells P.Kept.fails_no_more)
+        (λ view listener view' listener'. IsServed P.Kept.faults P.Kept.fails_no_more accounts N.Listen.In.state N.Listen.Out.state N.Listen.In.fails_no_more N.Listen.Out.fails_no_more N.Listen.tells N.Listen.to_come N.Listen.came_back N.Listen.out N.Listen.ends view listener view' listener')
         first given now returned)
         options.workers (N.to_give net.old) (N.to_give net.new) (N.came_back net.old) (N.came_back net.new))
         (N.faults net.old) (N.faults net.new) (O.state out.old) (O.state out.new) result
@@ -198,13 +206,13 @@ where
 
     // A report is a text of the book that the store kept, which it still keeps.
     ensures lists { (store : List ℕ) → command_in (map string_bytes words.now) ≡ Some (commands.Lists store)
-        → RunsReport (P.tells place.new) (OpensAs store (P.holds place.old store)) (P.holds place.new store) (P.faults place.old) (P.faults place.new) TellsLists (O.state out.old) (O.state out.new) result
+        → RunsReport (P.tells place.new) (OpensAs store (P.holds place.old store)) (P.holds place.new store) (P.faults place.old) (P.faults place.new) (P.holds place.old store) TellsLists (O.state out.old) (O.state out.new) result
         ⊎ ((result ≡ 8) × (place.new ≡ place.old) × WritesOnly (O.state out.old) (O.state out.new) (status_text endings.Memory)) }
     ensures activity { (store : List ℕ) → command_in (map string_bytes words.now) ≡ Some (commands.Activity store)
-        → RunsReport (P.tells place.new) (OpensAs store (P.holds place.old store)) (P.holds place.new store) (P.faults place.old) (P.faults place.new) TellsActivity (O.state out.old) (O.state out.new) result
+        → RunsReport (P.tells place.new) (OpensAs store (P.holds place.old store)) (P.holds place.new store) (P.faults place.old) (P.faults place.new) (P.holds place.old store) TellsActivity (O.state out.old) (O.state out.new) result
         ⊎ ((result ≡ 8) × (place.new ≡ place.old) × WritesOnly (O.state out.old) (O.state out.new) (status_text endings.Memory)) }
     ensures check { (store : List ℕ) → command_in (map string_bytes words.now) ≡ Some (commands.Check store)
-        → RunsReport (P.tells place.new) (OpensAs store (P.holds place.old store)) (P.holds place.new store) (P.faults place.old) (P.faults place.new) TellsSound (O.state out.old) (O.state out.new) result
+        → RunsReport (P.tells place.new) (OpensAs store (P.holds place.old store)) (P.holds place.new store) (P.faults place.old) (P.faults place.new) (P.holds place.old store) TellsSound (O.state out.old) (O.state out.new) result
         ⊎ ((result ≡ 8) × (place.new ≡ place.old) × WritesOnly (O.state out.old) (O.state out.new) (status_text endings.Memory)) }
 
     // A fault is told exactly where one rose, but for a write of a status's own text that failed.
@@ -250,6 +258,19 @@ where
     // Over an input and an output that fail no more it is none of the faults, but for want of memory in the output.
     ensures steady_input { S.fails_no_more input.old → S.fails_no_more input.new × (result ≢ 6) }
     ensures steady_output { O.fails_no_more out.old → O.fails_no_more out.new × (Rose (O.state out.old).refusals (O.state out.new).refusals ⊎ (result ≢ 7)) }
+
+    // Over a place and a net that fail no more it is no fault of theirs, where the store of a report and the accounts file are there, and
+    // there are as many listeners as workers.
+    ensures steady_feed { (store : List ℕ) → command_in (map string_bytes words.now) ≡ Some (commands.Feed store) → P.fails_no_more place.old → PlaceIsSteady P.fails_no_more P.faults place.old place.new result }
+    ensures steady_retire { (store group : List ℕ) → command_in (map string_bytes words.now) ≡ Some (commands.Retire store group) → P.fails_no_more place.old → PlaceIsSteady P.fails_no_more P.faults place.old place.new result }
+    ensures steady_reports { (store : List ℕ) → IsReportOf store (command_in (map string_bytes words.now)) → P.fails_no_more place.old → P.has place.old store → PlaceIsSteady P.fails_no_more P.faults place.old place.new result }
+    ensures steady_serve { (store : List ℕ) (options : ServeOptions) → command_in (map string_bytes words.now) ≡ Some (commands.Serve store options)
+        → P.fails_no_more place.old → HasFile (P.accounts place.old) options.accounts → P.fails_no_more place.new × (result ≢ 4) }
+    ensures steady_net { (store : List ℕ) (options : ServeOptions) → command_in (map string_bytes words.now) ≡ Some (commands.Serve store options)
+        → N.fails_no_more net.old → options.workers ≤ length (N.to_give net.old) → result ≢ 9 }
+
+    // The stores that the words do not name are as they were, and so are the accounts files.
+    ensures others { (store : List ℕ) → IsOfStore store (command_in (map string_bytes words.now)) → P.tells place.new → OthersStay P.holds P.is_out P.has P.accounts store place.old place.new }
 {
     match command_of(alloc, words) {
         Ok(Some(Command::Feed { store })) => run_feed(alloc, place, store.as_str(), input, out),

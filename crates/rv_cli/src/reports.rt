@@ -1,10 +1,10 @@
 // The reports of a store.
 ghost use Rattle.std.specs.Prelude.{◌≡◌, ◌≢◌, ◌⊎◌, ◌++◌, codes, decimal};
 ghost use Rattle.rv_base.specs.Causes.{Rose};
-ghost use Rattle.rv_keeper.specs.Stores.{OpensAs};
+ghost use Rattle.rv_keeper.specs.Stores.{OpensAs, OthersStay};
 ghost use Rattle.rv_cli.specs.Headline.{KeptSound, RunsReport, TellsActivity, TellsLists, TellsSound};
 ghost use Rattle.rv_cli.specs.Reporting.{WritesMade, WritesText};
-ghost use Rattle.rv_cli.specs.Steadiness.{OutputIsSteady};
+ghost use Rattle.rv_cli.specs.Steadiness.{OutputIsSteady, PlaceIsSteady};
 
 use crate::ending::Ending;
 use crate::store::{check_store, open_existing_desk, refuse_opening};
@@ -53,7 +53,7 @@ fn report_sound<O: Sink>(out: &mut O, entries: u32) -> Ending
 /// Writes the lists of the book that the store keeps, as [`lists_text`](rv_report::lists_text): the command `lists STORE`. The
 /// status is 0, 4, 5, 7 or 8; it is 4 where the store isn't there, and none is made. The store stays as it is.
 pub fn run_lists<P: Place, O: Sink>(alloc: Global, place: &mut P, store: &str, out: &mut O) -> u8
-    ensures report { RunsReport (P.tells place.new) (OpensAs store.now (P.holds place.old store.now)) (P.holds place.new store.now) (P.faults place.old) (P.faults place.new)
+    ensures report { RunsReport (P.tells place.new) (OpensAs store.now (P.holds place.old store.now)) (P.holds place.new store.now) (P.faults place.old) (P.faults place.new) (P.holds place.old store.now)
         TellsLists (O.state out.old) (O.state out.new) result }
 
     // Where the place tells, and the store kept a lawful book within the limit, the status is no damage.
@@ -61,6 +61,8 @@ pub fn run_lists<P: Place, O: Sink>(alloc: Global, place: &mut P, store: &str, o
 
     // Where the place tells, status 0 comes only of a store that is there.
     ensures absent { P.tells place.new → result ≡ 0 → P.has place.old store.now }
+    ensures others { P.tells place.new → OthersStay P.holds P.is_out P.has P.accounts store.now place.old place.new }
+    ensures steady_place { P.fails_no_more place.old → P.has place.old store.now → PlaceIsSteady P.fails_no_more P.faults place.old place.new result }
     ensures steady { O.fails_no_more out.old → O.fails_no_more out.new × (Rose (O.state out.old).refusals (O.state out.new).refusals ⊎ (result ≢ 7)) }
 {
     match open_existing_desk(alloc, place, store) {
@@ -76,10 +78,12 @@ pub fn run_lists<P: Place, O: Sink>(alloc: Global, place: &mut P, store: &str, o
 /// Writes who did how much in the book that the store keeps, as [`activity_text`](rv_report::activity_text): the command
 /// `activity STORE`. The status is 0, 4, 5, 7 or 8; it is 4 where the store isn't there, and none is made. The store stays as it is.
 pub fn run_activity<P: Place, O: Sink>(alloc: Global, place: &mut P, store: &str, out: &mut O) -> u8
-    ensures report { RunsReport (P.tells place.new) (OpensAs store.now (P.holds place.old store.now)) (P.holds place.new store.now) (P.faults place.old) (P.faults place.new)
+    ensures report { RunsReport (P.tells place.new) (OpensAs store.now (P.holds place.old store.now)) (P.holds place.new store.now) (P.faults place.old) (P.faults place.new) (P.holds place.old store.now)
         TellsActivity (O.state out.old) (O.state out.new) result }
     ensures sound { P.tells place.new → KeptSound (OpensAs store.now (P.holds place.old store.now)) → result ≢ 5 }
     ensures absent { P.tells place.new → result ≡ 0 → P.has place.old store.now }
+    ensures others { P.tells place.new → OthersStay P.holds P.is_out P.has P.accounts store.now place.old place.new }
+    ensures steady_place { P.fails_no_more place.old → P.has place.old store.now → PlaceIsSteady P.fails_no_more P.faults place.old place.new result }
     ensures steady { O.fails_no_more out.old → O.fails_no_more out.new × (Rose (O.state out.old).refusals (O.state out.new).refusals ⊎ (result ≢ 7)) }
 {
     match open_existing_desk(alloc, place, store) {
@@ -95,10 +99,12 @@ pub fn run_activity<P: Place, O: Sink>(alloc: Global, place: &mut P, store: &str
 /// Writes that the store is sound, with the number of its book's entries: the command `check STORE`. The status is 0, 4, 5, 7 or 8,
 /// where 4 also tells that the store isn't there, and none is made, and 5 what is wrong first. The store stays as it is.
 pub fn run_check<P: Place, O: Sink>(alloc: Global, place: &mut P, store: &str, out: &mut O) -> u8
-    ensures report { RunsReport (P.tells place.new) (OpensAs store.now (P.holds place.old store.now)) (P.holds place.new store.now) (P.faults place.old) (P.faults place.new)
+    ensures report { RunsReport (P.tells place.new) (OpensAs store.now (P.holds place.old store.now)) (P.holds place.new store.now) (P.faults place.old) (P.faults place.new) (P.holds place.old store.now)
         TellsSound (O.state out.old) (O.state out.new) result }
     ensures sound { P.tells place.new → KeptSound (OpensAs store.now (P.holds place.old store.now)) → result ≢ 5 }
     ensures absent { P.tells place.new → result ≡ 0 → P.has place.old store.now }
+    ensures others { P.tells place.new → OthersStay P.holds P.is_out P.has P.accounts store.now place.old place.new }
+    ensures steady_place { P.fails_no_more place.old → P.has place.old store.now → PlaceIsSteady P.fails_no_more P.faults place.old place.new result }
     ensures steady { O.fails_no_more out.old → O.fails_no_more out.new × (Rose (O.state out.old).refusals (O.state out.new).refusals ⊎ (result ≢ 7)) }
 {
     match check_store(alloc, place, store) {

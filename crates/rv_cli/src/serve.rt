@@ -1,11 +1,14 @@
 // The command `serve`: the accounts are read, the store is opened, and its desk serves the connections of a net.
-ghost use Rattle.std.specs.Prelude.{◌≡◌, ◌≢◌, ◌⊎◌, None, Some, IfErr};
+ghost use Rattle.std.specs.Prelude.{◌≡◌, ◌≢◌, ◌≤◌, ◌⊎◌, Err, None, Some, IfErr, length};
 ghost use Rattle.rv_base.specs.Causes.{Rose};
-ghost use Rattle.rv_keeper.specs.Stores.{OpensAs};
+ghost use Rattle.rv_keeper.specs.Keeping.{Follows};
+ghost use Rattle.rv_keeper.specs.Stores.{OpensAs, OthersStay, Stays};
+ghost use Rattle.rv_net.specs.declared.net_fault.NetFault.TheVariants as nets;
 ghost use Rattle.rv_cli.specs.Headline.{KeptSound, WritesOnly};
 ghost use Rattle.rv_cli.specs.Serving.{NetServes, RunsServe, Unserved};
 ghost use Rattle.rv_cli.specs.ServingSteps.{AccountsRead, NetServed, TellsCount, TellsFile, TellsServed, count_text};
-ghost use Rattle.rv_cli.specs.Steadiness.{ServeIsSteady};
+ghost use Rattle.rv_cli.specs.Commands.{HasFile};
+ghost use Rattle.rv_cli.specs.Steadiness.{AccountsAreSteady, ServeIsSteady};
 ghost use Rattle.rv_cli.specs.Texts.{serve_status, serve_text};
 ghost use Rattle.rv_workers.specs.Serving.{IsServed, ServesTogether};
 
@@ -38,7 +41,9 @@ fn accounts_in(alloc: Global, bytes: &Bytes) -> Result<Accounts, ServeEnding>
 
 // The accounts of the file of this name; or why there are none.
 fn accounts_of<P: Place>(alloc: Global, place: &mut P, name: &str) -> Result<Accounts, ServeEnding>
-    ensures { AccountsRead P.tells P.holds P.accounts P.faults name.now place.old result place.new }
+    ensures read { AccountsRead P.tells P.holds P.accounts P.faults name.now place.old result place.new }
+    ensures stays { P.tells place.new → Stays P.holds P.is_out P.has P.accounts place.old place.new }
+    ensures steady { P.fails_no_more place.old → HasFile (P.accounts place.old) name.now → P.fails_no_more place.new × AccountsAreSteady result }
 {
     match place.read_accounts(name) {
         Ok(bytes) => accounts_in(alloc, &bytes),
@@ -62,12 +67,14 @@ where
     <N::Listen as Listen>::Out: Send,
     requires { desk.doubt ≡ None }
     ensures serves { NetServed (N.tells net.new) K.tells N.Listen.tells
-        (λ given returned. ServesTogether K.faults K.tells
-        (λ view listener view' listener'. IsServed K.faults accounts.now N.Listen.In.state N.Listen.Out.state N.Listen.In.fails_no_more N.Listen.Out.fails_no_more N.Listen.tells N.Listen.to_come N.Listen.came_back N.Listen.out N.Listen.ends view listener view' listener')
+        (λ given returned. ServesTogether K.faults (Follows K.faults K.tells K.fails_no_more)
+        (λ view listener view' listener'. IsServed K.faults K.fails_no_more accounts.now N.Listen.In.state N.Listen.Out.state N.Listen.In.fails_no_more N.Listen.Out.fails_no_more N.Listen.tells N.Listen.to_come N.Listen.came_back N.Listen.out N.Listen.ends view listener view' listener')
         desk given result.1 returned)
         options.now.workers (N.to_give net.old) (N.to_give net.new) (N.came_back net.old) (N.came_back net.new) (N.faults net.old) (N.faults net.new) desk result.1 result.0 }
     ensures unserved { IfErr result.0 (λ fault. N.tells net.new → Unserved (N.to_give net.old) (N.to_give net.new) (N.came_back net.old) (N.came_back net.new)) }
     ensures wanted { N.tells net.new → N.wanted net.new ≡ Some (record { port = options.now.port; count = options.now.workers; most = options.now.connections }) }
+    ensures steady { K.fails_no_more desk.keeper → K.fails_no_more result.1.keeper }
+    ensures steady_net { N.fails_no_more net.old → options.now.workers ≤ length (N.to_give net.old) → result.0 ≢ Err nets.Failed }
 {
     let listeners = match net.listen(options.port, options.workers, options.connections) {
         Ok(listeners) => listeners.into_vec(),
@@ -132,14 +139,17 @@ where
     <N::Listen as Listen>::Out: Send,
     ensures serve { RunsServe P.Kept.faults (P.tells place.new) (P.accounts place.old options.now.accounts) (P.holds place.old store.now) (OpensAs store.now (P.holds place.old store.now)) (P.holds place.new store.now) (P.faults place.old) (P.faults place.new)
         (λ accounts first now. NetServes (N.tells net.new) N.Listen.tells
-        (λ given returned. ServesTogether P.Kept.faults P.Kept.tells
-        (λ view listener view' listener'. IsServed P.Kept.faults accounts N.Listen.In.state N.Listen.Out.state N.Listen.In.fails_no_more N.Listen.Out.fails_no_more N.Listen.tells N.Listen.to_come N.Listen.came_back N.Listen.out N.Listen.ends view listener view' listener')
+        (λ given returned. ServesTogether P.Kept.faults (Follows P.Kept.faults P.Kept.tells P.Kept.fails_no_more)
+        (λ view listener view' listener'. IsServed P.Kept.faults P.Kept.fails_no_more accounts N.Listen.In.state N.Listen.Out.state N.Listen.In.fails_no_more N.Listen.Out.fails_no_more N.Listen.tells N.Listen.to_come N.Listen.came_back N.Listen.out N.Listen.ends view listener view' listener')
         first given now returned)
         options.now.workers (N.to_give net.old) (N.to_give net.new) (N.came_back net.old) (N.came_back net.new))
         (N.faults net.old) (N.faults net.new) (O.state out.old) (O.state out.new) result }
     ensures unserved { (net.new ≡ net.old) ⊎ (result ≡ 0) ⊎ (result ≡ 7) ⊎ (N.tells net.new → Unserved (N.to_give net.old) (N.to_give net.new) (N.came_back net.old) (N.came_back net.new)) }
     ensures wanted { (net.new ≡ net.old) ⊎ (N.tells net.new → N.wanted net.new ≡ Some (record { port = options.now.port; count = options.now.workers; most = options.now.connections })) }
     ensures steady { O.fails_no_more out.old → O.fails_no_more out.new × (Rose (O.state out.old).refusals (O.state out.new).refusals ⊎ (result ≢ 7)) }
+    ensures others { P.tells place.new → OthersStay P.holds P.is_out P.has P.accounts store.now place.old place.new }
+    ensures steady_place { P.fails_no_more place.old → HasFile (P.accounts place.old) options.now.accounts → P.fails_no_more place.new × (result ≢ 4) }
+    ensures steady_net { N.fails_no_more net.old → options.now.workers ≤ length (N.to_give net.old) → result ≢ 9 }
 {
     let accounts = match accounts_of(alloc, place, options.accounts.as_str()) {
         Ok(accounts) => accounts,
@@ -176,8 +186,8 @@ where
     // and the store keeps the book that they leave.
     ensures serve { RunsServe P.Kept.faults (P.tells place.new) (P.accounts place.old options.now.accounts) (P.holds place.old store.now) (OpensAs store.now (P.holds place.old store.now)) (P.holds place.new store.now) (P.faults place.old) (P.faults place.new)
         (λ accounts first now. NetServes (N.tells net.new) N.Listen.tells
-        (λ given returned. ServesTogether P.Kept.faults P.Kept.tells
-        (λ view listener view' listener'. IsServed P.Kept.faults accounts N.Listen.In.state N.Listen.Out.state N.Listen.In.fails_no_more N.Listen.Out.fails_no_more N.Listen.tells N.Listen.to_come N.Listen.came_back N.Listen.out N.Listen.ends view listener view' listener')
+        (λ given returned. ServesTogether P.Kept.faults (Follows P.Kept.faults P.Kept.tells P.Kept.fails_no_more)
+        (λ view listener view' listener'. IsServed P.Kept.faults P.Kept.fails_no_more accounts N.Listen.In.state N.Listen.Out.state N.Listen.In.fails_no_more N.Listen.Out.fails_no_more N.Listen.tells N.Listen.to_come N.Listen.came_back N.Listen.out N.Listen.ends view listener view' listener')
         first given now returned)
         options.now.workers (N.to_give net.old) (N.to_give net.new) (N.came_back net.old) (N.came_back net.new))
         (N.faults net.old) (N.faults net.new) (O.state out.old) (O.state out.new) result }
@@ -198,6 +208,9 @@ where
     ensures write_told { result ≡ 7 ⊎ (O.state out.new).faults ≡ (O.state out.old).faults ⊎ ((result ≢ 0) × Rose (O.state out.old).faults (O.state out.new).faults) }
     ensures complete { result ≡ 0 ⊎ result ≡ 3 ⊎ result ≡ 4 ⊎ result ≡ 5 ⊎ result ≡ 7 ⊎ result ≡ 8 ⊎ result ≡ 9 }
     ensures steady { O.fails_no_more out.old → O.fails_no_more out.new × (Rose (O.state out.old).refusals (O.state out.new).refusals ⊎ (result ≢ 7)) }
+    ensures others { P.tells place.new → OthersStay P.holds P.is_out P.has P.accounts store.now place.old place.new }
+    ensures steady_place { P.fails_no_more place.old → HasFile (P.accounts place.old) options.now.accounts → P.fails_no_more place.new × (result ≢ 4) }
+    ensures steady_net { N.fails_no_more net.old → options.now.workers ≤ length (N.to_give net.old) → result ≢ 9 }
 {
     serve_all(alloc, runtime, crew, place, store, options, out, net)
 }

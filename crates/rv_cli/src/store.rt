@@ -2,6 +2,8 @@
 ghost use Rattle.std.specs.Prelude.{◌≡◌, IsOk};
 ghost use Rattle.rv_cli.specs.Texts.{status_of, status_text};
 ghost use Rattle.rv_cli.specs.Headline.{WritesOnly};
+ghost use Rattle.rv_keeper.specs.Stores.{OthersStay};
+ghost use Rattle.rv_cli.specs.Steadiness.{CheckIsSteady, DeskIsSteady};
 ghost use Rattle.rv_cli.specs.Storing.{OpensKept, OpensStore};
 ghost use Rattle.rv_cli.specs.Reporting.{ChecksKept, ChecksStore};
 
@@ -24,6 +26,8 @@ fn open_kept<P: Place>(
     requires { P.tells place.old → P.is_out place.old store.now }
     ensures opens { OpensKept P.tells P.holds P.is_out P.faults P.Kept.tells P.Kept.holds P.Kept.faults store.now kept place.old result place.new }
     ensures told { P.tells place.new → P.tells place.old }
+    ensures others { P.tells place.new → OthersStay P.holds P.is_out P.has P.accounts store.now place.old place.new }
+    ensures steady { P.fails_no_more place.old → P.Kept.fails_no_more kept → P.Kept.faults kept ≡ 0 → P.fails_no_more place.new × (P.faults place.new ≡ P.faults place.old) × DeskIsSteady P.Kept.fails_no_more P.Kept.faults result }
 {
     match Desk::open(alloc, kept, BOOK_LIMIT) {
         Ok(desk) => Ok(desk),
@@ -42,6 +46,8 @@ pub(crate) fn open_desk<P: Place>(
 ) -> Result<Desk<P::Kept>, Ending>
     ensures opens { OpensStore P.tells P.holds P.is_out P.faults P.Kept.tells P.Kept.faults store.now place.old result place.new }
     ensures told { P.tells place.new → P.tells place.old }
+    ensures others { P.tells place.new → OthersStay P.holds P.is_out P.has P.accounts store.now place.old place.new }
+    ensures steady { P.fails_no_more place.old → P.fails_no_more place.new × (P.faults place.new ≡ P.faults place.old) × DeskIsSteady P.Kept.fails_no_more P.Kept.faults result }
 {
     let kept = place.open_keeper(store)?;
     open_kept(alloc, place, store, kept)
@@ -55,6 +61,8 @@ pub(crate) fn open_existing_desk<P: Place>(
 ) -> Result<Desk<P::Kept>, Ending>
     ensures opens { OpensStore P.tells P.holds P.is_out P.faults P.Kept.tells P.Kept.faults store.now place.old result place.new }
     ensures there { P.tells place.new → IsOk result → P.has place.old store.now }
+    ensures others { P.tells place.new → OthersStay P.holds P.is_out P.has P.accounts store.now place.old place.new }
+    ensures steady { P.fails_no_more place.old → P.has place.old store.now → P.fails_no_more place.new × (P.faults place.new ≡ P.faults place.old) × DeskIsSteady P.Kept.fails_no_more P.Kept.faults result }
 {
     let kept = place.open_existing(store)?;
     open_kept(alloc, place, store, kept)
@@ -68,7 +76,10 @@ fn check_kept<P: Place>(
     kept: P::Kept,
 ) -> Result<u32, Ending>
     requires { P.tells place.old → P.is_out place.old store.now }
-    ensures { ChecksKept P.tells P.holds P.faults P.Kept.tells P.Kept.holds P.Kept.faults store.now kept place.old result place.new }
+    ensures checks { ChecksKept P.tells P.holds P.faults P.Kept.tells P.Kept.holds P.Kept.faults store.now kept place.old result place.new }
+    ensures told { P.tells place.new → P.tells place.old }
+    ensures others { P.tells place.new → OthersStay P.holds P.is_out P.has P.accounts store.now place.old place.new }
+    ensures steady { P.fails_no_more place.old → P.Kept.fails_no_more kept → P.Kept.faults kept ≡ 0 → P.fails_no_more place.new × (P.faults place.new ≡ P.faults place.old) × CheckIsSteady result }
 {
     let (answer, keeper) = check(alloc, kept);
     place.close_keeper(store, keeper);
@@ -88,6 +99,8 @@ pub(crate) fn check_store<P: Place>(
 ) -> Result<u32, Ending>
     ensures checks { ChecksStore P.tells P.holds P.faults store.now place.old result place.new }
     ensures there { P.tells place.new → IsOk result → P.has place.old store.now }
+    ensures others { P.tells place.new → OthersStay P.holds P.is_out P.has P.accounts store.now place.old place.new }
+    ensures steady { P.fails_no_more place.old → P.has place.old store.now → P.fails_no_more place.new × (P.faults place.new ≡ P.faults place.old) × CheckIsSteady result }
 {
     let kept = place.open_existing(store)?;
     check_kept(alloc, place, store, kept)

@@ -38,10 +38,10 @@ settles_same book (Some entry) none = absurd (cc)
 
 module _ {A : Type 0} (trouble : A → Option Trouble) (Step : ℕ → Book → A → Book → Type 0) where
   -- where nothing is in doubt, a turn that tells no trouble is a step
-  pub turn_of_step : (old new : Served) (answer : A) → old.doubt ≡ None → new.doubt ≡ None → trouble answer ≡ None → Step old.limit old.book answer new.book → old.faults ≤ new.faults → new.limit ≡ old.limit → TakesTurn trouble (Step old.limit) old answer new
-  turn_of_step old new answer none still own step later limit = record {
-    turn = subst (λ (t : Option Trouble). TurnOf trouble (Step old.limit) old answer new t) (sym own) (old.book, settles_same old.book old.doubt none, step, still);
-    later = later;
+  pub turn_of_step : (old new : Served) (answer : A) → old.doubt ≡ None → new.doubt ≡ None → trouble answer ≡ None → Step old.limit old.book answer new.book → new.faults ≡ old.faults → new.limit ≡ old.limit → TakesTurn trouble (Step old.limit) old answer new
+  turn_of_step old new answer none still own step same limit = record {
+    turn = subst (λ (t : Option Trouble). TurnOf trouble (Step old.limit) old answer new t) (sym own) (old.book, settles_same old.book old.doubt none, step, still, same);
+    later = omega (arith, same);
     limit = limit;
   }
 
@@ -77,8 +77,8 @@ module _ {A : Type 0} (trouble : A → Option Trouble) (Step : ℕ → Book → 
   -- a turn after what was in doubt is settled
   module _ (old mid new : Served) (answer : A) (settled : IsSettled old (Ok tt) mid) where
     after : (told : Option Trouble) → TurnOf trouble (Step old.limit) mid answer new told → TurnOf trouble (Step old.limit) old answer new told
-    after None (book, settling, step, none) =
-        (book, subst (λ (b : Book). Settles old.book old.doubt b) (sym (none_settles mid.book mid.doubt book settled.settled.1 settling)) settled.settled.0, step, none)
+    after None (book, settling, step, none, still) =
+        (book, subst (λ (b : Book). Settles old.book old.doubt b) (sym (none_settles mid.book mid.doubt book settled.settled.1 settling)) settled.settled.0, step, none, still ∙ settled.settled.2)
     after (Some Failed) (rose, inl (some, stays)) = no_doubt mid.doubt settled.settled.1 some
     after (Some Failed) (rose, inr left) = (
       rose_before old.faults mid.faults new.faults settled.later rose,

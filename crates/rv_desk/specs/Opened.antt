@@ -13,7 +13,7 @@ pub record WasLoaded (Tells : Type 0) (Held : Loaded → Type 0) (loaded : Loade
   pub order : AreCells loaded.cells
   pub told : Tells → (held : Loaded) → Held held → held ≡ loaded
 
-module _ {K : Type 0} (tells : K → Type 0) (holds : K → Loaded → Type 0) (faults : K → ℕ) where
+module _ {K : Type 0} (tells fails_no_more : K → Type 0) (holds : K → Loaded → Type 0) (faults : K → ℕ) where
   -- nothing is in doubt, and the book is kept as what was loaded; the keeper's count of faults stays
   pub record Opens (limit : ℕ) (before : K) (desk : Seated K) : Type 0 where
     pub loaded : Loaded
@@ -24,6 +24,7 @@ module _ {K : Type 0} (tells : K → Type 0) (holds : K → Loaded → Type 0) (
     pub doubt : desk.doubt ≡ None
     pub told : tells desk.keeper → tells before
     pub still : faults desk.keeper ≡ faults before
+    pub goes_on : fails_no_more before → fails_no_more desk.keeper
 
   -- what was loaded is damaged first at this place; the keeper's count of faults stays
   pub record IsDamagedIn (limit : ℕ) (before now : K) (shelf : ℕ) (key : List ℕ) : Type 0 where
@@ -32,17 +33,19 @@ module _ {K : Type 0} (tells : K → Type 0) (holds : K → Loaded → Type 0) (
     pub damaged : IsDamaged limit loaded shelf key
     pub still : faults now ≡ faults before
 
-  -- a keeper that tells has told before, and holds what it held; its count of faults has not fallen
+  -- a keeper that tells has told before, and holds what it held; its count of faults has not fallen; one that fails no more goes on so
   pub record IsLeft (before now : K) : Type 0 where
     pub told : tells now → tells before
     pub held : tells now → (held : Loaded) → holds before held → holds now held
     pub later : faults before ≤ faults now
+    pub goes_on : fails_no_more before → fails_no_more now
 
-  -- why a desk is not opened: the keeper's count of faults rose; the store is damaged; or memory was refused
+  -- Why a desk is not opened: the keeper failed, so it is none that fails no more, and its count of faults rose; the store is damaged; or
+  -- memory was refused, and the count stays.
   abbrev pub IsRefused : ℕ → K → OpenFault → K → Type 0
-  IsRefused limit before Keeper now = Rose (faults before) (faults now)
+  IsRefused limit before Keeper now = Rose (faults before) (faults now) × ¬ fails_no_more before
   IsRefused limit before (Damaged shelf key) now = IsDamagedIn limit before now shelf key
-  IsRefused limit before Memory now = Unit {0}
+  IsRefused limit before Memory now = faults now ≡ faults before
 
   abbrev pub OpensOrNot : ℕ → K → Result (Seated K) (OpenFault × K) → Type 0
   OpensOrNot limit before (Ok desk) = Opens limit before desk

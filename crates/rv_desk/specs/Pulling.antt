@@ -11,9 +11,9 @@ use Rattle.rv_history.specs.Troubles.{pull_trouble}
 
 -- It is answered by a step of the machine; or the keeper failed, and its look is in doubt; or memory was refused.
 abbrev pub PullsOrNot : List ℕ → PullRequest → Served → Result PullAnswer KeepFault → Served → Type 0
-PullsOrNot user request old (Ok answer) new = Pulls old.limit user request old.book answer new.book × (new.doubt ≡ None)
+PullsOrNot user request old (Ok answer) new = Pulls old.limit user request old.book answer new.book × (new.doubt ≡ None) × (new.faults ≡ old.faults)
 PullsOrNot user request old (Err Failed) new = Rose old.faults new.faults × LeavesDoubt pull_trouble (Pulls old.limit user request) old new
-PullsOrNot user request old (Err Memory) new = (new.book ≡ old.book) × (new.doubt ≡ None)
+PullsOrNot user request old (Err Memory) new = (new.book ≡ old.book) × (new.doubt ≡ None) × (new.faults ≡ old.faults)
 
 -- with the count of faults, which never falls, and the limit, which stays
 pub record IsPulled (user : List ℕ) (request : PullRequest) (old : Served) (result : Result PullAnswer KeepFault) (new : Served) : Type 0 where

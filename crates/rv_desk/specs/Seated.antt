@@ -2,7 +2,8 @@
 use Rattle.std.specs.Prelude.{ℕ, ◌⊎◌, Option, None, Some, IfSome, option_map}
 use Rattle.rv_book.specs.declared.entry.Entry.{Entry}
 use Rattle.rv_book.specs.Book.{Book, with_entry}
-use Rattle.rv_history.specs.Served.{Served}
+use Rattle.rv_history.specs.declared.trouble.Trouble.{Trouble}
+use Rattle.rv_history.specs.Served.{IsAssured, Served}
 use Rattle.rv_keeper.specs.declared.loaded.Loaded.{Loaded}
 use Rattle.rv_state.specs.declared.prepared.Prepared.{Prepared}
 use Rattle.rv_state.specs.Ready.{IsPrepared}
@@ -19,6 +20,11 @@ pub record Seated (K : Type 0) : Type 0 where
 -- the same with the keeper's count of faults
 abbrev pub served : {K : Type 0} → (K → ℕ) → Seated K → Served
 served faults desk = record { book = desk.book; limit = desk.limit; doubt = desk.doubt; faults = faults desk.keeper }
+
+-- what is known besides of a call of a desk, by its keeper before it and after, and by the trouble that its answer tells
+module _ {K : Type 0} (tells fails_no_more : K → Type 0) where
+  abbrev pub Assures : K → Option Trouble → K → Type 0
+  Assures old trouble new = IsAssured (tells old) (tells new) (fails_no_more old) (fails_no_more new) trouble
 
 -- it is kept as the book, or with an entry in doubt as the book or as the book with it
 abbrev pub IsKeptWith : Book → Option Entry → Loaded → Type 0

@@ -52,7 +52,7 @@ impl<K: Keeper> Desk<K> {
     /// refusals give the keeper back: the keeper failed, and its count of faults rose; the cells are not just those of a lawful
     /// book of at most so many entries, first at this place; or memory was refused.
     pub fn open(alloc: Global, keeper: K, limit: u32) -> Result<Desk<K>, (OpenFault, K)>
-        ensures { OpensOrNot K.tells K.holds K.faults limit keeper result }
+        ensures { OpensOrNot K.tells K.fails_no_more K.holds K.faults limit keeper result }
     {
         let mut keeper = keeper;
         match keeper.load() {
@@ -124,7 +124,7 @@ impl<K: Keeper> Desk<K> {
     ) -> Result<Desk<K>, (OpenFault, K)>
         requires order { AreCells loaded.cells }
         requires holds { K.tells keeper → K.holds keeper loaded }
-        ensures { OpensLoaded K.tells K.holds K.faults limit loaded keeper result }
+        ensures { OpensLoaded K.tells K.fails_no_more K.holds K.faults limit loaded keeper result }
     {
         match restore(alloc, &loaded, limit) {
             Ok(state) => Ok(Desk {
@@ -141,13 +141,14 @@ impl<K: Keeper> Desk<K> {
 
 impl<K: Keeper> Turns for Desk<K> {
     ghost use Rattle.rv_history.specs.Served.{ServedMutates, ServedPulls, ServedRetires};
-    ghost use Rattle.rv_desk.specs.Seated.{served};
+    ghost use Rattle.rv_history.specs.Troubles.{pull_trouble, retire_trouble, turn_trouble};
+    ghost use Rattle.rv_desk.specs.Seated.{Assures, served};
 
-    ghost mutates = { λ old from mutation turn new. ServedMutates (served K.faults old) from mutation turn (served K.faults new) × (K.tells new.keeper → K.tells old.keeper) };
+    ghost mutates = { λ old from mutation turn new. ServedMutates (served K.faults old) from mutation turn (served K.faults new) × Assures K.tells K.fails_no_more old.keeper (turn_trouble turn) new.keeper };
 
-    ghost pulls = { λ old user request answer new. ServedPulls (served K.faults old) user request answer (served K.faults new) × (K.tells new.keeper → K.tells old.keeper) };
+    ghost pulls = { λ old user request answer new. ServedPulls (served K.faults old) user request answer (served K.faults new) × Assures K.tells K.fails_no_more old.keeper (pull_trouble answer) new.keeper };
 
-    ghost retires = { λ old group answer new. ServedRetires (served K.faults old) group answer (served K.faults new) × (K.tells new.keeper → K.tells old.keeper) };
+    ghost retires = { λ old group answer new. ServedRetires (served K.faults old) group answer (served K.faults new) × Assures K.tells K.fails_no_more old.keeper (retire_trouble answer) new.keeper };
 
     fn mutate(&mut self, user: &User, group: &Id, client: &Id, id: Num, call: Call) -> Turn {
         Desk::mutate(self, user, group, client, id, call)

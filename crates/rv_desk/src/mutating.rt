@@ -6,8 +6,9 @@ ghost use Rattle.rv_history.specs.Groups.{Admits};
 ghost use Rattle.rv_history.specs.Lawful.{IsLawfulAfter};
 ghost use Rattle.rv_history.specs.Machine.{Takes};
 ghost use Rattle.rv_history.specs.Served.{ServedMutates};
-ghost use Rattle.rv_desk.specs.Keeping.{IsKept};
-ghost use Rattle.rv_desk.specs.Seated.{served};
+ghost use Rattle.rv_desk.specs.Keeping.{IsKept, keep_trouble};
+ghost use Rattle.rv_history.specs.Troubles.{turn_trouble};
+ghost use Rattle.rv_desk.specs.Seated.{Assures, served};
 
 use crate::desk::Desk;
 use crate::keeping::keep;
@@ -24,7 +25,7 @@ impl<K: Keeper> Desk<K> {
     /// once what was in doubt is settled.
     pub fn mutate(&mut self, user: &User, group: &Id, client: &Id, id: Num, call: Call) -> Turn
         ensures turn { ServedMutates (served K.faults self.old) (record { user = user.now; group = group.now }) (record { client = client.now; id = id; call = call }) result (served K.faults self.new) }
-        ensures tells { K.tells self.new.keeper → K.tells self.old.keeper }
+        ensures assured { Assures K.tells K.fails_no_more self.old.keeper (turn_trouble result) self.new.keeper }
     {
         match settle(&mut self.state, &mut self.doubt, &mut self.keeper) {
             Ok(()) => self.mutate_settled(user, group, client, id, call),
@@ -36,7 +37,7 @@ impl<K: Keeper> Desk<K> {
     fn mutate_settled(&mut self, user: &User, group: &Id, client: &Id, id: Num, call: Call) -> Turn
         requires settled { self.old.doubt ≡ None }
         ensures turn { ServedMutates (served K.faults self.old) (record { user = user.now; group = group.now }) (record { client = client.now; id = id; call = call }) result (served K.faults self.new) }
-        ensures tells { K.tells self.new.keeper → K.tells self.old.keeper }
+        ensures assured { Assures K.tells K.fails_no_more self.old.keeper (turn_trouble result) self.new.keeper }
     {
         match admits(self.state.book(), user, group) {
             Admission::OfOther => Turn::GroupOfOther,
@@ -50,7 +51,7 @@ impl<K: Keeper> Desk<K> {
         requires settled { self.old.doubt ≡ None }
         requires admits { Admits user.now group.now self.old.book }
         ensures turn { ServedMutates (served K.faults self.old) (record { user = user.now; group = group.now }) (record { client = client.now; id = id; call = call }) result (served K.faults self.new) }
-        ensures tells { K.tells self.new.keeper → K.tells self.old.keeper }
+        ensures assured { Assures K.tells K.fails_no_more self.old.keeper (turn_trouble result) self.new.keeper }
     {
         match last_of(self.state.book(), client, group) {
             Numbering::Elsewhere => Turn::ClientOfOther,
@@ -73,7 +74,7 @@ impl<K: Keeper> Desk<K> {
         requires previous { previous ≡ last client.now self.old.book }
         requires below { previous ≤ size self.old.book }
         ensures turn { ServedMutates (served K.faults self.old) (record { user = user.now; group = group.now }) (record { client = client.now; id = id; call = call }) result (served K.faults self.new) }
-        ensures tells { K.tells self.new.keeper → K.tells self.old.keeper }
+        ensures assured { Assures K.tells K.fails_no_more self.old.keeper (turn_trouble result) self.new.keeper }
     {
         let book = self.state.book();
         let last = previous.get();
@@ -109,7 +110,7 @@ impl<K: Keeper> Desk<K> {
         requires room { size self.old.book < self.old.limit }
         requires lawful { IsLawfulAfter self.old.book (Act user.now group.now client.now id call) }
         ensures kept { IsKept (served K.faults self.old) (Act user.now group.now client.now id call) result (served K.faults self.new) }
-        ensures tells { K.tells self.new.keeper → K.tells self.old.keeper }
+        ensures assured { Assures K.tells K.fails_no_more self.old.keeper (keep_trouble result) self.new.keeper }
         ensures place { IfOk result (λ place. place ≡ size self.old.book + 1) }
     {
         let place = self.state.book().len() + 1;

@@ -7,8 +7,10 @@ ghost use Rattle.rv_history.specs.Lawful.{IsLawfulAfter};
 ghost use Rattle.rv_history.specs.Machine.{IsUnchanged, next_order};
 ghost use Rattle.rv_history.specs.Served.{ServedPulls};
 ghost use Rattle.rv_news.specs.News.{IsNews};
+ghost use Rattle.rv_desk.specs.Keeping.{keep_trouble};
 ghost use Rattle.rv_desk.specs.Pulling.{IsPulled};
-ghost use Rattle.rv_desk.specs.Seated.{served};
+ghost use Rattle.rv_history.specs.Troubles.{pull_trouble};
+ghost use Rattle.rv_desk.specs.Seated.{Assures, served};
 
 use crate::desk::Desk;
 use crate::keeping::keep;
@@ -23,7 +25,7 @@ impl<K: Keeper> Desk<K> {
     /// One pull. After every refusal but [`PullAnswer::Keeper`] all is as before, once what was in doubt is settled.
     pub fn pull(&mut self, user: &User, request: &PullRequest) -> PullAnswer
         ensures turn { ServedPulls (served K.faults self.old) user.now request.now result (served K.faults self.new) }
-        ensures tells { K.tells self.new.keeper → K.tells self.old.keeper }
+        ensures assured { Assures K.tells K.fails_no_more self.old.keeper (pull_trouble result) self.new.keeper }
     {
         match settle(&mut self.state, &mut self.doubt, &mut self.keeper) {
             Ok(()) => self.pull_settled(user, request),
@@ -35,7 +37,7 @@ impl<K: Keeper> Desk<K> {
     fn pull_settled(&mut self, user: &User, request: &PullRequest) -> PullAnswer
         requires settled { self.old.doubt ≡ None }
         ensures turn { ServedPulls (served K.faults self.old) user.now request.now result (served K.faults self.new) }
-        ensures tells { K.tells self.new.keeper → K.tells self.old.keeper }
+        ensures assured { Assures K.tells K.fails_no_more self.old.keeper (pull_trouble result) self.new.keeper }
     {
         match admits(self.state.book(), user, &request.group) {
             Admission::OfOther => PullAnswer::GroupOfOther,
@@ -49,7 +51,7 @@ impl<K: Keeper> Desk<K> {
         requires settled { self.old.doubt ≡ None }
         requires admits { Admits user.now request.now.group self.old.book }
         ensures turn { ServedPulls (served K.faults self.old) user.now request.now result (served K.faults self.new) }
-        ensures tells { K.tells self.new.keeper → K.tells self.old.keeper }
+        ensures assured { Assures K.tells K.fails_no_more self.old.keeper (pull_trouble result) self.new.keeper }
     {
         match self.answer(user, request) {
             Ok(answer) => answer,
@@ -63,7 +65,7 @@ impl<K: Keeper> Desk<K> {
         requires settled { self.old.doubt ≡ None }
         requires admits { Admits user.now request.now.group self.old.book }
         ensures pulled { IsPulled user.now request.now (served K.faults self.old) result (served K.faults self.new) }
-        ensures tells { K.tells self.new.keeper → K.tells self.old.keeper }
+        ensures assured { Assures K.tells K.fails_no_more self.old.keeper (keep_trouble result) self.new.keeper }
     {
         if self.state.is_unchanged(user, request)? {
             return Ok(PullAnswer::Pulled(PullReply::of_request(self.alloc, request)?));
@@ -99,7 +101,7 @@ impl<K: Keeper> Desk<K> {
         requires news { IsNews self.old.book user.now request.now news }
         requires lawful { IsLawfulAfter self.old.book (Look user.now request.now.group order news.base) }
         ensures pulled { IsPulled user.now request.now (served K.faults self.old) result (served K.faults self.new) }
-        ensures tells { K.tells self.new.keeper → K.tells self.old.keeper }
+        ensures assured { Assures K.tells K.fails_no_more self.old.keeper (keep_trouble result) self.new.keeper }
     {
         let (reply, prepared) = self.state.prepare_look(user, request, order, news)?;
         match keep(

@@ -4,8 +4,9 @@ ghost use Rattle.rv_book.specs.declared.entry.Entry.TheVariants.{Retire};
 ghost use Rattle.rv_book.specs.Book.{size};
 ghost use Rattle.rv_history.specs.Lawful.{IsLawfulAfter};
 ghost use Rattle.rv_history.specs.Served.{ServedRetires};
-ghost use Rattle.rv_desk.specs.Keeping.{IsKept};
-ghost use Rattle.rv_desk.specs.Seated.{served};
+ghost use Rattle.rv_desk.specs.Keeping.{IsKept, keep_trouble};
+ghost use Rattle.rv_history.specs.Troubles.{retire_trouble};
+ghost use Rattle.rv_desk.specs.Seated.{Assures, served};
 
 use crate::desk::Desk;
 use crate::keeping::keep;
@@ -20,7 +21,7 @@ impl<K: Keeper> Desk<K> {
     /// is settled.
     pub fn retire(&mut self, group: &Id) -> RetireAnswer
         ensures turn { ServedRetires (served K.faults self.old) group.now result (served K.faults self.new) }
-        ensures tells { K.tells self.new.keeper → K.tells self.old.keeper }
+        ensures assured { Assures K.tells K.fails_no_more self.old.keeper (retire_trouble result) self.new.keeper }
     {
         match settle(&mut self.state, &mut self.doubt, &mut self.keeper) {
             Ok(()) => self.retire_settled(group),
@@ -32,7 +33,7 @@ impl<K: Keeper> Desk<K> {
     fn retire_settled(&mut self, group: &Id) -> RetireAnswer
         requires settled { self.old.doubt ≡ None }
         ensures turn { ServedRetires (served K.faults self.old) group.now result (served K.faults self.new) }
-        ensures tells { K.tells self.new.keeper → K.tells self.old.keeper }
+        ensures assured { Assures K.tells K.fails_no_more self.old.keeper (retire_trouble result) self.new.keeper }
     {
         let book = self.state.book();
         if book.bound(group).is_none() {
@@ -57,7 +58,7 @@ impl<K: Keeper> Desk<K> {
         requires room { size self.old.book < self.old.limit }
         requires lawful { IsLawfulAfter self.old.book (Retire group.now) }
         ensures kept { IsKept (served K.faults self.old) (Retire group.now) result (served K.faults self.new) }
-        ensures tells { K.tells self.new.keeper → K.tells self.old.keeper }
+        ensures assured { Assures K.tells K.fails_no_more self.old.keeper (keep_trouble result) self.new.keeper }
         ensures place { IfOk result (λ place. place ≡ size self.old.book + 1) }
     {
         let place = self.state.book().len() + 1;

@@ -1,7 +1,7 @@
 // Settling what is in doubt: the keeper's generation tells whether the entry was kept.
 ghost use Rattle.std.specs.Prelude.{◌≡◌, None, Some};
-ghost use Rattle.rv_desk.specs.Seated.{AreInStep, parts_served, served};
-ghost use Rattle.rv_desk.specs.Settling.{IsSettled};
+ghost use Rattle.rv_desk.specs.Seated.{Assures, AreInStep, parts_served, served};
+ghost use Rattle.rv_desk.specs.Settling.{IsSettled, settle_trouble};
 ghost use Rattle.rv_state.specs.Ready.{IsPrepared};
 
 use crate::desk::Desk;
@@ -16,7 +16,7 @@ impl<K: Keeper> Desk<K> {
     /// does not say so, it stays in doubt. Every turn does this first. Takes no memory.
     pub fn settle(&mut self) -> Result<(), Trouble>
         ensures settled { IsSettled (served K.faults self.old) result (served K.faults self.new) }
-        ensures tells { K.tells self.new.keeper → K.tells self.old.keeper }
+        ensures assured { Assures K.tells K.fails_no_more self.old.keeper (settle_trouble result) self.new.keeper }
     {
         settle(&mut self.state, &mut self.doubt, &mut self.keeper)
     }
@@ -30,7 +30,7 @@ pub(crate) fn settle<K: Keeper>(
 ) -> Result<(), Trouble>
     requires in_step { AreInStep state.old doubt.old (K.tells keeper.old) (K.holds keeper.old) }
     ensures settled { IsSettled (parts_served state.old doubt.old (K.faults keeper.old)) result (parts_served state.new doubt.new (K.faults keeper.new)) }
-    ensures tells { K.tells keeper.new → K.tells keeper.old }
+    ensures assured { Assures K.tells K.fails_no_more keeper.old (settle_trouble result) keeper.new }
     ensures in_step { AreInStep state.new doubt.new (K.tells keeper.new) (K.holds keeper.new) }
 {
     match doubt.take() {
@@ -50,7 +50,7 @@ fn settle_one<K: Keeper>(
     requires none { doubt.old ≡ None }
     requires in_step { AreInStep state.old (Some prepared) (K.tells keeper.old) (K.holds keeper.old) }
     ensures settled { IsSettled (parts_served state.old (Some prepared) (K.faults keeper.old)) result (parts_served state.new doubt.new (K.faults keeper.new)) }
-    ensures tells { K.tells keeper.new → K.tells keeper.old }
+    ensures assured { Assures K.tells K.fails_no_more keeper.old (settle_trouble result) keeper.new }
     ensures in_step { AreInStep state.new doubt.new (K.tells keeper.new) (K.holds keeper.new) }
 {
     let kept = u64::from(state.book().len());

@@ -1,5 +1,5 @@
 -- A client that applies what it is replied holds what its user sees.
-use Rattle.std.proofs.Common.{◌≡◌, ℕ, zero, suc, ◌+◌, ◌<◌, ◌≤◌, ◌^◌, ◌⊎◌, inl, inr, Bool, true, false, cond, List, [], ◌∷◌, ◌++◌, map, Option, Some, None, refl, sym, ap, ◌∙◌, subst, arith, append_assoc}
+use Rattle.std.proofs.Common.{◌≡◌, ℕ, zero, suc, ◌+◌, ◌<◌, ◌≤◌, ◌^◌, ◌⊎◌, inl, inr, Bool, true, false, cond, List, [], ◌∷◌, ◌++◌, map, Option, Some, None, refl, sym, ap, ◌∙◌, subst, arith}
 use Rattle.std.specs.Prelude.{decimal, option_and_then}
 use Rattle.std.specs.List.{AllByRecursion, Contains, filter_map}
 use Rattle.std.specs.Option.{option_map, option_map_or, option_or}
@@ -8,14 +8,13 @@ use Rattle.std.proofs.lemmas.Fmt.{decimal_injective}
 use Rattle.std.proofs.lemmas.Option.{same_Some}
 use Rattle.std.proofs.lemmas.List.Elements.{Contains-append_right}
 use Rattle.std.proofs.lemmas.Slice.Eq.{bytes_eq-Decides}
-use Rattle.rv_base.specs.Sorted.{find_by, sorted_by}
+use Rattle.rv_base.specs.Sorted.{find_by}
 use Rattle.rv_base.specs.Places.{in_order-sorted}
 use Rattle.rv_views.specs.declared.cookie.Cookie.{Cookie}
 use Rattle.rv_views.specs.declared.cookie.Cookie.TheVariants.{Null, Named}
-use Rattle.rv_wire.specs.declared.op.Op.{Op}
 use Rattle.rv_book.specs.declared.entry.Entry.{Entry}
 use Rattle.rv_book.specs.declared.entry.Entry.TheVariants.{Look}
-use Rattle.rv_book.specs.Book.{Book, client_in, entry_at, ids, size, up_to, with_entry}
+use Rattle.rv_book.specs.Book.{Book, client_in, entry_at, ids, size, up_to}
 use Rattle.rv_book.specs.BookWords.{entry_at-end, entry_at-up_to, entry_at-within, size-append, size-with_entry, up_to-all, up_to-append, with_entry-append}
 use Rattle.rv_book.specs.Kept.{look_of, look_at}
 use Rattle.rv_history.specs.Bases.{base_of, base_group}
@@ -25,7 +24,6 @@ use Rattle.rv_history.specs.Laws.{IsBaseView, known_ids}
 use Rattle.rv_history.specs.LookIds.{ids_look}
 use Rattle.rv_history.specs.Patches.{client_view, key_value, apply}
 use Rattle.rv_history.specs.ReplayLaws.{each_found, rows_of-with_entry}
-use Rattle.rv_history.specs.declared.pull_reply.PullReply.{PullReply}
 use Rattle.rv_rows.specs.declared.row.Row.{Row}
 use Rattle.rv_rows.specs.Sharing.{seen}
 

@@ -151,7 +151,7 @@ module _ {A : Type 0} (trouble : A → Option Trouble) (Step : Book → A → Bo
       (subst (λ (d : Option Entry). MayStand new.book old.limit d) (sym left.doubt) (entered old.limit new.book left.entry (steps new.book left.answer (with_entry new.book left.entry) left.step))) limit later
 
   law_turn : (answer : A) (new : Served) (told : Option Trouble) → TurnOf trouble Step old answer new told → IsSound old → new.limit ≡ old.limit → old.faults ≤ new.faults → KeepsLaw old new
-  law_turn answer new None (settled, settling, step, none) sound limit later =
+  law_turn answer new None (settled, settling, step, none, still) sound limit later =
       let before = settles old.limit old.book old.doubt settled settling (stood sound) sound.next in
       law_of old new sound (goes_on old.limit old.book settled new.book before (advances old.limit settled new.book (steps settled answer new.book step) before.0))
       (subst (λ (d : Option Entry). MayStand new.book old.limit d) (sym none) tt) limit later

@@ -4,22 +4,21 @@ use Rattle.std.specs.List.{AllByRecursion, Contains, cons_option, range_with_len
 use Rattle.std.specs.Option.{MatchOption, option_map_or}
 use Rattle.std.specs.Str.{bytes_eq}
 use Rattle.std.proofs.lemmas.Option.{same_Some}
-use Rattle.std.proofs.lemmas.List.Elements.{Contains-append_left, Contains-append_right, Contains-append_cases}
+use Rattle.std.proofs.lemmas.List.Elements.{Contains-append_left, Contains-append_right}
 use Rattle.std.proofs.lemmas.Slice.Eq.{bytes_eq-Decides}
 use Rattle.rv_rows.specs.declared.call.Call.{Call}
 use Rattle.rv_wire.specs.declared.error_body.ErrorBody.{ErrorBody}
 use Rattle.rv_wire.specs.declared.push.Mutation.{Mutation}
 use Rattle.rv_book.specs.declared.entry.Entry.{Entry}
 use Rattle.rv_book.specs.declared.entry.Entry.TheVariants.{Act, Look, Retire}
-use Rattle.rv_book.specs.Book.{Book, bound, group_of, last, with_entry}
+use Rattle.rv_book.specs.Book.{Book, bound, group_of, last}
 use Rattle.rv_history.specs.declared.trouble.Trouble.{Trouble}
 use Rattle.rv_history.specs.declared.turn.Turn.{Turn}
 use Rattle.rv_history.specs.declared.turn.Turn.TheVariants.{Acted, Skipped, Future, GroupOfOther, ClientOfOther, NotFound, Limit, Keeper, Changed, Memory}
-use Rattle.rv_history.specs.Groups.{is_of_other, is_elsewhere}
 use Rattle.rv_history.specs.GroupLaws.{groups_have_one_user, clients_have_one_group}
 use Rattle.rv_history.specs.Lawful.{IsLawful}
 use Rattle.rv_history.specs.LawfulBooks.{ids_count_up}
-use Rattle.rv_history.specs.Laws.{act_ids, user_in, group_in, IsEntered}
+use Rattle.rv_history.specs.Laws.{act_ids, IsEntered}
 use Rattle.rv_history.specs.Machine.{Sender, Takes, Mutates, Pushes, refusal}
 use Rattle.rv_history.specs.Troubles.{turn_trouble}
 use Rattle.rv_history.specs.Served.{Served, IsSound, ServedMutates, TurnOf}

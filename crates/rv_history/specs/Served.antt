@@ -41,10 +41,10 @@ module _ {A : Type 0} (trouble : A → Option Trouble) (Step : Book → A → Bo
     pub doubt : new.doubt ≡ Some entry
 
   -- The turn, by the trouble that its answer tells. Without one, what was in doubt is settled, and then the machine makes its
-  -- step. Where the keeper failed, its count of faults rose: either the doubt stands as it stood, or it was settled and the entry
+  -- step, and no fault came. Where the keeper failed, its count of faults rose: either the doubt stands as it stood, or it was settled and the entry
   -- of the step is in doubt. Where what is kept was changed by another, the count rose too, and all stands as it stood.
   abbrev pub TurnOf : Served → A → Served → Option Trouble → Type 0
-  TurnOf old answer new None = (settled : Book) × Settles old.book old.doubt settled × Step settled answer new.book × (new.doubt ≡ None)
+  TurnOf old answer new None = (settled : Book) × Settles old.book old.doubt settled × Step settled answer new.book × (new.doubt ≡ None) × (new.faults ≡ old.faults)
   TurnOf old answer new (Some Failed) = Rose old.faults new.faults × ((IsSome old.doubt × Stays old new) ⊎ LeavesDoubt old new)
   TurnOf old answer new (Some (Changed kept found)) =
       Rose old.faults new.faults × IsSome old.doubt × (kept ≡ size old.book) × ¬ (found ≡ kept) × ¬ (found ≡ kept + 1) × Stays old new
@@ -54,6 +54,20 @@ module _ {A : Type 0} (trouble : A → Option Trouble) (Step : Book → A → Bo
     pub turn : TurnOf old answer new (trouble answer)
     pub later : old.faults ≤ new.faults
     pub limit : new.limit ≡ old.limit
+
+-- what is kept was changed by another
+abbrev pub IsChanged : Option Trouble → Type 0
+IsChanged None = ⊥
+IsChanged (Some Failed) = ⊥
+IsChanged (Some (Changed kept found)) = Unit {0}
+
+-- What is known besides of a turn, by what keeps the book, before it and after. One that tells told before, and its answer is not that
+-- what is kept was changed by another. One that fails no more goes on so, and its answer tells no trouble.
+pub record IsAssured (Told Tells Steady Steadies : Type 0) (trouble : Option Trouble) : Type 0 where
+  pub told : Tells → Told
+  pub near : Tells → ¬ IsChanged trouble
+  pub goes_on : Steady → Steadies
+  pub sure : Steady → trouble ≡ None
 
 -- the turns of a mutation, of a pull and of a retirement
 abbrev pub ServedMutates : Served → Sender → Mutation → Turn → Served → Type 0

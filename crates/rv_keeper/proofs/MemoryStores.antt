@@ -1,11 +1,12 @@
 -- What is found among the stores and the accounts files of a place, and what a write of one of them leaves.
-use Rattle.std.proofs.Common.{◌≡◌, ◌≢◌, ℕ, ◌<◌, ◌||◌, Bool, true, false, not, cond, List, [], ◌∷◌, ◌++◌, codes, length, get_or, set, drop, Some, None, Result, Ok, Err, IfOk, OnOk, OnErr, unwrap_or, refl, sym, ap, ◌∙◌, subst, arith, inl, inr}
-use Rattle.std.specs.List.{position_from}
+use Rattle.std.proofs.Common.{◌≡◌, ◌≢◌, ℕ, ◌<◌, ◌||◌, Bool, true, false, not, cond, List, [], ◌∷◌, ◌++◌, codes, length, get_or, set, drop, Some, None, Result, Ok, Err, IfOk, OnOk, OnErr, IsErrOf, unwrap_or, refl, sym, ap, ◌∙◌, subst, arith, inl, inr}
+use Rattle.std.specs.List.{AllByRecursion, position_from}
 use Rattle.std.specs.Option.{is_some}
 use Rattle.std.specs.Str.{bytes_eq}
 use Rattle.std.proofs.lemmas.List.{get_or_push, length-append}
 use Rattle.std.proofs.lemmas.Slice.Eq.{bytes_eq-Decides}
 use Rattle.std.proofs.Math.Seq.{set-append_seam}
+use Rattle.rv_base.specs.InMemory.{fails_next}
 use Rattle.rv_base.specs.Places.{equals}
 use Rattle.rv_keeper.specs.declared.accounts_file.AccountsFile.{AccountsFile}
 use Rattle.rv_keeper.specs.declared.fails.Fails.{Fails}
@@ -14,8 +15,12 @@ use Rattle.rv_keeper.specs.declared.loaded.Loaded.{Loaded}
 use Rattle.rv_keeper.specs.declared.memory_keeper.MemoryKeeper.{MemoryKeeper}
 use Rattle.rv_keeper.specs.declared.store.Store.{Store}
 use Rattle.rv_keeper.specs.Keeping.{holding}
-use Rattle.rv_keeper.specs.Schedules.{has_failed}
-use Rattle.rv_keeper.specs.Stores.{OpensAs, OpensWith}
+use Rattle.rv_keeper.specs.Schedules.{FailsNoMore, counted, has_failed, one_more}
+use Rattle.rv_keeper.specs.declared.fault.KeepFault.TheVariants.{Failed, Memory}
+use Rattle.rv_base.specs.InMemoryLaws.{fails_no_more_later, not_next}
+use Rattle.rv_keeper.specs.Stores.{GoesOn, OpensAs, OpensWith, OthersStay, Stays}
+use Rattle.rv_keeper.specs.declared.memory_place.MemoryPlace.{MemoryPlace}
+use Rattle.rv_keeper.specs.PlaceStates.{IsSteadyKeeper, IsSteadyPlace, place_file, place_has, place_holds, place_out}
 use Rattle.rv_keeper.specs.MemoryStores.{store_of, has_store, with_store, empty_store, found_store, StoreHolds, StoreIsOut, kept_store, out_store, given, StandsAt, accounts_file, with_file, first_schedule}
 use Rattle.rv_keeper.proofs.Named as named
 
@@ -121,14 +126,96 @@ given_opens name stores held (inr h) = rw (named.apart name (codes "memory") h.0
 pub is_there : (name : List ℕ) (stores : List Store) → StoreIsOut stores name → store_of name stores ≡ None → ⊥
 is_there name stores out none = let empty : false ≡ true = rw none at out in cc
 
+-- what is so of the stores of other names, where one of this name is written
+pub record OthersAre (name : List ℕ) (old new : List Store) : Type 0 where
+  pub held : (other : List ℕ) (held : Loaded) → other ≢ name → StoreHolds old other held → StoreHolds new other held
+  pub out : (other : List ℕ) → other ≢ name → StoreIsOut old other → StoreIsOut new other
+  pub stores : (other : List ℕ) → has_store old other ≡ true → has_store new other ≡ true
+  pub no_more : (other : List ℕ) → other ≢ name → has_store new other ≡ true → has_store old other ≡ true
+
+others_are : (new : Store) (stores : List Store) → OthersAre new.name stores (with_store new stores)
+others_are new stores = record {
+  held = λ other held ne h. others_hold other new stores held ne h;
+  out = λ other ne h. rw (named.found_other store_name other new stores ne) h;
+  stores = λ other h. still_there new stores other h;
+  no_more = λ other ne h. sym (ap (λ (b : Bool). b || has_store stores other) (named.apart other new.name ne)) ∙ sym (has_store-with_store new stores other) ∙ h;
+}
+
+same_others : (name : List ℕ) (stores : List Store) → OthersAre name stores stores
+same_others name stores = record { held = λ other held ne h. h; out = λ other ne h. h; stores = λ other h. h; no_more = λ other ne h. h }
+
+-- and so of the place
+pub others_stay : (name : List ℕ) (old new : MemoryPlace) → OthersAre name old.stores.items new.stores.items → new.files ≡ old.files → OthersStay place_holds place_out place_has place_file name old new
+others_stay name old new are same = record {
+  held = are.held;
+  out = are.out;
+  stores = are.stores;
+  no_more = are.no_more;
+  files = λ other file h. rw same h;
+}
+
+-- where its stores and files are the same, nothing has changed
+pub all_stays : (old new : MemoryPlace) → new.stores.items ≡ old.stores.items → new.files ≡ old.files → Stays place_holds place_out place_has place_file old new
+all_stays old new stores files = record {
+  held = λ name held h. rw stores h;
+  out = λ name h. rw stores h;
+  stores = λ name h. rw stores h;
+  no_more = λ name h. rw stores at h;
+  files = λ name file h. rw files h;
+}
+
+-- the first schedule is one of those that are to come, and names no call where none is left
+pub steady_first : (schedules : List (List Fails)) → AllByRecursion (FailsNoMore 0 0 0) schedules → FailsNoMore 0 0 0 (first_schedule schedules) × AllByRecursion (FailsNoMore 0 0 0) (drop 1 schedules)
+steady_first [] all = (tt, tt)
+steady_first (schedule ∷ schedules) all = all
+
+no_fault : {T : Type 0} (result : Result T KeepFault) → has_failed result ≡ false → ¬ IsErrOf result Failed
+no_fault (Ok x) e h = absurd (cc)
+no_fault (Err Failed) e h = absurd (cc)
+no_fault (Err Memory) e h = absurd (cc)
+
+-- an opening of a place, as its clauses say it
+pub record OpensSo (name : List ℕ) (old new : MemoryPlace) (fails : Bool) (result : Result MemoryKeeper KeepFault) : Type 0 where
+  pub failed : has_failed result ≡ fails
+  pub gives : IfOk result (λ kept. (holding kept.shelves kept.generation ≡ given name (found_store name old.stores.items)) × (kept.schedule.items ≡ first_schedule old.schedules.items))
+  pub fresh : IfOk result (λ kept. (kept.loads ≡ 0) × (kept.questions ≡ 0) × (kept.commits ≡ 0) × (kept.faults ≡ 0))
+  pub ok : OnOk result ((new.stores.items ≡ with_store (out_store name) old.stores.items) × (new.schedules.items ≡ drop 1 old.schedules.items))
+  pub err : OnErr result ((new.stores.items ≡ old.stores.items) × (new.schedules.items ≡ old.schedules.items))
+  pub after : new ≡ record old { stores = new.stores; schedules = new.schedules; calls = one_more old.calls; faults = counted (has_failed result) old.faults }
+
+module _ (name : List ℕ) (old new : MemoryPlace) (fails : Bool) where
+  pub so_refused : (result : Result MemoryKeeper KeepFault) → OpensSo name old new fails result → OnErr result (Stays place_holds place_out place_has place_file old new)
+  so_refused (Ok x) so = tt
+  so_refused (Err fault) so = all_stays old new so.err.0 (ap (λ (place : MemoryPlace). place.files) so.after)
+
+  left : (result : Result MemoryKeeper KeepFault) → OpensSo name old new fails result → AllByRecursion (FailsNoMore 0 0 0) old.schedules.items → AllByRecursion (FailsNoMore 0 0 0) new.schedules.items
+  left (Ok x) so all = rw so.ok.1 (steady_first old.schedules.items all).1
+  left (Err fault) so all = rw so.err.1 all
+
+  is_given : (result : Result MemoryKeeper KeepFault) → OpensSo name old new fails result → AllByRecursion (FailsNoMore 0 0 0) old.schedules.items → IfOk result IsSteadyKeeper
+  is_given (Ok x) so all = rw (so.fresh.0, so.fresh.1, so.fresh.2, so.gives.1) (steady_first old.schedules.items all).0
+  is_given (Err fault) so all = tt
+
+  pub so_steady : (There : Type 0) (result : Result MemoryKeeper KeepFault) → OpensSo name old new fails result → (There → fails_next old.calls old.failing.items ≡ false → fails ≡ false) → IsSteadyPlace old
+      → GoesOn (IsSteadyPlace new) There result × IfOk result IsSteadyKeeper
+  so_steady There result so lasts (openings, schedules) =
+      let calls = ap (λ (place : MemoryPlace). place.calls) so.after in
+      let failing = ap (λ (place : MemoryPlace). place.failing) so.after in (
+        record {
+          goes_on = (rw (calls, failing) (fails_no_more_later old.calls old.failing.items openings), left result so schedules);
+          no_fault = λ there. no_fault result (so.failed ∙ lasts there (not_next old.calls old.failing.items openings));
+        },
+        is_given result so schedules,
+      )
+
 -- what is so once a store was to be opened, with this answer
 module _ (name : List ℕ) (old new : List Store) where
   pub record Opened (result : Result MemoryKeeper KeepFault) : Type 0 where
     pub kept : IfOk result (λ kept. StoreIsOut new name × OpensWith name (StoreHolds old name) (λ held. held ≡ holding kept.shelves kept.generation))
-    pub others : (other : List ℕ) (held : Loaded) → other ≢ name → StoreHolds old other held → StoreHolds new other held
-    pub stores : (other : List ℕ) → has_store old other ≡ true → has_store new other ≡ true
+    pub others : OthersAre name old new
     pub made : OnOk result (has_store new name ≡ true)
     pub none_made : (OnOk result (has_store old name ≡ true)) → (other : List ℕ) → has_store new other ≡ true → has_store old other ≡ true
+    pub refused : OnErr result (new ≡ old)
 
   pub opened : (result : Result MemoryKeeper KeepFault) (schedules schedules' : List (List Fails)) → IfOk result (λ kept. (holding kept.shelves kept.generation ≡ given name (found_store name old)) × (kept.schedule.items ≡ first_schedule schedules))
       → OnOk result ((new ≡ with_store (out_store name) old) × (schedules' ≡ drop 1 schedules)) → OnErr result ((new ≡ old) × (schedules' ≡ schedules)) → Opened result
@@ -137,17 +224,17 @@ module _ (name : List ℕ) (old new : List Store) where
       subst (λ (stores : List Store). StoreIsOut stores name) (sym written) (rw (named.found_same store_name (out_store name) old) refl),
       λ held h. given_opens name old held h ∙ sym gives.0,
     );
-    others = λ other held ne h. subst (λ (stores : List Store). StoreHolds stores other held) (sym written) (others_hold other (out_store name) old held ne h);
-    stores = λ other h. subst (λ (stores : List Store). has_store stores other ≡ true) (sym written) (still_there (out_store name) old other h);
+    others = subst (λ (stores : List Store). OthersAre name old stores) (sym written) (others_are (out_store name) old);
     made = subst (λ (stores : List Store). has_store stores name ≡ true) (sym written) (then_there (out_store name) old);
     none_made = λ was other h. none_more (out_store name) old other was (subst (λ (stores : List Store). has_store stores other ≡ true) written h);
+    refused = tt;
   }
   opened (Err fault) schedules schedules' gives written (unchanged, rest) = record {
     kept = tt;
-    others = λ other held ne h. subst (λ (stores : List Store). StoreHolds stores other held) (sym unchanged) h;
-    stores = λ other h. subst (λ (stores : List Store). has_store stores other ≡ true) (sym unchanged) h;
+    others = subst (λ (stores : List Store). OthersAre name old stores) (sym unchanged) (same_others name old);
     made = tt;
     none_made = λ was other h. subst (λ (stores : List Store). has_store stores other ≡ true) unchanged h;
+    refused = unchanged;
   }
 
 -- a store that was opened, where that fails of one that isn't there, was there
@@ -159,14 +246,12 @@ was_there (Err fault) there fails e = tt
 -- and once it came back
 pub record Closed (name : List ℕ) (old new : List Store) (keeps : Loaded) : Type 0 where
   pub kept : StoreHolds new name keeps
-  pub others : (other : List ℕ) (held : Loaded) → other ≢ name → StoreHolds old other held → StoreHolds new other held
-  pub stores : (other : List ℕ) → has_store old other ≡ true → has_store new other ≡ true
+  pub others : OthersAre name old new
 
 pub closed : (name : List ℕ) (old new : List Store) (keeps : Loaded) → new ≡ with_store (kept_store name keeps.cells keeps.generation) old → Closed name old new keeps
 closed name old new keeps is =
     let store = kept_store name keeps.cells keeps.generation in
     subst (λ (stores : List Store). Closed name old stores keeps) (sym is) (record {
       kept = rw (named.found_same store_name store old) (refl, refl);
-      others = λ other held ne h. others_hold other store old held ne h;
-      stores = λ other h. still_there store old other h;
+      others = others_are store old;
     })

@@ -2,6 +2,9 @@ pub mod Cells
 pub mod Keeping
 pub mod Schedules
 pub mod Stores
+pub mod StoreLaws
 pub mod Shelving
 pub mod Named
 pub mod MemoryStores
+pub mod PlaceStates
+pub mod AbsentStores

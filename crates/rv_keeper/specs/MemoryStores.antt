@@ -1,6 +1,7 @@
 -- The stores and the accounts files of a place in memory, by their names.
 use Rattle.std.specs.Prelude.{◌≡◌, ℕ, ◌<◌, ◌||◌, Bool, false, true, List, [], ◌∷◌, length, slice_index_or, slice_set, codes, is_some, unwrap_or, if◌then◌else◌}
 use Rattle.std.specs.declared.option.Option.{Option}
+use Rattle.std.specs.List.{AllByRecursion}
 use Rattle.std.specs.Option.{option_map}
 use Rattle.std.specs.Str.{bytes_eq}
 use Rattle.rv_keeper.specs.declared.accounts_file.AccountsFile.{AccountsFile}
@@ -9,6 +10,8 @@ use Rattle.rv_keeper.specs.declared.fails.Fails.{Fails}
 use Rattle.rv_keeper.specs.declared.loaded.Loaded.{Loaded}
 use Rattle.rv_keeper.specs.declared.store.Store.{Store}
 use Rattle.rv_keeper.specs.Keeping.{holding}
+use Rattle.rv_keeper.specs.Schedules.{FailsNoMore}
+use Rattle.rv_base.specs.InMemory as opening
 use Rattle.rv_keeper.specs.Named.{first_named, with_named}
 
 -- the first store of this name
@@ -55,6 +58,10 @@ given name store = if bytes_eq name (codes "memory") then holding [] 0 else hold
 abbrev pub first_schedule : List (List Fails) → List Fails
 first_schedule [] = []
 first_schedule (schedule ∷ schedules) = schedule
+
+-- no opening to come fails, and no call of a keeper that is to be given
+abbrev pub PlaceFailsNoMore : ℕ → List ℕ → List (List Fails) → Type 0
+PlaceFailsNoMore calls failing schedules = opening.FailsNoMore calls failing × AllByRecursion (FailsNoMore 0 0 0) schedules
 
 -- Where the store of this name stands: what is there, and what a write there leaves of the stores as they were before the
 -- store was found or added.

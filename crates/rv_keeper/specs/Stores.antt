@@ -1,6 +1,8 @@
 -- Stores by their names, and their keepers.
-use Rattle.std.specs.Prelude.{◌≡◌, ◌≢◌, ◌⊎◌, ℕ, zero, suc, List, [], codes}
+use Rattle.std.specs.Prelude.{◌≡◌, ◌≢◌, ◌⊎◌, ℕ, zero, suc, List, [], codes, Result, IsErrOf}
 use Rattle.rv_base.specs.Causes.{Rose}
+use Rattle.rv_keeper.specs.declared.fault.KeepFault.{KeepFault}
+use Rattle.rv_keeper.specs.declared.fault.KeepFault.TheVariants.{Failed}
 use Rattle.rv_keeper.specs.declared.loaded.Loaded.{Loaded}
 use Rattle.rv_keeper.specs.Keeping.{holding}
 
@@ -17,10 +19,24 @@ abbrev pub TakesUp : ℕ → ℕ → ℕ → Type 0
 TakesUp zero before now = now ≡ before
 TakesUp (suc n) before now = Rose before now
 
--- what was held by stores, which keepers were out, which stores were there, and what accounts files had, is still so
+-- what was held by stores, which keepers were out, which stores were there and which not, and what accounts files had, is still so
 module _ {P : Type 0} (holds : P → List ℕ → Loaded → Type 0) (is_out has : P → List ℕ → Type 0) (accounts : P → List ℕ → List ℕ → Type 0) where
   pub record Stays (old new : P) : Type 0 where
     pub held : (name : List ℕ) (held : Loaded) → holds old name held → holds new name held
     pub out : (name : List ℕ) → is_out old name → is_out new name
     pub stores : (name : List ℕ) → has old name → has new name
+    pub no_more : (name : List ℕ) → has new name → has old name
     pub files : (name file : List ℕ) → accounts old name file → accounts new name file
+
+  -- The same of every store but this one, which may be made.
+  pub record OthersStay (name : List ℕ) (old new : P) : Type 0 where
+    pub held : (other : List ℕ) (held : Loaded) → other ≢ name → holds old other held → holds new other held
+    pub out : (other : List ℕ) → other ≢ name → is_out old other → is_out new other
+    pub stores : (other : List ℕ) → has old other → has new other
+    pub no_more : (other : List ℕ) → other ≢ name → has new other → has old other
+    pub files : (other file : List ℕ) → accounts old other file → accounts new other file
+
+-- of a place that fails no more: it goes on so, and a call of what is there did not fail
+pub record GoesOn {T : Type 0} (steady There : Type 0) (result : Result T KeepFault) : Type 0 where
+  pub goes_on : steady
+  pub no_fault : There → ¬ IsErrOf result Failed

@@ -55,4 +55,10 @@ pub trait Keeper {
         ensures made { tells self.new → (held : Loaded) → holds self.old held → Made from changes.now result (holds self.new) held }
         ensures cause { HasKeepCause (faults self.old) (faults self.new) result }
         ensures steady { fails_no_more self.old → KeepsSteady (fails_no_more self.new) result };
+
+    /// What fails no more tells.
+    ghost steady_tells: { (keeper : Self) → fails_no_more keeper → tells keeper };
+
+    /// A keeper that tells holds one thing.
+    ghost holds_one: { (keeper : Self) (one two : Loaded) → tells keeper → holds keeper one → holds keeper two → one ≡ two };
 }

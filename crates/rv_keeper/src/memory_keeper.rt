@@ -1,5 +1,6 @@
 // A keeper in memory, which fails at the calls of a schedule.
 ghost use Rattle.std.specs.Prelude.{◌≡◌, ◌≤◌, ◌<◌, ◌+◌, ◌-◌, ◌^◌, ◌||◌, ◌⊎◌, [], IfOk, IsOk, OnOk, OnErr, is_err, if◌then◌else◌};
+ghost use Rattle.std.proofs.Common.{sym, ◌∙◌};
 ghost use Rattle.rv_base.specs.Causes.{Rose};
 ghost use Rattle.rv_keeper.specs.declared.fails.Fails.TheVariants as calls;
 ghost use Rattle.rv_keeper.specs.Cells.{AreCells, AreChanges, changed};
@@ -180,4 +181,8 @@ impl Keeper for MemoryKeeper {
         }
         Ok(())
     }
+
+    ghost steady_tells = { λ keeper steady. tt };
+
+    ghost holds_one = { λ keeper one two told is also. is ∙ sym also };
 }

@@ -3,13 +3,16 @@ ghost use Rattle.std.specs.Prelude.{◌≡◌, ◌≤◌, ◌≢◌, ◌||◌, �
 ghost use Rattle.std.specs.List.{position_from};
 ghost use Rattle.std.specs.Option.{option_copied};
 ghost use Rattle.std.specs.Str.{bytes_eq};
+ghost use Rattle.std.proofs.Common.{sym, ◌∙◌};
 ghost use Rattle.rv_base.specs.Causes.{Rose};
 ghost use Rattle.rv_base.specs.InMemory.{fails_next};
 ghost use Rattle.rv_keeper.specs.declared.loaded.Loaded.{Loaded};
 ghost use Rattle.rv_keeper.specs.Keeping.{HasKeepCause, holding};
 ghost use Rattle.rv_keeper.specs.MemoryStores.{StandsAt, StoreHolds, StoreIsOut, accounts_file, bytes_of, file_of, first_schedule, found_store, given, has_store, kept_store, out_store, store_of, with_file, with_store};
 ghost use Rattle.rv_keeper.specs.Schedules.{counted, has_failed, one_more};
-ghost use Rattle.rv_keeper.specs.Stores.{OpensWith, Stays, TakesUp};
+ghost use Rattle.rv_keeper.specs.PlaceStates.{IsSteadyKeeper, IsSteadyPlace, place_file, place_has, place_holds, place_out};
+ghost use Rattle.rv_keeper.specs.AbsentStores.{absent_holds};
+ghost use Rattle.rv_keeper.specs.Stores.{GoesOn, OpensWith, OthersStay, Stays, TakesUp};
 
 use crate::accounts_file::{self, AccountsFile};
 use crate::fails::{Fails, Schedule};
@@ -240,15 +243,18 @@ impl Place for MemoryPlace {
     // It tells whatever comes.
     ghost tells = { λ s. Unit {0} };
 
-    ghost holds = { λ s name held. StoreHolds s.stores.items name held };
+    ghost holds = { place_holds };
 
-    ghost is_out = { λ s name. StoreIsOut s.stores.items name };
+    ghost is_out = { place_out };
 
-    ghost has = { λ s name. has_store s.stores.items name ≡ true };
+    ghost has = { place_has };
 
-    ghost accounts = { λ s name file. bytes_of name s.files.items ≡ Some file };
+    ghost accounts = { place_file };
 
     ghost faults = { λ s. s.faults };
+
+    // No opening that is to come fails, and no call of a keeper that is to be given.
+    ghost fails_no_more = { IsSteadyPlace };
 
     fn fault_count(&self) -> u64
         ensures { result ≡ self.now.faults }
@@ -258,10 +264,10 @@ impl Place for MemoryPlace {
 
     fn open_keeper(&mut self, name: &str) -> Result<MemoryKeeper, KeepFault>
         ensures kept { IfOk result (λ kept. StoreIsOut self.new.stores.items name.now × OpensWith name.now (StoreHolds self.old.stores.items name.now) (λ held. held ≡ holding kept.shelves kept.generation)) }
-        ensures others { (other : List ℕ) (held : Loaded) → other ≢ name.now → StoreHolds self.old.stores.items other held → StoreHolds self.new.stores.items other held }
-        ensures still_there { (other : List ℕ) → has_store self.old.stores.items other ≡ true → has_store self.new.stores.items other ≡ true }
+        ensures others { OthersStay place_holds place_out place_has place_file name.now self.old self.new }
         ensures made { OnOk result (has_store self.new.stores.items name.now ≡ true) }
-        ensures files { (other file : List ℕ) → bytes_of other self.old.files.items ≡ Some file → bytes_of other self.new.files.items ≡ Some file }
+        ensures refused { OnErr result (Stays place_holds place_out place_has place_file self.old self.new) }
+        ensures steady { IsSteadyPlace self.old → GoesOn (IsSteadyPlace self.new) (Unit {0}) result × IfOk result IsSteadyKeeper }
         ensures cause { HasKeepCause self.old.faults self.new.faults result }
         ensures fails { has_failed result ≡ fails_next self.old.calls self.old.failing.items }
         ensures gives { IfOk result (λ kept. (holding kept.shelves kept.generation ≡ given name.now (found_store name.now self.old.stores.items)) × (kept.schedule.items ≡ first_schedule self.old.schedules.items)) }
@@ -275,11 +281,11 @@ impl Place for MemoryPlace {
 
     fn open_existing(&mut self, name: &str) -> Result<MemoryKeeper, KeepFault>
         ensures kept { IfOk result (λ kept. StoreIsOut self.new.stores.items name.now × OpensWith name.now (StoreHolds self.old.stores.items name.now) (λ held. held ≡ holding kept.shelves kept.generation)) }
-        ensures others { (other : List ℕ) (held : Loaded) → other ≢ name.now → StoreHolds self.old.stores.items other held → StoreHolds self.new.stores.items other held }
-        ensures still_there { (other : List ℕ) → has_store self.old.stores.items other ≡ true → has_store self.new.stores.items other ≡ true }
+        ensures others { OthersStay place_holds place_out place_has place_file name.now self.old self.new }
         ensures there { IsOk result → has_store self.old.stores.items name.now ≡ true }
         ensures none_made { (other : List ℕ) → has_store self.new.stores.items other ≡ true → has_store self.old.stores.items other ≡ true }
-        ensures files { (other file : List ℕ) → bytes_of other self.old.files.items ≡ Some file → bytes_of other self.new.files.items ≡ Some file }
+        ensures refused { OnErr result (Stays place_holds place_out place_has place_file self.old self.new) }
+        ensures steady { IsSteadyPlace self.old → GoesOn (IsSteadyPlace self.new) (has_store self.old.stores.items name.now ≡ true) result × IfOk result IsSteadyKeeper }
         ensures cause { HasKeepCause self.old.faults self.new.faults result }
         ensures fails { has_failed result ≡ (not (has_store self.old.stores.items name.now) || fails_next self.old.calls self.old.failing.items) }
         ensures gives { IfOk result (λ kept. (holding kept.shelves kept.generation ≡ given name.now (found_store name.now self.old.stores.items)) × (kept.schedule.items ≡ first_schedule self.old.schedules.items)) }
@@ -295,10 +301,9 @@ impl Place for MemoryPlace {
     fn close_keeper(&mut self, name: &str, kept: MemoryKeeper)
         requires { StoreIsOut self.old.stores.items name.now }
         ensures kept { StoreHolds self.new.stores.items name.now (holding kept.shelves kept.generation) }
-        ensures others { (other : List ℕ) (held : Loaded) → other ≢ name.now → StoreHolds self.old.stores.items other held → StoreHolds self.new.stores.items other held }
-        ensures still_there { (other : List ℕ) → has_store self.old.stores.items other ≡ true → has_store self.new.stores.items other ≡ true }
-        ensures files { (other file : List ℕ) → bytes_of other self.old.files.items ≡ Some file → bytes_of other self.new.files.items ≡ Some file }
+        ensures others { OthersStay place_holds place_out place_has place_file name.now self.old self.new }
         ensures faults { TakesUp kept.faults self.old.faults self.new.faults }
+        ensures steady { IsSteadyPlace self.old → IsSteadyPlace self.new }
         ensures stores { self.new.stores.items ≡ with_store (kept_store name.now kept.shelves kept.generation) self.old.stores.items }
         ensures after { self.new ≡ record self.old { stores = self.new.stores; faults = counted (nat_lt 0 kept.faults) self.old.faults } }
     {
@@ -309,7 +314,8 @@ impl Place for MemoryPlace {
     fn read_accounts(&mut self, name: &str) -> Result<Bytes, KeepFault>
         ensures reads { (file : List ℕ) → bytes_of name.now self.old.files.items ≡ Some file → IfOk result (λ bytes. bytes ≡ file) }
         ensures there { IfOk result (λ bytes. bytes_of name.now self.old.files.items ≡ Some bytes) }
-        ensures stays { Stays (λ p name held. StoreHolds p.stores.items name held) (λ p name. StoreIsOut p.stores.items name) (λ p name. has_store p.stores.items name ≡ true) (λ p name file. bytes_of name p.files.items ≡ Some file) self.old self.new }
+        ensures stays { Stays place_holds place_out place_has place_file self.old self.new }
+        ensures steady { IsSteadyPlace self.old → GoesOn (IsSteadyPlace self.new) ((file : List ℕ) × (bytes_of name.now self.old.files.items ≡ Some file)) result }
         ensures cause { HasKeepCause self.old.faults self.new.faults result }
         ensures fails { has_failed result ≡ is_none (file_of name.now self.old.files.items) }
         ensures after { self.new ≡ record self.old { faults = counted (has_failed result) self.old.faults } }
@@ -322,4 +328,10 @@ impl Place for MemoryPlace {
             }
         }
     }
+
+    ghost steady_tells = { λ place steady. tt };
+
+    ghost holds_one = { λ place name one two told is also. is.1 ∙ sym also.1 };
+
+    ghost absent_is_empty = { λ place name told absent. absent_holds name place.stores.items absent };
 }

@@ -1,7 +1,7 @@
-ghost use Rattle.std.specs.Prelude.{◌≡◌, ◌≢◌, ℕ, List, IfOk, IsOk, OnOk};
+ghost use Rattle.std.specs.Prelude.{◌≡◌, ℕ, List, [], IfOk, IsOk, OnErr, OnOk};
 ghost use Rattle.rv_keeper.specs.declared.loaded.Loaded.{Loaded};
-ghost use Rattle.rv_keeper.specs.Keeping.{HasKeepCause};
-ghost use Rattle.rv_keeper.specs.Stores.{OpensWith, Stays, TakesUp};
+ghost use Rattle.rv_keeper.specs.Keeping.{HasKeepCause, holding};
+ghost use Rattle.rv_keeper.specs.Stores.{GoesOn, OpensWith, OthersStay, Stays, TakesUp};
 
 use crate::fault::KeepFault;
 use crate::keeper::Keeper;
@@ -31,6 +31,9 @@ pub trait Place {
     /// How often a call has failed, and how many keepers came back that had failed. It stands still at 2^64 - 1.
     ghost faults: { Self → ℕ };
 
+    /// No call fails any more but of a store or a file that isn't there, and no call of a keeper that is given.
+    ghost fails_no_more: { Self → Type 0 };
+
     /// How often a call has failed, and how many keepers came back that had failed.
     fn fault_count(&self) -> u64
         ensures { result ≡ faults self.now };
@@ -40,25 +43,25 @@ pub trait Place {
     fn open_keeper(&mut self, name: &str) -> Result<Self::Kept, KeepFault>
         ensures tells { tells self.new → tells self.old }
         ensures kept { tells self.new → IfOk result (λ kept. Self.Kept.tells kept × is_out self.new name.now × OpensWith name.now (holds self.old name.now) (Self.Kept.holds kept)) }
-        ensures others { tells self.new → (other : List ℕ) (held : Loaded) → other ≢ name.now → holds self.old other held → holds self.new other held }
-        ensures still_there { tells self.new → (other : List ℕ) → has self.old other → has self.new other }
+        ensures others { tells self.new → OthersStay holds is_out has accounts name.now self.old self.new }
         ensures made { tells self.new → OnOk result (has self.new name.now) }
-        ensures files { tells self.new → (other file : List ℕ) → accounts self.old other file → accounts self.new other file }
+        ensures refused { tells self.new → OnErr result (Stays holds is_out has accounts self.old self.new) }
         ensures fresh { IfOk result (λ kept. Self.Kept.faults kept ≡ 0) }
-        ensures cause { HasKeepCause (faults self.old) (faults self.new) result };
+        ensures cause { HasKeepCause (faults self.old) (faults self.new) result }
+        ensures steady { fails_no_more self.old → GoesOn (fails_no_more self.new) (Unit {0}) result × IfOk result Self.Kept.fails_no_more };
 
     /// The keeper of a store that is there, as of [`open_keeper`](Place::open_keeper). Of a store that isn't there it fails, and
     /// makes none. The store `memory` is always there.
     fn open_existing(&mut self, name: &str) -> Result<Self::Kept, KeepFault>
         ensures tells { tells self.new → tells self.old }
         ensures kept { tells self.new → IfOk result (λ kept. Self.Kept.tells kept × is_out self.new name.now × OpensWith name.now (holds self.old name.now) (Self.Kept.holds kept)) }
-        ensures others { tells self.new → (other : List ℕ) (held : Loaded) → other ≢ name.now → holds self.old other held → holds self.new other held }
-        ensures still_there { tells self.new → (other : List ℕ) → has self.old other → has self.new other }
+        ensures others { tells self.new → OthersStay holds is_out has accounts name.now self.old self.new }
         ensures there { tells self.new → IsOk result → has self.old name.now }
         ensures none_made { tells self.new → (other : List ℕ) → has self.new other → has self.old other }
-        ensures files { tells self.new → (other file : List ℕ) → accounts self.old other file → accounts self.new other file }
+        ensures refused { tells self.new → OnErr result (Stays holds is_out has accounts self.old self.new) }
         ensures fresh { IfOk result (λ kept. Self.Kept.faults kept ≡ 0) }
-        ensures cause { HasKeepCause (faults self.old) (faults self.new) result };
+        ensures cause { HasKeepCause (faults self.old) (faults self.new) result }
+        ensures steady { fails_no_more self.old → GoesOn (fails_no_more self.new) (has self.old name.now) result × IfOk result Self.Kept.fails_no_more };
 
     /// Takes the keeper of a store back: the store then holds what the keeper holds. It can't fail, and takes no memory. The
     /// count of faults rises where the keeper has failed.
@@ -66,10 +69,9 @@ pub trait Place {
         requires { tells self.old → is_out self.old name.now }
         ensures tells { tells self.new → tells self.old × Self.Kept.tells kept }
         ensures kept { tells self.new → (held : Loaded) → Self.Kept.holds kept held → holds self.new name.now held }
-        ensures others { tells self.new → (other : List ℕ) (held : Loaded) → other ≢ name.now → holds self.old other held → holds self.new other held }
-        ensures still_there { tells self.new → (other : List ℕ) → has self.old other → has self.new other }
-        ensures files { tells self.new → (other file : List ℕ) → accounts self.old other file → accounts self.new other file }
-        ensures faults { TakesUp (Self.Kept.faults kept) (faults self.old) (faults self.new) };
+        ensures others { tells self.new → OthersStay holds is_out has accounts name.now self.old self.new }
+        ensures faults { TakesUp (Self.Kept.faults kept) (faults self.old) (faults self.new) }
+        ensures steady { fails_no_more self.old → fails_no_more self.new };
 
     /// The bytes of the accounts file of this name, of any content. It fails where there is none. Nothing else changes.
     fn read_accounts(&mut self, name: &str) -> Result<Bytes, KeepFault>
@@ -77,5 +79,15 @@ pub trait Place {
         ensures reads { tells self.new → (file : List ℕ) → accounts self.old name.now file → IfOk result (λ bytes. bytes ≡ file) }
         ensures there { tells self.new → IfOk result (λ bytes. accounts self.old name.now bytes) }
         ensures stays { tells self.new → Stays holds is_out has accounts self.old self.new }
-        ensures cause { HasKeepCause (faults self.old) (faults self.new) result };
+        ensures cause { HasKeepCause (faults self.old) (faults self.new) result }
+        ensures steady { fails_no_more self.old → GoesOn (fails_no_more self.new) ((file : List ℕ) × accounts self.old name.now file) result };
+
+    /// What fails no more tells.
+    ghost steady_tells: { (place : Self) → fails_no_more place → tells place };
+
+    /// A store of a place that tells holds one thing.
+    ghost holds_one: { (place : Self) (name : List ℕ) (one two : Loaded) → tells place → holds place name one → holds place name two → one ≡ two };
+
+    /// A store that isn't there holds no cell, at generation 0, so it opens empty.
+    ghost absent_is_empty: { (place : Self) (name : List ℕ) → tells place → ¬ has place name → holds place name (holding [] 0) };
 }

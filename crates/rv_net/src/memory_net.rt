@@ -1,7 +1,7 @@
 // A net in memory, which fails at the calls of a list.
 ghost use Rattle.std.specs.Prelude.{◌≡◌, ◌+◌, ◌≤◌, ◌++◌, ◌||◌, [], length, nat_lt, vec_len, vec_capacity, Some, None, IfOk, IsErrOf};
 ghost use Rattle.rv_base.specs.Causes.{Counts, Rose};
-ghost use Rattle.rv_base.specs.InMemory.{fails_next};
+ghost use Rattle.rv_base.specs.InMemory.{FailsNoMore, fails_next};
 ghost use Rattle.rv_base.specs.Outside.{counted, counted_if};
 ghost use Rattle.rv_net.specs.declared.net_fault.NetFault.TheVariants as NetFault;
 ghost use Rattle.rv_net.specs.Giving.{Gives, has_failed};
@@ -89,6 +89,10 @@ impl Net for MemoryNet {
 
     ghost faults = { λ s. s.faults };
 
+    // No call of the list is still to come.
+    ghost fails_no_more = { λ s. FailsNoMore s.calls s.failing.items };
+
+    #[tactic(auto, using(rv_base::specs::InMemoryLaws::not_next, rv_base::specs::InMemoryLaws::fails_no_more_later))]
     fn listen(
         &mut self,
         port: u16,
@@ -105,6 +109,7 @@ impl Net for MemoryNet {
         ensures failing { self.new.failing ≡ self.old.failing }
         ensures calls { self.new.calls ≡ counted self.old.calls }
         ensures counted { self.new.faults ≡ counted_if (has_failed result) self.old.faults }
+        ensures steady { FailsNoMore self.old.calls self.old.failing.items → FailsNoMore self.new.calls self.new.failing.items × (count ≤ vec_len self.old.to_give → ¬ IsErrOf result NetFault.Failed) }
     {
         self.calls = self.calls.saturating_add(1);
         self.wanted = Some(Wanted { port, count, most });
@@ -127,6 +132,7 @@ impl Net for MemoryNet {
         ensures failing { self.new.failing ≡ self.old.failing }
         ensures wanted { self.new.wanted ≡ self.old.wanted }
         ensures counts { (self.new.calls ≡ self.old.calls) × (self.new.faults ≡ self.old.faults) }
+        ensures steady { FailsNoMore self.old.calls self.old.failing.items → FailsNoMore self.new.calls self.new.failing.items }
     {
         let mut listeners = listeners.into_vec();
         self.out -= listeners.len();
@@ -135,4 +141,6 @@ impl Net for MemoryNet {
             Err(_) => unreachable!(),
         }
     }
+
+    ghost steady_tells = { λ net steady. tt };
 }

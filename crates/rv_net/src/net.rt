@@ -32,6 +32,9 @@ pub trait Net {
     /// How often a call has failed. It stands still at 2^64 - 1.
     ghost faults: { Self → ℕ };
 
+    /// No call fails any more that asks for no more listeners than there are to give.
+    ghost fails_no_more: { Self → Type 0 };
+
     /// So many listeners at one port, each of which takes at most `most` connections. In memory, what a listener takes was
     /// settled before, and neither the port nor `most` is looked at.
     fn listen(
@@ -46,7 +49,8 @@ pub trait Net {
         ensures back { tells self.new → came_back self.new ≡ came_back self.old }
         ensures wanted { tells self.new → wanted self.new ≡ Some (record { port = port; count = count; most = most }) }
         ensures faults { Counts (faults self.old) (faults self.new) result }
-        ensures failed { IsErrOf result NetFault.Failed → Rose (faults self.old) (faults self.new) };
+        ensures failed { IsErrOf result NetFault.Failed → Rose (faults self.old) (faults self.new) }
+        ensures steady { fails_no_more self.old → fails_no_more self.new × (count ≤ length (to_give self.old) → ¬ IsErrOf result NetFault.Failed) };
 
     /// Takes listeners back. It can't fail, and takes no memory. Where the net tells after that, so do they.
     fn done(&mut self, listeners: Listeners<Self::Listen>)
@@ -56,5 +60,9 @@ pub trait Net {
         ensures out { tells self.new → out self.old ≡ out self.new + length listeners.listeners }
         ensures to_give { tells self.new → to_give self.new ≡ to_give self.old }
         ensures wanted { tells self.new → wanted self.new ≡ wanted self.old }
-        ensures faults { faults self.new ≡ faults self.old };
+        ensures faults { faults self.new ≡ faults self.old }
+        ensures steady { fails_no_more self.old → fails_no_more self.new };
+
+    /// What fails no more tells.
+    ghost steady_tells: { (net : Self) → fails_no_more net → tells net };
 }

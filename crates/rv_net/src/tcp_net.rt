@@ -76,6 +76,8 @@ impl Net for TcpNet<'_> {
 
     ghost faults = { λ s. s.faults };
 
+    ghost fails_no_more = { λ s. ⊥ };
+
     fn listen(&mut self, port: u16, count: u32, most: u32) -> Result<Listeners<TcpListen>, NetFault>
         ensures count { IfOk result (λ given. length given.listeners ≡ count) }
         ensures left { IfOk result (λ given. All (λ listener. listener.left ≡ most) given.listeners) }
@@ -95,4 +97,6 @@ impl Net for TcpNet<'_> {
     fn done(&mut self, _listeners: Listeners<TcpListen>)
         ensures { self.new ≡ self.old }
     {}
+
+    ghost steady_tells = { λ net steady. absurd steady };
 }

@@ -138,6 +138,9 @@ impl Place for HostPlace<'_> {
 
     ghost faults = { λ s. s.faults };
 
+    // It may fail whatever comes.
+    ghost fails_no_more = { λ s. ⊥ };
+
     fn fault_count(&self) -> u64 {
         self.faults
     }
@@ -160,4 +163,10 @@ impl Place for HostPlace<'_> {
     fn read_accounts(&mut self, name: &str) -> Result<Bytes, KeepFault> {
         counted(&mut self.faults, read_file(self.rt, name))
     }
+
+    ghost steady_tells = { λ place steady. steady };
+
+    ghost holds_one = { λ place name one two told is also. absurd told };
+
+    ghost absent_is_empty = { λ place name told absent. absurd told };
 }

@@ -8,7 +8,7 @@ use Rattle.rv_desk.specs.Opened.{WasLoaded, IsDamagedIn, IsLeft}
 use Rattle.rv_report.specs.declared.check_answer.CheckAnswer.{CheckAnswer}
 use Rattle.rv_report.specs.declared.check_answer.CheckAnswer.TheVariants.{Sound, Damaged, Keeper, Memory}
 
-module _ {K : Type 0} (tells : K → Type 0) (holds : K → Loaded → Type 0) (faults : K → ℕ) where
+module _ {K : Type 0} (tells fails_no_more : K → Type 0) (holds : K → Loaded → Type 0) (faults : K → ℕ) where
   -- what was loaded is what a lawful book of so many entries is kept as; the keeper's count of faults stays
   pub record IsSoundIn (entries : ℕ) (before now : K) : Type 0 where
     pub loaded : Loaded
@@ -18,14 +18,15 @@ module _ {K : Type 0} (tells : K → Type 0) (holds : K → Loaded → Type 0) (
     pub held : tells now → holds now loaded
     pub length : size book ≡ entries
     pub still : faults now ≡ faults before
+    pub goes_on : fails_no_more before → fails_no_more now
 
   -- as opening answers with the greatest limit
   abbrev pub Answers : CheckAnswer → K → K → Type 0
   Answers (Sound entries) before now = IsSoundIn entries before now
-  Answers (Damaged shelf key) before now = IsDamagedIn tells holds faults (2 ^ 32 - 1) before now shelf key
-  Answers Keeper before now = Rose (faults before) (faults now)
-  Answers Memory before now = Unit {0}
+  Answers (Damaged shelf key) before now = IsDamagedIn tells fails_no_more holds faults (2 ^ 32 - 1) before now shelf key
+  Answers Keeper before now = Rose (faults before) (faults now) × ¬ fails_no_more before
+  Answers Memory before now = faults now ≡ faults before
 
   -- and the keeper holds what it held
   abbrev pub Checks : K → CheckAnswer × K → Type 0
-  Checks before checked = Answers checked.0 before checked.1 × IsLeft tells holds faults before checked.1
+  Checks before checked = Answers checked.0 before checked.1 × IsLeft tells fails_no_more holds faults before checked.1

@@ -8,8 +8,9 @@ use Rattle.rv_book.specs.Book.{Book, size, since, with_entry}
 use Rattle.rv_history.specs.declared.trouble.Trouble.{Trouble}
 use Rattle.rv_history.specs.declared.trouble.Trouble.TheVariants.{Failed, Changed}
 use Rattle.rv_history.specs.Served.{Served, Settles, Stays, LeavesDoubt, TurnOf, TakesTurn}
-use Rattle.rv_desk.specs.Seated.{Seated, served}
-use Rattle.rv_desk.specs.Settling.{IsSettled, SettlesOrNot}
+use Rattle.rv_keeper.specs.Keeping.{Follows}
+use Rattle.rv_desk.specs.Seated.{Assures, Seated, served}
+use Rattle.rv_desk.specs.Settling.{IsSettled, SettlesOrNot, settle_trouble}
 use Rattle.rv_room.specs.declared.view.SeatView.{SeatView}
 use Rattle.rv_room.specs.Lists.{StartsWith, numbered}
 use Rattle.rv_room.specs.Views.{waiting, on_turn, grown, entered, listed}
@@ -108,9 +109,18 @@ module _ {K : Type 0} where
 
 -- ---- All of a turn.
 
-module _ {K : Type 0} (tells : K → Type 0) where
-  pub of_after : (v : SeatView K) (d d' : Seated K) → IsOf tells v d → d'.limit ≡ d.limit → (tells d'.keeper → tells d.keeper) → IsOf tells v d'
-  of_after v d d' of limit told = (of.0, of.1, record { limit = limit ∙ of.2.limit; told = (λ t. of.2.told (told t)) })
+module _ {K : Type 0} (faults : K → ℕ) (tells fails_no_more : K → Type 0) where
+  abbrev pub Goes : K → K → Type 0
+  Goes = Follows faults tells fails_no_more
+
+  pub goes_with : (old new : K) (tr : Option Trouble) → Assures tells fails_no_more old tr new → faults old ≤ faults new → Goes old new
+  goes_with old new tr assured later = record { told = assured.told; goes_on = assured.goes_on; later = later }
+
+  pub goes_on : (old mid new : K) → Goes old mid → Goes mid new → Goes old new
+  goes_on old mid new first next = record { told = λ t. first.told (next.told t); goes_on = λ s. next.goes_on (first.goes_on s); later = omega (arith, first.later, next.later) }
+
+  pub of_after : (v : SeatView K) (d d' : Seated K) → IsOf Goes v d → d'.limit ≡ d.limit → Goes d.keeper d'.keeper → IsOf Goes v d'
+  of_after v d d' of limit goes = (of.0, of.1, record { limit = limit ∙ of.2.limit; keeper = goes_on of.0.keeper d.keeper d'.keeper of.2.keeper goes })
 
 module _ {A : Type 0} (trouble : A → Option Trouble) (Step : Book → A → Book → Type 0) (adds : (book : Book) (a : A) (new : Book) → Step book a new → Adds book new) where
   -- where nothing was in doubt, a turn adds at most one entry
@@ -123,7 +133,7 @@ module _ {A : Type 0} (trouble : A → Option Trouble) (Step : Book → A → Bo
       go (Some (Changed kept found)) u = absurd (sure_is_none old.doubt sure u.1)
 
   -- a turn from where nothing is in doubt, as a turn of a seat that had settled
-  pub turn_as : (p : Parts) (old : Served) (a : A) (new : Served) → old.doubt ≡ None → settled_book p ≡ old.book → p.made ≡ since (size old.book) new.book → p.left ≡ listed new.doubt → p.first ≤ old.faults → p.last ≡ new.faults
+  pub turn_as : (p : Parts) (old : Served) (a : A) (new : Served) → old.doubt ≡ None → settled_book p ≡ old.book → p.made ≡ since (size old.book) new.book → p.left ≡ listed new.doubt → p.first ≡ old.faults → p.last ≡ new.faults
       → TakesTurn trouble Step old a new → TurnAs trouble Step p a (trouble a)
   turn_as p old a new sure settled made left first last t = go (trouble a) t.turn
     where
@@ -134,13 +144,14 @@ module _ {A : Type 0} (trouble : A → Option Trouble) (Step : Book → A → Bo
       go None u = (
         left ∙ ap listed u.3,
         subst (λ (b : Book × Book). Step b.0 a b.1) (λ i. ((sure_settles old.book old.doubt sure u.0 u.1 ∙ sym settled) i, sym whole i)) u.2,
+        last ∙ (u.4 ∙ sym first),
       )
       go (Some Failed) u =
           ⊎_elim
           (λ (h : IsSome old.doubt × Stays old new). absurd (sure_is_none old.doubt sure h.0))
           (λ (h : LeavesDoubt trouble Step old new).
           let book : new.book ≡ old.book = sure_settles old.book old.doubt sure new.book h.settled in (
-            subst (λ (n : ℕ). Rose p.first n) (sym last) (rose_before p.first old.faults new.faults first u.0),
+            subst (λ (n : ℕ). Rose p.first n) (sym last) (rose_before p.first old.faults new.faults (omega (arith, first)) u.0),
             made ∙ (ap (λ (b : Book). drop (length old.book) b) book ∙ drop_self old.book),
             inr (record {
               entry = h.entry;
@@ -152,12 +163,12 @@ module _ {A : Type 0} (trouble : A → Option Trouble) (Step : Book → A → Bo
           u.1
       go (Some (Changed kept found)) u = absurd (sure_is_none old.doubt sure u.1)
 
-module _ {K A : Type 0} (faults : K → ℕ) (tells : K → Type 0) (trouble : A → Option Trouble) (Step : ℕ → Book → A → Book → Type 0) where
+module _ {K A : Type 0} (faults : K → ℕ) (tells fails_no_more : K → Type 0) (trouble : A → Option Trouble) (Step : ℕ → Book → A → Book → Type 0) where
   pub seat_turn : ((limit : ℕ) (book : Book) (a : A) (new : Book) → Step limit book a new → Adds book new)
-      → (v : SeatView K) (t : ℕ) (d mid d' : Seated K) (a : A) → IsOf tells v d → StartsWith d.book v.seen → AllByRecursion (λ (k : ℕ). k ≤ faults d.keeper) v.after
-      → IsSettled (served faults d) (Ok tt) (served faults mid) → TakesTurn trouble (Step mid.limit) (served faults mid) a (served faults d')
-      → IsSeatTurn faults trouble Step v a (end_view (on_turn faults (waiting v t) d) mid.book d'.book d'.doubt (faults d'.keeper))
-  seat_turn adds v t d mid d' a of begins later settled turn =
+      → (v : SeatView K) (t : ℕ) (d mid d' : Seated K) (a : A) → IsOf (Goes faults tells fails_no_more) v d → StartsWith d.book v.seen → AllByRecursion (λ (k : ℕ). k ≤ faults d.keeper) v.after
+      → IsSettled (served faults d) (Ok tt) (served faults mid) → TakesTurn trouble (Step mid.limit) (served faults mid) a (served faults d') → (fails_no_more d.keeper → trouble a ≡ None)
+      → IsSeatTurn faults fails_no_more trouble Step v a (end_view (on_turn faults (waiting v t) d) mid.book d'.book d'.doubt (faults d'.keeper))
+  seat_turn adds v t d mid d' a of begins later settled turn sure =
       let limit : mid.limit ≡ of.0.limit = settled.limit ∙ of.2.limit in
       let turn' : TakesTurn trouble (Step of.0.limit) (served faults mid) a (served faults d') = subst (λ (n : ℕ). TakesTurn trouble (Step n) (served faults mid) a (served faults d')) limit turn in
       let came : List Entry = since (size d.book) mid.book in
@@ -169,11 +180,9 @@ module _ {K A : Type 0} (faults : K → ℕ) (tells : K → Type 0) (trouble : A
       record {
         opened = of.0;
         turn = p;
-        desk = d;
-        desk' = d';
-        first = (refl, refl, refl);
-        last = (sym last, refl);
         room = of.1;
+        risen = of.2.keeper.later;
+        sure = λ steady. sure (of.2.keeper.goes_on steady);
         begins = begins;
         since = later;
         later = omega arith;
@@ -181,7 +190,7 @@ module _ {K A : Type 0} (faults : K → ℕ) (tells : K → Type 0) (trouble : A
             (λ (same : mid.book ≡ d.book). inl (ap (λ (b : Book). drop (length d.book) b) same ∙ drop_self d.book))
             (λ (u : (e : Entry) × (d.doubt ≡ Some e) × (mid.book ≡ with_entry d.book e)). inr (u.0, u.1, ap (λ (b : Book). drop (length d.book) b) u.2 ∙ drop_front d.book (u.0 ∷ [])))
             (settled_ways d.book d.doubt mid.book settled.settled.0);
-        is = turn_as trouble (Step of.0.limit) (adds of.0.limit) p (served faults mid) a (served faults d') settled.settled.1 whole refl refl up refl turn';
+        is = turn_as trouble (Step of.0.limit) (adds of.0.limit) p (served faults mid) a (served faults d') settled.settled.1 whole refl refl (sym settled.settled.2) refl turn';
         stays = refl;
         seen = sym last;
         ends = ap (λ (b : Book). v.ends ++ size b ∷ []) (sym last);
@@ -192,20 +201,18 @@ module _ {K A : Type 0} (faults : K → ℕ) (tells : K → Type 0) (trouble : A
         after = refl;
       }
 
-  pub seat_held : (v : SeatView K) (t : ℕ) (d d' : Seated K) (tr : Trouble) (a : A) → IsOf tells v d → StartsWith d.book v.seen → AllByRecursion (λ (k : ℕ). k ≤ faults d.keeper) v.after
-      → IsSettled (served faults d) (Err tr) (served faults d') → trouble a ≡ Some tr
-      → IsSeatTurn faults trouble Step v a (held_view (on_turn faults (waiting v t) d) (faults d'.keeper))
-  seat_held v t d d' tr a of begins later settled is =
+  pub seat_held : (v : SeatView K) (t : ℕ) (d d' : Seated K) (tr : Trouble) (a : A) → IsOf (Goes faults tells fails_no_more) v d → StartsWith d.book v.seen → AllByRecursion (λ (k : ℕ). k ≤ faults d.keeper) v.after
+      → IsSettled (served faults d) (Err tr) (served faults d') → trouble a ≡ Some tr → (fails_no_more d.keeper → Some tr ≡ None)
+      → IsSeatTurn faults fails_no_more trouble Step v a (held_view (on_turn faults (waiting v t) d) (faults d'.keeper))
+  seat_held v t d d' tr a of begins later settled is sure =
       let whole : (d.book ++ []) ++ [] ≡ d.book = append-nil (d.book ++ []) ∙ append-nil d.book in
       let p : Parts = record { history = d.book; doubt = d.doubt; came = []; made = []; left = []; first = faults d.keeper; last = faults d'.keeper } in
       record {
         opened = of.0;
         turn = p;
-        desk = d;
-        desk' = d';
-        first = (refl, refl, refl);
-        last = (stays tr settled.settled ∙ sym whole, refl);
         room = of.1;
+        risen = of.2.keeper.later;
+        sure = λ steady. absurd (let e = sure (of.2.keeper.goes_on steady) in cc);
         begins = begins;
         since = later;
         later = settled.later;
@@ -221,10 +228,6 @@ module _ {K A : Type 0} (faults : K → ℕ) (tells : K → Type 0) (trouble : A
         after = refl;
       }
     where
-      stays : (tr : Trouble) → SettlesOrNot (served faults d) (Err tr) (served faults d') → d'.book ≡ d.book
-      stays Failed u = u.2.0
-      stays (Changed kept found) u = u.5.0
-
       go : (tr : Trouble) → SettlesOrNot (served faults d) (Err tr) (served faults d') → TurnAs trouble (Step of.0.limit) (record { history = d.book; doubt = d.doubt; came = []; made = []; left = []; first = faults d.keeper; last = faults d'.keeper }) a (Some tr)
       go Failed u = (u.0, refl, inl (record { doubt = u.1; came = refl; left = refl }))
       go (Changed kept found) u = (u.0, refl, record { doubt = u.1; came = refl; left = refl }, u.2, u.3, u.4)
@@ -236,25 +239,27 @@ module _ {K : Type 0} (faults : K → ℕ) where
   abbrev pub HasTaken : SeatView K → Seated K → Knows K → Type 0
   HasTaken v d m = (t : ℕ) × (m ≡ (on_turn faults (waiting v t) d, (0, None) ∷ []))
 
-  pub taken_of : (tells : K → Type 0) (v : SeatView K) (d d' : Seated K) (m : Knows K) → HasTaken v d m → IsOf tells v d → d'.limit ≡ d.limit → (tells d'.keeper → tells d.keeper) → IsOf tells m.0 d'
-  taken_of tells v d d' m taken of limit told = subst (λ (m : Knows K). IsOf tells m.0 d') (sym taken.1) (of_after tells v d d' of limit told)
+  pub taken_of : (tells fails_no_more : K → Type 0) (v : SeatView K) (d d' : Seated K) (m : Knows K) → HasTaken v d m → IsOf (Goes faults tells fails_no_more) v d → d'.limit ≡ d.limit → Goes faults tells fails_no_more d.keeper d'.keeper
+      → IsOf (Goes faults tells fails_no_more) m.0 d'
+  taken_of tells fails_no_more v d d' m taken of limit goes = subst (λ (m : Knows K). IsOf (Goes faults tells fails_no_more) m.0 d') (sym taken.1) (of_after faults tells fails_no_more v d d' of limit goes)
 
   pub taken_settles : (v : SeatView K) (d : Seated K) (m : Knows K) (s : Book) → HasTaken v d m → Settles d.book d.doubt s → Settles m.0.book m.0.doubt s
   taken_settles v d m s taken is = subst (λ (m : Knows K). Settles m.0.book m.0.doubt s) (sym taken.1) is
 
-module _ {K A : Type 0} (faults : K → ℕ) (tells : K → Type 0) (trouble : A → Option Trouble) (Step : ℕ → Book → A → Book → Type 0) (adds : (limit : ℕ) (book : Book) (a : A) (new : Book) → Step limit book a new → Adds book new) where
-  pub ended_turn : (v : SeatView K) (d mid d' : Seated K) (m : Knows K) (a : A) (w : SeatView K) → HasTaken faults v d m → IsOf tells v d → StartsWith d.book v.seen → AllByRecursion (λ (k : ℕ). k ≤ faults d.keeper) v.after
-      → (settled : Result (Unit {0}) Trouble) → settled ≡ Ok tt → IsSettled (served faults d) settled (served faults mid) → TakesTurn trouble (Step mid.limit) (served faults mid) a (served faults d')
+module _ {K A : Type 0} (faults : K → ℕ) (tells fails_no_more : K → Type 0) (trouble : A → Option Trouble) (Step : ℕ → Book → A → Book → Type 0) (adds : (limit : ℕ) (book : Book) (a : A) (new : Book) → Step limit book a new → Adds book new) where
+  pub ended_turn : (v : SeatView K) (d mid d' : Seated K) (m : Knows K) (a : A) (w : SeatView K) → HasTaken faults v d m → IsOf (Goes faults tells fails_no_more) v d → StartsWith d.book v.seen → AllByRecursion (λ (k : ℕ). k ≤ faults d.keeper) v.after
+      → (settled : Result (Unit {0}) Trouble) → settled ≡ Ok tt → IsSettled (served faults d) settled (served faults mid) → TakesTurn trouble (Step mid.limit) (served faults mid) a (served faults d') → (fails_no_more d.keeper → trouble a ≡ None)
       → w ≡ end_view m.0 mid.book d'.book d'.doubt (faults d'.keeper)
-      → IsSeatTurn faults trouble Step v a w
-  ended_turn v d mid d' m a w taken of begins later settled ok is turn view =
-      subst (IsSeatTurn faults trouble Step v a) (sym (view ∙ ap (λ (m : Knows K). end_view m.0 mid.book d'.book d'.doubt (faults d'.keeper)) taken.1))
-      (seat_turn faults tells trouble Step adds v taken.0 d mid d' a of begins later (subst (λ (r : Result (Unit {0}) Trouble). IsSettled (served faults d) r (served faults mid)) ok is) turn)
+      → IsSeatTurn faults fails_no_more trouble Step v a w
+  ended_turn v d mid d' m a w taken of begins later settled ok is turn sure view =
+      subst (IsSeatTurn faults fails_no_more trouble Step v a) (sym (view ∙ ap (λ (m : Knows K). end_view m.0 mid.book d'.book d'.doubt (faults d'.keeper)) taken.1))
+      (seat_turn faults tells fails_no_more trouble Step adds v taken.0 d mid d' a of begins later (subst (λ (r : Result (Unit {0}) Trouble). IsSettled (served faults d) r (served faults mid)) ok is) turn sure)
 
-  pub held_turn : (v : SeatView K) (d d' : Seated K) (m : Knows K) (a : A) (w : SeatView K) (why : Trouble) → HasTaken faults v d m → IsOf tells v d → StartsWith d.book v.seen → AllByRecursion (λ (k : ℕ). k ≤ faults d.keeper) v.after
-      → (settled : Result (Unit {0}) Trouble) → settled ≡ Err why → IsSettled (served faults d) settled (served faults d') → trouble a ≡ Some why
+  pub held_turn : (v : SeatView K) (d d' : Seated K) (m : Knows K) (a : A) (w : SeatView K) (why : Trouble) → HasTaken faults v d m → IsOf (Goes faults tells fails_no_more) v d → StartsWith d.book v.seen → AllByRecursion (λ (k : ℕ). k ≤ faults d.keeper) v.after
+      → (settled : Result (Unit {0}) Trouble) → settled ≡ Err why → IsSettled (served faults d) settled (served faults d') → trouble a ≡ Some why → (fails_no_more d.keeper → settle_trouble settled ≡ None)
       → w ≡ held_view m.0 (faults d'.keeper)
-      → IsSeatTurn faults trouble Step v a w
-  held_turn v d d' m a w why taken of begins later settled err is told view =
-      subst (IsSeatTurn faults trouble Step v a) (sym (view ∙ ap (λ (m : Knows K). held_view m.0 (faults d'.keeper)) taken.1))
-      (seat_held faults tells trouble Step v taken.0 d d' why a of begins later (subst (λ (r : Result (Unit {0}) Trouble). IsSettled (served faults d) r (served faults d')) err is) told)
+      → IsSeatTurn faults fails_no_more trouble Step v a w
+  held_turn v d d' m a w why taken of begins later settled err is told sure view =
+      subst (IsSeatTurn faults fails_no_more trouble Step v a) (sym (view ∙ ap (λ (m : Knows K). held_view m.0 (faults d'.keeper)) taken.1))
+      (seat_held faults tells fails_no_more trouble Step v taken.0 d d' why a of begins later (subst (λ (r : Result (Unit {0}) Trouble). IsSettled (served faults d) r (served faults d')) err is) told
+      (λ steady. ap settle_trouble (sym err) ∙ sure steady))

@@ -84,18 +84,18 @@ module _ {K : Type 0} where
   pub doubt_set : (views : List (SeatView K)) (id : ℕ) (v w : SeatView K) → At views id v → (more : List Entry) → w.left ≡ v.left ++ more → (d : Option Entry) → DoubtIsLeft views d → DoubtIsLeft (set views id w) d
   doubt_set views id v w at more grows d l e is = left_set views id v w at more grows e (l e is)
 
-module _ {K : Type 0} (faults : K → ℕ) (tells : K → Type 0) (opened : Seated K) (seats : ℕ) where
+module _ {K : Type 0} (faults : K → ℕ) (follows : K → K → Type 0) (opened : Seated K) (seats : ℕ) where
   abbrev Homes : Type 0
   Homes = List (maybe.Option (Option (Seated K)))
 
   abbrev Rule : List ℕ → Homes → List (SeatView K) → Type 0
-  Rule = Kept faults tells opened seats
+  Rule = Kept faults follows opened seats
 
   abbrev S : Type 0
   S = State (Option (Seated K)) (SeatView K)
 
   abbrev Home : Book → ℕ → Homes → List (SeatView K) → Type 0
-  Home = AtHome faults tells opened
+  Home = AtHome faults follows opened
 
   abbrev Slot : Book → ℕ → Homes → List (SeatView K) → Type 0
   Slot log top homes views = Home log top homes views ⊎ IsOut homes views
@@ -168,7 +168,7 @@ module _ {K : Type 0} (faults : K → ℕ) (tells : K → Type 0) (opened : Seat
   settled_still : (words : List ℕ) (homes : Homes) (views : List (SeatView K)) (k : Rule words homes views) (id : ℕ) (v w : SeatView K) → At views id v → (more : List Entry) → w.left ≡ v.left ++ more → AllByRecursion (IsLeft (set views id w)) v.settled
   settled_still words homes views k id v w at more grows = all_map _ _ v.settled (left_set views id v w at more grows) (k.left id v at)
 
-  pub takes_ticket : (slots id : ℕ) (v : SeatView K) (c : List (ℕ × Option (Seated K))) → IsIdle v → 0 < v.parts → Allows (KeptIn faults tells opened seats) slots id (v, c) 0 (λ n. (n + 1) % 2 ^ 64) (TakesTicket (v, c))
+  pub takes_ticket : (slots id : ℕ) (v : SeatView K) (c : List (ℕ × Option (Seated K))) → IsIdle v → 0 < v.parts → Allows (KeptIn faults follows opened seats) slots id (v, c) 0 (λ n. (n + 1) % 2 ^ 64) (TakesTicket (v, c))
   takes_ticket slots id v c idle some_part s k len at bound =
       let n : ℕ = total waits_of s.views in
       let t : ℕ = k.front + n in
@@ -201,11 +201,11 @@ module _ {K : Type 0} (faults : K → ℕ) (tells : K → Type 0) (opened : Seat
   same_rule words homes views id v k at = subst (λ (vs : List (SeatView K)). Rule words homes vs) (sym (set_again views id v at)) k
 
   -- the ticket is taken if it still is the next one
-  pub takes_if_next : (slots id : ℕ) (v : SeatView K) (c : List (ℕ × Option (Seated K))) → IsIdle v → 0 < v.parts → (ticket next : ℕ) → next ≡ (ticket + 1) % 2 ^ 64 → Allows (KeptIn faults tells opened seats) slots id (v, c) 0 (λ n. either (n == ticket) next n) (TakesIfNext ticket (v, c))
+  pub takes_if_next : (slots id : ℕ) (v : SeatView K) (c : List (ℕ × Option (Seated K))) → IsIdle v → 0 < v.parts → (ticket next : ℕ) → next ≡ (ticket + 1) % 2 ^ 64 → Allows (KeptIn faults follows opened seats) slots id (v, c) 0 (λ n. either (n == ticket) next n) (TakesIfNext ticket (v, c))
   takes_if_next slots id v c idle some_part ticket next is s k len at bound = exchanged (slice_index s.words 0) ticket next Goes hit miss
     where
       Goes : ℕ → Type 0
-      Goes n = (w : SeatView K) × (a : Act (Option (Seated K))) × Valid s.homes c a × KeptIn faults tells opened seats (stepped s 0 n id c w a) × TakesIfNext ticket (v, c) (slice_index s.words 0) (w, carried_after c a)
+      Goes n = (w : SeatView K) × (a : Act (Option (Seated K))) × Valid s.homes c a × KeptIn faults follows opened seats (stepped s 0 n id c w a) × TakesIfNext ticket (v, c) (slice_index s.words 0) (w, carried_after c a)
 
       hit : slice_index s.words 0 ≡ ticket → Goes next
       hit e =
@@ -214,7 +214,7 @@ module _ {K : Type 0} (faults : K → ℕ) (tells : K → Type 0) (opened : Seat
             t.0,
             t.1,
             t.2,
-            subst (λ (n : ℕ). KeptIn faults tells opened seats (stepped s 0 n id c t.0 t.1)) more t.3,
+            subst (λ (n : ℕ). KeptIn faults follows opened seats (stepped s 0 n id c t.0 t.1)) more t.3,
             ((λ _. t.4), (λ ne. absurd (ne e))),
           )
 
@@ -228,14 +228,14 @@ module _ {K : Type 0} (faults : K → ℕ) (tells : K → Type 0) (opened : Seat
       )
 
   -- the number of turns that have ended is read
-  pub looks : (slots id : ℕ) (v : SeatView K) (c : List (ℕ × Option (Seated K))) → v.waits ≡ 1 → v.turns ≡ 0 → Allows (KeptIn faults tells opened seats) slots id (v, c) 1 (λ n. n) (Looks faults tells (v, c))
+  pub looks : (slots id : ℕ) (v : SeatView K) (c : List (ℕ × Option (Seated K))) → v.waits ≡ 1 → v.turns ≡ 0 → Allows (KeptIn faults follows opened seats) slots id (v, c) 1 (λ n. n) (Looks faults follows (v, c))
   looks slots id v c wait off s k len at bound = dite (ℕ_discrete (slice_index s.words 1) (v.ticket % 2 ^ 64)) mine other
     where
       same_words : slice_set s.words 1 (slice_index s.words 1) ≡ s.words
       same_words = ap (λ ws. slice_set ws 1 (slice_index ws 1)) k.words_are ∙ sym k.words_are
 
       Goes : Type 0
-      Goes = (w : SeatView K) × (a : Act (Option (Seated K))) × Valid s.homes c a × KeptIn faults tells opened seats (stepped s 1 (slice_index s.words 1) id c w a) × Looks faults tells (v, c) (slice_index s.words 1) (w, carried_after c a)
+      Goes = (w : SeatView K) × (a : Act (Option (Seated K))) × Valid s.homes c a × KeptIn faults follows opened seats (stepped s 1 (slice_index s.words 1) id c w a) × Looks faults follows (v, c) (slice_index s.words 1) (w, carried_after c a)
 
       other : slice_index s.words 1 ≢ v.ticket % 2 ^ 64 → Goes
       other ne = (v, keeps, tt, subst (λ (ws : List ℕ). Rule ws s.homes (set s.views id v)) (sym same_words) (same_rule s.words s.homes s.views id v k at), ((λ _. refl), (λ e. absurd (ne e))))
@@ -290,7 +290,7 @@ module _ {K : Type 0} (faults : K → ℕ) (tells : K → Type 0) (opened : Seat
               )
 
   -- the view with the turn names the history, and the slot is empty
-  record OnTurn (s : S) (id : ℕ) (v : SeatView K) (k : KeptIn faults tells opened seats s) : Type 0 where
+  record OnTurn (s : S) (id : ℕ) (v : SeatView K) (k : KeptIn faults follows opened seats s) : Type 0 where
     waits : v.waits ≡ 1
     ticket : v.ticket ≡ k.front
     named : v.book ≡ k.log
@@ -299,7 +299,7 @@ module _ {K : Type 0} (faults : K → ℕ) (tells : K → Type 0) (opened : Seat
     doubt : DoubtIsLeft s.views v.doubt
     others : (i : ℕ) (u : SeatView K) → i ≢ id → At s.views i u → u.turns ≡ 0
 
-  on_turn_now : (s : S) (id : ℕ) (v : SeatView K) (k : KeptIn faults tells opened seats s) → At s.views id v → v.turns ≡ 1 → OnTurn s id v k
+  on_turn_now : (s : S) (id : ℕ) (v : SeatView K) (k : KeptIn faults follows opened seats s) → At s.views id v → v.turns ≡ 1 → OnTurn s id v k
   on_turn_now s id v k at on =
       let f = k.each id v at in
       let once = f.once in
@@ -351,7 +351,7 @@ module _ {K : Type 0} (faults : K → ℕ) (tells : K → Type 0) (opened : Seat
     left : w.left ≡ v.left
 
   -- the history is one entry longer, which becomes own of the view with the turn
-  grows : (s : S) (id : ℕ) (v w : SeatView K) (k : KeptIn faults tells opened seats s) → At s.views id v → v.turns ≡ 1 → (e : Entry) (now : Book) → now ≡ v.book ++ e ∷ [] → length now < 2 ^ 63
+  grows : (s : S) (id : ℕ) (v w : SeatView K) (k : KeptIn faults follows opened seats s) → At s.views id v → v.turns ≡ 1 → (e : Entry) (now : Book) → now ≡ v.book ++ e ∷ [] → length now < 2 ^ 63
       → w.book ≡ now → w.own ≡ v.own ++ numbered (size v.book) (since (size v.book) now) → IsAsBefore v w
       → DoubtIsLeft (set s.views id w) w.doubt → AllByRecursion (IsLeft (set s.views id w)) w.settled
       → Rule (slice_set s.words 2 ((slice_index s.words 2 + 1) % 2 ^ 64)) s.homes (set s.views id w)
@@ -410,7 +410,7 @@ module _ {K : Type 0} (faults : K → ℕ) (tells : K → Type 0) (opened : Seat
           }
 
   -- the entry that was in doubt has entered the book
-  pub counts_settled : (slots id : ℕ) (v : SeatView K) (c : List (ℕ × Option (Seated K))) (e : Entry) → v.turns ≡ 1 → v.doubt ≡ Some e → size (with_entry v.book e) < 2 ^ 63 → Allows (KeptIn faults tells opened seats) slots id (v, c) 2 (λ n. (n + 1) % 2 ^ 64) (CountsSettled (v, c))
+  pub counts_settled : (slots id : ℕ) (v : SeatView K) (c : List (ℕ × Option (Seated K))) (e : Entry) → v.turns ≡ 1 → v.doubt ≡ Some e → size (with_entry v.book e) < 2 ^ 63 → Allows (KeptIn faults follows opened seats) slots id (v, c) 2 (λ n. (n + 1) % 2 ^ 64) (CountsSettled (v, c))
   counts_settled slots id v c e on is short s k len at bound =
       let o = on_turn_now s id v k at on in
       let now : Book = v.book ++ listed v.doubt in
@@ -431,7 +431,7 @@ module _ {K : Type 0} (faults : K → ℕ) (tells : K → Type 0) (opened : Seat
 
   -- one entry that the step made is counted
   pub counts_made : (slots id : ℕ) (v : SeatView K) (d : Seated K) (e : Entry) → v.turns ≡ 1 → d.book ≡ with_entry v.book e → size d.book < 2 ^ 63
-      → Allows (KeptIn faults tells opened seats) slots id (v, (0, Some d) ∷ []) 2 (λ n. (n + 1) % 2 ^ 64) (CountsMade (v, (0, Some d) ∷ []))
+      → Allows (KeptIn faults follows opened seats) slots id (v, (0, Some d) ∷ []) 2 (λ n. (n + 1) % 2 ^ 64) (CountsMade (v, (0, Some d) ∷ []))
   counts_made slots id v d e on longer short s k len at bound =
       let o = on_turn_now s id v k at on in
       let w = grown v d.book in
@@ -452,7 +452,7 @@ module _ {K : Type 0} (faults : K → ℕ) (tells : K → Type 0) (opened : Seat
       → (more : List Entry) → w.left ≡ v.left ++ more
       → ((views : List (SeatView K)) → At views id v → DoubtIsLeft views v.doubt → DoubtIsLeft (set views id w) w.doubt)
       → ((n : ℕ) → Told n (w, c))
-      → Allows (KeptIn faults tells opened seats) slots id (v, c) 1 (λ n. n) Told
+      → Allows (KeptIn faults follows opened seats) slots id (v, c) 1 (λ n. n) Told
   looked slots id v w c Told on up same more more_left doubt told s k len at bound =
       let o = on_turn_now s id v k at on in
       let n : ℕ = total waits_of s.views in
@@ -502,7 +502,7 @@ module _ {K : Type 0} (faults : K → ℕ) (tells : K → Type 0) (opened : Seat
       (id, w, here views id v w at, (length v.left, ap (λ l. slice_get l (length v.left)) (more ∙ ap (λ (x : Option Entry). v.left ++ listed x) is) ∙ get_last v.left e))
 
   -- the desk has settled and stepped
-  pub notes_settled : (slots id : ℕ) (v : SeatView K) (d : Seated K) → v.turns ≡ 1 → v.faults ≤ faults d.keeper → Allows (KeptIn faults tells opened seats) slots id (v, (0, Some d) ∷ []) 1 (λ n. n) (NotesSettled faults (v, (0, Some d) ∷ []))
+  pub notes_settled : (slots id : ℕ) (v : SeatView K) (d : Seated K) → v.turns ≡ 1 → v.faults ≤ faults d.keeper → Allows (KeptIn faults follows opened seats) slots id (v, (0, Some d) ∷ []) 1 (λ n. n) (NotesSettled faults (v, (0, Some d) ∷ []))
   notes_settled slots id v d on up =
       let w = noted v d.doubt (faults d.keeper) in
       looked slots id v w ((0, Some d) ∷ []) (NotesSettled faults (v, (0, Some d) ∷ [])) on up
@@ -513,7 +513,7 @@ module _ {K : Type 0} (faults : K → ℕ) (tells : K → Type 0) (opened : Seat
       (λ n. refl)
 
   -- the desk could not settle
-  pub notes_faults : (slots id : ℕ) (v : SeatView K) (d : Seated K) → v.turns ≡ 1 → v.faults ≤ faults d.keeper → Allows (KeptIn faults tells opened seats) slots id (v, (0, Some d) ∷ []) 1 (λ n. n) (NotesFaults faults (v, (0, Some d) ∷ []))
+  pub notes_faults : (slots id : ℕ) (v : SeatView K) (d : Seated K) → v.turns ≡ 1 → v.faults ≤ faults d.keeper → Allows (KeptIn faults follows opened seats) slots id (v, (0, Some d) ∷ []) 1 (λ n. n) (NotesFaults faults (v, (0, Some d) ∷ []))
   notes_faults slots id v d on up =
       let w = with_faults v (faults d.keeper) in
       looked slots id v w ((0, Some d) ∷ []) (NotesFaults faults (v, (0, Some d) ∷ [])) on up
@@ -524,8 +524,8 @@ module _ {K : Type 0} (faults : K → ℕ) (tells : K → Type 0) (opened : Seat
       (λ n. refl)
 
   -- the turn is passed, and the desk is at home
-  pub passes : (slots id : ℕ) (v : SeatView K) (d : Seated K) → v.turns ≡ 1 → IsOf tells v d → d.book ≡ v.book → d.doubt ≡ v.doubt → faults d.keeper ≡ v.faults
-      → Allows (KeptIn faults tells opened seats) slots id (v, (0, Some d) ∷ []) 1 (λ n. (n + 1) % 2 ^ 64) (Passes (v, (0, Some d) ∷ []))
+  pub passes : (slots id : ℕ) (v : SeatView K) (d : Seated K) → v.turns ≡ 1 → IsOf follows v d → d.book ≡ v.book → d.doubt ≡ v.doubt → faults d.keeper ≡ v.faults
+      → Allows (KeptIn faults follows opened seats) slots id (v, (0, Some d) ∷ []) 1 (λ n. (n + 1) % 2 ^ 64) (Passes (v, (0, Some d) ∷ []))
   passes slots id v d on of is doubt count s k len at bound =
       let o = on_turn_now s id v k at on in
       let n : ℕ = total waits_of s.views in
@@ -551,7 +551,7 @@ module _ {K : Type 0} (faults : K → ℕ) (tells : K → Type 0) (opened : Seat
               home = home;
               book = is ∙ o.named;
               count = count ∙ o.count;
-              keeps = subst (λ (x : Seated K). Keeps tells x d) same_room of.2;
+              keeps = subst (λ (x : Seated K). Keeps follows x d) same_room of.2;
               doubt = subst (DoubtIsLeft (set s.views id w)) (sym doubt) (doubt_set s.views id v w at [] none_more v.doubt o.doubt);
               nobody = each_set (λ _ u. u.turns ≡ 0) s.views id w o.others refl;
             }))
@@ -574,7 +574,7 @@ module _ {K : Type 0} (faults : K → ℕ) (tells : K → Type 0) (opened : Seat
           record { once = f.once; part = f.part; waits = f.waits; line = (λ w. let l0 = (f.line w).0 in let l1 = (f.line w).1 in let not_mine : u.ticket ≡ k.front → ⊥ = λ same. ne w (same ∙ sym ticket) in (omega arith, omega arith)); turn = (λ o. absurd (omega arith)); knows = f.knows; seen = f.seen; joined = f.joined; own = f.own; after = f.after; spent = f.spent }
 
   -- a word changes that only wakes seats
-  pub signals_word : (slots id place : ℕ) (v : SeatView K) (c : List (ℕ × Option (Seated K))) (f : ℕ → ℕ) → Allows (KeptIn faults tells opened seats) slots id (v, c) (suc (suc (suc place))) f (Signals (v, c))
+  pub signals_word : (slots id place : ℕ) (v : SeatView K) (c : List (ℕ × Option (Seated K))) (f : ℕ → ℕ) → Allows (KeptIn faults follows opened seats) slots id (v, c) (suc (suc (suc place))) f (Signals (v, c))
   signals_word slots id place v c f s k len at bound =
       let now : ℕ = f (slice_index s.words (suc (suc (suc place)))) in (
         v,
@@ -599,28 +599,28 @@ module _ {K : Type 0} (faults : K → ℕ) (tells : K → Type 0) (opened : Seat
         refl,
       )
 
-  pub signals_at : (slots id word place : ℕ) (v : SeatView K) (c : List (ℕ × Option (Seated K))) (f : ℕ → ℕ) → word ≡ 3 + place → Allows (KeptIn faults tells opened seats) slots id (v, c) word f (Signals (v, c))
+  pub signals_at : (slots id word place : ℕ) (v : SeatView K) (c : List (ℕ × Option (Seated K))) (f : ℕ → ℕ) → word ≡ 3 + place → Allows (KeptIn faults follows opened seats) slots id (v, c) word f (Signals (v, c))
   signals_at slots id word place v c f is =
       let e : suc (suc (suc place)) ≡ word = omega (arith, is) in
-      subst (λ (w : ℕ). Allows (KeptIn faults tells opened seats) slots id (v, c) w f (Signals (v, c))) e (signals_word slots id place v c f)
+      subst (λ (w : ℕ). Allows (KeptIn faults follows opened seats) slots id (v, c) w f (Signals (v, c))) e (signals_word slots id place v c f)
 
   -- the same for a seat that is known by an equation
   abbrev Slots : Type 0
   Slots = List (ℕ × Option (Seated K))
 
   pub counts_made_as : (slots id : ℕ) (v : SeatView K) (c : Slots) (d : Seated K) (e : Entry) → c ≡ (0, Some d) ∷ [] → v.turns ≡ 1 → d.book ≡ with_entry v.book e → size d.book < 2 ^ 63
-      → Allows (KeptIn faults tells opened seats) slots id (v, c) 2 (λ n. (n + 1) % 2 ^ 64) (CountsMade (v, c))
-  counts_made_as slots id v c d e is on longer short = subst (λ (c : Slots). Allows (KeptIn faults tells opened seats) slots id (v, c) 2 (λ n. (n + 1) % 2 ^ 64) (CountsMade (v, c))) (sym is) (counts_made slots id v d e on longer short)
+      → Allows (KeptIn faults follows opened seats) slots id (v, c) 2 (λ n. (n + 1) % 2 ^ 64) (CountsMade (v, c))
+  counts_made_as slots id v c d e is on longer short = subst (λ (c : Slots). Allows (KeptIn faults follows opened seats) slots id (v, c) 2 (λ n. (n + 1) % 2 ^ 64) (CountsMade (v, c))) (sym is) (counts_made slots id v d e on longer short)
 
-  pub notes_settled_as : (slots id : ℕ) (v : SeatView K) (c : Slots) (d : Seated K) → c ≡ (0, Some d) ∷ [] → v.turns ≡ 1 → v.faults ≤ faults d.keeper → Allows (KeptIn faults tells opened seats) slots id (v, c) 1 (λ n. n) (NotesSettled faults (v, c))
-  notes_settled_as slots id v c d is on up = subst (λ (c : Slots). Allows (KeptIn faults tells opened seats) slots id (v, c) 1 (λ n. n) (NotesSettled faults (v, c))) (sym is) (notes_settled slots id v d on up)
+  pub notes_settled_as : (slots id : ℕ) (v : SeatView K) (c : Slots) (d : Seated K) → c ≡ (0, Some d) ∷ [] → v.turns ≡ 1 → v.faults ≤ faults d.keeper → Allows (KeptIn faults follows opened seats) slots id (v, c) 1 (λ n. n) (NotesSettled faults (v, c))
+  notes_settled_as slots id v c d is on up = subst (λ (c : Slots). Allows (KeptIn faults follows opened seats) slots id (v, c) 1 (λ n. n) (NotesSettled faults (v, c))) (sym is) (notes_settled slots id v d on up)
 
-  pub notes_faults_as : (slots id : ℕ) (v : SeatView K) (c : Slots) (d : Seated K) → c ≡ (0, Some d) ∷ [] → v.turns ≡ 1 → v.faults ≤ faults d.keeper → Allows (KeptIn faults tells opened seats) slots id (v, c) 1 (λ n. n) (NotesFaults faults (v, c))
-  notes_faults_as slots id v c d is on up = subst (λ (c : Slots). Allows (KeptIn faults tells opened seats) slots id (v, c) 1 (λ n. n) (NotesFaults faults (v, c))) (sym is) (notes_faults slots id v d on up)
+  pub notes_faults_as : (slots id : ℕ) (v : SeatView K) (c : Slots) (d : Seated K) → c ≡ (0, Some d) ∷ [] → v.turns ≡ 1 → v.faults ≤ faults d.keeper → Allows (KeptIn faults follows opened seats) slots id (v, c) 1 (λ n. n) (NotesFaults faults (v, c))
+  notes_faults_as slots id v c d is on up = subst (λ (c : Slots). Allows (KeptIn faults follows opened seats) slots id (v, c) 1 (λ n. n) (NotesFaults faults (v, c))) (sym is) (notes_faults slots id v d on up)
 
-  pub passes_as : (slots id : ℕ) (v : SeatView K) (c : Slots) (d : Seated K) → c ≡ (0, Some d) ∷ [] → v.turns ≡ 1 → IsOf tells v d → d.book ≡ v.book → d.doubt ≡ v.doubt → faults d.keeper ≡ v.faults
-      → Allows (KeptIn faults tells opened seats) slots id (v, c) 1 (λ n. (n + 1) % 2 ^ 64) (Passes (v, c))
-  passes_as slots id v c d is on of same doubt count = subst (λ (c : Slots). Allows (KeptIn faults tells opened seats) slots id (v, c) 1 (λ n. (n + 1) % 2 ^ 64) (Passes (v, c))) (sym is) (passes slots id v d on of same doubt count)
+  pub passes_as : (slots id : ℕ) (v : SeatView K) (c : Slots) (d : Seated K) → c ≡ (0, Some d) ∷ [] → v.turns ≡ 1 → IsOf follows v d → d.book ≡ v.book → d.doubt ≡ v.doubt → faults d.keeper ≡ v.faults
+      → Allows (KeptIn faults follows opened seats) slots id (v, c) 1 (λ n. (n + 1) % 2 ^ 64) (Passes (v, c))
+  passes_as slots id v c d is on of same doubt count = subst (λ (c : Slots). Allows (KeptIn faults follows opened seats) slots id (v, c) 1 (λ n. (n + 1) % 2 ^ 64) (Passes (v, c))) (sym is) (passes slots id v d on of same doubt count)
 
-  pub looks_as : (slots id : ℕ) (m : Me (Option (Seated K)) (SeatView K)) (v : SeatView K) (c : Slots) → m ≡ (v, c) → v.waits ≡ 1 → v.turns ≡ 0 → Allows (KeptIn faults tells opened seats) slots id m 1 (λ n. n) (Looks faults tells m)
-  looks_as slots id m v c is wait off = subst (λ (m : Me (Option (Seated K)) (SeatView K)). Allows (KeptIn faults tells opened seats) slots id m 1 (λ n. n) (Looks faults tells m)) (sym is) (looks slots id v c wait off)
+  pub looks_as : (slots id : ℕ) (m : Me (Option (Seated K)) (SeatView K)) (v : SeatView K) (c : Slots) → m ≡ (v, c) → v.waits ≡ 1 → v.turns ≡ 0 → Allows (KeptIn faults follows opened seats) slots id m 1 (λ n. n) (Looks faults follows m)
+  looks_as slots id m v c is wait off = subst (λ (m : Me (Option (Seated K)) (SeatView K)). Allows (KeptIn faults follows opened seats) slots id m 1 (λ n. n) (Looks faults follows m)) (sym is) (looks slots id v c wait off)

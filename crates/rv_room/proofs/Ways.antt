@@ -53,18 +53,18 @@ module _ {K : Type 0} where
       (λ same. let g = get_back v.left w.left l.3.0 e (ap (λ (u : SeatView K). slice_get u.left l.3.0) (sym (same_at views l.0 other l.1 w l.2 there same)) ∙ l.3.1) in (id, b, mine, (g.0, ap (λ xs. slice_get xs g.0) is ∙ g.1)))
       (λ not_other. (l.0, l.1, set_else (set views id b) other l.0 gone not_other ∙ (set_else views id l.0 b not_id ∙ l.2), l.3)))
 
-module _ {K : Type 0} (faults : K → ℕ) (tells : K → Type 0) (opened : Seated K) (seats : ℕ) where
+module _ {K : Type 0} (faults : K → ℕ) (follows : K → K → Type 0) (opened : Seated K) (seats : ℕ) where
   abbrev Homes : Type 0
   Homes = List (maybe.Option (Option (Seated K)))
 
   abbrev Home : Book → ℕ → Homes → List (SeatView K) → Type 0
-  Home = AtHome faults tells opened
+  Home = AtHome faults follows opened
 
   abbrev Slot : Book → ℕ → Homes → List (SeatView K) → Type 0
   Slot log top homes views = Home log top homes views ⊎ IsOut homes views
 
   abbrev Holds : State (Option (Seated K)) (SeatView K) → Type 0
-  Holds = KeptIn faults tells opened seats
+  Holds = KeptIn faults follows opened seats
 
   slot_snoc : (log : Book) (top : ℕ) (homes : Homes) (views : List (SeatView K)) (w : SeatView K) → w.turns ≡ 0 → Slot log top homes views → Slot log top homes (views ++ w ∷ [])
   slot_snoc log top homes views w off slot =
@@ -94,8 +94,8 @@ module _ {K : Type 0} (faults : K → ℕ) (tells : K → Type 0) (opened : Seat
       inr (record { empty = t.empty; who = t.who; view = t.view; at = set_else (set views id b) other t.who gone a2 ∙ (set_else views id t.who b a1 ∙ t.at); turn = t.turn; doubt = (λ e d. still e (t.doubt e d)) }))
       slot
 
-  pub begins : (signals : List ℕ) → seats < 2 ^ 32 → opened.doubt ≡ None → Holds (opening (0 ∷ 0 ∷ size opened.book ∷ signals) (Some opened ∷ []) (newcomer seats opened))
-  begins signals few sure = record {
+  pub begins : (signals : List ℕ) → follows opened.keeper opened.keeper → seats < 2 ^ 32 → opened.doubt ≡ None → Holds (opening (0 ∷ 0 ∷ size opened.book ∷ signals) (Some opened ∷ []) (newcomer seats opened))
+  begins signals same few sure = record {
     log = opened.book;
     front = 0;
     top = faults opened.keeper;
@@ -106,7 +106,7 @@ module _ {K : Type 0} (faults : K → ℕ) (tells : K → Type 0) (opened : Seat
       home = refl;
       book = refl;
       count = refl;
-      keeps = record { limit = refl; told = (λ t. t) };
+      keeps = record { limit = refl; keeper = same };
       doubt = (λ e doubt. absurd (no_doubt e (sym sure ∙ doubt)));
       nobody = (λ j v e. one (λ u. u.turns ≡ 0) refl j v e);
     });
@@ -142,7 +142,7 @@ module _ {K : Type 0} (faults : K → ℕ) (tells : K → Type 0) (opened : Seat
         top = k.top;
         signals = k.signals;
         words_are = subst (λ (n : ℕ). s.words ≡ (k.front + n) % 2 ^ 64 ∷ k.front % 2 ^ 64 ∷ length k.log ∷ k.signals) now k.words_are;
-        slot = slot_snoc k.log k.top s.homes views w refl (slot_set faults tells opened seats k.log k.top s.homes s.views id v l at refl refl [] refl k.slot);
+        slot = slot_snoc k.log k.top s.homes views w refl (slot_set faults follows opened seats k.log k.top s.homes s.views id v l at refl refl [] refl k.slot);
         left = snoc_all (λ _ u. AllByRecursion (IsLeft (views ++ w ∷ [])) u.settled) views w
             (each_set (λ _ u. AllByRecursion (IsLeft (views ++ w ∷ [])) u.settled) s.views id l
             (λ i u _ e. all_map _ _ u.settled (λ x y. left_longer views (w ∷ []) x (left_set s.views id v l at [] refl x y)) (k.left i u e))
@@ -218,7 +218,7 @@ module _ {K : Type 0} (faults : K → ℕ) (tells : K → Type 0) (opened : Seat
   pub record Closing (v : SeatView K) (homes : List (Option (Seated K))) : Type 0 where
     pub desk : Seated K
     pub home : get_elem? homes 0 ≡ some (Some desk)
-    pub keeps : Keeps tells opened desk
+    pub keeps : Keeps follows opened desk
     pub begun : StartsWith desk.book opened.book
     pub seen : StartsWith desk.book v.seen
     pub joined : AllByRecursion (StartsWith desk.book) v.joined
@@ -302,9 +302,9 @@ module _ {K : Type 0} where
   gather_left v [] k e g = inl (k, g)
   gather_left v (w ∷ ws) k e g = ⊎_elim (λ t. inr (gather_left v ws t.0 e t.1)) (λ t. inl t) (get_split (gather v ws).left w.left k e g)
 
-module _ {K : Type 0} (faults : K → ℕ) (tells : K → Type 0) (opened : Seated K) where
+module _ {K : Type 0} (faults : K → ℕ) (follows : K → K → Type 0) (opened : Seated K) where
   -- what is known of the book that was closed, from what the one view knows
-  closes : (v : SeatView K) (ws : List (SeatView K)) (homes : List (Option (Seated K))) (c : Closing faults tells opened (total parts_of (ws ++ v ∷ [])) (gather v ws) homes) → Closes faults tells opened (ws ++ v ∷ []) c.desk
+  closes : (v : SeatView K) (ws : List (SeatView K)) (homes : List (Option (Seated K))) (c : Closing faults follows opened (total parts_of (ws ++ v ∷ [])) (gather v ws) homes) → Closes faults follows opened (ws ++ v ∷ []) c.desk
   closes v ws homes c =
       let own = gather_all (λ v. v.own) (λ v w. refl) (λ x. slice_get c.desk.book x.0 ≡ Some x.1) v ws c.own in
       let after = gather_all (λ v. v.after) (λ v w. refl) (λ n. n ≤ faults c.desk.keeper) v ws c.after in
@@ -320,38 +320,38 @@ module _ {K : Type 0} (faults : K → ℕ) (tells : K → Type 0) (opened : Seat
         risen = c.risen;
       }
 
-  pub splits_as : (seats id : ℕ) (v : SeatView K) (n : ℕ) → v ≡ newcomer n opened → 1 < n → Splits (KeptIn faults tells opened seats) id v (less_one v) (one_more v)
-  splits_as seats id v n is many = subst (λ (v : SeatView K). Splits (KeptIn faults tells opened seats) id v (less_one v) (one_more v)) (sym is) (splits faults tells opened seats id n many)
+  pub splits_as : (seats id : ℕ) (v : SeatView K) (n : ℕ) → v ≡ newcomer n opened → 1 < n → Splits (KeptIn faults follows opened seats) id v (less_one v) (one_more v)
+  splits_as seats id v n is many = subst (λ (v : SeatView K). Splits (KeptIn faults follows opened seats) id v (less_one v) (one_more v)) (sym is) (splits faults follows opened seats id n many)
 
-  pub begins_as : (signals : List ℕ) (seats : ℕ) (d : Seated K) (len : ℕ) (items : List (Option (Seated K))) → seats < 2 ^ 32 → d ≡ opened → d.doubt ≡ None → len ≡ size d.book → items ≡ Some d ∷ []
-      → KeptIn faults tells opened seats (opening (0 ∷ 0 ∷ len ∷ signals) items (newcomer seats opened))
-  begins_as signals seats d len items few is sure size_is all =
+  pub begins_as : (signals : List ℕ) → follows opened.keeper opened.keeper → (seats : ℕ) (d : Seated K) (len : ℕ) (items : List (Option (Seated K))) → seats < 2 ^ 32 → d ≡ opened → d.doubt ≡ None → len ≡ size d.book → items ≡ Some d ∷ []
+      → KeptIn faults follows opened seats (opening (0 ∷ 0 ∷ len ∷ signals) items (newcomer seats opened))
+  begins_as signals same seats d len items few is sure size_is all =
       let sure' : opened.doubt ≡ None = subst (λ (x : Seated K). x.doubt ≡ None) is sure in
-      subst (λ (t : ℕ × List (Option (Seated K))). KeptIn faults tells opened seats (opening (0 ∷ 0 ∷ t.0 ∷ signals) t.1 (newcomer seats opened)))
+      subst (λ (t : ℕ × List (Option (Seated K))). KeptIn faults follows opened seats (opening (0 ∷ 0 ∷ t.0 ∷ signals) t.1 (newcomer seats opened)))
       (λ i. (sym (size_is ∙ ap (λ (x : Seated K). size x.book) is) i, sym (all ∙ ap (λ (x : Seated K). Some x ∷ []) is) i))
-      (begins faults tells opened seats signals few sure')
+      (begins faults follows opened seats signals same few sure')
 
-  pub joins_as : (seats id : ℕ) (v : SeatView K) (other : ℕ) (w first : SeatView K) (done : List (SeatView K)) → v ≡ gather first done → IsIdle first → first.parts ≡ 1 → IsIdle w → Joins (KeptIn faults tells opened seats) id v other w (both v w) spent
+  pub joins_as : (seats id : ℕ) (v : SeatView K) (other : ℕ) (w first : SeatView K) (done : List (SeatView K)) → v ≡ gather first done → IsIdle first → first.parts ≡ 1 → IsIdle w → Joins (KeptIn faults follows opened seats) id v other w (both v w) spent
   joins_as seats id v other w first done is idle one iw =
       let all = gather_parts first done in let same : v.parts ≡ (gather first done).parts = ap (λ (u : SeatView K). u.parts) is in
-      joins faults tells opened seats id v other w (subst IsIdle (sym is) (gather_idle first done idle)) iw (omega arith)
+      joins faults follows opened seats id v other w (subst IsIdle (sym is) (gather_idle first done idle)) iw (omega arith)
 
   -- the desk of a room that was closed
   pub shut : (seats id : ℕ) (v : SeatView K) (words : List ℕ) (homes : List (Option (Seated K))) (first : SeatView K) (ws : List (SeatView K))
-      → v ≡ gather first ws → IsIdle first → total parts_of (ws ++ first ∷ []) ≡ seats → Final (Seen (KeptIn faults tells opened seats) id v) words homes
-      → (slot : Option (Seated K)) → get_elem? homes 0 ≡ some slot → (d : Seated K) × (slot ≡ Some d) × Closes faults tells opened (ws ++ first ∷ []) d
+      → v ≡ gather first ws → IsIdle first → total parts_of (ws ++ first ∷ []) ≡ seats → Final (Seen (KeptIn faults follows opened seats) id v) words homes
+      → (slot : Option (Seated K)) → get_elem? homes 0 ≡ some slot → (d : Seated K) × (slot ≡ Some d) × Closes faults follows opened (ws ++ first ∷ []) d
   shut seats id v words homes first ws is idle all final slot at =
       let t = total_snoc parts_of ws first in
       let p = gather_parts first ws in
       let same : v.parts ≡ (gather first ws).parts = ap (λ (u : SeatView K). u.parts) is in
-      let c : Closing faults tells opened seats v homes = closing faults tells opened seats id v words homes (subst IsIdle (sym is) (gather_idle first ws idle)) (omega arith) final in
-      let c' : Closing faults tells opened (total parts_of (ws ++ first ∷ [])) (gather first ws) homes = subst (λ (x : ℕ × SeatView K). Closing faults tells opened x.0 x.1 homes) (λ i. (sym all i, is i)) c in
+      let c : Closing faults follows opened seats v homes = closing faults follows opened seats id v words homes (subst IsIdle (sym is) (gather_idle first ws idle)) (omega arith) final in
+      let c' : Closing faults follows opened (total parts_of (ws ++ first ∷ [])) (gather first ws) homes = subst (λ (x : ℕ × SeatView K). Closing faults follows opened x.0 x.1 homes) (λ i. (sym all i, is i)) c in
       (c'.desk, some-injective _ _ (sym at ∙ c'.home), closes first ws homes c')
 
   -- the same, of a desk that was found in the slot
   pub shut_at : (seats id : ℕ) (v : SeatView K) (words : List ℕ) (homes : List (Option (Seated K))) (first : SeatView K) (ws : List (SeatView K))
-      → v ≡ gather first ws → IsIdle first → total parts_of (ws ++ first ∷ []) ≡ seats → Final (Seen (KeptIn faults tells opened seats) id v) words homes
-      → (slot : Option (Seated K)) → get_elem? homes 0 ≡ some slot → (d : Seated K) → slot ≡ Some d → Closes faults tells opened (ws ++ first ∷ []) d
+      → v ≡ gather first ws → IsIdle first → total parts_of (ws ++ first ∷ []) ≡ seats → Final (Seen (KeptIn faults follows opened seats) id v) words homes
+      → (slot : Option (Seated K)) → get_elem? homes 0 ≡ some slot → (d : Seated K) → slot ≡ Some d → Closes faults follows opened (ws ++ first ∷ []) d
   shut_at seats id v words homes first ws is idle all final slot at d found =
       let s = shut seats id v words homes first ws is idle all final slot at in
-      subst (λ (x : Seated K). Closes faults tells opened (ws ++ first ∷ []) x) (some_same _ _ (sym s.1 ∙ found)) s.2
+      subst (λ (x : Seated K). Closes faults follows opened (ws ++ first ∷ []) x) (some_same _ _ (sym s.1 ∙ found)) s.2

@@ -22,9 +22,10 @@ module _ {K : Type 0} where
 
 -- The seats of a room that was opened with a desk and closed with one. The book has become longer; what each seat had seen is a front
 -- of it; what a seat made stands in it at its place; each place after the opened book is own of one seat, and once; what one settled,
--- and what is in doubt, some seat had left; and the keeper's count is not below any that a seat remembers.
-pub record Closes {K : Type 0} (faults : K → ℕ) (tells : K → Type 0) (opened : Seated K) (views : List (SeatView K)) (desk : Seated K) : Type 0 where
-  pub keeps : Keeps tells opened desk
+-- and what is in doubt, some seat had left; the keeper follows the one that the room was opened with, and its count is not below any that a seat
+-- remembers.
+pub record Closes {K : Type 0} (faults : K → ℕ) (follows : K → K → Type 0) (opened : Seated K) (views : List (SeatView K)) (desk : Seated K) : Type 0 where
+  pub keeps : Keeps follows opened desk
   pub begun : StartsWith desk.book opened.book
   pub seen : AllByRecursion (λ v. StartsWith desk.book v.seen) views
   pub own : AllByRecursion (λ v. AllByRecursion (λ x. slice_get desk.book x.0 ≡ Some x.1) v.own) views

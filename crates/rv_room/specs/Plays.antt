@@ -29,10 +29,10 @@ module _ {K : Type 0} where
 
   -- The number of turns that have ended is another than the seat's ticket, and all stays; or it is the ticket, and the seat has the
   -- turn and the desk, whose book begins with what the seat had seen, and whose keeper's count has not fallen since.
-  abbrev pub Looks : (K → ℕ) → (K → Type 0) → Knows K → ℕ → Knows K → Type 0
-  Looks faults tells m n m' =
+  abbrev pub Looks : (K → ℕ) → (K → K → Type 0) → Knows K → ℕ → Knows K → Type 0
+  Looks faults follows m n m' =
       (n ≢ m.0.ticket % 2 ^ 64 → m' ≡ m)
-      × (n ≡ m.0.ticket % 2 ^ 64 → (d : Seated K) × IsOf tells m.0 d × StartsWith d.book m.0.seen × AllByRecursion (λ k. k ≤ faults d.keeper) m.0.after × (m' ≡ (on_turn faults m.0 d, (0, Some d) ∷ m.1)))
+      × (n ≡ m.0.ticket % 2 ^ 64 → (d : Seated K) × IsOf follows m.0 d × StartsWith d.book m.0.seen × AllByRecursion (λ k. k ≤ faults d.keeper) m.0.after × (m' ≡ (on_turn faults m.0 d, (0, Some d) ∷ m.1)))
 
   -- the entry that was in doubt has entered the book
   abbrev pub CountsSettled : Knows K → ℕ → Knows K → Type 0

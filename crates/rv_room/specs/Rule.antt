@@ -53,24 +53,24 @@ module _ {K : Type 0} where
     pub turn : view.turns ≡ 1
     pub doubt : DoubtIsLeft views view.doubt
 
-module _ {K : Type 0} (tells : K → Type 0) where
-  -- the desk has kept the limit of the one that the room was opened with, and a keeper that tells has told then
+module _ {K : Type 0} (follows : K → K → Type 0) where
+  -- the desk has kept the limit of the one that the room was opened with, and its keeper follows that one's
   pub record Keeps (opened d : Seated K) : Type 0 where
     pub limit : d.limit ≡ opened.limit
-    pub told : tells d.keeper → tells opened.keeper
+    pub keeper : follows opened.keeper d.keeper
 
   -- it is a desk of the seat's room
   abbrev pub IsOf : SeatView K → Seated K → Type 0
   IsOf v d = (opened : Seated K) × (v.opened ≡ Some opened) × Keeps opened d
 
-module _ {K : Type 0} (faults : K → ℕ) (tells : K → Type 0) where
+module _ {K : Type 0} (faults : K → ℕ) (follows : K → K → Type 0) where
   -- The desk is at home, where its book is the history and what is in doubt was left by some seat, and nobody has the turn.
   pub record AtHome (opened : Seated K) (log : Book) (top : ℕ) (homes : List (maybe.Option (Option (Seated K)))) (views : List (SeatView K)) : Type 0 where
     pub desk : Seated K
     pub home : homes ≡ some (Some desk) ∷ []
     pub book : desk.book ≡ log
     pub count : faults desk.keeper ≡ top
-    pub keeps : Keeps tells opened desk
+    pub keeps : Keeps follows opened desk
     pub doubt : DoubtIsLeft views desk.doubt
     pub nobody : (j : ℕ) (v : SeatView K) → get_elem? views j ≡ some v → v.turns ≡ 0
 

@@ -53,29 +53,27 @@ module _ {A : Type 0} (trouble : A → Option Trouble) (Step : Book → A → Bo
     pub step : Step (settled_book turn) answer (with_entry (settled_book turn) entry)
     pub left : turn.left ≡ entry ∷ []
 
-  -- The turn, by the trouble that its answer tells. Without one, what was in doubt is settled, and the machine makes its step. Where
-  -- the keeper failed, its count rose, and either the doubt stands, or it is settled and the step's entry is in doubt. Where what is
-  -- kept was changed by another, the count rose too, and the doubt stands.
+  -- The turn, by the trouble that its answer tells. Without one, what was in doubt is settled, the machine makes its step, and no fault
+  -- came. Where the keeper failed, its count rose, and either the doubt stands, or it is settled and the step's entry is in doubt. Where
+  -- what is kept was changed by another, the count rose too, and the doubt stands.
   abbrev pub TurnAs : Parts → A → Option Trouble → Type 0
-  TurnAs turn answer None = (turn.left ≡ []) × Step (settled_book turn) answer (last_book turn)
+  TurnAs turn answer None = (turn.left ≡ []) × Step (settled_book turn) answer (last_book turn) × (turn.last ≡ turn.first)
   TurnAs turn answer (Some Failed) = Rose turn.first turn.last × (turn.made ≡ []) × (IsHeld turn ⊎ LeavesOne turn)
   TurnAs turn answer (Some (Changed kept found)) =
       Rose turn.first turn.last × (turn.made ≡ []) × IsHeld turn × (kept ≡ size turn.history) × ¬ (found ≡ kept) × ¬ (found ≡ kept + 1)
 
-module _ {K A : Type 0} (faults : K → ℕ) (trouble : A → Option Trouble) (Step : ℕ → Book → A → Book → Type 0) where
+module _ {K A : Type 0} (faults : K → ℕ) (fails_no_more : K → Type 0) (trouble : A → Option Trouble) (Step : ℕ → Book → A → Book → Type 0) where
   -- A turn of a seat, by what it knows before and after. The history as it begins starts with all that the seat had seen, and the first
-  -- count is not below any that it remembers. The turn is one of the server at that history, under the limit of the desk that the room
-  -- was opened with. Then the seat has seen the history as the turn ended, has what was added as its own, and remembers the rest. There
-  -- is a desk with the history and the doubt as the turn began and with the first count, and one with the history as it ended and with
-  -- the second; that these are the desk in the room, the rule of its table says.
+  -- count is not below any that it remembers, nor below the count of the desk that the room was opened with. The turn is one of the
+  -- server at that history, under the limit of that desk, and tells no trouble where that desk's keeper failed no more. Then the seat
+  -- has seen the history as the turn ended, has what was added as its own, and remembers the rest. That the history and the counts are
+  -- those of the desk in the room, the rule of its table says.
   pub record IsSeatTurn (old : SeatView K) (answer : A) (new : SeatView K) : Type 0 where
     pub opened : Seated K
     pub turn : Parts
-    pub desk : Seated K
-    pub desk' : Seated K
-    pub first : (desk.book ≡ turn.history) × (desk.doubt ≡ turn.doubt) × (faults desk.keeper ≡ turn.first)
-    pub last : (desk'.book ≡ last_book turn) × (faults desk'.keeper ≡ turn.last)
     pub room : old.opened ≡ Some opened
+    pub risen : faults opened.keeper ≤ turn.first
+    pub sure : fails_no_more opened.keeper → trouble answer ≡ None
     pub begins : StartsWith turn.history old.seen
     pub since : AllByRecursion (λ count. count ≤ turn.first) old.after
     pub later : turn.first ≤ turn.last
@@ -90,13 +88,13 @@ module _ {K A : Type 0} (faults : K → ℕ) (trouble : A → Option Trouble) (S
     pub before : new.before ≡ old.before ++ turn.first ∷ []
     pub after : new.after ≡ old.after ++ turn.last ∷ []
 
-module _ {K : Type 0} (faults : K → ℕ) where
+module _ {K : Type 0} (faults : K → ℕ) (fails_no_more : K → Type 0) where
   -- the turns of a seat that are a mutation, a pull and a retirement
   abbrev pub SeatMutates : SeatView K → Sender → Mutation → Turn → SeatView K → Type 0
-  SeatMutates old from m turn new = IsSeatTurn faults turn_trouble (λ limit. Mutates limit from m) old turn new
+  SeatMutates old from m turn new = IsSeatTurn faults fails_no_more turn_trouble (λ limit. Mutates limit from m) old turn new
 
   abbrev pub SeatPulls : SeatView K → List ℕ → PullRequest → PullAnswer → SeatView K → Type 0
-  SeatPulls old user request answer new = IsSeatTurn faults pull_trouble (λ limit. Pulls limit user request) old answer new
+  SeatPulls old user request answer new = IsSeatTurn faults fails_no_more pull_trouble (λ limit. Pulls limit user request) old answer new
 
   abbrev pub SeatRetires : SeatView K → List ℕ → RetireAnswer → SeatView K → Type 0
-  SeatRetires old group answer new = IsSeatTurn faults retire_trouble (λ limit. Retires limit group) old answer new
+  SeatRetires old group answer new = IsSeatTurn faults fails_no_more retire_trouble (λ limit. Retires limit group) old answer new

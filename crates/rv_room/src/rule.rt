@@ -21,10 +21,11 @@ pub struct OneHistory<K> {
 }
 
 impl<K: Keeper> TableRule<Option<Desk<K>>, SeatView<K>, About<K>> for OneHistory<K> {
+    ghost use Rattle.rv_keeper.specs.Keeping.{Follows};
     ghost use Rattle.rv_room.specs.Rule.{KeptIn};
     ghost use Rattle.rv_room.specs.Views.{newcomer};
 
-    ghost holds = { λ about. KeptIn K.faults K.tells about.opened.value about.seats };
+    ghost holds = { λ about. KeptIn K.faults (Follows K.faults K.tells K.fails_no_more) about.opened.value about.seats };
 
     ghost first = { λ about. newcomer about.seats about.opened.value };
 }
@@ -51,9 +52,10 @@ impl<K: Keeper> Play<Option<Desk<K>>, SeatView<K>> for TakeFreeTicket {
 pub(crate) struct LookAtTurn;
 
 impl<K: Keeper> Play<Option<Desk<K>>, SeatView<K>> for LookAtTurn {
+    ghost use Rattle.rv_keeper.specs.Keeping.{Follows};
     ghost use Rattle.rv_room.specs.Plays.{Looks};
 
-    ghost then = { λ _. Looks K.faults K.tells };
+    ghost then = { λ _. Looks K.faults (Follows K.faults K.tells K.fails_no_more) };
 }
 
 // The entry that was in doubt is counted.

@@ -5,6 +5,7 @@ ghost use Rattle.rv_book.specs.Book.{Book, size, with_entry};
 ghost use Rattle.rv_book.specs.declared.entry.Entry.{Entry};
 ghost use Rattle.rv_history.specs.Served.{Settles};
 ghost use Rattle.rv_desk.specs.Seated.{Seated};
+ghost use Rattle.rv_keeper.specs.Keeping.{Follows};
 ghost use Rattle.rv_room.specs.Ends.{Adds, end_view, held_view};
 ghost use Rattle.rv_room.specs.Lists.{StartsWith};
 ghost use Rattle.rv_room.specs.Rule.{IsOf};
@@ -128,7 +129,7 @@ impl<K: Keeper> Room<K> {
         requires table { token.old.table_id ≡ self.now.table.shared.table_id }
         requires idle { IsIdle token.old.me.0 × (0 < token.old.me.0.parts) × (token.old.me.1 ≡ []) }
         ensures same { (token.new.table_id ≡ token.old.table_id) × (token.new.id ≡ token.old.id) }
-        ensures of { IsOf K.tells token.old.me.0 result }
+        ensures of { IsOf (Follows K.faults K.tells K.fails_no_more) token.old.me.0 result }
         ensures begins { StartsWith result.book token.old.me.0.seen }
         ensures later { AllByRecursion (λ (k : ℕ). k ≤ K.faults result.keeper) token.old.me.0.after }
         ensures view { (t : ℕ) × (token.new.me ≡ (on_turn K.faults (waiting token.old.me.0 t) result, (0, None) ∷ [])) }
@@ -142,7 +143,7 @@ impl<K: Keeper> Room<K> {
     pub(crate) fn end_held(&self, token: &mut Token<K>, desk: Desk<K>)
         requires table { token.old.table_id ≡ self.now.table.shared.table_id }
         requires empty { (token.old.me.1 ≡ (0, None) ∷ []) × (token.old.me.0.turns ≡ 1) }
-        requires of { IsOf K.tells token.old.me.0 desk }
+        requires of { IsOf (Follows K.faults K.tells K.fails_no_more) token.old.me.0 desk }
         requires stays { (desk.book ≡ token.old.me.0.book) × (desk.doubt ≡ token.old.me.0.doubt) × (token.old.me.0.faults ≤ K.faults desk.keeper) }
         ensures same { (token.new.table_id ≡ token.old.table_id) × (token.new.id ≡ token.old.id) }
         ensures ended { token.new.me ≡ (held_view token.old.me.0 (K.faults desk.keeper), []) }
@@ -157,7 +158,7 @@ impl<K: Keeper> Room<K> {
     pub(crate) fn end(&self, token: &mut Token<K>, desk: Desk<K>, began: u32, settled: u32)
         requires table { token.old.table_id ≡ self.now.table.shared.table_id }
         requires empty { (token.old.me.1 ≡ (0, None) ∷ []) × (token.old.me.0.turns ≡ 1) }
-        requires of { IsOf K.tells token.old.me.0 desk }
+        requires of { IsOf (Follows K.faults K.tells K.fails_no_more) token.old.me.0 desk }
         requires began { began ≡ size token.old.me.0.book }
         requires settled { (s : Book) × (settled ≡ size s) × Settles token.old.me.0.book token.old.me.0.doubt s × Adds s desk.book }
         requires later { token.old.me.0.faults ≤ K.faults desk.keeper }

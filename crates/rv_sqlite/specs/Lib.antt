@@ -2,3 +2,4 @@ pub mod Stored
 pub mod Rows
 pub mod Faults
 pub mod Asked
+pub mod StoredLaws

@@ -1,6 +1,9 @@
 -- What a keeper of either kind shows.
 use Rattle.std.specs.Prelude.{◌≡◌, ◌≢◌, ℕ, List, [], Option, Some, None, codes}
 use Rattle.sqlite.specs.Held.{Held}
+use Rattle.rv_keeper.specs.declared.loaded.Loaded.{Loaded}
+use Rattle.rv_keeper.specs.Keeping.{holding}
+use Rattle.rv_keeper.specs.Schedules.{FailsNoMore}
 use Rattle.rv_sqlite.specs.declared.store_keeper.StoreKeeper.{StoreKeeper}
 use Rattle.rv_sqlite.specs.declared.store_keeper.StoreKeeper.TheVariants.{Memory, Sqlite}
 
@@ -10,12 +13,28 @@ module _ {S : Type 0} where
   stored_faults (Memory keeper) = keeper.faults
   stored_faults (Sqlite keeper) = keeper.faults
 
+  -- one in memory tells what it holds, and a database does not
+  abbrev pub StoredTells : StoreKeeper S → Type 0
+  StoredTells (Memory keeper) = Unit {0}
+  StoredTells (Sqlite keeper) = ⊥
+
+  -- what one in memory holds
+  abbrev pub StoredHolds : StoreKeeper S → Loaded → Type 0
+  StoredHolds (Memory keeper) held = held ≡ holding keeper.shelves keeper.generation
+  StoredHolds (Sqlite keeper) held = ⊥
+
+  -- no call of one in memory fails any more
+  abbrev pub StoredSteady : StoreKeeper S → Type 0
+  StoredSteady (Memory keeper) = FailsNoMore keeper.loads keeper.questions keeper.commits keeper.schedule.items
+  StoredSteady (Sqlite keeper) = ⊥
+
   -- the connection, where there is one
   abbrev pub stored_connection : StoreKeeper S → Option (Held S)
   stored_connection (Memory keeper) = None
   stored_connection (Sqlite keeper) = Some keeper.connection
 
-  -- The store `memory` is in memory, with no cell, at generation 0; a store of any other name is in a database. No call has failed yet.
+  -- The store `memory` is in memory, with no cell, at generation 0, and fails at no call; a store of any other name is in a
+  -- database. No call has failed yet.
   abbrev pub IsFresh : List ℕ → StoreKeeper S → Type 0
-  IsFresh name (Memory keeper) = (name ≡ codes "memory") × (keeper.shelves ≡ []) × (keeper.generation ≡ 0) × (keeper.faults ≡ 0)
+  IsFresh name (Memory keeper) = (name ≡ codes "memory") × (keeper.shelves ≡ []) × (keeper.generation ≡ 0) × (keeper.faults ≡ 0) × (keeper.schedule.items ≡ [])
   IsFresh name (Sqlite keeper) = (name ≢ codes "memory") × (keeper.faults ≡ 0)

@@ -166,4 +166,8 @@ impl<S: Alter> Keeper for SqliteKeeper<S> {
         let answer = write(&mut self.connection, from, changes);
         count_in(&mut self.faults, answer)
     }
+
+    ghost steady_tells = { λ keeper steady. absurd steady };
+
+    ghost holds_one = { λ keeper one two told is also. absurd told };
 }

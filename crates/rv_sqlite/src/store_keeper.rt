@@ -1,12 +1,13 @@
 ghost use Rattle.std.specs.Prelude.{◌≡◌, None, Some};
-ghost use Rattle.rv_sqlite.specs.Stored.{stored_connection, stored_faults};
+ghost use Rattle.rv_sqlite.specs.Stored.{StoredHolds, StoredSteady, StoredTells, stored_connection, stored_faults};
+ghost use Rattle.rv_sqlite.specs.StoredLaws.{stored_one, stored_tells};
 
 use crate::sqlite_keeper::SqliteKeeper;
 use rv_base::Failed;
 use rv_keeper::{Change, KeepFault, Keeper, Loaded, MemoryKeeper};
 use sqlite::{Alter, Connection};
 
-/// What keeps one store: memory, or a SQLite database. What is held is not told of either.
+/// What keeps one store: memory, which tells what it holds, or a SQLite database, which does not.
 pub enum StoreKeeper<S: Alter> {
     /// In memory.
     Memory(MemoryKeeper),
@@ -36,13 +37,13 @@ impl<S: Alter> StoreKeeper<S> {
 }
 
 impl<S: Alter> Keeper for StoreKeeper<S> {
-    ghost tells = { λ s. ⊥ };
+    ghost tells = { λ s. StoredTells s };
 
-    ghost holds = { λ s held. ⊥ };
+    ghost holds = { λ s held. StoredHolds s held };
 
     ghost faults = { λ s. stored_faults s };
 
-    ghost fails_no_more = { λ s. ⊥ };
+    ghost fails_no_more = { λ s. StoredSteady s };
 
     fn fault_count(&self) -> u64 {
         match self {
@@ -71,4 +72,8 @@ impl<S: Alter> Keeper for StoreKeeper<S> {
             StoreKeeper::Sqlite(keeper) => keeper.commit(from, changes),
         }
     }
+
+    ghost steady_tells = { λ keeper steady. stored_tells keeper steady };
+
+    ghost holds_one = { λ keeper one two told is also. stored_one keeper one two is also };
 }

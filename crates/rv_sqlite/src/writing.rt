@@ -1,5 +1,6 @@
 // A commit: one transaction.
-ghost use Rattle.std.specs.Prelude.{◌<◌, ◌-◌, ◌^◌, ◌≡◌, false, OnOk};
+ghost use Rattle.std.specs.Prelude.{◌<◌, ◌-◌, ◌^◌, ◌≡◌, false, IfOk, IsErrOf, OnOk};
+ghost use Rattle.rv_keeper.specs.declared.fault.KeepFault.TheVariants.{Memory};
 ghost use Rattle.sqlite.specs.State.{HasCleanDisk};
 ghost use Rattle.sqlite.specs.Held.{state};
 ghost use Rattle.rv_sqlite.specs.Faults.{fault_of};
@@ -42,7 +43,8 @@ fn fill<S: Alter>(
 
 // Ends the transaction: at Ok what it had is committed. Where that is refused it may have been made.
 fn finish<S: Alter>(transaction: Transaction<'_, S>) -> Result<(), KeepFault>
-    ensures { HasCleanDisk (state S.Store transaction.exit.0.now) → OnOk result ((state S.Store transaction.exit.0.now).committed ≡ (state S.Store transaction.entry.conn.now).now) }
+    ensures committed { HasCleanDisk (state S.Store transaction.exit.0.now) → OnOk result ((state S.Store transaction.exit.0.now).committed ≡ (state S.Store transaction.entry.conn.now).now) }
+    ensures doubt { ¬ IsErrOf result Memory }
 {
     match transaction.commit() {
         Ok(()) => Ok(()),
@@ -50,7 +52,8 @@ fn finish<S: Alter>(transaction: Transaction<'_, S>) -> Result<(), KeepFault>
     }
 }
 
-// Fills a transaction and commits it. `None` is a statement that was refused, and the transaction is rolled back.
+// Fills a transaction and commits it. A statement that was refused is the outer `Err`, and the transaction is rolled back; what comes of
+// the commit is never told as want of memory.
 fn attempt<S: Alter>(
     connection: &mut Connection<S>,
     from: u64,
@@ -58,6 +61,7 @@ fn attempt<S: Alter>(
 ) -> Result<Result<(), KeepFault>, Error>
     requires from { from < 2 ^ 64 - 1 }
     requires autocommit { connection.old.in_transaction ≡ false }
+    ensures { IfOk result (λ ended. ¬ IsErrOf ended Memory) }
 {
     let mut transaction = connection.transaction();
     match fill(&mut transaction, from, changes) {

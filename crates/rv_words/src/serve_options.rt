@@ -9,6 +9,6 @@ pub struct ServeOptions {
     pub port: u16,
     /// How many workers serve connections side by side, from 1 to 16.
     pub workers: u32,
-    /// The most connections that are accepted, from 1 to 1,000,000.
+    /// The most connections that each worker accepts, from 1 to 1,000,000.
     pub connections: u32,
 }

@@ -9,9 +9,9 @@ use Rattle.rv_workers.specs.Serving.{ServesTogether}
 none_some : (e : Entry) → None ≡ Some e → ⊥
 none_some e is = absurd (cc)
 
-closes_none : {K : Type 0} (faults : K → ℕ) (tells : K → Type 0) (desk : Seated K) → desk.doubt ≡ None → Closes faults tells desk [] desk
-closes_none faults tells desk settled = record {
-  keeps = record { limit = refl; told = λ t. t };
+closes_none : {K : Type 0} (faults : K → ℕ) (follows : K → K → Type 0) (desk : Seated K) → follows desk.keeper desk.keeper → desk.doubt ≡ None → Closes faults follows desk [] desk
+closes_none faults follows desk same settled = record {
+  keeps = record { limit = refl; keeper = same };
   begun = ([], sym (append-nil desk.book));
   seen = tt;
   own = tt;
@@ -23,7 +23,7 @@ closes_none faults tells desk settled = record {
 }
 
 -- no listener is served by nobody
-pub serves_none : {K L : Type 0} (faults : K → ℕ) (tells : K → Type 0) (Serves : SeatView K → L → SeatView K → L → Type 0) (desk : Seated K) (listeners : List L) → desk.doubt ≡ None → length listeners ≡ 0
-    → ServesTogether faults tells Serves desk listeners desk listeners
-serves_none faults tells Serves desk [] settled none = record { views = []; serves = tt; closes = closes_none faults tells desk settled }
-serves_none faults tells Serves desk (listener ∷ listeners) settled some = absurd (omega arith)
+pub serves_none : {K L : Type 0} (faults : K → ℕ) (follows : K → K → Type 0) (Serves : SeatView K → L → SeatView K → L → Type 0) (desk : Seated K) (listeners : List L) → follows desk.keeper desk.keeper → desk.doubt ≡ None → length listeners ≡ 0
+    → ServesTogether faults follows Serves desk listeners desk listeners
+serves_none faults follows Serves desk [] same settled none = record { views = []; serves = tt; closes = closes_none faults follows desk same settled }
+serves_none faults follows Serves desk (listener ∷ listeners) same settled some = absurd (omega arith)

@@ -1,8 +1,9 @@
-use Rattle.std.proofs.Common.{◌≡◌, arith}
+use Rattle.std.proofs.Common.{◌≡◌, ◌∙◌, arith, refl}
 use Rattle.rv_desk.specs.Seated.{served}
 use Rattle.rv_cli.specs.declared.ending.Ending.TheVariants.{Done, Read, Memory, Malformed}
 use Rattle.rv_cli.proofs.Going.{going_first, ends_done, ends_read, ends_memory, ends_long, ends_late_line, ends_late_last}
 use Rattle.rv_cli.proofs.Fed.{going_on, ends_with, ends_at, ends_at_last}
+use Rattle.rv_cli.proofs.Taking.{ends_steady, later_steady, not_done, not_malformed, not_memory, not_read}
 use Rattle.rv_cli.proofs.feed.feed.Goals as goal
 
 pub loop-number-init : goal.loop-number-init
@@ -12,6 +13,7 @@ loop-number-init g c = record {
   told = λ h. h;
   input = λ h. h;
   output = λ h. h;
+  keeper = λ f. (f, refl);
 }
 
 pub loop-number-preserved : goal.loop-number-preserved
@@ -25,6 +27,7 @@ loop-number-preserved g c =
       told = λ t. c.loop-number.invariant.told (told t);
       input = λ h. (c.in-Ok-Line.ensures.steady (c.loop-number.invariant.input h)).goes_on;
       output = λ h. c.in-Ok.ensures.steady (c.loop-number.invariant.output h);
+      keeper = λ f. let (goes, same) = c.loop-number.invariant.keeper f in let (on, also) = c.in-Ok.ensures.steady_keeper goes in (on, also ∙ same);
     }
 
 pub returns-in-Err-clause-feeds : goal.returns-in-Err-clause-feeds
@@ -118,3 +121,39 @@ returns-clause-feeds g c =
     let reads = rw c.in-Err-Memory-next.field-0-is at c.in-Err-Memory-next.ensures.reads in
     ends_with g.K.Keeper.tells g.K.Keeper.holds g.K.Keeper.faults c.args.desk (g.S.Source.state c.args.input.now) (g.O.Sink.state c.args.out.now) c.loop-number.desk c.close-in-Err-Memory-next.result Memory (g.S.Source.state c.next-2.new.source) (g.O.Sink.state c.loop-number.out) c.close-in-Err-Memory-next.ensures.keeper c.close-in-Err-Memory-next.ensures.held c.loop-number.invariant.told tt
     (ends_memory (g.K.Keeper.tells c.loop-number.desk.keeper) (served g.K.Keeper.faults c.args.desk) (g.S.Source.state c.args.input.now) (g.S.Source.state c.loop-number.input) (g.S.Source.state c.next-2.new.source) (g.O.Sink.state c.args.out.now) (g.O.Sink.state c.loop-number.out) _ c.next-2.new.self.pending _ (served g.K.Keeper.faults c.loop-number.desk) c.loop-number.invariant.going reads next)
+
+pub returns-in-Err-clause-steady_keeper : goal.returns-in-Err-clause-steady_keeper
+returns-in-Err-clause-steady_keeper g c = λ f. let (goes, same) = c.loop-number.invariant.keeper f in later_steady g.K.Keeper.tells g.K.Keeper.fails_no_more g.K.Keeper.holds g.K.Keeper.faults c.args.desk.keeper c.loop-number.desk.keeper c.in-Err.ended same (c.in-Err.ensures.steady_keeper goes)
+
+pub returns-in-Ok-Last-clause-steady_keeper : goal.returns-in-Ok-Last-clause-steady_keeper
+returns-in-Ok-Last-clause-steady_keeper g c = λ f. let (goes, same) = c.loop-number.invariant.keeper f in later_steady g.K.Keeper.tells g.K.Keeper.fails_no_more g.K.Keeper.holds g.K.Keeper.faults c.args.desk.keeper c.loop-number.desk.keeper c.take_last.result same (c.take_last.ensures.steady_keeper goes)
+
+pub returns-in-Ok-End-clause-steady_keeper : goal.returns-in-Ok-End-clause-steady_keeper
+returns-in-Ok-End-clause-steady_keeper g c = λ f. ends_steady g.K.Keeper.tells g.K.Keeper.fails_no_more g.K.Keeper.holds g.K.Keeper.faults c.args.desk.keeper c.loop-number.desk c.close.result _ c.close.ensures.keeper not_done (c.loop-number.invariant.keeper f)
+
+pub returns-in-Ok-TooLong-clause-steady_keeper : goal.returns-in-Ok-TooLong-clause-steady_keeper
+returns-in-Ok-TooLong-clause-steady_keeper g c = λ f. ends_steady g.K.Keeper.tells g.K.Keeper.fails_no_more g.K.Keeper.holds g.K.Keeper.faults c.args.desk.keeper c.loop-number.desk c.close-in-Ok-TooLong.result _ c.close-in-Ok-TooLong.ensures.keeper (not_malformed _) (c.loop-number.invariant.keeper f)
+
+pub returns-in-Err-Read-clause-steady_keeper : goal.returns-in-Err-Read-clause-steady_keeper
+returns-in-Err-Read-clause-steady_keeper g c = λ f. ends_steady g.K.Keeper.tells g.K.Keeper.fails_no_more g.K.Keeper.holds g.K.Keeper.faults c.args.desk.keeper c.loop-number.desk c.close-in-Err-Read.result _ c.close-in-Err-Read.ensures.keeper not_read (c.loop-number.invariant.keeper f)
+
+pub returns-in-Err-Memory-clause-steady_keeper : goal.returns-in-Err-Memory-clause-steady_keeper
+returns-in-Err-Memory-clause-steady_keeper g c = λ f. ends_steady g.K.Keeper.tells g.K.Keeper.fails_no_more g.K.Keeper.holds g.K.Keeper.faults c.args.desk.keeper c.loop-number.desk c.close-in-Err-Memory.result _ c.close-in-Err-Memory.ensures.keeper not_memory (c.loop-number.invariant.keeper f)
+
+pub returns-in-Ok-End-next-clause-steady_keeper : goal.returns-in-Ok-End-next-clause-steady_keeper
+returns-in-Ok-End-next-clause-steady_keeper g c = λ f. ends_steady g.K.Keeper.tells g.K.Keeper.fails_no_more g.K.Keeper.holds g.K.Keeper.faults c.args.desk.keeper c.loop-number.desk c.close-in-Ok-End-next.result _ c.close-in-Ok-End-next.ensures.keeper not_done (c.loop-number.invariant.keeper f)
+
+pub returns-in-Ok-Line-next-clause-steady_keeper : goal.returns-in-Ok-Line-next-clause-steady_keeper
+returns-in-Ok-Line-next-clause-steady_keeper g c = λ f. ends_steady g.K.Keeper.tells g.K.Keeper.fails_no_more g.K.Keeper.holds g.K.Keeper.faults c.args.desk.keeper c.loop-number.desk c.close-in-Ok-Line-next.result _ c.close-in-Ok-Line-next.ensures.keeper (not_malformed _) (c.loop-number.invariant.keeper f)
+
+pub returns-in-Ok-Last-next-clause-steady_keeper : goal.returns-in-Ok-Last-next-clause-steady_keeper
+returns-in-Ok-Last-next-clause-steady_keeper g c = λ f. ends_steady g.K.Keeper.tells g.K.Keeper.fails_no_more g.K.Keeper.holds g.K.Keeper.faults c.args.desk.keeper c.loop-number.desk c.close-in-Ok-Last-next.result _ c.close-in-Ok-Last-next.ensures.keeper (not_malformed _) (c.loop-number.invariant.keeper f)
+
+pub returns-in-Ok-TooLong-next-clause-steady_keeper : goal.returns-in-Ok-TooLong-next-clause-steady_keeper
+returns-in-Ok-TooLong-next-clause-steady_keeper g c = λ f. ends_steady g.K.Keeper.tells g.K.Keeper.fails_no_more g.K.Keeper.holds g.K.Keeper.faults c.args.desk.keeper c.loop-number.desk c.close-in-Ok-TooLong-next.result _ c.close-in-Ok-TooLong-next.ensures.keeper (not_malformed _) (c.loop-number.invariant.keeper f)
+
+pub returns-in-Err-Read-next-clause-steady_keeper : goal.returns-in-Err-Read-next-clause-steady_keeper
+returns-in-Err-Read-next-clause-steady_keeper g c = λ f. ends_steady g.K.Keeper.tells g.K.Keeper.fails_no_more g.K.Keeper.holds g.K.Keeper.faults c.args.desk.keeper c.loop-number.desk c.close-in-Err-Read-next.result _ c.close-in-Err-Read-next.ensures.keeper not_read (c.loop-number.invariant.keeper f)
+
+pub returns-clause-steady_keeper : goal.returns-clause-steady_keeper
+returns-clause-steady_keeper g c = λ f. ends_steady g.K.Keeper.tells g.K.Keeper.fails_no_more g.K.Keeper.holds g.K.Keeper.faults c.args.desk.keeper c.loop-number.desk c.close-in-Err-Memory-next.result _ c.close-in-Err-Memory-next.ensures.keeper not_memory (c.loop-number.invariant.keeper f)

@@ -1,4 +1,4 @@
-use Rattle.std.proofs.Common.{◌≤◌}
+use Rattle.std.proofs.Common.{◌≡◌, ◌≤◌}
 use Rattle.rv_desk.specs.Seated.{served}
 use Rattle.rv_cli.proofs.Going.{Going}
 use Rattle.rv_cli.proofs.feed.feed.Given as goal
@@ -11,4 +11,5 @@ invariant-loop-number g l = record {
   told : g.K.Keeper.tells l.desk.keeper → g.K.Keeper.tells l.fn.desk.keeper;
   input : g.S.Source.fails_no_more l.fn.input → g.S.Source.fails_no_more l.input;
   output : g.O.Sink.fails_no_more l.fn.out → g.O.Sink.fails_no_more l.out;
+  keeper : g.K.Keeper.fails_no_more l.fn.desk.keeper → g.K.Keeper.fails_no_more l.desk.keeper × (g.K.Keeper.faults l.desk.keeper ≡ g.K.Keeper.faults l.fn.desk.keeper);
 }

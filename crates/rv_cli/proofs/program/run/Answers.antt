@@ -1,4 +1,8 @@
-use Rattle.std.proofs.Common.{inl}
+use Rattle.std.proofs.Common.{ℕ, List, Ok, inl, subst, sym}
+use Rattle.rv_keeper.specs.Stores.{OpensAs, OthersStay}
+use Rattle.rv_answering.specs.declared.request.Request.TheVariants.{Retire}
+use Rattle.rv_cli.specs.Headline.{RunsFeed, RunsOne, RunsReport, TellsActivity, TellsLists, TellsSound}
+use Rattle.rv_cli.proofs.Named.{activity_same, checks_same, feeds_same, lists_same, names_activity, names_check, names_feed, names_lists, names_retire, names_serve, of_both, reports_activity, reports_check, reports_lists, retires_same}
 use Rattle.rv_cli.proofs.Sound.{activity_memory, check_memory, lists_memory, memory_sound, feeds_memory, retires_in_memory, serves_memory, serves_same}
 use Rattle.rv_cli.proofs.program.run.Goals as goal
 
@@ -46,3 +50,92 @@ returns-in-Ok-Some-Serve-clause-wanted g c = λ store options asks.
 
 pub returns-in-Ok-Some-Serve-clause-unserved : goal.returns-in-Ok-Some-Serve-clause-unserved
 returns-in-Ok-Some-Serve-clause-unserved g c = λ store options asks. c.run_serve.ensures.unserved
+
+pub returns-in-Ok-Some-Feed-clause-others : goal.returns-in-Ok-Some-Feed-clause-others
+returns-in-Ok-Some-Feed-clause-others g c = λ store names told.
+    let is = rw (c.in-Ok-Some-Feed.field-0-is, c.in-Ok-Some-Feed.field-0-0-is) at c.in-Ok-Some-Feed.ensures in
+    subst (λ (name : List ℕ). OthersStay g.P.Place.holds g.P.Place.is_out g.P.Place.has g.P.Place.accounts name c.args.place.now c.run_feed.new.place) (names_feed _ _ _ store is c.as_str.ensures names) (c.run_feed.ensures.others told)
+
+pub returns-in-Ok-Some-Retire-clause-others : goal.returns-in-Ok-Some-Retire-clause-others
+returns-in-Ok-Some-Retire-clause-others g c = λ store names told.
+    let is = rw (c.in-Ok-Some-Retire.field-0-is, c.in-Ok-Some-Retire.field-0-0-is) at c.in-Ok-Some-Retire.ensures in
+    subst (λ (name : List ℕ). OthersStay g.P.Place.holds g.P.Place.is_out g.P.Place.has g.P.Place.accounts name c.args.place.now c.run_retire.new.place) (names_retire _ _ _ store _ is c.as_str-in-Ok-Some-Retire.ensures names) (c.run_retire.ensures.others told)
+
+pub returns-in-Ok-Some-Serve-clause-others : goal.returns-in-Ok-Some-Serve-clause-others
+returns-in-Ok-Some-Serve-clause-others g c = λ store names told.
+    let is = rw (c.in-Ok-Some-Serve.field-0-is, c.in-Ok-Some-Serve.field-0-0-is) at c.in-Ok-Some-Serve.ensures in
+    subst (λ (name : List ℕ). OthersStay g.P.Place.holds g.P.Place.is_out g.P.Place.has g.P.Place.accounts name c.args.place.now c.run_serve.new.place) (names_serve _ _ _ store _ is c.as_str-in-Ok-Some-Serve.ensures names) (c.run_serve.ensures.others told)
+
+pub returns-in-Ok-Some-Lists-clause-others : goal.returns-in-Ok-Some-Lists-clause-others
+returns-in-Ok-Some-Lists-clause-others g c = λ store names told.
+    let is = rw (c.in-Ok-Some-Lists.field-0-is, c.in-Ok-Some-Lists.field-0-0-is) at c.in-Ok-Some-Lists.ensures in
+    subst (λ (name : List ℕ). OthersStay g.P.Place.holds g.P.Place.is_out g.P.Place.has g.P.Place.accounts name c.args.place.now c.run_lists.new.place) (names_lists _ _ _ store is c.as_str-in-Ok-Some-Lists.ensures names) (c.run_lists.ensures.others told)
+
+pub returns-in-Ok-Some-Lists-clause-steady_reports : goal.returns-in-Ok-Some-Lists-clause-steady_reports
+returns-in-Ok-Some-Lists-clause-steady_reports g c = λ store names steady there.
+    let is = rw (c.in-Ok-Some-Lists.field-0-is, c.in-Ok-Some-Lists.field-0-0-is) at c.in-Ok-Some-Lists.ensures in
+    c.run_lists.ensures.steady_place steady (subst (λ (name : List ℕ). g.P.Place.has c.args.place.now name) (sym (reports_lists _ _ _ store is c.as_str-in-Ok-Some-Lists.ensures names)) there)
+
+pub returns-in-Ok-Some-Activity-clause-others : goal.returns-in-Ok-Some-Activity-clause-others
+returns-in-Ok-Some-Activity-clause-others g c = λ store names told.
+    let is = rw (c.in-Ok-Some-Activity.field-0-is, c.in-Ok-Some-Activity.field-0-0-is) at c.in-Ok-Some-Activity.ensures in
+    subst (λ (name : List ℕ). OthersStay g.P.Place.holds g.P.Place.is_out g.P.Place.has g.P.Place.accounts name c.args.place.now c.run_activity.new.place) (names_activity _ _ _ store is c.as_str-in-Ok-Some-Activity.ensures names) (c.run_activity.ensures.others told)
+
+pub returns-in-Ok-Some-Activity-clause-steady_reports : goal.returns-in-Ok-Some-Activity-clause-steady_reports
+returns-in-Ok-Some-Activity-clause-steady_reports g c = λ store names steady there.
+    let is = rw (c.in-Ok-Some-Activity.field-0-is, c.in-Ok-Some-Activity.field-0-0-is) at c.in-Ok-Some-Activity.ensures in
+    c.run_activity.ensures.steady_place steady (subst (λ (name : List ℕ). g.P.Place.has c.args.place.now name) (sym (reports_activity _ _ _ store is c.as_str-in-Ok-Some-Activity.ensures names)) there)
+
+pub returns-in-Ok-Some-Check-clause-others : goal.returns-in-Ok-Some-Check-clause-others
+returns-in-Ok-Some-Check-clause-others g c = λ store names told.
+    let is = rw (c.in-Ok-Some-Check.field-0-is, c.in-Ok-Some-Check.field-0-0-is) at c.in-Ok-Some-Check.ensures in
+    subst (λ (name : List ℕ). OthersStay g.P.Place.holds g.P.Place.is_out g.P.Place.has g.P.Place.accounts name c.args.place.now c.run_check.new.place) (names_check _ _ _ store is c.as_str-in-Ok-Some-Check.ensures names) (c.run_check.ensures.others told)
+
+pub returns-in-Ok-Some-Check-clause-steady_reports : goal.returns-in-Ok-Some-Check-clause-steady_reports
+returns-in-Ok-Some-Check-clause-steady_reports g c = λ store names steady there.
+    let is = rw (c.in-Ok-Some-Check.field-0-is, c.in-Ok-Some-Check.field-0-0-is) at c.in-Ok-Some-Check.ensures in
+    c.run_check.ensures.steady_place steady (subst (λ (name : List ℕ). g.P.Place.has c.args.place.now name) (sym (reports_check _ _ _ store is c.as_str-in-Ok-Some-Check.ensures names)) there)
+
+pub returns-in-Ok-Some-Serve-clause-steady_serve : goal.returns-in-Ok-Some-Serve-clause-steady_serve
+returns-in-Ok-Some-Serve-clause-steady_serve g c = λ store options asks steady there.
+    let is = rw (c.in-Ok-Some-Serve.field-0-is, c.in-Ok-Some-Serve.field-0-0-is) at c.in-Ok-Some-Serve.ensures in
+    let (named, chosen) = serves_same _ _ store _ options is asks in
+    c.run_serve.ensures.steady_place steady (rw chosen there)
+
+pub returns-in-Ok-Some-Serve-clause-steady_net : goal.returns-in-Ok-Some-Serve-clause-steady_net
+returns-in-Ok-Some-Serve-clause-steady_net g c = λ store options asks steady enough.
+    let is = rw (c.in-Ok-Some-Serve.field-0-is, c.in-Ok-Some-Serve.field-0-0-is) at c.in-Ok-Some-Serve.ensures in
+    let (named, chosen) = serves_same _ _ store _ options is asks in
+    c.run_serve.ensures.steady_net steady (rw chosen enough)
+
+pub returns-in-Ok-Some-Feed-clause-feed : goal.returns-in-Ok-Some-Feed-clause-feed
+returns-in-Ok-Some-Feed-clause-feed g c = λ store asks.
+    let is = rw (c.in-Ok-Some-Feed.field-0-is, c.in-Ok-Some-Feed.field-0-0-is) at c.in-Ok-Some-Feed.ensures in
+    inl (subst (λ (name : List ℕ). RunsFeed (g.P.Place.tells c.run_feed.new.place) (OpensAs name (g.P.Place.holds c.args.place.now name)) (g.P.Place.holds c.run_feed.new.place name) (g.P.Place.faults c.args.place.now) (g.P.Place.faults c.run_feed.new.place) (g.P.Place.holds c.args.place.now name)
+    (g.S.Source.state c.args.input.now) (g.S.Source.state c.run_feed.new.input) (g.O.Sink.state c.args.out.now) (g.O.Sink.state c.run_feed.new.out) c.run_feed.result)
+    (feeds_same _ _ _ store is c.as_str.ensures asks) c.run_feed.ensures.feed)
+
+pub returns-in-Ok-Some-Retire-clause-retire : goal.returns-in-Ok-Some-Retire-clause-retire
+returns-in-Ok-Some-Retire-clause-retire g c = λ store group asks.
+    let is = rw (c.in-Ok-Some-Retire.field-0-is, c.in-Ok-Some-Retire.field-0-0-is) at c.in-Ok-Some-Retire.ensures in
+    let (named, grouped) = retires_same _ _ _ store _ group is c.as_str-in-Ok-Some-Retire.ensures asks in
+    inl (of_both (λ name got. RunsOne (g.P.Place.tells c.run_retire.new.place) (OpensAs name (g.P.Place.holds c.args.place.now name)) (g.P.Place.holds c.run_retire.new.place name) (g.P.Place.faults c.args.place.now) (g.P.Place.faults c.run_retire.new.place) (g.P.Place.holds c.args.place.now name)
+    (Ok (Retire got)) (g.O.Sink.state c.args.out.now) (g.O.Sink.state c.run_retire.new.out) c.run_retire.result) _ store _ group named grouped c.run_retire.ensures.retire)
+
+pub returns-in-Ok-Some-Lists-clause-lists : goal.returns-in-Ok-Some-Lists-clause-lists
+returns-in-Ok-Some-Lists-clause-lists g c = λ store asks.
+    let is = rw (c.in-Ok-Some-Lists.field-0-is, c.in-Ok-Some-Lists.field-0-0-is) at c.in-Ok-Some-Lists.ensures in
+    inl (subst (λ (name : List ℕ). RunsReport (g.P.Place.tells c.run_lists.new.place) (OpensAs name (g.P.Place.holds c.args.place.now name)) (g.P.Place.holds c.run_lists.new.place name) (g.P.Place.faults c.args.place.now) (g.P.Place.faults c.run_lists.new.place) (g.P.Place.holds c.args.place.now name) TellsLists
+    (g.O.Sink.state c.args.out.now) (g.O.Sink.state c.run_lists.new.out) c.run_lists.result) (lists_same _ _ _ store is c.as_str-in-Ok-Some-Lists.ensures asks) c.run_lists.ensures.report)
+
+pub returns-in-Ok-Some-Activity-clause-activity : goal.returns-in-Ok-Some-Activity-clause-activity
+returns-in-Ok-Some-Activity-clause-activity g c = λ store asks.
+    let is = rw (c.in-Ok-Some-Activity.field-0-is, c.in-Ok-Some-Activity.field-0-0-is) at c.in-Ok-Some-Activity.ensures in
+    inl (subst (λ (name : List ℕ). RunsReport (g.P.Place.tells c.run_activity.new.place) (OpensAs name (g.P.Place.holds c.args.place.now name)) (g.P.Place.holds c.run_activity.new.place name) (g.P.Place.faults c.args.place.now) (g.P.Place.faults c.run_activity.new.place) (g.P.Place.holds c.args.place.now name) TellsActivity
+    (g.O.Sink.state c.args.out.now) (g.O.Sink.state c.run_activity.new.out) c.run_activity.result) (activity_same _ _ _ store is c.as_str-in-Ok-Some-Activity.ensures asks) c.run_activity.ensures.report)
+
+pub returns-in-Ok-Some-Check-clause-check : goal.returns-in-Ok-Some-Check-clause-check
+returns-in-Ok-Some-Check-clause-check g c = λ store asks.
+    let is = rw (c.in-Ok-Some-Check.field-0-is, c.in-Ok-Some-Check.field-0-0-is) at c.in-Ok-Some-Check.ensures in
+    inl (subst (λ (name : List ℕ). RunsReport (g.P.Place.tells c.run_check.new.place) (OpensAs name (g.P.Place.holds c.args.place.now name)) (g.P.Place.holds c.run_check.new.place name) (g.P.Place.faults c.args.place.now) (g.P.Place.faults c.run_check.new.place) (g.P.Place.holds c.args.place.now name) TellsSound
+    (g.O.Sink.state c.args.out.now) (g.O.Sink.state c.run_check.new.out) c.run_check.result) (checks_same _ _ _ store is c.as_str-in-Ok-Some-Check.ensures asks) c.run_check.ensures.report)

@@ -1,4 +1,6 @@
-use Rattle.std.proofs.Common.{inr}
+use Rattle.rv_cli.proofs.Steady.{not_four, reply_is_none, taken_up}
+use Rattle.rv_keeper.specs.StoreLaws.{others_on}
+use Rattle.std.proofs.Common.{inr, sym, ◌∙◌}
 use Rattle.rv_cli.proofs.Sound.{refused_sound, retire_sound}
 use Rattle.rv_cli.proofs.Storing.{has_replied}
 use Rattle.rv_cli.proofs.program.run_retire.Goals as goal
@@ -7,13 +9,32 @@ pub returns-in-Ok-clause-retire : goal.returns-in-Ok-clause-retire
 returns-in-Ok-clause-retire g c = (
   c.write_reply.result,
   c.status.ensures,
-  inr (has_replied g.P.Place.tells g.P.Place.holds g.P.Place.is_out g.P.Place.faults g.P.Kept.Keeper.tells g.P.Kept.Keeper.holds g.P.Kept.Keeper.faults c.args.store.now c.args.place.now c.open_desk.new.place c.close_keeper.new.self c.in-Ok.desk c.args.group.now c.retired-answer.result
+  inr (has_replied g.P.Place.tells g.P.Place.holds g.P.Place.is_out g.P.Place.faults g.P.Kept.Keeper.tells g.P.Kept.Keeper.fails_no_more g.P.Kept.Keeper.holds g.P.Kept.Keeper.faults c.args.store.now c.args.place.now c.open_desk.new.place c.close_keeper.new.self c.in-Ok.desk c.args.group.now c.retired-answer.result
       (g.O.Sink.state c.args.out.now) (g.O.Sink.state c.write_reply.new.out) c.write_reply.result
-      c.in-Ok.ensures.opens c.retired-answer.ensures (record { told = c.close_keeper.ensures.tells; held = c.close_keeper.ensures.kept; taken = c.close_keeper.ensures.faults }) c.write_reply.ensures.replies),
+      c.in-Ok.ensures.opens c.retired-answer.ensures.retired (record { told = c.close_keeper.ensures.tells; held = c.close_keeper.ensures.kept; taken = c.close_keeper.ensures.faults }) c.write_reply.ensures.replies),
 )
 
 pub returns-in-Ok-clause-sound : goal.returns-in-Ok-clause-sound
-returns-in-Ok-clause-sound g c = λ told kept. retire_sound _ _ _ _ _ told kept _ _ _ _ (returns-in-Ok-clause-retire g c)
+returns-in-Ok-clause-sound g c = λ told kept. retire_sound _ _ _ _ _ told kept _ _ _ _ _ (returns-in-Ok-clause-retire g c)
 
 pub returns-in-Err-clause-sound : goal.returns-in-Err-clause-sound
-returns-in-Err-clause-sound g c = λ told kept. refused_sound _ _ _ _ _ told kept c.in-Err.ending _ c.in-Err.ensures.opens c.refuse_opening.ensures.status
+returns-in-Err-clause-sound g c = λ told kept. refused_sound _ _ _ _ _ told kept c.in-Err.ending _ c.in-Err.ensures.opens.0 c.refuse_opening.ensures.status
+
+pub returns-in-Ok-clause-others : goal.returns-in-Ok-clause-others
+returns-in-Ok-clause-others g c = λ t.
+    others_on g.P.Place.holds g.P.Place.is_out g.P.Place.has g.P.Place.accounts c.args.store.now c.args.place.now c.open_desk.new.place c.close_keeper.new.self (c.open_desk.ensures.others (c.close_keeper.ensures.tells t).0) (c.close_keeper.ensures.others t)
+
+pub returns-in-Ok-clause-steady_place : goal.returns-in-Ok-clause-steady_place
+returns-in-Ok-clause-steady_place g c = λ steady.
+    let (on, same, (goes, none)) = c.in-Ok.ensures.steady steady in
+    let (kept, still) = c.retired-answer.ensures.steady goes in
+    record {
+      goes_on = c.close_keeper.ensures.steady on;
+      still = taken_up _ _ _ (still ∙ none) c.close_keeper.ensures.faults ∙ same;
+      no_fault = λ is. not_four c.write_reply.result (reply_is_none (g.O.Sink.state c.args.out.now) (g.O.Sink.state c.write_reply.new.out) c.retired-answer.result.0 c.write_reply.result c.write_reply.ensures.replies) (sym c.status.ensures ∙ is);
+    }
+
+pub returns-in-Err-clause-steady_place : goal.returns-in-Err-clause-steady_place
+returns-in-Err-clause-steady_place g c = λ steady.
+    let (on, same, never) = c.in-Err.ensures.steady steady in
+    record { goes_on = on; still = same; no_fault = λ is. not_four c.in-Err.ending never (sym c.refuse_opening.ensures.status ∙ is) }

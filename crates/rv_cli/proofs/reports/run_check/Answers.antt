@@ -1,4 +1,5 @@
-use Rattle.std.proofs.Common.{inr}
+use Rattle.rv_cli.proofs.Steady.{not_four, sound_is_none}
+use Rattle.std.proofs.Common.{inr, sym, ◌∙◌}
 use Rattle.rv_cli.proofs.Reporting.{has_checked}
 use Rattle.rv_cli.proofs.Sound.{refused_sound}
 use Rattle.rv_cli.proofs.Storing.{refused_fails}
@@ -13,7 +14,17 @@ returns-in-Ok-clause-report g c = (
 )
 
 pub returns-in-Err-clause-sound : goal.returns-in-Err-clause-sound
-returns-in-Err-clause-sound g c = λ told kept. refused_sound _ _ _ _ _ told kept c.in-Err.ending _ c.in-Err.ensures.checks c.refuse_opening.ensures.status
+returns-in-Err-clause-sound g c = λ told kept. refused_sound _ _ _ _ _ told kept c.in-Err.ending _ c.in-Err.ensures.checks.0 c.refuse_opening.ensures.status
 
 pub returns-in-Err-clause-absent : goal.returns-in-Err-clause-absent
-returns-in-Err-clause-absent g c = λ told none. absurd (refused_fails _ _ _ _ _ c.in-Err.ending _ c.in-Err.ensures.checks c.refuse_opening.ensures.status none)
+returns-in-Err-clause-absent g c = λ told none. absurd (refused_fails _ _ _ _ _ c.in-Err.ending _ c.in-Err.ensures.checks.0 c.refuse_opening.ensures.status none)
+
+pub returns-in-Ok-clause-steady_place : goal.returns-in-Ok-clause-steady_place
+returns-in-Ok-clause-steady_place g c = λ steady there.
+    let (on, same, free) = c.in-Ok.ensures.steady steady there in
+    record { goes_on = on; still = same; no_fault = λ is. not_four c.report_sound.result (sound_is_none (g.O.Sink.state c.args.out.now) (g.O.Sink.state c.report_sound.new.out) c.in-Ok.entries c.report_sound.result c.report_sound.ensures.writes) (sym c.status.ensures ∙ is) }
+
+pub returns-in-Err-clause-steady_place : goal.returns-in-Err-clause-steady_place
+returns-in-Err-clause-steady_place g c = λ steady there.
+    let (on, same, never) = c.in-Err.ensures.steady steady there in
+    record { goes_on = on; still = same; no_fault = λ is. not_four c.in-Err.ending never (sym c.refuse_opening.ensures.status ∙ is) }

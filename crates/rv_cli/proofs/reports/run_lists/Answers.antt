@@ -1,4 +1,6 @@
-use Rattle.std.proofs.Common.{inr, ◌≡◌}
+use Rattle.rv_cli.proofs.Steady.{made_is_none, not_four, taken_up}
+use Rattle.rv_keeper.specs.StoreLaws.{others_on}
+use Rattle.std.proofs.Common.{inr, ◌≡◌, ◌∙◌, ap, sym}
 use Rattle.rv_cli.specs.Headline.{TellsLists}
 use Rattle.rv_report.specs.Lists.{lists_text}
 use Rattle.rv_cli.proofs.Reporting.{has_reported, if_ok, reports_made}
@@ -10,14 +12,32 @@ pub returns-in-Ok-clause-report : goal.returns-in-Ok-clause-report
 returns-in-Ok-clause-report g c = (
   c.write_report.result,
   c.status.ensures,
-  inr (has_reported g.P.Place.tells g.P.Place.holds g.P.Place.is_out g.P.Place.faults g.P.Kept.Keeper.tells g.P.Kept.Keeper.holds g.P.Kept.Keeper.faults c.args.store.now TellsLists c.args.place.now c.open_existing_desk.new.place c.close_keeper.new.self c.in-Ok.desk c.close.result
+  inr (has_reported g.P.Place.tells g.P.Place.holds g.P.Place.is_out g.P.Place.faults g.P.Kept.Keeper.tells g.P.Kept.Keeper.fails_no_more g.P.Kept.Keeper.holds g.P.Kept.Keeper.faults c.args.store.now TellsLists c.args.place.now c.open_existing_desk.new.place c.close_keeper.new.self c.in-Ok.desk c.close.result
       (g.O.Sink.state c.args.out.now) (g.O.Sink.state c.write_report.new.out) c.write_report.result
       c.in-Ok.ensures.opens c.close.ensures.keeper c.close.ensures.held (record { told = c.close_keeper.ensures.tells; held = c.close_keeper.ensures.kept; taken = c.close_keeper.ensures.faults })
       (reports_made (TellsLists c.in-Ok.desk.book) c.lists_text-report.result (g.O.Sink.state c.args.out.now) (g.O.Sink.state c.write_report.new.out) c.write_report.result (λ text is. (c.tables.result.now.rows, c.tables.ensures, if_ok (λ t. t ≡ lists_text c.tables.result.now.rows) c.lists_text-report.result text c.lists_text-report.ensures is)) c.write_report.ensures.writes)),
 )
 
 pub returns-in-Err-clause-sound : goal.returns-in-Err-clause-sound
-returns-in-Err-clause-sound g c = λ told kept. refused_sound _ _ _ _ _ told kept c.in-Err.ending _ c.in-Err.ensures.opens c.refuse_opening.ensures.status
+returns-in-Err-clause-sound g c = λ told kept. refused_sound _ _ _ _ _ told kept c.in-Err.ending _ c.in-Err.ensures.opens.0 c.refuse_opening.ensures.status
 
 pub returns-in-Err-clause-absent : goal.returns-in-Err-clause-absent
-returns-in-Err-clause-absent g c = λ told none. absurd (refused_fails _ _ _ _ _ c.in-Err.ending _ c.in-Err.ensures.opens c.refuse_opening.ensures.status none)
+returns-in-Err-clause-absent g c = λ told none. absurd (refused_fails _ _ _ _ _ c.in-Err.ending _ c.in-Err.ensures.opens.0 c.refuse_opening.ensures.status none)
+
+pub returns-in-Ok-clause-others : goal.returns-in-Ok-clause-others
+returns-in-Ok-clause-others g c = λ t.
+    others_on g.P.Place.holds g.P.Place.is_out g.P.Place.has g.P.Place.accounts c.args.store.now c.args.place.now c.open_existing_desk.new.place c.close_keeper.new.self (c.open_existing_desk.ensures.others (c.close_keeper.ensures.tells t).0) (c.close_keeper.ensures.others t)
+
+pub returns-in-Ok-clause-steady_place : goal.returns-in-Ok-clause-steady_place
+returns-in-Ok-clause-steady_place g c = λ steady there.
+    let (on, same, (goes, none)) = c.in-Ok.ensures.steady steady there in
+    record {
+      goes_on = c.close_keeper.ensures.steady on;
+      still = taken_up _ _ _ (ap g.P.Kept.Keeper.faults c.close.ensures.keeper ∙ none) c.close_keeper.ensures.faults ∙ same;
+      no_fault = λ is. not_four c.write_report.result (made_is_none (g.O.Sink.state c.args.out.now) (g.O.Sink.state c.write_report.new.out) c.lists_text-report.result c.write_report.result c.write_report.ensures.writes) (sym c.status.ensures ∙ is);
+    }
+
+pub returns-in-Err-clause-steady_place : goal.returns-in-Err-clause-steady_place
+returns-in-Err-clause-steady_place g c = λ steady there.
+    let (on, same, never) = c.in-Err.ensures.steady steady there in
+    record { goes_on = on; still = same; no_fault = λ is. not_four c.in-Err.ending never (sym c.refuse_opening.ensures.status ∙ is) }

@@ -1,4 +1,6 @@
-use Rattle.std.proofs.Common.{inl, inr, ap, ◌∙◌}
+use Rattle.rv_keeper.specs.StoreLaws.{others_of, others_on}
+use Rattle.std.proofs.Common.{inl, inr, ap, sym, ◌∙◌}
+use Rattle.rv_cli.proofs.Steady.{no_accounts_not_nine, no_store_not_four, no_store_not_nine, serve_not_four, serve_not_nine, served_not_four, served_not_nine}
 use Rattle.rv_book.specs.Book.{size}
 use Rattle.rv_cli.specs.declared.serve_ending.ServeEnding.TheVariants.{NotOpened}
 use Rattle.rv_cli.proofs.Serving.{has_no_store, net_before, serve_ended, unserved_by}
@@ -6,20 +8,20 @@ use Rattle.rv_cli.proofs.serve.serve_all.Goals as goal
 
 pub returns-in-Err-open_desk-clause-serve : goal.returns-in-Err-open_desk-clause-serve
 returns-in-Err-open_desk-clause-serve g c =
-    let read = rw c.as_str.ensures at c.in-Ok.ensures in
+    let read = rw c.as_str.ensures at c.in-Ok.ensures.read in
     let text = rw c.tell-in-Err-open_desk.ensures.ending at c.status-in-Err-open_desk.ensures in (
       NotOpened c.in-Err-open_desk.ending,
       text,
-      inr (inl (has_no_store g.P.Place.tells g.P.Place.holds g.P.Place.is_out g.P.Place.accounts g.P.Place.faults g.P.Kept.Keeper.tells g.P.Kept.Keeper.holds g.P.Kept.Keeper.faults c.args.store.now c.args.options.now.accounts c.args.place.now c.accounts_of.new.place c.open_desk.new.place c.in-Ok.accounts c.in-Err-open_desk.ending
+      inr (inl (has_no_store g.P.Place.tells g.P.Place.holds g.P.Place.is_out g.P.Place.accounts g.P.Place.faults g.P.Kept.Keeper.tells g.P.Kept.Keeper.fails_no_more g.P.Kept.Keeper.holds g.P.Kept.Keeper.faults c.args.store.now c.args.options.now.accounts c.args.place.now c.accounts_of.new.place c.open_desk.new.place c.in-Ok.accounts c.in-Err-open_desk.ending
           (g.O.Sink.state c.args.out.now) (g.O.Sink.state c.tell-in-Err-open_desk.new.out) read c.open_desk.ensures.told c.in-Err-open_desk.ensures.opens c.tell-in-Err-open_desk.ensures.text)),
     )
 
 pub returns-clause-serve : goal.returns-clause-serve
 returns-clause-serve g c =
-    let read = rw c.as_str.ensures at c.in-Ok.ensures in (
+    let read = rw c.as_str.ensures at c.in-Ok.ensures.read in (
       c.tell_served.result,
       c.status-2.ensures,
-      inr (inr (serve_ended g.P.Place.tells g.P.Place.holds g.P.Place.is_out g.P.Place.accounts g.P.Place.faults g.P.Kept.Keeper.tells g.P.Kept.Keeper.holds g.P.Kept.Keeper.faults c.args.store.now c.args.options.now.accounts
+      inr (inr (serve_ended g.P.Place.tells g.P.Place.holds g.P.Place.is_out g.P.Place.accounts g.P.Place.faults g.P.Kept.Keeper.tells g.P.Kept.Keeper.fails_no_more g.P.Kept.Keeper.holds g.P.Kept.Keeper.faults c.args.store.now c.args.options.now.accounts
           c.args.place.now c.accounts_of.new.place c.open_desk.new.place c.close_keeper.new.self c.in-Ok.accounts c.in-Ok-open_desk.desk c.serve_net-served.result.1 c.close.result read c.in-Ok-open_desk.ensures.opens c.open_desk.ensures.told c.close.ensures.keeper c.close.ensures.held
           (record { lawful = c.close.ensures.lawful; within = c.close.ensures.within.0; next = c.close.ensures.next })
           (record { told = c.close_keeper.ensures.tells; held = c.close_keeper.ensures.kept; taken = c.close_keeper.ensures.faults })
@@ -29,3 +31,47 @@ returns-clause-serve g c =
 
 pub returns-clause-unserved : goal.returns-clause-unserved
 returns-clause-unserved g c = inr (unserved_by _ c.serve_net-served.result.0 c.len-entries.result (g.O.Sink.state c.args.out.now) (g.O.Sink.state c.tell_served.new.out) c.tell_served.result _ c.tell_served.ensures.tells c.status-2.ensures c.serve_net-served.ensures.unserved)
+
+pub returns-in-Err-clause-others : goal.returns-in-Err-clause-others
+returns-in-Err-clause-others g c = λ told. others_of g.P.Place.holds g.P.Place.is_out g.P.Place.has g.P.Place.accounts c.args.store.now c.args.place.now c.accounts_of.new.place (c.accounts_of.ensures.stays told)
+
+pub returns-in-Err-open_desk-clause-others : goal.returns-in-Err-open_desk-clause-others
+returns-in-Err-open_desk-clause-others g c = λ told.
+    let mid = c.open_desk.ensures.told told in
+    others_on g.P.Place.holds g.P.Place.is_out g.P.Place.has g.P.Place.accounts c.args.store.now c.args.place.now c.accounts_of.new.place c.open_desk.new.place (others_of g.P.Place.holds g.P.Place.is_out g.P.Place.has g.P.Place.accounts c.args.store.now c.args.place.now c.accounts_of.new.place (c.accounts_of.ensures.stays mid)) (c.open_desk.ensures.others told)
+
+pub returns-clause-others : goal.returns-clause-others
+returns-clause-others g c = λ told.
+    let opened = (c.close_keeper.ensures.tells told).0 in
+    let mid = c.open_desk.ensures.told opened in
+    others_on g.P.Place.holds g.P.Place.is_out g.P.Place.has g.P.Place.accounts c.args.store.now c.args.place.now c.open_desk.new.place c.close_keeper.new.self
+    (others_on g.P.Place.holds g.P.Place.is_out g.P.Place.has g.P.Place.accounts c.args.store.now c.args.place.now c.accounts_of.new.place c.open_desk.new.place (others_of g.P.Place.holds g.P.Place.is_out g.P.Place.has g.P.Place.accounts c.args.store.now c.args.place.now c.accounts_of.new.place (c.accounts_of.ensures.stays mid)) (c.open_desk.ensures.others opened))
+    (c.close_keeper.ensures.others told)
+
+pub returns-in-Err-clause-steady_place : goal.returns-in-Err-clause-steady_place
+returns-in-Err-clause-steady_place g c = λ steady there. let (on, never) = c.in-Err.ensures.steady steady (rw c.as_str.ensures there) in
+    (on, λ is. serve_not_four c.in-Err.ending never (sym (rw c.tell.ensures.ending at c.status.ensures) ∙ is))
+
+pub returns-in-Err-open_desk-clause-steady_place : goal.returns-in-Err-open_desk-clause-steady_place
+returns-in-Err-open_desk-clause-steady_place g c = λ steady there.
+    let (on, never) = c.accounts_of.ensures.steady steady (rw c.as_str.ensures there) in
+    let (opened, same, why) = c.in-Err-open_desk.ensures.steady on in
+    (opened, λ is. serve_not_four (NotOpened c.in-Err-open_desk.ending) (no_store_not_four c.in-Err-open_desk.ending why) (sym (rw c.tell-in-Err-open_desk.ensures.ending at c.status-in-Err-open_desk.ensures) ∙ is))
+
+pub returns-clause-steady_place : goal.returns-clause-steady_place
+returns-clause-steady_place g c = λ steady there.
+    let (on, never) = c.accounts_of.ensures.steady steady (rw c.as_str.ensures there) in
+    let (opened, same, desk) = c.open_desk.ensures.steady on in
+    (c.close_keeper.ensures.steady opened, λ is. serve_not_four c.tell_served.result (served_not_four c.serve_net-served.result.0 c.len-entries.result (g.O.Sink.state c.args.out.now) (g.O.Sink.state c.tell_served.new.out) c.tell_served.result c.tell_served.ensures.tells) (sym c.status-2.ensures ∙ is))
+
+pub returns-in-Err-clause-steady_net : goal.returns-in-Err-clause-steady_net
+returns-in-Err-clause-steady_net g c = λ steady enough is.
+    serve_not_nine c.in-Err.ending (no_accounts_not_nine _ _ _ _ c.in-Err.ending c.in-Err.ensures.read.tells_so) (sym (rw c.tell.ensures.ending at c.status.ensures) ∙ is)
+
+pub returns-in-Err-open_desk-clause-steady_net : goal.returns-in-Err-open_desk-clause-steady_net
+returns-in-Err-open_desk-clause-steady_net g c = λ steady enough is.
+    serve_not_nine (NotOpened c.in-Err-open_desk.ending) (no_store_not_nine c.in-Err-open_desk.ending) (sym (rw c.tell-in-Err-open_desk.ensures.ending at c.status-in-Err-open_desk.ensures) ∙ is)
+
+pub returns-clause-steady_net : goal.returns-clause-steady_net
+returns-clause-steady_net g c = λ steady enough is.
+    serve_not_nine c.tell_served.result (served_not_nine c.serve_net-served.result.0 c.len-entries.result (g.O.Sink.state c.args.out.now) (g.O.Sink.state c.tell_served.new.out) c.tell_served.result c.tell_served.ensures.tells (c.serve_net-served.ensures.steady_net steady enough)) (sym c.status-2.ensures ∙ is)

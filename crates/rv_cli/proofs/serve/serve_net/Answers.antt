@@ -5,7 +5,7 @@ use Rattle.rv_cli.proofs.serve.serve_net.Goals as goal
 
 pub done-requires : goal.done-requires
 done-requires g c = λ told.
-    let back = all_back g.K.Keeper.faults g.K.Keeper.tells _ c.args.desk c.serve_listeners-served.result.1 c.into_vec-listeners.result.items c.serve_listeners-served.result.2.items c.serve_listeners-served.result.0 c.serve_listeners-served.ensures in
+    let back = all_back g.K.Keeper.faults _ _ c.args.desk c.serve_listeners-served.result.1 c.into_vec-listeners.result.items c.serve_listeners-served.result.2.items c.serve_listeners-served.result.0 c.serve_listeners-served.ensures in
     let out = (c.in-Ok.ensures.given told).1 in
     let returned = ap length c.from_vec.ensures.listeners in
     let given = ap length c.into_vec-listeners.ensures in
@@ -29,7 +29,7 @@ returns-in-Ok-served-clause-serves g c =
             let mid = (c.done.ensures.tells t).0 in
             c.done.ensures.back t ∙ ap (λ ls. g.N.Net.came_back c.listen.new.self ++ ls) c.from_vec.ensures.listeners ∙ ap (λ ls. ls ++ returned) (c.in-Ok.ensures.back mid);
       },
-      together.closes.keeps.told,
+      together.closes.keeps.keeper.told,
       c.done.ensures.faults ∙ c.in-Ok.ensures.faults.still,
     )
 
@@ -53,3 +53,6 @@ returns-in-Err-served-clause-unserved g c =
           let mid = (c.done.ensures.tells t).0 in
           c.done.ensures.back t ∙ ap (λ ls. g.N.Net.came_back c.listen.new.self ++ ls) (c.from_vec.ensures.listeners ∙ same.1) ∙ ap (λ ls. ls ++ given) (c.in-Ok.ensures.back mid);
     }
+
+pub returns-in-Ok-served-clause-steady : goal.returns-in-Ok-served-clause-steady
+returns-in-Ok-served-clause-steady g c = let together = rw c.in-Ok-served.is at c.serve_listeners-served.ensures in together.closes.keeps.keeper.goes_on

@@ -1,6 +1,6 @@
 use Rattle.std.proofs.Common.{rules, ◌≡◌, true, sym, ◌∙◌, inl}
 use Rattle.rv_base.specs.InMemory.{fails_next}
-use Rattle.rv_base.proofs.Known.{not_next}
+use Rattle.rv_base.specs.InMemoryLaws.{not_next}
 use Rattle.rv_base.proofs.in_memory.MemorySinkSink.write.Goals as goal
 
 pub returns-then-contains-clause-steady : goal.returns-then-contains-clause-steady

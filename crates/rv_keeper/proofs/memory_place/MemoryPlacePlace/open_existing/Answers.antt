@@ -1,5 +1,8 @@
+use Rattle.std.proofs.Common.{◌≡◌, ◌||◌, true, not, ap, refl}
 use Rattle.rv_base.specs.InMemory.{fails_next}
-use Rattle.rv_keeper.proofs.MemoryStores.{Opened, opened, was_there}
+use Rattle.rv_keeper.specs.MemoryStores.{has_store}
+use Rattle.rv_keeper.specs.declared.memory_place.MemoryPlace.{MemoryPlace}
+use Rattle.rv_keeper.proofs.MemoryStores.{Opened, OpensSo, opened, others_stay, so_refused, so_steady, was_there}
 use Rattle.rv_keeper.proofs.memory_place.MemoryPlacePlace.open_existing.Goals as goal
 
 -- what is so of the stores
@@ -12,11 +15,18 @@ pub returns-clause-kept : goal.returns-clause-kept
 returns-clause-kept c = (is_opened c).kept
 
 pub returns-clause-others : goal.returns-clause-others
-returns-clause-others c = (is_opened c).others
-
-pub returns-clause-still_there : goal.returns-clause-still_there
-returns-clause-still_there c = (is_opened c).stores
+returns-clause-others c = others_stay c.args.name.now c.args.self.now c.open_store.new.self (is_opened c).others (ap (λ (place : MemoryPlace). place.files) c.open_store.ensures.after)
 
 pub returns-clause-none_made : goal.returns-clause-none_made
 returns-clause-none_made c =
     (is_opened c).none_made (rw c.has_store-is_there.ensures at (was_there c.open_store.result c.has_store-is_there.result (fails_next c.args.self.now.calls c.args.self.now.failing.items) c.open_store.ensures.fails))
+
+-- it opens so
+so : (c : goal.After-open_store) → OpensSo c.args.name.now c.args.self.now c.open_store.new.self (not c.has_store-is_there.result || fails_next c.args.self.now.calls c.args.self.now.failing.items) c.open_store.result
+so c = let e = c.open_store.ensures in record { failed = e.fails; gives = e.gives; fresh = e.fresh; ok = e.ok; err = e.err; after = e.after }
+
+pub returns-clause-refused : goal.returns-clause-refused
+returns-clause-refused c = so_refused _ _ _ _ _ (so c)
+
+pub returns-clause-steady : goal.returns-clause-steady
+returns-clause-steady c = so_steady _ _ _ _ (has_store c.args.self.now.stores.items c.args.name.now ≡ true) _ (so c) (λ there no. rw (c.has_store-is_there.ensures, there, no) refl)

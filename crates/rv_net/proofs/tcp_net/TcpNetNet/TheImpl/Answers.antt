@@ -11,6 +11,7 @@ listen-tells g c = record {
   wanted = λ told. absurd told;
   faults = c.ensures.faults;
   failed = c.ensures.failed;
+  steady = λ steady. absurd steady;
 }
 
 pub done-tells : goal.done-tells
@@ -21,4 +22,5 @@ done-tells g c = record {
   to_give = λ told. refl;
   wanted = λ told. refl;
   faults = ap (λ s. s.faults) c.ensures;
+  steady = λ steady. absurd steady;
 }

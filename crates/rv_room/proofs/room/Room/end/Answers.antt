@@ -1,3 +1,4 @@
+use Rattle.rv_keeper.specs.Keeping.{Follows}
 use Rattle.std.proofs.Common.{◌≡◌, ℕ, [], ◌∷◌, Some, ap, sym, ◌∙◌, subst, arith}
 use Rattle.rv_book.specs.Book.{Book, size, with_entry}
 use Rattle.rv_desk.specs.Seated.{Seated}
@@ -84,7 +85,7 @@ pass-requires-clause-home g c =
       d,
       ap (λ (m : M). m.1) at3,
       ap (λ (m : M). m.0.turns) at3 ∙ c.requires.empty.1,
-      subst (λ (m : M). IsOf g.K.Keeper.tells m.0 d) (sym at3) c.requires.of,
+      subst (λ (m : M). IsOf (Follows g.K.Keeper.faults g.K.Keeper.tells g.K.Keeper.fails_no_more) m.0 d) (sym at3) c.requires.of,
       sym (ap (λ (m : M). m.0.book) at3),
       sym (ap (λ (m : M). m.0.doubt) at3),
       sym (ap (λ (m : M). m.0.faults) at3),

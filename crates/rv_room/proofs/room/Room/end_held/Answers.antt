@@ -1,3 +1,4 @@
+use Rattle.rv_keeper.specs.Keeping.{Follows}
 use Rattle.std.proofs.Common.{◌≡◌, ℕ, [], ◌∷◌, Some, ap, sym, ◌∙◌, subst, arith}
 use Rattle.rv_desk.specs.Seated.{Seated}
 use Rattle.rv_room.specs.declared.view.SeatView.{SeatView}
@@ -25,7 +26,7 @@ pass-requires-clause-home g c =
       d,
       ap (λ (m : M). m.1) at,
       ap (λ (m : M). m.0.turns) at ∙ c.requires.empty.1,
-      subst (λ (m : M). IsOf g.K.Keeper.tells m.0 d) (sym at) c.requires.of,
+      subst (λ (m : M). IsOf (Follows g.K.Keeper.faults g.K.Keeper.tells g.K.Keeper.fails_no_more) m.0 d) (sym at) c.requires.of,
       c.requires.stays.0 ∙ sym (ap (λ (m : M). m.0.book) at),
       c.requires.stays.1 ∙ sym (ap (λ (m : M). m.0.doubt) at),
       sym (ap (λ (m : M). m.0.faults) at),

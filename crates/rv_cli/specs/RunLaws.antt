@@ -1,4 +1,4 @@
--- A run goes on by one line.
+-- Laws of runs: a run goes on by one line, and one of what is told is one of what is told later.
 use Rattle.std.proofs.Common.{◌≡◌, ℕ, ◌+◌, ◌^◌, ◌<◌, ◌≤◌, ◌&&◌, true, false, List, [], ◌∷◌, ◌++◌, length, nat_le, nat_lt, Option, Some, None, refl, ap, ◌∙◌, subst, arith, cond}
 use Rattle.std.proofs.lemmas.List.{flat_map_more}
 use Rattle.std.proofs.lemmas.Grind.{common_steps}
@@ -29,13 +29,13 @@ is_late number line le = grind (arith, common_steps)
 pub too_late : (number : ℕ) (line : List ℕ) → 2 ^ 32 ≤ number → line_at number line ≡ None
 too_late number line le = ap (λ b. cond b (line_of line) None) (is_late number line le)
 
-are_more : (n : ℕ) (rest : List (List ℕ)) (bytes : List ℕ) (lines : List Line) (line : Line) (number : ℕ) → number ≡ n + length rest → Are n rest lines → line_at number bytes ≡ Some line → Are n (rest ++ bytes ∷ []) (lines ++ line ∷ [])
+pub are_more : (n : ℕ) (rest : List (List ℕ)) (bytes : List ℕ) (lines : List Line) (line : Line) (number : ℕ) → number ≡ n + length rest → Are n rest lines → line_at number bytes ≡ Some line → Are n (rest ++ bytes ∷ []) (lines ++ line ∷ [])
 are_more n [] bytes [] line number e h is = (subst (λ (k : ℕ). line_at k bytes ≡ Some line) (omega (arith, e)) is, tt)
 are_more n [] bytes (a ∷ lines) line number e h is = absurd h
 are_more n (l ∷ rest) bytes [] line number e h is = absurd h
 are_more n (l ∷ rest) bytes (a ∷ lines) line number e (here, more) is = (here, are_more (n + 1) rest bytes lines line number (omega (arith, e)) more is)
 
-run_more : (Told : Type 0) (lines : List Line) (answers : List (Option Answer)) (first mid new : Served) (line : Line) (answer : Option Answer) → Run Told first lines answers mid → Takes Told mid line answer new → Run Told first (lines ++ line ∷ []) (answers ++ answer ∷ []) new
+pub run_more : (Told : Type 0) (lines : List Line) (answers : List (Option Answer)) (first mid new : Served) (line : Line) (answer : Option Answer) → Run Told first lines answers mid → Takes Told mid line answer new → Run Told first (lines ++ line ∷ []) (answers ++ answer ∷ []) new
 run_more Told [] [] first mid new line answer r s = (new, subst (λ (b : Served). Takes Told b line answer new) r s, refl)
 run_more Told [] (a ∷ answers) first mid new line answer r s = absurd r
 run_more Told (q ∷ lines) [] first mid new line answer r s = absurd r
@@ -45,13 +45,13 @@ run_more Told (q ∷ lines) (a ∷ answers) first mid new line answer (next, ste
 reopens_later : (Told Now : Type 0) → (Now → Told) → (old new : Served) → Reopens Told old new → Reopens Now old new
 reopens_later Told Now then old new r = record { sound = r.sound; limit = r.limit; doubt = r.doubt; faults = r.faults; settled = λ now. r.settled (then now) }
 
-takes_later : (Told Now : Type 0) → (Now → Told) → (old new : Served) (line : Line) (answer : Option Answer) → Takes Told old line answer new → Takes Now old line answer new
+pub takes_later : (Told Now : Type 0) → (Now → Told) → (old new : Served) (line : Line) (answer : Option Answer) → Takes Told old line answer new → Takes Now old line answer new
 takes_later Told Now then old new (Asks asked) (Some answer) taken = taken
 takes_later Told Now then old new Stop None taken = reopens_later Told Now then old new taken
 takes_later Told Now then old new (Asks asked) None taken = absurd taken
 takes_later Told Now then old new Stop (Some answer) taken = absurd taken
 
-run_later : (Told Now : Type 0) → (Now → Told) → (lines : List Line) (answers : List (Option Answer)) (first new : Served) → Run Told first lines answers new → Run Now first lines answers new
+pub run_later : (Told Now : Type 0) → (Now → Told) → (lines : List Line) (answers : List (Option Answer)) (first new : Served) → Run Told first lines answers new → Run Now first lines answers new
 run_later Told Now then [] [] first new r = r
 run_later Told Now then [] (a ∷ answers) first new r = absurd r
 run_later Told Now then (q ∷ lines) [] first new r = absurd r

@@ -1,0 +1,17 @@
+-- Laws of a keeper of either kind.
+use Rattle.std.proofs.Common.{◌≡◌, sym, ◌∙◌}
+use Rattle.rv_keeper.specs.declared.loaded.Loaded.{Loaded}
+use Rattle.rv_sqlite.specs.declared.store_keeper.StoreKeeper.{StoreKeeper}
+use Rattle.rv_sqlite.specs.declared.store_keeper.StoreKeeper.TheVariants.{Memory, Sqlite}
+use Rattle.rv_sqlite.specs.Stored.{StoredHolds, StoredSteady, StoredTells}
+
+module _ {S : Type 0} where
+  -- what fails no more tells
+  pub stored_tells : (keeper : StoreKeeper S) → StoredSteady keeper → StoredTells keeper
+  stored_tells (Memory keeper) steady = tt
+  stored_tells (Sqlite keeper) steady = absurd steady
+
+  -- it holds one thing
+  pub stored_one : (keeper : StoreKeeper S) (one two : Loaded) → StoredHolds keeper one → StoredHolds keeper two → one ≡ two
+  stored_one (Memory keeper) one two is also = is ∙ sym also
+  stored_one (Sqlite keeper) one two is also = absurd is
