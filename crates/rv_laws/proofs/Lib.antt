@@ -1,0 +1,5 @@
+pub mod FedLaws
+pub mod FedRuns
+pub mod ServeRuns
+pub mod ServedLaws
+pub mod Turns

@@ -1,0 +1,107 @@
+-- From the clause of `run` to the listeners that were served, and what holds of them.
+use Rattle.std.proofs.Common.{◌≡◌, ℕ, ◌-◌, ◌^◌, ◌<◌, ◌≤◌, ◌⊎◌, inl, inr, List, [], ◌∷◌, Some, sym, ap, ◌∙◌, subst, arith}
+use Rattle.std.specs.List.{AllByRecursion}
+use Rattle.rv_base.specs.Outside.{InputState, OutputState}
+use Rattle.rv_accounts.specs.File.{Served as AccountsServed}
+use Rattle.rv_keeper.specs.declared.loaded.Loaded.{Loaded}
+use Rattle.rv_keeper.specs.Stores.{OpensAs}
+use Rattle.rv_book.specs.Book.{size}
+use Rattle.rv_net.specs.declared.conn.Conn.{Conn}
+use Rattle.rv_cli.specs.declared.ending.Ending.{Ending}
+use Rattle.rv_cli.specs.declared.ending.Ending.TheVariants as endings
+use Rattle.rv_cli.specs.declared.serve_ending.ServeEnding.{ServeEnding}
+use Rattle.rv_cli.specs.declared.serve_ending.ServeEnding.TheVariants.{BadAccounts, TwiceAccounts, NotOpened, Net, Memory}
+use Rattle.rv_cli.specs.Headline.{IsNotOpened, TellsTrouble}
+use Rattle.rv_cli.specs.Serving.{HasNoAccounts, IsNoNet, ServedBooksAreLawful, ServedPullsAreShown, ServedTroublesHaveCauses}
+use Rattle.rv_cli.specs.Texts.{serve_status, status_of}
+use Rattle.rv_laws.specs.Listeners.{ServedClientsFollow, ServedPushesStand}
+use Rattle.rv_laws.specs.Serves.{all_turns, ServeBooksAreLawful, ServeClientsFollow, ServePullsAreShown, ServePushesStand, ServesAreRuns, ServeTroublesHaveCauses}
+use Rattle.rv_laws.proofs.FedLaws.{no_fault}
+
+-- what holds of each under a premise that holds
+each_so : {X : Type 0} (A : Type 0) (Q : X → Type 0) (xs : List X) → A → AllByRecursion (λ x. A → Q x) xs → AllByRecursion Q xs
+each_so A Q [] here all = tt
+each_so A Q (x ∷ xs) here (one, rest) = (one here, each_so A Q xs here rest)
+
+-- ---- What ends otherwise has another status.
+
+abbrev IsOf : ℕ → Type 0
+IsOf status = (status ≡ 0) ⊎ (status ≡ 7)
+
+neither : (n : ℕ) → 0 < n → (n ≡ 7 → ⊥) → IsOf n → ⊥
+neither n some other (inl is) = omega (arith, is)
+neither n some other (inr is) = other is
+
+no_accounts : (Told : Type 0) (HasFile : List ℕ → Type 0) (before after : ℕ) (ending : ServeEnding) → HasNoAccounts Told HasFile before after ending → IsOf (serve_status ending) → ⊥
+no_accounts Told HasFile before after (BadAccounts number) why of = neither 3 (omega arith) (λ is. omega (arith, is)) of
+no_accounts Told HasFile before after (TwiceAccounts number) why of = neither 3 (omega arith) (λ is. omega (arith, is)) of
+no_accounts Told HasFile before after (NotOpened endings.Keeper) why of = neither 4 (omega arith) (λ is. omega (arith, is)) of
+no_accounts Told HasFile before after (NotOpened endings.Memory) why of = neither 8 (omega arith) (λ is. omega (arith, is)) of
+no_accounts Told HasFile before after ending why of = absurd why
+
+no_store : (Told : Type 0) (Stored Holds : Loaded → Type 0) (before after : ℕ) (ending : Ending) → IsNotOpened Told Stored Holds before after ending → IsOf (status_of ending) → ⊥
+no_store Told Stored Holds before after endings.Keeper why of = neither 4 (omega arith) (λ is. omega (arith, is)) of
+no_store Told Stored Holds before after (endings.Damaged shelf key) why of = neither 5 (omega arith) (λ is. omega (arith, is)) of
+no_store Told Stored Holds before after endings.Memory why of = neither 8 (omega arith) (λ is. omega (arith, is)) of
+no_store Told Stored Holds before after ending why of = absurd why
+
+no_net : (before after : ℕ) (ending : ServeEnding) → IsNoNet before after ending → IsOf (serve_status ending) → ⊥
+no_net before after Net why of = neither 9 (omega arith) (λ is. omega (arith, is)) of
+no_net before after Memory why of = neither 8 (omega arith) (λ is. omega (arith, is)) of
+no_net before after ending why of = absurd why
+
+-- ---- The run.
+
+module _ {P N K L I O : Type 0} (tells : P → Type 0) (files : P → List ℕ → List ℕ → Type 0) (holds : P → List ℕ → Loaded → Type 0) (place_faults : P → ℕ)
+    (net_tells : N → Type 0) (to_give given_back : N → List L) (net_faults : N → ℕ) (faults : K → ℕ) (kept_tells steady : K → Type 0)
+    (input : I → InputState) (output : O → OutputState) (input_steady : I → Type 0) (output_steady : O → Type 0) (listener_tells : L → Type 0) (to_come came_back : L → List (Conn I O)) (out ends : L → ℕ) where
+  pub serves_are_runs : ServesAreRuns tells files holds place_faults net_tells to_give given_back net_faults faults kept_tells steady input output input_steady output_steady listener_tells to_come came_back out ends
+  serves_are_runs old new net net' store options output output' status (ending, is, inl refused) at =
+      absurd (no_accounts (tells new) (files old options.accounts) (place_faults old) (place_faults new) ending refused.why (subst (λ (n : ℕ). IsOf n) is at))
+  serves_are_runs old new net net' store options output output' status (ending, is, inr (inl closed)) at =
+      absurd (no_store (tells new) (OpensAs store (holds old store)) (holds new store) (place_faults old) (place_faults new) closed.other closed.why (subst (λ (n : ℕ). IsOf n) (is ∙ ap serve_status closed.is) at))
+  serves_are_runs old new net net' store options output output' status (ending, is, inr (inr (inl idle))) at =
+      absurd (no_net (net_faults net) (net_faults net') ending idle.why (subst (λ (n : ℕ). IsOf n) is at))
+  serves_are_runs old new net net' store options output output' status (ending, is, inr (inr (inr ran))) at =
+      let net = ran.serves in
+      record {
+        accounts = ran.accounts;
+        opened = ran.first;
+        now = ran.now;
+        givens = net.given;
+        backs = net.returned;
+        begins = ran.begins;
+        together = net.serves;
+        sound = ran.sound;
+        leaves = ran.leaves;
+        count = net.count;
+        first = net.first;
+        last = net.last;
+      }
+
+  pub books_are_lawful : ((accounts : AccountsServed) → ServedBooksAreLawful faults kept_tells steady accounts input output input_steady output_steady listener_tells to_come came_back out ends)
+      → ServeBooksAreLawful tells files holds place_faults net_tells to_give given_back net_faults faults kept_tells steady input output input_steady output_steady listener_tells to_come came_back out ends
+  books_are_lawful law old new net net' store options run = law run.accounts run.opened run.now run.givens run.backs run.together run.sound
+
+  pub pulls_are_shown : ((accounts : AccountsServed) → ServedPullsAreShown faults kept_tells steady accounts input output input_steady output_steady listener_tells to_come came_back out ends)
+      → ServePullsAreShown tells files holds place_faults net_tells to_give given_back net_faults faults kept_tells steady input output input_steady output_steady listener_tells to_come came_back out ends
+  pulls_are_shown law old new net net' store options run = law run.accounts run.opened run.now run.givens run.backs run.together
+
+  pub troubles_have_causes : ((accounts : AccountsServed) → ServedTroublesHaveCauses faults kept_tells steady accounts input output input_steady output_steady listener_tells to_come came_back out ends)
+      → ServeTroublesHaveCauses tells files holds place_faults net_tells to_give given_back net_faults faults kept_tells steady input output input_steady output_steady listener_tells to_come came_back out ends
+  troubles_have_causes law old new net net' store options run stays below =
+      each_so (((faults run.now.keeper ≡ faults run.opened.keeper) × (faults run.opened.keeper < 2 ^ 64 - 1)) ⊎ steady run.opened.keeper) (λ turn. TellsTrouble (Some turn.1) → ⊥)
+      (all_turns tells files holds place_faults net_tells to_give given_back net_faults faults kept_tells steady input output input_steady output_steady listener_tells to_come came_back out ends old new net net' store options run) (inl ((no_fault run.leaves.kept (place_faults old) (place_faults new) (faults run.now.keeper) run.leaves.taken stays below run.leaves.later) ∙ sym run.begins.faults, omega (arith, run.begins.faults))) (law run.accounts run.opened run.now run.givens run.backs run.together)
+
+  pub pushes_stand : ((accounts : AccountsServed) → ServedPushesStand faults kept_tells steady accounts input output input_steady output_steady listener_tells to_come came_back out ends)
+      → ServePushesStand tells files holds place_faults net_tells to_give given_back net_faults faults kept_tells steady input output input_steady output_steady listener_tells to_come came_back out ends
+  pushes_stand law old new net net' store options run = law run.accounts run.opened run.now run.givens run.backs run.together run.sound
+
+  pub clients_follow : ((accounts : AccountsServed) → ServedBooksAreLawful faults kept_tells steady accounts input output input_steady output_steady listener_tells to_come came_back out ends)
+      → ((accounts : AccountsServed) → ServedClientsFollow faults kept_tells steady accounts input output input_steady output_steady listener_tells to_come came_back out ends)
+      → ServeClientsFollow tells files holds place_faults net_tells to_give given_back net_faults faults kept_tells steady input output input_steady output_steady listener_tells to_come came_back out ends
+  clients_follow lawful law old new net net' store options run =
+      let kept = lawful run.accounts run.opened run.now run.givens run.backs run.together run.sound in
+      let limit : run.now.limit ≡ 2 ^ 32 - 1 = kept.limit run.begins.limit in
+      let within : size run.now.book ≤ run.now.limit = run.sound.within in
+      law run.accounts run.opened run.now run.givens run.backs run.together run.sound (omega (arith, limit, within))

@@ -1,0 +1,5 @@
+use Rattle.rv_laws.proofs.FedLaws.{pushes_stand}
+use Rattle.rv_laws.proofs.feed.pushes_stand.Goals as goal
+
+pub returns : goal.returns
+returns g c = pushes_stand g.P.Place.tells g.P.Place.holds g.P.Place.faults c.books_are_lawful.ensures c.pushes_stand.ensures

@@ -1,0 +1,3 @@
+pub mod Feeds
+pub mod Listeners
+pub mod Serves

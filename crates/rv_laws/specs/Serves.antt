@@ -1,0 +1,89 @@
+-- What follows from the clause `serve` of `run`.
+use Rattle.std.specs.Prelude.{ℕ, ◌≡◌, ◌≤◌, ◌<◌, ◌-◌, ◌^◌, ◌⊎◌, List, ◌++◌, length, Some, Ok, Contains}
+use Rattle.std.specs.List.{AllByRecursion}
+use Rattle.rv_base.specs.Outside.{InputState, OutputState}
+use Rattle.rv_words.specs.declared.serve_options.ServeOptions.{ServeOptions}
+use Rattle.rv_accounts.specs.File.{Served as AccountsServed}
+use Rattle.rv_keeper.specs.declared.loaded.Loaded.{Loaded}
+use Rattle.rv_keeper.specs.Stores.{OpensAs}
+use Rattle.rv_wire.specs.declared.push.Push as pushes
+use Rattle.rv_history.specs.Clients.{ClientPull, IsClient}
+use Rattle.rv_history.specs.Laws.{IsEntered}
+use Rattle.rv_history.specs.Served.{IsSound}
+use Rattle.rv_desk.specs.Seated.{Seated, served}
+use Rattle.rv_answering.specs.declared.answer.Answer.{Answer}
+use Rattle.rv_answering.specs.declared.answer.Answer.TheVariants.{Pushed, Pulled}
+use Rattle.rv_answering.specs.declared.request.Request.TheVariants.{Push, Pull}
+use Rattle.rv_answering.specs.Requests.{Asked}
+use Rattle.rv_net.specs.declared.conn.Conn.{Conn}
+use Rattle.rv_cli.specs.Headline.{Begins, IsLawfulRun, Leaves, TellsTrouble}
+use Rattle.rv_cli.specs.Serving.{NetServes, RunsServe, ShowsIn}
+use Rattle.rv_laws.specs.Listeners.{FollowsIn, Together, turns_in}
+
+-- A run of `serve` on a store of a place and over a net, which are these before and these after.
+module _ {P N K L I O : Type 0} (tells : P → Type 0) (files : P → List ℕ → List ℕ → Type 0) (holds : P → List ℕ → Loaded → Type 0) (place_faults : P → ℕ)
+    (net_tells : N → Type 0) (to_give given_back : N → List L) (net_faults : N → ℕ) (faults : K → ℕ) (kept_tells steady : K → Type 0)
+    (input : I → InputState) (output : O → OutputState) (input_steady : I → Type 0) (output_steady : O → Type 0) (listener_tells : L → Type 0) (to_come came_back : L → List (Conn I O)) (out ends : L → ℕ) where
+  -- these listeners were served side by side
+  abbrev pub AreServed : AccountsServed → Seated K → List L → Seated K → List L → Type 0
+  AreServed accounts = Together faults kept_tells steady accounts input output input_steady output_steady listener_tells to_come came_back out ends
+
+  -- what `run` says
+  abbrev pub RunsServing : P → P → N → N → List ℕ → ServeOptions → OutputState → OutputState → ℕ → Type 0
+  RunsServing old new net net' store options = RunsServe faults (tells new) (files old options.accounts) (holds old store) (OpensAs store (holds old store)) (holds new store) (place_faults old) (place_faults new)
+      (λ accounts opened now. NetServes (net_tells net') listener_tells (λ givens backs. AreServed accounts opened givens now backs) options.workers (to_give net) (to_give net') (given_back net) (given_back net'))
+      (net_faults net) (net_faults net')
+
+  -- The listeners of the net were served side by side at a desk, which was opened with the book that the store kept, and closed with the
+  -- one that it keeps. Where the net tells, they are the first that it had to give, and came back to it.
+  pub record ServeRun (old new : P) (net net' : N) (store : List ℕ) (options : ServeOptions) : Type 0 where
+    pub accounts : AccountsServed
+    pub opened : Seated K
+    pub now : Seated K
+    pub givens : List L
+    pub backs : List L
+    pub begins : Begins (tells new) (OpensAs store (holds old store)) (served faults opened)
+    pub together : AreServed accounts opened givens now backs
+    pub sound : IsSound (served faults now)
+    pub leaves : Leaves (tells new) (holds new store) (place_faults old) (place_faults new) (served faults now)
+    pub count : length givens ≡ options.workers
+    pub first : net_tells net' → to_give net ≡ givens ++ to_give net'
+    pub last : net_tells net' → given_back net' ≡ given_back net ++ backs
+
+  -- At status 0 and 7 there was such a run.
+  abbrev pub ServesAreRuns : Type 0
+  ServesAreRuns = (old new : P) (net net' : N) (store : List ℕ) (options : ServeOptions) (output output' : OutputState) (status : ℕ)
+      → RunsServing old new net net' store options output output' status → (status ≡ 0) ⊎ (status ≡ 7) → ServeRun old new net net' store options
+
+  -- something holds of all such runs
+  abbrev pub OfAllServes : ((old new : P) (net net' : N) (store : List ℕ) (options : ServeOptions) → ServeRun old new net net' store options → Type 0) → Type 0
+  OfAllServes Holds = (old new : P) (net net' : N) (store : List ℕ) (options : ServeOptions) (run : ServeRun old new net net' store options) → Holds old new net net' store options run
+
+  -- all that was asked over the connections, with its answers
+  abbrev pub all_turns : (old new : P) (net net' : N) (store : List ℕ) (options : ServeOptions) → ServeRun old new net net' store options → List (Asked × Answer)
+  all_turns old new net net' store options run =
+      turns_in faults kept_tells steady run.accounts input output input_steady output_steady listener_tells to_come came_back out ends run.opened run.givens run.now run.backs run.together
+
+  -- The book at the end is lawful and goes on from the first, each client's acts have the ids 1, 2, 3 and so on, and orders rise.
+  abbrev pub ServeBooksAreLawful : Type 0
+  ServeBooksAreLawful = OfAllServes (λ old new net net' store options run. IsLawfulRun (Unit {0}) (served faults run.opened) (served faults run.now))
+
+  -- Each pull that was answered shows what its user sees at a point of that book.
+  abbrev pub ServePullsAreShown : Type 0
+  ServePullsAreShown = OfAllServes (λ old new net net' store options run. AllByRecursion (ShowsIn run.now.book) (all_turns old new net net' store options run))
+
+  -- Where the place's count of faults stayed below its last value, no answer tells a trouble with what keeps the book.
+  abbrev pub ServeTroublesHaveCauses : Type 0
+  ServeTroublesHaveCauses = OfAllServes (λ old new net net' store options run. place_faults new ≡ place_faults old → place_faults old < 2 ^ 64 - 1
+      → AllByRecursion (λ turn. TellsTrouble (Some turn.1) → ⊥) (all_turns old new net net' store options run))
+
+  -- Each mutation of a push that was not refused stands in the book at the end; but for an id of 0, which is skipped and stands nowhere.
+  abbrev pub ServePushesStand : Type 0
+  ServePushesStand = OfAllServes (λ old new net net' store options run. (user : List ℕ) (push : pushes.Push) → Contains (all_turns old new net net' store options run) (Ok (Push user push), Pushed)
+      → AllByRecursion (λ m. 1 ≤ m.id → IsEntered (record { user = user; group = push.group }) run.now.book m) push.mutations)
+
+  -- A client that begins with nothing, and whose pulls were answered over any of the connections, holds after each of them what its user
+  -- sees at a point of the book at the end.
+  abbrev pub ServeClientsFollow : Type 0
+  ServeClientsFollow = OfAllServes (λ old new net net' store options run. (user : List ℕ) (pulls : List ClientPull) → IsClient pulls
+      → AllByRecursion (λ pull. Contains (all_turns old new net net' store options run) (Ok (Pull user pull.request), Pulled pull.reply)) pulls → AllByRecursion (FollowsIn faults steady run.now.book user) pulls)

@@ -1,0 +1,10 @@
+//! What follows from the clauses `feed` and `serve` of [`run`](rv_cli::run), as contracts of functions that do nothing: a check of the
+//! crate proves them.
+//!
+//! Who has called `run` holds one of its clauses. [`feed::feeds_are_runs`] and [`serve::serves_are_runs`] make of it one record, the run
+//! that there was, and the other laws say of that record what stands in its book, what its answers tell, and what its clients hold.
+#![tactic(auto)]
+
+pub mod feed;
+pub mod listeners;
+pub mod serve;
