@@ -1,7 +1,7 @@
 #!/usr/bin/env python3
-"""Writes the files on which `crates/trial_files` runs, by Python's sqlite3: checks/make_data.py [FOLDER]
+"""Writes the stores of the subject `files` of `crates/trial_runs`, by Python's sqlite3: checks/make_data.py [FOLDER]
 
-The files lie in crates/trial_files/data, and are written anew only where a case wants another one.
+They lie in crates/trial_runs/data, NAME.db each, and are written anew only where a case wants another one.
 """
 import os
 import sqlite3
@@ -41,10 +41,11 @@ def rows(cells):
 
 
 def main():
-    folder = sys.argv[1] if len(sys.argv) > 1 else os.path.join(os.path.dirname(__file__), "..", "crates", "trial_files", "data")
+    folder = sys.argv[1] if len(sys.argv) > 1 else os.path.join(os.path.dirname(__file__), "..", "crates", "trial_runs", "data")
     os.chdir(folder)
     for name in os.listdir("."):
-        os.remove(name)
+        if name.endswith(".db"):
+            os.remove(name)
     database("notes.db", NOTES)
     database("first.db", [TABLE], rows(FIRST))
     database("damaged.db", [TABLE], rows({**FIRST, (2, "list/l1"): "[]"}))

@@ -8,7 +8,7 @@ mod stage;
 mod texts;
 
 pub use draws::Draws;
-pub use player::{Player, play};
+pub use player::{Line, kind_of, print_answer};
 pub use stage::Stage;
 pub use texts::{
     Part, digits_of, first_word, joined, named, number_in, text_of, told, words_at_blanks, words_of,

@@ -1,52 +1,43 @@
 use rv_base::Memory;
-use std::alloc::Global;
 use std::io;
 use std::io::ErrorKind;
 
-/// Plays the commands of cases, and keeps what it needs from one to the next.
-pub trait Player {
-    /// Begins a case, with nothing left of those before it. Where a subject begins, it is named.
-    fn begin(&mut self, alloc: Global, subject: Option<&str>) -> Result<(), Memory>;
-
-    /// What a command prints, each line with LF at its end; none where the line is no command.
-    fn play(&mut self, alloc: Global, line: &str) -> Result<Option<String>, Memory>;
+/// What a line of a trial's cases is.
+#[derive(Clone, Copy, Debug)]
+pub enum Line<'l> {
+    /// `=== SUBJECT`: the cases of a subject begin.
+    Subject(&'l str),
+    /// `== NAME`: a case begins.
+    Case,
+    /// It begins with `#`, and is passed over.
+    Note,
+    /// A command.
+    Command,
 }
 
-// A line that is printed as it is.
-fn echoed(alloc: Global, before: &str, line: &str) -> Result<String, Memory> {
-    Ok(format!(in alloc; "{before}{line}\n")?)
-}
-
-// What a line prints.
-fn answer<P: Player>(alloc: Global, player: &mut P, line: &str) -> Result<String, Memory> {
+/// What a line is.
+pub fn kind_of(line: &str) -> Line<'_> {
+    if let Some(subject) = line.strip_prefix("=== ") {
+        return Line::Subject(subject);
+    }
+    if line.starts_with("== ") {
+        return Line::Case;
+    }
     if line.starts_with('#') {
-        return Ok(String::new(alloc));
+        return Line::Note;
     }
-    if line.starts_with("==") {
-        player.begin(alloc, line.strip_prefix("=== "))?;
-        return echoed(alloc, "", line);
-    }
-    match player.play(alloc, line)? {
-        Some(text) => Ok(text),
-        None => echoed(alloc, "?? ", line),
-    }
+    Line::Command
 }
 
-// Prints what a line prints.
-fn print_answer<P: Player>(rt: &HostRuntime, player: &mut P, line: &str) -> io::Result<()> {
-    match answer(rt.alloc(), player, line) {
-        Ok(text) => print!(rt; "{text}"),
+/// Prints what a line comes to: a text, each of its lines with LF at its end; or the line itself after `?? `, where it is none.
+pub fn print_answer(
+    rt: &HostRuntime,
+    line: &str,
+    answer: Result<Option<String>, Memory>,
+) -> io::Result<()> {
+    match answer {
+        Ok(Some(text)) => print!(rt; "{text}"),
+        Ok(None) => print!(rt; "?? {line}\n"),
         Err(Memory) => Err(io::Error::from(ErrorKind::OutOfMemory)),
     }
-}
-
-/// Plays the lines of standard input.
-///
-/// A line `=== SUBJECT` begins the cases of a subject and `== NAME` begins a case; both are echoed. A line that begins with `#` is
-/// none. Any other line is a command, and one that is unknown is printed after `?? `.
-pub fn play<P: Player>(rt: &HostRuntime, player: &mut P) -> io::Result<()> {
-    for line in rt.lines(rt.alloc()) {
-        print_answer(rt, player, line?.as_str())?;
-    }
-    Ok(())
 }

@@ -1,0 +1,35 @@
+// Cells of stores.
+use rv_base::Memory;
+use rv_keeper::{Cell, Store};
+use std::alloc::Global;
+
+fn is_same(one: &Cell, other: &Cell) -> bool {
+    one.shelf == other.shelf
+        && one.key.as_slice() == other.key.as_slice()
+        && one.body.as_slice() == other.body.as_slice()
+}
+
+fn are_same(cells: &[Cell], others: &[Cell]) -> bool {
+    let mut others = others.iter();
+    for cell in cells {
+        match others.next() {
+            Some(other) if is_same(cell, other) => {}
+            _ => return false,
+        }
+    }
+    others.next().is_none()
+}
+
+/// Whether two stores are there, and hold the same.
+pub fn hold_the_same(
+    alloc: Global,
+    one: Option<&Store>,
+    other: Option<&Store>,
+) -> Result<bool, Memory> {
+    let (Some(one), Some(other)) = (one, other) else {
+        return Ok(false);
+    };
+    let cells = one.shelves.cells(alloc)?;
+    let others = other.shelves.cells(alloc)?;
+    Ok(one.generation == other.generation && are_same(cells.as_slice(), others.as_slice()))
+}

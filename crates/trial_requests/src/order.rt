@@ -1,0 +1,107 @@
+// The one order of the requests of connections that the entries of a book tell.
+use crate::connections::Connection;
+use rv_base::{Id, Memory};
+use rv_book::Entry;
+use rv_keeper::{Cell, Store};
+use rv_record::{CellFault, entry_of_cell};
+use std::alloc::Global;
+
+/// A request in its turn.
+#[derive(Clone, Copy)]
+pub struct Turn {
+    /// The place of its connection, from 0.
+    pub connection: usize,
+    /// Its place in the connection, from 0.
+    pub request: usize,
+}
+
+fn group_of(entry: &Entry) -> &Id {
+    match entry {
+        Entry::Act { group, .. } => group,
+        Entry::Look { group, .. } => group,
+        Entry::Retire { group } => group,
+    }
+}
+
+// The place of the connection that has this group, or that of none.
+fn place_of(connections: &[Connection], group: &Id) -> usize {
+    let mut place: usize = 0;
+    for connection in connections {
+        if connection.group.as_str() == group.as_str() {
+            return place;
+        }
+        place = place.saturating_add(1);
+    }
+    place
+}
+
+// The place of the connection whose group the entry of a cell names, or that of none.
+fn maker(alloc: Global, connections: &[Connection], cell: &Cell) -> Result<usize, Memory> {
+    match entry_of_cell(alloc, cell) {
+        Ok((_, entry)) => Ok(place_of(connections, group_of(&entry))),
+        Err(CellFault::Memory) => Err(Memory),
+        Err(CellFault::BadCell(_, _)) => Ok(usize::MAX),
+    }
+}
+
+// Whether the request at a place makes an entry.
+fn makes(asked: &Connection, request: usize) -> bool {
+    match asked.requests.get(request) {
+        Some(request) => request.makes,
+        None => false,
+    }
+}
+
+// Adds the requests of a connection from one on, up to the next that makes an entry. Gives the place after them.
+fn take(
+    turns: &mut Vec<Turn>,
+    connections: &[Connection],
+    connection: usize,
+    from: usize,
+) -> Result<usize, Memory> {
+    let Some(asked) = connections.get(connection) else {
+        return Ok(from);
+    };
+    for request in from..asked.requests.len() {
+        turns.push(Turn {
+            connection,
+            request,
+        })?;
+        if makes(asked, request) {
+            return Ok(request + 1);
+        }
+    }
+    Ok(asked.requests.len())
+}
+
+fn taken_of(alloc: Global, connections: &[Connection]) -> Result<Vec<usize>, Memory> {
+    let mut taken = Vec::new(alloc);
+    for _ in connections {
+        taken.push(0)?;
+    }
+    Ok(taken)
+}
+
+/// The requests of the connections in one order, in which they make the entries of a store: each entry tells whose turn it was. The
+/// requests after the last that makes one come at the end.
+pub fn turns_of(
+    alloc: Global,
+    connections: &[Connection],
+    store: &Store,
+) -> Result<Vec<Turn>, Memory> {
+    let mut turns = Vec::new(alloc);
+    let mut taken = taken_of(alloc, connections)?;
+    let cells = store.shelves.cells(alloc)?;
+    for cell in cells.as_slice() {
+        if cell.shelf == 1 {
+            let connection = maker(alloc, connections, cell)?;
+            if let Some(place) = taken.get_mut(connection) {
+                *place = take(&mut turns, connections, connection, *place)?;
+            }
+        }
+    }
+    for (connection, place) in taken.iter().enumerate() {
+        take(&mut turns, connections, connection, *place)?;
+    }
+    Ok(turns)
+}

@@ -1,0 +1,71 @@
+// Two seats that share a desk over a keeper in memory.
+ghost use Rattle.std.specs.Prelude.{◌≡◌, None};
+
+mod calls;
+mod meddled;
+mod turns;
+
+use calls::calls_of;
+use meddled::Meddled;
+use rv_base::Memory;
+use rv_desk::{Desk, OpenFault};
+use rv_room::Room;
+use std::alloc::Global;
+use std::sync::Wait;
+use trial_stage::number_in;
+
+// Plays turns in a room over this desk, and closes both.
+fn played<R: Wait>(
+    rt: &R,
+    alloc: Global,
+    desk: Desk<Meddled>,
+    words: &str,
+) -> Result<String, Memory>
+    requires { desk.doubt ≡ None }
+{
+    let (room, seats) = match Room::open(alloc, desk, 2) {
+        Ok(opened) => opened,
+        Err((_, desk)) => {
+            let _keeper = desk.close();
+            return Err(Memory);
+        }
+    };
+    let (told, seats) = turns::taken(rt, alloc, &room, seats, words);
+    let desk = room.close(seats);
+    let entries = desk.book().len();
+    let _keeper = desk.close();
+    Ok(format!(in alloc; "{}entries {entries}\n", told?)?)
+}
+
+fn opened<R: Wait>(
+    rt: &R,
+    alloc: Global,
+    keeper: Meddled,
+    limit: u32,
+    words: &str,
+) -> Result<String, Memory> {
+    match Desk::open(alloc, keeper, limit) {
+        Ok(desk) => played(rt, alloc, desk, words),
+        Err((OpenFault::Memory, _)) => Err(Memory),
+        Err(_) => Ok(String::from_str(alloc, "not opened\n")?),
+    }
+}
+
+/// `LIMIT CALLS TURNS`: what comes of turns by two seats of a room, with a book of so many entries at most, over a keeper that fails at
+/// these calls; and then the number of the entries of the desk that the room gives back.
+pub fn told<R: Wait>(rt: &R, alloc: Global, words: &str) -> Result<Option<String>, Memory> {
+    let Some((limit, words)) = words.split_once(' ') else {
+        return Ok(None);
+    };
+    let (calls, words) = words.split_once(' ').unwrap_or((words, ""));
+    let Some(limit) = number_in(limit) else {
+        return Ok(None);
+    };
+    match u32::try_from(limit) {
+        Ok(limit) => {
+            let keeper = calls_of(alloc, calls)?;
+            Ok(Some(opened(rt, alloc, keeper, limit, words)?))
+        }
+        Err(_) => Ok(None),
+    }
+}

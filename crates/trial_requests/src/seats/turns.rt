@@ -1,0 +1,151 @@
+// The turns of two seats.
+ghost use Rattle.std.specs.Prelude.{◌≡◌, vec_len};
+ghost use Rattle.rv_room.specs.Seats.{id_of, opened_of, AllNew, AllOf};
+
+use super::meddled::Meddled;
+use rv_base::{Id, Memory, Num, User};
+use rv_history::{PullAnswer, Turns};
+use rv_room::{Room, SeatTurns, Seats};
+use rv_rows::{Call, Reason};
+use rv_wire::{Cookie, PullRequest};
+use std::alloc::Global;
+use std::sync::Wait;
+use trial_stage::number_in;
+
+// A seat of the room that takes turns.
+type Player<'a, R> = SeatTurns<'a, R, Meddled>;
+
+// Of these texts none is refused but for want of memory.
+fn id(alloc: Global, text: &str) -> Result<Id, Memory> {
+    match Id::new(alloc, text) {
+        Ok(id) => Ok(id),
+        Err(_) => Err(Memory),
+    }
+}
+
+fn user(alloc: Global) -> Result<User, Memory> {
+    match User::new(alloc, "ann") {
+        Ok(user) => Ok(user),
+        Err(_) => Err(Memory),
+    }
+}
+
+// A mutation of the client c1 with this number.
+fn mutated<R: Wait>(alloc: Global, turns: &mut Player<'_, R>, number: u64) -> Result<String, Memory>
+    ensures { turns.new.room.now ≡ turns.old.room.now }
+{
+    let turn = turns.mutate(
+        &user(alloc)?,
+        &id(alloc, "g1")?,
+        &id(alloc, "c1")?,
+        Num::from_u64(number % 1000),
+        Call::Void(Reason::UnknownName),
+    );
+    Ok(format!(in alloc; "{turn:?}")?)
+}
+
+fn pull_told(alloc: Global, answer: &PullAnswer) -> Result<String, Memory> {
+    match answer {
+        PullAnswer::Pulled(reply) => match &reply.cookie {
+            Cookie::Named { place_text, order } => {
+                Ok(format!(in alloc; "Pulled({}, {})", place_text.as_str(), order.get())?)
+            }
+            _ => Ok(String::from_str(alloc, "Pulled")?),
+        },
+        _ => Ok(format!(in alloc; "{answer:?}")?),
+    }
+}
+
+fn pulled<R: Wait>(alloc: Global, turns: &mut Player<'_, R>) -> Result<String, Memory>
+    ensures { turns.new.room.now ≡ turns.old.room.now }
+{
+    let request = PullRequest {
+        group: id(alloc, "g1")?,
+        cookie: Cookie::Null,
+    };
+    let answer = turns.pull(&user(alloc)?, &request);
+    pull_told(alloc, &answer)
+}
+
+fn retired<R: Wait>(alloc: Global, turns: &mut Player<'_, R>) -> Result<String, Memory>
+    ensures { turns.new.room.now ≡ turns.old.room.now }
+{
+    let answer = turns.retire(&id(alloc, "g1")?);
+    Ok(format!(in alloc; "{answer:?}")?)
+}
+
+// The turn of a word, without its seat: the number of a mutation, `p` for a pull, or `r` for a retirement of the group.
+fn turned<R: Wait>(alloc: Global, turns: &mut Player<'_, R>, word: &str) -> Result<String, Memory>
+    ensures { turns.new.room.now ≡ turns.old.room.now }
+{
+    if let Some(number) = number_in(word) {
+        return mutated(alloc, turns, number);
+    }
+    if word == "p" {
+        return pulled(alloc, turns);
+    }
+    retired(alloc, turns)
+}
+
+// The turn of a word, which begins with `a` for the first seat, and with `b` for the second.
+fn told<R: Wait>(
+    alloc: Global,
+    first: &mut Player<'_, R>,
+    second: &mut Player<'_, R>,
+    word: &str,
+) -> Result<String, Memory>
+    ensures first { first.new.room.now ≡ first.old.room.now }
+    ensures second { second.new.room.now ≡ second.old.room.now }
+{
+    match word.strip_prefix('a') {
+        Some(word) => turned(alloc, first, word),
+        None => turned(alloc, second, word.strip_prefix('b').unwrap_or("")),
+    }
+}
+
+// The turns of words, and what each was answered.
+fn all_told<R: Wait>(
+    alloc: Global,
+    first: &mut Player<'_, R>,
+    second: &mut Player<'_, R>,
+    words: &str,
+) -> Result<String, Memory>
+    ensures first { first.new.room.now ≡ first.old.room.now }
+    ensures second { second.new.room.now ≡ second.old.room.now }
+{
+    let mut text = String::new(alloc);
+    for word in words.split(' ') {
+        let answer = told(alloc, first, second, word)?;
+        text.push_str(answer.as_str())?;
+        text.push_str("; ")?;
+    }
+    Ok(text)
+}
+
+/// Takes the turns of words by the two seats of a room, and gives the seats back.
+pub fn taken<R: Wait>(
+    rt: &R,
+    alloc: Global,
+    room: &Room<Meddled>,
+    seats: Seats<Meddled>,
+    words: &str,
+) -> (Result<String, Memory>, Seats<Meddled>)
+    requires count { vec_len seats.list ≡ 2 }
+    requires new { AllNew (id_of room.now) (opened_of room.now) seats.list.items }
+    ensures count { vec_len result.1.list ≡ 2 }
+    ensures all { AllOf (id_of room.now) result.1.list.items }
+{
+    let mut seats = seats;
+    let Some(second) = seats.take() else {
+        unreachable!()
+    };
+    let Some(first) = seats.take() else {
+        unreachable!()
+    };
+    let mut first = SeatTurns::new(rt, room, first);
+    let mut second = SeatTurns::new(rt, room, second);
+    let told = all_told(alloc, &mut first, &mut second, words);
+    seats.give(first.into_seat());
+    seats.give(second.into_seat());
+    (told, seats)
+}

@@ -1,0 +1,181 @@
+use crate::cells::{copied, put, remove};
+use crate::running::{Finished, Pieces, run_alone};
+use rv_base::Memory;
+use rv_keeper::{Fails, MemoryPlace, Schedule, Shelves};
+use std::alloc::Global;
+use std::sync::Wait;
+use std::thread::Threads;
+use trial_stage::{Stage, number_in, text_of, words_at_blanks};
+
+/// The words of a command line, an input, and the store that they run on.
+#[derive(Drop)]
+pub struct Case {
+    /// The words.
+    pub words: Vec<String>,
+    /// The bytes of the input.
+    pub input: Vec<u8>,
+    /// The store is `kept`, one of the place; else it is `memory`.
+    pub is_stated: bool,
+    /// The cells that it holds at first.
+    pub shelves: Shelves,
+    /// The generation that it has at first.
+    pub generation: u64,
+    /// The calls at which its keeper fails.
+    pub fails: Vec<Fails>,
+    /// The calls for a keeper that fail, from 1.
+    pub opens: Vec<u64>,
+    /// The place that stays from one run to the next, once there was one.
+    pub place: Option<MemoryPlace>,
+    /// The bytes of the file that was remembered last.
+    pub remembered: Vec<u8>,
+}
+
+/// What comes after a line of the input.
+#[derive(Clone, Copy)]
+pub enum After {
+    /// A stop.
+    Stop,
+    /// The same line, where it is a push.
+    Push,
+}
+
+// Adds a line.
+fn add_line(input: &mut Vec<u8>, line: &str) -> Result<(), Memory> {
+    input.extend_from_slice(line.as_bytes())?;
+    input.push(b'\n')?;
+    Ok(())
+}
+
+// Adds what comes after a line.
+fn add_after(input: &mut Vec<u8>, line: &str, after: After) -> Result<(), Memory> {
+    match after {
+        After::Stop => add_line(input, "{\"stop\":true}"),
+        After::Push if line.contains("\"push\":") => add_line(input, line),
+        After::Push => Ok(()),
+    }
+}
+
+impl Case {
+    /// No words, no input, the store in memory, and no call that fails.
+    pub fn new(alloc: Global) -> Case {
+        Case {
+            words: Vec::new(alloc),
+            input: Vec::new(alloc),
+            is_stated: false,
+            shelves: Shelves::new(alloc),
+            generation: 0,
+            fails: Vec::new(alloc),
+            opens: Vec::new(alloc),
+            place: None,
+            remembered: Vec::new(alloc),
+        }
+    }
+
+    /// Takes other words.
+    pub fn say(&mut self, alloc: Global, words: &str) -> Result<(), Memory> {
+        self.words = words_at_blanks(alloc, words)?;
+        Ok(())
+    }
+
+    /// Adds a line to the input.
+    pub fn add_line(&mut self, line: &str) -> Result<(), Memory> {
+        add_line(&mut self.input, line)
+    }
+
+    /// The input, with more after each line.
+    pub fn with_more(&self, alloc: Global, after: After) -> Result<Vec<u8>, Memory> {
+        let mut input = Vec::new(alloc);
+        for line in text_of(&self.input).lines() {
+            add_line(&mut input, line)?;
+            add_after(&mut input, line, after)?;
+        }
+        Ok(input)
+    }
+
+    /// The name of the store.
+    pub fn name(&self) -> &'static str {
+        if self.is_stated { "kept" } else { "memory" }
+    }
+
+    /// A place that has the store.
+    pub fn new_place(&self, alloc: Global) -> Result<MemoryPlace, Memory> {
+        let mut schedules = Vec::new(alloc);
+        schedules.push(Schedule::from_vec(Vec::from_slice(alloc, &self.fails)?))?;
+        let opens = Vec::from_slice(alloc, &self.opens)?;
+        let shelves = copied(alloc, &self.shelves)?;
+        let mut place = MemoryPlace::new(alloc, schedules, opens);
+        place.add_store(self.name(), shelves, self.generation)?;
+        Ok(place)
+    }
+
+    /// The place that stays, which begins with the store.
+    pub fn lasting_place(&mut self, alloc: Global) -> Result<MemoryPlace, Memory> {
+        match self.place.take() {
+            Some(place) => Ok(place),
+            None => self.new_place(alloc),
+        }
+    }
+
+    /// The store is one of the place from here on, and the words feed it.
+    pub fn state(&mut self, alloc: Global) -> Result<(), Memory> {
+        self.is_stated = true;
+        self.say(alloc, "rv feed kept")
+    }
+
+    /// The store is one of the place from here on, with what it holds there.
+    pub fn take(&mut self, alloc: Global, place: &MemoryPlace) -> Result<(), Memory> {
+        if let Some(store) = place.store(self.name()) {
+            self.shelves = copied(alloc, &store.shelves)?;
+            self.generation = store.generation;
+        }
+        self.state(alloc)
+    }
+
+    /// Writes the cell of `SHELF KEY BODY` to the store.
+    pub fn put(&mut self, alloc: Global, text: &str) -> Result<(), Memory> {
+        put(alloc, &mut self.shelves, text)?;
+        self.state(alloc)
+    }
+
+    /// Takes away the store's cell at `SHELF KEY`.
+    pub fn remove(&mut self, alloc: Global, text: &str) -> Result<(), Memory> {
+        remove(alloc, &mut self.shelves, text)?;
+        self.state(alloc)
+    }
+
+    /// Sets the store's generation.
+    pub fn set_generation(&mut self, alloc: Global, text: &str) -> Result<(), Memory> {
+        self.generation = number_in(text).unwrap_or(0);
+        self.state(alloc)
+    }
+
+    /// Runs the case over a place.
+    pub fn run_in<R: Threads + Wait + Sync>(
+        &self,
+        stage: &Stage<'_, R>,
+        place: &mut MemoryPlace,
+        pieces: Pieces,
+    ) -> Result<Finished, Memory> {
+        run_alone(stage, &self.words, place, &self.input, pieces)
+    }
+
+    /// Runs the words of the case over a place of its own and another input.
+    pub fn run_on<R: Threads + Wait + Sync>(
+        &self,
+        stage: &Stage<'_, R>,
+        input: &[u8],
+        pieces: Pieces,
+    ) -> Result<Finished, Memory> {
+        let mut place = self.new_place(stage.host.alloc())?;
+        run_alone(stage, &self.words, &mut place, input, pieces)
+    }
+
+    /// Runs the case over a place of its own.
+    pub fn run<R: Threads + Wait + Sync>(
+        &self,
+        stage: &Stage<'_, R>,
+        pieces: Pieces,
+    ) -> Result<Finished, Memory> {
+        self.run_on(stage, &self.input, pieces)
+    }
+}

@@ -1,0 +1,137 @@
+// Connections that `serve` serves, in threads. The bytes of a connection are in the file NAME.in of the folder, and what must come is
+// in NAME.out.
+use crate::nets::{answers_in, conn, net_of, written};
+use crate::running::{Pieces, run_over};
+use rv_base::Memory;
+use rv_crew::Threaded;
+use rv_net::MemoryNet;
+use rv_place::HostPlace;
+use std::fs;
+use std::sync::Wait;
+use std::thread::Threads;
+use trial_stage::Part::{Number, Text};
+use trial_stage::{Stage, first_word, named, number_in, told, words_at_blanks};
+
+// The words that serve a store in memory with the folder's accounts.
+const SERVE: &str =
+    "rv serve memory --accounts accounts.toml --port 8080 --workers 1 --connections 1";
+
+#[derive(Clone, Copy)]
+enum Command {
+    Serves,
+    NetFails,
+    Run,
+}
+
+static COMMANDS: [(&str, Command); 3] = [
+    ("serves", Command::Serves),
+    ("net-fails", Command::NetFails),
+    ("rv", Command::Run),
+];
+
+// The bytes of the file NAME.END, none where it can't be read.
+fn bytes_of(rt: &HostRuntime, name: &str, end: &str) -> Result<Vec<u8>, Memory> {
+    let path = told(rt.alloc(), &[Text(name), Text(end)])?;
+    match fs::read(rt, path.as_str()) {
+        Ok(bytes) => Ok(bytes),
+        Err(_) => Ok(told(rt.alloc(), &[Text("no file "), Text(path.as_str())])?.into_bytes()),
+    }
+}
+
+// Runs the words of a line over a net, and tells what was written, with the status.
+fn run_line<R: Threads + Wait + Sync>(
+    stage: &Stage<'_, R>,
+    line: &str,
+    net: &mut MemoryNet,
+) -> Result<String, Memory> {
+    let alloc = stage.host.alloc();
+    let words = words_at_blanks(alloc, line)?;
+    let mut place = HostPlace::new(stage.host);
+    let mut crew = Threaded::new(stage.threads);
+    let pieces = Pieces::of(100_000);
+    run_over(stage, &words, &mut place, b"", pieces, net, &mut crew)?.line(alloc)
+}
+
+// A net whose connection sends what NAME.in has, in pieces of at most so many bytes.
+fn net_that_sends(rt: &HostRuntime, name: &str, most: u64) -> Result<MemoryNet, Memory> {
+    let alloc = rt.alloc();
+    let mut conns = Vec::new(alloc);
+    conns.push(conn(alloc, bytes_of(rt, name, ".in")?, most as usize))?;
+    net_of(alloc, conns, 0)
+}
+
+// Whether what was written to a connection is what NAME.out has, how many answers there are, and what the program told.
+fn compared<'x>(
+    rt: &HostRuntime,
+    name: &'x str,
+    most: u64,
+    text: &[u8],
+    line: &'x str,
+) -> Result<String, Memory> {
+    let is_same = text == bytes_of(rt, name, ".out")?.as_slice();
+    told(
+        rt.alloc(),
+        &[
+            Text(name),
+            Text(" "),
+            Number(most),
+            Text(if is_same {
+                ": the same, "
+            } else {
+                ": other bytes, "
+            }),
+            Number(answers_in(text)),
+            Text(" answers, "),
+            Text(line),
+            Text("\n"),
+        ],
+    )
+}
+
+// `serves NAME MOST`: the connection NAME in pieces of at most so many bytes. Prints whether what was written is what must come, how
+// many answers there are, and what the program told.
+fn serves<R: Threads + Wait + Sync>(stage: &Stage<'_, R>, rest: &str) -> Result<String, Memory> {
+    let (name, most) = first_word(rest);
+    let most = number_in(most).unwrap_or(0);
+    let mut net = net_that_sends(stage.host, name, most)?;
+    let line = run_line(stage, SERVE, &mut net)?;
+    compared(stage.host, name, most, written(&net), line.as_str())
+}
+
+// Runs words over a net to which no connection comes, and prints what was told. The call of `listen` with this number fails.
+fn run_words<R: Threads + Wait + Sync>(
+    stage: &Stage<'_, R>,
+    line: &str,
+    fails: u64,
+) -> Result<String, Memory> {
+    let alloc = stage.host.alloc();
+    let mut net = net_of(alloc, Vec::new(alloc), fails)?;
+    let line = run_line(stage, line, &mut net)?;
+    told(alloc, &[Text(line.as_str()), Text("\n")])
+}
+
+// What a command prints.
+fn played<R: Threads + Wait + Sync>(
+    stage: &Stage<'_, R>,
+    command: Command,
+    line: &str,
+    rest: &str,
+) -> Result<String, Memory> {
+    match command {
+        Command::Serves => serves(stage, rest),
+        Command::NetFails => run_words(stage, SERVE, 1),
+        Command::Run => run_words(stage, line, 0),
+    }
+}
+
+/// What a command on connections prints, where it is one.
+pub fn answer<R: Threads + Wait + Sync>(
+    stage: &Stage<'_, R>,
+    line: &str,
+) -> Result<Option<String>, Memory> {
+    let (word, rest) = first_word(line);
+    match named(&COMMANDS, word) {
+        Some(command) => Ok(Some(played(stage, command, line, rest)?)),
+        None => Ok(None),
+    }
+}

@@ -1,0 +1,116 @@
+// A crew by threads or one after the other, whose gates look at what they hear, and may hold the first worker's requests until the
+// second has answered one.
+use rv_base::Memory;
+use rv_crew::{Crew, Gate};
+use std::sync::atomic::{AtomicU64, Ordering};
+use std::thread;
+use std::thread::Threads;
+
+// How often the first worker's gate looks whether the second has answered.
+const LOOKS: u32 = 1_000_000;
+
+/// What the gates of a run count.
+#[derive(Drop)]
+pub struct Counts {
+    /// The answers of the second worker that acted.
+    pub answers: AtomicU64,
+    /// How often the first worker's gate gave up.
+    pub given_up: AtomicU64,
+    /// How often a gate heard what should not come then.
+    pub misheard: AtomicU64,
+}
+
+impl Counts {
+    /// Nothing was counted.
+    pub fn new() -> Counts {
+        Counts {
+            answers: AtomicU64::new(0),
+            given_up: AtomicU64::new(0),
+            misheard: AtomicU64::new(0),
+        }
+    }
+}
+
+/// The gate of a worker. It must hear the requests of each connection by their numbers, from 1 on, and after each of them its end.
+#[derive(Drop)]
+pub struct TrialGate<'x> {
+    holds: bool,
+    is_second: bool,
+    last: u32,
+    is_open: bool,
+    counts: &'x Counts,
+}
+
+impl TrialGate<'_> {
+    // Counts a call that should not come now.
+    fn hear(&self, is_right: bool) {
+        if !is_right {
+            self.counts.misheard.fetch_add(1, Ordering::SeqCst);
+        }
+    }
+
+    // Waits until the second worker has answered a request.
+    fn hold(&self) {
+        for _ in 0..LOOKS {
+            if self.counts.answers.load(Ordering::SeqCst) > 0 {
+                return;
+            }
+            thread::yield_now();
+        }
+        self.counts.given_up.fetch_add(1, Ordering::SeqCst);
+    }
+}
+
+impl Gate for TrialGate<'_> {
+    ghost use Rattle.std.specs.Prelude.{None};
+
+    ghost heard = { λ gate. None };
+
+    fn before(&mut self, number: u32) {
+        self.hear(!self.is_open && (number == 1 || number == self.last.wrapping_add(1)));
+        self.last = number;
+        self.is_open = true;
+        if self.holds {
+            self.hold();
+        }
+    }
+
+    fn after(&mut self, status: u16, acted: bool) {
+        self.hear(self.is_open);
+        self.is_open = false;
+        if self.is_second && status == 200 && acted {
+            self.counts.answers.fetch_add(1, Ordering::SeqCst);
+        }
+    }
+}
+
+/// A crew with such gates, and with threads or without.
+#[derive(Drop)]
+pub struct TrialCrew<'x, R: Threads + Sync> {
+    /// What starts the threads, if any.
+    pub runtime: Option<&'x R>,
+    /// The first worker's gate holds its requests.
+    pub holds: bool,
+    /// Where its gates count.
+    pub counts: &'x Counts,
+}
+
+impl<'x, R: Threads + Sync> Crew for TrialCrew<'x, R> {
+    type Runtime = R;
+
+    type Gate = TrialGate<'x>;
+
+    fn runtime(&self) -> Option<&R> {
+        self.runtime
+    }
+
+    fn gate(&mut self, worker: u32) -> Result<TrialGate<'x>, Memory> {
+        Ok(TrialGate {
+            holds: self.holds && worker == 1,
+            is_second: worker == 2,
+            last: 0,
+            is_open: false,
+            counts: self.counts,
+        })
+    }
+}

@@ -1,0 +1,134 @@
+// Runs over the files of the folder.
+use crate::case::Case;
+use crate::running::{Pieces, run_alone};
+use rv_base::Memory;
+use rv_keeper::Place;
+use rv_place::HostPlace;
+use std::alloc::Global;
+use std::sync::Wait;
+use std::thread::Threads;
+use std::{fs, mem};
+use trial_stage::Part::{Number, Text};
+use trial_stage::{Stage, first_word, named, text_of, told};
+
+#[derive(Clone, Copy)]
+enum Command {
+    Run,
+    Accounts,
+    WhileOpen,
+    Remember,
+    Is,
+}
+
+static COMMANDS: [(&str, Command); 5] = [
+    ("rv", Command::Run),
+    ("accounts", Command::Accounts),
+    ("while-open", Command::WhileOpen),
+    ("remember", Command::Remember),
+    ("is", Command::Is),
+];
+
+// `remember FILE`: the file's bytes, which `is FILE` compares. Prints whether the file can be read.
+fn remember(rt: &HostRuntime, case: &mut Case, path: &str) -> Result<String, Memory> {
+    match fs::read(rt, path) {
+        Ok(bytes) => {
+            case.remembered = bytes;
+            Ok(String::new(rt.alloc()))
+        }
+        Err(_) => told(rt.alloc(), &[Text("no file\n")]),
+    }
+}
+
+// Whether the bytes are those that were remembered.
+fn sameness(case: &Case, bytes: &[u8]) -> &'static str {
+    if bytes == case.remembered.as_slice() {
+        "as it was\n"
+    } else {
+        "changed\n"
+    }
+}
+
+// `is FILE`: whether the file has the bytes that were remembered.
+fn compare(rt: &HostRuntime, case: &Case, path: &str) -> Result<String, Memory> {
+    let text = match fs::read(rt, path) {
+        Ok(bytes) => sameness(case, &bytes),
+        Err(_) => "no file\n",
+    };
+    told(rt.alloc(), &[Text(text)])
+}
+
+// `rv WORD ..`: runs these words over the lines since the last run, and prints what was written and the status.
+fn run_words<R: Threads + Wait + Sync>(
+    stage: &Stage<'_, R>,
+    case: &mut Case,
+    line: &str,
+) -> Result<String, Memory> {
+    let alloc = stage.host.alloc();
+    case.say(alloc, line)?;
+    let input = mem::replace(&mut case.input, Vec::new(alloc));
+    let mut place = HostPlace::new(stage.host);
+    run_alone(stage, &case.words, &mut place, &input, Pieces::of(100_000))?.told(alloc)
+}
+
+// `while-open STORE`: feeds the store while another place has its keeper out.
+fn run_beside<R: Threads + Wait + Sync>(
+    stage: &Stage<'_, R>,
+    case: &mut Case,
+    store: &str,
+) -> Result<String, Memory> {
+    let alloc = stage.host.alloc();
+    let line = told(alloc, &[Text("rv feed "), Text(store)])?;
+    let mut place = HostPlace::new(stage.host);
+    match place.open_keeper(store) {
+        Ok(kept) => {
+            let text = run_words(stage, case, line.as_str());
+            place.close_keeper(store, kept);
+            text
+        }
+        Err(_) => told(alloc, &[Text("no keeper\n")]),
+    }
+}
+
+// `accounts FILE`: what the place reads of an accounts file; or why it reads none, and how many faults it counts then.
+fn read_accounts(rt: &HostRuntime, path: &str) -> Result<String, Memory> {
+    let alloc = rt.alloc();
+    let mut place = HostPlace::new(rt);
+    match place.read_accounts(path) {
+        Ok(bytes) => {
+            let count = bytes.len() as u64;
+            let text = text_of(bytes.as_slice());
+            told(alloc, &[Number(count), Text(" bytes\n"), Text(text)])
+        }
+        Err(fault) => Ok(format!(in alloc; "{fault}, faults {}\n", place.fault_count())?),
+    }
+}
+
+// What a command prints.
+fn played<R: Threads + Wait + Sync>(
+    stage: &Stage<'_, R>,
+    case: &mut Case,
+    command: Command,
+    line: &str,
+    rest: &str,
+) -> Result<String, Memory> {
+    match command {
+        Command::Run => run_words(stage, case, line),
+        Command::Accounts => read_accounts(stage.host, rest),
+        Command::WhileOpen => run_beside(stage, case, rest),
+        Command::Remember => remember(stage.host, case, rest),
+        Command::Is => compare(stage.host, case, rest),
+    }
+}
+
+/// What a command on files prints, where it is one.
+pub fn answer<R: Threads + Wait + Sync>(
+    stage: &Stage<'_, R>,
+    case: &mut Case,
+    line: &str,
+) -> Result<Option<String>, Memory> {
+    let (word, rest) = first_word(line);
+    match named(&COMMANDS, word) {
+        Some(command) => Ok(Some(played(stage, case, command, line, rest)?)),
+        None => Ok(None),
+    }
+}

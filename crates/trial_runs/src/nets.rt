@@ -1,0 +1,44 @@
+// Nets in memory, and what came back to them.
+use crate::running::failing;
+use rv_base::{Memory, MemorySink, MemorySource};
+use rv_net::{Conn, MemoryConn, MemoryListen, MemoryNet};
+use std::alloc::Global;
+
+/// A connection that sends these bytes, and whose reads and writes are of at most so many.
+pub fn conn(alloc: Global, bytes: Vec<u8>, most: usize) -> MemoryConn {
+    Conn {
+        source: MemorySource::new(bytes, most, Vec::new(alloc)),
+        sink: MemorySink::new(alloc, most, Vec::new(alloc)),
+    }
+}
+
+/// A net of one listener, to which these connections are to come. The call of `listen` with this number fails, from 1; 0 is none.
+pub fn net_of(alloc: Global, conns: Vec<MemoryConn>, fails: u64) -> Result<MemoryNet, Memory> {
+    let mut listeners = Vec::new(alloc);
+    listeners.push(MemoryListen::new(alloc, conns)?)?;
+    MemoryNet::new(alloc, listeners, failing(alloc, fails)?)
+}
+
+// The first connection that was served and came back.
+fn served(net: &MemoryNet) -> Option<&MemoryConn> {
+    net.came_back.first()?.came_back.first()
+}
+
+/// What was written to the first connection.
+pub fn written(net: &MemoryNet) -> &[u8] {
+    match served(net) {
+        Some(conn) => &conn.sink.bytes,
+        None => b"",
+    }
+}
+
+/// How many answers begin in these bytes.
+pub fn answers_in(bytes: &[u8]) -> u64 {
+    let mut answers: u64 = 0;
+    for part in bytes.windows(9) {
+        if part == b"HTTP/1.1 ".as_slice() {
+            answers = answers.saturating_add(1);
+        }
+    }
+    answers
+}

@@ -1,0 +1,126 @@
+// Runs of the program over a place, and an input and an output in memory.
+use rv_base::{Memory, MemorySink, MemorySource};
+use rv_cli::run;
+use rv_crew::{Crew, Serial};
+use rv_keeper::Place;
+use rv_net::MemoryNet;
+use std::alloc::Global;
+use std::sync::Wait;
+use std::thread::Threads;
+use trial_stage::Part::{Number, Text};
+use trial_stage::{Stage, text_of, told};
+
+/// The most bytes of a read and of a write, and the read and the write that fail, by their numbers from 1; 0 is none.
+#[derive(Clone, Copy)]
+pub struct Pieces {
+    /// The most bytes.
+    pub most: usize,
+    /// The read that fails.
+    pub read: u64,
+    /// The write that fails.
+    pub write: u64,
+}
+
+impl Pieces {
+    /// Pieces of at most so many bytes, of which none fails.
+    pub fn of(most: usize) -> Pieces {
+        Pieces {
+            most,
+            read: 0,
+            write: 0,
+        }
+    }
+}
+
+/// How a run ended, and what it wrote.
+#[derive(Drop)]
+pub struct Finished {
+    /// The status.
+    pub status: u8,
+    /// What was written.
+    pub written: Vec<u8>,
+    /// How many faults of the input and of the output rose.
+    pub faults: (u64, u64),
+}
+
+impl Finished {
+    /// What was written, and the status.
+    pub fn told(&self, alloc: Global) -> Result<String, Memory> {
+        let status = u64::from(self.status);
+        told(
+            alloc,
+            &[
+                Text(text_of(&self.written)),
+                Text("status "),
+                Number(status),
+                Text("\n"),
+            ],
+        )
+    }
+
+    /// The same in one line.
+    pub fn line(&self, alloc: Global) -> Result<String, Memory> {
+        let text = text_of(&self.written).trim_end();
+        let status = u64::from(self.status);
+        told(alloc, &[Text(text), Text(", status "), Number(status)])
+    }
+
+    /// Both runs wrote the same, and have the same status.
+    pub fn is_as(&self, other: &Finished) -> bool {
+        self.status == other.status && self.written.as_slice() == other.written.as_slice()
+    }
+}
+
+/// The calls that fail: the one of this number, from 1, or none.
+pub fn failing(alloc: Global, call: u64) -> Result<Vec<u64>, Memory> {
+    let mut calls = Vec::new(alloc);
+    if call > 0 {
+        calls.push(call)?;
+    }
+    Ok(calls)
+}
+
+/// Runs words over a place, these bytes as the input, a net, and a crew.
+pub fn run_over<R: Threads + Wait + Sync, P: Place, C: Crew>(
+    stage: &Stage<'_, R>,
+    words: &[String],
+    place: &mut P,
+    bytes: &[u8],
+    pieces: Pieces,
+    net: &mut MemoryNet,
+    crew: &mut C,
+) -> Result<Finished, Memory> {
+    let alloc = stage.host.alloc();
+    let bytes = Vec::from_slice(alloc, bytes)?;
+    let mut input = MemorySource::new(bytes, pieces.most, failing(alloc, pieces.read)?);
+    let mut out = MemorySink::new(alloc, pieces.most, failing(alloc, pieces.write)?);
+    let status = run(
+        alloc,
+        stage.threads,
+        words,
+        place,
+        &mut input,
+        &mut out,
+        net,
+        crew,
+    );
+    Ok(Finished {
+        status,
+        written: out.bytes,
+        faults: (input.faults, out.faults),
+    })
+}
+
+/// Runs words so over a net that has no listener.
+pub fn run_alone<R: Threads + Wait + Sync, P: Place>(
+    stage: &Stage<'_, R>,
+    words: &[String],
+    place: &mut P,
+    bytes: &[u8],
+    pieces: Pieces,
+) -> Result<Finished, Memory> {
+    let alloc = stage.host.alloc();
+    let mut net = MemoryNet::new(alloc, Vec::new(alloc), Vec::new(alloc))?;
+    let mut crew = Serial::<R>::new();
+    run_over(stage, words, place, bytes, pieces, &mut net, &mut crew)
+}

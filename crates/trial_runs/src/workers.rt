@@ -1,0 +1,224 @@
+// `serve` over listeners in memory, by workers side by side.
+use crate::crew::{Counts, TrialCrew};
+use crate::nets::conn;
+use crate::running::{Pieces, run_over};
+use rv_base::Memory;
+use rv_crew::Crew;
+use rv_net::{MemoryListen, MemoryNet};
+use rv_place::HostPlace;
+use std::alloc::Global;
+use std::sync::Wait;
+use std::sync::atomic::Ordering;
+use std::thread::Threads;
+use trial_stage::Part::{Number, Text};
+use trial_stage::{Stage, first_word, named, number_in, told, words_at_blanks};
+
+// The answer to a push that was taken.
+const GOOD: &str =
+    "HTTP/1.1 200 OK\r\nContent-Type: application/json\r\nContent-Length: 2\r\n\r\n{}";
+
+// Which crew there is: whether it has threads, and whether its first worker's gate holds.
+static CREWS: [(&str, (bool, bool)); 4] = [
+    ("threads", (true, false)),
+    ("serial", (false, false)),
+    ("held-threads", (true, true)),
+    ("held-serial", (false, true)),
+];
+
+// How much is asked, and by whom.
+#[derive(Clone, Copy)]
+struct Plan {
+    // How many listeners there are.
+    listeners: u64,
+    // How many connections each has.
+    conns: u64,
+    // How many mutations each connection sends.
+    mutations: u64,
+    // Whether each listener has a client of its own.
+    own: bool,
+}
+
+// The plan of `LISTENERS CONNECTIONS MUTATIONS same` or `.. own`, with numbers up to 1000.
+fn plan_of(words: &str) -> Plan {
+    let (listeners, words) = first_word(words);
+    let (conns, words) = first_word(words);
+    let (mutations, whose) = first_word(words);
+    Plan {
+        listeners: number_in(listeners).unwrap_or(0).min(1000),
+        conns: number_in(conns).unwrap_or(0).min(1000),
+        mutations: number_in(mutations).unwrap_or(0).min(1000),
+        own: whose == "own",
+    }
+}
+
+// The push of a mutation.
+fn push(alloc: Global, client: u64, id: u64) -> Result<String, Memory> {
+    let body = told(
+        alloc,
+        &[
+            Text(
+                "{\"pushVersion\":1,\"clientGroupID\":\"g1\",\"profileID\":\"p\",\"schemaVersion\":\"\",\"mutations\":[{\"clientID\":\"c",
+            ),
+            Number(client),
+            Text("\",\"id\":"),
+            Number(id),
+            Text(",\"name\":\"paint\",\"args\":null}]}"),
+        ],
+    )?;
+    told(
+        alloc,
+        &[
+            Text("POST /push HTTP/1.1\r\nAuthorization: k-ann\r\nContent-Length: "),
+            Number(body.len() as u64),
+            Text("\r\n\r\n"),
+            Text(body.as_str()),
+        ],
+    )
+}
+
+// What a connection asks, by the numbers of its listener and of its own.
+fn asked(alloc: Global, plan: Plan, listener: u64, conn: u64) -> Result<Vec<u8>, Memory> {
+    let mut bytes = Vec::new(alloc);
+    let (client, before) = if plan.own {
+        (listener, conn.wrapping_mul(plan.mutations))
+    } else {
+        (0, 0)
+    };
+    for number in 0..plan.mutations {
+        let text = push(alloc, client, before.wrapping_add(number).wrapping_add(1))?;
+        bytes.extend_from_slice(text.as_bytes())?;
+    }
+    Ok(bytes)
+}
+
+// A listener with its connections.
+fn listener(alloc: Global, plan: Plan, number: u64) -> Result<MemoryListen, Memory> {
+    let mut conns = Vec::new(alloc);
+    for of_listener in 0..plan.conns {
+        let bytes = asked(alloc, plan, number, of_listener)?;
+        conns.push(conn(alloc, bytes, 1000))?;
+    }
+    MemoryListen::new(alloc, conns)
+}
+
+// The net of a plan.
+fn net_of(alloc: Global, plan: Plan) -> Result<MemoryNet, Memory> {
+    let mut listeners = Vec::new(alloc);
+    for number in 0..plan.listeners {
+        listeners.push(listener(alloc, plan, number)?)?;
+    }
+    MemoryNet::new(alloc, listeners, Vec::new(alloc))
+}
+
+// How many answers there are, if all are that of a push that was taken; else none.
+fn good_answers(bytes: &[u8]) -> Option<u64> {
+    let mut answers: u64 = 0;
+    for answer in bytes.chunks(GOOD.len()) {
+        if answer != GOOD.as_bytes() {
+            return None;
+        }
+        answers = answers.saturating_add(1);
+    }
+    Some(answers)
+}
+
+// How many answers there are, and how many connections have another answer.
+fn answers_in(net: &MemoryNet) -> (u64, u64) {
+    let mut good: u64 = 0;
+    let mut bad: u64 = 0;
+    for listener in &net.came_back {
+        for conn in &listener.came_back {
+            match good_answers(&conn.sink.bytes) {
+                Some(answers) => good = good.saturating_add(answers),
+                None => bad = bad.saturating_add(1),
+            }
+        }
+    }
+    (good, bad)
+}
+
+// Plays a plan.
+fn played<R: Threads + Wait + Sync, C: Crew>(
+    stage: &Stage<'_, R>,
+    crew: &mut C,
+    plan: Plan,
+) -> Result<String, Memory> {
+    let alloc = stage.host.alloc();
+    let line = told(
+        alloc,
+        &[
+            Text("rv serve memory --accounts accounts.toml --port 8080 --workers "),
+            Number(plan.listeners),
+            Text(" --connections 1"),
+        ],
+    )?;
+    let words = words_at_blanks(alloc, line.as_str())?;
+    let mut place = HostPlace::new(stage.host);
+    let mut net = net_of(alloc, plan)?;
+    let pieces = Pieces::of(1000);
+    let finished = run_over(stage, &words, &mut place, b"", pieces, &mut net, crew)?;
+    let finished = finished.line(alloc)?;
+    let (good, bad) = answers_in(&net);
+    told(
+        alloc,
+        &[
+            Number(good),
+            Text(" answers, "),
+            Number(bad),
+            Text(" connections with others, "),
+            Text(finished.as_str()),
+        ],
+    )
+}
+
+// What the gates counted.
+fn counted(alloc: Global, counts: &Counts) -> Result<String, Memory> {
+    let given_up = counts.given_up.load(Ordering::SeqCst);
+    let misheard = counts.misheard.load(Ordering::SeqCst);
+    told(
+        alloc,
+        &[
+            Text(", gave up "),
+            Number(given_up),
+            Text(" times, misheard "),
+            Number(misheard),
+        ],
+    )
+}
+
+/// What a line `CREW LISTENERS CONNECTIONS MUTATIONS WHOSE` prints. The crew is `threads` or `serial`; each connection sends so many
+/// mutations, one a request; and they are `same`, where all are of one client, or `own`, where each listener has a client of its own
+/// and each connection goes on from the one before. Printed are the answers of status 200, other answers, and what the program wrote,
+/// with its status. After `held-` the first worker's gate holds each request until the second worker has answered one, and gives up
+/// after 1,000,000 looks; printed is then also how often, and how often a gate heard what should not come then: a number that is
+/// neither 1 nor the next one, a request before the last one's end, or an end without one.
+pub fn answer<R: Threads + Wait + Sync>(
+    stage: &Stage<'_, R>,
+    line: &str,
+) -> Result<Option<String>, Memory> {
+    let alloc = stage.host.alloc();
+    let (word, rest) = first_word(line);
+    let Some((has_threads, holds)) = named(&CREWS, word) else {
+        return Ok(None);
+    };
+    let counts = Counts::new();
+    let mut crew = TrialCrew {
+        runtime: if has_threads {
+            Some(stage.threads)
+        } else {
+            None
+        },
+        holds,
+        counts: &counts,
+    };
+    let text = played(stage, &mut crew, plan_of(rest))?;
+    let heard = if holds {
+        counted(alloc, &counts)?
+    } else {
+        String::new(alloc)
+    };
+    Ok(Some(told(
+        alloc,
+        &[Text(text.as_str()), Text(heard.as_str()), Text("\n")],
+    )?))
+}
