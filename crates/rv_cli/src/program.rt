@@ -246,6 +246,7 @@ where
 
     // And status 0 of a report comes only of a store that is there.
     ensures absent { (store : List ℕ) → IsReportOf store (command_in (map string_bytes words.now)) → P.tells place.new → result ≡ 0 → P.has place.old store }
+    ensures none_made { (store : List ℕ) → IsReportOf store (command_in (map string_bytes words.now)) → P.tells place.new → P.has place.new store → P.has place.old store }
 
     // So over a place that tells the store in memory is never damaged; and without a command no store is.
     ensures sound_memory_reports { IsReportOf (codes "memory") (command_in (map string_bytes words.now)) → P.tells place.new → result ≢ 5 }

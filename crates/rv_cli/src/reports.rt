@@ -61,6 +61,9 @@ pub fn run_lists<P: Place, O: Sink>(alloc: Global, place: &mut P, store: &str, o
 
     // Where the place tells, status 0 comes only of a store that is there.
     ensures absent { P.tells place.new → result ≡ 0 → P.has place.old store.now }
+
+    // A store that isn't there is not made.
+    ensures none_made { P.tells place.new → P.has place.new store.now → P.has place.old store.now }
     ensures others { P.tells place.new → OthersStay P.holds P.is_out P.has P.accounts store.now place.old place.new }
     ensures steady_place { P.fails_no_more place.old → P.has place.old store.now → PlaceIsSteady P.fails_no_more P.faults place.old place.new result }
     ensures steady { O.fails_no_more out.old → O.fails_no_more out.new × (Rose (O.state out.old).refusals (O.state out.new).refusals ⊎ (result ≢ 7)) }
@@ -82,6 +85,7 @@ pub fn run_activity<P: Place, O: Sink>(alloc: Global, place: &mut P, store: &str
         TellsActivity (O.state out.old) (O.state out.new) result }
     ensures sound { P.tells place.new → KeptSound (OpensAs store.now (P.holds place.old store.now)) → result ≢ 5 }
     ensures absent { P.tells place.new → result ≡ 0 → P.has place.old store.now }
+    ensures none_made { P.tells place.new → P.has place.new store.now → P.has place.old store.now }
     ensures others { P.tells place.new → OthersStay P.holds P.is_out P.has P.accounts store.now place.old place.new }
     ensures steady_place { P.fails_no_more place.old → P.has place.old store.now → PlaceIsSteady P.fails_no_more P.faults place.old place.new result }
     ensures steady { O.fails_no_more out.old → O.fails_no_more out.new × (Rose (O.state out.old).refusals (O.state out.new).refusals ⊎ (result ≢ 7)) }
@@ -103,6 +107,7 @@ pub fn run_check<P: Place, O: Sink>(alloc: Global, place: &mut P, store: &str, o
         TellsSound (O.state out.old) (O.state out.new) result }
     ensures sound { P.tells place.new → KeptSound (OpensAs store.now (P.holds place.old store.now)) → result ≢ 5 }
     ensures absent { P.tells place.new → result ≡ 0 → P.has place.old store.now }
+    ensures none_made { P.tells place.new → P.has place.new store.now → P.has place.old store.now }
     ensures others { P.tells place.new → OthersStay P.holds P.is_out P.has P.accounts store.now place.old place.new }
     ensures steady_place { P.fails_no_more place.old → P.has place.old store.now → PlaceIsSteady P.fails_no_more P.faults place.old place.new result }
     ensures steady { O.fails_no_more out.old → O.fails_no_more out.new × (Rose (O.state out.old).refusals (O.state out.new).refusals ⊎ (result ≢ 7)) }

@@ -61,6 +61,7 @@ pub(crate) fn open_existing_desk<P: Place>(
 ) -> Result<Desk<P::Kept>, Ending>
     ensures opens { OpensStore P.tells P.holds P.is_out P.faults P.Kept.tells P.Kept.faults store.now place.old result place.new }
     ensures there { P.tells place.new → IsOk result → P.has place.old store.now }
+    ensures none_made { P.tells place.new → P.has place.new store.now → P.has place.old store.now }
     ensures others { P.tells place.new → OthersStay P.holds P.is_out P.has P.accounts store.now place.old place.new }
     ensures steady { P.fails_no_more place.old → P.has place.old store.now → P.fails_no_more place.new × (P.faults place.new ≡ P.faults place.old) × DeskIsSteady P.Kept.fails_no_more P.Kept.faults result }
 {
@@ -99,6 +100,7 @@ pub(crate) fn check_store<P: Place>(
 ) -> Result<u32, Ending>
     ensures checks { ChecksStore P.tells P.holds P.faults store.now place.old result place.new }
     ensures there { P.tells place.new → IsOk result → P.has place.old store.now }
+    ensures none_made { P.tells place.new → P.has place.new store.now → P.has place.old store.now }
     ensures others { P.tells place.new → OthersStay P.holds P.is_out P.has P.accounts store.now place.old place.new }
     ensures steady { P.fails_no_more place.old → P.has place.old store.now → P.fails_no_more place.new × (P.faults place.new ≡ P.faults place.old) × CheckIsSteady result }
 {

@@ -139,3 +139,21 @@ returns-in-Ok-Some-Check-clause-check g c = λ store asks.
     let is = rw (c.in-Ok-Some-Check.field-0-is, c.in-Ok-Some-Check.field-0-0-is) at c.in-Ok-Some-Check.ensures in
     inl (subst (λ (name : List ℕ). RunsReport (g.P.Place.tells c.run_check.new.place) (OpensAs name (g.P.Place.holds c.args.place.now name)) (g.P.Place.holds c.run_check.new.place name) (g.P.Place.faults c.args.place.now) (g.P.Place.faults c.run_check.new.place) (g.P.Place.holds c.args.place.now name) TellsSound
     (g.O.Sink.state c.args.out.now) (g.O.Sink.state c.run_check.new.out) c.run_check.result) (checks_same _ _ _ store is c.as_str-in-Ok-Some-Check.ensures asks) c.run_check.ensures.report)
+
+pub returns-in-Ok-Some-Lists-clause-none_made : goal.returns-in-Ok-Some-Lists-clause-none_made
+returns-in-Ok-Some-Lists-clause-none_made g c = λ store names told has.
+    let is = rw (c.in-Ok-Some-Lists.field-0-is, c.in-Ok-Some-Lists.field-0-0-is) at c.in-Ok-Some-Lists.ensures in
+    let same = reports_lists _ _ _ store is c.as_str-in-Ok-Some-Lists.ensures names in
+    subst (λ (name : List ℕ). g.P.Place.has c.args.place.now name) same (c.run_lists.ensures.none_made told (subst (λ (name : List ℕ). g.P.Place.has c.run_lists.new.place name) (sym same) has))
+
+pub returns-in-Ok-Some-Activity-clause-none_made : goal.returns-in-Ok-Some-Activity-clause-none_made
+returns-in-Ok-Some-Activity-clause-none_made g c = λ store names told has.
+    let is = rw (c.in-Ok-Some-Activity.field-0-is, c.in-Ok-Some-Activity.field-0-0-is) at c.in-Ok-Some-Activity.ensures in
+    let same = reports_activity _ _ _ store is c.as_str-in-Ok-Some-Activity.ensures names in
+    subst (λ (name : List ℕ). g.P.Place.has c.args.place.now name) same (c.run_activity.ensures.none_made told (subst (λ (name : List ℕ). g.P.Place.has c.run_activity.new.place name) (sym same) has))
+
+pub returns-in-Ok-Some-Check-clause-none_made : goal.returns-in-Ok-Some-Check-clause-none_made
+returns-in-Ok-Some-Check-clause-none_made g c = λ store names told has.
+    let is = rw (c.in-Ok-Some-Check.field-0-is, c.in-Ok-Some-Check.field-0-0-is) at c.in-Ok-Some-Check.ensures in
+    let same = reports_check _ _ _ store is c.as_str-in-Ok-Some-Check.ensures names in
+    subst (λ (name : List ℕ). g.P.Place.has c.args.place.now name) same (c.run_check.ensures.none_made told (subst (λ (name : List ℕ). g.P.Place.has c.run_check.new.place name) (sym same) has))

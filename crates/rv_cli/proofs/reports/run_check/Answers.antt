@@ -1,5 +1,5 @@
 use Rattle.rv_cli.proofs.Steady.{not_four, sound_is_none}
-use Rattle.std.proofs.Common.{inr, sym, ◌∙◌}
+use Rattle.std.proofs.Common.{inr, sym, ◌∙◌, refl}
 use Rattle.rv_cli.proofs.Reporting.{has_checked}
 use Rattle.rv_cli.proofs.Sound.{refused_sound}
 use Rattle.rv_cli.proofs.Storing.{refused_fails}
@@ -28,3 +28,9 @@ pub returns-in-Err-clause-steady_place : goal.returns-in-Err-clause-steady_place
 returns-in-Err-clause-steady_place g c = λ steady there.
     let (on, same, never) = c.in-Err.ensures.steady steady there in
     record { goes_on = on; still = same; no_fault = λ is. not_four c.in-Err.ending never (sym c.refuse_opening.ensures.status ∙ is) }
+
+pub returns-in-Ok-clause-none_made : goal.returns-in-Ok-clause-none_made
+returns-in-Ok-clause-none_made g c = λ t has. c.in-Ok.ensures.there t refl
+
+pub returns-in-Err-clause-none_made : goal.returns-in-Err-clause-none_made
+returns-in-Err-clause-none_made g c = λ t has. c.in-Err.ensures.none_made t has

@@ -1,6 +1,6 @@
 use Rattle.rv_cli.proofs.Steady.{made_is_none, not_four, taken_up}
 use Rattle.rv_keeper.specs.StoreLaws.{others_on}
-use Rattle.std.proofs.Common.{inr, ◌≡◌, ◌∙◌, ap, sym}
+use Rattle.std.proofs.Common.{inr, ◌≡◌, ◌∙◌, ap, sym, refl}
 use Rattle.rv_cli.specs.Headline.{TellsLists}
 use Rattle.rv_report.specs.Lists.{lists_text}
 use Rattle.rv_cli.proofs.Reporting.{has_reported, if_ok, reports_made}
@@ -41,3 +41,9 @@ pub returns-in-Err-clause-steady_place : goal.returns-in-Err-clause-steady_place
 returns-in-Err-clause-steady_place g c = λ steady there.
     let (on, same, never) = c.in-Err.ensures.steady steady there in
     record { goes_on = on; still = same; no_fault = λ is. not_four c.in-Err.ending never (sym c.refuse_opening.ensures.status ∙ is) }
+
+pub returns-in-Ok-clause-none_made : goal.returns-in-Ok-clause-none_made
+returns-in-Ok-clause-none_made g c = λ t has. c.in-Ok.ensures.there (c.close_keeper.ensures.tells t).0 refl
+
+pub returns-in-Err-clause-none_made : goal.returns-in-Err-clause-none_made
+returns-in-Err-clause-none_made g c = λ t has. c.in-Err.ensures.none_made t has

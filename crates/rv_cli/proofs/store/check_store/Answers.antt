@@ -34,3 +34,9 @@ pub returns-in_err-kept-clause-steady : goal.returns-in_err-kept-clause-steady
 returns-in_err-kept-clause-steady g c = λ steady there.
     let goes = (c.in_err-kept.ensures.steady steady).0 in
     (goes.goes_on, count_stays _ _ _ (goes.no_fault there) c.in_err-kept.ensures.cause, check_not_given _ c.from_residual.result (goes.no_fault there) c.from_residual.ensures)
+
+pub returns-clause-none_made : goal.returns-clause-none_made
+returns-clause-none_made g c = λ t has. c.in_ok-kept.ensures.there (c.check_kept.ensures.told t) refl
+
+pub returns-in_err-kept-clause-none_made : goal.returns-in_err-kept-clause-none_made
+returns-in_err-kept-clause-none_made g c = λ t has. c.in_err-kept.ensures.none_made t c.args.store.now has
