@@ -51,7 +51,7 @@ is_at number bytes o le lt e = line_as number bytes le lt ∙ e
 
 pub going_answered : (Told Now : Type 0) (begun : Served) (start old new : InputState) (first out out' : OutputState) (pending pending' bytes : List ℕ) (number : ℕ) (now next : Served)
     → (Now → Told) → Going Told begun start old first out pending number now → ReadsFor pending old new false false → HasNoLf bytes → length bytes ≤ longest_line → Consumes (unread pending old.left) (unread pending' new.left) (bytes ++ 10 ∷ [])
-    → number < 2 ^ 32 → WritesAnswer now bytes next out out' → Going Now begun start new first out' pending' (number + 1) next
+    → number < 2 ^ 32 → WritesAnswer Now now bytes next out out' → Going Now begun start new first out' pending' (number + 1) next
 going_answered Told Now begun start old new first out out' pending pending' bytes number now next then w r h le c lt a = record {
   lines = w.lines ++ bytes ∷ [];
   text = w.text ++ text_of a.answer;
@@ -185,7 +185,7 @@ module _ (Told : Type 0) (begun : Served) where
 
   -- a write of the answer failed
   pub line_cut : (start old new : InputState) (first out out' : OutputState) (pending line : List ℕ) (number : ℕ) (now next : Served) (w : Going Told begun start old first out pending number now)
-      → Looked start old new line w.lines → new.faults ≡ old.faults → length line ≤ longest_line → number < 2 ^ 32 → CutsAnswer now line next out out' → Feeds Told begun next start new first out' Write
+      → Looked start old new line w.lines → new.faults ≡ old.faults → length line ≤ longest_line → number < 2 ^ 32 → CutsAnswer Told now line next out out' → Feeds Told begun next start new first out' Write
   line_cut start old new first out out' pending line number now next w l still le lt a = record {
     reads = (still ∙ w.faults, ends_as start old new w.ends l.ends);
     writes = rw (← w.stays.faults) a.rose;
@@ -242,7 +242,7 @@ module _ (Told : Type 0) (begun : Served) where
 
   -- how a line that was looked at ends the run
   ends_looked : {K : Type 0} (tells : K → Type 0) (holds : K → Loaded → Type 0) (faults : K → ℕ) (start old new : InputState) (first out out' : OutputState) (pending line : List ℕ) (number : ℕ) (now next : Served) (ending : Ending)
-      → (w : Going Told begun start old first out pending number now) → Looked start old new line w.lines → new.faults ≡ old.faults → length line ≤ longest_line → number < 2 ^ 32 → EndsLine tells holds faults now line number next out out' ending
+      → (w : Going Told begun start old first out pending number now) → Looked start old new line w.lines → new.faults ≡ old.faults → length line ≤ longest_line → number < 2 ^ 32 → EndsLine tells holds faults Told now line number next out out' ending
       → Feeds Told begun next start new first out' ending
   ends_looked tells holds faults start old new first out out' pending line number now next Done w l still le lt never = absurd never
   ends_looked tells holds faults start old new first out out' pending line number now next Read w l still le lt never = absurd never
@@ -260,14 +260,14 @@ module _ (Told : Type 0) (begun : Served) where
   -- the line ended at an LF
   pub ends_line : {K : Type 0} (tells : K → Type 0) (holds : K → Loaded → Type 0) (faults : K → ℕ) (start old new : InputState) (first out out' : OutputState) (pending pending' line : List ℕ) (number : ℕ) (now next : Served) (ending : Ending)
       → Going Told begun start old first out pending number now → ReadsFor pending old new false false → HasNoLf line → length line ≤ longest_line → Consumes (unread pending old.left) (unread pending' new.left) (line ++ 10 ∷ [])
-      → number < 2 ^ 32 → EndsLine tells holds faults now line number next out out' ending → Feeds Told begun next start new first out' ending
+      → number < 2 ^ 32 → EndsLine tells holds faults Told now line number next out out' ending → Feeds Told begun next start new first out' ending
   ends_line tells holds faults start old new first out out' pending pending' line number now next ending w r h le c lt e =
       ends_looked tells holds faults start old new first out out' pending line number now next ending w (looked_line start old new pending pending' line w.lines w.taken r h c) r.faults le lt e
 
   -- or with the input
   pub ends_last : {K : Type 0} (tells : K → Type 0) (holds : K → Loaded → Type 0) (faults : K → ℕ) (start old new : InputState) (first out out' : OutputState) (pending pending' line : List ℕ) (number : ℕ) (now next : Served) (ending : Ending)
       → Going Told begun start old first out pending number now → ReadsFor pending old new true false → HasNoLf line → 0 < length line → length line ≤ longest_line → Consumes (unread pending old.left) (unread pending' new.left) line → IsAtEnd (unread pending' new.left)
-      → number < 2 ^ 32 → EndsLine tells holds faults now line number next out out' ending → Feeds Told begun next start new first out' ending
+      → number < 2 ^ 32 → EndsLine tells holds faults Told now line number next out out' ending → Feeds Told begun next start new first out' ending
   ends_last tells holds faults start old new first out out' pending pending' line number now next ending w r h some le c e lt ends =
       ends_looked tells holds faults start old new first out out' pending line number now next ending w (looked_last start old new pending pending' line w.lines w.taken r h some c e) r.faults le lt ends
 
@@ -298,7 +298,7 @@ module _ (Told : Type 0) (begun : Served) where
 -- the last line was answered, or was a stop
 pub last_answered : (Told Now : Type 0) (begun : Served) (start old new : InputState) (first out out' : OutputState) (pending pending' line : List ℕ) (number : ℕ) (now next : Served)
     → (Now → Told) → Going Told begun start old first out pending number now → ReadsFor pending old new true false → HasNoLf line → 0 < length line → length line ≤ longest_line → Consumes (unread pending old.left) (unread pending' new.left) line → IsAtEnd (unread pending' new.left)
-    → number < 2 ^ 32 → WritesAnswer now line next out out' → Feeds Now begun next start new first out' Done
+    → number < 2 ^ 32 → WritesAnswer Now now line next out out' → Feeds Now begun next start new first out' Done
 last_answered Told Now begun start old new first out out' pending pending' line number now next then w r h some le c e lt a =
     lines_done Now begun start old new first out' pending pending' line (w.text ++ text_of a.answer) w.lines next w.taken r h some c e
     (answered_more Now begun w.lines line w.text now next number (Asks a.step.asked) (Some a.answer) w.count (answered_later Told Now then begun w.lines w.text now w.answered) (is_at number line (Some (Asks a.step.asked)) le lt a.step.asks) a.step.step)

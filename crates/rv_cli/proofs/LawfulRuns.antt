@@ -74,7 +74,7 @@ module _ (pushes : PushesKeepLaw) (pulled : PullsKeepLaw) (retired : Retirements
   step_keeps old new (Err fault) answer (acted, inr told) sound = law_same old new told.2 sound
 
   takes_keep : (Told : Type 0) (old new : Served) (line : Line) (answer : Option Answer) → Takes Told old line answer new → IsSound old → Kept Told old new
-  takes_keep Told old new (Asks asked) (Some answer) step sound = kept_law Told old new (step_keeps old new asked answer step sound)
+  takes_keep Told old new (Asks asked) (Some answer) taken sound = kept_law Told old new (step_keeps old new asked answer taken.step sound)
   takes_keep Told old new Stop None reopens sound = kept_reopened Told old new reopens
   takes_keep Told old new (Asks asked) None never sound = absurd never
   takes_keep Told old new Stop (Some answer) never sound = absurd never
@@ -143,10 +143,10 @@ shown_at show point new (Err fault) reply (acted, inr told) = absurd (let no = t
 
 pub pulls_are_shown : PushesKeepLaw → PullsKeepLaw → RetirementsKeepLaw → PullsShow → (Told : Type 0) (first now : Served) (before after : List Line) (answered answers : List (Option Answer)) (asked : Asked) (reply : PullReply) → IsSound first → length before ≡ length answered
     → Run Told first (before ++ Asks asked ∷ after) (answered ++ Some (Pulled reply) ∷ answers) now → IsShown Told first now before answered asked reply
-pulls_are_shown pushes pulled retired show Told first now [] after [] answers asked reply sound same (mid, step, rest) =
-    let law = step_keeps pushes pulled retired first mid asked (Pulled reply) step sound in
-    let at = shown_at show first mid asked reply step in
-    record { point = first; new = mid; settled = at.settled; run = refl; step = step; settles = at.settles; shows = at.shows; here = at.here; on = (run_keeps pushes pulled retired Told mid now after answers rest law.sound).more }
+pulls_are_shown pushes pulled retired show Told first now [] after [] answers asked reply sound same (mid, taken, rest) =
+    let law = step_keeps pushes pulled retired first mid asked (Pulled reply) taken.step sound in
+    let at = shown_at show first mid asked reply taken.step in
+    record { point = first; new = mid; settled = at.settled; run = refl; step = taken.step; settles = at.settles; shows = at.shows; here = at.here; on = (run_keeps pushes pulled retired Told mid now after answers rest law.sound).more }
 pulls_are_shown pushes pulled retired show Told first now [] after (x ∷ answered) answers asked reply sound same run = absurd (omega (arith, same))
 pulls_are_shown pushes pulled retired show Told first now (a ∷ before) after [] answers asked reply sound same run = absurd (omega (arith, same))
 pulls_are_shown pushes pulled retired show Told first now (a ∷ before) after (x ∷ answered) answers asked reply sound same (mid, step, rest) =

@@ -97,8 +97,8 @@ module _ {K A : Type 0} (faults : K → ℕ) (steady : K → Type 0) (trouble : 
       record { seen = starts_on new.seen p.history old.seen grown turn.begins; after = (p.last ∷ [], turn.after); opened = turn.stays }
 
   -- where it tells a trouble, the keeper's count rose
-  turn_rises : HasTrouble (trouble answer) → Stirs faults steady old new
-  turn_rises (tr, is) opened at (inl (quiet, below)) =
+  turn_rises : HasTrouble (λ trouble. Unit {0}) (trouble answer) → Stirs faults steady old new
+  turn_rises (tr, is, any) opened at (inl (quiet, below)) =
       let same : turn.opened ≡ opened = some_desk turn.opened opened (sym turn.room ∙ at) in
       let top : ℕ = faults opened.keeper in
       let last : turn.turn.last ≤ top = all_last (λ (count : ℕ). count ≤ top) old.after turn.turn.last (subst (λ (l : List ℕ). AllByRecursion (λ (count : ℕ). count ≤ top) l) turn.after quiet) in
@@ -111,27 +111,27 @@ module _ {K A : Type 0} (faults : K → ℕ) (steady : K → Type 0) (trouble : 
       risen : (tr : Trouble) → TurnAs trouble (Steps turn.opened.limit) turn.turn answer (Some tr) → Rose turn.turn.first turn.turn.last
       risen Failed took = took.0
       risen (Changed kept found) took = took.0
-  turn_rises (tr, is) opened at (inr calm) =
+  turn_rises (tr, is, any) opened at (inr calm) =
       let same : turn.opened ≡ opened = some_desk turn.opened opened (sym turn.room ∙ at) in
       absurd (let no : Some tr ≡ None = sym is ∙ turn.sure (subst (λ (d : Seated K). steady d.keeper) (sym same) calm) in cc)
 
-  turn_causes : SeatGoes old new × (HasTrouble (trouble answer) → Stirs faults steady old new)
+  turn_causes : SeatGoes old new × (HasTrouble (λ trouble. Unit {0}) (trouble answer) → Stirs faults steady old new)
   turn_causes = (turn_goes, turn_rises)
 
 module _ {K : Type 0} (faults : K → ℕ) (steady : K → Type 0) where
   seat_step : (old new : SeatView K) (asked : Asked) (answer : Answer) → Step (SeatMutates faults steady) (SeatPulls faults steady) (SeatRetires faults steady) old asked answer new
       → SeatGoes old new × (TellsTrouble (Some answer) → Stirs faults steady old new)
-  seat_step = any_step_causes (SeatMutates faults steady) (SeatPulls faults steady) (SeatRetires faults steady) SeatGoes (Stirs faults steady) goes_same goes_on (stirs_before faults steady)
+  seat_step = any_step_causes (λ trouble. Unit {0}) (SeatMutates faults steady) (SeatPulls faults steady) (SeatRetires faults steady) SeatGoes (Stirs faults steady) goes_same goes_on (stirs_before faults steady)
       (λ from m old new turn taken. turn_causes faults steady _ _ old turn new taken) (λ user request old new outcome taken. turn_causes faults steady _ _ old outcome new taken) (λ group old new outcome taken. turn_causes faults steady _ _ old outcome new taken)
 
   seat_each : (Holds : Asked × Answer → Type 0) (last : SeatView K)
       → ((old new : SeatView K) (turn : Asked × Answer) → Step (SeatMutates faults steady) (SeatPulls faults steady) (SeatRetires faults steady) old turn.0 turn.1 new → SeatGoes new last → Holds turn)
       → (old : SeatView K) (turns : List (Asked × Answer)) → RunsTurns (SeatMutates faults steady) (SeatPulls faults steady) (SeatRetires faults steady) old turns last → AllByRecursion Holds turns
-  seat_each = turns_each (SeatMutates faults steady) (SeatPulls faults steady) (SeatRetires faults steady) SeatGoes (Stirs faults steady) goes_same goes_on (stirs_before faults steady)
+  seat_each = turns_each (λ trouble. Unit {0}) (SeatMutates faults steady) (SeatPulls faults steady) (SeatRetires faults steady) SeatGoes (Stirs faults steady) goes_same goes_on (stirs_before faults steady)
       (λ from m old new turn taken. turn_causes faults steady _ _ old turn new taken) (λ user request old new outcome taken. turn_causes faults steady _ _ old outcome new taken) (λ group old new outcome taken. turn_causes faults steady _ _ old outcome new taken)
 
   seat_later : (old new : SeatView K) (turns : List (Asked × Answer)) → RunsTurns (SeatMutates faults steady) (SeatPulls faults steady) (SeatRetires faults steady) old turns new → SeatGoes old new
-  seat_later = turns_later (SeatMutates faults steady) (SeatPulls faults steady) (SeatRetires faults steady) SeatGoes (Stirs faults steady) goes_same goes_on (stirs_before faults steady)
+  seat_later = turns_later (λ trouble. Unit {0}) (SeatMutates faults steady) (SeatPulls faults steady) (SeatRetires faults steady) SeatGoes (Stirs faults steady) goes_same goes_on (stirs_before faults steady)
       (λ from m old new turn taken. turn_causes faults steady _ _ old turn new taken) (λ user request old new outcome taken. turn_causes faults steady _ _ old outcome new taken) (λ group old new outcome taken. turn_causes faults steady _ _ old outcome new taken)
 
   -- ---- A pull.

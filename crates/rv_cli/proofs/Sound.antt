@@ -60,7 +60,7 @@ module _ (Told : Type 0) (Stored Holds : Loaded → Type 0) (before after : ℕ)
   replied_sound : (Was : Loaded → Type 0) (asked : Asked) (output output' : OutputState) (ending : Ending) → (NotOpened Told Stored Holds before after output output' ending × IsLeftAs Told Was Stored Holds) ⊎ Replied Told Stored Holds before after asked output output' ending
       → (shelf : ℕ) (key : List ℕ) → ending ≢ Damaged shelf key
   replied_sound Was asked output output' ending (inl (none, left)) shelf key is = opens_sound shelf key ending is none.why
-  replied_sound Was asked output output' ending (inr replied) shelf key is = subst (λ (e : Ending). EndsOne replied.first asked replied.text replied.now e) is replied.ends
+  replied_sound Was asked output output' ending (inr replied) shelf key is = subst (λ (e : Ending). EndsOne Told replied.first asked replied.text replied.now e) is replied.ends
 
   pub retire_sound : (Was : Loaded → Type 0) (asked : Asked) (output output' : OutputState) (status : ℕ) → RunsOne Told Stored Holds before after Was asked output output' status → status ≢ 5
   retire_sound Was asked output output' status (ending, is, runs) five = no_damage ending (replied_sound Was asked output output' ending runs) (sym is ∙ five)

@@ -21,7 +21,7 @@ use Rattle.rv_cli.specs.Headline.{Ends, Begins, Leaves, IsNotOpened, KeepsSo, Ha
 use Rattle.rv_cli.specs.Feeding.{IsLeftWith, RoseAt, FedAnswers, Feeds, FeedsWith}
 use Rattle.rv_cli.specs.Replying.{Retired, WritesReply}
 use Rattle.rv_cli.specs.Storing.{HasOpened, OpensStore, KeptOpened, OpensKept}
-use Rattle.rv_cli.specs.RunLaws.{answered_later}
+use Rattle.rv_cli.specs.RunLaws.{answered_later, step_later}
 use Rattle.rv_cli.proofs.Ended.{ended}
 
 -- what is told later was told before
@@ -42,7 +42,7 @@ module _ (Told Now : Type 0) (then : Now → Told) where
     asked = e.asked;
     asks = e.asks;
     answer = e.answer;
-    step = e.step;
+    step = step_later Told Now then e.mid now e.asked e.answer e.step;
     part = e.part;
     told = e.told;
     front = e.front;
@@ -209,7 +209,7 @@ module _ {P K : Type 0} (tells : P → Type 0) (holds : P → List ℕ → Loade
     begins = begins old mid new desk told.1 opened retired.before back;
     text = _;
     appended = appended;
-    ends = (told.0, retired.step, refl);
+    ends = (told.0, step_later (kept_tells told.1) (tells new) (λ t. (back.told t).1) (served kept_faults desk) retired.new (Ok (Retire group)) told.0 retired.step, refl);
     status = (refl, still);
     leaves = leaves old mid new retired.new told.1 opened.same retired.left back;
   }
@@ -219,7 +219,7 @@ module _ {P K : Type 0} (tells : P → Type 0) (holds : P → List ℕ → Loade
     begins = begins old mid new desk told.1 opened retired.before back;
     text = part;
     appended = appended;
-    ends = (told.0, retired.step, front);
+    ends = (told.0, step_later (kept_tells told.1) (tells new) (λ t. (back.told t).1) (served kept_faults desk) retired.new (Ok (Retire group)) told.0 retired.step, front);
     status = (refl, rose);
     leaves = leaves old mid new retired.new told.1 opened.same retired.left back;
   }

@@ -1,5 +1,5 @@
 -- One line: what becomes of it by what it asks, and the desk that is opened again after a stop.
-use Rattle.std.proofs.Common.{◌≡◌, ℕ, ◌-◌, ◌^◌, ◌≤◌, ◌<◌, List, [], ◌∷◌, Option, Some, None, IfSome, Result, Ok, Err, refl, sym, ap, ◌∙◌, subst, arith, inl, inr}
+use Rattle.std.proofs.Common.{◌≡◌, ℕ, ◌-◌, ◌^◌, ◌≤◌, ◌<◌, List, [], ◌∷◌, false, Option, Some, None, IfSome, Result, Ok, Err, refl, sym, ap, ◌∙◌, subst, arith, inl, inr}
 use Rattle.std.specs.List.{AllByRecursion}
 use Rattle.rv_base.specs.Causes.{Rose}
 use Rattle.rv_base.specs.Outside.{OutputState, Writes}
@@ -12,11 +12,11 @@ use Rattle.rv_history.specs.declared.trouble.Trouble.{Trouble}
 use Rattle.rv_history.specs.declared.turn.Turn.{Turn}
 use Rattle.rv_history.specs.declared.pull_answer.PullAnswer.{PullAnswer}
 use Rattle.rv_history.specs.declared.retire_answer.RetireAnswer.{RetireAnswer}
-use Rattle.rv_history.specs.Machine.{Sender}
+use Rattle.rv_history.specs.Machine.{Sender, retire_outcome}
 use Rattle.rv_history.specs.Troubles.{turn_trouble, pull_trouble, retire_trouble}
 use Rattle.rv_wire.specs.declared.push.Mutation.{Mutation}
 use Rattle.rv_wire.specs.declared.pull.PullRequest.{PullRequest}
-use Rattle.rv_history.specs.Served.{ServedMutates, ServedPulls, ServedRetires, Settles, MayStand, TakesTurn, TurnOf}
+use Rattle.rv_history.specs.Served.{IsChanged, ServedMutates, ServedPulls, ServedRetires, Settles, MayStand, TakesTurn, TurnOf}
 use Rattle.rv_keeper.specs.declared.loaded.Loaded.{Loaded}
 use Rattle.rv_record.specs.EntryReading.{EntryFits}
 use Rattle.rv_store.specs.Opening.{MayOpen}
@@ -27,6 +27,7 @@ use Rattle.rv_desk.specs.Opened.{Opens, IsDamagedIn, IsRefused, IsLeft}
 use Rattle.rv_desk.specs.declared.open_fault.OpenFault.{OpenFault}
 use Rattle.rv_desk.specs.declared.open_fault.OpenFault.TheVariants as faulting
 use Rattle.rv_answering.specs.declared.answer.Answer.{Answer}
+use Rattle.rv_answering.specs.declared.request.Request.TheVariants.{Retire}
 use Rattle.rv_answering.specs.Steps as steps
 use Rattle.rv_answering.specs.StepLaws.{shown_mutates, shown_pulls, shown_retires, step_shown}
 use Rattle.rv_answering.specs.StepMaps.{map_step}
@@ -37,10 +38,10 @@ use Rattle.rv_answering.specs.Requests.{Asked, line_of}
 use Rattle.rv_cli.specs.declared.ending.Ending.{Ending}
 use Rattle.rv_cli.specs.declared.ending.Ending.TheVariants.{Done, Keeper, Damaged, Read, Write, Memory, Malformed}
 use Rattle.rv_cli.specs.Texts.{fault_ending, text_of}
-use Rattle.rv_cli.specs.Headline.{Reopens, Step}
+use Rattle.rv_cli.specs.Headline.{Reopens, Step, TakesStep, TellsChange}
 use Rattle.rv_cli.specs.Steadiness.{KeeperIsSteady, LineKeepsSteady}
 use Rattle.rv_cli.specs.Feeding.{IsLeftWith, ServesOrNot, ReopensOrNot, GoesOn, LastLine, TakesLine}
-use Rattle.rv_cli.proofs.Troubled.{step_causes}
+use Rattle.rv_cli.proofs.Troubled.{HasTrouble, any_step_causes, step_causes}
 
 in_doubt : (book : Book) (doubt : Option Entry) (held : Loaded) → IsKeptWith book doubt held → IsKeptInDoubt book doubt held
 in_doubt book None held kept = kept
@@ -157,9 +158,9 @@ module _ {K : Type 0} (tells fails_no_more : K → Type 0) (holds : K → Loaded
     steady = λ f. (assured.goes_on f, (subst (λ (t : Option Trouble). TurnOf trouble Turns (served faults old) answer (served faults new) t) (assured.sure f) turn.turn).4);
   }
 
-  pub desk_step : (old new : Seated K) (asked : Asked) (answer : Answer)
+  desk_goes : (old new : Seated K) (asked : Asked) (answer : Answer)
       → steps.Step desk_mutates desk_pulls desk_retires old asked answer new → Step (served faults old) asked answer (served faults new) × Before old new
-  desk_step old new asked answer step = step_shown (served faults) Before before_same before_on ServedMutates ServedPulls ServedRetires old new asked answer
+  desk_goes old new asked answer step = step_shown (served faults) Before before_same before_on ServedMutates ServedPulls ServedRetires old new asked answer
       (map_step desk_mutates (shown_mutates (served faults) Before before_same before_on ServedMutates ServedPulls ServedRetires)
       desk_pulls (shown_pulls (served faults) Before before_same before_on ServedMutates ServedPulls ServedRetires)
       desk_retires (shown_retires (served faults) Before before_same before_on ServedMutates ServedPulls ServedRetires)
@@ -168,13 +169,40 @@ module _ {K : Type 0} (tells fails_no_more : K → Type 0) (holds : K → Loaded
       (λ old new group answer (taken, assured). (taken, turn_before retire_trouble _ old new answer taken assured))
       old new asked answer step)
 
-  pub serves_whole : {E : Type 0} (old new : Seated K) (asked : Asked) (answer : Answer) (before now : OutputState) (result : Result (Unit {0}) E) → result ≡ Ok tt → Step (served faults old) asked answer (served faults new) × Before old new
+  -- a turn tells that another changed what is kept only where its keeper does not tell
+  turn_near : {A : Type 0} (trouble : A → Option Trouble) (old new : Seated K) (answer : A) → Assures tells fails_no_more old.keeper (trouble answer) new.keeper
+      → (tells new.keeper → tells old.keeper) × (HasTrouble (λ found. IsChanged (Some found)) (trouble answer) → tells new.keeper → ⊥)
+  turn_near trouble old new answer assured = (assured.told, λ (found, is, changed) t. assured.near t (subst IsChanged (sym is) changed))
+
+  desk_near : (old new : Seated K) (asked : Asked) (answer : Answer) → steps.Step desk_mutates desk_pulls desk_retires old asked answer new
+      → (tells new.keeper → tells old.keeper) × (TellsChange (Some answer) → tells new.keeper → ⊥)
+  desk_near = any_step_causes (λ found. IsChanged (Some found)) desk_mutates desk_pulls desk_retires (λ (old new : Seated K). tells new.keeper → tells old.keeper) (λ (old new : Seated K). tells new.keeper → ⊥)
+      (λ s t. t) (λ s t u first next told. first (next told)) (λ s t u goes rises. rises)
+      (λ from m old new turn (taken, assured). turn_near turn_trouble old new turn assured)
+      (λ user request old new answer (taken, assured). turn_near pull_trouble old new answer assured)
+      (λ group old new answer (taken, assured). turn_near retire_trouble old new answer assured)
+
+  -- the answer to a retirement
+  pub desk_retired : (old new : Seated K) (keeper : K) (group : List ℕ) (outcome : RetireAnswer) (answer : Answer) → answer ≡ steps.retire_answer (retire_outcome outcome) → desk_retires old group outcome new → keeper ≡ new.keeper
+      → TakesStep (tells keeper) (served faults old) (Ok (Retire group)) answer (served faults new)
+  desk_retired old new keeper group outcome answer is (taken, assured) same = record {
+    step = (false, (outcome, taken, is, refl));
+    near = λ told change. (desk_near old new (Ok (Retire group)) answer (false, (outcome, (taken, assured), is, refl))).1 change (subst tells same told);
+  }
+
+  pub desk_step : (old new : Seated K) (asked : Asked) (answer : Answer)
+      → steps.Step desk_mutates desk_pulls desk_retires old asked answer new → TakesStep (tells new.keeper) (served faults old) asked answer (served faults new) × Before old new
+  desk_step old new asked answer step =
+      let (is, goes) = desk_goes old new asked answer step in
+      (record { step = is; near = λ told change. (desk_near old new asked answer step).1 change told }, goes)
+
+  pub serves_whole : {E : Type 0} (old new : Seated K) (asked : Asked) (answer : Answer) (before now : OutputState) (result : Result (Unit {0}) E) → result ≡ Ok tt → TakesStep (tells new.keeper) (served faults old) asked answer (served faults new) × Before old new
       → Writes before now result (text_of answer) → ServesOrNot tells holds faults old asked (Ok new) before now
   serves_whole {E} old new asked answer before now result is (step, goes) w =
       let all = subst (λ (r : Result (Unit {0}) E). Writes before now r (text_of answer)) is w in
       ((answer, step, all.bytes), record { faults = all.cause.still; refusals = all.memory.still }, goes.told)
 
-  pub serves_front : {T E : Type 0} (old new : Seated K) (keeper : K) (asked : Asked) (answer : Answer) (before now : OutputState) (result : Result T E) (fault : E) → result ≡ Err fault → Step (served faults old) asked answer (served faults new) × Before old new
+  pub serves_front : {T E : Type 0} (old new : Seated K) (keeper : K) (asked : Asked) (answer : Answer) (before now : OutputState) (result : Result T E) (fault : E) → result ≡ Err fault → TakesStep (tells new.keeper) (served faults old) asked answer (served faults new) × Before old new
       → Writes before now result (text_of answer) → keeper ≡ new.keeper → (tells new.keeper → HoldsBook (holds new.keeper) new.book new.doubt) → ServesOrNot tells holds faults old asked (Err (Write, keeper)) before now
   serves_front {T} {E} old new keeper asked answer before now result fault is (step, goes) w same held =
       let part = subst (λ (r : Result T E). Writes before now r (text_of answer)) is w in
@@ -211,7 +239,7 @@ module _ {K : Type 0} (tells fails_no_more : K → Type 0) (holds : K → Loaded
   served_line : (old : Seated K) (line : List ℕ) (number : ℕ) (asked : Asked) (result : Result (Seated K) (Ending × K)) (before now : OutputState) → line_of line ≡ Some (Asks asked)
       → ServesOrNot tells holds faults old asked result before now → TakesLine tells holds faults old line number result before now
   served_line old line number asked (Ok new) before now is ((answer, step, appended), counts, told) =
-      (GoesOn.answered (record { answer = answer; step = record { asked = asked; asks = is; step = step }; appended = appended; counts = counts }), told, (step_causes (served faults old) (served faults new) asked answer step).0)
+      (GoesOn.answered (record { answer = answer; step = record { asked = asked; asks = is; step = step }; appended = appended; counts = counts }), told, (step_causes (served faults old) (served faults new) asked answer step.step).0)
   served_line old line number asked (Err (Write, keeper)) before now is ((answer, new, step, front, left), rose, told) = record {
     new = new;
     ends = record { answer = answer; step = record { asked = asked; asks = is; step = step }; front = front; rose = rose };

@@ -13,7 +13,7 @@ use Rattle.rv_answering.specs.Requests.{Asked, line_of}
 use Rattle.rv_cli.specs.declared.ending.Ending.{Ending}
 use Rattle.rv_cli.specs.declared.ending.Ending.TheVariants.{Done, Keeper, Damaged, Read, Write, Memory, Malformed}
 use Rattle.rv_cli.specs.Texts.{text_of}
-use Rattle.rv_cli.specs.Headline.{Step, Reopens, Ends, ReadsSo}
+use Rattle.rv_cli.specs.Headline.{TakesStep, Reopens, Ends, ReadsSo}
 
 -- counts of an output that stay
 pub record Stays (old new : OutputState) : Type 0 where
@@ -21,22 +21,22 @@ pub record Stays (old new : OutputState) : Type 0 where
   pub refusals : new.refusals ≡ old.refusals
 
 -- the line asks something, and the server answers it so
-pub record LineStep (old : Served) (line : List ℕ) (answer : Answer) (new : Served) : Type 0 where
+pub record LineStep (Told : Type 0) (old : Served) (line : List ℕ) (answer : Answer) (new : Served) : Type 0 where
   pub asked : Asked
   pub asks : line_of line ≡ Some (Asks asked)
-  pub step : Step old asked answer new
+  pub step : TakesStep Told old asked answer new
 
 -- a line that was answered
-pub record WritesAnswer (old : Served) (line : List ℕ) (new : Served) (before now : OutputState) : Type 0 where
+pub record WritesAnswer (Told : Type 0) (old : Served) (line : List ℕ) (new : Served) (before now : OutputState) : Type 0 where
   pub answer : Answer
-  pub step : LineStep old line answer new
+  pub step : LineStep Told old line answer new
   pub appended : Appends before.written now.written (text_of answer)
   pub counts : Stays before now
 
 -- a line of whose answer a front was written
-pub record CutsAnswer (old : Served) (line : List ℕ) (new : Served) (before now : OutputState) : Type 0 where
+pub record CutsAnswer (Told : Type 0) (old : Served) (line : List ℕ) (new : Served) (before now : OutputState) : Type 0 where
   pub answer : Answer
-  pub step : LineStep old line answer new
+  pub step : LineStep Told old line answer new
   pub front : AppendsFront before.written now.written (text_of answer)
   pub rose : Rose before.faults now.faults
 
@@ -63,9 +63,9 @@ module _ {K : Type 0} (tells : K → Type 0) (holds : K → Loaded → Type 0) (
   -- a request is answered, and its answer written; or only a front of the answer was
   abbrev pub ServesOrNot : Seated K → Asked → Result (Seated K) (Ending × K) → OutputState → OutputState → Type 0
   ServesOrNot old asked (Ok new) before now =
-      ((answer : Answer) × Step (served faults old) asked answer (served faults new) × Appends before.written now.written (text_of answer)) × Stays before now × (tells new.keeper → tells old.keeper)
+      ((answer : Answer) × TakesStep (tells new.keeper) (served faults old) asked answer (served faults new) × Appends before.written now.written (text_of answer)) × Stays before now × (tells new.keeper → tells old.keeper)
   ServesOrNot old asked (Err (Write, keeper)) before now =
-      ((answer : Answer) × (new : Served) × Step (served faults old) asked answer new × AppendsFront before.written now.written (text_of answer) × IsLeftWith new keeper)
+      ((answer : Answer) × (new : Served) × TakesStep (tells keeper) (served faults old) asked answer new × AppendsFront before.written now.written (text_of answer) × IsLeftWith new keeper)
       × Rose before.faults now.faults × (tells keeper → tells old.keeper)
   ServesOrNot old asked (Err (ending, keeper)) before now = ⊥
 
@@ -83,22 +83,22 @@ module _ {K : Type 0} (tells : K → Type 0) (holds : K → Loaded → Type 0) (
 
   -- a line after which the lines go on: it was answered, or was a stop
   pub data GoesOn (old : Seated K) (line : List ℕ) (new : Seated K) (before now : OutputState) : Type 0 where
-    answered : WritesAnswer (served faults old) line (served faults new) before now → GoesOn old line new before now
+    answered : WritesAnswer (tells new.keeper) (served faults old) line (served faults new) before now → GoesOn old line new before now
     stopped : Stopped (tells new.keeper) (served faults old) line (served faults new) before now → GoesOn old line new before now
 
   -- a line with this number at which the lines end so, with this state
-  abbrev pub EndsLine : Served → List ℕ → ℕ → Served → OutputState → OutputState → Ending → Type 0
-  EndsLine old line number new before now (Malformed n) = (n ≡ number) × (line_of line ≡ None) × (new ≡ old) × (now ≡ before)
-  EndsLine old line number new before now Write = CutsAnswer old line new before now
-  EndsLine old line number new before now Memory = (new ≡ old) × (now ≡ before)
-  EndsLine old line number new before now Keeper = (line_of line ≡ Some Stop) × (new ≡ old) × (now ≡ before)
-  EndsLine old line number new before now (Damaged shelf key) = (line_of line ≡ Some Stop) × (new ≡ old) × (now ≡ before)
-  EndsLine old line number new before now Done = ⊥
-  EndsLine old line number new before now Read = ⊥
+  abbrev pub EndsLine : Type 0 → Served → List ℕ → ℕ → Served → OutputState → OutputState → Ending → Type 0
+  EndsLine Told old line number new before now (Malformed n) = (n ≡ number) × (line_of line ≡ None) × (new ≡ old) × (now ≡ before)
+  EndsLine Told old line number new before now Write = CutsAnswer Told old line new before now
+  EndsLine Told old line number new before now Memory = (new ≡ old) × (now ≡ before)
+  EndsLine Told old line number new before now Keeper = (line_of line ≡ Some Stop) × (new ≡ old) × (now ≡ before)
+  EndsLine Told old line number new before now (Damaged shelf key) = (line_of line ≡ Some Stop) × (new ≡ old) × (now ≡ before)
+  EndsLine Told old line number new before now Done = ⊥
+  EndsLine Told old line number new before now Read = ⊥
 
   pub record EndedLine (old : Seated K) (line : List ℕ) (number : ℕ) (ended : Ending × K) (before now : OutputState) : Type 0 where
     pub new : Served
-    pub ends : EndsLine (served faults old) line number new before now ended.0
+    pub ends : EndsLine (tells ended.1) (served faults old) line number new before now ended.0
     pub left : IsLeftWith new ended.1
     pub told : tells ended.1 → tells old.keeper
     pub rose : RoseAt ended.0 (faults old.keeper) ended.1

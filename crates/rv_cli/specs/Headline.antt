@@ -15,7 +15,9 @@ use Rattle.rv_wire.specs.declared.error_body.ErrorBody.TheVariants as errors
 use Rattle.rv_wire.specs.declared.pull.PullRequest.{PullRequest}
 use Rattle.rv_rows.specs.Held.{Stored as StoredRow}
 use Rattle.rv_book.specs.Book.{Book, last, size}
-use Rattle.rv_history.specs.Served.{Served, ServedMutates, ServedPulls, ServedRetires, Settles, IsSound}
+use Rattle.rv_history.specs.declared.trouble.Trouble.{Trouble}
+use Rattle.rv_history.specs.declared.trouble.Trouble.TheVariants.{Failed, Changed}
+use Rattle.rv_history.specs.Served.{Served, ServedMutates, ServedPulls, ServedRetires, Settles, IsChanged, IsSound}
 use Rattle.rv_history.specs.Replay.{IsReplay}
 use Rattle.rv_history.specs.Laws.{act_ids, look_orders, Tells}
 use Rattle.rv_history.specs.declared.pull_reply.PullReply.{PullReply}
@@ -56,6 +58,21 @@ Are number (bytes ∷ rest) [] = ⊥
 abbrev pub Step : Served → Asked → Answer → Served → Type 0
 Step = steps.Step ServedMutates ServedPulls ServedRetires
 
+-- the answer tells a trouble with what keeps the book, of which this holds
+abbrev pub TellsOf : (Trouble → Type 0) → Option Answer → Type 0
+TellsOf Holds (Some (Refused errors.Keeper)) = Holds Failed
+TellsOf Holds (Some (Refused (errors.Changed found kept))) = Holds (Changed kept found)
+TellsOf Holds answer = ⊥
+
+-- the answer tells that what is kept was changed by another
+abbrev pub TellsChange : Option Answer → Type 0
+TellsChange = TellsOf (λ trouble. IsChanged (Some trouble))
+
+-- One request is answered by the server. Where what is kept is told, the answer is not that another changed it.
+pub record TakesStep (Told : Type 0) (old : Served) (asked : Asked) (answer : Answer) (new : Served) : Type 0 where
+  pub step : Step old asked answer new
+  pub near : Told → ¬ TellsChange (Some answer)
+
 -- The server is closed and opened again: nothing is in doubt then, and the count of faults stays. Where what is kept is
 -- told, the book is the settled one, and else some lawful book within the limit.
 pub record Reopens (Told : Type 0) (old new : Served) : Type 0 where
@@ -67,7 +84,7 @@ pub record Reopens (Told : Type 0) (old new : Served) : Type 0 where
 
 -- a request has its answer, and a stop has none
 abbrev pub Takes : Type 0 → Served → Line → Option Answer → Served → Type 0
-Takes Told old (Asks asked) (Some answer) new = Step old asked answer new
+Takes Told old (Asks asked) (Some answer) new = TakesStep Told old asked answer new
 Takes Told old Stop None new = Reopens Told old new
 Takes Told old (Asks asked) None new = ⊥
 Takes Told old Stop (Some answer) new = ⊥
@@ -107,7 +124,7 @@ pub record IsCutOff (Told : Type 0) (first : Served) (bytes read text : List ℕ
   pub asked : Asked
   pub asks : line_at (length lines + 1) line ≡ Some (Asks asked)
   pub answer : Answer
-  pub step : Step mid asked answer now
+  pub step : TakesStep Told mid asked answer now
   pub part : List ℕ
   pub told : text ≡ before ++ part
   pub front : IsFront part (text_of answer)
@@ -284,10 +301,10 @@ KeptSound Stored = (book : Book) × (held : Loaded) × Stored held × MayOpen (2
 -- ---- And of `retire`: the same over the one request.
 
 -- A run of one request may end so, with this text and this state: it is answered; or a front of its answer was written.
-abbrev pub EndsOne : Served → Asked → List ℕ → Served → Ending → Type 0
-EndsOne first asked text now Done = (answer : Answer) × Step first asked answer now × (text ≡ text_of answer)
-EndsOne first asked text now Write = (answer : Answer) × Step first asked answer now × IsFront text (text_of answer)
-EndsOne first asked text now ending = ⊥
+abbrev pub EndsOne : Type 0 → Served → Asked → List ℕ → Served → Ending → Type 0
+EndsOne Told first asked text now Done = (answer : Answer) × TakesStep Told first asked answer now × (text ≡ text_of answer)
+EndsOne Told first asked text now Write = (answer : Answer) × TakesStep Told first asked answer now × IsFront text (text_of answer)
+EndsOne Told first asked text now ending = ⊥
 
 module _ (Told : Type 0) (Stored Holds : Loaded → Type 0) (before after : ℕ) where
   pub record NotOpened (output output' : OutputState) (ending : Ending) : Type 0 where
@@ -301,7 +318,7 @@ module _ (Told : Type 0) (Stored Holds : Loaded → Type 0) (before after : ℕ)
     pub begins : Begins Told Stored first
     pub text : List ℕ
     pub appended : Appends output.written output'.written text
-    pub ends : EndsOne first asked text now ending
+    pub ends : EndsOne Told first asked text now ending
     pub status : IsOwnText output.faults output'.faults [] ending
     pub leaves : Leaves Told Holds before after now
 
@@ -387,9 +404,7 @@ PullsAreShown = (told : Bool) (first now : Served) (before after : List Line) (a
 
 -- the answer tells a trouble with what keeps the book
 abbrev pub TellsTrouble : Option Answer → Type 0
-TellsTrouble (Some (Refused errors.Keeper)) = Unit {0}
-TellsTrouble (Some (Refused (errors.Changed found kept))) = Unit {0}
-TellsTrouble answer = ⊥
+TellsTrouble = TellsOf (λ trouble. Unit {0})
 
 -- Where no fault of what keeps the book rose in a run, no answer tells a trouble with it.
 abbrev pub TroublesHaveCauses : Type 0

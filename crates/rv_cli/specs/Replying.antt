@@ -12,13 +12,13 @@ use Rattle.rv_answering.specs.declared.request.Request.TheVariants.{Retire}
 use Rattle.rv_cli.specs.declared.ending.Ending.{Ending}
 use Rattle.rv_cli.specs.declared.ending.Ending.TheVariants.{Done, Write}
 use Rattle.rv_cli.specs.Texts.{text_of}
-use Rattle.rv_cli.specs.Headline.{Step}
+use Rattle.rv_cli.specs.Headline.{TakesStep}
 use Rattle.rv_cli.specs.Feeding.{IsLeftWith}
 
 -- the answer to a retirement, and the keeper that is left
 pub record Retired {K : Type 0} (tells : K → Type 0) (holds : K → Loaded → Type 0) (faults : K → ℕ) (old : Seated K) (group : List ℕ) (told : Answer × K) : Type 0 where
   pub new : Served
-  pub step : Step (served faults old) (Ok (Retire group)) told.0 new
+  pub step : TakesStep (tells told.1) (served faults old) (Ok (Retire group)) told.0 new
   pub left : IsLeftWith tells holds faults new told.1
   pub before : tells told.1 → tells old.keeper
 

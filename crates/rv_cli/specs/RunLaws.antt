@@ -7,8 +7,8 @@ use Rattle.rv_history.specs.Served.{Served}
 use Rattle.rv_answering.specs.declared.answer.Answer.{Answer}
 use Rattle.rv_answering.specs.declared.line.Line.{Line}
 use Rattle.rv_answering.specs.declared.line.Line.TheVariants.{Asks, Stop}
-use Rattle.rv_answering.specs.Requests.{line_of}
-use Rattle.rv_cli.specs.Headline.{line_at, Are, Takes, Reopens, Run, told_text, Answered}
+use Rattle.rv_answering.specs.Requests.{Asked, line_of}
+use Rattle.rv_cli.specs.Headline.{line_at, Are, Takes, TakesStep, Reopens, Run, told_text, Answered}
 
 -- a line that is short enough, and early enough, is what its bytes are
 fits : (number : ℕ) (line : List ℕ) → length line ≤ longest_line → number < 2 ^ 32 → (nat_le (length line) longest_line && nat_lt number (2 ^ 32)) ≡ true
@@ -45,8 +45,11 @@ run_more Told (q ∷ lines) (a ∷ answers) first mid new line answer (next, ste
 reopens_later : (Told Now : Type 0) → (Now → Told) → (old new : Served) → Reopens Told old new → Reopens Now old new
 reopens_later Told Now then old new r = record { sound = r.sound; limit = r.limit; doubt = r.doubt; faults = r.faults; settled = λ now. r.settled (then now) }
 
+pub step_later : (Told Now : Type 0) → (Now → Told) → (old new : Served) (asked : Asked) (answer : Answer) → TakesStep Told old asked answer new → TakesStep Now old asked answer new
+step_later Told Now then old new asked answer taken = record { step = taken.step; near = λ now. taken.near (then now) }
+
 pub takes_later : (Told Now : Type 0) → (Now → Told) → (old new : Served) (line : Line) (answer : Option Answer) → Takes Told old line answer new → Takes Now old line answer new
-takes_later Told Now then old new (Asks asked) (Some answer) taken = taken
+takes_later Told Now then old new (Asks asked) (Some answer) taken = step_later Told Now then old new asked answer taken
 takes_later Told Now then old new Stop None taken = reopens_later Told Now then old new taken
 takes_later Told Now then old new (Asks asked) None taken = absurd taken
 takes_later Told Now then old new Stop (Some answer) taken = absurd taken

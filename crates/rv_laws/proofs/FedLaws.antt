@@ -113,7 +113,7 @@ module _ {P : Type 0} (tells : P → Type 0) (holds : P → List ℕ → Loaded 
       let sound = begins_sound (tells new) (OpensAs store (holds old store)) run.first run.begins in
       let at = turn_at law run.first run.now turn.before turn.after turn.answered turn.others _ _ sound turn.same
       (run_at (tells new) run.first run.now run.lines run.answers _ _ turn (told_run (tells new) run.first run.now run.lines run.answers run.told run.run)) in
-      all_later (record { user = user; group = push.group }) push.mutations at.new.book at.more.0 run.now.book at.more.1 (step_stands stand at.point at.new user push at.takes at.sound)
+      all_later (record { user = user; group = push.group }) push.mutations at.new.book at.more.0 run.now.book at.more.1 (step_stands stand at.point at.new user push at.takes.step at.sound)
 
   pub clients_follow : BooksAreLawful → PullsAreShown → clients.ClientsFollow → FedClientsFollow tells holds faults
   clients_follow law show follow old new store bytes output output' run user pulls client turns =
