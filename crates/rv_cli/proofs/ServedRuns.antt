@@ -1,5 +1,5 @@
 -- What is served side by side stands in one book: its turns, its pulls, and its troubles.
-use Rattle.std.proofs.Common.{◌≡◌, ◌⊎◌, ⊎_elim, ℕ, ◌-◌, ◌^◌, ◌<◌, ◌≤◌, List, [], ◌∷◌, ◌++◌, Bool, true, false, Option, Some, None, Ok, Err, refl, sym, ap, ◌∙◌, subst, append_assoc, append-nil, arith, inl, inr}
+use Rattle.std.proofs.Common.{◌≡◌, ◌⊎◌, ⊎_elim, ℕ, ◌-◌, ◌^◌, ◌<◌, ◌≤◌, List, [], ◌∷◌, ◌++◌, Option, Some, None, Ok, Err, refl, sym, ap, ◌∙◌, subst, append_assoc, append-nil, arith, inl, inr}
 use Rattle.std.specs.List.{AllByRecursion, flat_map}
 use Rattle.rv_base.specs.Causes.{Rose}
 use Rattle.rv_base.specs.Outside.{InputState, OutputState}
@@ -12,23 +12,24 @@ use Rattle.rv_history.specs.declared.pull_reply.PullReply.{PullReply}
 use Rattle.rv_history.specs.declared.pull_answer.PullAnswer.{PullAnswer}
 use Rattle.rv_history.specs.declared.pull_answer.PullAnswer.TheVariants as pulls
 use Rattle.rv_history.specs.Laws.{IdsCountUp, OrdersRise, PullsShow}
-use Rattle.rv_history.specs.Served.{IsSound}
 use Rattle.std.specs.Option.{option_map_or}
-use Rattle.rv_desk.specs.Seated.{Seated, served}
+use Rattle.rv_keeper.specs.declared.keeper.Keeper.{Ghosts}
+use Rattle.rv_desk.specs.Seated.{Seated}
 use Rattle.rv_answering.specs.declared.answer.Answer.{Answer}
 use Rattle.rv_answering.specs.declared.answer.Answer.TheVariants.{Pulled, Pushed, Retired, Refused}
 use Rattle.rv_answering.specs.declared.request.Request.TheVariants.{Push, Pull, Retire}
 use Rattle.rv_answering.specs.Requests.{Asked}
-use Rattle.rv_answering.specs.Steps.{Step, pull_answer}
+use Rattle.rv_answering.specs.Steps.{Step}
 use Rattle.rv_net.specs.declared.conn.Conn.{Conn}
 use Rattle.rv_room.specs.declared.view.SeatView.{SeatView}
+use Rattle.rv_room.specs.Following.{FollowsAll}
 use Rattle.rv_room.specs.Lists.{StartsWith}
-use Rattle.rv_room.specs.SeatTurns.{IsSeatTurn, Parts, SeatMutates, SeatPulls, SeatRetires, TurnAs, last_book, settled_book}
+use Rattle.rv_room.specs.SeatTurns.{IsSeatTurn, SeatMutates, SeatPulls, SeatRetires, TurnAs, last_book, settled_book}
 use Rattle.rv_room.specs.Views.{newcomer}
 use Rattle.rv_serve.specs.Laws.{RunsTurns, turns_of}
 use Rattle.rv_serve.specs.RunLaws.{conns_run}
-use Rattle.rv_workers.specs.Serving.{EachServes, IsServed, ServesTogether}
-use Rattle.rv_cli.specs.Headline.{IsLawfulRun, ShowsAt, TellsTrouble}
+use Rattle.rv_workers.specs.Serving.{EachServes}
+use Rattle.rv_cli.specs.Headline.{TellsTrouble}
 use Rattle.rv_cli.specs.Serving.{IsShownIn, ServedBooksAreLawful, ServedPullsAreShown, ServedTroublesHaveCauses, Serves, ShowsIn, StandsIn, TurnsStand, turns_served}
 use Rattle.rv_cli.proofs.LawfulRuns.{no_push, no_retirement, same_reply}
 use Rattle.rv_cli.proofs.Troubled.{HasTrouble, any_step_causes, turns_each, turns_later}
@@ -55,15 +56,15 @@ all_both Holds (x ∷ xs) ys (one, rest) all = (one, all_both Holds xs ys rest a
 
 -- ---- A turn of a seat.
 
--- what it has seen goes on, and it remembers all counts that it remembered
+-- what it has seen goes on, and it remembers all keepers that it remembered
 record SeatGoes {K : Type 0} (old new : SeatView K) : Type 0 where
   pub seen : StartsWith new.seen old.seen
   pub after : StartsWith new.after old.after
   pub opened : new.opened ≡ old.opened
 
--- no count above this is remembered
-abbrev Quiet : {K : Type 0} → ℕ → SeatView K → Type 0
-Quiet top v = AllByRecursion (λ (count : ℕ). count ≤ top) v.after
+-- no keeper is remembered that failed more often
+abbrev Quiet : {K : Type 0} → Ghosts K → ℕ → SeatView K → Type 0
+Quiet G top v = AllByRecursion (λ keeper. G.faults keeper ≤ top) v.after
 
 some_desk : {X : Type 0} (a b : X) → Some a ≡ Some b → a ≡ b
 some_desk a b e = ap (λ o. option_map_or (λ x. x) o a) e
@@ -75,34 +76,41 @@ module _ {K : Type 0} where
   goes_on : (v w u : SeatView K) → SeatGoes v w → SeatGoes w u → SeatGoes v u
   goes_on v w u before after = record { seen = starts_on u.seen w.seen v.seen after.seen before.seen; after = starts_on u.after w.after v.after after.after before.after; opened = after.opened ∙ before.opened }
 
-  quiet_before : (top : ℕ) (v w : SeatView K) → SeatGoes v w → Quiet top w → Quiet top v
-  quiet_before top v w goes quiet = all_front (λ (count : ℕ). count ≤ top) v.after goes.after.0 (subst (λ (l : List ℕ). AllByRecursion (λ (count : ℕ). count ≤ top) l) goes.after.1 quiet)
+module _ {K : Type 0} (G : Ghosts K) where
+  quiet_before : (top : ℕ) (v w : SeatView K) → SeatGoes v w → Quiet G top w → Quiet G top v
+  quiet_before top v w goes quiet = all_front (λ (keeper : K). G.faults keeper ≤ top) v.after goes.after.0 (subst (λ (l : List K). AllByRecursion (λ keeper. G.faults keeper ≤ top) l) goes.after.1 quiet)
+
+  -- what is followed by a keeper has failed no more often
+  quiet_last : (keeper : K) (top : ℕ) → G.faults keeper ≡ top → (keepers : List K) → FollowsAll G keepers keeper → AllByRecursion (λ old. G.faults old ≤ top) keepers
+  quiet_last keeper top is [] all = tt
+  quiet_last keeper top is (old ∷ keepers) (follows, all) = (omega (arith, is, follows.later), quiet_last keeper top is keepers all)
 
   -- the count of the desk's keeper has not risen since the room was opened, or it failed no more then
-  abbrev Calm : (K → ℕ) → (K → Type 0) → Seated K → SeatView K → Type 0
-  Calm faults steady opened v = (Quiet (faults opened.keeper) v × (faults opened.keeper < 2 ^ 64 - 1)) ⊎ steady opened.keeper
+  abbrev Calm : Seated K → SeatView K → Type 0
+  Calm opened v = (Quiet G (G.faults opened.keeper) v × (G.faults opened.keeper < 2 ^ 64 - 1)) ⊎ G.fails_no_more opened.keeper
 
   -- where the room was opened with such a desk, this can't be
-  abbrev Stirs : (K → ℕ) → (K → Type 0) → SeatView K → SeatView K → Type 0
-  Stirs faults steady old new = (opened : Seated K) → old.opened ≡ Some opened → Calm faults steady opened new → ⊥
+  abbrev Stirs : SeatView K → SeatView K → Type 0
+  Stirs old new = (opened : Seated K) → old.opened ≡ Some opened → Calm opened new → ⊥
 
-  stirs_before : (faults : K → ℕ) (steady : K → Type 0) (s t u : SeatView K) → SeatGoes s t → Stirs faults steady t u → Stirs faults steady s u
-  stirs_before faults steady s t u goes stirs opened at calm = stirs opened (goes.opened ∙ at) calm
+  stirs_before : (s t u : SeatView K) → SeatGoes s t → Stirs t u → Stirs s u
+  stirs_before s t u goes stirs opened at calm = stirs opened (goes.opened ∙ at) calm
 
-module _ {K A : Type 0} (faults : K → ℕ) (steady : K → Type 0) (trouble : A → Option Trouble) (Steps : ℕ → Book → A → Book → Type 0) (old : SeatView K) (answer : A) (new : SeatView K) (turn : IsSeatTurn faults steady trouble Steps old answer new) where
+module _ {K A : Type 0} (G : Ghosts K) (trouble : A → Option Trouble) (Steps : ℕ → Book → A → Book → Type 0) (old : SeatView K) (answer : A) (new : SeatView K) (turn : IsSeatTurn G trouble Steps old answer new) where
   turn_goes : SeatGoes old new
   turn_goes =
       let p = turn.turn in
       let grown : StartsWith new.seen p.history = (p.came ++ p.made, turn.seen ∙ append_assoc p.history p.came p.made) in
-      record { seen = starts_on new.seen p.history old.seen grown turn.begins; after = (p.last ∷ [], turn.after); opened = turn.stays }
+      record { seen = starts_on new.seen p.history old.seen grown turn.begins; after = (turn.now ∷ [], turn.after); opened = turn.stays }
 
   -- where it tells a trouble, the keeper's count rose
-  turn_rises : HasTrouble (λ trouble. Unit {0}) (trouble answer) → Stirs faults steady old new
+  turn_rises : HasTrouble (λ trouble. Unit {0}) (trouble answer) → Stirs G old new
   turn_rises (tr, is, any) opened at (inl (quiet, below)) =
       let same : turn.opened ≡ opened = some_desk turn.opened opened (sym turn.room ∙ at) in
-      let top : ℕ = faults opened.keeper in
-      let last : turn.turn.last ≤ top = all_last (λ (count : ℕ). count ≤ top) old.after turn.turn.last (subst (λ (l : List ℕ). AllByRecursion (λ (count : ℕ). count ≤ top) l) turn.after quiet) in
-      let begun : top ≤ turn.turn.first = subst (λ (d : Seated K). faults d.keeper ≤ turn.turn.first) same turn.risen in
+      let top : ℕ = G.faults opened.keeper in
+      let now : G.faults turn.now ≤ top = all_last (λ (keeper : K). G.faults keeper ≤ top) old.after turn.now (subst (λ (l : List K). AllByRecursion (λ keeper. G.faults keeper ≤ top) l) turn.after quiet) in
+      let last : turn.turn.last ≤ top = omega (arith, now, turn.last) in
+      let begun : top ≤ turn.turn.first = subst (λ (d : Seated K). G.faults d.keeper ≤ turn.turn.first) same turn.risen in
       none top turn.turn.first turn.turn.last (risen tr (subst (λ (found : Option Trouble). TurnAs trouble (Steps turn.opened.limit) turn.turn answer found) is turn.is)) begun last below
     where
       none : (top before now : ℕ) → Rose before now → top ≤ before → now ≤ top → top < 2 ^ 64 - 1 → ⊥
@@ -113,33 +121,33 @@ module _ {K A : Type 0} (faults : K → ℕ) (steady : K → Type 0) (trouble : 
       risen (Changed kept found) took = took.0
   turn_rises (tr, is, any) opened at (inr calm) =
       let same : turn.opened ≡ opened = some_desk turn.opened opened (sym turn.room ∙ at) in
-      absurd (let no : Some tr ≡ None = sym is ∙ turn.sure (subst (λ (d : Seated K). steady d.keeper) (sym same) calm) in cc)
+      absurd (let no : Some tr ≡ None = sym is ∙ turn.sure (subst (λ (d : Seated K). G.fails_no_more d.keeper) (sym same) calm) in cc)
 
-  turn_causes : SeatGoes old new × (HasTrouble (λ trouble. Unit {0}) (trouble answer) → Stirs faults steady old new)
+  turn_causes : SeatGoes old new × (HasTrouble (λ trouble. Unit {0}) (trouble answer) → Stirs G old new)
   turn_causes = (turn_goes, turn_rises)
 
-module _ {K : Type 0} (faults : K → ℕ) (steady : K → Type 0) where
-  seat_step : (old new : SeatView K) (asked : Asked) (answer : Answer) → Step (SeatMutates faults steady) (SeatPulls faults steady) (SeatRetires faults steady) old asked answer new
-      → SeatGoes old new × (TellsTrouble (Some answer) → Stirs faults steady old new)
-  seat_step = any_step_causes (λ trouble. Unit {0}) (SeatMutates faults steady) (SeatPulls faults steady) (SeatRetires faults steady) SeatGoes (Stirs faults steady) goes_same goes_on (stirs_before faults steady)
-      (λ from m old new turn taken. turn_causes faults steady _ _ old turn new taken) (λ user request old new outcome taken. turn_causes faults steady _ _ old outcome new taken) (λ group old new outcome taken. turn_causes faults steady _ _ old outcome new taken)
+module _ {K : Type 0} (G : Ghosts K) where
+  seat_step : (old new : SeatView K) (asked : Asked) (answer : Answer) → Step (SeatMutates G) (SeatPulls G) (SeatRetires G) old asked answer new
+      → SeatGoes old new × (TellsTrouble (Some answer) → Stirs G old new)
+  seat_step = any_step_causes (λ trouble. Unit {0}) (SeatMutates G) (SeatPulls G) (SeatRetires G) SeatGoes (Stirs G) goes_same goes_on (stirs_before G)
+      (λ from m old new turn taken. turn_causes G _ _ old turn new taken) (λ user request old new outcome taken. turn_causes G _ _ old outcome new taken) (λ group old new outcome taken. turn_causes G _ _ old outcome new taken)
 
   seat_each : (Holds : Asked × Answer → Type 0) (last : SeatView K)
-      → ((old new : SeatView K) (turn : Asked × Answer) → Step (SeatMutates faults steady) (SeatPulls faults steady) (SeatRetires faults steady) old turn.0 turn.1 new → SeatGoes new last → Holds turn)
-      → (old : SeatView K) (turns : List (Asked × Answer)) → RunsTurns (SeatMutates faults steady) (SeatPulls faults steady) (SeatRetires faults steady) old turns last → AllByRecursion Holds turns
-  seat_each = turns_each (λ trouble. Unit {0}) (SeatMutates faults steady) (SeatPulls faults steady) (SeatRetires faults steady) SeatGoes (Stirs faults steady) goes_same goes_on (stirs_before faults steady)
-      (λ from m old new turn taken. turn_causes faults steady _ _ old turn new taken) (λ user request old new outcome taken. turn_causes faults steady _ _ old outcome new taken) (λ group old new outcome taken. turn_causes faults steady _ _ old outcome new taken)
+      → ((old new : SeatView K) (turn : Asked × Answer) → Step (SeatMutates G) (SeatPulls G) (SeatRetires G) old turn.0 turn.1 new → SeatGoes new last → Holds turn)
+      → (old : SeatView K) (turns : List (Asked × Answer)) → RunsTurns (SeatMutates G) (SeatPulls G) (SeatRetires G) old turns last → AllByRecursion Holds turns
+  seat_each = turns_each (λ trouble. Unit {0}) (SeatMutates G) (SeatPulls G) (SeatRetires G) SeatGoes (Stirs G) goes_same goes_on (stirs_before G)
+      (λ from m old new turn taken. turn_causes G _ _ old turn new taken) (λ user request old new outcome taken. turn_causes G _ _ old outcome new taken) (λ group old new outcome taken. turn_causes G _ _ old outcome new taken)
 
-  seat_later : (old new : SeatView K) (turns : List (Asked × Answer)) → RunsTurns (SeatMutates faults steady) (SeatPulls faults steady) (SeatRetires faults steady) old turns new → SeatGoes old new
-  seat_later = turns_later (λ trouble. Unit {0}) (SeatMutates faults steady) (SeatPulls faults steady) (SeatRetires faults steady) SeatGoes (Stirs faults steady) goes_same goes_on (stirs_before faults steady)
-      (λ from m old new turn taken. turn_causes faults steady _ _ old turn new taken) (λ user request old new outcome taken. turn_causes faults steady _ _ old outcome new taken) (λ group old new outcome taken. turn_causes faults steady _ _ old outcome new taken)
+  seat_later : (old new : SeatView K) (turns : List (Asked × Answer)) → RunsTurns (SeatMutates G) (SeatPulls G) (SeatRetires G) old turns new → SeatGoes old new
+  seat_later = turns_later (λ trouble. Unit {0}) (SeatMutates G) (SeatPulls G) (SeatRetires G) SeatGoes (Stirs G) goes_same goes_on (stirs_before G)
+      (λ from m old new turn taken. turn_causes G _ _ old turn new taken) (λ user request old new outcome taken. turn_causes G _ _ old outcome new taken) (λ group old new outcome taken. turn_causes G _ _ old outcome new taken)
 
   -- ---- A pull.
 
-  shown_pull : PullsShow → (book : Book) (old new : SeatView K) (user : List ℕ) (request : PullRequest) (reply : PullReply) (outcome : PullAnswer) → StartsWith book new.seen → outcome ≡ pulls.Pulled reply → SeatPulls faults steady old user request outcome new
+  shown_pull : PullsShow → (book : Book) (old new : SeatView K) (user : List ℕ) (request : PullRequest) (reply : PullReply) (outcome : PullAnswer) → StartsWith book new.seen → outcome ≡ pulls.Pulled reply → SeatPulls G old user request outcome new
       → IsShownIn book (Ok (Pull user request)) reply
   shown_pull show book old new user request reply outcome within is taken =
-      let here : SeatPulls faults steady old user request (pulls.Pulled reply) new = subst (λ (o : PullAnswer). SeatPulls faults steady old user request o new) is taken in
+      let here : SeatPulls G old user request (pulls.Pulled reply) new = subst (λ (o : PullAnswer). SeatPulls G old user request o new) is taken in
       let p = here.turn in record {
         point = settled_book p;
         new = last_book p;
@@ -148,7 +156,7 @@ module _ {K : Type 0} (faults : K → ℕ) (steady : K → Type 0) where
         within = subst (λ (b : Book). StartsWith book b) here.seen within;
       }
 
-  shown_step : PullsShow → (book : Book) (old new : SeatView K) (asked : Asked) (reply : PullReply) → StartsWith book new.seen → Step (SeatMutates faults steady) (SeatPulls faults steady) (SeatRetires faults steady) old asked (Pulled reply) new → IsShownIn book asked reply
+  shown_step : PullsShow → (book : Book) (old new : SeatView K) (asked : Asked) (reply : PullReply) → StartsWith book new.seen → Step (SeatMutates G) (SeatPulls G) (SeatRetires G) old asked (Pulled reply) new → IsShownIn book asked reply
   shown_step show book old new (Ok (Push user push)) reply within (acted, inl wants) = absurd (let no = wants.0 in cc)
   shown_step show book old new (Ok (Push user push)) reply within (acted, inr (refused, h, is)) = absurd (no_push reply refused is)
   shown_step show book old new (Ok (Pull user pull)) reply within (acted, inl wants) = absurd (let no = wants.0 in cc)
@@ -157,7 +165,7 @@ module _ {K : Type 0} (faults : K → ℕ) (steady : K → Type 0) where
   shown_step show book old new (Err fault) reply within (acted, inl wants) = absurd (let no = wants.0 in cc)
   shown_step show book old new (Err fault) reply within (acted, inr told) = absurd (let no = told.0 in cc)
 
-  shows_in : PullsShow → (book : Book) (old new : SeatView K) (asked : Asked) (answer : Answer) → StartsWith book new.seen → Step (SeatMutates faults steady) (SeatPulls faults steady) (SeatRetires faults steady) old asked answer new → ShowsIn book (asked, answer)
+  shows_in : PullsShow → (book : Book) (old new : SeatView K) (asked : Asked) (answer : Answer) → StartsWith book new.seen → Step (SeatMutates G) (SeatPulls G) (SeatRetires G) old asked answer new → ShowsIn book (asked, answer)
   shows_in show book old new asked (Pulled reply) within step = shown_step show book old new asked reply within step
   shows_in show book old new asked Pushed within step = tt
   shows_in show book old new asked (Retired place) within step = tt
@@ -165,59 +173,59 @@ module _ {K : Type 0} (faults : K → ℕ) (steady : K → Type 0) where
 
 -- ---- All that is served.
 
-module _ {K L I O : Type 0} (faults : K → ℕ) (kept_tells steady : K → Type 0) (accounts : AccountsServed) (input : I → InputState) (output : O → OutputState) (input_steady : I → Type 0) (output_steady : O → Type 0)
+module _ {K L I O : Type 0} (G : Ghosts K) (accounts : AccountsServed) (input : I → InputState) (output : O → OutputState) (input_steady : I → Type 0) (output_steady : O → Type 0)
     (tells : L → Type 0) (to_come came_back : L → List (Conn I O)) (out ends : L → ℕ) where
   abbrev Is : SeatView K → L → SeatView K → L → Type 0
-  Is = Serves faults kept_tells steady accounts input output input_steady output_steady tells to_come came_back out ends
+  Is = Serves G accounts input output input_steady output_steady tells to_come came_back out ends
 
   abbrev turns_in : (first : SeatView K) (givens : List L) (lasts : List (SeatView K)) (backs : List L) → EachServes Is first givens lasts backs → List (Asked × Answer)
-  turns_in = turns_served faults kept_tells steady accounts input output input_steady output_steady tells to_come came_back out ends
+  turns_in = turns_served G accounts input output input_steady output_steady tells to_come came_back out ends
 
   -- what holds of each turn of a seat whose last view is known to be good
   served_each : (Good : SeatView K → Type 0) (Holds : Asked × Answer → Type 0)
       → (first : SeatView K)
-      → ((last old new : SeatView K) (turn : Asked × Answer) → Good last → last.opened ≡ first.opened → Step (SeatMutates faults steady) (SeatPulls faults steady) (SeatRetires faults steady) old turn.0 turn.1 new → SeatGoes new last → Holds turn)
+      → ((last old new : SeatView K) (turn : Asked × Answer) → Good last → last.opened ≡ first.opened → Step (SeatMutates G) (SeatPulls G) (SeatRetires G) old turn.0 turn.1 new → SeatGoes new last → Holds turn)
       → (givens : List L) (lasts : List (SeatView K)) (backs : List L) (each : EachServes Is first givens lasts backs) → AllByRecursion Good lasts → AllByRecursion Holds (turns_in first givens lasts backs each)
   served_each Good Holds first holds (given ∷ givens) (last ∷ lasts) (back ∷ backs) (is, each) (good, goods) =
-      let run = conns_run (SeatMutates faults steady) (SeatPulls faults steady) (SeatRetires faults steady) input output input_steady output_steady accounts first last is.serves.conns is.serves.serves in
+      let run = conns_run (SeatMutates G) (SeatPulls G) (SeatRetires G) input output input_steady output_steady accounts first last is.serves.conns is.serves.serves in
       all_both Holds (turns_of accounts (flat_map (λ conn. conn.answers) is.serves.conns)) (turns_in first givens lasts backs each)
-      (seat_each faults steady Holds last (λ old new turn step goes. holds last old new turn good (seat_later faults steady first last (turns_of accounts (flat_map (λ conn. conn.answers) is.serves.conns)) run).opened step goes) first (turns_of accounts (flat_map (λ conn. conn.answers) is.serves.conns)) run)
+      (seat_each G Holds last (λ old new turn step goes. holds last old new turn good (seat_later G first last (turns_of accounts (flat_map (λ conn. conn.answers) is.serves.conns)) run).opened step goes) first (turns_of accounts (flat_map (λ conn. conn.answers) is.serves.conns)) run)
       (served_each Good Holds first holds givens lasts backs each goods)
   served_each Good Holds first holds [] lasts backs each goods = tt
   served_each Good Holds first holds (given ∷ givens) [] backs each goods = tt
   served_each Good Holds first holds (given ∷ givens) (last ∷ lasts) [] each goods = tt
 
-  pub turns_stand : TurnsStand faults kept_tells steady accounts input output input_steady output_steady tells to_come came_back out ends
+  pub turns_stand : TurnsStand G accounts input output input_steady output_steady tells to_come came_back out ends
   turns_stand opened now givens backs together =
-      served_each (λ v. StartsWith now.book v.seen) (StandsIn faults steady now.book) (newcomer 1 opened)
+      served_each (λ v. StartsWith now.book v.seen) (StandsIn G now.book) (newcomer 1 opened)
       (λ last old new turn within room step goes. record {
         old = old;
         new = new;
         step = step;
-        grows = (seat_step faults steady old new turn.0 turn.1 step).0.seen;
+        grows = (seat_step G old new turn.0 turn.1 step).0.seen;
         within = starts_on now.book last.seen new.seen within goes.seen;
       })
       givens together.views backs together.serves together.closes.seen
 
-  pub pulls_are_shown : PullsShow → ServedPullsAreShown faults kept_tells steady accounts input output input_steady output_steady tells to_come came_back out ends
+  pub pulls_are_shown : PullsShow → ServedPullsAreShown G accounts input output input_steady output_steady tells to_come came_back out ends
   pulls_are_shown show opened now givens backs together =
       served_each (λ v. StartsWith now.book v.seen) (ShowsIn now.book) (newcomer 1 opened)
-      (λ last old new turn within room step goes. shows_in faults steady show now.book old new turn.0 turn.1 (starts_on now.book last.seen new.seen within goes.seen) step)
+      (λ last old new turn within room step goes. shows_in G show now.book old new turn.0 turn.1 (starts_on now.book last.seen new.seen within goes.seen) step)
       givens together.views backs together.serves together.closes.seen
 
-  pub troubles_have_causes : ServedTroublesHaveCauses faults kept_tells steady accounts input output input_steady output_steady tells to_come came_back out ends
+  pub troubles_have_causes : ServedTroublesHaveCauses G accounts input output input_steady output_steady tells to_come came_back out ends
   troubles_have_causes opened now givens backs together =
-      served_each (λ v. AllByRecursion (λ (count : ℕ). count ≤ faults now.keeper) v.after) (λ turn. ((faults now.keeper ≡ faults opened.keeper) × (faults opened.keeper < 2 ^ 64 - 1)) ⊎ steady opened.keeper → TellsTrouble (Some turn.1) → ⊥) (newcomer 1 opened)
-      (λ last old new turn counts room step goes calm told.
-      let (here, stirs) = seat_step faults steady old new turn.0 turn.1 step in
+      served_each (λ v. FollowsAll G v.after now.keeper) (λ turn. ((G.faults now.keeper ≡ G.faults opened.keeper) × (G.faults opened.keeper < 2 ^ 64 - 1)) ⊎ G.fails_no_more opened.keeper → TellsTrouble (Some turn.1) → ⊥) (newcomer 1 opened)
+      (λ last old new turn follows room step goes calm told.
+      let (here, stirs) = seat_step G old new turn.0 turn.1 step in
       stirs told opened (sym here.opened ∙ (sym goes.opened ∙ room))
       (⊎_elim
-      (λ (same : (faults now.keeper ≡ faults opened.keeper) × (faults opened.keeper < 2 ^ 64 - 1)). inl (quiet_before (faults opened.keeper) new last goes (subst (λ (n : ℕ). AllByRecursion (λ (count : ℕ). count ≤ n) last.after) same.0 counts), same.1))
-      (λ (s : steady opened.keeper). inr s)
+      (λ (same : (G.faults now.keeper ≡ G.faults opened.keeper) × (G.faults opened.keeper < 2 ^ 64 - 1)). inl (quiet_before G (G.faults opened.keeper) new last goes (quiet_last G now.keeper (G.faults opened.keeper) same.0 last.after follows), same.1))
+      (λ (s : G.fails_no_more opened.keeper). inr s)
       calm))
       givens together.views backs together.serves together.closes.after
 
-  pub books_are_lawful : IdsCountUp → OrdersRise → ServedBooksAreLawful faults kept_tells steady accounts input output input_steady output_steady tells to_come came_back out ends
+  pub books_are_lawful : IdsCountUp → OrdersRise → ServedBooksAreLawful G accounts input output input_steady output_steady tells to_come came_back out ends
   books_are_lawful ids orders opened now givens backs together sound = record {
     sound = sound;
     more = λ told. together.closes.begun;

@@ -1,11 +1,12 @@
 -- From the accounts, the desk of a store, a net that it served and the keeper that went back, to what `serve` promises.
-use Rattle.std.proofs.Common.{◌≡◌, ◌≢◌, ◌⊎◌, ⊎_elim, ℕ, suc, ◌-◌, ◌^◌, List, [], ◌∷◌, ◌++◌, length, length-append, Result, Ok, Err, refl, sym, ap, ◌∙◌, subst, arith, inl, inr}
+use Rattle.std.proofs.Common.{◌≡◌, ◌≢◌, ◌⊎◌, ⊎_elim, ℕ, List, [], ◌∷◌, length, Result, Ok, Err, refl, sym, ap, ◌∙◌, subst, arith, inl, inr}
 use Rattle.rv_base.specs.Causes.{Rose}
-use Rattle.rv_base.specs.Outside.{InputState, OutputState}
+use Rattle.rv_base.specs.Outside.{OutputState}
 use Rattle.rv_accounts.specs.File.{Served as AccountsServed}
 use Rattle.rv_history.specs.Served.{IsSound}
 use Rattle.rv_net.specs.declared.net_fault.NetFault.{NetFault}
 use Rattle.rv_net.specs.declared.net_fault.NetFault.TheVariants as nets
+use Rattle.rv_keeper.specs.declared.keeper.Keeper.{Ghosts}
 use Rattle.rv_keeper.specs.declared.loaded.Loaded.{Loaded}
 use Rattle.rv_keeper.specs.Stores.{OpensAs}
 use Rattle.rv_desk.specs.Seated.{Seated, HoldsBook, served}
@@ -24,7 +25,6 @@ use Rattle.rv_cli.specs.Headline.{Begins, IsLeftAs, IsNotOpened, Leaves, WritesO
 use Rattle.rv_cli.specs.Serving.{FileSays, HasNoAccounts, HasNoNet, HasNoStore, HasRefused, HasServed, IsNoNet, NetServes, RunsServe, TellsEntries}
 use Rattle.rv_cli.specs.ServingSteps.{AccountsRead, NetServed, TellsCount, TellsServed, count_text}
 use Rattle.rv_cli.specs.Storing.{HasOpened}
-use Rattle.rv_cli.specs.Feeding.{IsLeftWith}
 use Rattle.rv_cli.proofs.Sound.{refused_sound}
 use Rattle.rv_cli.proofs.Storing.{WentBack, begins, leaves}
 
@@ -151,10 +151,10 @@ each_back Serves first [] (last ∷ lasts) backs never = absurd never
 each_back Serves first (given ∷ givens) [] backs never = absurd never
 each_back Serves first (given ∷ givens) (last ∷ lasts) [] never = absurd never
 
-pub all_back : {K L : Type 0} (kept_faults : K → ℕ) (follows : K → K → Type 0) (Serves : SeatView K → L → SeatView K → L → Type 0) (opened desk : Seated K) (givens backs : List L) (result : Result (Unit {0}) MemoryFault)
-    → MatchResult result (λ done. ServesTogether kept_faults follows Serves opened givens desk backs) (λ refused. (desk ≡ opened) × (backs ≡ givens)) → length backs ≡ length givens
-all_back kept_faults follows Serves opened desk givens backs (Ok done) together = each_back Serves (newcomer 1 opened) givens together.views backs together.serves
-all_back kept_faults follows Serves opened desk givens backs (Err refused) (same, is) = ap length is
+pub all_back : {K L : Type 0} (G : Ghosts K) (Serves : SeatView K → L → SeatView K → L → Type 0) (opened desk : Seated K) (givens backs : List L) (result : Result (Unit {0}) MemoryFault)
+    → MatchResult result (λ done. ServesTogether G Serves opened givens desk backs) (λ refused. (desk ≡ opened) × (backs ≡ givens)) → length backs ≡ length givens
+all_back G Serves opened desk givens backs (Ok done) together = each_back Serves (newcomer 1 opened) givens together.views backs together.serves
+all_back G Serves opened desk givens backs (Err refused) (same, is) = ap length is
 
 -- where the desk's keeper tells at the end, it told at the beginning
 pub net_before : {L K : Type 0} (Told : Type 0) (kept_tells : K → Type 0) (tells : L → Type 0) (Serves : List L → List L → Type 0) (workers : ℕ) (to_give left came_back back : List L) (before after : ℕ) (old new : Seated K) (result : Result (Unit {0}) NetFault)

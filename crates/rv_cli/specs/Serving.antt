@@ -4,9 +4,9 @@ use Rattle.std.specs.Prelude.{ℕ, ◌≡◌, ◌-◌, ◌^◌, ◌<◌, ◌⊎�
 use Rattle.std.specs.List.{flat_map, AllByRecursion}
 use Rattle.std.specs.Io.KnownBytes.{Appends}
 use Rattle.rv_base.specs.Causes.{Rose}
-use Rattle.rv_base.specs.Outside.{InputState, OutputState, counted}
+use Rattle.rv_base.specs.Outside.{InputState, OutputState}
 use Rattle.rv_base.specs.Writes.{AppendsFront}
-use Rattle.rv_keeper.specs.Keeping.{Follows}
+use Rattle.rv_keeper.specs.declared.keeper.Keeper.{Ghosts}
 use Rattle.rv_keeper.specs.declared.loaded.Loaded.{Loaded}
 use Rattle.rv_accounts.specs.File.{Served as AccountsServed, file_in}
 use Rattle.rv_accounts.specs.declared.fault.AccountsFault.{AccountsFault}
@@ -138,10 +138,10 @@ module _ {K : Type 0} (kept_faults : K → ℕ) (Told : Type 0) (HasFile : List 
 
 -- A turn of a seat that is closed: what was asked, with its answer. The seat's book as the turn began is a front of its book as the turn
 -- ended, and that one is a front of the book at the end.
-pub record StandsIn {K : Type 0} (faults : K → ℕ) (steady : K → Type 0) (book : Book) (turn : Asked × Answer) : Type 0 where
+pub record StandsIn {K : Type 0} (G : Ghosts K) (book : Book) (turn : Asked × Answer) : Type 0 where
   pub old : SeatView K
   pub new : SeatView K
-  pub step : Step (SeatMutates faults steady) (SeatPulls faults steady) (SeatRetires faults steady) old turn.0 turn.1 new
+  pub step : Step (SeatMutates G) (SeatPulls G) (SeatRetires G) old turn.0 turn.1 new
   pub grows : StartsWith new.seen old.seen
   pub within : StartsWith book new.seen
 
@@ -158,11 +158,11 @@ abbrev pub ShowsIn : Book → Asked × Answer → Type 0
 ShowsIn book (asked, Pulled reply) = IsShownIn book asked reply
 ShowsIn book (asked, answer) = Unit {0}
 
-module _ {K L I O : Type 0} (faults : K → ℕ) (kept_tells steady : K → Type 0) (accounts : AccountsServed) (input : I → InputState) (output : O → OutputState) (input_steady : I → Type 0) (output_steady : O → Type 0)
+module _ {K L I O : Type 0} (G : Ghosts K) (accounts : AccountsServed) (input : I → InputState) (output : O → OutputState) (input_steady : I → Type 0) (output_steady : O → Type 0)
     (tells : L → Type 0) (to_come came_back : L → List (Conn I O)) (out ends : L → ℕ) where
   -- a listener is served, by its seat
   abbrev pub Serves : SeatView K → L → SeatView K → L → Type 0
-  Serves first given last back = IsServed faults steady accounts input output input_steady output_steady tells to_come came_back out ends first given last back
+  Serves first given last back = IsServed G accounts input output input_steady output_steady tells to_come came_back out ends first given last back
 
   -- All that was asked over the connections of the listeners, with its answers, listener by listener.
   abbrev pub turns_served : (first : SeatView K) (givens : List L) (lasts : List (SeatView K)) (backs : List L) → EachServes Serves first givens lasts backs → List (Asked × Answer)
@@ -173,12 +173,12 @@ module _ {K L I O : Type 0} (faults : K → ℕ) (kept_tells steady : K → Type
 
   -- something holds of all that was asked, where the desk was opened as the first and closed as the last
   abbrev pub OfAllServed : (Seated K → Seated K → Asked × Answer → Type 0) → Type 0
-  OfAllServed Holds = (opened now : Seated K) (givens backs : List L) (together : ServesTogether faults (Follows faults kept_tells steady) Serves opened givens now backs)
+  OfAllServed Holds = (opened now : Seated K) (givens backs : List L) (together : ServesTogether G Serves opened givens now backs)
       → AllByRecursion (Holds opened now) (turns_served (newcomer 1 opened) givens together.views backs together.serves)
 
   -- Each turn stands in the book at the end.
   abbrev pub TurnsStand : Type 0
-  TurnsStand = OfAllServed (λ opened now turn. StandsIn faults steady now.book turn)
+  TurnsStand = OfAllServed (λ opened now turn. StandsIn G now.book turn)
 
   -- The patch of each pull, applied to the view that its cookie names, gives exactly what the user sees at that point of the book.
   abbrev pub ServedPullsAreShown : Type 0
@@ -186,9 +186,9 @@ module _ {K L I O : Type 0} (faults : K → ℕ) (kept_tells steady : K → Type
 
   -- Where no fault of what keeps the book rose, and where it failed no more from the beginning on, no answer tells a trouble with it.
   abbrev pub ServedTroublesHaveCauses : Type 0
-  ServedTroublesHaveCauses = OfAllServed (λ opened now turn. ((faults now.keeper ≡ faults opened.keeper) × (faults opened.keeper < 2 ^ 64 - 1)) ⊎ steady opened.keeper → TellsTrouble (Some turn.1) → ⊥)
+  ServedTroublesHaveCauses = OfAllServed (λ opened now turn. ((G.faults now.keeper ≡ G.faults opened.keeper) × (G.faults opened.keeper < 2 ^ 64 - 1)) ⊎ G.fails_no_more opened.keeper → TellsTrouble (Some turn.1) → ⊥)
 
   -- The book at the end begins with the first, each client's acts in it have the ids 1, 2, 3 and so on, and the orders of each group's
   -- looks rise.
   abbrev pub ServedBooksAreLawful : Type 0
-  ServedBooksAreLawful = (opened now : Seated K) (givens backs : List L) → ServesTogether faults (Follows faults kept_tells steady) Serves opened givens now backs → IsSound (served faults now) → IsLawfulRun (Unit {0}) (served faults opened) (served faults now)
+  ServedBooksAreLawful = (opened now : Seated K) (givens backs : List L) → ServesTogether G Serves opened givens now backs → IsSound (served G.faults now) → IsLawfulRun (Unit {0}) (served G.faults opened) (served G.faults now)

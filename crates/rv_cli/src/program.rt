@@ -4,7 +4,6 @@ ghost use Rattle.rv_base.specs.Causes.{Rose};
 ghost use Rattle.rv_words.specs.Words.{command_in};
 ghost use Rattle.rv_words.specs.declared.command.Command.TheVariants as commands;
 ghost use Rattle.rv_words.specs.declared.serve_options.ServeOptions.{ServeOptions};
-ghost use Rattle.rv_keeper.specs.Keeping.{Follows};
 ghost use Rattle.rv_keeper.specs.Stores.{OpensAs, OthersStay};
 ghost use Rattle.rv_answering.specs.declared.request.Request.TheVariants.{Retire};
 ghost use Rattle.rv_cli.specs.Texts.{usage_text, status_of, status_text};
@@ -189,8 +188,8 @@ where
     ensures serve { (store : List ℕ) (options : ServeOptions) → command_in (map string_bytes words.now) ≡ Some (commands.Serve store options)
         → RunsServe P.Kept.faults (P.tells place.new) (P.accounts place.old options.accounts) (P.holds place.old store) (OpensAs store (P.holds place.old store)) (P.holds place.new store) (P.faults place.old) (P.faults place.new)
         (λ accounts first now. NetServes (N.tells net.new) N.Listen.tells
-        (λ given returned. ServesTogether P.Kept.faults (Follows P.Kept.faults P.Kept.tells P.Kept.fails_no_more)
-        (λ view listener view' listener'. IsServed P.Kept.faults P.Kept.fails_no_more accounts N.Listen.In.state N.Listen.Out.state N.Listen.In.fails_no_more N.Listen.Out.fails_no_more N.Listen.tells N.Listen.to_come N.Listen.came_back N.Listen.out N.Listen.ends view listener view' listener')
+        (λ given returned. ServesTogether P.Kept.Keeper
+        (λ view listener view' listener'. IsServed P.Kept.Keeper accounts N.Listen.In.state N.Listen.Out.state N.Listen.In.fails_no_more N.Listen.Out.fails_no_more N.Listen.tells N.Listen.to_come N.Listen.came_back N.Listen.out N.Listen.ends view listener view' listener')
         first given now returned)
         options.workers (N.to_give net.old) (N.to_give net.new) (N.came_back net.old) (N.came_back net.new))
         (N.faults net.old) (N.faults net.new) (O.state out.old) (O.state out.new) result

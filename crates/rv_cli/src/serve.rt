@@ -1,7 +1,6 @@
 // The command `serve`: the accounts are read, the store is opened, and its desk serves the connections of a net.
 ghost use Rattle.std.specs.Prelude.{◌≡◌, ◌≢◌, ◌≤◌, ◌⊎◌, Err, None, Some, IfErr, length};
 ghost use Rattle.rv_base.specs.Causes.{Rose};
-ghost use Rattle.rv_keeper.specs.Keeping.{Follows};
 ghost use Rattle.rv_keeper.specs.Stores.{OpensAs, OthersStay, Stays};
 ghost use Rattle.rv_net.specs.declared.net_fault.NetFault.TheVariants as nets;
 ghost use Rattle.rv_cli.specs.Headline.{KeptSound, WritesOnly};
@@ -67,8 +66,8 @@ where
     <N::Listen as Listen>::Out: Send,
     requires { desk.doubt ≡ None }
     ensures serves { NetServed (N.tells net.new) K.tells N.Listen.tells
-        (λ given returned. ServesTogether K.faults (Follows K.faults K.tells K.fails_no_more)
-        (λ view listener view' listener'. IsServed K.faults K.fails_no_more accounts.now N.Listen.In.state N.Listen.Out.state N.Listen.In.fails_no_more N.Listen.Out.fails_no_more N.Listen.tells N.Listen.to_come N.Listen.came_back N.Listen.out N.Listen.ends view listener view' listener')
+        (λ given returned. ServesTogether K.Keeper
+        (λ view listener view' listener'. IsServed K.Keeper accounts.now N.Listen.In.state N.Listen.Out.state N.Listen.In.fails_no_more N.Listen.Out.fails_no_more N.Listen.tells N.Listen.to_come N.Listen.came_back N.Listen.out N.Listen.ends view listener view' listener')
         desk given result.1 returned)
         options.now.workers (N.to_give net.old) (N.to_give net.new) (N.came_back net.old) (N.came_back net.new) (N.faults net.old) (N.faults net.new) desk result.1 result.0 }
     ensures unserved { IfErr result.0 (λ fault. N.tells net.new → Unserved (N.to_give net.old) (N.to_give net.new) (N.came_back net.old) (N.came_back net.new)) }
@@ -139,8 +138,8 @@ where
     <N::Listen as Listen>::Out: Send,
     ensures serve { RunsServe P.Kept.faults (P.tells place.new) (P.accounts place.old options.now.accounts) (P.holds place.old store.now) (OpensAs store.now (P.holds place.old store.now)) (P.holds place.new store.now) (P.faults place.old) (P.faults place.new)
         (λ accounts first now. NetServes (N.tells net.new) N.Listen.tells
-        (λ given returned. ServesTogether P.Kept.faults (Follows P.Kept.faults P.Kept.tells P.Kept.fails_no_more)
-        (λ view listener view' listener'. IsServed P.Kept.faults P.Kept.fails_no_more accounts N.Listen.In.state N.Listen.Out.state N.Listen.In.fails_no_more N.Listen.Out.fails_no_more N.Listen.tells N.Listen.to_come N.Listen.came_back N.Listen.out N.Listen.ends view listener view' listener')
+        (λ given returned. ServesTogether P.Kept.Keeper
+        (λ view listener view' listener'. IsServed P.Kept.Keeper accounts N.Listen.In.state N.Listen.Out.state N.Listen.In.fails_no_more N.Listen.Out.fails_no_more N.Listen.tells N.Listen.to_come N.Listen.came_back N.Listen.out N.Listen.ends view listener view' listener')
         first given now returned)
         options.now.workers (N.to_give net.old) (N.to_give net.new) (N.came_back net.old) (N.came_back net.new))
         (N.faults net.old) (N.faults net.new) (O.state out.old) (O.state out.new) result }
@@ -186,8 +185,8 @@ where
     // and the store keeps the book that they leave.
     ensures serve { RunsServe P.Kept.faults (P.tells place.new) (P.accounts place.old options.now.accounts) (P.holds place.old store.now) (OpensAs store.now (P.holds place.old store.now)) (P.holds place.new store.now) (P.faults place.old) (P.faults place.new)
         (λ accounts first now. NetServes (N.tells net.new) N.Listen.tells
-        (λ given returned. ServesTogether P.Kept.faults (Follows P.Kept.faults P.Kept.tells P.Kept.fails_no_more)
-        (λ view listener view' listener'. IsServed P.Kept.faults P.Kept.fails_no_more accounts N.Listen.In.state N.Listen.Out.state N.Listen.In.fails_no_more N.Listen.Out.fails_no_more N.Listen.tells N.Listen.to_come N.Listen.came_back N.Listen.out N.Listen.ends view listener view' listener')
+        (λ given returned. ServesTogether P.Kept.Keeper
+        (λ view listener view' listener'. IsServed P.Kept.Keeper accounts N.Listen.In.state N.Listen.Out.state N.Listen.In.fails_no_more N.Listen.Out.fails_no_more N.Listen.tells N.Listen.to_come N.Listen.came_back N.Listen.out N.Listen.ends view listener view' listener')
         first given now returned)
         options.now.workers (N.to_give net.old) (N.to_give net.new) (N.came_back net.old) (N.came_back net.new))
         (N.faults net.old) (N.faults net.new) (O.state out.old) (O.state out.new) result }

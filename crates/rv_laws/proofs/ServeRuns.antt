@@ -3,6 +3,7 @@ use Rattle.std.proofs.Common.{◌≡◌, ℕ, ◌-◌, ◌^◌, ◌<◌, ◌≤�
 use Rattle.std.specs.List.{AllByRecursion}
 use Rattle.rv_base.specs.Outside.{InputState, OutputState}
 use Rattle.rv_accounts.specs.File.{Served as AccountsServed}
+use Rattle.rv_keeper.specs.declared.keeper.Keeper.{Ghosts}
 use Rattle.rv_keeper.specs.declared.loaded.Loaded.{Loaded}
 use Rattle.rv_keeper.specs.Stores.{OpensAs}
 use Rattle.rv_book.specs.Book.{size}
@@ -53,9 +54,9 @@ no_net before after ending why of = absurd why
 -- ---- The run.
 
 module _ {P N K L I O : Type 0} (tells : P → Type 0) (files : P → List ℕ → List ℕ → Type 0) (holds : P → List ℕ → Loaded → Type 0) (place_faults : P → ℕ)
-    (net_tells : N → Type 0) (to_give given_back : N → List L) (net_faults : N → ℕ) (faults : K → ℕ) (kept_tells steady : K → Type 0)
+    (net_tells : N → Type 0) (to_give given_back : N → List L) (net_faults : N → ℕ) (G : Ghosts K)
     (input : I → InputState) (output : O → OutputState) (input_steady : I → Type 0) (output_steady : O → Type 0) (listener_tells : L → Type 0) (to_come came_back : L → List (Conn I O)) (out ends : L → ℕ) where
-  pub serves_are_runs : ServesAreRuns tells files holds place_faults net_tells to_give given_back net_faults faults kept_tells steady input output input_steady output_steady listener_tells to_come came_back out ends
+  pub serves_are_runs : ServesAreRuns tells files holds place_faults net_tells to_give given_back net_faults G input output input_steady output_steady listener_tells to_come came_back out ends
   serves_are_runs old new net net' store options output output' status (ending, is, inl refused) at =
       absurd (no_accounts (tells new) (files old options.accounts) (place_faults old) (place_faults new) ending refused.why (subst (λ (n : ℕ). IsOf n) is at))
   serves_are_runs old new net net' store options output output' status (ending, is, inr (inl closed)) at =
@@ -79,27 +80,27 @@ module _ {P N K L I O : Type 0} (tells : P → Type 0) (files : P → List ℕ �
         last = net.last;
       }
 
-  pub books_are_lawful : ((accounts : AccountsServed) → ServedBooksAreLawful faults kept_tells steady accounts input output input_steady output_steady listener_tells to_come came_back out ends)
-      → ServeBooksAreLawful tells files holds place_faults net_tells to_give given_back net_faults faults kept_tells steady input output input_steady output_steady listener_tells to_come came_back out ends
+  pub books_are_lawful : ((accounts : AccountsServed) → ServedBooksAreLawful G accounts input output input_steady output_steady listener_tells to_come came_back out ends)
+      → ServeBooksAreLawful tells files holds place_faults net_tells to_give given_back net_faults G input output input_steady output_steady listener_tells to_come came_back out ends
   books_are_lawful law old new net net' store options run = law run.accounts run.opened run.now run.givens run.backs run.together run.sound
 
-  pub pulls_are_shown : ((accounts : AccountsServed) → ServedPullsAreShown faults kept_tells steady accounts input output input_steady output_steady listener_tells to_come came_back out ends)
-      → ServePullsAreShown tells files holds place_faults net_tells to_give given_back net_faults faults kept_tells steady input output input_steady output_steady listener_tells to_come came_back out ends
+  pub pulls_are_shown : ((accounts : AccountsServed) → ServedPullsAreShown G accounts input output input_steady output_steady listener_tells to_come came_back out ends)
+      → ServePullsAreShown tells files holds place_faults net_tells to_give given_back net_faults G input output input_steady output_steady listener_tells to_come came_back out ends
   pulls_are_shown law old new net net' store options run = law run.accounts run.opened run.now run.givens run.backs run.together
 
-  pub troubles_have_causes : ((accounts : AccountsServed) → ServedTroublesHaveCauses faults kept_tells steady accounts input output input_steady output_steady listener_tells to_come came_back out ends)
-      → ServeTroublesHaveCauses tells files holds place_faults net_tells to_give given_back net_faults faults kept_tells steady input output input_steady output_steady listener_tells to_come came_back out ends
+  pub troubles_have_causes : ((accounts : AccountsServed) → ServedTroublesHaveCauses G accounts input output input_steady output_steady listener_tells to_come came_back out ends)
+      → ServeTroublesHaveCauses tells files holds place_faults net_tells to_give given_back net_faults G input output input_steady output_steady listener_tells to_come came_back out ends
   troubles_have_causes law old new net net' store options run stays below =
-      each_so (((faults run.now.keeper ≡ faults run.opened.keeper) × (faults run.opened.keeper < 2 ^ 64 - 1)) ⊎ steady run.opened.keeper) (λ turn. TellsTrouble (Some turn.1) → ⊥)
-      (all_turns tells files holds place_faults net_tells to_give given_back net_faults faults kept_tells steady input output input_steady output_steady listener_tells to_come came_back out ends old new net net' store options run) (inl ((no_fault run.leaves.kept (place_faults old) (place_faults new) (faults run.now.keeper) run.leaves.taken stays below run.leaves.later) ∙ sym run.begins.faults, omega (arith, run.begins.faults))) (law run.accounts run.opened run.now run.givens run.backs run.together)
+      each_so (((G.faults run.now.keeper ≡ G.faults run.opened.keeper) × (G.faults run.opened.keeper < 2 ^ 64 - 1)) ⊎ G.fails_no_more run.opened.keeper) (λ turn. TellsTrouble (Some turn.1) → ⊥)
+      (all_turns tells files holds place_faults net_tells to_give given_back net_faults G input output input_steady output_steady listener_tells to_come came_back out ends old new net net' store options run) (inl ((no_fault run.leaves.kept (place_faults old) (place_faults new) (G.faults run.now.keeper) run.leaves.taken stays below run.leaves.later) ∙ sym run.begins.faults, omega (arith, run.begins.faults))) (law run.accounts run.opened run.now run.givens run.backs run.together)
 
-  pub pushes_stand : ((accounts : AccountsServed) → ServedPushesStand faults kept_tells steady accounts input output input_steady output_steady listener_tells to_come came_back out ends)
-      → ServePushesStand tells files holds place_faults net_tells to_give given_back net_faults faults kept_tells steady input output input_steady output_steady listener_tells to_come came_back out ends
+  pub pushes_stand : ((accounts : AccountsServed) → ServedPushesStand G accounts input output input_steady output_steady listener_tells to_come came_back out ends)
+      → ServePushesStand tells files holds place_faults net_tells to_give given_back net_faults G input output input_steady output_steady listener_tells to_come came_back out ends
   pushes_stand law old new net net' store options run = law run.accounts run.opened run.now run.givens run.backs run.together run.sound
 
-  pub clients_follow : ((accounts : AccountsServed) → ServedBooksAreLawful faults kept_tells steady accounts input output input_steady output_steady listener_tells to_come came_back out ends)
-      → ((accounts : AccountsServed) → ServedClientsFollow faults kept_tells steady accounts input output input_steady output_steady listener_tells to_come came_back out ends)
-      → ServeClientsFollow tells files holds place_faults net_tells to_give given_back net_faults faults kept_tells steady input output input_steady output_steady listener_tells to_come came_back out ends
+  pub clients_follow : ((accounts : AccountsServed) → ServedBooksAreLawful G accounts input output input_steady output_steady listener_tells to_come came_back out ends)
+      → ((accounts : AccountsServed) → ServedClientsFollow G accounts input output input_steady output_steady listener_tells to_come came_back out ends)
+      → ServeClientsFollow tells files holds place_faults net_tells to_give given_back net_faults G input output input_steady output_steady listener_tells to_come came_back out ends
   clients_follow lawful law old new net net' store options run =
       let kept = lawful run.accounts run.opened run.now run.givens run.backs run.together run.sound in
       let limit : run.now.limit ≡ 2 ^ 32 - 1 = kept.limit run.begins.limit in

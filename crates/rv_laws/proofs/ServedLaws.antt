@@ -26,6 +26,7 @@ use Rattle.rv_answering.specs.declared.request.Request.TheVariants.{Push, Pull}
 use Rattle.rv_answering.specs.Requests.{Asked}
 use Rattle.rv_answering.specs.Steps.{Step, pull_answer}
 use Rattle.rv_net.specs.declared.conn.Conn.{Conn}
+use Rattle.rv_keeper.specs.declared.keeper.Keeper.{Ghosts}
 use Rattle.rv_desk.specs.Seated.{Seated}
 use Rattle.rv_room.specs.declared.view.SeatView.{SeatView}
 use Rattle.rv_room.specs.Lists.{StartsWith}
@@ -68,14 +69,14 @@ went_on : {S : Type 0} (mutates : S → Sender → Mutation → Turn → S → T
 went_on mutates from ms mid new later None goes = (refl, goes)
 went_on mutates from ms mid new later (Some why) (is, none, same) = absurd (cc)
 
-module _ {K : Type 0} (faults : K → ℕ) (steady : K → Type 0) (book : Book) (lawful : IsLawful book) (stand : MutationsStand) (from : Sender) where
+module _ {K : Type 0} (G : Ghosts K) (book : Book) (lawful : IsLawful book) (stand : MutationsStand) (from : Sender) where
   -- what a seat had seen is a front of what it has seen
-  turn_grows : (m : Mutation) (old new : SeatView K) (turn : Turn) → SeatMutates faults steady old from m turn new → StartsWith new.seen old.seen
+  turn_grows : (m : Mutation) (old new : SeatView K) (turn : Turn) → SeatMutates G old from m turn new → StartsWith new.seen old.seen
   turn_grows m old new turn taken =
       let p = taken.turn in
       starts_on new.seen p.history old.seen (p.came ++ p.made, taken.seen ∙ append_assoc p.history p.came p.made) taken.begins
 
-  turn_stands : (m : Mutation) (old new : SeatView K) (turn : Turn) → SeatMutates faults steady old from m turn new → refusal turn ≡ None → StartsWith book new.seen → 1 ≤ m.id → IsEntered from book m
+  turn_stands : (m : Mutation) (old new : SeatView K) (turn : Turn) → SeatMutates G old from m turn new → refusal turn ≡ None → StartsWith book new.seen → 1 ≤ m.id → IsEntered from book m
   turn_stands m old new turn taken none (more, is) first =
       let p = taken.turn in
       let at : TurnAs turn_trouble (Mutates taken.opened.limit from m) p turn None = subst (λ (found : Option Trouble). TurnAs turn_trouble (Mutates taken.opened.limit from m) p turn found) (no_trouble turn none) taken.is in
@@ -84,21 +85,21 @@ module _ {K : Type 0} (faults : K → ℕ) (steady : K → Type 0) (book : Book)
       let front : IsLawful (settled_book p) = lawful_front (settled_book p) (p.made ++ more) (subst (λ (b : Book). IsLawful b) split lawful) in
       entered_later from m (last_book p) more book whole (stand taken.opened.limit from m (settled_book p) (last_book p) turn at.1 none front first)
 
-  pushes_stand : (ms : List Mutation) (old new : SeatView K) (acted : Bool) → Pushes (SeatMutates faults steady) from ms old None acted new → StartsWith book new.seen
+  pushes_stand : (ms : List Mutation) (old new : SeatView K) (acted : Bool) → Pushes (SeatMutates G) from ms old None acted new → StartsWith book new.seen
       → StartsWith new.seen old.seen × AllByRecursion (λ m. 1 ≤ m.id → IsEntered from book m) ms
   pushes_stand [] old new acted (is, none, same) within = (subst (λ (v : SeatView K). StartsWith v.seen old.seen) (sym same) (starts_same old.seen), tt)
   pushes_stand (m ∷ ms) old new acted (turn, mid, later, taken, acts, rest) within =
-      let (none, goes) = went_on (SeatMutates faults steady) from ms mid new later (refusal turn) rest in
+      let (none, goes) = went_on (SeatMutates G) from ms mid new later (refusal turn) rest in
       let (grows, all) = pushes_stand ms mid new later goes within in
       let here : StartsWith book mid.seen = starts_on book new.seen mid.seen within grows in
       (starts_on new.seen mid.seen old.seen grows (turn_grows m old mid turn taken), (λ first. turn_stands m old mid turn taken none here first, all))
 
-step_stands : {K : Type 0} (faults : K → ℕ) (steady : K → Type 0) (book : Book) → IsLawful book → MutationsStand → (old new : SeatView K) (user : List ℕ) (push : pushes.Push)
-    → Step (SeatMutates faults steady) (SeatPulls faults steady) (SeatRetires faults steady) old (Ok (Push user push)) Pushed new → StartsWith book new.seen → AllStand user push book
-step_stands faults steady book lawful stand old new user push (acted, inl wants) within = absurd (let no = wants.0 in cc)
-step_stands faults steady book lawful stand old new user push (acted, inr (refused, pushed, is)) within =
+step_stands : {K : Type 0} (G : Ghosts K) (book : Book) → IsLawful book → MutationsStand → (old new : SeatView K) (user : List ℕ) (push : pushes.Push)
+    → Step (SeatMutates G) (SeatPulls G) (SeatRetires G) old (Ok (Push user push)) Pushed new → StartsWith book new.seen → AllStand user push book
+step_stands G book lawful stand old new user push (acted, inl wants) within = absurd (let no = wants.0 in cc)
+step_stands G book lawful stand old new user push (acted, inr (refused, pushed, is)) within =
     let from : Sender = record { user = user; group = push.group } in
-    (pushes_stand faults steady book lawful stand from push.mutations old new acted (subst (λ (r : Option ErrorBody). Pushes (SeatMutates faults steady) from push.mutations old r acted new) (went refused is) pushed) within).1
+    (pushes_stand G book lawful stand from push.mutations old new acted (subst (λ (r : Option ErrorBody). Pushes (SeatMutates G) from push.mutations old r acted new) (went refused is) pushed) within).1
 
 -- ---- A pull by a turn of a seat.
 
@@ -111,12 +112,12 @@ same_reply reply pulls.Keeper e = absurd (cc)
 same_reply reply (pulls.Changed kept found) e = absurd (cc)
 same_reply reply pulls.Memory e = absurd (cc)
 
-module _ {K : Type 0} (faults : K → ℕ) (steady : K → Type 0) (show : PullsShow) (book : Book) (user : List ℕ) where
-  step_served : (pull : ClientPull) (old new : SeatView K) → Step (SeatMutates faults steady) (SeatPulls faults steady) (SeatRetires faults steady) old (Ok (Pull user pull.request)) (Pulled pull.reply) new → StartsWith book new.seen
-      → IsServedPull faults steady book user pull
+module _ {K : Type 0} (G : Ghosts K) (show : PullsShow) (book : Book) (user : List ℕ) where
+  step_served : (pull : ClientPull) (old new : SeatView K) → Step (SeatMutates G) (SeatPulls G) (SeatRetires G) old (Ok (Pull user pull.request)) (Pulled pull.reply) new → StartsWith book new.seen
+      → IsServedPull G book user pull
   step_served pull old new (acted, inl wants) within = absurd (let no = wants.0 in cc)
   step_served pull old new (acted, inr (outcome, taken, is, none)) within =
-      let here : SeatPulls faults steady old user pull.request (pulls.Pulled pull.reply) new = subst (λ (o : PullAnswer). SeatPulls faults steady old user pull.request o new) (same_reply pull.reply outcome is) taken in
+      let here : SeatPulls G old user pull.request (pulls.Pulled pull.reply) new = subst (λ (o : PullAnswer). SeatPulls G old user pull.request o new) (same_reply pull.reply outcome is) taken in
       let p = here.turn in
       record {
         old = old;
@@ -128,38 +129,38 @@ module _ {K : Type 0} (faults : K → ℕ) (steady : K → Type 0) (show : Pulls
         within = within;
       }
 
-  abbrev was_told : (pull : ClientPull) → IsServedPull faults steady book user pull → WasTold user book pull
+  abbrev was_told : (pull : ClientPull) → IsServedPull G book user pull → WasTold user book pull
   was_told pull at = record { point = at.point; new = at.new.seen; tells = at.tells; within = at.within }
 
-  abbrev all_told : (pulls : List ClientPull) → AllByRecursion (IsServedPull faults steady book user) pulls → AllByRecursion (WasTold user book) pulls
+  abbrev all_told : (pulls : List ClientPull) → AllByRecursion (IsServedPull G book user) pulls → AllByRecursion (WasTold user book) pulls
   all_told [] served = tt
   all_told (pull ∷ pulls) (at, served) = (was_told pull at, all_told pulls served)
 
-  each_follows : (pulls : List ClientPull) (served : AllByRecursion (IsServedPull faults steady book user) pulls) → EachCurrent user book pulls (all_told pulls served) → AllByRecursion (FollowsIn faults steady book user) pulls
+  each_follows : (pulls : List ClientPull) (served : AllByRecursion (IsServedPull G book user) pulls) → EachCurrent user book pulls (all_told pulls served) → AllByRecursion (FollowsIn G book user) pulls
   each_follows [] served current = tt
   each_follows (pull ∷ pulls) (at, served) (current, rest) = (record { served = at; current = current }, each_follows pulls served rest)
 
   -- what each pull was answered by, among turns that stand in the book
-  all_served : (turns : List (Asked × Answer)) → AllByRecursion (StandsIn faults steady book) turns → (pulls : List ClientPull) → AllByRecursion (λ pull. Contains turns (Ok (Pull user pull.request), Pulled pull.reply)) pulls
-      → AllByRecursion (IsServedPull faults steady book user) pulls
+  all_served : (turns : List (Asked × Answer)) → AllByRecursion (StandsIn G book) turns → (pulls : List ClientPull) → AllByRecursion (λ pull. Contains turns (Ok (Pull user pull.request), Pulled pull.reply)) pulls
+      → AllByRecursion (IsServedPull G book user) pulls
   all_served turns stand [] there = tt
   all_served turns stand (pull ∷ pulls) (there, rest) =
-      let turn = all_at (StandsIn faults steady book) turns (Ok (Pull user pull.request), Pulled pull.reply) stand there in
+      let turn = all_at (StandsIn G book) turns (Ok (Pull user pull.request), Pulled pull.reply) stand there in
       (step_served pull turn.old turn.new turn.step turn.within, all_served turns stand pulls rest)
 
 -- ---- All that is served.
 
-module _ {K L I O : Type 0} (faults : K → ℕ) (kept_tells steady : K → Type 0) (accounts : AccountsServed) (input : I → InputState) (output : O → OutputState) (input_steady : I → Type 0) (output_steady : O → Type 0)
-    (tells : L → Type 0) (to_come came_back : L → List (Conn I O)) (out ends : L → ℕ) (turns_stand : TurnsStand faults kept_tells steady accounts input output input_steady output_steady tells to_come came_back out ends) where
-  abbrev turns : (opened : Seated K) (givens : List L) (now : Seated K) (backs : List L) → Together faults kept_tells steady accounts input output input_steady output_steady tells to_come came_back out ends opened givens now backs → List (Asked × Answer)
-  turns = turns_in faults kept_tells steady accounts input output input_steady output_steady tells to_come came_back out ends
+module _ {K L I O : Type 0} (G : Ghosts K) (accounts : AccountsServed) (input : I → InputState) (output : O → OutputState) (input_steady : I → Type 0) (output_steady : O → Type 0)
+    (tells : L → Type 0) (to_come came_back : L → List (Conn I O)) (out ends : L → ℕ) (turns_stand : TurnsStand G accounts input output input_steady output_steady tells to_come came_back out ends) where
+  abbrev turns : (opened : Seated K) (givens : List L) (now : Seated K) (backs : List L) → Together G accounts input output input_steady output_steady tells to_come came_back out ends opened givens now backs → List (Asked × Answer)
+  turns = turns_in G accounts input output input_steady output_steady tells to_come came_back out ends
 
-  pub served_pushes_stand : MutationsStand → ServedPushesStand faults kept_tells steady accounts input output input_steady output_steady tells to_come came_back out ends
+  pub served_pushes_stand : MutationsStand → ServedPushesStand G accounts input output input_steady output_steady tells to_come came_back out ends
   served_pushes_stand stand opened now givens backs together sound user push there =
-      let turn = all_at (StandsIn faults steady now.book) (turns opened givens now backs together) (Ok (Push user push), Pushed) (turns_stand opened now givens backs together) there in
-      step_stands faults steady now.book sound.lawful stand turn.old turn.new user push turn.step turn.within
+      let turn = all_at (StandsIn G now.book) (turns opened givens now backs together) (Ok (Push user push), Pushed) (turns_stand opened now givens backs together) there in
+      step_stands G now.book sound.lawful stand turn.old turn.new user push turn.step turn.within
 
-  pub served_clients_follow : PullsShow → ClientsFollow → ServedClientsFollow faults kept_tells steady accounts input output input_steady output_steady tells to_come came_back out ends
+  pub served_clients_follow : PullsShow → ClientsFollow → ServedClientsFollow G accounts input output input_steady output_steady tells to_come came_back out ends
   served_clients_follow show follow opened now givens backs together sound fits user pulls client there =
-      let served = all_served faults steady show now.book user (turns opened givens now backs together) (turns_stand opened now givens backs together) pulls there in
-      each_follows faults steady show now.book user pulls served (follow user now.book pulls fits client (all_told faults steady show now.book user pulls served))
+      let served = all_served G show now.book user (turns opened givens now backs together) (turns_stand opened now givens backs together) pulls there in
+      each_follows G show now.book user pulls served (follow user now.book pulls fits client (all_told G show now.book user pulls served))

@@ -5,7 +5,7 @@ use Rattle.rv_base.specs.Outside.{InputState, OutputState}
 use Rattle.rv_accounts.specs.File.{Served as AccountsServed}
 use Rattle.rv_wire.specs.declared.push.Push as pushes
 use Rattle.rv_book.specs.Book.{Book, size}
-use Rattle.rv_keeper.specs.Keeping.{Follows}
+use Rattle.rv_keeper.specs.declared.keeper.Keeper.{Ghosts}
 use Rattle.rv_history.specs.Clients.{ClientPull, IsClient, IsCurrent, held_then}
 use Rattle.rv_history.specs.Laws.{IsEntered, Tells}
 use Rattle.rv_history.specs.Served.{IsSound}
@@ -24,34 +24,34 @@ use Rattle.rv_workers.specs.Serving.{ServesTogether}
 use Rattle.rv_cli.specs.Serving.{Serves, turns_served}
 
 -- A pull was answered by a turn of a seat, at a point of the book at the end that begins with all that the seat had seen.
-pub record IsServedPull {K : Type 0} (faults : K → ℕ) (steady : K → Type 0) (book : Book) (user : List ℕ) (pull : ClientPull) : Type 0 where
+pub record IsServedPull {K : Type 0} (G : Ghosts K) (book : Book) (user : List ℕ) (pull : ClientPull) : Type 0 where
   pub old : SeatView K
   pub new : SeatView K
-  pub step : Step (SeatMutates faults steady) (SeatPulls faults steady) (SeatRetires faults steady) old (Ok (Pull user pull.request)) (Pulled pull.reply) new
+  pub step : Step (SeatMutates G) (SeatPulls G) (SeatRetires G) old (Ok (Pull user pull.request)) (Pulled pull.reply) new
   pub point : Book
   pub since : StartsWith point old.seen
   pub tells : Tells user pull.request point new.seen pull.reply
   pub within : StartsWith book new.seen
 
 -- and it left the client with what its user sees there
-pub record FollowsIn {K : Type 0} (faults : K → ℕ) (steady : K → Type 0) (book : Book) (user : List ℕ) (pull : ClientPull) : Type 0 where
-  pub served : IsServedPull faults steady book user pull
+pub record FollowsIn {K : Type 0} (G : Ghosts K) (book : Book) (user : List ℕ) (pull : ClientPull) : Type 0 where
+  pub served : IsServedPull G book user pull
   pub current : IsCurrent user pull.request.group served.point (held_then pull)
 
-module _ {K L I O : Type 0} (faults : K → ℕ) (kept_tells steady : K → Type 0) (accounts : AccountsServed) (input : I → InputState) (output : O → OutputState) (input_steady : I → Type 0) (output_steady : O → Type 0)
+module _ {K L I O : Type 0} (G : Ghosts K) (accounts : AccountsServed) (input : I → InputState) (output : O → OutputState) (input_steady : I → Type 0) (output_steady : O → Type 0)
     (tells : L → Type 0) (to_come came_back : L → List (Conn I O)) (out ends : L → ℕ) where
   -- these listeners were served at the desk that was opened, which was closed as this one
   abbrev pub Together : Seated K → List L → Seated K → List L → Type 0
-  Together opened givens now backs = ServesTogether faults (Follows faults kept_tells steady) (Serves faults kept_tells steady accounts input output input_steady output_steady tells to_come came_back out ends) opened givens now backs
+  Together opened givens now backs = ServesTogether G (Serves G accounts input output input_steady output_steady tells to_come came_back out ends) opened givens now backs
 
   -- all that was asked, with its answers
   abbrev pub turns_in : (opened : Seated K) (givens : List L) (now : Seated K) (backs : List L) → Together opened givens now backs → List (Asked × Answer)
   turns_in opened givens now backs together =
-      turns_served faults kept_tells steady accounts input output input_steady output_steady tells to_come came_back out ends (newcomer 1 opened) givens together.views backs together.serves
+      turns_served G accounts input output input_steady output_steady tells to_come came_back out ends (newcomer 1 opened) givens together.views backs together.serves
 
   -- something holds of all that were served so, where the desk that was closed is sound, by all that was asked
   abbrev pub OfAllSound : (Seated K → List (Asked × Answer) → Type 0) → Type 0
-  OfAllSound Holds = (opened now : Seated K) (givens backs : List L) (together : Together opened givens now backs) → IsSound (served faults now) → Holds now (turns_in opened givens now backs together)
+  OfAllSound Holds = (opened now : Seated K) (givens backs : List L) (together : Together opened givens now backs) → IsSound (served G.faults now) → Holds now (turns_in opened givens now backs together)
 
   -- Each mutation of a push that was not refused stands in the book at the end; but for an id of 0, which is skipped and stands nowhere.
   abbrev pub ServedPushesStand : Type 0
@@ -62,4 +62,4 @@ module _ {K L I O : Type 0} (faults : K → ℕ) (kept_tells steady : K → Type
   -- sees at a point of the book at the end.
   abbrev pub ServedClientsFollow : Type 0
   ServedClientsFollow = OfAllSound (λ now turns. size now.book < 2 ^ 64 → (user : List ℕ) (pulls : List ClientPull) → IsClient pulls
-      → AllByRecursion (λ pull. Contains turns (Ok (Pull user pull.request), Pulled pull.reply)) pulls → AllByRecursion (FollowsIn faults steady now.book user) pulls)
+      → AllByRecursion (λ pull. Contains turns (Ok (Pull user pull.request), Pulled pull.reply)) pulls → AllByRecursion (FollowsIn G now.book user) pulls)

@@ -4,6 +4,7 @@ use Rattle.std.specs.List.{AllByRecursion}
 use Rattle.rv_base.specs.Outside.{InputState, OutputState}
 use Rattle.rv_words.specs.declared.serve_options.ServeOptions.{ServeOptions}
 use Rattle.rv_accounts.specs.File.{Served as AccountsServed}
+use Rattle.rv_keeper.specs.declared.keeper.Keeper.{Ghosts}
 use Rattle.rv_keeper.specs.declared.loaded.Loaded.{Loaded}
 use Rattle.rv_keeper.specs.Stores.{OpensAs}
 use Rattle.rv_wire.specs.declared.push.Push as pushes
@@ -22,15 +23,15 @@ use Rattle.rv_laws.specs.Listeners.{FollowsIn, Together, turns_in}
 
 -- A run of `serve` on a store of a place and over a net, which are these before and these after.
 module _ {P N K L I O : Type 0} (tells : P → Type 0) (files : P → List ℕ → List ℕ → Type 0) (holds : P → List ℕ → Loaded → Type 0) (place_faults : P → ℕ)
-    (net_tells : N → Type 0) (to_give given_back : N → List L) (net_faults : N → ℕ) (faults : K → ℕ) (kept_tells steady : K → Type 0)
+    (net_tells : N → Type 0) (to_give given_back : N → List L) (net_faults : N → ℕ) (G : Ghosts K)
     (input : I → InputState) (output : O → OutputState) (input_steady : I → Type 0) (output_steady : O → Type 0) (listener_tells : L → Type 0) (to_come came_back : L → List (Conn I O)) (out ends : L → ℕ) where
   -- these listeners were served side by side
   abbrev pub AreServed : AccountsServed → Seated K → List L → Seated K → List L → Type 0
-  AreServed accounts = Together faults kept_tells steady accounts input output input_steady output_steady listener_tells to_come came_back out ends
+  AreServed accounts = Together G accounts input output input_steady output_steady listener_tells to_come came_back out ends
 
   -- what `run` says
   abbrev pub RunsServing : P → P → N → N → List ℕ → ServeOptions → OutputState → OutputState → ℕ → Type 0
-  RunsServing old new net net' store options = RunsServe faults (tells new) (files old options.accounts) (holds old store) (OpensAs store (holds old store)) (holds new store) (place_faults old) (place_faults new)
+  RunsServing old new net net' store options = RunsServe G.faults (tells new) (files old options.accounts) (holds old store) (OpensAs store (holds old store)) (holds new store) (place_faults old) (place_faults new)
       (λ accounts opened now. NetServes (net_tells net') listener_tells (λ givens backs. AreServed accounts opened givens now backs) options.workers (to_give net) (to_give net') (given_back net) (given_back net'))
       (net_faults net) (net_faults net')
 
@@ -42,10 +43,10 @@ module _ {P N K L I O : Type 0} (tells : P → Type 0) (files : P → List ℕ �
     pub now : Seated K
     pub givens : List L
     pub backs : List L
-    pub begins : Begins (tells new) (OpensAs store (holds old store)) (served faults opened)
+    pub begins : Begins (tells new) (OpensAs store (holds old store)) (served G.faults opened)
     pub together : AreServed accounts opened givens now backs
-    pub sound : IsSound (served faults now)
-    pub leaves : Leaves (tells new) (holds new store) (place_faults old) (place_faults new) (served faults now)
+    pub sound : IsSound (served G.faults now)
+    pub leaves : Leaves (tells new) (holds new store) (place_faults old) (place_faults new) (served G.faults now)
     pub count : length givens ≡ options.workers
     pub first : net_tells net' → to_give net ≡ givens ++ to_give net'
     pub last : net_tells net' → given_back net' ≡ given_back net ++ backs
@@ -62,11 +63,11 @@ module _ {P N K L I O : Type 0} (tells : P → Type 0) (files : P → List ℕ �
   -- all that was asked over the connections, with its answers
   abbrev pub all_turns : (old new : P) (net net' : N) (store : List ℕ) (options : ServeOptions) → ServeRun old new net net' store options → List (Asked × Answer)
   all_turns old new net net' store options run =
-      turns_in faults kept_tells steady run.accounts input output input_steady output_steady listener_tells to_come came_back out ends run.opened run.givens run.now run.backs run.together
+      turns_in G run.accounts input output input_steady output_steady listener_tells to_come came_back out ends run.opened run.givens run.now run.backs run.together
 
   -- The book at the end is lawful and goes on from the first, each client's acts have the ids 1, 2, 3 and so on, and orders rise.
   abbrev pub ServeBooksAreLawful : Type 0
-  ServeBooksAreLawful = OfAllServes (λ old new net net' store options run. IsLawfulRun (Unit {0}) (served faults run.opened) (served faults run.now))
+  ServeBooksAreLawful = OfAllServes (λ old new net net' store options run. IsLawfulRun (Unit {0}) (served G.faults run.opened) (served G.faults run.now))
 
   -- Each pull that was answered shows what its user sees at a point of that book.
   abbrev pub ServePullsAreShown : Type 0
@@ -86,4 +87,4 @@ module _ {P N K L I O : Type 0} (tells : P → Type 0) (files : P → List ℕ �
   -- sees at a point of the book at the end.
   abbrev pub ServeClientsFollow : Type 0
   ServeClientsFollow = OfAllServes (λ old new net net' store options run. (user : List ℕ) (pulls : List ClientPull) → IsClient pulls
-      → AllByRecursion (λ pull. Contains (all_turns old new net net' store options run) (Ok (Pull user pull.request), Pulled pull.reply)) pulls → AllByRecursion (FollowsIn faults steady run.now.book user) pulls)
+      → AllByRecursion (λ pull. Contains (all_turns old new net net' store options run) (Ok (Pull user pull.request), Pulled pull.reply)) pulls → AllByRecursion (FollowsIn G run.now.book user) pulls)

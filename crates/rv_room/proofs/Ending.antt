@@ -1,24 +1,24 @@
 -- What a turn leaves in what its seat knows.
 use Rattle.std.proofs.Common.{◌≡◌, ◌≢◌, ◌⊎◌, ℕ, ◌+◌, ◌≤◌, Bool, true, false, List, [], ◌∷◌, ◌++◌, length, drop, Option, Some, None, refl, sym, ap, ◌∙◌, subst, ⊎_elim, inl, inr, arith, append-nil, length-append}
-use Rattle.std.specs.Prelude.{Result, Ok, Err, IsSome}
-use Rattle.std.specs.List.{AllByRecursion}
+use Rattle.std.specs.Prelude.{Result, Ok, Err, IfSome, IsSome}
 use Rattle.rv_base.specs.Causes.{Rose, rose_before}
 use Rattle.rv_book.specs.declared.entry.Entry.{Entry}
 use Rattle.rv_book.specs.Book.{Book, size, since, with_entry}
 use Rattle.rv_history.specs.declared.trouble.Trouble.{Trouble}
 use Rattle.rv_history.specs.declared.trouble.Trouble.TheVariants.{Failed, Changed}
-use Rattle.rv_history.specs.Served.{Served, Settles, Stays, LeavesDoubt, TurnOf, TakesTurn}
-use Rattle.rv_keeper.specs.Keeping.{Follows}
+use Rattle.rv_history.specs.Served.{Served, IsChanged, Settles, Stays, LeavesDoubt, TurnOf, TakesTurn}
+use Rattle.rv_keeper.specs.declared.keeper.Keeper.{Ghosts}
 use Rattle.rv_desk.specs.Seated.{Assures, Seated, served}
 use Rattle.rv_desk.specs.Settling.{IsSettled, SettlesOrNot, settle_trouble}
 use Rattle.rv_room.specs.declared.view.SeatView.{SeatView}
+use Rattle.rv_room.specs.Following.{KeeperFollows, FollowsAll, follows_on}
 use Rattle.rv_room.specs.Lists.{StartsWith, numbered}
 use Rattle.rv_room.specs.Views.{waiting, on_turn, grown, entered, listed}
 use Rattle.rv_room.specs.Rule.{IsOf}
 use Rattle.rv_room.specs.Plays.{Knows}
 use Rattle.rv_room.specs.Ends.{Adds, end_view, held_view}
 use Rattle.rv_room.specs.SeatTurns.{Parts, settled_book, last_book, TurnAs, IsSeatTurn}
-use Rattle.rv_room.proofs.Totals.{drop_front, drop_self}
+use Rattle.rv_room.proofs.Totals.{all_map, drop_front, drop_self}
 
 -- ---- Which way a book settled, and whether a step made an entry.
 
@@ -109,18 +109,12 @@ module _ {K : Type 0} where
 
 -- ---- All of a turn.
 
-module _ {K : Type 0} (faults : K → ℕ) (tells fails_no_more : K → Type 0) where
-  abbrev pub Goes : K → K → Type 0
-  Goes = Follows faults tells fails_no_more
-
-  pub goes_with : (old new : K) (tr : Option Trouble) → Assures tells fails_no_more old tr new → faults old ≤ faults new → Goes old new
+module _ {K : Type 0} (G : Ghosts K) where
+  pub goes_with : (old new : K) (tr : Option Trouble) → Assures G.tells G.fails_no_more old tr new → G.faults old ≤ G.faults new → KeeperFollows G old new
   goes_with old new tr assured later = record { told = assured.told; goes_on = assured.goes_on; later = later }
 
-  pub goes_on : (old mid new : K) → Goes old mid → Goes mid new → Goes old new
-  goes_on old mid new first next = record { told = λ t. first.told (next.told t); goes_on = λ s. next.goes_on (first.goes_on s); later = omega (arith, first.later, next.later) }
-
-  pub of_after : (v : SeatView K) (d d' : Seated K) → IsOf Goes v d → d'.limit ≡ d.limit → Goes d.keeper d'.keeper → IsOf Goes v d'
-  of_after v d d' of limit goes = (of.0, of.1, record { limit = limit ∙ of.2.limit; keeper = goes_on of.0.keeper d.keeper d'.keeper of.2.keeper goes })
+  pub of_after : (v : SeatView K) (d d' : Seated K) → IsOf G v d → d'.limit ≡ d.limit → KeeperFollows G d.keeper d'.keeper → IsOf G v d'
+  of_after v d d' of limit goes = (of.0, of.1, record { limit = limit ∙ of.2.limit; keeper = follows_on G of.0.keeper d.keeper d'.keeper of.2.keeper goes })
 
 module _ {A : Type 0} (trouble : A → Option Trouble) (Step : Book → A → Book → Type 0) (adds : (book : Book) (a : A) (new : Book) → Step book a new → Adds book new) where
   -- where nothing was in doubt, a turn adds at most one entry
@@ -163,34 +157,37 @@ module _ {A : Type 0} (trouble : A → Option Trouble) (Step : Book → A → Bo
           u.1
       go (Some (Changed kept found)) u = absurd (sure_is_none old.doubt sure u.1)
 
-module _ {K A : Type 0} (faults : K → ℕ) (tells fails_no_more : K → Type 0) (trouble : A → Option Trouble) (Step : ℕ → Book → A → Book → Type 0) where
+module _ {K A : Type 0} (G : Ghosts K) (trouble : A → Option Trouble) (Step : ℕ → Book → A → Book → Type 0) where
   pub seat_turn : ((limit : ℕ) (book : Book) (a : A) (new : Book) → Step limit book a new → Adds book new)
-      → (v : SeatView K) (t : ℕ) (d mid d' : Seated K) (a : A) → IsOf (Goes faults tells fails_no_more) v d → StartsWith d.book v.seen → AllByRecursion (λ (k : ℕ). k ≤ faults d.keeper) v.after
-      → IsSettled (served faults d) (Ok tt) (served faults mid) → TakesTurn trouble (Step mid.limit) (served faults mid) a (served faults d') → (fails_no_more d.keeper → trouble a ≡ None)
-      → IsSeatTurn faults fails_no_more trouble Step v a (end_view (on_turn faults (waiting v t) d) mid.book d'.book d'.doubt (faults d'.keeper))
-  seat_turn adds v t d mid d' a of begins later settled turn sure =
+      → (v : SeatView K) (t : ℕ) (d mid d' : Seated K) (a : A) → IsOf G v d → StartsWith d.book v.seen → FollowsAll G v.after d.keeper
+      → IsSettled (served G.faults d) (Ok tt) (served G.faults mid) → TakesTurn trouble (Step mid.limit) (served G.faults mid) a (served G.faults d') → (G.fails_no_more d.keeper → trouble a ≡ None) → (G.tells d'.keeper → ¬ IsChanged (trouble a))
+      → IsSeatTurn G trouble Step v a (end_view (on_turn G.faults (waiting v t) d) mid.book d'.book d'.doubt d'.keeper)
+  seat_turn adds v t d mid d' a of begins later settled turn sure near =
       let limit : mid.limit ≡ of.0.limit = settled.limit ∙ of.2.limit in
-      let turn' : TakesTurn trouble (Step of.0.limit) (served faults mid) a (served faults d') = subst (λ (n : ℕ). TakesTurn trouble (Step n) (served faults mid) a (served faults d')) limit turn in
+      let turn' : TakesTurn trouble (Step of.0.limit) (served G.faults mid) a (served G.faults d') = subst (λ (n : ℕ). TakesTurn trouble (Step n) (served G.faults mid) a (served G.faults d')) limit turn in
       let came : List Entry = since (size d.book) mid.book in
       let made : List Entry = since (size mid.book) d'.book in
       let whole : d.book ++ came ≡ mid.book = behind d.book mid.book (settled_adds d.book d.doubt mid.book settled.settled.0) in
-      let last : (d.book ++ came) ++ made ≡ d'.book = ap (λ (b : Book). b ++ made) whole ∙ behind mid.book d'.book (turn_adds trouble (Step of.0.limit) (adds of.0.limit) (served faults mid) a (served faults d') settled.settled.1 turn') in
+      let last : (d.book ++ came) ++ made ≡ d'.book = ap (λ (b : Book). b ++ made) whole ∙ behind mid.book d'.book (turn_adds trouble (Step of.0.limit) (adds of.0.limit) (served G.faults mid) a (served G.faults d') settled.settled.1 turn') in
       let up = settled.later in let up' = turn.later in
-      let p : Parts = record { history = d.book; doubt = d.doubt; came = came; made = made; left = listed d'.doubt; first = faults d.keeper; last = faults d'.keeper } in
+      let p : Parts = record { history = d.book; doubt = d.doubt; came = came; made = made; left = listed d'.doubt; first = G.faults d.keeper; last = G.faults d'.keeper } in
       record {
         opened = of.0;
         turn = p;
+        now = d'.keeper;
         room = of.1;
         risen = of.2.keeper.later;
         sure = λ steady. sure (of.2.keeper.goes_on steady);
+        near = near;
         begins = begins;
-        since = later;
+        since = all_map (λ k. KeeperFollows G k d.keeper) (λ k. G.faults k ≤ G.faults d.keeper) v.after (λ k follows. follows.later) later;
         later = omega arith;
+        last = refl;
         comes = ⊎_elim
             (λ (same : mid.book ≡ d.book). inl (ap (λ (b : Book). drop (length d.book) b) same ∙ drop_self d.book))
             (λ (u : (e : Entry) × (d.doubt ≡ Some e) × (mid.book ≡ with_entry d.book e)). inr (u.0, u.1, ap (λ (b : Book). drop (length d.book) b) u.2 ∙ drop_front d.book (u.0 ∷ [])))
             (settled_ways d.book d.doubt mid.book settled.settled.0);
-        is = turn_as trouble (Step of.0.limit) (adds of.0.limit) p (served faults mid) a (served faults d') settled.settled.1 whole refl refl (sym settled.settled.2) refl turn';
+        is = turn_as trouble (Step of.0.limit) (adds of.0.limit) p (served G.faults mid) a (served G.faults d') settled.settled.1 whole refl refl (sym settled.settled.2) refl turn';
         stays = refl;
         seen = sym last;
         ends = ap (λ (b : Book). v.ends ++ size b ∷ []) (sym last);
@@ -201,21 +198,24 @@ module _ {K A : Type 0} (faults : K → ℕ) (tells fails_no_more : K → Type 0
         after = refl;
       }
 
-  pub seat_held : (v : SeatView K) (t : ℕ) (d d' : Seated K) (tr : Trouble) (a : A) → IsOf (Goes faults tells fails_no_more) v d → StartsWith d.book v.seen → AllByRecursion (λ (k : ℕ). k ≤ faults d.keeper) v.after
-      → IsSettled (served faults d) (Err tr) (served faults d') → trouble a ≡ Some tr → (fails_no_more d.keeper → Some tr ≡ None)
-      → IsSeatTurn faults fails_no_more trouble Step v a (held_view (on_turn faults (waiting v t) d) (faults d'.keeper))
-  seat_held v t d d' tr a of begins later settled is sure =
+  pub seat_held : (v : SeatView K) (t : ℕ) (d d' : Seated K) (tr : Trouble) (a : A) → IsOf G v d → StartsWith d.book v.seen → FollowsAll G v.after d.keeper
+      → IsSettled (served G.faults d) (Err tr) (served G.faults d') → trouble a ≡ Some tr → (G.fails_no_more d.keeper → Some tr ≡ None) → (G.tells d'.keeper → ¬ IsChanged (Some tr))
+      → IsSeatTurn G trouble Step v a (held_view (on_turn G.faults (waiting v t) d) d'.keeper)
+  seat_held v t d d' tr a of begins later settled is sure near =
       let whole : (d.book ++ []) ++ [] ≡ d.book = append-nil (d.book ++ []) ∙ append-nil d.book in
-      let p : Parts = record { history = d.book; doubt = d.doubt; came = []; made = []; left = []; first = faults d.keeper; last = faults d'.keeper } in
+      let p : Parts = record { history = d.book; doubt = d.doubt; came = []; made = []; left = []; first = G.faults d.keeper; last = G.faults d'.keeper } in
       record {
         opened = of.0;
         turn = p;
+        now = d'.keeper;
         room = of.1;
         risen = of.2.keeper.later;
         sure = λ steady. absurd (let e = sure (of.2.keeper.goes_on steady) in cc);
+        near = subst (λ (x : Option Trouble). G.tells d'.keeper → ¬ IsChanged x) (sym is) near;
         begins = begins;
-        since = later;
+        since = all_map (λ k. KeeperFollows G k d.keeper) (λ k. G.faults k ≤ G.faults d.keeper) v.after (λ k follows. follows.later) later;
         later = settled.later;
+        last = refl;
         comes = inl refl;
         is = subst (TurnAs trouble (Step of.0.limit) p a) (sym is) (go tr settled.settled);
         stays = refl;
@@ -228,38 +228,41 @@ module _ {K A : Type 0} (faults : K → ℕ) (tells fails_no_more : K → Type 0
         after = refl;
       }
     where
-      go : (tr : Trouble) → SettlesOrNot (served faults d) (Err tr) (served faults d') → TurnAs trouble (Step of.0.limit) (record { history = d.book; doubt = d.doubt; came = []; made = []; left = []; first = faults d.keeper; last = faults d'.keeper }) a (Some tr)
+      go : (tr : Trouble) → SettlesOrNot (served G.faults d) (Err tr) (served G.faults d') → TurnAs trouble (Step of.0.limit) (record { history = d.book; doubt = d.doubt; came = []; made = []; left = []; first = G.faults d.keeper; last = G.faults d'.keeper }) a (Some tr)
       go Failed u = (u.0, refl, inl (record { doubt = u.1; came = refl; left = refl }))
       go (Changed kept found) u = (u.0, refl, record { doubt = u.1; came = refl; left = refl }, u.2, u.3, u.4)
 
 -- ---- The steps of a turn, one after another.
 
-module _ {K : Type 0} (faults : K → ℕ) where
+module _ {K : Type 0} (G : Ghosts K) where
   -- what a seat knows and holds once it has taken the desk out of its slot
   abbrev pub HasTaken : SeatView K → Seated K → Knows K → Type 0
-  HasTaken v d m = (t : ℕ) × (m ≡ (on_turn faults (waiting v t) d, (0, None) ∷ []))
+  HasTaken v d m = (t : ℕ) × (m ≡ (on_turn G.faults (waiting v t) d, (0, None) ∷ []))
 
-  pub taken_of : (tells fails_no_more : K → Type 0) (v : SeatView K) (d d' : Seated K) (m : Knows K) → HasTaken v d m → IsOf (Goes faults tells fails_no_more) v d → d'.limit ≡ d.limit → Goes faults tells fails_no_more d.keeper d'.keeper
-      → IsOf (Goes faults tells fails_no_more) m.0 d'
-  taken_of tells fails_no_more v d d' m taken of limit goes = subst (λ (m : Knows K). IsOf (Goes faults tells fails_no_more) m.0 d') (sym taken.1) (of_after faults tells fails_no_more v d d' of limit goes)
+  pub taken_of : (v : SeatView K) (d d' : Seated K) (m : Knows K) → HasTaken v d m → IsOf G v d → d'.limit ≡ d.limit → KeeperFollows G d.keeper d'.keeper → IsOf G m.0 d'
+  taken_of v d d' m taken of limit goes = subst (λ (m : Knows K). IsOf G m.0 d') (sym taken.1) (of_after G v d d' of limit goes)
+
+  pub taken_follows : (v : SeatView K) (d : Seated K) (m : Knows K) (now : K) → HasTaken v d m → KeeperFollows G d.keeper now → IfSome m.0.keeper (λ keeper. KeeperFollows G keeper now)
+  taken_follows v d m now taken goes = subst (λ (m : Knows K). IfSome m.0.keeper (λ keeper. KeeperFollows G keeper now)) (sym taken.1) goes
 
   pub taken_settles : (v : SeatView K) (d : Seated K) (m : Knows K) (s : Book) → HasTaken v d m → Settles d.book d.doubt s → Settles m.0.book m.0.doubt s
   taken_settles v d m s taken is = subst (λ (m : Knows K). Settles m.0.book m.0.doubt s) (sym taken.1) is
 
-module _ {K A : Type 0} (faults : K → ℕ) (tells fails_no_more : K → Type 0) (trouble : A → Option Trouble) (Step : ℕ → Book → A → Book → Type 0) (adds : (limit : ℕ) (book : Book) (a : A) (new : Book) → Step limit book a new → Adds book new) where
-  pub ended_turn : (v : SeatView K) (d mid d' : Seated K) (m : Knows K) (a : A) (w : SeatView K) → HasTaken faults v d m → IsOf (Goes faults tells fails_no_more) v d → StartsWith d.book v.seen → AllByRecursion (λ (k : ℕ). k ≤ faults d.keeper) v.after
-      → (settled : Result (Unit {0}) Trouble) → settled ≡ Ok tt → IsSettled (served faults d) settled (served faults mid) → TakesTurn trouble (Step mid.limit) (served faults mid) a (served faults d') → (fails_no_more d.keeper → trouble a ≡ None)
-      → w ≡ end_view m.0 mid.book d'.book d'.doubt (faults d'.keeper)
-      → IsSeatTurn faults fails_no_more trouble Step v a w
-  ended_turn v d mid d' m a w taken of begins later settled ok is turn sure view =
-      subst (IsSeatTurn faults fails_no_more trouble Step v a) (sym (view ∙ ap (λ (m : Knows K). end_view m.0 mid.book d'.book d'.doubt (faults d'.keeper)) taken.1))
-      (seat_turn faults tells fails_no_more trouble Step adds v taken.0 d mid d' a of begins later (subst (λ (r : Result (Unit {0}) Trouble). IsSettled (served faults d) r (served faults mid)) ok is) turn sure)
+module _ {K A : Type 0} (G : Ghosts K) (trouble : A → Option Trouble) (Step : ℕ → Book → A → Book → Type 0) (adds : (limit : ℕ) (book : Book) (a : A) (new : Book) → Step limit book a new → Adds book new) where
+  pub ended_turn : (v : SeatView K) (d mid d' : Seated K) (m : Knows K) (a : A) (w : SeatView K) → HasTaken G v d m → IsOf G v d → StartsWith d.book v.seen → FollowsAll G v.after d.keeper
+      → (settled : Result (Unit {0}) Trouble) → settled ≡ Ok tt → IsSettled (served G.faults d) settled (served G.faults mid) → TakesTurn trouble (Step mid.limit) (served G.faults mid) a (served G.faults d') → (G.fails_no_more d.keeper → trouble a ≡ None) → (G.tells d'.keeper → ¬ IsChanged (trouble a))
+      → w ≡ end_view m.0 mid.book d'.book d'.doubt d'.keeper
+      → IsSeatTurn G trouble Step v a w
+  ended_turn v d mid d' m a w taken of begins later settled ok is turn sure near view =
+      subst (IsSeatTurn G trouble Step v a) (sym (view ∙ ap (λ (m : Knows K). end_view m.0 mid.book d'.book d'.doubt d'.keeper) taken.1))
+      (seat_turn G trouble Step adds v taken.0 d mid d' a of begins later (subst (λ (r : Result (Unit {0}) Trouble). IsSettled (served G.faults d) r (served G.faults mid)) ok is) turn sure near)
 
-  pub held_turn : (v : SeatView K) (d d' : Seated K) (m : Knows K) (a : A) (w : SeatView K) (why : Trouble) → HasTaken faults v d m → IsOf (Goes faults tells fails_no_more) v d → StartsWith d.book v.seen → AllByRecursion (λ (k : ℕ). k ≤ faults d.keeper) v.after
-      → (settled : Result (Unit {0}) Trouble) → settled ≡ Err why → IsSettled (served faults d) settled (served faults d') → trouble a ≡ Some why → (fails_no_more d.keeper → settle_trouble settled ≡ None)
-      → w ≡ held_view m.0 (faults d'.keeper)
-      → IsSeatTurn faults fails_no_more trouble Step v a w
-  held_turn v d d' m a w why taken of begins later settled err is told sure view =
-      subst (IsSeatTurn faults fails_no_more trouble Step v a) (sym (view ∙ ap (λ (m : Knows K). held_view m.0 (faults d'.keeper)) taken.1))
-      (seat_held faults tells fails_no_more trouble Step v taken.0 d d' why a of begins later (subst (λ (r : Result (Unit {0}) Trouble). IsSettled (served faults d) r (served faults d')) err is) told
-      (λ steady. ap settle_trouble (sym err) ∙ sure steady))
+  pub held_turn : (v : SeatView K) (d d' : Seated K) (m : Knows K) (a : A) (w : SeatView K) (why : Trouble) → HasTaken G v d m → IsOf G v d → StartsWith d.book v.seen → FollowsAll G v.after d.keeper
+      → (settled : Result (Unit {0}) Trouble) → settled ≡ Err why → IsSettled (served G.faults d) settled (served G.faults d') → trouble a ≡ Some why → (G.fails_no_more d.keeper → settle_trouble settled ≡ None) → (G.tells d'.keeper → ¬ IsChanged (settle_trouble settled))
+      → w ≡ held_view m.0 d'.keeper
+      → IsSeatTurn G trouble Step v a w
+  held_turn v d d' m a w why taken of begins later settled err is told sure near view =
+      subst (IsSeatTurn G trouble Step v a) (sym (view ∙ ap (λ (m : Knows K). held_view m.0 d'.keeper) taken.1))
+      (seat_held G trouble Step v taken.0 d d' why a of begins later (subst (λ (r : Result (Unit {0}) Trouble). IsSettled (served G.faults d) r (served G.faults d')) err is) told
+      (λ steady. ap settle_trouble (sym err) ∙ sure steady)
+      (subst (λ (r : Result (Unit {0}) Trouble). G.tells d'.keeper → ¬ IsChanged (settle_trouble r)) err near))

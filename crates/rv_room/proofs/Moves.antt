@@ -1,7 +1,7 @@
 -- Each step keeps the rule.
 use Rattle.std.proofs.Common.{◌≡◌, ◌≢◌, ◌⊎◌, ℕ, zero, suc, ◌+◌, ◌-◌, ◌%◌, ◌^◌, ◌<◌, ◌≤◌, ◌==◌, List, [], ◌∷◌, ◌++◌, length, set, drop, refl, sym, ap, ◌∙◌, subst, inl, inr, ⊎_elim, arith, Some, None, Option, append-nil, length-append, mod-eq_of_lt}
 use Rattle.std.proofs.Math.Nat.{mod-add-mod}
-use Rattle.std.specs.Prelude.{slice_get, slice_index, slice_set}
+use Rattle.std.specs.Prelude.{IfSome, slice_get, slice_index, slice_set}
 use Rattle.std.specs.List.{AllByRecursion}
 use mathlib.Core.Option.{some, none, some-injective, some-ne-none}
 use mathlib.Core.Option as maybe
@@ -13,12 +13,14 @@ use Rattle.atomic_table.specs.Table.{State, Me, Act, keeps, takes, gives, steppe
 use Rattle.atomic_table.proofs.Lists.{at_set, set_again, set_else, one_turn, exchanged}
 use Rattle.rv_book.specs.declared.entry.Entry.{Entry}
 use Rattle.rv_book.specs.Book.{Book, size, since, with_entry}
+use Rattle.rv_keeper.specs.declared.keeper.Keeper.{Ghosts}
 use Rattle.rv_desk.specs.Seated.{Seated}
 use Rattle.rv_room.specs.declared.view.SeatView.{SeatView}
+use Rattle.rv_room.specs.Following.{KeeperFollows, FollowsAll, follows_same, follows_on}
 use Rattle.rv_room.specs.Lists.{hit, StartsWith, total, once_below, count_at, numbered}
-use Rattle.rv_room.specs.Views.{IsIdle, waiting, on_turn, grown, entered, listed, noted, with_faults, ended}
+use Rattle.rv_room.specs.Views.{IsIdle, waiting, on_turn, grown, entered, listed, noted, with_keeper, ended}
 use Rattle.rv_room.specs.Rule.{parts_of, waits_of, own_at, IsLeft, DoubtIsLeft, Fits, IsOut, Keeps, IsOf, AtHome, Kept, KeptIn}
-use Rattle.rv_room.specs.Plays.{TakesTicket, TakesIfNext, Looks, CountsSettled, CountsMade, NotesSettled, NotesFaults, Passes, Signals}
+use Rattle.rv_room.specs.Plays.{TakesTicket, TakesIfNext, Looks, CountsSettled, CountsMade, NotesSettled, NotesKeeper, Passes, Signals}
 use Rattle.rv_room.proofs.Totals.{total_set, total_le, total_has, here, same_at, all_map, all_append, get_front, get_last, starts_more, count_at-append, below_next, drop_front}
 
 value_or : {X : Type 0} → X → Option X → X
@@ -36,15 +38,9 @@ still log e now longer l s = subst (λ (x : Book). StartsWith x l) (sym longer) 
 stands : (log : Book) (e : Entry) (now : Book) → now ≡ log ++ e ∷ [] → (x : ℕ × Entry) → slice_get log x.0 ≡ Some x.1 → slice_get now x.0 ≡ Some x.1
 stands log e now longer x s = ap (λ (l : Book). slice_get l x.0) longer ∙ get_front log (e ∷ []) x.0 x.1 s
 
-up_to_top : (m n : ℕ) → m ≤ n → (xs : List ℕ) → AllByRecursion (λ (k : ℕ). k ≤ m) xs → AllByRecursion (λ (k : ℕ). k ≤ n) xs
-up_to_top m n le xs h = all_map _ _ xs (λ k l. omega arith) h
-
 module _ {K : Type 0} where
   abbrev pub At : List (SeatView K) → ℕ → SeatView K → Type 0
   At views j v = get_elem? views j ≡ some v
-
-  abbrev pub AllFit : Seated K → Book → ℕ → ℕ → ℕ → List (SeatView K) → Type 0
-  AllFit opened log front n top views = (j : ℕ) (v : SeatView K) → At views j v → Fits opened log front n top v
 
   abbrev pub Apart : List (SeatView K) → Type 0
   Apart views = (i j : ℕ) (v w : SeatView K) → At views i v → At views j w → v.waits ≡ 1 → w.waits ≡ 1 → v.ticket ≡ w.ticket → i ≡ j
@@ -70,10 +66,6 @@ module _ {K : Type 0} where
       k b eb)
       i a ea
 
-  pub all_set : (opened : Seated K) (log : Book) (front n top : ℕ) (views : List (SeatView K)) (j : ℕ) (w : SeatView K) → ((i : ℕ) (u : SeatView K) → i ≢ j → At views i u → Fits opened log front n top u) → Fits opened log front n top w
-      → AllFit opened log front n top (set views j w)
-  all_set opened log front n top = each_set (λ _. Fits opened log front n top)
-
   -- what was left is left still, where a view's left only grows
   pub left_set : (views : List (SeatView K)) (id : ℕ) (v w : SeatView K) → At views id v → (more : List Entry) → w.left ≡ v.left ++ more → (e : Entry) → IsLeft views e → IsLeft (set views id w) e
   left_set views id v w at more grows e l =
@@ -84,30 +76,42 @@ module _ {K : Type 0} where
   pub doubt_set : (views : List (SeatView K)) (id : ℕ) (v w : SeatView K) → At views id v → (more : List Entry) → w.left ≡ v.left ++ more → (d : Option Entry) → DoubtIsLeft views d → DoubtIsLeft (set views id w) d
   doubt_set views id v w at more grows d l e is = left_set views id v w at more grows e (l e is)
 
-module _ {K : Type 0} (faults : K → ℕ) (follows : K → K → Type 0) (opened : Seated K) (seats : ℕ) where
+module _ {K : Type 0} (G : Ghosts K) where
+  abbrev pub AllFit : Seated K → Book → ℕ → ℕ → K → List (SeatView K) → Type 0
+  AllFit opened log front n keeper views = (j : ℕ) (v : SeatView K) → At views j v → Fits G opened log front n keeper v
+
+  pub all_set : (opened : Seated K) (log : Book) (front n : ℕ) (keeper : K) (views : List (SeatView K)) (j : ℕ) (w : SeatView K) → ((i : ℕ) (u : SeatView K) → i ≢ j → At views i u → Fits G opened log front n keeper u) → Fits G opened log front n keeper w
+      → AllFit opened log front n keeper (set views j w)
+  all_set opened log front n keeper = each_set (λ _. Fits G opened log front n keeper)
+
+  -- what follows the last of keepers follows each
+  follows_later : (old new : K) → KeeperFollows G old new → (keepers : List K) → FollowsAll G keepers old → FollowsAll G keepers new
+  follows_later old new goes keepers all = all_map _ _ keepers (λ k follows. follows_on G k old new follows goes) all
+
+module _ {K : Type 0} (G : Ghosts K) (opened : Seated K) (seats : ℕ) where
   abbrev Homes : Type 0
   Homes = List (maybe.Option (Option (Seated K)))
 
   abbrev Rule : List ℕ → Homes → List (SeatView K) → Type 0
-  Rule = Kept faults follows opened seats
+  Rule = Kept G opened seats
 
   abbrev S : Type 0
   S = State (Option (Seated K)) (SeatView K)
 
-  abbrev Home : Book → ℕ → Homes → List (SeatView K) → Type 0
-  Home = AtHome faults follows opened
+  abbrev Home : Book → K → Homes → List (SeatView K) → Type 0
+  Home = AtHome G opened
 
-  abbrev Slot : Book → ℕ → Homes → List (SeatView K) → Type 0
-  Slot log top homes views = Home log top homes views ⊎ IsOut homes views
+  abbrev Slot : Book → K → Homes → List (SeatView K) → Type 0
+  Slot log keeper homes views = Home log keeper homes views ⊎ IsOut homes views
 
-  pub slot_set : (log : Book) (top : ℕ) (homes : Homes) (views : List (SeatView K)) (id : ℕ) (v w : SeatView K) → At views id v → v.turns ≡ 0 → w.turns ≡ 0 → (more : List Entry) → w.left ≡ v.left ++ more → Slot log top homes views → Slot log top homes (set views id w)
-  slot_set log top homes views id v w at vt wt more grows slot =
+  pub slot_set : (log : Book) (keeper : K) (homes : Homes) (views : List (SeatView K)) (id : ℕ) (v w : SeatView K) → At views id v → v.turns ≡ 0 → w.turns ≡ 0 → (more : List Entry) → w.left ≡ v.left ++ more → Slot log keeper homes views → Slot log keeper homes (set views id w)
+  slot_set log keeper homes views id v w at vt wt more grows slot =
       ⊎_elim
-      (λ (t : Home log top homes views). inl (record {
+      (λ (t : Home log keeper homes views). inl (record {
         desk = t.desk;
         home = t.home;
         book = t.book;
-        count = t.count;
+        keeper_is = t.keeper_is;
         keeps = t.keeps;
         doubt = doubt_set views id v w at more grows t.desk.doubt t.doubt;
         nobody = each_set (λ _ u. u.turns ≡ 0) views id w (λ i u _ e. t.nobody i u e) wt;
@@ -126,34 +130,32 @@ module _ {K : Type 0} (faults : K → ℕ) (follows : K → K → Type 0) (opene
 
   -- one view changes: what the rule then asks
   changes : (words : List ℕ) (homes : Homes) (views : List (SeatView K)) (id : ℕ) (v w : SeatView K) (k : Rule words homes views) → At views id v
-      → (words' : List ℕ) (homes' : Homes) (log' : Book) (front' n' top' : ℕ)
+      → (words' : List ℕ) (homes' : Homes) (log' : Book) (front' n' : ℕ) (keeper' : K)
       → n' + v.waits ≡ total waits_of views + w.waits
       → words' ≡ (front' + n') % 2 ^ 64 ∷ front' % 2 ^ 64 ∷ length log' ∷ k.signals
-      → Slot log' top' homes' (set views id w)
+      → Slot log' keeper' homes' (set views id w)
       → w.parts ≡ v.parts
-      → k.top ≤ top'
       → StartsWith log' opened.book
       → ((p : ℕ) → own_at p w + once_below p (length k.log) ≡ own_at p v + once_below p (length log'))
-      → ((i : ℕ) (u : SeatView K) → i ≢ id → At views i u → Fits opened log' front' n' top' u)
-      → Fits opened log' front' n' top' w
+      → ((i : ℕ) (u : SeatView K) → i ≢ id → At views i u → Fits G opened log' front' n' keeper' u)
+      → Fits G opened log' front' n' keeper' w
       → ((i : ℕ) (u : SeatView K) → i ≢ id → At views i u → w.waits ≡ 1 → u.waits ≡ 1 → w.ticket ≡ u.ticket → ⊥)
       → (more : List Entry) → w.left ≡ v.left ++ more
       → AllByRecursion (IsLeft (set views id w)) w.settled
       → Rule words' homes' (set views id w)
-  changes words homes views id v w k at words' homes' log' front' n' top' sum are slot parts up begun places others mine alone more grows settled =
+  changes words homes views id v w k at words' homes' log' front' n' keeper' sum are slot parts begun places others mine alone more grows settled =
       let now : n' ≡ total waits_of (set views id w) = let t = total_set waits_of views id v w at in omega arith in record {
         log = log';
         front = front';
-        top = top';
+        keeper = keeper';
         signals = k.signals;
         words_are = subst (λ (n : ℕ). words' ≡ (front' + n) % 2 ^ 64 ∷ front' % 2 ^ 64 ∷ length log' ∷ k.signals) now are;
         slot = slot;
         few = k.few;
         parts = let t = total_set parts_of views id v w at in let q = k.parts in omega arith;
         begun = begun;
-        risen = let q = k.risen in omega arith;
         places = λ p. let t = total_set (own_at p) views id v w at in let q = k.places p in let r = places p in omega arith;
-        each = subst (λ (n : ℕ). AllFit opened log' front' n top' (set views id w)) now (all_set opened log' front' n' top' views id w others mine);
+        each = subst (λ (n : ℕ). AllFit G opened log' front' n keeper' (set views id w)) now (all_set G opened log' front' n' keeper' views id w others mine);
         apart = apart_set views id w k.apart alone;
         left = each_set (λ _ u. AllByRecursion (IsLeft (set views id w)) u.settled) views id w (λ i u _ e. all_map _ _ u.settled (left_set views id v w at more grows) (k.left i u e)) settled;
       }
@@ -161,14 +163,14 @@ module _ {K : Type 0} (faults : K → ℕ) (follows : K → K → Type 0) (opene
   waiting_few : (words : List ℕ) (homes : Homes) (views : List (SeatView K)) → Rule words homes views → total waits_of views < 2 ^ 32
   waiting_few words homes views k = let a = total_le waits_of parts_of views (λ j v e. (k.each j v e).part) in let b = k.parts in let c = k.few in omega arith
 
-  takes_fits : (log : Book) (front n top : ℕ) (u : SeatView K) → Fits opened log front n top u → Fits opened log front (n + 1) top u
-  takes_fits log front n top u f = record { once = f.once; part = f.part; waits = f.waits; line = (λ w. let l = f.line w in (l.0, omega (arith, l.1))); turn = f.turn; knows = f.knows; seen = f.seen; joined = f.joined; own = f.own; after = f.after; spent = f.spent }
+  takes_fits : (log : Book) (front n : ℕ) (keeper : K) (u : SeatView K) → Fits G opened log front n keeper u → Fits G opened log front (n + 1) keeper u
+  takes_fits log front n keeper u f = record { once = f.once; part = f.part; waits = f.waits; line = (λ w. let l = f.line w in (l.0, omega (arith, l.1))); turn = f.turn; knows = f.knows; seen = f.seen; joined = f.joined; own = f.own; after = f.after; spent = f.spent }
 
   -- what the view had settled was left, and is still
   settled_still : (words : List ℕ) (homes : Homes) (views : List (SeatView K)) (k : Rule words homes views) (id : ℕ) (v w : SeatView K) → At views id v → (more : List Entry) → w.left ≡ v.left ++ more → AllByRecursion (IsLeft (set views id w)) v.settled
   settled_still words homes views k id v w at more grows = all_map _ _ v.settled (left_set views id v w at more grows) (k.left id v at)
 
-  pub takes_ticket : (slots id : ℕ) (v : SeatView K) (c : List (ℕ × Option (Seated K))) → IsIdle v → 0 < v.parts → Allows (KeptIn faults follows opened seats) slots id (v, c) 0 (λ n. (n + 1) % 2 ^ 64) (TakesTicket (v, c))
+  pub takes_ticket : (slots id : ℕ) (v : SeatView K) (c : List (ℕ × Option (Seated K))) → IsIdle v → 0 < v.parts → Allows (KeptIn G opened seats) slots id (v, c) 0 (λ n. (n + 1) % 2 ^ 64) (TakesTicket (v, c))
   takes_ticket slots id v c idle some_part s k len at bound =
       let n : ℕ = total waits_of s.views in
       let t : ℕ = k.front + n in
@@ -180,15 +182,14 @@ module _ {K : Type 0} (faults : K → ℕ) (follows : K → K → Type 0) (opene
         w,
         keeps,
         tt,
-        changes s.words s.homes s.views id v w k at (slice_set s.words 0 ((slice_index s.words 0 + 1) % 2 ^ 64)) s.homes k.log k.front (n + 1) k.top
+        changes s.words s.homes s.views id v w k at (slice_set s.words 0 ((slice_index s.words 0 + 1) % 2 ^ 64)) s.homes k.log k.front (n + 1) k.keeper
             (omega arith)
             (ap (λ ws. slice_set ws 0 ((slice_index ws 0 + 1) % 2 ^ 64)) k.words_are ∙ ap (λ (m : ℕ). m ∷ k.front % 2 ^ 64 ∷ length k.log ∷ k.signals) more)
-            (slot_set k.log k.top s.homes s.views id v w at idle.1 refl [] (sym (append-nil v.left)) k.slot)
+            (slot_set k.log k.keeper s.homes s.views id v w at idle.1 refl [] (sym (append-nil v.left)) k.slot)
             refl
-            (omega arith)
             k.begun
             (λ p. refl)
-            (λ i u _ e. takes_fits k.log k.front n k.top u (k.each i u e))
+            (λ i u _ e. takes_fits k.log k.front n k.keeper u (k.each i u e))
             (record { once = omega arith; part = omega arith; waits = omega arith; line = (λ _. (omega arith, omega arith)); turn = (λ o. absurd (omega arith)); knows = f.knows; seen = f.seen; joined = f.joined; own = f.own; after = f.after; spent = f.spent })
             (λ i u _ e _ uw same. let l = (k.each i u e).line uw in let x : u.ticket < t = l.1 in omega arith)
             []
@@ -201,11 +202,11 @@ module _ {K : Type 0} (faults : K → ℕ) (follows : K → K → Type 0) (opene
   same_rule words homes views id v k at = subst (λ (vs : List (SeatView K)). Rule words homes vs) (sym (set_again views id v at)) k
 
   -- the ticket is taken if it still is the next one
-  pub takes_if_next : (slots id : ℕ) (v : SeatView K) (c : List (ℕ × Option (Seated K))) → IsIdle v → 0 < v.parts → (ticket next : ℕ) → next ≡ (ticket + 1) % 2 ^ 64 → Allows (KeptIn faults follows opened seats) slots id (v, c) 0 (λ n. either (n == ticket) next n) (TakesIfNext ticket (v, c))
+  pub takes_if_next : (slots id : ℕ) (v : SeatView K) (c : List (ℕ × Option (Seated K))) → IsIdle v → 0 < v.parts → (ticket next : ℕ) → next ≡ (ticket + 1) % 2 ^ 64 → Allows (KeptIn G opened seats) slots id (v, c) 0 (λ n. either (n == ticket) next n) (TakesIfNext ticket (v, c))
   takes_if_next slots id v c idle some_part ticket next is s k len at bound = exchanged (slice_index s.words 0) ticket next Goes hit miss
     where
       Goes : ℕ → Type 0
-      Goes n = (w : SeatView K) × (a : Act (Option (Seated K))) × Valid s.homes c a × KeptIn faults follows opened seats (stepped s 0 n id c w a) × TakesIfNext ticket (v, c) (slice_index s.words 0) (w, carried_after c a)
+      Goes n = (w : SeatView K) × (a : Act (Option (Seated K))) × Valid s.homes c a × KeptIn G opened seats (stepped s 0 n id c w a) × TakesIfNext ticket (v, c) (slice_index s.words 0) (w, carried_after c a)
 
       hit : slice_index s.words 0 ≡ ticket → Goes next
       hit e =
@@ -214,7 +215,7 @@ module _ {K : Type 0} (faults : K → ℕ) (follows : K → K → Type 0) (opene
             t.0,
             t.1,
             t.2,
-            subst (λ (n : ℕ). KeptIn faults follows opened seats (stepped s 0 n id c t.0 t.1)) more t.3,
+            subst (λ (n : ℕ). KeptIn G opened seats (stepped s 0 n id c t.0 t.1)) more t.3,
             ((λ _. t.4), (λ ne. absurd (ne e))),
           )
 
@@ -228,14 +229,14 @@ module _ {K : Type 0} (faults : K → ℕ) (follows : K → K → Type 0) (opene
       )
 
   -- the number of turns that have ended is read
-  pub looks : (slots id : ℕ) (v : SeatView K) (c : List (ℕ × Option (Seated K))) → v.waits ≡ 1 → v.turns ≡ 0 → Allows (KeptIn faults follows opened seats) slots id (v, c) 1 (λ n. n) (Looks faults follows (v, c))
+  pub looks : (slots id : ℕ) (v : SeatView K) (c : List (ℕ × Option (Seated K))) → v.waits ≡ 1 → v.turns ≡ 0 → Allows (KeptIn G opened seats) slots id (v, c) 1 (λ n. n) (Looks G (v, c))
   looks slots id v c wait off s k len at bound = dite (ℕ_discrete (slice_index s.words 1) (v.ticket % 2 ^ 64)) mine other
     where
       same_words : slice_set s.words 1 (slice_index s.words 1) ≡ s.words
       same_words = ap (λ ws. slice_set ws 1 (slice_index ws 1)) k.words_are ∙ sym k.words_are
 
       Goes : Type 0
-      Goes = (w : SeatView K) × (a : Act (Option (Seated K))) × Valid s.homes c a × KeptIn faults follows opened seats (stepped s 1 (slice_index s.words 1) id c w a) × Looks faults follows (v, c) (slice_index s.words 1) (w, carried_after c a)
+      Goes = (w : SeatView K) × (a : Act (Option (Seated K))) × Valid s.homes c a × KeptIn G opened seats (stepped s 1 (slice_index s.words 1) id c w a) × Looks G (v, c) (slice_index s.words 1) (w, carried_after c a)
 
       other : slice_index s.words 1 ≢ v.ticket % 2 ^ 64 → Goes
       other ne = (v, keeps, tt, subst (λ (ws : List ℕ). Rule ws s.homes (set s.views id v)) (sym same_words) (same_rule s.words s.homes s.views id v k at), ((λ _. refl), (λ e. absurd (ne e))))
@@ -259,11 +260,11 @@ module _ {K : Type 0} (faults : K → ℕ) (follows : K → K → Type 0) (opene
               let e = ap (λ (u : SeatView K). u.turns) (same_at s.views j id u v there at same) in
               omega arith
 
-          takes_desk : Home k.log k.top s.homes s.views → k.front ≡ v.ticket → Goes
+          takes_desk : Home k.log k.keeper s.homes s.views → k.front ≡ v.ticket → Goes
           takes_desk h first =
               let d = h.desk in
               let n : ℕ = total waits_of s.views in
-              let w = on_turn faults v d in
+              let w = on_turn G.faults v d in
               let f = k.each id v at in
               let w0 = f.once in
               let p0 = f.part in
@@ -272,34 +273,33 @@ module _ {K : Type 0} (faults : K → ℕ) (follows : K → K → Type 0) (opene
                 takes 0 (Some d),
                 ap (λ hs. get_elem? hs 0) h.home,
                 subst (λ (ws : List ℕ). Rule ws (slice_set s.homes 0 none) (set s.views id w)) (sym same_words)
-                    (changes s.words s.homes s.views id v w k at s.words (slice_set s.homes 0 none) k.log k.front n k.top
+                    (changes s.words s.homes s.views id v w k at s.words (slice_set s.homes 0 none) k.log k.front n k.keeper
                     (omega arith)
                     k.words_are
                     (inr (record { empty = ap (λ hs. slice_set hs 0 none) h.home; who = id; view = w; at = here s.views id v w at; turn = refl; doubt = doubt_set s.views id v w at [] none_more d.doubt h.doubt }))
                     refl
-                    (omega arith)
                     k.begun
                     (λ p. refl)
                     (λ i u _ e. k.each i u e)
-                    (record { once = f.once; part = f.part; waits = omega arith; line = f.line; turn = (λ _. (sym first, h.book, h.count)); knows = f.knows; seen = f.seen; joined = f.joined; own = f.own; after = f.after; spent = f.spent })
+                    (record { once = f.once; part = f.part; waits = omega arith; line = f.line; turn = (λ _. (sym first, h.book, ap (λ (x : K). Some x) h.keeper_is)); knows = f.knows; seen = f.seen; joined = f.joined; own = f.own; after = f.after; spent = f.spent })
                     (λ i u ne e ww uw same. ne (k.apart i id u v e at uw wait (sym same)))
                     []
                     none_more
                     (settled_still s.words s.homes s.views k id v w at [] none_more)),
-                ((λ ne. absurd (ne e)), (λ _. (d, (opened, f.knows (omega arith), h.keeps), (f.seen.0, h.book ∙ f.seen.1), up_to_top k.top (faults d.keeper) (omega (arith, h.count)) v.after f.after, refl))),
+                ((λ ne. absurd (ne e)), (λ _. (d, (opened, f.knows (omega arith), h.keeps), (f.seen.0, h.book ∙ f.seen.1), subst (λ (x : K). FollowsAll G v.after x) (sym h.keeper_is) f.after, refl))),
               )
 
   -- the view with the turn names the history, and the slot is empty
-  record OnTurn (s : S) (id : ℕ) (v : SeatView K) (k : KeptIn faults follows opened seats s) : Type 0 where
+  record OnTurn (s : S) (id : ℕ) (v : SeatView K) (k : KeptIn G opened seats s) : Type 0 where
     waits : v.waits ≡ 1
     ticket : v.ticket ≡ k.front
     named : v.book ≡ k.log
-    count : v.faults ≡ k.top
+    keeper : v.keeper ≡ Some k.keeper
     out : s.homes ≡ none ∷ []
     doubt : DoubtIsLeft s.views v.doubt
     others : (i : ℕ) (u : SeatView K) → i ≢ id → At s.views i u → u.turns ≡ 0
 
-  on_turn_now : (s : S) (id : ℕ) (v : SeatView K) (k : KeptIn faults follows opened seats s) → At s.views id v → v.turns ≡ 1 → OnTurn s id v k
+  on_turn_now : (s : S) (id : ℕ) (v : SeatView K) (k : KeptIn G opened seats s) → At s.views id v → v.turns ≡ 1 → OnTurn s id v k
   on_turn_now s id v k at on =
       let f = k.each id v at in
       let once = f.once in
@@ -310,14 +310,14 @@ module _ {K : Type 0} (faults : K → ℕ) (follows : K → K → Type 0) (opene
         waits = wait;
         ticket = t.0;
         named = t.1;
-        count = t.2;
+        keeper = t.2;
         out = o.empty;
         doubt = subst (λ (u : SeatView K). DoubtIsLeft s.views u.doubt) (mine o.who o.view o.at o.turn t.0 wait) o.doubt;
         others = λ i u ne e. not_on i u ne e t.0 wait;
       }
     where
       out : IsOut s.homes s.views
-      out = ⊎_elim (λ (h : Home k.log k.top s.homes s.views). let none_on = h.nobody id v at in absurd (omega arith)) (λ (h : IsOut s.homes s.views). h) k.slot
+      out = ⊎_elim (λ (h : Home k.log k.keeper s.homes s.views). let none_on = h.nobody id v at in absurd (omega arith)) (λ (h : IsOut s.homes s.views). h) k.slot
 
       mine : (j : ℕ) (u : SeatView K) → At s.views j u → u.turns ≡ 1 → v.ticket ≡ k.front → v.waits ≡ 1 → u ≡ v
       mine j u there o ticket wait = let f = k.each j u there in let once = f.once in let waits = f.waits in same_at s.views j id u v there at (k.apart j id u v there at (omega arith) wait ((f.turn o).0 ∙ sym ticket))
@@ -334,8 +334,8 @@ module _ {K : Type 0} (faults : K → ℕ) (follows : K → K → Type 0) (opene
           zero_if zero le h = refl
           zero_if (suc n) le h = absurd (h (omega arith))
 
-  longer_fits : (log now : Book) (e : Entry) (front n top : ℕ) (u : SeatView K) → now ≡ log ++ e ∷ [] → Fits opened log front n top u → u.turns ≡ 0 → Fits opened now front n top u
-  longer_fits log now e front n top u longer f off = record { once = f.once; part = f.part; waits = f.waits; line = f.line; turn = (λ o. absurd (omega arith)); knows = f.knows; seen = still log e now longer u.seen f.seen; joined = all_map _ _ u.joined (still log e now longer) f.joined; own = all_map _ _ u.own (stands log e now longer) f.own; after = f.after; spent = f.spent }
+  longer_fits : (log now : Book) (e : Entry) (front n : ℕ) (keeper : K) (u : SeatView K) → now ≡ log ++ e ∷ [] → Fits G opened log front n keeper u → u.turns ≡ 0 → Fits G opened now front n keeper u
+  longer_fits log now e front n keeper u longer f off = record { once = f.once; part = f.part; waits = f.waits; line = f.line; turn = (λ o. absurd (omega arith)); knows = f.knows; seen = still log e now longer u.seen f.seen; joined = all_map _ _ u.joined (still log e now longer) f.joined; own = all_map _ _ u.own (stands log e now longer) f.own; after = f.after; spent = f.spent }
 
   -- the parts of a view that a longer history leaves as they are
   record IsAsBefore (v w : SeatView K) : Type 0 where
@@ -344,14 +344,14 @@ module _ {K : Type 0} (faults : K → ℕ) (follows : K → K → Type 0) (opene
     turns : w.turns ≡ v.turns
     ticket : w.ticket ≡ v.ticket
     room : w.opened ≡ v.opened
-    count : w.faults ≡ v.faults
+    keeper : w.keeper ≡ v.keeper
     seen : w.seen ≡ v.seen
     joined : w.joined ≡ v.joined
     after : w.after ≡ v.after
     left : w.left ≡ v.left
 
   -- the history is one entry longer, which becomes own of the view with the turn
-  grows : (s : S) (id : ℕ) (v w : SeatView K) (k : KeptIn faults follows opened seats s) → At s.views id v → v.turns ≡ 1 → (e : Entry) (now : Book) → now ≡ v.book ++ e ∷ [] → length now < 2 ^ 63
+  grows : (s : S) (id : ℕ) (v w : SeatView K) (k : KeptIn G opened seats s) → At s.views id v → v.turns ≡ 1 → (e : Entry) (now : Book) → now ≡ v.book ++ e ∷ [] → length now < 2 ^ 63
       → w.book ≡ now → w.own ≡ v.own ++ numbered (size v.book) (since (size v.book) now) → IsAsBefore v w
       → DoubtIsLeft (set s.views id w) w.doubt → AllByRecursion (IsLeft (set s.views id w)) w.settled
       → Rule (slice_set s.words 2 ((slice_index s.words 2 + 1) % 2 ^ 64)) s.homes (set s.views id w)
@@ -364,16 +364,15 @@ module _ {K : Type 0} (faults : K → ℕ) (follows : K → K → Type 0) (opene
       let more : (length k.log + 1) % 2 ^ 64 ≡ length now = small (length k.log + 1) (length now) (sym size_is) short in
       let one : w.own ≡ v.own ++ (size v.book, e) ∷ [] = own ∙ ap (λ (l : List Entry). v.own ++ numbered (size v.book) l) (ap (drop (size v.book)) is_longer ∙ drop_front v.book (e ∷ [])) in
       let w1 = same.waits in let t1 = same.turns in let p1 = same.parts in let k1 = same.ticket in let v1 = o.waits in
-      changes s.words s.homes s.views id v w k at (slice_set s.words 2 ((slice_index s.words 2 + 1) % 2 ^ 64)) s.homes now k.front n k.top
+      changes s.words s.homes s.views id v w k at (slice_set s.words 2 ((slice_index s.words 2 + 1) % 2 ^ 64)) s.homes now k.front n k.keeper
       (omega arith)
       (ap (λ ws. slice_set ws 2 ((slice_index ws 2 + 1) % 2 ^ 64)) k.words_are ∙ ap (λ (m : ℕ). (k.front + n) % 2 ^ 64 ∷ k.front % 2 ^ 64 ∷ m ∷ k.signals) more)
       (inr (record { empty = o.out; who = id; view = w; at = here s.views id v w at; turn = t1 ∙ on; doubt = doubt }))
       p1
-      (omega arith)
       (subst (λ (l : Book). StartsWith l opened.book) (sym longer) (starts_more k.log (e ∷ []) opened.book k.begun))
       (λ p. places p size_is o.named one)
-      (λ i u ne there. longer_fits k.log now e k.front n k.top u longer (k.each i u there) (o.others i u ne there))
-      (mine f o.ticket longer o.named o.count o.waits one)
+      (λ i u ne there. longer_fits k.log now e k.front n k.keeper u longer (k.each i u there) (o.others i u ne there))
+      (mine f o.ticket longer o.named o.keeper o.waits one)
       (λ i u ne there ww uw ts. ne (k.apart i id u v there at uw o.waits (sym ts ∙ k1)))
       []
       (same.left ∙ sym (append-nil v.left))
@@ -390,8 +389,8 @@ module _ {K : Type 0} (faults : K → ℕ) (follows : K → K → Type 0) (opene
           let c : once_below p (length now) ≡ hit (length k.log) p + once_below p (length k.log) = ap (once_below p) size_is ∙ below_next p (length k.log) in
           omega arith
 
-      mine : Fits opened k.log k.front (total waits_of s.views) k.top v → v.ticket ≡ k.front → now ≡ k.log ++ e ∷ [] → v.book ≡ k.log → v.faults ≡ k.top → v.waits ≡ 1 → w.own ≡ v.own ++ (size v.book, e) ∷ [] → Fits opened now k.front (total waits_of s.views) k.top w
-      mine f ticket longer is count wait one =
+      mine : Fits G opened k.log k.front (total waits_of s.views) k.keeper v → v.ticket ≡ k.front → now ≡ k.log ++ e ∷ [] → v.book ≡ k.log → v.keeper ≡ Some k.keeper → v.waits ≡ 1 → w.own ≡ v.own ++ (size v.book, e) ∷ [] → Fits G opened now k.front (total waits_of s.views) k.keeper w
+      mine f ticket longer is keeper wait one =
           let part = f.part in let once = f.once in let waits = f.waits in
           let w1 = same.waits in let t1 = same.turns in let p1 = same.parts in let k1 = same.ticket in
           let line = f.line wait in let l0 = line.0 in let l1 = line.1 in record {
@@ -399,18 +398,18 @@ module _ {K : Type 0} (faults : K → ℕ) (follows : K → K → Type 0) (opene
             part = omega arith;
             waits = omega arith;
             line = (λ _. (omega arith, omega arith));
-            turn = (λ _. (k1 ∙ ticket, named, same.count ∙ count));
+            turn = (λ _. (k1 ∙ ticket, named, same.keeper ∙ keeper));
             knows = (λ some. same.room ∙ f.knows (omega arith));
             seen = subst (λ (l : Book). StartsWith now l) (sym same.seen) (still k.log e now longer v.seen f.seen);
             joined = subst (λ (l : List Book). AllByRecursion (StartsWith now) l) (sym same.joined) (all_map _ _ v.joined (still k.log e now longer) f.joined);
             own = subst (λ (l : List (ℕ × Entry)). AllByRecursion (λ x. slice_get now x.0 ≡ Some x.1) l) (sym one)
                 (all_append _ v.own _ (all_map _ _ v.own (stands k.log e now longer) f.own) ((λ i. slice_get (longer i) (length (is i))) ∙ get_last k.log e, tt));
-            after = subst (λ (l : List ℕ). AllByRecursion (λ (m : ℕ). m ≤ k.top) l) (sym same.after) f.after;
+            after = subst (λ (l : List K). FollowsAll G l k.keeper) (sym same.after) f.after;
             spent = λ none. absurd (omega arith);
           }
 
   -- the entry that was in doubt has entered the book
-  pub counts_settled : (slots id : ℕ) (v : SeatView K) (c : List (ℕ × Option (Seated K))) (e : Entry) → v.turns ≡ 1 → v.doubt ≡ Some e → size (with_entry v.book e) < 2 ^ 63 → Allows (KeptIn faults follows opened seats) slots id (v, c) 2 (λ n. (n + 1) % 2 ^ 64) (CountsSettled (v, c))
+  pub counts_settled : (slots id : ℕ) (v : SeatView K) (c : List (ℕ × Option (Seated K))) (e : Entry) → v.turns ≡ 1 → v.doubt ≡ Some e → size (with_entry v.book e) < 2 ^ 63 → Allows (KeptIn G opened seats) slots id (v, c) 2 (λ n. (n + 1) % 2 ^ 64) (CountsSettled (v, c))
   counts_settled slots id v c e on is short s k len at bound =
       let o = on_turn_now s id v k at on in
       let now : Book = v.book ++ listed v.doubt in
@@ -422,7 +421,7 @@ module _ {K : Type 0} (faults : K → ℕ) (follows : K → K → Type 0) (opene
         keeps,
         tt,
         grows s id v w k at on e now longer (subst (λ (l : Book). length l < 2 ^ 63) (sym longer) short) refl refl
-            (record { parts = refl; waits = refl; turns = refl; ticket = refl; room = refl; count = refl; seen = refl; joined = refl; after = refl; left = refl })
+            (record { parts = refl; waits = refl; turns = refl; ticket = refl; room = refl; keeper = refl; seen = refl; joined = refl; after = refl; left = refl })
             (doubt_set s.views id v w at [] none_more v.doubt o.doubt)
             (all_append _ v.settled _ (settled_still s.words s.homes s.views k id v w at [] none_more)
             (subst (λ (l : List Entry). AllByRecursion (IsLeft (set s.views id w)) l) (sym new) (left_set s.views id v w at [] none_more e (o.doubt e is), tt))),
@@ -431,7 +430,7 @@ module _ {K : Type 0} (faults : K → ℕ) (follows : K → K → Type 0) (opene
 
   -- one entry that the step made is counted
   pub counts_made : (slots id : ℕ) (v : SeatView K) (d : Seated K) (e : Entry) → v.turns ≡ 1 → d.book ≡ with_entry v.book e → size d.book < 2 ^ 63
-      → Allows (KeptIn faults follows opened seats) slots id (v, (0, Some d) ∷ []) 2 (λ n. (n + 1) % 2 ^ 64) (CountsMade (v, (0, Some d) ∷ []))
+      → Allows (KeptIn G opened seats) slots id (v, (0, Some d) ∷ []) 2 (λ n. (n + 1) % 2 ^ 64) (CountsMade (v, (0, Some d) ∷ []))
   counts_made slots id v d e on longer short s k len at bound =
       let o = on_turn_now s id v k at on in
       let w = grown v d.book in
@@ -440,50 +439,49 @@ module _ {K : Type 0} (faults : K → ℕ) (follows : K → K → Type 0) (opene
         keeps,
         tt,
         grows s id v w k at on e d.book longer short refl refl
-            (record { parts = refl; waits = refl; turns = refl; ticket = refl; room = refl; count = refl; seen = refl; joined = refl; after = refl; left = refl })
+            (record { parts = refl; waits = refl; turns = refl; ticket = refl; room = refl; keeper = refl; seen = refl; joined = refl; after = refl; left = refl })
             (doubt_set s.views id v w at [] none_more v.doubt o.doubt)
             (settled_still s.words s.homes s.views k id v w at [] none_more),
         refl,
       )
 
   -- the desk is looked at again: what a view with the turn becomes, of which the doubt was left
-  looked : (slots id : ℕ) (v w : SeatView K) (c : List (ℕ × Option (Seated K))) (Told : ℕ → Me (Option (Seated K)) (SeatView K) → Type 0) → v.turns ≡ 1 → v.faults ≤ w.faults
+  looked : (slots id : ℕ) (v w : SeatView K) (c : List (ℕ × Option (Seated K))) (Told : ℕ → Me (Option (Seated K)) (SeatView K) → Type 0) → v.turns ≡ 1 → (now : K) → w.keeper ≡ Some now → IfSome v.keeper (λ keeper. KeeperFollows G keeper now)
       → (w.parts ≡ v.parts) × (w.waits ≡ v.waits) × (w.turns ≡ v.turns) × (w.ticket ≡ v.ticket) × (w.opened ≡ v.opened) × (w.book ≡ v.book) × (w.seen ≡ v.seen) × (w.joined ≡ v.joined) × (w.own ≡ v.own) × (w.after ≡ v.after) × (w.settled ≡ v.settled)
       → (more : List Entry) → w.left ≡ v.left ++ more
       → ((views : List (SeatView K)) → At views id v → DoubtIsLeft views v.doubt → DoubtIsLeft (set views id w) w.doubt)
       → ((n : ℕ) → Told n (w, c))
-      → Allows (KeptIn faults follows opened seats) slots id (v, c) 1 (λ n. n) Told
-  looked slots id v w c Told on up same more more_left doubt told s k len at bound =
+      → Allows (KeptIn G opened seats) slots id (v, c) 1 (λ n. n) Told
+  looked slots id v w c Told on now is_now goes same more more_left doubt told s k len at bound =
       let o = on_turn_now s id v k at on in
       let n : ℕ = total waits_of s.views in
       let f = k.each id v at in
-      let c1 = o.count in
+      let up : KeeperFollows G k.keeper now = subst (λ (x : Option K). IfSome x (λ keeper. KeeperFollows G keeper now)) o.keeper goes in
       let same_words : slice_set s.words 1 (slice_index s.words 1) ≡ s.words = ap (λ ws. slice_set ws 1 (slice_index ws 1)) k.words_are ∙ sym k.words_are in
       let p1 = same.0 in let w1 = same.1 in let t1 = same.2 in let k1 = same.3 in
       let f0 = f.once in let f1 = f.part in let f2 = f.waits in let v1 = o.waits in (
         w,
         keeps,
         tt,
-        changes s.words s.homes s.views id v w k at (slice_set s.words 1 (slice_index s.words 1)) s.homes k.log k.front n w.faults
+        changes s.words s.homes s.views id v w k at (slice_set s.words 1 (slice_index s.words 1)) s.homes k.log k.front n now
             (omega arith)
             (same_words ∙ k.words_are)
             (inr (record { empty = o.out; who = id; view = w; at = here s.views id v w at; turn = t1 ∙ on; doubt = doubt s.views at o.doubt }))
             p1
-            (omega arith)
             k.begun
             (λ p. ap (λ (l : List (ℕ × Entry)). count_at p l + once_below p (length k.log)) same.8)
-            (λ i u ne there. others u (k.each i u there) (o.others i u ne there) o.count)
+            (λ i u ne there. others u (k.each i u there) (o.others i u ne there) up)
             (record {
               once = omega arith;
               part = omega arith;
               waits = omega arith;
               line = (λ ww. let l = f.line v1 in let l0 = l.0 in let l1 = l.1 in (omega arith, omega arith));
-              turn = (λ _. (k1 ∙ o.ticket, same.5 ∙ o.named, refl));
+              turn = (λ _. (k1 ∙ o.ticket, same.5 ∙ o.named, is_now));
               knows = (λ some. same.4 ∙ f.knows (omega arith));
               seen = subst (λ (l : Book). StartsWith k.log l) (sym same.6) f.seen;
               joined = subst (λ (l : List Book). AllByRecursion (StartsWith k.log) l) (sym same.7) f.joined;
               own = subst (λ (l : List (ℕ × Entry)). AllByRecursion (λ x. slice_get k.log x.0 ≡ Some x.1) l) (sym same.8) f.own;
-              after = subst (λ (l : List ℕ). AllByRecursion (λ (m : ℕ). m ≤ w.faults) l) (sym same.9) (up_to_top k.top w.faults (omega arith) v.after f.after);
+              after = subst (λ (l : List K). FollowsAll G l now) (sym same.9) (follows_later G k.keeper now up v.after f.after);
               spent = (λ none. absurd (omega arith));
             })
             (λ i u ne there ww uw ts. ne (k.apart i id u v there at uw o.waits (sym ts ∙ k1)))
@@ -493,8 +491,8 @@ module _ {K : Type 0} (faults : K → ℕ) (follows : K → K → Type 0) (opene
         told (slice_index s.words 1),
       )
     where
-      others : (u : SeatView K) → Fits opened k.log k.front (total waits_of s.views) k.top u → u.turns ≡ 0 → v.faults ≡ k.top → Fits opened k.log k.front (total waits_of s.views) w.faults u
-      others u f off count = record { once = f.once; part = f.part; waits = f.waits; line = f.line; turn = (λ o. absurd (omega arith)); knows = f.knows; seen = f.seen; joined = f.joined; own = f.own; after = up_to_top k.top w.faults (omega arith) u.after f.after; spent = f.spent }
+      others : (u : SeatView K) → Fits G opened k.log k.front (total waits_of s.views) k.keeper u → u.turns ≡ 0 → KeeperFollows G k.keeper now → Fits G opened k.log k.front (total waits_of s.views) now u
+      others u f off up = record { once = f.once; part = f.part; waits = f.waits; line = f.line; turn = (λ o. absurd (omega arith)); knows = f.knows; seen = f.seen; joined = f.joined; own = f.own; after = follows_later G k.keeper now up u.after f.after; spent = f.spent }
 
   -- what a view's turn has left in doubt is left
   newly_left : (views : List (SeatView K)) (id : ℕ) (v w : SeatView K) → At views id v → (d : Option Entry) → w.left ≡ v.left ++ listed d → DoubtIsLeft (set views id w) d
@@ -502,10 +500,10 @@ module _ {K : Type 0} (faults : K → ℕ) (follows : K → K → Type 0) (opene
       (id, w, here views id v w at, (length v.left, ap (λ l. slice_get l (length v.left)) (more ∙ ap (λ (x : Option Entry). v.left ++ listed x) is) ∙ get_last v.left e))
 
   -- the desk has settled and stepped
-  pub notes_settled : (slots id : ℕ) (v : SeatView K) (d : Seated K) → v.turns ≡ 1 → v.faults ≤ faults d.keeper → Allows (KeptIn faults follows opened seats) slots id (v, (0, Some d) ∷ []) 1 (λ n. n) (NotesSettled faults (v, (0, Some d) ∷ []))
-  notes_settled slots id v d on up =
-      let w = noted v d.doubt (faults d.keeper) in
-      looked slots id v w ((0, Some d) ∷ []) (NotesSettled faults (v, (0, Some d) ∷ [])) on up
+  pub notes_settled : (slots id : ℕ) (v : SeatView K) (d : Seated K) → v.turns ≡ 1 → IfSome v.keeper (λ keeper. KeeperFollows G keeper d.keeper) → Allows (KeptIn G opened seats) slots id (v, (0, Some d) ∷ []) 1 (λ n. n) (NotesSettled (v, (0, Some d) ∷ []))
+  notes_settled slots id v d on goes =
+      let w = noted v d.doubt (Some d.keeper) in
+      looked slots id v w ((0, Some d) ∷ []) (NotesSettled (v, (0, Some d) ∷ [])) on d.keeper refl goes
       (refl, refl, refl, refl, refl, refl, refl, refl, refl, refl, refl)
       (listed d.doubt)
       refl
@@ -513,10 +511,10 @@ module _ {K : Type 0} (faults : K → ℕ) (follows : K → K → Type 0) (opene
       (λ n. refl)
 
   -- the desk could not settle
-  pub notes_faults : (slots id : ℕ) (v : SeatView K) (d : Seated K) → v.turns ≡ 1 → v.faults ≤ faults d.keeper → Allows (KeptIn faults follows opened seats) slots id (v, (0, Some d) ∷ []) 1 (λ n. n) (NotesFaults faults (v, (0, Some d) ∷ []))
-  notes_faults slots id v d on up =
-      let w = with_faults v (faults d.keeper) in
-      looked slots id v w ((0, Some d) ∷ []) (NotesFaults faults (v, (0, Some d) ∷ [])) on up
+  pub notes_keeper : (slots id : ℕ) (v : SeatView K) (d : Seated K) → v.turns ≡ 1 → IfSome v.keeper (λ keeper. KeeperFollows G keeper d.keeper) → Allows (KeptIn G opened seats) slots id (v, (0, Some d) ∷ []) 1 (λ n. n) (NotesKeeper (v, (0, Some d) ∷ []))
+  notes_keeper slots id v d on goes =
+      let w = with_keeper v (Some d.keeper) in
+      looked slots id v w ((0, Some d) ∷ []) (NotesKeeper (v, (0, Some d) ∷ [])) on d.keeper refl goes
       (refl, refl, refl, refl, refl, refl, refl, refl, refl, refl, refl)
       []
       (sym (append-nil v.left))
@@ -524,9 +522,9 @@ module _ {K : Type 0} (faults : K → ℕ) (follows : K → K → Type 0) (opene
       (λ n. refl)
 
   -- the turn is passed, and the desk is at home
-  pub passes : (slots id : ℕ) (v : SeatView K) (d : Seated K) → v.turns ≡ 1 → IsOf follows v d → d.book ≡ v.book → d.doubt ≡ v.doubt → faults d.keeper ≡ v.faults
-      → Allows (KeptIn faults follows opened seats) slots id (v, (0, Some d) ∷ []) 1 (λ n. (n + 1) % 2 ^ 64) (Passes (v, (0, Some d) ∷ []))
-  passes slots id v d on of is doubt count s k len at bound =
+  pub passes : (slots id : ℕ) (v : SeatView K) (d : Seated K) → v.turns ≡ 1 → IsOf G v d → d.book ≡ v.book → d.doubt ≡ v.doubt → v.keeper ≡ Some d.keeper
+      → Allows (KeptIn G opened seats) slots id (v, (0, Some d) ∷ []) 1 (λ n. (n + 1) % 2 ^ 64) (Passes (v, (0, Some d) ∷ []))
+  passes slots id v d on of is doubt keeper s k len at bound =
       let o = on_turn_now s id v k at on in
       let n : ℕ = total waits_of s.views in
       let w = ended v in
@@ -534,7 +532,6 @@ module _ {K : Type 0} (faults : K → ℕ) (follows : K → K → Type 0) (opene
       let some_wait = total_has waits_of s.views id v at in
       let wait = o.waits in
       let part = f.part in
-      let c1 = o.count in
       let more : (k.front % 2 ^ 64 + 1) % 2 ^ 64 ≡ (k.front + 1) % 2 ^ 64 = mod-add-mod k.front (2 ^ 64) 1 in
       let all : k.front + n ≡ (k.front + 1) + (n - 1) = omega arith in
       let home : slice_set s.homes 0 (some (Some d)) ≡ some (Some d) ∷ [] = ap (λ hs. slice_set hs 0 (some (Some d))) o.out in
@@ -543,24 +540,23 @@ module _ {K : Type 0} (faults : K → ℕ) (follows : K → K → Type 0) (opene
         w,
         gives,
         tt,
-        changes s.words s.homes s.views id v w k at (slice_set s.words 1 ((slice_index s.words 1 + 1) % 2 ^ 64)) (slice_set s.homes 0 (some (Some d))) k.log (k.front + 1) (n - 1) k.top
+        changes s.words s.homes s.views id v w k at (slice_set s.words 1 ((slice_index s.words 1 + 1) % 2 ^ 64)) (slice_set s.homes 0 (some (Some d))) k.log (k.front + 1) (n - 1) k.keeper
             (omega arith)
             (ap (λ ws. slice_set ws 1 ((slice_index ws 1 + 1) % 2 ^ 64)) k.words_are ∙ (λ i. (all i) % 2 ^ 64 ∷ more i ∷ length k.log ∷ k.signals))
             (inl (record {
               desk = d;
               home = home;
               book = is ∙ o.named;
-              count = count ∙ o.count;
-              keeps = subst (λ (x : Seated K). Keeps follows x d) same_room of.2;
+              keeper_is = some_same _ _ (sym keeper ∙ o.keeper);
+              keeps = subst (λ (x : Seated K). Keeps G x d) same_room of.2;
               doubt = subst (DoubtIsLeft (set s.views id w)) (sym doubt) (doubt_set s.views id v w at [] none_more v.doubt o.doubt);
               nobody = each_set (λ _ u. u.turns ≡ 0) s.views id w o.others refl;
             }))
             refl
-            (omega arith)
             k.begun
             (λ p. refl)
             (λ i u ne there. others i u (k.each i u there) (o.others i u ne there) (λ uw same. ne (k.apart i id u v there at uw wait same)) o.ticket some_wait wait)
-            (record { once = omega arith; part = omega arith; waits = omega arith; line = (λ o. absurd (omega arith)); turn = (λ o. absurd (omega arith)); knows = f.knows; seen = ([], sym o.named ∙ sym (append-nil v.book)); joined = f.joined; own = f.own; after = all_append _ v.after _ f.after (omega arith, tt); spent = f.spent })
+            (record { once = omega arith; part = omega arith; waits = omega arith; line = (λ o. absurd (omega arith)); turn = (λ o. absurd (omega arith)); knows = f.knows; seen = ([], sym o.named ∙ sym (append-nil v.book)); joined = f.joined; own = f.own; after = all_append _ v.after (listed v.keeper) f.after (subst (λ (x : Option K). FollowsAll G (listed x) k.keeper) (sym o.keeper) (follows_same G k.keeper, tt)); spent = f.spent })
             (λ i u ne there ww uw same. omega arith)
             []
             none_more
@@ -568,13 +564,13 @@ module _ {K : Type 0} (faults : K → ℕ) (follows : K → K → Type 0) (opene
         refl,
       )
     where
-      others : (i : ℕ) (u : SeatView K) → Fits opened k.log k.front (total waits_of s.views) k.top u → u.turns ≡ 0 → (u.waits ≡ 1 → u.ticket ≡ v.ticket → ⊥) → v.ticket ≡ k.front → v.waits ≤ total waits_of s.views → v.waits ≡ 1
-          → Fits opened k.log (k.front + 1) (total waits_of s.views - 1) k.top u
+      others : (i : ℕ) (u : SeatView K) → Fits G opened k.log k.front (total waits_of s.views) k.keeper u → u.turns ≡ 0 → (u.waits ≡ 1 → u.ticket ≡ v.ticket → ⊥) → v.ticket ≡ k.front → v.waits ≤ total waits_of s.views → v.waits ≡ 1
+          → Fits G opened k.log (k.front + 1) (total waits_of s.views - 1) k.keeper u
       others i u f off ne ticket some_wait wait =
           record { once = f.once; part = f.part; waits = f.waits; line = (λ w. let l0 = (f.line w).0 in let l1 = (f.line w).1 in let not_mine : u.ticket ≡ k.front → ⊥ = λ same. ne w (same ∙ sym ticket) in (omega arith, omega arith)); turn = (λ o. absurd (omega arith)); knows = f.knows; seen = f.seen; joined = f.joined; own = f.own; after = f.after; spent = f.spent }
 
   -- a word changes that only wakes seats
-  pub signals_word : (slots id place : ℕ) (v : SeatView K) (c : List (ℕ × Option (Seated K))) (f : ℕ → ℕ) → Allows (KeptIn faults follows opened seats) slots id (v, c) (suc (suc (suc place))) f (Signals (v, c))
+  pub signals_word : (slots id place : ℕ) (v : SeatView K) (c : List (ℕ × Option (Seated K))) (f : ℕ → ℕ) → Allows (KeptIn G opened seats) slots id (v, c) (suc (suc (suc place))) f (Signals (v, c))
   signals_word slots id place v c f s k len at bound =
       let now : ℕ = f (slice_index s.words (suc (suc (suc place)))) in (
         v,
@@ -583,14 +579,13 @@ module _ {K : Type 0} (faults : K → ℕ) (follows : K → K → Type 0) (opene
         subst (λ (vs : List (SeatView K)). Rule (slice_set s.words (suc (suc (suc place))) now) s.homes vs) (sym (set_again s.views id v at)) (record {
           log = k.log;
           front = k.front;
-          top = k.top;
+          keeper = k.keeper;
           signals = slice_set k.signals place now;
           words_are = ap (λ ws. slice_set ws (suc (suc (suc place))) now) k.words_are;
           slot = k.slot;
           few = k.few;
           parts = k.parts;
           begun = k.begun;
-          risen = k.risen;
           places = k.places;
           each = k.each;
           apart = k.apart;
@@ -599,28 +594,28 @@ module _ {K : Type 0} (faults : K → ℕ) (follows : K → K → Type 0) (opene
         refl,
       )
 
-  pub signals_at : (slots id word place : ℕ) (v : SeatView K) (c : List (ℕ × Option (Seated K))) (f : ℕ → ℕ) → word ≡ 3 + place → Allows (KeptIn faults follows opened seats) slots id (v, c) word f (Signals (v, c))
+  pub signals_at : (slots id word place : ℕ) (v : SeatView K) (c : List (ℕ × Option (Seated K))) (f : ℕ → ℕ) → word ≡ 3 + place → Allows (KeptIn G opened seats) slots id (v, c) word f (Signals (v, c))
   signals_at slots id word place v c f is =
       let e : suc (suc (suc place)) ≡ word = omega (arith, is) in
-      subst (λ (w : ℕ). Allows (KeptIn faults follows opened seats) slots id (v, c) w f (Signals (v, c))) e (signals_word slots id place v c f)
+      subst (λ (w : ℕ). Allows (KeptIn G opened seats) slots id (v, c) w f (Signals (v, c))) e (signals_word slots id place v c f)
 
   -- the same for a seat that is known by an equation
   abbrev Slots : Type 0
   Slots = List (ℕ × Option (Seated K))
 
   pub counts_made_as : (slots id : ℕ) (v : SeatView K) (c : Slots) (d : Seated K) (e : Entry) → c ≡ (0, Some d) ∷ [] → v.turns ≡ 1 → d.book ≡ with_entry v.book e → size d.book < 2 ^ 63
-      → Allows (KeptIn faults follows opened seats) slots id (v, c) 2 (λ n. (n + 1) % 2 ^ 64) (CountsMade (v, c))
-  counts_made_as slots id v c d e is on longer short = subst (λ (c : Slots). Allows (KeptIn faults follows opened seats) slots id (v, c) 2 (λ n. (n + 1) % 2 ^ 64) (CountsMade (v, c))) (sym is) (counts_made slots id v d e on longer short)
+      → Allows (KeptIn G opened seats) slots id (v, c) 2 (λ n. (n + 1) % 2 ^ 64) (CountsMade (v, c))
+  counts_made_as slots id v c d e is on longer short = subst (λ (c : Slots). Allows (KeptIn G opened seats) slots id (v, c) 2 (λ n. (n + 1) % 2 ^ 64) (CountsMade (v, c))) (sym is) (counts_made slots id v d e on longer short)
 
-  pub notes_settled_as : (slots id : ℕ) (v : SeatView K) (c : Slots) (d : Seated K) → c ≡ (0, Some d) ∷ [] → v.turns ≡ 1 → v.faults ≤ faults d.keeper → Allows (KeptIn faults follows opened seats) slots id (v, c) 1 (λ n. n) (NotesSettled faults (v, c))
-  notes_settled_as slots id v c d is on up = subst (λ (c : Slots). Allows (KeptIn faults follows opened seats) slots id (v, c) 1 (λ n. n) (NotesSettled faults (v, c))) (sym is) (notes_settled slots id v d on up)
+  pub notes_settled_as : (slots id : ℕ) (v : SeatView K) (c : Slots) (d : Seated K) → c ≡ (0, Some d) ∷ [] → v.turns ≡ 1 → IfSome v.keeper (λ keeper. KeeperFollows G keeper d.keeper) → Allows (KeptIn G opened seats) slots id (v, c) 1 (λ n. n) (NotesSettled (v, c))
+  notes_settled_as slots id v c d is on goes = subst (λ (c : Slots). Allows (KeptIn G opened seats) slots id (v, c) 1 (λ n. n) (NotesSettled (v, c))) (sym is) (notes_settled slots id v d on goes)
 
-  pub notes_faults_as : (slots id : ℕ) (v : SeatView K) (c : Slots) (d : Seated K) → c ≡ (0, Some d) ∷ [] → v.turns ≡ 1 → v.faults ≤ faults d.keeper → Allows (KeptIn faults follows opened seats) slots id (v, c) 1 (λ n. n) (NotesFaults faults (v, c))
-  notes_faults_as slots id v c d is on up = subst (λ (c : Slots). Allows (KeptIn faults follows opened seats) slots id (v, c) 1 (λ n. n) (NotesFaults faults (v, c))) (sym is) (notes_faults slots id v d on up)
+  pub notes_keeper_as : (slots id : ℕ) (v : SeatView K) (c : Slots) (d : Seated K) → c ≡ (0, Some d) ∷ [] → v.turns ≡ 1 → IfSome v.keeper (λ keeper. KeeperFollows G keeper d.keeper) → Allows (KeptIn G opened seats) slots id (v, c) 1 (λ n. n) (NotesKeeper (v, c))
+  notes_keeper_as slots id v c d is on goes = subst (λ (c : Slots). Allows (KeptIn G opened seats) slots id (v, c) 1 (λ n. n) (NotesKeeper (v, c))) (sym is) (notes_keeper slots id v d on goes)
 
-  pub passes_as : (slots id : ℕ) (v : SeatView K) (c : Slots) (d : Seated K) → c ≡ (0, Some d) ∷ [] → v.turns ≡ 1 → IsOf follows v d → d.book ≡ v.book → d.doubt ≡ v.doubt → faults d.keeper ≡ v.faults
-      → Allows (KeptIn faults follows opened seats) slots id (v, c) 1 (λ n. (n + 1) % 2 ^ 64) (Passes (v, c))
-  passes_as slots id v c d is on of same doubt count = subst (λ (c : Slots). Allows (KeptIn faults follows opened seats) slots id (v, c) 1 (λ n. (n + 1) % 2 ^ 64) (Passes (v, c))) (sym is) (passes slots id v d on of same doubt count)
+  pub passes_as : (slots id : ℕ) (v : SeatView K) (c : Slots) (d : Seated K) → c ≡ (0, Some d) ∷ [] → v.turns ≡ 1 → IsOf G v d → d.book ≡ v.book → d.doubt ≡ v.doubt → v.keeper ≡ Some d.keeper
+      → Allows (KeptIn G opened seats) slots id (v, c) 1 (λ n. (n + 1) % 2 ^ 64) (Passes (v, c))
+  passes_as slots id v c d is on of same doubt keeper = subst (λ (c : Slots). Allows (KeptIn G opened seats) slots id (v, c) 1 (λ n. (n + 1) % 2 ^ 64) (Passes (v, c))) (sym is) (passes slots id v d on of same doubt keeper)
 
-  pub looks_as : (slots id : ℕ) (m : Me (Option (Seated K)) (SeatView K)) (v : SeatView K) (c : Slots) → m ≡ (v, c) → v.waits ≡ 1 → v.turns ≡ 0 → Allows (KeptIn faults follows opened seats) slots id m 1 (λ n. n) (Looks faults follows m)
-  looks_as slots id m v c is wait off = subst (λ (m : Me (Option (Seated K)) (SeatView K)). Allows (KeptIn faults follows opened seats) slots id m 1 (λ n. n) (Looks faults follows m)) (sym is) (looks slots id v c wait off)
+  pub looks_as : (slots id : ℕ) (m : Me (Option (Seated K)) (SeatView K)) (v : SeatView K) (c : Slots) → m ≡ (v, c) → v.waits ≡ 1 → v.turns ≡ 0 → Allows (KeptIn G opened seats) slots id m 1 (λ n. n) (Looks G m)
+  looks_as slots id m v c is wait off = subst (λ (m : Me (Option (Seated K)) (SeatView K)). Allows (KeptIn G opened seats) slots id m 1 (λ n. n) (Looks G m)) (sym is) (looks slots id v c wait off)

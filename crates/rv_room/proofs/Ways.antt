@@ -1,5 +1,5 @@
 -- How a room is opened, how its seats are cut and joined, and how it is closed.
-use Rattle.std.proofs.Common.{◌≡◌, ◌≢◌, ◌⊎◌, ℕ, zero, suc, ◌+◌, ◌%◌, ◌^◌, ◌<◌, ◌≤◌, List, [], ◌∷◌, ◌++◌, length, set, refl, sym, ap, ◌∙◌, subst, inl, inr, ⊎_elim, arith, Some, None, Option, append-nil, Bool, true, false}
+use Rattle.std.proofs.Common.{◌≡◌, ◌≢◌, ◌⊎◌, ℕ, zero, suc, ◌+◌, ◌%◌, ◌^◌, ◌<◌, List, [], ◌∷◌, ◌++◌, length, set, refl, sym, ap, ◌∙◌, subst, inl, inr, ⊎_elim, arith, Some, None, Option, append-nil, Bool, true, false}
 use Rattle.std.specs.Prelude.{slice_get, nat_le, if◌then◌else◌}
 use Rattle.std.specs.List.{AllByRecursion}
 use mathlib.Core.Option.{some, none, some-injective, some-ne-none}
@@ -11,8 +11,10 @@ use Rattle.atomic_table.specs.Table.{State, Splits, Joins, opening, Seen, Final}
 use Rattle.atomic_table.proofs.Lists.{at_set, at_snoc, at_longer, set_else}
 use Rattle.rv_book.specs.declared.entry.Entry.{Entry}
 use Rattle.rv_book.specs.Book.{Book, size}
+use Rattle.rv_keeper.specs.declared.keeper.Keeper.{Ghosts}
 use Rattle.rv_desk.specs.Seated.{Seated}
 use Rattle.rv_room.specs.declared.view.SeatView.{SeatView}
+use Rattle.rv_room.specs.Following.{KeeperFollows, FollowsAll, follows_same}
 use Rattle.rv_room.specs.Lists.{StartsWith, total, once_below, count_at}
 use Rattle.rv_room.specs.Views.{newcomer, spent, IsIdle, less_one, one_more, longer, both}
 use Rattle.rv_room.specs.Rule.{parts_of, waits_of, own_at, IsLeft, Fits, IsOut, Keeps, AtHome, KeptIn}
@@ -34,12 +36,6 @@ module _ {K : Type 0} where
   snoc_all : (P : ℕ → SeatView K → Type 0) (views : List (SeatView K)) (w : SeatView K) → ((i : ℕ) (u : SeatView K) → At views i u → P i u) → ((i : ℕ) → P i w) → (i : ℕ) (u : SeatView K) → At (views ++ w ∷ []) i u → P i u
   snoc_all P views w old new i u e = ⊎_elim (λ t. old i u t) (λ (same : w ≡ u). subst (P i) same (new i)) (at_snoc views w u i e)
 
-  new_fits : (opened : Seated K) (log : Book) (front n top parts : ℕ) → StartsWith log opened.book → Fits opened log front n top (newcomer parts opened)
-  new_fits opened log front n top parts begun = record { once = omega arith; part = omega arith; waits = omega arith; line = (λ w. absurd (omega arith)); turn = (λ t. absurd (omega arith)); knows = (λ _. refl); seen = begun; joined = tt; own = tt; after = tt; spent = (λ _. (refl, refl)) }
-
-  spent_fits : (opened : Seated K) (log : Book) (front n top : ℕ) → Fits opened log front n top spent
-  spent_fits opened log front n top = record { once = omega arith; part = omega arith; waits = omega arith; line = (λ w. absurd (omega arith)); turn = (λ t. absurd (omega arith)); knows = (λ some. absurd (omega arith)); seen = (log, refl); joined = tt; own = tt; after = tt; spent = (λ _. (refl, refl)) }
-
   left_longer : (views more : List (SeatView K)) (e : Entry) → IsLeft views e → IsLeft (views ++ more) e
   left_longer views more e l = (l.0, l.1, at_longer views more l.0 l.1 l.2, l.3)
 
@@ -53,37 +49,44 @@ module _ {K : Type 0} where
       (λ same. let g = get_back v.left w.left l.3.0 e (ap (λ (u : SeatView K). slice_get u.left l.3.0) (sym (same_at views l.0 other l.1 w l.2 there same)) ∙ l.3.1) in (id, b, mine, (g.0, ap (λ xs. slice_get xs g.0) is ∙ g.1)))
       (λ not_other. (l.0, l.1, set_else (set views id b) other l.0 gone not_other ∙ (set_else views id l.0 b not_id ∙ l.2), l.3)))
 
-module _ {K : Type 0} (faults : K → ℕ) (follows : K → K → Type 0) (opened : Seated K) (seats : ℕ) where
+module _ {K : Type 0} (G : Ghosts K) where
+  new_fits : (opened : Seated K) (log : Book) (front n parts : ℕ) (keeper : K) → StartsWith log opened.book → Fits G opened log front n keeper (newcomer parts opened)
+  new_fits opened log front n parts keeper begun = record { once = omega arith; part = omega arith; waits = omega arith; line = (λ w. absurd (omega arith)); turn = (λ t. absurd (omega arith)); knows = (λ _. refl); seen = begun; joined = tt; own = tt; after = tt; spent = (λ _. (refl, refl)) }
+
+  spent_fits : (opened : Seated K) (log : Book) (front n : ℕ) (keeper : K) → Fits G opened log front n keeper spent
+  spent_fits opened log front n keeper = record { once = omega arith; part = omega arith; waits = omega arith; line = (λ w. absurd (omega arith)); turn = (λ t. absurd (omega arith)); knows = (λ some. absurd (omega arith)); seen = (log, refl); joined = tt; own = tt; after = tt; spent = (λ _. (refl, refl)) }
+
+module _ {K : Type 0} (G : Ghosts K) (opened : Seated K) (seats : ℕ) where
   abbrev Homes : Type 0
   Homes = List (maybe.Option (Option (Seated K)))
 
-  abbrev Home : Book → ℕ → Homes → List (SeatView K) → Type 0
-  Home = AtHome faults follows opened
+  abbrev Home : Book → K → Homes → List (SeatView K) → Type 0
+  Home = AtHome G opened
 
-  abbrev Slot : Book → ℕ → Homes → List (SeatView K) → Type 0
-  Slot log top homes views = Home log top homes views ⊎ IsOut homes views
+  abbrev Slot : Book → K → Homes → List (SeatView K) → Type 0
+  Slot log keeper homes views = Home log keeper homes views ⊎ IsOut homes views
 
   abbrev Holds : State (Option (Seated K)) (SeatView K) → Type 0
-  Holds = KeptIn faults follows opened seats
+  Holds = KeptIn G opened seats
 
-  slot_snoc : (log : Book) (top : ℕ) (homes : Homes) (views : List (SeatView K)) (w : SeatView K) → w.turns ≡ 0 → Slot log top homes views → Slot log top homes (views ++ w ∷ [])
-  slot_snoc log top homes views w off slot =
+  slot_snoc : (log : Book) (keeper : K) (homes : Homes) (views : List (SeatView K)) (w : SeatView K) → w.turns ≡ 0 → Slot log keeper homes views → Slot log keeper homes (views ++ w ∷ [])
+  slot_snoc log keeper homes views w off slot =
       ⊎_elim
-      (λ (t : Home log top homes views). inl (record { desk = t.desk; home = t.home; book = t.book; count = t.count; keeps = t.keeps; doubt = (λ e is. left_longer views (w ∷ []) e (t.doubt e is)); nobody = snoc_all (λ _ u. u.turns ≡ 0) views w t.nobody (λ _. off) }))
+      (λ (t : Home log keeper homes views). inl (record { desk = t.desk; home = t.home; book = t.book; keeper_is = t.keeper_is; keeps = t.keeps; doubt = (λ e is. left_longer views (w ∷ []) e (t.doubt e is)); nobody = snoc_all (λ _ u. u.turns ≡ 0) views w t.nobody (λ _. off) }))
       (λ (t : IsOut homes views). inr (record { empty = t.empty; who = t.who; view = t.view; at = at_longer views (w ∷ []) t.who t.view t.at; turn = t.turn; doubt = (λ e is. left_longer views (w ∷ []) e (t.doubt e is)) }))
       slot
 
   -- nobody has the turn: the seats that are joined can change as they like, where what was left is left still
-  slot_joined : (log : Book) (top : ℕ) (homes : Homes) (views : List (SeatView K)) (id other : ℕ) (v w b gone : SeatView K) → At views id v → At views other w → other ≢ id → b.left ≡ v.left ++ w.left
-      → v.turns ≡ 0 → w.turns ≡ 0 → b.turns ≡ 0 → gone.turns ≡ 0 → Slot log top homes views → Slot log top homes (set (set views id b) other gone)
-  slot_joined log top homes views id other v w b gone at there apart is v0 w0 b0 g0 slot =
+  slot_joined : (log : Book) (keeper : K) (homes : Homes) (views : List (SeatView K)) (id other : ℕ) (v w b gone : SeatView K) → At views id v → At views other w → other ≢ id → b.left ≡ v.left ++ w.left
+      → v.turns ≡ 0 → w.turns ≡ 0 → b.turns ≡ 0 → gone.turns ≡ 0 → Slot log keeper homes views → Slot log keeper homes (set (set views id b) other gone)
+  slot_joined log keeper homes views id other v w b gone at there apart is v0 w0 b0 g0 slot =
       let still = left_joined views id other v w b gone at there apart is in
       ⊎_elim
-      (λ (t : Home log top homes views). inl (record {
+      (λ (t : Home log keeper homes views). inl (record {
         desk = t.desk;
         home = t.home;
         book = t.book;
-        count = t.count;
+        keeper_is = t.keeper_is;
         keeps = t.keeps;
         doubt = (λ e d. still e (t.doubt e d));
         nobody = each_set (λ _ u. u.turns ≡ 0) (set views id b) other gone (λ i u _ e. each_set (λ _ u. u.turns ≡ 0) views id b (λ i u _ e. t.nobody i u e) b0 i u e) g0;
@@ -94,28 +97,27 @@ module _ {K : Type 0} (faults : K → ℕ) (follows : K → K → Type 0) (opene
       inr (record { empty = t.empty; who = t.who; view = t.view; at = set_else (set views id b) other t.who gone a2 ∙ (set_else views id t.who b a1 ∙ t.at); turn = t.turn; doubt = (λ e d. still e (t.doubt e d)) }))
       slot
 
-  pub begins : (signals : List ℕ) → follows opened.keeper opened.keeper → seats < 2 ^ 32 → opened.doubt ≡ None → Holds (opening (0 ∷ 0 ∷ size opened.book ∷ signals) (Some opened ∷ []) (newcomer seats opened))
-  begins signals same few sure = record {
+  pub begins : (signals : List ℕ) → seats < 2 ^ 32 → opened.doubt ≡ None → Holds (opening (0 ∷ 0 ∷ size opened.book ∷ signals) (Some opened ∷ []) (newcomer seats opened))
+  begins signals few sure = record {
     log = opened.book;
     front = 0;
-    top = faults opened.keeper;
+    keeper = opened.keeper;
     signals = signals;
     words_are = refl;
     slot = inl (record {
       desk = opened;
       home = refl;
       book = refl;
-      count = refl;
-      keeps = record { limit = refl; keeper = same };
+      keeper_is = refl;
+      keeps = record { limit = refl; keeper = follows_same G opened.keeper };
       doubt = (λ e doubt. absurd (no_doubt e (sym sure ∙ doubt)));
       nobody = (λ j v e. one (λ u. u.turns ≡ 0) refl j v e);
     });
     few = few;
     parts = omega arith;
     begun = ([], sym (append-nil opened.book));
-    risen = omega arith;
     places = λ p. omega arith;
-    each = one (Fits opened opened.book 0 0 (faults opened.keeper)) (new_fits opened opened.book 0 0 (faults opened.keeper) seats ([], sym (append-nil opened.book)));
+    each = one (Fits G opened opened.book 0 0 opened.keeper) (new_fits G opened opened.book 0 0 seats opened.keeper ([], sym (append-nil opened.book)));
     apart = λ i j v w a b vw ww same. absurd (one (λ u. u.waits ≡ 1 → ⊥) (λ x. omega arith) i v a vw);
     left = one (λ u. AllByRecursion (IsLeft (newcomer seats opened ∷ [])) u.settled) tt;
   }
@@ -139,10 +141,10 @@ module _ {K : Type 0} (faults : K → ℕ) (follows : K → K → Type 0) (opene
       record {
         log = k.log;
         front = k.front;
-        top = k.top;
+        keeper = k.keeper;
         signals = k.signals;
         words_are = subst (λ (n : ℕ). s.words ≡ (k.front + n) % 2 ^ 64 ∷ k.front % 2 ^ 64 ∷ length k.log ∷ k.signals) now k.words_are;
-        slot = slot_snoc k.log k.top s.homes views w refl (slot_set faults follows opened seats k.log k.top s.homes s.views id v l at refl refl [] refl k.slot);
+        slot = slot_snoc k.log k.keeper s.homes views w refl (slot_set G opened seats k.log k.keeper s.homes s.views id v l at refl refl [] refl k.slot);
         left = snoc_all (λ _ u. AllByRecursion (IsLeft (views ++ w ∷ [])) u.settled) views w
             (each_set (λ _ u. AllByRecursion (IsLeft (views ++ w ∷ [])) u.settled) s.views id l
             (λ i u _ e. all_map _ _ u.settled (λ x y. left_longer views (w ∷ []) x (left_set s.views id v l at [] refl x y)) (k.left i u e))
@@ -151,12 +153,11 @@ module _ {K : Type 0} (faults : K → ℕ) (follows : K → K → Type 0) (opene
         few = k.few;
         parts = let t = total_set parts_of s.views id v l at in let t' = total_snoc parts_of views w in let q = k.parts in omega arith;
         begun = k.begun;
-        risen = k.risen;
         places = λ p. let t = total_set (own_at p) s.views id v l at in let t' = total_snoc (own_at p) views w in let q = k.places p in omega arith;
-        each = subst (λ (n : ℕ). AllFit opened k.log k.front n k.top (views ++ w ∷ [])) now
-            (snoc_all (λ _. Fits opened k.log k.front n k.top) views w
-            (all_set opened k.log k.front n k.top s.views id l (λ i u _ e. k.each i u e) (record { once = f.once; part = omega arith; waits = f.waits; line = (λ o. absurd (omega arith)); turn = (λ o. absurd (omega arith)); knows = (λ _. refl); seen = f.seen; joined = f.joined; own = f.own; after = f.after; spent = (λ z. (refl, refl)) }))
-            (λ _. new_fits opened k.log k.front n k.top 1 k.begun));
+        each = subst (λ (n : ℕ). AllFit G opened k.log k.front n k.keeper (views ++ w ∷ [])) now
+            (snoc_all (λ _. Fits G opened k.log k.front n k.keeper) views w
+            (all_set G opened k.log k.front n k.keeper s.views id l (λ i u _ e. k.each i u e) (record { once = f.once; part = omega arith; waits = f.waits; line = (λ o. absurd (omega arith)); turn = (λ o. absurd (omega arith)); knows = (λ _. refl); seen = f.seen; joined = f.joined; own = f.own; after = f.after; spent = (λ z. (refl, refl)) }))
+            (λ _. new_fits G opened k.log k.front n 1 k.keeper k.begun));
         apart = λ i j a b ea eb aw bw same.
             let old = apart_set s.views id l k.apart (λ i u _ _ lw. absurd (omega arith)) in
             snoc_all (λ (i : ℕ) (a : SeatView K). a.waits ≡ 1 → a.ticket ≡ b.ticket → i ≡ j) views w
@@ -179,10 +180,10 @@ module _ {K : Type 0} (faults : K → ℕ) (follows : K → K → Type 0) (opene
       record {
         log = k.log;
         front = k.front;
-        top = k.top;
+        keeper = k.keeper;
         signals = k.signals;
         words_are = subst (λ (n : ℕ). s.words ≡ (k.front + n) % 2 ^ 64 ∷ k.front % 2 ^ 64 ∷ length k.log ∷ k.signals) now k.words_are;
-        slot = slot_joined k.log k.top s.homes s.views id other v w b gone at was apart refl v1 w1 v1 refl k.slot;
+        slot = slot_joined k.log k.keeper s.homes s.views id other v w b gone at was apart refl v1 w1 v1 refl k.slot;
         left = let still = left_joined s.views id other v w b gone at was apart refl in
             each_set (λ _ u. AllByRecursion (IsLeft (set one other gone)) u.settled) one other gone
             (λ i u _ e. each_set (λ _ u. AllByRecursion (IsLeft (set one other gone)) u.settled) s.views id b (λ i u _ e. all_map _ _ u.settled still (k.left i u e))
@@ -191,11 +192,10 @@ module _ {K : Type 0} (faults : K → ℕ) (follows : K → K → Type 0) (opene
         few = k.few;
         parts = let t = total_set parts_of s.views id v b at in let t' = total_set parts_of one other w gone there in let q = k.parts in omega arith;
         begun = k.begun;
-        risen = k.risen;
         places = λ p. let t = total_set (own_at p) s.views id v b at in let t' = total_set (own_at p) one other w gone there in let q = k.places p in let a = count_at-append p v.own w.own in omega arith;
-        each = subst (λ (n : ℕ). AllFit opened k.log k.front n k.top (set one other gone)) now
-            (all_set opened k.log k.front n k.top one other gone
-            (λ i u _ e. all_set opened k.log k.front n k.top s.views id b (λ i u _ e. k.each i u e)
+        each = subst (λ (n : ℕ). AllFit G opened k.log k.front n k.keeper (set one other gone)) now
+            (all_set G opened k.log k.front n k.keeper one other gone
+            (λ i u _ e. all_set G opened k.log k.front n k.keeper s.views id b (λ i u _ e. k.each i u e)
             (record {
               once = f.once;
               part = omega arith;
@@ -210,7 +210,7 @@ module _ {K : Type 0} (faults : K → ℕ) (follows : K → K → Type 0) (opene
               spent = (λ z. absurd (omega arith));
             })
             i u e)
-            (spent_fits opened k.log k.front n k.top));
+            (spent_fits G opened k.log k.front n k.keeper));
         apart = apart_set one other gone (apart_set s.views id b k.apart (λ i u _ _ lw. absurd (omega arith))) (λ i u _ _ lw. absurd (omega arith));
       }
 
@@ -218,7 +218,7 @@ module _ {K : Type 0} (faults : K → ℕ) (follows : K → K → Type 0) (opene
   pub record Closing (v : SeatView K) (homes : List (Option (Seated K))) : Type 0 where
     pub desk : Seated K
     pub home : get_elem? homes 0 ≡ some (Some desk)
-    pub keeps : Keeps follows opened desk
+    pub keeps : Keeps G opened desk
     pub begun : StartsWith desk.book opened.book
     pub seen : StartsWith desk.book v.seen
     pub joined : AllByRecursion (StartsWith desk.book) v.joined
@@ -226,8 +226,7 @@ module _ {K : Type 0} (faults : K → ℕ) (follows : K → K → Type 0) (opene
     pub places : (p : ℕ) → count_at p v.own + once_below p (size opened.book) ≡ once_below p (size desk.book)
     pub left : AllByRecursion (λ (e : Entry). (k : ℕ) × (slice_get v.left k ≡ Some e)) v.settled
     pub doubt : (e : Entry) → desk.doubt ≡ Some e → (k : ℕ) × (slice_get v.left k ≡ Some e)
-    pub after : AllByRecursion (λ (n : ℕ). n ≤ faults desk.keeper) v.after
-    pub risen : faults opened.keeper ≤ faults desk.keeper
+    pub after : FollowsAll G v.after desk.keeper
 
   pub closing : (id : ℕ) (v : SeatView K) (words : List ℕ) (homes : List (Option (Seated K))) → IsIdle v → v.parts ≡ seats → Final (Seen Holds id v) words homes → Closing v homes
   closing id v words homes idle all final =
@@ -235,7 +234,7 @@ module _ {K : Type 0} (faults : K → ℕ) (follows : K → K → Type 0) (opene
       let k : Holds s = final.1.0 in
       let at : At s.views id v = final.1.1 in
       ⊎_elim
-      (λ (t : Home k.log k.top s.homes s.views). closed s k at t final.4)
+      (λ (t : Home k.log k.keeper s.homes s.views). closed s k at t final.4)
       (λ (t : IsOut s.homes s.views). absurd (nobody s k at t.who t.view t.at t.turn))
       k.slot
     where
@@ -260,7 +259,7 @@ module _ {K : Type 0} (faults : K → ℕ) (follows : K → K → Type 0) (opene
           let has = total_has waits_of s.views j u there in
           let f = k.each j u there in let w = f.waits in let i0 = idle.0 in omega arith
 
-      closed : (s : State (Option (Seated K)) (SeatView K)) (k : Holds s) → At s.views id v → Home k.log k.top s.homes s.views → ((i : ℕ) (y : Option (Seated K)) → get_elem? s.homes i ≡ some (some y) → get_elem? homes i ≡ some y) → Closing v homes
+      closed : (s : State (Option (Seated K)) (SeatView K)) (k : Holds s) → At s.views id v → Home k.log k.keeper s.homes s.views → ((i : ℕ) (y : Option (Seated K)) → get_elem? s.homes i ≡ some (some y) → get_elem? homes i ≡ some y) → Closing v homes
       closed s k at h gives = let f = k.each id v at in let d = h.desk in let is = h.book in record {
         desk = d;
         home = gives 0 (Some d) (ap (λ hs. get_elem? hs 0) h.home);
@@ -272,8 +271,7 @@ module _ {K : Type 0} (faults : K → ℕ) (follows : K → K → Type 0) (opene
         places = λ p. let whole = total_alone (own_at p) parts_of s.views id v at (k.parts ∙ sym all) (λ i u e z. ap (count_at p) ((k.each i u e).spent z).0) in let q = k.places p in let e : once_below p (size d.book) ≡ once_below p (size k.log) = ap (λ (l : Book). once_below p (size l)) is in omega arith;
         left = all_map _ _ v.settled (λ e l. mine s k at e l) (k.left id v at);
         doubt = λ e is. mine s k at e (h.doubt e is);
-        after = subst (λ (n : ℕ). AllByRecursion (λ (m : ℕ). m ≤ n) v.after) (sym h.count) f.after;
-        risen = let q = k.risen in let c = h.count in omega arith;
+        after = subst (λ (x : K). FollowsAll G v.after x) (sym h.keeper_is) f.after;
       }
 
 module _ {K : Type 0} where
@@ -302,12 +300,12 @@ module _ {K : Type 0} where
   gather_left v [] k e g = inl (k, g)
   gather_left v (w ∷ ws) k e g = ⊎_elim (λ t. inr (gather_left v ws t.0 e t.1)) (λ t. inl t) (get_split (gather v ws).left w.left k e g)
 
-module _ {K : Type 0} (faults : K → ℕ) (follows : K → K → Type 0) (opened : Seated K) where
+module _ {K : Type 0} (G : Ghosts K) (opened : Seated K) where
   -- what is known of the book that was closed, from what the one view knows
-  closes : (v : SeatView K) (ws : List (SeatView K)) (homes : List (Option (Seated K))) (c : Closing faults follows opened (total parts_of (ws ++ v ∷ [])) (gather v ws) homes) → Closes faults follows opened (ws ++ v ∷ []) c.desk
+  closes : (v : SeatView K) (ws : List (SeatView K)) (homes : List (Option (Seated K))) (c : Closing G opened (total parts_of (ws ++ v ∷ [])) (gather v ws) homes) → Closes G opened (ws ++ v ∷ []) c.desk
   closes v ws homes c =
       let own = gather_all (λ v. v.own) (λ v w. refl) (λ x. slice_get c.desk.book x.0 ≡ Some x.1) v ws c.own in
-      let after = gather_all (λ v. v.after) (λ v w. refl) (λ n. n ≤ faults c.desk.keeper) v ws c.after in
+      let after = gather_all (λ v. v.after) (λ v w. refl) (λ keeper. KeeperFollows G keeper c.desk.keeper) v ws c.after in
       let seen = gather_seen (StartsWith c.desk.book) v ws c.seen c.joined in record {
         keeps = c.keeps;
         begun = c.begun;
@@ -317,41 +315,41 @@ module _ {K : Type 0} (faults : K → ℕ) (follows : K → K → Type 0) (opene
         left = let s = gather_all (λ v. v.settled) (λ v w. refl) (SomeLeft (ws ++ v ∷ [])) v ws (all_map _ _ (gather v ws).settled (λ e l. gather_left v ws l.0 e l.1) c.left) in all_append _ ws (v ∷ []) s.1 (s.0, tt);
         doubt = λ e is. let l = c.doubt e is in gather_left v ws l.0 e l.1;
         after = all_append _ ws (v ∷ []) after.1 (after.0, tt);
-        risen = c.risen;
+        risen = c.keeps.keeper.later;
       }
 
-  pub splits_as : (seats id : ℕ) (v : SeatView K) (n : ℕ) → v ≡ newcomer n opened → 1 < n → Splits (KeptIn faults follows opened seats) id v (less_one v) (one_more v)
-  splits_as seats id v n is many = subst (λ (v : SeatView K). Splits (KeptIn faults follows opened seats) id v (less_one v) (one_more v)) (sym is) (splits faults follows opened seats id n many)
+  pub splits_as : (seats id : ℕ) (v : SeatView K) (n : ℕ) → v ≡ newcomer n opened → 1 < n → Splits (KeptIn G opened seats) id v (less_one v) (one_more v)
+  splits_as seats id v n is many = subst (λ (v : SeatView K). Splits (KeptIn G opened seats) id v (less_one v) (one_more v)) (sym is) (splits G opened seats id n many)
 
-  pub begins_as : (signals : List ℕ) → follows opened.keeper opened.keeper → (seats : ℕ) (d : Seated K) (len : ℕ) (items : List (Option (Seated K))) → seats < 2 ^ 32 → d ≡ opened → d.doubt ≡ None → len ≡ size d.book → items ≡ Some d ∷ []
-      → KeptIn faults follows opened seats (opening (0 ∷ 0 ∷ len ∷ signals) items (newcomer seats opened))
-  begins_as signals same seats d len items few is sure size_is all =
+  pub begins_as : (signals : List ℕ) (seats : ℕ) (d : Seated K) (len : ℕ) (items : List (Option (Seated K))) → seats < 2 ^ 32 → d ≡ opened → d.doubt ≡ None → len ≡ size d.book → items ≡ Some d ∷ []
+      → KeptIn G opened seats (opening (0 ∷ 0 ∷ len ∷ signals) items (newcomer seats opened))
+  begins_as signals seats d len items few is sure size_is all =
       let sure' : opened.doubt ≡ None = subst (λ (x : Seated K). x.doubt ≡ None) is sure in
-      subst (λ (t : ℕ × List (Option (Seated K))). KeptIn faults follows opened seats (opening (0 ∷ 0 ∷ t.0 ∷ signals) t.1 (newcomer seats opened)))
+      subst (λ (t : ℕ × List (Option (Seated K))). KeptIn G opened seats (opening (0 ∷ 0 ∷ t.0 ∷ signals) t.1 (newcomer seats opened)))
       (λ i. (sym (size_is ∙ ap (λ (x : Seated K). size x.book) is) i, sym (all ∙ ap (λ (x : Seated K). Some x ∷ []) is) i))
-      (begins faults follows opened seats signals same few sure')
+      (begins G opened seats signals few sure')
 
-  pub joins_as : (seats id : ℕ) (v : SeatView K) (other : ℕ) (w first : SeatView K) (done : List (SeatView K)) → v ≡ gather first done → IsIdle first → first.parts ≡ 1 → IsIdle w → Joins (KeptIn faults follows opened seats) id v other w (both v w) spent
+  pub joins_as : (seats id : ℕ) (v : SeatView K) (other : ℕ) (w first : SeatView K) (done : List (SeatView K)) → v ≡ gather first done → IsIdle first → first.parts ≡ 1 → IsIdle w → Joins (KeptIn G opened seats) id v other w (both v w) spent
   joins_as seats id v other w first done is idle one iw =
       let all = gather_parts first done in let same : v.parts ≡ (gather first done).parts = ap (λ (u : SeatView K). u.parts) is in
-      joins faults follows opened seats id v other w (subst IsIdle (sym is) (gather_idle first done idle)) iw (omega arith)
+      joins G opened seats id v other w (subst IsIdle (sym is) (gather_idle first done idle)) iw (omega arith)
 
   -- the desk of a room that was closed
   pub shut : (seats id : ℕ) (v : SeatView K) (words : List ℕ) (homes : List (Option (Seated K))) (first : SeatView K) (ws : List (SeatView K))
-      → v ≡ gather first ws → IsIdle first → total parts_of (ws ++ first ∷ []) ≡ seats → Final (Seen (KeptIn faults follows opened seats) id v) words homes
-      → (slot : Option (Seated K)) → get_elem? homes 0 ≡ some slot → (d : Seated K) × (slot ≡ Some d) × Closes faults follows opened (ws ++ first ∷ []) d
+      → v ≡ gather first ws → IsIdle first → total parts_of (ws ++ first ∷ []) ≡ seats → Final (Seen (KeptIn G opened seats) id v) words homes
+      → (slot : Option (Seated K)) → get_elem? homes 0 ≡ some slot → (d : Seated K) × (slot ≡ Some d) × Closes G opened (ws ++ first ∷ []) d
   shut seats id v words homes first ws is idle all final slot at =
       let t = total_snoc parts_of ws first in
       let p = gather_parts first ws in
       let same : v.parts ≡ (gather first ws).parts = ap (λ (u : SeatView K). u.parts) is in
-      let c : Closing faults follows opened seats v homes = closing faults follows opened seats id v words homes (subst IsIdle (sym is) (gather_idle first ws idle)) (omega arith) final in
-      let c' : Closing faults follows opened (total parts_of (ws ++ first ∷ [])) (gather first ws) homes = subst (λ (x : ℕ × SeatView K). Closing faults follows opened x.0 x.1 homes) (λ i. (sym all i, is i)) c in
+      let c : Closing G opened seats v homes = closing G opened seats id v words homes (subst IsIdle (sym is) (gather_idle first ws idle)) (omega arith) final in
+      let c' : Closing G opened (total parts_of (ws ++ first ∷ [])) (gather first ws) homes = subst (λ (x : ℕ × SeatView K). Closing G opened x.0 x.1 homes) (λ i. (sym all i, is i)) c in
       (c'.desk, some-injective _ _ (sym at ∙ c'.home), closes first ws homes c')
 
   -- the same, of a desk that was found in the slot
   pub shut_at : (seats id : ℕ) (v : SeatView K) (words : List ℕ) (homes : List (Option (Seated K))) (first : SeatView K) (ws : List (SeatView K))
-      → v ≡ gather first ws → IsIdle first → total parts_of (ws ++ first ∷ []) ≡ seats → Final (Seen (KeptIn faults follows opened seats) id v) words homes
-      → (slot : Option (Seated K)) → get_elem? homes 0 ≡ some slot → (d : Seated K) → slot ≡ Some d → Closes faults follows opened (ws ++ first ∷ []) d
+      → v ≡ gather first ws → IsIdle first → total parts_of (ws ++ first ∷ []) ≡ seats → Final (Seen (KeptIn G opened seats) id v) words homes
+      → (slot : Option (Seated K)) → get_elem? homes 0 ≡ some slot → (d : Seated K) → slot ≡ Some d → Closes G opened (ws ++ first ∷ []) d
   shut_at seats id v words homes first ws is idle all final slot at d found =
       let s = shut seats id v words homes first ws is idle all final slot at in
-      subst (λ (x : Seated K). Closes faults follows opened (ws ++ first ∷ []) x) (some_same _ _ (sym s.1 ∙ found)) s.2
+      subst (λ (x : Seated K). Closes G opened (ws ++ first ∷ []) x) (some_same _ _ (sym s.1 ∙ found)) s.2

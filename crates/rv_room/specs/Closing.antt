@@ -3,8 +3,10 @@ use Rattle.std.specs.Prelude.{◌≡◌, ◌⊎◌, ℕ, ◌+◌, ◌≤◌, Lis
 use Rattle.std.specs.List.{AllByRecursion}
 use Rattle.rv_book.specs.declared.entry.Entry.{Entry}
 use Rattle.rv_book.specs.Book.{size}
+use Rattle.rv_keeper.specs.declared.keeper.Keeper.{Ghosts}
 use Rattle.rv_desk.specs.Seated.{Seated}
 use Rattle.rv_room.specs.declared.view.SeatView.{SeatView}
+use Rattle.rv_room.specs.Following.{FollowsAll}
 use Rattle.rv_room.specs.Lists.{StartsWith, total, once_below}
 use Rattle.rv_room.specs.Rule.{own_at, Keeps}
 use Rattle.rv_room.specs.Views.{both}
@@ -22,15 +24,14 @@ module _ {K : Type 0} where
 
 -- The seats of a room that was opened with a desk and closed with one. The book has become longer; what each seat had seen is a front
 -- of it; what a seat made stands in it at its place; each place after the opened book is own of one seat, and once; what one settled,
--- and what is in doubt, some seat had left; the keeper follows the one that the room was opened with, and its count is not below any that a seat
--- remembers.
-pub record Closes {K : Type 0} (faults : K → ℕ) (follows : K → K → Type 0) (opened : Seated K) (views : List (SeatView K)) (desk : Seated K) : Type 0 where
-  pub keeps : Keeps follows opened desk
+-- and what is in doubt, some seat had left; the keeper follows the one that the room was opened with, and each that a seat remembers.
+pub record Closes {K : Type 0} (G : Ghosts K) (opened : Seated K) (views : List (SeatView K)) (desk : Seated K) : Type 0 where
+  pub keeps : Keeps G opened desk
   pub begun : StartsWith desk.book opened.book
   pub seen : AllByRecursion (λ v. StartsWith desk.book v.seen) views
   pub own : AllByRecursion (λ v. AllByRecursion (λ x. slice_get desk.book x.0 ≡ Some x.1) v.own) views
   pub places : (n : ℕ) → total (own_at n) views + once_below n (size opened.book) ≡ once_below n (size desk.book)
   pub left : AllByRecursion (λ v. AllByRecursion (SomeLeft views) v.settled) views
   pub doubt : (e : Entry) → desk.doubt ≡ Some e → SomeLeft views e
-  pub after : AllByRecursion (λ v. AllByRecursion (λ count. count ≤ faults desk.keeper) v.after) views
-  pub risen : faults opened.keeper ≤ faults desk.keeper
+  pub after : AllByRecursion (λ v. FollowsAll G v.after desk.keeper) views
+  pub risen : G.faults opened.keeper ≤ G.faults desk.keeper

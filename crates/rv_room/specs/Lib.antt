@@ -1,4 +1,5 @@
 pub mod Lists
+pub mod Following
 pub mod Views
 pub mod Rule
 pub mod Plays

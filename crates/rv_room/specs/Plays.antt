@@ -1,12 +1,13 @@
 -- What each step at a room's table tells its seat.
-use Rattle.std.specs.Prelude.{◌≡◌, ◌≢◌, ℕ, ◌%◌, ◌^◌, ◌≤◌, List, [], ◌∷◌, ◌++◌, Option, Some, None}
-use Rattle.std.specs.List.{AllByRecursion}
+use Rattle.std.specs.Prelude.{◌≡◌, ◌≢◌, ℕ, ◌%◌, ◌^◌, List, [], ◌∷◌, ◌++◌, Option, Some, None}
 use Rattle.atomic_table.specs.Table.{Me}
+use Rattle.rv_keeper.specs.declared.keeper.Keeper.{Ghosts}
 use Rattle.rv_desk.specs.Seated.{Seated}
 use Rattle.rv_room.specs.declared.view.SeatView.{SeatView}
+use Rattle.rv_room.specs.Following.{FollowsAll}
 use Rattle.rv_room.specs.Lists.{StartsWith}
 use Rattle.rv_room.specs.Rule.{IsOf}
-use Rattle.rv_room.specs.Views.{waiting, on_turn, grown, entered, listed, noted, with_faults, ended}
+use Rattle.rv_room.specs.Views.{waiting, on_turn, grown, entered, listed, noted, with_keeper, ended}
 
 -- what a seat knows, and the slots that it holds
 abbrev pub Knows : Type 0 → Type 0
@@ -28,11 +29,11 @@ module _ {K : Type 0} where
   TakesIfNext ticket m n m' = (n ≡ ticket → TakesTicket m n m') × (n ≢ ticket → m' ≡ m)
 
   -- The number of turns that have ended is another than the seat's ticket, and all stays; or it is the ticket, and the seat has the
-  -- turn and the desk, whose book begins with what the seat had seen, and whose keeper's count has not fallen since.
-  abbrev pub Looks : (K → ℕ) → (K → K → Type 0) → Knows K → ℕ → Knows K → Type 0
-  Looks faults follows m n m' =
+  -- turn and the desk, whose book begins with what the seat had seen, and whose keeper follows those that it remembers.
+  abbrev pub Looks : Ghosts K → Knows K → ℕ → Knows K → Type 0
+  Looks G m n m' =
       (n ≢ m.0.ticket % 2 ^ 64 → m' ≡ m)
-      × (n ≡ m.0.ticket % 2 ^ 64 → (d : Seated K) × IsOf follows m.0 d × StartsWith d.book m.0.seen × AllByRecursion (λ k. k ≤ faults d.keeper) m.0.after × (m' ≡ (on_turn faults m.0 d, (0, Some d) ∷ m.1)))
+      × (n ≡ m.0.ticket % 2 ^ 64 → (d : Seated K) × IsOf G m.0 d × StartsWith d.book m.0.seen × FollowsAll G m.0.after d.keeper × (m' ≡ (on_turn G.faults m.0 d, (0, Some d) ∷ m.1)))
 
   -- the entry that was in doubt has entered the book
   abbrev pub CountsSettled : Knows K → ℕ → Knows K → Type 0
@@ -42,13 +43,13 @@ module _ {K : Type 0} where
   abbrev pub CountsMade : Knows K → ℕ → Knows K → Type 0
   CountsMade m n m' = m' ≡ (grown m.0 (carried (λ d. d.book) [] m.1), m.1)
 
-  -- this is in doubt now
-  abbrev pub NotesSettled : (K → ℕ) → Knows K → ℕ → Knows K → Type 0
-  NotesSettled faults m n m' = m' ≡ (noted m.0 (carried (λ d. d.doubt) None m.1) (carried (λ d. faults d.keeper) 0 m.1), m.1)
+  -- this is in doubt now, and this is the keeper
+  abbrev pub NotesSettled : Knows K → ℕ → Knows K → Type 0
+  NotesSettled m n m' = m' ≡ (noted m.0 (carried (λ d. d.doubt) None m.1) (carried (λ d. Some d.keeper) None m.1), m.1)
 
-  -- the keeper has failed so often now
-  abbrev pub NotesFaults : (K → ℕ) → Knows K → ℕ → Knows K → Type 0
-  NotesFaults faults m n m' = m' ≡ (with_faults m.0 (carried (λ d. faults d.keeper) 0 m.1), m.1)
+  -- the keeper is this now
+  abbrev pub NotesKeeper : Knows K → ℕ → Knows K → Type 0
+  NotesKeeper m n m' = m' ≡ (with_keeper m.0 (carried (λ d. Some d.keeper) None m.1), m.1)
 
   -- nothing changes that a seat knows
   abbrev pub Signals : Knows K → ℕ → Knows K → Type 0

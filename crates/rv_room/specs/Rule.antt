@@ -8,8 +8,10 @@ use lib.ListN.{get_elem?}
 use Rattle.atomic_table.specs.Table.{State}
 use Rattle.rv_book.specs.declared.entry.Entry.{Entry}
 use Rattle.rv_book.specs.Book.{Book, size}
+use Rattle.rv_keeper.specs.declared.keeper.Keeper.{Ghosts}
 use Rattle.rv_desk.specs.Seated.{Seated}
 use Rattle.rv_room.specs.declared.view.SeatView.{SeatView}
+use Rattle.rv_room.specs.Following.{KeeperFollows, FollowsAll}
 use Rattle.rv_room.specs.Lists.{StartsWith, total, once_below, count_at}
 
 module _ {K : Type 0} where
@@ -29,21 +31,6 @@ module _ {K : Type 0} where
   abbrev pub DoubtIsLeft : List (SeatView K) → Option Entry → Type 0
   DoubtIsLeft views doubt = (e : Entry) → doubt ≡ Some e → IsLeft views e
 
-  -- What holds of one view, where the room was opened with this desk, this is the history, so many turns have ended, so many seats
-  -- wait or have the turn, and the keeper has failed so often.
-  pub record Fits (opened : Seated K) (log : Book) (front waiting top : ℕ) (v : SeatView K) : Type 0 where
-    pub once : v.waits ≤ 1
-    pub part : v.waits ≤ v.parts
-    pub waits : v.turns ≤ v.waits
-    pub line : v.waits ≡ 1 → (front ≤ v.ticket) × (v.ticket < front + waiting)
-    pub turn : v.turns ≡ 1 → (v.ticket ≡ front) × (v.book ≡ log) × (v.faults ≡ top)
-    pub knows : 0 < v.parts → v.opened ≡ Some opened
-    pub seen : StartsWith log v.seen
-    pub joined : AllByRecursion (StartsWith log) v.joined
-    pub own : AllByRecursion (λ x. slice_get log x.0 ≡ Some x.1) v.own
-    pub after : AllByRecursion (λ n. n ≤ top) v.after
-    pub spent : v.parts ≡ 0 → (v.own ≡ []) × (v.left ≡ [])
-
   -- a seat has the turn, and the slot is empty
   pub record IsOut (homes : List (maybe.Option (Option (Seated K)))) (views : List (SeatView K)) : Type 0 where
     pub empty : homes ≡ none ∷ []
@@ -53,41 +40,54 @@ module _ {K : Type 0} where
     pub turn : view.turns ≡ 1
     pub doubt : DoubtIsLeft views view.doubt
 
-module _ {K : Type 0} (follows : K → K → Type 0) where
+module _ {K : Type 0} (G : Ghosts K) where
   -- the desk has kept the limit of the one that the room was opened with, and its keeper follows that one's
   pub record Keeps (opened d : Seated K) : Type 0 where
     pub limit : d.limit ≡ opened.limit
-    pub keeper : follows opened.keeper d.keeper
+    pub keeper : KeeperFollows G opened.keeper d.keeper
 
   -- it is a desk of the seat's room
   abbrev pub IsOf : SeatView K → Seated K → Type 0
   IsOf v d = (opened : Seated K) × (v.opened ≡ Some opened) × Keeps opened d
 
-module _ {K : Type 0} (faults : K → ℕ) (follows : K → K → Type 0) where
+  -- What holds of one view, where the room was opened with this desk, this is the history, so many turns have ended, so many seats
+  -- wait or have the turn, and this is the keeper.
+  pub record Fits (opened : Seated K) (log : Book) (front waiting : ℕ) (keeper : K) (v : SeatView K) : Type 0 where
+    pub once : v.waits ≤ 1
+    pub part : v.waits ≤ v.parts
+    pub waits : v.turns ≤ v.waits
+    pub line : v.waits ≡ 1 → (front ≤ v.ticket) × (v.ticket < front + waiting)
+    pub turn : v.turns ≡ 1 → (v.ticket ≡ front) × (v.book ≡ log) × (v.keeper ≡ Some keeper)
+    pub knows : 0 < v.parts → v.opened ≡ Some opened
+    pub seen : StartsWith log v.seen
+    pub joined : AllByRecursion (StartsWith log) v.joined
+    pub own : AllByRecursion (λ x. slice_get log x.0 ≡ Some x.1) v.own
+    pub after : FollowsAll G v.after keeper
+    pub spent : v.parts ≡ 0 → (v.own ≡ []) × (v.left ≡ [])
+
   -- The desk is at home, where its book is the history and what is in doubt was left by some seat, and nobody has the turn.
-  pub record AtHome (opened : Seated K) (log : Book) (top : ℕ) (homes : List (maybe.Option (Option (Seated K)))) (views : List (SeatView K)) : Type 0 where
+  pub record AtHome (opened : Seated K) (log : Book) (keeper : K) (homes : List (maybe.Option (Option (Seated K)))) (views : List (SeatView K)) : Type 0 where
     pub desk : Seated K
     pub home : homes ≡ some (Some desk) ∷ []
     pub book : desk.book ≡ log
-    pub count : faults desk.keeper ≡ top
-    pub keeps : Keeps follows opened desk
+    pub keeper_is : desk.keeper ≡ keeper
+    pub keeps : Keeps opened desk
     pub doubt : DoubtIsLeft views desk.doubt
     pub nobody : (j : ℕ) (v : SeatView K) → get_elem? views j ≡ some v → v.turns ≡ 0
 
   pub record Kept (opened : Seated K) (seats : ℕ) (words : List ℕ) (homes : List (maybe.Option (Option (Seated K)))) (views : List (SeatView K)) : Type 0 where
     pub log : Book
     pub front : ℕ
-    pub top : ℕ
+    pub keeper : K
     pub signals : List ℕ
     pub words_are : words ≡ (front + total waits_of views) % 2 ^ 64 ∷ front % 2 ^ 64 ∷ length log ∷ signals
-    pub slot : AtHome opened log top homes views ⊎ IsOut homes views
+    pub slot : AtHome opened log keeper homes views ⊎ IsOut homes views
     pub few : seats < 2 ^ 32
     pub parts : total parts_of views ≡ seats
     pub begun : StartsWith log opened.book
-    pub risen : faults opened.keeper ≤ top
     -- each place after the opened book is own of one view, and once
     pub places : (n : ℕ) → total (own_at n) views + once_below n (size opened.book) ≡ once_below n (size log)
-    pub each : (j : ℕ) (v : SeatView K) → get_elem? views j ≡ some v → Fits opened log front (total waits_of views) top v
+    pub each : (j : ℕ) (v : SeatView K) → get_elem? views j ≡ some v → Fits opened log front (total waits_of views) keeper v
     pub apart : (i j : ℕ) (v w : SeatView K) → get_elem? views i ≡ some v → get_elem? views j ≡ some w → v.waits ≡ 1 → w.waits ≡ 1 → v.ticket ≡ w.ticket → i ≡ j
     -- what one view settled was left by some seat
     pub left : (j : ℕ) (v : SeatView K) → get_elem? views j ≡ some v → AllByRecursion (IsLeft views) v.settled

@@ -13,6 +13,8 @@ use Rattle.rv_history.specs.declared.pull_answer.PullAnswer.{PullAnswer}
 use Rattle.rv_history.specs.declared.retire_answer.RetireAnswer.{RetireAnswer}
 use Rattle.rv_history.specs.Machine.{Sender, Mutates, Pulls, Retires}
 use Rattle.rv_history.specs.Troubles.{turn_trouble, pull_trouble, retire_trouble}
+use Rattle.rv_history.specs.Served.{IsChanged}
+use Rattle.rv_keeper.specs.declared.keeper.Keeper.{Ghosts}
 use Rattle.rv_desk.specs.Seated.{Seated}
 use Rattle.rv_room.specs.declared.view.SeatView.{SeatView}
 use Rattle.rv_room.specs.Lists.{StartsWith, numbered}
@@ -62,21 +64,25 @@ module _ {A : Type 0} (trouble : A → Option Trouble) (Step : Book → A → Bo
   TurnAs turn answer (Some (Changed kept found)) =
       Rose turn.first turn.last × (turn.made ≡ []) × IsHeld turn × (kept ≡ size turn.history) × ¬ (found ≡ kept) × ¬ (found ≡ kept + 1)
 
-module _ {K A : Type 0} (faults : K → ℕ) (fails_no_more : K → Type 0) (trouble : A → Option Trouble) (Step : ℕ → Book → A → Book → Type 0) where
+module _ {K A : Type 0} (G : Ghosts K) (trouble : A → Option Trouble) (Step : ℕ → Book → A → Book → Type 0) where
   -- A turn of a seat, by what it knows before and after. The history as it begins starts with all that the seat had seen, and the first
-  -- count is not below any that it remembers, nor below the count of the desk that the room was opened with. The turn is one of the
-  -- server at that history, under the limit of that desk, and tells no trouble where that desk's keeper failed no more. Then the seat
-  -- has seen the history as the turn ended, has what was added as its own, and remembers the rest. That the history and the counts are
+  -- count is not below that of any keeper that it remembers, nor below the count of the desk that the room was opened with. The turn is
+  -- one of the server at that history, under the limit of that desk. It tells no trouble where that desk's keeper failed no more, and
+  -- where the keeper tells as the turn ended, not that another changed what is kept. Then the seat has seen the history as the turn
+  -- ended, has what was added as its own, and remembers the keeper as it was then, and the rest. That the history and the keeper are
   -- those of the desk in the room, the rule of its table says.
   pub record IsSeatTurn (old : SeatView K) (answer : A) (new : SeatView K) : Type 0 where
     pub opened : Seated K
     pub turn : Parts
+    pub now : K
     pub room : old.opened ≡ Some opened
-    pub risen : faults opened.keeper ≤ turn.first
-    pub sure : fails_no_more opened.keeper → trouble answer ≡ None
+    pub risen : G.faults opened.keeper ≤ turn.first
+    pub sure : G.fails_no_more opened.keeper → trouble answer ≡ None
+    pub near : G.tells now → ¬ IsChanged (trouble answer)
     pub begins : StartsWith turn.history old.seen
-    pub since : AllByRecursion (λ count. count ≤ turn.first) old.after
+    pub since : AllByRecursion (λ keeper. G.faults keeper ≤ turn.first) old.after
     pub later : turn.first ≤ turn.last
+    pub last : turn.last ≡ G.faults now
     pub comes : Comes turn.doubt turn.came
     pub is : TurnAs trouble (Step opened.limit) turn answer (trouble answer)
     pub stays : new.opened ≡ old.opened
@@ -86,15 +92,15 @@ module _ {K A : Type 0} (faults : K → ℕ) (fails_no_more : K → Type 0) (tro
     pub settled : new.settled ≡ old.settled ++ turn.came
     pub left : new.left ≡ old.left ++ turn.left
     pub before : new.before ≡ old.before ++ turn.first ∷ []
-    pub after : new.after ≡ old.after ++ turn.last ∷ []
+    pub after : new.after ≡ old.after ++ now ∷ []
 
-module _ {K : Type 0} (faults : K → ℕ) (fails_no_more : K → Type 0) where
+module _ {K : Type 0} (G : Ghosts K) where
   -- the turns of a seat that are a mutation, a pull and a retirement
   abbrev pub SeatMutates : SeatView K → Sender → Mutation → Turn → SeatView K → Type 0
-  SeatMutates old from m turn new = IsSeatTurn faults fails_no_more turn_trouble (λ limit. Mutates limit from m) old turn new
+  SeatMutates old from m turn new = IsSeatTurn G turn_trouble (λ limit. Mutates limit from m) old turn new
 
   abbrev pub SeatPulls : SeatView K → List ℕ → PullRequest → PullAnswer → SeatView K → Type 0
-  SeatPulls old user request answer new = IsSeatTurn faults fails_no_more pull_trouble (λ limit. Pulls limit user request) old answer new
+  SeatPulls old user request answer new = IsSeatTurn G pull_trouble (λ limit. Pulls limit user request) old answer new
 
   abbrev pub SeatRetires : SeatView K → List ℕ → RetireAnswer → SeatView K → Type 0
-  SeatRetires old group answer new = IsSeatTurn faults fails_no_more retire_trouble (λ limit. Retires limit group) old answer new
+  SeatRetires old group answer new = IsSeatTurn G retire_trouble (λ limit. Retires limit group) old answer new

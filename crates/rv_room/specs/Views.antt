@@ -6,10 +6,10 @@ use Rattle.rv_desk.specs.Seated.{Seated}
 use Rattle.rv_room.specs.declared.view.SeatView.{SeatView}
 use Rattle.rv_room.specs.Lists.{numbered}
 
--- what is in doubt, as a list
-abbrev pub listed : Option Entry → List Entry
+-- what is there, as a list
+abbrev pub listed : {X : Type 0} → Option X → List X
 listed None = []
-listed (Some e) = e ∷ []
+listed (Some x) = x ∷ []
 
 abbrev pub longer : Book → Book → Book
 longer xs ys = if nat_le (size xs) (size ys) then ys else xs
@@ -25,7 +25,7 @@ module _ {K : Type 0} where
     opened = Some opened;
     book = [];
     doubt = None;
-    faults = 0;
+    keeper = None;
     seen = opened.book;
     own = [];
     settled = [];
@@ -46,7 +46,7 @@ module _ {K : Type 0} where
     opened = None;
     book = [];
     doubt = None;
-    faults = 0;
+    keeper = None;
     seen = [];
     own = [];
     settled = [];
@@ -63,11 +63,11 @@ module _ {K : Type 0} where
 
   -- it has a ticket
   abbrev pub waiting : SeatView K → ℕ → SeatView K
-  waiting v t = record v { waits = 1; turns = 0; ticket = t; book = []; doubt = None; faults = 0 }
+  waiting v t = record v { waits = 1; turns = 0; ticket = t; book = []; doubt = None; keeper = None }
 
-  -- it has the turn, and knows the desk that is at home
+  -- it has the turn, knows the desk that is at home, and remembers how often its keeper has failed
   abbrev pub on_turn : (K → ℕ) → SeatView K → Seated K → SeatView K
-  on_turn faults v d = record v { turns = 1; book = d.book; doubt = d.doubt; faults = faults d.keeper; before = v.before ++ faults d.keeper ∷ [] }
+  on_turn faults v d = record v { turns = 1; book = d.book; doubt = d.doubt; keeper = Some d.keeper; before = v.before ++ faults d.keeper ∷ [] }
 
   -- the history has become this: what was added is the seat's own
   abbrev pub grown : SeatView K → Book → SeatView K
@@ -77,13 +77,13 @@ module _ {K : Type 0} where
   abbrev pub entered : SeatView K → Book → SeatView K
   entered v book = record (grown v book) { settled = v.settled ++ since (size v.book) book }
 
-  -- this is in doubt now, and the seat's turn left it so
-  abbrev pub noted : SeatView K → Option Entry → ℕ → SeatView K
-  noted v doubt faults = record v { doubt = doubt; faults = faults; left = v.left ++ listed doubt }
+  -- the keeper is this now
+  abbrev pub with_keeper : SeatView K → Option K → SeatView K
+  with_keeper v keeper = record v { keeper = keeper }
 
-  -- the keeper has failed so often now
-  abbrev pub with_faults : SeatView K → ℕ → SeatView K
-  with_faults v faults = record v { faults = faults }
+  -- the same, and this is in doubt, which the seat's turn left so
+  abbrev pub noted : SeatView K → Option Entry → Option K → SeatView K
+  noted v doubt keeper = record v { doubt = doubt; keeper = keeper; left = v.left ++ listed doubt }
 
   -- its turn has ended
   abbrev pub ended : SeatView K → SeatView K
@@ -93,10 +93,10 @@ module _ {K : Type 0} where
     ticket = 0;
     book = [];
     doubt = None;
-    faults = 0;
+    keeper = None;
     seen = v.book;
     ends = v.ends ++ size v.book ∷ [];
-    after = v.after ++ v.faults ∷ [];
+    after = v.after ++ listed v.keeper;
   }
 
   -- a seat is cut off it

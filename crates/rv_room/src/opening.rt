@@ -1,6 +1,5 @@
 // How a room is opened, and how it is closed.
 ghost use Rattle.std.specs.Prelude.{◌≡◌, ℕ, ◌<◌, ◌≤◌, [], map, None, vec_len, vec_capacity, IfOk, IfErr};
-ghost use Rattle.rv_keeper.specs.Keeping.{Follows};
 ghost use Rattle.rv_room.specs.Closing.{Closes, gather};
 ghost use Rattle.rv_room.specs.Seats.{id_of, opened_of, seats_of, view_of, AllOf, AllNew};
 ghost use Rattle.rv_room.specs.Views.{newcomer, IsIdle};
@@ -105,7 +104,7 @@ impl<K: Keeper> Room<K> {
     pub fn close(self, seats: Seats<K>) -> Desk<K>
         requires all { vec_len seats.list ≡ seats_of self }
         requires table { AllOf (id_of self) seats.list.items }
-        ensures { Closes K.faults (Follows K.faults K.tells K.fails_no_more) (opened_of self) (map view_of seats.list.items) result }
+        ensures { Closes K.Keeper (opened_of self) (map view_of seats.list.items) result }
     {
         let Room { table } = self;
         let Seats { mut list } = seats;

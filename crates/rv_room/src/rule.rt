@@ -21,11 +21,10 @@ pub struct OneHistory<K> {
 }
 
 impl<K: Keeper> TableRule<Option<Desk<K>>, SeatView<K>, About<K>> for OneHistory<K> {
-    ghost use Rattle.rv_keeper.specs.Keeping.{Follows};
     ghost use Rattle.rv_room.specs.Rule.{KeptIn};
     ghost use Rattle.rv_room.specs.Views.{newcomer};
 
-    ghost holds = { λ about. KeptIn K.faults (Follows K.faults K.tells K.fails_no_more) about.opened.value about.seats };
+    ghost holds = { λ about. KeptIn K.Keeper about.opened.value about.seats };
 
     ghost first = { λ about. newcomer about.seats about.opened.value };
 }
@@ -52,10 +51,9 @@ impl<K: Keeper> Play<Option<Desk<K>>, SeatView<K>> for TakeFreeTicket {
 pub(crate) struct LookAtTurn;
 
 impl<K: Keeper> Play<Option<Desk<K>>, SeatView<K>> for LookAtTurn {
-    ghost use Rattle.rv_keeper.specs.Keeping.{Follows};
     ghost use Rattle.rv_room.specs.Plays.{Looks};
 
-    ghost then = { λ _. Looks K.faults (Follows K.faults K.tells K.fails_no_more) };
+    ghost then = { λ _. Looks K.Keeper };
 }
 
 // The entry that was in doubt is counted.
@@ -82,16 +80,16 @@ pub(crate) struct NoteSettled;
 impl<K: Keeper> Play<Option<Desk<K>>, SeatView<K>> for NoteSettled {
     ghost use Rattle.rv_room.specs.Plays.{NotesSettled};
 
-    ghost then = { λ _. NotesSettled K.faults };
+    ghost then = { λ _. NotesSettled };
 }
 
 // The desk is looked at after it could not settle: what was in doubt still is.
-pub(crate) struct NoteFaults;
+pub(crate) struct NoteKeeper;
 
-impl<K: Keeper> Play<Option<Desk<K>>, SeatView<K>> for NoteFaults {
-    ghost use Rattle.rv_room.specs.Plays.{NotesFaults};
+impl<K: Keeper> Play<Option<Desk<K>>, SeatView<K>> for NoteKeeper {
+    ghost use Rattle.rv_room.specs.Plays.{NotesKeeper};
 
-    ghost then = { λ _. NotesFaults K.faults };
+    ghost then = { λ _. NotesKeeper };
 }
 
 // The turn is passed on.

@@ -41,11 +41,11 @@ impl<'a, R: Wait, K: Keeper> Turns for SeatTurns<'a, R, K> {
     ghost use Rattle.rv_room.specs.SeatTurns.{SeatMutates, SeatPulls, SeatRetires};
     ghost use Rattle.rv_room.specs.Seats.{view_of};
 
-    ghost mutates = { λ old from mutation turn new. SeatMutates K.faults K.fails_no_more (view_of old.seat) from mutation turn (view_of new.seat) × (new.room.now ≡ old.room.now) };
+    ghost mutates = { λ old from mutation turn new. SeatMutates K.Keeper (view_of old.seat) from mutation turn (view_of new.seat) × (new.room.now ≡ old.room.now) };
 
-    ghost pulls = { λ old user request answer new. SeatPulls K.faults K.fails_no_more (view_of old.seat) user request answer (view_of new.seat) × (new.room.now ≡ old.room.now) };
+    ghost pulls = { λ old user request answer new. SeatPulls K.Keeper (view_of old.seat) user request answer (view_of new.seat) × (new.room.now ≡ old.room.now) };
 
-    ghost retires = { λ old group answer new. SeatRetires K.faults K.fails_no_more (view_of old.seat) group answer (view_of new.seat) × (new.room.now ≡ old.room.now) };
+    ghost retires = { λ old group answer new. SeatRetires K.Keeper (view_of old.seat) group answer (view_of new.seat) × (new.room.now ≡ old.room.now) };
 
     fn mutate(&mut self, user: &User, group: &Id, client: &Id, id: Num, call: Call) -> Turn {
         let room = self.room;

@@ -1,18 +1,17 @@
 // The steps of a seat at the table of its room.
-ghost use Rattle.std.specs.Prelude.{◌≡◌, ◌≢◌, ℕ, ◌^◌, ◌<◌, ◌≤◌, true, false, [], ◌∷◌, Some, None};
-ghost use Rattle.std.specs.List.{AllByRecursion};
+ghost use Rattle.std.specs.Prelude.{◌≡◌, ◌≢◌, ℕ, ◌^◌, ◌<◌, true, false, [], ◌∷◌, Some, None, IfSome};
 ghost use Rattle.rv_book.specs.Book.{Book, size, with_entry};
 ghost use Rattle.rv_book.specs.declared.entry.Entry.{Entry};
 ghost use Rattle.rv_history.specs.Served.{Settles};
 ghost use Rattle.rv_desk.specs.Seated.{Seated};
-ghost use Rattle.rv_keeper.specs.Keeping.{Follows};
+ghost use Rattle.rv_room.specs.Following.{FollowsAll, KeeperFollows};
 ghost use Rattle.rv_room.specs.Ends.{Adds, end_view, held_view};
 ghost use Rattle.rv_room.specs.Lists.{StartsWith};
 ghost use Rattle.rv_room.specs.Rule.{IsOf};
-ghost use Rattle.rv_room.specs.Views.{IsIdle, entered, grown, noted, waiting, on_turn, with_faults};
+ghost use Rattle.rv_room.specs.Views.{IsIdle, entered, grown, noted, waiting, on_turn, with_keeper};
 
 use crate::room::Room;
-use crate::rule::{CountMade, CountSettled, NoteFaults, NoteSettled};
+use crate::rule::{CountMade, CountSettled, NoteKeeper, NoteSettled};
 use crate::seat::Token;
 use crate::waiting::TURNS;
 use rv_desk::Desk;
@@ -107,21 +106,21 @@ impl<K: Keeper> Room<K> {
     // Looks at the desk after it has settled and stepped.
     fn note_settled(&self, token: &mut Token<K>)
         requires table { token.old.table_id ≡ self.now.table.shared.table_id }
-        requires carries { (d : Seated K) × (token.old.me.1 ≡ (0, Some d) ∷ []) × (token.old.me.0.turns ≡ 1) × (token.old.me.0.faults ≤ K.faults d.keeper) }
+        requires carries { (d : Seated K) × (token.old.me.1 ≡ (0, Some d) ∷ []) × (token.old.me.0.turns ≡ 1) × IfSome token.old.me.0.keeper (λ keeper. KeeperFollows K.Keeper keeper d.keeper) }
         ensures same { (token.new.table_id ≡ token.old.table_id) × (token.new.id ≡ token.old.id) }
-        ensures noted { (d : Seated K) → token.old.me.1 ≡ (0, Some d) ∷ [] → token.new.me ≡ (noted token.old.me.0 d.doubt (K.faults d.keeper), token.old.me.1) }
+        ensures noted { (d : Seated K) → token.old.me.1 ≡ (0, Some d) ∷ [] → token.new.me ≡ (noted token.old.me.0 d.doubt (Some d.keeper), token.old.me.1) }
     {
         self.table.shared.load::<NoteSettled>(token, TURNS);
     }
 
     // Looks at the desk after it could not settle.
-    fn note_faults(&self, token: &mut Token<K>)
+    fn note_keeper(&self, token: &mut Token<K>)
         requires table { token.old.table_id ≡ self.now.table.shared.table_id }
-        requires carries { (d : Seated K) × (token.old.me.1 ≡ (0, Some d) ∷ []) × (token.old.me.0.turns ≡ 1) × (token.old.me.0.faults ≤ K.faults d.keeper) }
+        requires carries { (d : Seated K) × (token.old.me.1 ≡ (0, Some d) ∷ []) × (token.old.me.0.turns ≡ 1) × IfSome token.old.me.0.keeper (λ keeper. KeeperFollows K.Keeper keeper d.keeper) }
         ensures same { (token.new.table_id ≡ token.old.table_id) × (token.new.id ≡ token.old.id) }
-        ensures noted { (d : Seated K) → token.old.me.1 ≡ (0, Some d) ∷ [] → token.new.me ≡ (with_faults token.old.me.0 (K.faults d.keeper), token.old.me.1) }
+        ensures noted { (d : Seated K) → token.old.me.1 ≡ (0, Some d) ∷ [] → token.new.me ≡ (with_keeper token.old.me.0 (Some d.keeper), token.old.me.1) }
     {
-        self.table.shared.load::<NoteFaults>(token, TURNS);
+        self.table.shared.load::<NoteKeeper>(token, TURNS);
     }
 
     // Waits for the next turn and takes the desk.
@@ -129,9 +128,9 @@ impl<K: Keeper> Room<K> {
         requires table { token.old.table_id ≡ self.now.table.shared.table_id }
         requires idle { IsIdle token.old.me.0 × (0 < token.old.me.0.parts) × (token.old.me.1 ≡ []) }
         ensures same { (token.new.table_id ≡ token.old.table_id) × (token.new.id ≡ token.old.id) }
-        ensures of { IsOf (Follows K.faults K.tells K.fails_no_more) token.old.me.0 result }
+        ensures of { IsOf K.Keeper token.old.me.0 result }
         ensures begins { StartsWith result.book token.old.me.0.seen }
-        ensures later { AllByRecursion (λ (k : ℕ). k ≤ K.faults result.keeper) token.old.me.0.after }
+        ensures later { FollowsAll K.Keeper token.old.me.0.after result.keeper }
         ensures view { (t : ℕ) × (token.new.me ≡ (on_turn K.faults (waiting token.old.me.0 t) result, (0, None) ∷ [])) }
     {
         let ticket = self.take_ticket(rt, token);
@@ -143,13 +142,14 @@ impl<K: Keeper> Room<K> {
     pub(crate) fn end_held(&self, token: &mut Token<K>, desk: Desk<K>)
         requires table { token.old.table_id ≡ self.now.table.shared.table_id }
         requires empty { (token.old.me.1 ≡ (0, None) ∷ []) × (token.old.me.0.turns ≡ 1) }
-        requires of { IsOf (Follows K.faults K.tells K.fails_no_more) token.old.me.0 desk }
-        requires stays { (desk.book ≡ token.old.me.0.book) × (desk.doubt ≡ token.old.me.0.doubt) × (token.old.me.0.faults ≤ K.faults desk.keeper) }
+        requires of { IsOf K.Keeper token.old.me.0 desk }
+        requires stays { (desk.book ≡ token.old.me.0.book) × (desk.doubt ≡ token.old.me.0.doubt) }
+        requires follows { IfSome token.old.me.0.keeper (λ keeper. KeeperFollows K.Keeper keeper desk.keeper) }
         ensures same { (token.new.table_id ≡ token.old.table_id) × (token.new.id ≡ token.old.id) }
-        ensures ended { token.new.me ≡ (held_view token.old.me.0 (K.faults desk.keeper), []) }
+        ensures ended { token.new.me ≡ (held_view token.old.me.0 desk.keeper, []) }
     {
         self.put_home(token, desk);
-        self.note_faults(token);
+        self.note_keeper(token);
         self.pass(token);
     }
 
@@ -158,12 +158,12 @@ impl<K: Keeper> Room<K> {
     pub(crate) fn end(&self, token: &mut Token<K>, desk: Desk<K>, began: u32, settled: u32)
         requires table { token.old.table_id ≡ self.now.table.shared.table_id }
         requires empty { (token.old.me.1 ≡ (0, None) ∷ []) × (token.old.me.0.turns ≡ 1) }
-        requires of { IsOf (Follows K.faults K.tells K.fails_no_more) token.old.me.0 desk }
+        requires of { IsOf K.Keeper token.old.me.0 desk }
         requires began { began ≡ size token.old.me.0.book }
         requires settled { (s : Book) × (settled ≡ size s) × Settles token.old.me.0.book token.old.me.0.doubt s × Adds s desk.book }
-        requires later { token.old.me.0.faults ≤ K.faults desk.keeper }
+        requires follows { IfSome token.old.me.0.keeper (λ keeper. KeeperFollows K.Keeper keeper desk.keeper) }
         ensures same { (token.new.table_id ≡ token.old.table_id) × (token.new.id ≡ token.old.id) }
-        ensures ended { (s : Book) → settled ≡ size s → Settles token.old.me.0.book token.old.me.0.doubt s → Adds s desk.book → token.new.me ≡ (end_view token.old.me.0 s desk.book desk.doubt (K.faults desk.keeper), []) }
+        ensures ended { (s : Book) → settled ≡ size s → Settles token.old.me.0.book token.old.me.0.doubt s → Adds s desk.book → token.new.me ≡ (end_view token.old.me.0 s desk.book desk.doubt desk.keeper, []) }
     {
         let now = desk.book().len();
         self.put_home(token, desk);

@@ -26,7 +26,7 @@ impl<K: Keeper> Room<K> {
     ) -> Turn
         requires { room_of seat.old ≡ id_of self.now }
         ensures same { room_of seat.new ≡ room_of seat.old }
-        ensures turn { SeatMutates K.faults K.fails_no_more (view_of seat.old) (record { user = user.now; group = group.now }) (record { client = client.now; id = id; call = call }) result (view_of seat.new) }
+        ensures turn { SeatMutates K.Keeper (view_of seat.old) (record { user = user.now; group = group.now }) (record { client = client.now; id = id; call = call }) result (view_of seat.new) }
     {
         let token = &mut seat.token;
         let mut desk = self.begin(rt, token);
@@ -55,7 +55,7 @@ impl<K: Keeper> Room<K> {
     ) -> PullAnswer
         requires { room_of seat.old ≡ id_of self.now }
         ensures same { room_of seat.new ≡ room_of seat.old }
-        ensures turn { SeatPulls K.faults K.fails_no_more (view_of seat.old) user.now request.now result (view_of seat.new) }
+        ensures turn { SeatPulls K.Keeper (view_of seat.old) user.now request.now result (view_of seat.new) }
     {
         let token = &mut seat.token;
         let mut desk = self.begin(rt, token);
@@ -78,7 +78,7 @@ impl<K: Keeper> Room<K> {
     pub fn turn_retire(&self, rt: &impl Wait, seat: &mut Seat<K>, group: &Id) -> RetireAnswer
         requires { room_of seat.old ≡ id_of self.now }
         ensures same { room_of seat.new ≡ room_of seat.old }
-        ensures turn { SeatRetires K.faults K.fails_no_more (view_of seat.old) group.now result (view_of seat.new) }
+        ensures turn { SeatRetires K.Keeper (view_of seat.old) group.now result (view_of seat.new) }
     {
         let token = &mut seat.token;
         let mut desk = self.begin(rt, token);

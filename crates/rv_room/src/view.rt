@@ -19,8 +19,8 @@ pub struct SeatView<K: Keeper> {
     pub book: LinkedList<Entry>,
     /// While it has the turn, the entry in doubt.
     pub doubt: Option<Entry>,
-    /// While it has the turn, how often the keeper has failed.
-    pub faults: u64,
+    /// While it has the turn, the keeper.
+    pub keeper: Option<K>,
     /// The history as its last turn ended.
     pub seen: LinkedList<Entry>,
     /// The entries that its turns entered, each with the number of entries before it.
@@ -33,8 +33,8 @@ pub struct SeatView<K: Keeper> {
     pub ends: LinkedList<u64>,
     /// How often the keeper had failed as each of its turns began.
     pub before: LinkedList<u64>,
-    /// How often the keeper had failed as each of its turns ended.
-    pub after: LinkedList<u64>,
+    /// The keeper as each of its turns ended.
+    pub after: LinkedList<K>,
     /// What the seats that it was joined from had seen.
     pub joined: LinkedList<LinkedList<Entry>>,
 }

@@ -1,8 +1,7 @@
 // How a seat comes to its turn, and how it passes the turn on.
-ghost use Rattle.std.specs.Prelude.{◌≡◌, ℕ, ◌+◌, ◌%◌, ◌^◌, ◌<◌, ◌≤◌, [], ◌∷◌, None, Some, IfSome};
-ghost use Rattle.std.specs.List.{AllByRecursion};
+ghost use Rattle.std.specs.Prelude.{◌≡◌, ℕ, ◌+◌, ◌%◌, ◌^◌, ◌<◌, [], ◌∷◌, None, Some, IfSome};
 ghost use Rattle.rv_desk.specs.Seated.{Seated};
-ghost use Rattle.rv_keeper.specs.Keeping.{Follows};
+ghost use Rattle.rv_room.specs.Following.{FollowsAll};
 ghost use Rattle.rv_room.specs.Lists.{StartsWith};
 ghost use Rattle.rv_room.specs.Plays.{TakesTicket};
 ghost use Rattle.rv_room.specs.Rule.{IsOf};
@@ -133,7 +132,7 @@ impl<K: Keeper> Room<K> {
         requires table { token.old.table_id ≡ self.now.table.shared.table_id }
         requires waits { (token.old.me.0.waits ≡ 1) × (token.old.me.0.turns ≡ 0) × (token.old.me.0.ticket % 2 ^ 64 ≡ ticket) }
         ensures same { (token.new.table_id ≡ token.old.table_id) × (token.new.id ≡ token.old.id) }
-        ensures turn { (d : Seated K) × IsOf (Follows K.faults K.tells K.fails_no_more) token.old.me.0 d × StartsWith d.book token.old.me.0.seen × AllByRecursion (λ (k : ℕ). k ≤ K.faults d.keeper) token.old.me.0.after × (token.new.me ≡ (on_turn K.faults token.old.me.0 d, (0, Some d) ∷ token.old.me.1)) }
+        ensures turn { (d : Seated K) × IsOf K.Keeper token.old.me.0 d × StartsWith d.book token.old.me.0.seen × FollowsAll K.Keeper token.old.me.0.after d.keeper × (token.new.me ≡ (on_turn K.faults token.old.me.0 d, (0, Some d) ∷ token.old.me.1)) }
     {
         let bell = bell_of(ticket);
         let mut looks = 0;
@@ -185,7 +184,7 @@ impl<K: Keeper> Room<K> {
     // one of those that sleep without.
     pub(crate) fn pass(&self, token: &mut Token<K>)
         requires table { token.old.table_id ≡ self.now.table.shared.table_id }
-        requires home { (d : Seated K) × (token.old.me.1 ≡ (0, Some d) ∷ []) × (token.old.me.0.turns ≡ 1) × IsOf (Follows K.faults K.tells K.fails_no_more) token.old.me.0 d × (d.book ≡ token.old.me.0.book) × (d.doubt ≡ token.old.me.0.doubt) × (K.faults d.keeper ≡ token.old.me.0.faults) }
+        requires home { (d : Seated K) × (token.old.me.1 ≡ (0, Some d) ∷ []) × (token.old.me.0.turns ≡ 1) × IsOf K.Keeper token.old.me.0 d × (d.book ≡ token.old.me.0.book) × (d.doubt ≡ token.old.me.0.doubt) × (token.old.me.0.keeper ≡ Some d.keeper) }
         ensures same { (token.new.table_id ≡ token.old.table_id) × (token.new.id ≡ token.old.id) }
         ensures ended { token.new.me ≡ (ended token.old.me.0, []) }
     {

@@ -1,17 +1,19 @@
 -- A room of no seats.
-use Rattle.std.proofs.Common.{◌≡◌, ℕ, List, [], ◌∷◌, length, Some, None, refl, sym, ◌∙◌, append-nil, arith}
+use Rattle.std.proofs.Common.{◌≡◌, List, [], ◌∷◌, length, Some, None, refl, sym, ◌∙◌, append-nil, arith}
 use Rattle.rv_book.specs.declared.entry.Entry.{Entry}
+use Rattle.rv_keeper.specs.declared.keeper.Keeper.{Ghosts}
 use Rattle.rv_desk.specs.Seated.{Seated}
 use Rattle.rv_room.specs.declared.view.SeatView.{SeatView}
 use Rattle.rv_room.specs.Closing.{Closes}
+use Rattle.rv_room.specs.Following.{follows_same}
 use Rattle.rv_workers.specs.Serving.{ServesTogether}
 
 none_some : (e : Entry) → None ≡ Some e → ⊥
 none_some e is = absurd (cc)
 
-closes_none : {K : Type 0} (faults : K → ℕ) (follows : K → K → Type 0) (desk : Seated K) → follows desk.keeper desk.keeper → desk.doubt ≡ None → Closes faults follows desk [] desk
-closes_none faults follows desk same settled = record {
-  keeps = record { limit = refl; keeper = same };
+closes_none : {K : Type 0} (G : Ghosts K) (desk : Seated K) → desk.doubt ≡ None → Closes G desk [] desk
+closes_none G desk settled = record {
+  keeps = record { limit = refl; keeper = follows_same G desk.keeper };
   begun = ([], sym (append-nil desk.book));
   seen = tt;
   own = tt;
@@ -23,7 +25,7 @@ closes_none faults follows desk same settled = record {
 }
 
 -- no listener is served by nobody
-pub serves_none : {K L : Type 0} (faults : K → ℕ) (follows : K → K → Type 0) (Serves : SeatView K → L → SeatView K → L → Type 0) (desk : Seated K) (listeners : List L) → follows desk.keeper desk.keeper → desk.doubt ≡ None → length listeners ≡ 0
-    → ServesTogether faults follows Serves desk listeners desk listeners
-serves_none faults follows Serves desk [] same settled none = record { views = []; serves = tt; closes = closes_none faults follows desk same settled }
-serves_none faults follows Serves desk (listener ∷ listeners) same settled some = absurd (omega arith)
+pub serves_none : {K L : Type 0} (G : Ghosts K) (Serves : SeatView K → L → SeatView K → L → Type 0) (desk : Seated K) (listeners : List L) → desk.doubt ≡ None → length listeners ≡ 0
+    → ServesTogether G Serves desk listeners desk listeners
+serves_none G Serves desk [] settled none = record { views = []; serves = tt; closes = closes_none G desk settled }
+serves_none G Serves desk (listener ∷ listeners) settled some = absurd (omega arith)

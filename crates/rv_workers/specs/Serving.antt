@@ -2,6 +2,7 @@
 use Rattle.std.specs.Prelude.{◌≡◌, ℕ, List, [], ◌∷◌}
 use Rattle.rv_base.specs.Outside.{InputState, OutputState, counted}
 use Rattle.rv_accounts.specs.File.{Served as Accounts}
+use Rattle.rv_keeper.specs.declared.keeper.Keeper.{Ghosts}
 use Rattle.rv_desk.specs.Seated.{Seated}
 use Rattle.rv_net.specs.declared.conn.Conn.{Conn}
 use Rattle.rv_room.specs.declared.view.SeatView.{SeatView}
@@ -10,14 +11,14 @@ use Rattle.rv_room.specs.SeatTurns.{SeatMutates, SeatPulls, SeatRetires}
 use Rattle.rv_room.specs.Views.{newcomer}
 use Rattle.rv_serve.specs.Listening.{ServesAll}
 
-module _ {K L I O : Type 0} (faults : K → ℕ) (steady : K → Type 0) (accounts : Accounts) (input : I → InputState) (output : O → OutputState) (input_steady : I → Type 0) (output_steady : O → Type 0)
+module _ {K L I O : Type 0} (G : Ghosts K) (accounts : Accounts) (input : I → InputState) (output : O → OutputState) (input_steady : I → Type 0) (output_steady : O → Type 0)
     (tells : L → Type 0) (to_come came_back : L → List (Conn I O)) (out ends : L → ℕ) where
   -- A listener was served by turns of a seat that knew this first and knows that last: its connections were, one after the other, and it
   -- said once that no more were to come.
   pub record IsServed (first : SeatView K) (given : L) (last : SeatView K) (back : L) : Type 0 where
     pub told : tells back → tells given
     pub ended : ends back ≡ counted (ends given)
-    pub serves : ServesAll (SeatMutates faults steady) (SeatPulls faults steady) (SeatRetires faults steady) accounts input output input_steady output_steady (tells back) first last (to_come given) (to_come back) (came_back given) (came_back back) (out given) (out back)
+    pub serves : ServesAll (SeatMutates G) (SeatPulls G) (SeatRetires G) accounts input output input_steady output_steady (tells back) first last (to_come given) (to_come back) (came_back given) (came_back back) (out given) (out back)
 
 -- each listener was served by a seat, and came back, in order
 abbrev pub EachServes : {V L : Type 0} → (V → L → V → L → Type 0) → V → List L → List V → List L → Type 0
@@ -29,7 +30,7 @@ EachServes Serves first (given ∷ givens) [] backs = ⊥
 EachServes Serves first (given ∷ givens) (last ∷ lasts) [] = ⊥
 
 -- Listeners were served side by side at a desk: each by a seat of a room that was opened with it, and the room was closed with this desk.
-pub record ServesTogether {K L : Type 0} (faults : K → ℕ) (follows : K → K → Type 0) (Serves : SeatView K → L → SeatView K → L → Type 0) (opened : Seated K) (givens : List L) (desk : Seated K) (backs : List L) : Type 0 where
+pub record ServesTogether {K L : Type 0} (G : Ghosts K) (Serves : SeatView K → L → SeatView K → L → Type 0) (opened : Seated K) (givens : List L) (desk : Seated K) (backs : List L) : Type 0 where
   pub views : List (SeatView K)
   pub serves : EachServes Serves (newcomer 1 opened) givens views backs
-  pub closes : Closes faults follows opened views desk
+  pub closes : Closes G opened views desk

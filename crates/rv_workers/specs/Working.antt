@@ -9,7 +9,7 @@ use Rattle.rv_crew.specs.declared.heard.Heard.{Heard}
 use Rattle.rv_serve.specs.Listening.{ServesPast}
 use Rattle.rv_workers.specs.declared.worker.Worker.{Worker}
 
-module _ {R K L W I O : Type 0} {G : Ghosts K} (faults : K → ℕ) (steady : K → Type 0) (input : I → InputState) (output : O → OutputState) (input_steady : I → Type 0) (output_steady : O → Type 0)
+module _ {R K L W I O : Type 0} (G : Ghosts K) (input : I → InputState) (output : O → OutputState) (input_steady : I → Type 0) (output_steady : O → Type 0)
     (tells : L → Type 0) (to_come came_back : L → List (Conn I O)) (out ends : L → ℕ) (heard : W → Option (List Heard)) where
   -- It is in the same room. Its listener's connections were served by turns of its seat, one after the other, and the listener said once
   -- that no more were to come. Its gate heard of all that was answered, and of nothing else.
@@ -18,5 +18,5 @@ module _ {R K L W I O : Type 0} {G : Ghosts K} (faults : K → ℕ) (steady : K 
       (new.turns.room.now ≡ old.turns.room.now)
       × (tells new.listener → tells old.listener)
       × (ends new.listener ≡ counted (ends old.listener))
-      × ServesPast (SeatMutates faults steady) (SeatPulls faults steady) (SeatRetires faults steady) old.accounts.now input output input_steady output_steady (tells new.listener) (view_of old.turns.seat) (view_of new.turns.seat)
+      × ServesPast (SeatMutates G) (SeatPulls G) (SeatRetires G) old.accounts.now input output input_steady output_steady (tells new.listener) (view_of old.turns.seat) (view_of new.turns.seat)
       (to_come old.listener) (to_come new.listener) (came_back old.listener) (came_back new.listener) (out old.listener) (out new.listener) (heard old.gate) (heard new.gate)

@@ -72,7 +72,7 @@ where
 
     ghost needs = { λ worker. Unit {0} };
 
-    ghost worked = { λ old new. HasServed K.faults K.fails_no_more L.In.state L.Out.state L.In.fails_no_more L.Out.fails_no_more L.tells L.to_come L.came_back L.out L.ends G.heard old new };
+    ghost worked = { λ old new. HasServed K.Keeper L.In.state L.Out.state L.In.fails_no_more L.Out.fails_no_more L.tells L.to_come L.came_back L.out L.ends G.heard old new };
 
     fn work(&mut self) {
         serve_listener(

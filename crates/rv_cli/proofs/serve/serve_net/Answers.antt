@@ -1,11 +1,11 @@
-use Rattle.std.proofs.Common.{◌≡◌, List, [], ◌++◌, length, ap, sym, subst, ◌∙◌, arith, append-nil}
+use Rattle.std.proofs.Common.{List, [], ◌++◌, length, ap, sym, subst, ◌∙◌, arith, append-nil}
 use Rattle.std.specs.List.{AllByRecursion}
 use Rattle.rv_cli.proofs.Serving.{all_back}
 use Rattle.rv_cli.proofs.serve.serve_net.Goals as goal
 
 pub done-requires : goal.done-requires
 done-requires g c = λ told.
-    let back = all_back g.K.Keeper.faults _ _ c.args.desk c.serve_listeners-served.result.1 c.into_vec-listeners.result.items c.serve_listeners-served.result.2.items c.serve_listeners-served.result.0 c.serve_listeners-served.ensures in
+    let back = all_back g.K.Keeper _ c.args.desk c.serve_listeners-served.result.1 c.into_vec-listeners.result.items c.serve_listeners-served.result.2.items c.serve_listeners-served.result.0 c.serve_listeners-served.ensures in
     let out = (c.in-Ok.ensures.given told).1 in
     let returned = ap length c.from_vec.ensures.listeners in
     let given = ap length c.into_vec-listeners.ensures in

@@ -1,6 +1,5 @@
 use Rattle.std.proofs.Common.{subst, map, arith, sym, ◌∙◌}
 use Rattle.std.proofs.lemmas.Bool.{eqb-true}
-use Rattle.rv_keeper.specs.Keeping.{Follows}
 use Rattle.rv_desk.specs.Seated.{Seated}
 use Rattle.rv_room.specs.declared.view.SeatView.{SeatView}
 use Rattle.rv_room.specs.Closing.{Closes}
@@ -11,17 +10,15 @@ use Rattle.rv_workers.proofs.Nobody.{serves_none}
 use Rattle.rv_workers.proofs.serving.serve_listeners.Goals as goal
 
 pub returns-then-is_empty : goal.returns-then-is_empty
-returns-then-is_empty g c = let whole = c.args.listeners.ok.0 in serves_none g.K.Keeper.faults (Follows g.K.Keeper.faults g.K.Keeper.tells g.K.Keeper.fails_no_more) _ c.args.desk c.args.listeners.items (record { told = λ t. t; goes_on = λ s. s; later = omega arith }) c.requires.settled (let none = eqb-true _ _ (sym c.is_empty.ensures ∙ c.if-is_empty.true) in omega (arith, whole, none))
+returns-then-is_empty g c = let whole = c.args.listeners.ok.0 in serves_none g.K.Keeper _ c.args.desk c.args.listeners.items c.requires.settled (let none = eqb-true _ _ (sym c.is_empty.ensures ∙ c.if-is_empty.true) in omega (arith, whole, none))
 
 pub returns : goal.returns
 returns g c =
-    let f = g.K.Keeper.faults in
-    let y = g.K.Keeper.fails_no_more in
     let is = c.in-Ok-open.ensures.about.1 in
-    let Serves : SeatView g.row.K.Denot → g.row.L.Denot → SeatView g.row.K.Denot → g.row.L.Denot → Type 0 = λ first given last back. IsServed f y c.args.accounts.now g.L.In.Source.state g.L.Out.Sink.state g.L.In.Source.fails_no_more g.L.Out.Sink.fails_no_more g.L.Listen.tells g.L.Listen.to_come g.L.Listen.came_back g.L.Listen.out g.L.Listen.ends first given last back in
+    let Serves : SeatView g.row.K.Denot → g.row.L.Denot → SeatView g.row.K.Denot → g.row.L.Denot → Type 0 = λ first given last back. IsServed g.K.Keeper c.args.accounts.now g.L.In.Source.state g.L.Out.Sink.state g.L.In.Source.fails_no_more g.L.Out.Sink.fails_no_more g.L.Listen.tells g.L.Listen.to_come g.L.Listen.came_back g.L.Listen.out g.L.Listen.ends first given last back in
     let views = map view_of c.serve_in-seats.result.0.list.items in
     record {
       views = views;
       serves = subst (λ (d : Seated g.row.K.Denot). EachServes Serves (newcomer 1 d) c.args.listeners.items views c.serve_in-seats.result.1.items) is c.serve_in-seats.ensures.serves;
-      closes = subst (λ (d : Seated g.row.K.Denot). Closes f (Follows g.K.Keeper.faults g.K.Keeper.tells g.K.Keeper.fails_no_more) d views c.close.result) is c.close.ensures;
+      closes = subst (λ (d : Seated g.row.K.Denot). Closes g.K.Keeper d views c.close.result) is c.close.ensures;
     }

@@ -1,8 +1,7 @@
-use Rattle.rv_keeper.specs.Keeping.{Follows}
-use Rattle.std.proofs.Common.{◌≡◌, ℕ, ◌≤◌, List, ◌∷◌, Option, Some, ap, sym, ◌∙◌, subst}
-use Rattle.std.specs.List.{AllByRecursion}
+use Rattle.std.proofs.Common.{◌≡◌, ℕ, List, ◌∷◌, Option, Some, ap, sym, ◌∙◌, subst}
 use Rattle.rv_desk.specs.Seated.{Seated}
 use Rattle.rv_room.specs.declared.view.SeatView.{SeatView}
+use Rattle.rv_room.specs.Following.{FollowsAll}
 use Rattle.rv_room.specs.Plays.{Knows, carried}
 use Rattle.rv_room.specs.Rule.{IsOf}
 use Rattle.rv_room.specs.Views.{waiting}
@@ -20,7 +19,7 @@ returns-clause-of g c =
     let w = c.take_ticket-ticket.ensures.waits in
     let same : t.0 ≡ c.take_out.result = ap (λ (slots : List (ℕ × Option X)). carried (λ (x : X). x) c.take_out.result slots) (sym (ap (λ (m : M). m.1) t.4) ∙ c.take_out.ensures.desk) in
     let view : c.take_ticket-ticket.new.token.me.0 ≡ waiting c.args.token.now.me.0 w.0 = ap (λ (m : M). m.0) w.2 in
-    subst (λ (x : X × SeatView g.row.K.Denot). IsOf (Follows g.K.Keeper.faults g.K.Keeper.tells g.K.Keeper.fails_no_more) x.1 x.0) (λ i. (same i, view i)) t.1
+    subst (λ (x : X × SeatView g.row.K.Denot). IsOf g.K.Keeper x.1 x.0) (λ i. (same i, view i)) t.1
 
 pub returns-clause-later : goal.returns-clause-later
 returns-clause-later g c =
@@ -30,4 +29,4 @@ returns-clause-later g c =
     let w = c.take_ticket-ticket.ensures.waits in
     let same : t.0 ≡ c.take_out.result = ap (λ (slots : List (ℕ × Option X)). carried (λ (x : X). x) c.take_out.result slots) (sym (ap (λ (m : M). m.1) t.4) ∙ c.take_out.ensures.desk) in
     let view : c.take_ticket-ticket.new.token.me.0 ≡ waiting c.args.token.now.me.0 w.0 = ap (λ (m : M). m.0) w.2 in
-    subst (λ (x : X × SeatView g.row.K.Denot). AllByRecursion (λ (k : ℕ). k ≤ g.K.Keeper.faults x.0.keeper) x.1.after) (λ i. (same i, view i)) t.3
+    subst (λ (x : X × SeatView g.row.K.Denot). FollowsAll g.K.Keeper x.1.after x.0.keeper) (λ i. (same i, view i)) t.3

@@ -1,10 +1,11 @@
-use Rattle.rv_keeper.specs.Keeping.{Follows}
-use Rattle.std.proofs.Common.{◌≡◌, ℕ, [], ◌∷◌, Some, ap, sym, ◌∙◌, subst, arith}
+use Rattle.std.proofs.Common.{◌≡◌, [], ◌∷◌, Some, ap, sym, ◌∙◌, subst, arith}
+use Rattle.std.specs.Prelude.{IfSome}
 use Rattle.rv_book.specs.Book.{Book, size, with_entry}
 use Rattle.rv_desk.specs.Seated.{Seated}
 use Rattle.rv_history.specs.Served.{Settles}
 use Rattle.rv_room.specs.declared.view.SeatView.{SeatView}
 use Rattle.rv_room.specs.Ends.{Adds}
+use Rattle.rv_room.specs.Following.{KeeperFollows}
 use Rattle.rv_room.specs.Plays.{Knows}
 use Rattle.rv_room.specs.Rule.{IsOf}
 use Rattle.rv_room.specs.Views.{entered, ended, grown, noted}
@@ -60,9 +61,7 @@ note_settled-requires-clause-carries g c =
     ∙ (λ i. (entered v s, (put i).1)) in
     let at2 : c.count_made_if.new.token.me ≡ (grown (entered v s) d.book, (0, Some d) ∷ []) =
     after_making (entered v s) d c.args.settled c.len-now.result c.differs-2.result c.count_settled_if.new.token.me c.count_made_if.new.token.me settled now adds c.differs-2.ensures.yes c.differs-2.ensures.no at1 c.count_made_if.ensures.counted c.count_made_if.ensures.not in
-    let count = ap (λ (m : M). m.0.faults) at2 in
-    let up = c.requires.later in
-    (d, ap (λ (m : M). m.1) at2, ap (λ (m : M). m.0.turns) at2 ∙ c.requires.empty.1, omega arith)
+    (d, ap (λ (m : M). m.1) at2, ap (λ (m : M). m.0.turns) at2 ∙ c.requires.empty.1, subst (λ (m : M). IfSome m.0.keeper (λ keeper. KeeperFollows g.K.Keeper keeper d.keeper)) (sym at2) c.requires.follows)
 
 pub pass-requires-clause-home : goal.pass-requires-clause-home
 pass-requires-clause-home g c =
@@ -80,15 +79,14 @@ pass-requires-clause-home g c =
     ∙ (λ i. (entered v s, (put i).1)) in
     let at2 : c.count_made_if.new.token.me ≡ (grown (entered v s) d.book, (0, Some d) ∷ []) =
     after_making (entered v s) d c.args.settled c.len-now.result c.differs-2.result c.count_settled_if.new.token.me c.count_made_if.new.token.me settled now adds c.differs-2.ensures.yes c.differs-2.ensures.no at1 c.count_made_if.ensures.counted c.count_made_if.ensures.not in
-    let F : ℕ = g.K.Keeper.faults d.keeper in
-    let at3 : c.note_settled.new.token.me ≡ (noted (grown (entered v s) d.book) d.doubt F, (0, Some d) ∷ []) = c.note_settled.ensures.noted d (ap (λ (m : M). m.1) at2) ∙ (λ i. (noted (at2 i).0 d.doubt F, (at2 i).1)) in (
+    let at3 : c.note_settled.new.token.me ≡ (noted (grown (entered v s) d.book) d.doubt (Some d.keeper), (0, Some d) ∷ []) = c.note_settled.ensures.noted d (ap (λ (m : M). m.1) at2) ∙ (λ i. (noted (at2 i).0 d.doubt (Some d.keeper), (at2 i).1)) in (
       d,
       ap (λ (m : M). m.1) at3,
       ap (λ (m : M). m.0.turns) at3 ∙ c.requires.empty.1,
-      subst (λ (m : M). IsOf (Follows g.K.Keeper.faults g.K.Keeper.tells g.K.Keeper.fails_no_more) m.0 d) (sym at3) c.requires.of,
+      subst (λ (m : M). IsOf g.K.Keeper m.0 d) (sym at3) c.requires.of,
       sym (ap (λ (m : M). m.0.book) at3),
       sym (ap (λ (m : M). m.0.doubt) at3),
-      sym (ap (λ (m : M). m.0.faults) at3),
+      ap (λ (m : M). m.0.keeper) at3,
     )
 
 pub returns-clause-ended : goal.returns-clause-ended
@@ -103,6 +101,5 @@ returns-clause-ended g c s settled ways adds =
     ∙ (λ i. (entered v s, (put i).1)) in
     let at2 : c.count_made_if.new.token.me ≡ (grown (entered v s) d.book, (0, Some d) ∷ []) =
     after_making (entered v s) d c.args.settled c.len-now.result c.differs-2.result c.count_settled_if.new.token.me c.count_made_if.new.token.me settled now adds c.differs-2.ensures.yes c.differs-2.ensures.no at1 c.count_made_if.ensures.counted c.count_made_if.ensures.not in
-    let F : ℕ = g.K.Keeper.faults d.keeper in
-    let at3 : c.note_settled.new.token.me ≡ (noted (grown (entered v s) d.book) d.doubt F, (0, Some d) ∷ []) = c.note_settled.ensures.noted d (ap (λ (m : M). m.1) at2) ∙ (λ i. (noted (at2 i).0 d.doubt F, (at2 i).1)) in
+    let at3 : c.note_settled.new.token.me ≡ (noted (grown (entered v s) d.book) d.doubt (Some d.keeper), (0, Some d) ∷ []) = c.note_settled.ensures.noted d (ap (λ (m : M). m.1) at2) ∙ (λ i. (noted (at2 i).0 d.doubt (Some d.keeper), (at2 i).1)) in
     c.pass.ensures.ended ∙ ap (λ (m : M). (ended m.0, [])) at3

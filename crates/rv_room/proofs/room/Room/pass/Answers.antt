@@ -1,7 +1,6 @@
-use Rattle.rv_keeper.specs.Keeping.{Follows}
 use Rattle.std.proofs.Common.{arith}
 use Rattle.rv_room.proofs.Moves.{passes_as}
 use Rattle.rv_room.proofs.room.Room.pass.Goals as goal
 
 pub fetch_add-ended-requires : goal.fetch_add-ended-requires
-fetch_add-ended-requires g c = let r = c.requires.home in (c.requires.table, omega (arith, c.args.self.now.sized.0), passes_as g.K.Keeper.faults (Follows g.K.Keeper.faults g.K.Keeper.tells g.K.Keeper.fails_no_more) _ _ _ _ _ _ r.0 r.1 r.2 r.3 r.4 r.5 r.6)
+fetch_add-ended-requires g c = let r = c.requires.home in (c.requires.table, omega (arith, c.args.self.now.sized.0), passes_as g.K.Keeper _ _ _ _ _ _ r.0 r.1 r.2 r.3 r.4 r.5 r.6)

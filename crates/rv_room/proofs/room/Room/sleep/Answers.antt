@@ -1,10 +1,9 @@
-use Rattle.rv_keeper.specs.Keeping.{Follows}
 use Rattle.std.proofs.Common.{◌+◌, ◌-◌, ◌%◌, ◌^◌, arith, refl, ◌∙◌}
 use Rattle.rv_room.proofs.Moves.{signals_at}
 use Rattle.rv_room.proofs.room.Room.sleep.Goals as goal
 
 pub fetch_add-requires : goal.fetch_add-requires
-fetch_add-requires g c = (c.requires.table, omega (arith, c.args.self.now.sized.0), signals_at g.K.Keeper.faults (Follows g.K.Keeper.faults g.K.Keeper.tells g.K.Keeper.fails_no_more) _ _ _ _ _ 0 _ _ (λ n. (n + 1) % 2 ^ 64) refl)
+fetch_add-requires g c = (c.requires.table, omega (arith, c.args.self.now.sized.0), signals_at g.K.Keeper _ _ _ _ _ 0 _ _ (λ n. (n + 1) % 2 ^ 64) refl)
 
 pub fetch_sub-requires : goal.fetch_sub-requires
-fetch_sub-requires g c = (c.fetch_add.ensures.0 ∙ c.requires.table, omega (arith, c.args.self.now.sized.0), signals_at g.K.Keeper.faults (Follows g.K.Keeper.faults g.K.Keeper.tells g.K.Keeper.fails_no_more) _ _ _ _ _ 0 _ _ (λ n. (n + (2 ^ 64 - 1)) % 2 ^ 64) refl)
+fetch_sub-requires g c = (c.fetch_add.ensures.0 ∙ c.requires.table, omega (arith, c.args.self.now.sized.0), signals_at g.K.Keeper _ _ _ _ _ 0 _ _ (λ n. (n + (2 ^ 64 - 1)) % 2 ^ 64) refl)

@@ -5,16 +5,22 @@ use Rattle.rv_history.specs.Served.{Settles}
 use Rattle.rv_history.specs.Machine.{Pulls}
 use Rattle.rv_history.specs.Troubles.{pull_trouble}
 use Rattle.rv_room.specs.Ends.{end_view}
+use Rattle.rv_room.specs.Following.{follows_on}
 use Rattle.rv_room.specs.Plays.{Knows}
 use Rattle.rv_room.proofs.Adding.{pulls_adds}
-use Rattle.rv_room.proofs.Ending.{goes_on, goes_with, turn_adds, taken_of, taken_settles, ended_turn, held_turn}
+use Rattle.rv_room.proofs.Ending.{goes_with, turn_adds, taken_of, taken_follows, taken_settles, ended_turn, held_turn}
 use Rattle.rv_room.proofs.room.Room.turn_pull.Goals as goal
 
 pub end-requires-clause-of : goal.end-requires-clause-of
 end-requires-clause-of g c =
     let mid = c.settle.new.self in
     let now = c.pull-answer.new.self in
-    taken_of g.K.Keeper.faults g.K.Keeper.tells g.K.Keeper.fails_no_more c.args.seat.now.token.me.0 c.begin-desk.result now c.begin-desk.new.token.me c.begin-desk.ensures.view c.begin-desk.ensures.of (c.pull-answer.ensures.turn.limit ∙ c.settle.ensures.settled.limit) (goes_on g.K.Keeper.faults g.K.Keeper.tells g.K.Keeper.fails_no_more _ _ _ (goes_with g.K.Keeper.faults g.K.Keeper.tells g.K.Keeper.fails_no_more _ _ _ c.settle.ensures.assured c.settle.ensures.settled.later) (goes_with g.K.Keeper.faults g.K.Keeper.tells g.K.Keeper.fails_no_more _ _ _ c.pull-answer.ensures.assured c.pull-answer.ensures.turn.later))
+    taken_of g.K.Keeper c.args.seat.now.token.me.0 c.begin-desk.result now c.begin-desk.new.token.me c.begin-desk.ensures.view c.begin-desk.ensures.of (c.pull-answer.ensures.turn.limit ∙ c.settle.ensures.settled.limit) (follows_on g.K.Keeper _ _ _ (goes_with g.K.Keeper _ _ _ c.settle.ensures.assured c.settle.ensures.settled.later) (goes_with g.K.Keeper _ _ _ c.pull-answer.ensures.assured c.pull-answer.ensures.turn.later))
+
+pub end-requires-clause-follows : goal.end-requires-clause-follows
+end-requires-clause-follows g c =
+    let now = c.pull-answer.new.self in
+    taken_follows g.K.Keeper c.args.seat.now.token.me.0 c.begin-desk.result c.begin-desk.new.token.me now.keeper c.begin-desk.ensures.view (follows_on g.K.Keeper _ _ _ (goes_with g.K.Keeper _ _ _ c.settle.ensures.assured c.settle.ensures.settled.later) (goes_with g.K.Keeper _ _ _ c.pull-answer.ensures.assured c.pull-answer.ensures.turn.later))
 
 pub end-requires-clause-settled : goal.end-requires-clause-settled
 end-requires-clause-settled g c =
@@ -23,13 +29,17 @@ end-requires-clause-settled g c =
     let st : Settles c.begin-desk.result.book c.begin-desk.result.doubt mid.book × (mid.doubt ≡ None) × (g.K.Keeper.faults mid.keeper ≡ g.K.Keeper.faults c.begin-desk.result.keeper) = c.in-Ok.ensures.settled.settled in (
       mid.book,
       c.len-settled.ensures.value ∙ ap size c.book-in-Ok.ensures.book,
-      taken_settles g.K.Keeper.faults c.args.seat.now.token.me.0 c.begin-desk.result c.begin-desk.new.token.me mid.book c.begin-desk.ensures.view st.0,
+      taken_settles g.K.Keeper c.args.seat.now.token.me.0 c.begin-desk.result c.begin-desk.new.token.me mid.book c.begin-desk.ensures.view st.0,
       turn_adds pull_trouble ((λ (limit : ℕ). Pulls limit c.args.user.now c.args.request.now) mid.limit) (pulls_adds mid.limit c.args.user.now c.args.request.now) (served g.K.Keeper.faults mid) c.pull-answer.result (served g.K.Keeper.faults now) st.1 c.pull-answer.ensures.turn,
     )
 
 pub end_held-requires-clause-of : goal.end_held-requires-clause-of
 end_held-requires-clause-of g c =
-    taken_of g.K.Keeper.faults g.K.Keeper.tells g.K.Keeper.fails_no_more c.args.seat.now.token.me.0 c.begin-desk.result c.settle.new.self c.begin-desk.new.token.me c.begin-desk.ensures.view c.begin-desk.ensures.of c.settle.ensures.settled.limit (goes_with g.K.Keeper.faults g.K.Keeper.tells g.K.Keeper.fails_no_more _ _ _ c.settle.ensures.assured c.settle.ensures.settled.later)
+    taken_of g.K.Keeper c.args.seat.now.token.me.0 c.begin-desk.result c.settle.new.self c.begin-desk.new.token.me c.begin-desk.ensures.view c.begin-desk.ensures.of c.settle.ensures.settled.limit (goes_with g.K.Keeper _ _ _ c.settle.ensures.assured c.settle.ensures.settled.later)
+
+pub end_held-requires-clause-follows : goal.end_held-requires-clause-follows
+end_held-requires-clause-follows g c =
+    taken_follows g.K.Keeper c.args.seat.now.token.me.0 c.begin-desk.result c.begin-desk.new.token.me c.settle.new.self.keeper c.begin-desk.ensures.view (goes_with g.K.Keeper _ _ _ c.settle.ensures.assured c.settle.ensures.settled.later)
 
 pub invariant_of-seat : goal.invariant_of-seat
 invariant_of-seat g c =
@@ -38,9 +48,8 @@ invariant_of-seat g c =
     let now = c.pull-answer.new.self in
     let st : Settles c.begin-desk.result.book c.begin-desk.result.doubt mid.book × (mid.doubt ≡ None) × (g.K.Keeper.faults mid.keeper ≡ g.K.Keeper.faults c.begin-desk.result.keeper) = c.in-Ok.ensures.settled.settled in
     let m = c.begin-desk.new.token.me in
-    let F : ℕ = g.K.Keeper.faults now.keeper in
-    let eq : c.end.new.token.me ≡ (end_view m.0 mid.book now.book now.doubt F, []) =
-    c.end.ensures.ended mid.book (c.len-settled.ensures.value ∙ ap size c.book-in-Ok.ensures.book) (taken_settles g.K.Keeper.faults c.args.seat.now.token.me.0 c.begin-desk.result m mid.book c.begin-desk.ensures.view st.0)
+    let eq : c.end.new.token.me ≡ (end_view m.0 mid.book now.book now.doubt now.keeper, []) =
+    c.end.ensures.ended mid.book (c.len-settled.ensures.value ∙ ap size c.book-in-Ok.ensures.book) (taken_settles g.K.Keeper c.args.seat.now.token.me.0 c.begin-desk.result m mid.book c.begin-desk.ensures.view st.0)
     (turn_adds pull_trouble ((λ (limit : ℕ). Pulls limit c.args.user.now c.args.request.now) mid.limit) (pulls_adds mid.limit c.args.user.now c.args.request.now) (served g.K.Keeper.faults mid) c.pull-answer.result (served g.K.Keeper.faults now) st.1 c.pull-answer.ensures.turn) in
     record {
       idle = (ap (λ (m : M). m.0.waits) eq, ap (λ (m : M). m.0.turns) eq);
@@ -55,15 +64,14 @@ returns-in-Ok-clause-turn g c =
     let now = c.pull-answer.new.self in
     let st : Settles c.begin-desk.result.book c.begin-desk.result.doubt mid.book × (mid.doubt ≡ None) × (g.K.Keeper.faults mid.keeper ≡ g.K.Keeper.faults c.begin-desk.result.keeper) = c.in-Ok.ensures.settled.settled in
     let m = c.begin-desk.new.token.me in
-    let F : ℕ = g.K.Keeper.faults now.keeper in
-    let eq : c.end.new.token.me ≡ (end_view m.0 mid.book now.book now.doubt F, []) =
-    c.end.ensures.ended mid.book (c.len-settled.ensures.value ∙ ap size c.book-in-Ok.ensures.book) (taken_settles g.K.Keeper.faults c.args.seat.now.token.me.0 c.begin-desk.result m mid.book c.begin-desk.ensures.view st.0)
+    let eq : c.end.new.token.me ≡ (end_view m.0 mid.book now.book now.doubt now.keeper, []) =
+    c.end.ensures.ended mid.book (c.len-settled.ensures.value ∙ ap size c.book-in-Ok.ensures.book) (taken_settles g.K.Keeper c.args.seat.now.token.me.0 c.begin-desk.result m mid.book c.begin-desk.ensures.view st.0)
     (turn_adds pull_trouble ((λ (limit : ℕ). Pulls limit c.args.user.now c.args.request.now) mid.limit) (pulls_adds mid.limit c.args.user.now c.args.request.now) (served g.K.Keeper.faults mid) c.pull-answer.result (served g.K.Keeper.faults now) st.1 c.pull-answer.ensures.turn) in
-    ended_turn g.K.Keeper.faults g.K.Keeper.tells g.K.Keeper.fails_no_more pull_trouble (λ limit. (λ (limit : ℕ). Pulls limit c.args.user.now c.args.request.now) limit) (λ limit. pulls_adds limit c.args.user.now c.args.request.now) c.args.seat.now.token.me.0 c.begin-desk.result mid now m c.pull-answer.result c.end.new.token.me.0 c.begin-desk.ensures.view c.begin-desk.ensures.of c.begin-desk.ensures.begins c.begin-desk.ensures.later
-    c.settle.result c.in-Ok.is c.settle.ensures.settled c.pull-answer.ensures.turn (λ steady. c.pull-answer.ensures.assured.sure (c.settle.ensures.assured.goes_on steady)) (ap (λ (m : M). m.0) eq)
+    ended_turn g.K.Keeper pull_trouble (λ limit. (λ (limit : ℕ). Pulls limit c.args.user.now c.args.request.now) limit) (λ limit. pulls_adds limit c.args.user.now c.args.request.now) c.args.seat.now.token.me.0 c.begin-desk.result mid now m c.pull-answer.result c.end.new.token.me.0 c.begin-desk.ensures.view c.begin-desk.ensures.of c.begin-desk.ensures.begins c.begin-desk.ensures.later
+    c.settle.result c.in-Ok.is c.settle.ensures.settled c.pull-answer.ensures.turn (λ steady. c.pull-answer.ensures.assured.sure (c.settle.ensures.assured.goes_on steady)) c.pull-answer.ensures.assured.near (ap (λ (m : M). m.0) eq)
 
 pub returns-in-Err-clause-turn : goal.returns-in-Err-clause-turn
 returns-in-Err-clause-turn g c =
     let M : Type 0 = Knows g.row.K.Denot in
-    held_turn g.K.Keeper.faults g.K.Keeper.tells g.K.Keeper.fails_no_more pull_trouble (λ limit. (λ (limit : ℕ). Pulls limit c.args.user.now c.args.request.now) limit) (λ limit. pulls_adds limit c.args.user.now c.args.request.now) c.args.seat.now.token.me.0 c.begin-desk.result c.settle.new.self c.begin-desk.new.token.me c.of_trouble.result c.end_held.new.token.me.0 c.in-Err.trouble c.begin-desk.ensures.view c.begin-desk.ensures.of c.begin-desk.ensures.begins c.begin-desk.ensures.later
-    c.settle.result c.in-Err.is c.settle.ensures.settled c.of_trouble.ensures (λ steady. c.settle.ensures.assured.sure steady) (ap (λ (m : M). m.0) c.end_held.ensures.ended)
+    held_turn g.K.Keeper pull_trouble (λ limit. (λ (limit : ℕ). Pulls limit c.args.user.now c.args.request.now) limit) (λ limit. pulls_adds limit c.args.user.now c.args.request.now) c.args.seat.now.token.me.0 c.begin-desk.result c.settle.new.self c.begin-desk.new.token.me c.of_trouble.result c.end_held.new.token.me.0 c.in-Err.trouble c.begin-desk.ensures.view c.begin-desk.ensures.of c.begin-desk.ensures.begins c.begin-desk.ensures.later
+    c.settle.result c.in-Err.is c.settle.ensures.settled c.of_trouble.ensures (λ steady. c.settle.ensures.assured.sure steady) c.settle.ensures.assured.near (ap (λ (m : M). m.0) c.end_held.ensures.ended)

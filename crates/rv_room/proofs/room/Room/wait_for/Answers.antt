@@ -1,7 +1,6 @@
-use Rattle.rv_keeper.specs.Keeping.{Follows}
-use Rattle.std.proofs.Common.{◌≡◌, ℕ, ◌%◌, ◌^◌, ◌≤◌, ◌∷◌, Some, arith, ap, sym, ◌∙◌, subst}
-use Rattle.std.specs.List.{AllByRecursion}
+use Rattle.std.proofs.Common.{◌≡◌, ◌%◌, ◌^◌, ◌∷◌, Some, arith, ap, sym, ◌∙◌, subst}
 use Rattle.rv_desk.specs.Seated.{Seated}
+use Rattle.rv_room.specs.Following.{FollowsAll}
 use Rattle.rv_room.specs.Lists.{StartsWith}
 use Rattle.rv_room.specs.Plays.{Knows}
 use Rattle.rv_room.specs.Rule.{IsOf}
@@ -11,11 +10,11 @@ use Rattle.rv_room.proofs.room.Room.wait_for.Goals as goal
 
 pub load-found-requires : goal.load-found-requires
 load-found-requires g c = let i = c.loop.invariant in let r = c.requires.waits in
-    (i.2 ∙ c.requires.table, omega (arith, c.args.self.now.sized.0), looks_as g.K.Keeper.faults (Follows g.K.Keeper.faults g.K.Keeper.tells g.K.Keeper.fails_no_more) _ _ _ _ _ _ _ i.4 r.0 r.1)
+    (i.2 ∙ c.requires.table, omega (arith, c.args.self.now.sized.0), looks_as g.K.Keeper _ _ _ _ _ _ _ i.4 r.0 r.1)
 
 pub returns-then-found-ticket-clause-turn : goal.returns-then-found-ticket-clause-turn
 returns-then-found-ticket-clause-turn g c = let i = c.loop.invariant in let r = c.requires.waits in
     let X : Type 0 = Seated g.row.K.Denot in
     let M : Type 0 = Knows g.row.K.Denot in
-    let P : M → Type 0 = λ m. (d : X) × IsOf (Follows g.K.Keeper.faults g.K.Keeper.tells g.K.Keeper.fails_no_more) m.0 d × StartsWith d.book m.0.seen × AllByRecursion (λ (k : ℕ). k ≤ g.K.Keeper.faults d.keeper) m.0.after × (c.load-found.new.seat.me ≡ (on_turn g.K.Keeper.faults m.0 d, (0, Some d) ∷ m.1)) in
+    let P : M → Type 0 = λ m. (d : X) × IsOf g.K.Keeper m.0 d × StartsWith d.book m.0.seen × FollowsAll g.K.Keeper m.0.after d.keeper × (c.load-found.new.seat.me ≡ (on_turn g.K.Keeper.faults m.0 d, (0, Some d) ∷ m.1)) in
     subst P i.4 (c.load-found.ensures.2.1 (c.if-found-ticket.true ∙ sym r.2 ∙ ap (λ (m : M). m.0.ticket % 2 ^ 64) (sym i.4)))

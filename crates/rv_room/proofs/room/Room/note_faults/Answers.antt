@@ -1,7 +1,0 @@
-use Rattle.rv_keeper.specs.Keeping.{Follows}
-use Rattle.std.proofs.Common.{arith}
-use Rattle.rv_room.proofs.Moves.{notes_faults_as}
-use Rattle.rv_room.proofs.room.Room.note_faults.Goals as goal
-
-pub load-requires : goal.load-requires
-load-requires g c = let r = c.requires.carries in (c.requires.table, omega (arith, c.args.self.now.sized.0), notes_faults_as g.K.Keeper.faults (Follows g.K.Keeper.faults g.K.Keeper.tells g.K.Keeper.fails_no_more) _ _ _ _ _ _ r.0 r.1 r.2 r.3)
