@@ -12,6 +12,7 @@ use Rattle.rv_history.specs.declared.pull_reply.PullReply.{PullReply}
 use Rattle.rv_history.specs.declared.pull_answer.PullAnswer.{PullAnswer}
 use Rattle.rv_history.specs.declared.pull_answer.PullAnswer.TheVariants as pulls
 use Rattle.rv_history.specs.Laws.{IdsCountUp, OrdersRise, PullsShow}
+use Rattle.rv_history.specs.Served.{IsChanged}
 use Rattle.std.specs.Option.{option_map_or}
 use Rattle.rv_keeper.specs.declared.keeper.Keeper.{Ghosts}
 use Rattle.rv_desk.specs.Seated.{Seated}
@@ -22,15 +23,15 @@ use Rattle.rv_answering.specs.Requests.{Asked}
 use Rattle.rv_answering.specs.Steps.{Step}
 use Rattle.rv_net.specs.declared.conn.Conn.{Conn}
 use Rattle.rv_room.specs.declared.view.SeatView.{SeatView}
-use Rattle.rv_room.specs.Following.{FollowsAll}
+use Rattle.rv_room.specs.Following.{FollowsAll, KeeperFollows}
 use Rattle.rv_room.specs.Lists.{StartsWith}
 use Rattle.rv_room.specs.SeatTurns.{IsSeatTurn, SeatMutates, SeatPulls, SeatRetires, TurnAs, last_book, settled_book}
 use Rattle.rv_room.specs.Views.{newcomer}
 use Rattle.rv_serve.specs.Laws.{RunsTurns, turns_of}
 use Rattle.rv_serve.specs.RunLaws.{conns_run}
 use Rattle.rv_workers.specs.Serving.{EachServes}
-use Rattle.rv_cli.specs.Headline.{TellsTrouble}
-use Rattle.rv_cli.specs.Serving.{IsShownIn, ServedBooksAreLawful, ServedPullsAreShown, ServedTroublesHaveCauses, Serves, ShowsIn, StandsIn, TurnsStand, turns_served}
+use Rattle.rv_cli.specs.Headline.{TellsChange, TellsTrouble}
+use Rattle.rv_cli.specs.Serving.{IsShownIn, ServedBooksAreLawful, ServedKeepersStay, ServedPullsAreShown, ServedTroublesHaveCauses, Serves, ShowsIn, StandsIn, TurnsStand, turns_served}
 use Rattle.rv_cli.proofs.LawfulRuns.{no_push, no_retirement, same_reply}
 use Rattle.rv_cli.proofs.Troubled.{HasTrouble, any_step_causes, turns_each, turns_later}
 
@@ -89,6 +90,10 @@ module _ {K : Type 0} (G : Ghosts K) where
   abbrev Calm : Seated K → SeatView K → Type 0
   Calm opened v = (Quiet G (G.faults opened.keeper) v × (G.faults opened.keeper < 2 ^ 64 - 1)) ⊎ G.fails_no_more opened.keeper
 
+  -- no keeper that tells follows all that are remembered
+  abbrev Untold : SeatView K → SeatView K → Type 0
+  Untold old new = (keeper : K) → FollowsAll G new.after keeper → G.tells keeper → ⊥
+
   -- where the room was opened with such a desk, this can't be
   abbrev Stirs : SeatView K → SeatView K → Type 0
   Stirs old new = (opened : Seated K) → old.opened ≡ Some opened → Calm opened new → ⊥
@@ -126,11 +131,25 @@ module _ {K A : Type 0} (G : Ghosts K) (trouble : A → Option Trouble) (Steps :
   turn_causes : SeatGoes old new × (HasTrouble (λ trouble. Unit {0}) (trouble answer) → Stirs G old new)
   turn_causes = (turn_goes, turn_rises)
 
+  -- where it tells a change by another, the keeper did not tell as the turn ended
+  turn_changes : SeatGoes old new × (HasTrouble (λ trouble. IsChanged (Some trouble)) (trouble answer) → Untold G old new)
+  turn_changes = (
+    turn_goes,
+    λ (tr, is, changed) keeper follows told.
+        let last : KeeperFollows G turn.now keeper = all_last (λ (old : K). KeeperFollows G old keeper) old.after turn.now (subst (λ (l : List K). FollowsAll G l keeper) turn.after follows) in
+        turn.near (last.told told) (subst (λ (found : Option Trouble). IsChanged found) (sym is) changed),
+  )
+
 module _ {K : Type 0} (G : Ghosts K) where
   seat_step : (old new : SeatView K) (asked : Asked) (answer : Answer) → Step (SeatMutates G) (SeatPulls G) (SeatRetires G) old asked answer new
       → SeatGoes old new × (TellsTrouble (Some answer) → Stirs G old new)
   seat_step = any_step_causes (λ trouble. Unit {0}) (SeatMutates G) (SeatPulls G) (SeatRetires G) SeatGoes (Stirs G) goes_same goes_on (stirs_before G)
       (λ from m old new turn taken. turn_causes G _ _ old turn new taken) (λ user request old new outcome taken. turn_causes G _ _ old outcome new taken) (λ group old new outcome taken. turn_causes G _ _ old outcome new taken)
+
+  seat_changes : (old new : SeatView K) (asked : Asked) (answer : Answer) → Step (SeatMutates G) (SeatPulls G) (SeatRetires G) old asked answer new
+      → SeatGoes old new × (TellsChange (Some answer) → Untold G old new)
+  seat_changes = any_step_causes (λ trouble. IsChanged (Some trouble)) (SeatMutates G) (SeatPulls G) (SeatRetires G) SeatGoes (Untold G) goes_same goes_on (λ s t u later untold. untold)
+      (λ from m old new turn taken. turn_changes G _ _ old turn new taken) (λ user request old new outcome taken. turn_changes G _ _ old outcome new taken) (λ group old new outcome taken. turn_changes G _ _ old outcome new taken)
 
   seat_each : (Holds : Asked × Answer → Type 0) (last : SeatView K)
       → ((old new : SeatView K) (turn : Asked × Answer) → Step (SeatMutates G) (SeatPulls G) (SeatRetires G) old turn.0 turn.1 new → SeatGoes new last → Holds turn)
@@ -223,6 +242,14 @@ module _ {K L I O : Type 0} (G : Ghosts K) (accounts : AccountsServed) (input : 
       (λ (same : (G.faults now.keeper ≡ G.faults opened.keeper) × (G.faults opened.keeper < 2 ^ 64 - 1)). inl (quiet_before G (G.faults opened.keeper) new last goes (quiet_last G now.keeper (G.faults opened.keeper) same.0 last.after follows), same.1))
       (λ (s : G.fails_no_more opened.keeper). inr s)
       calm))
+      givens together.views backs together.serves together.closes.after
+
+  pub keepers_stay : ServedKeepersStay G accounts input output input_steady output_steady tells to_come came_back out ends
+  keepers_stay opened now givens backs together =
+      served_each (λ v. FollowsAll G v.after now.keeper) (λ turn. G.tells now.keeper → TellsChange (Some turn.1) → ⊥) (newcomer 1 opened)
+      (λ last old new turn follows room step goes told changed.
+      let before : FollowsAll G new.after now.keeper = all_front (λ (keeper : K). KeeperFollows G keeper now.keeper) new.after goes.after.0 (subst (λ (l : List K). FollowsAll G l now.keeper) goes.after.1 follows) in
+      (seat_changes G old new turn.0 turn.1 step).1 changed now.keeper before told)
       givens together.views backs together.serves together.closes.after
 
   pub books_are_lawful : IdsCountUp → OrdersRise → ServedBooksAreLawful G accounts input output input_steady output_steady tells to_come came_back out ends

@@ -31,7 +31,7 @@ use Rattle.rv_cli.specs.declared.ending.Ending.TheVariants as endings
 use Rattle.rv_cli.specs.declared.serve_ending.ServeEnding.{ServeEnding}
 use Rattle.rv_cli.specs.declared.serve_ending.ServeEnding.TheVariants.{Done, BadAccounts, TwiceAccounts, NotOpened, Net, Memory, Write}
 use Rattle.rv_cli.specs.Texts.{serve_status, serve_text}
-use Rattle.rv_cli.specs.Headline.{Begins, IsLawfulRun, IsLeftAs, IsNotOpened, Leaves, ShowsAt, TellsTrouble, WritesOnly}
+use Rattle.rv_cli.specs.Headline.{Begins, IsLawfulRun, IsLeftAs, IsNotOpened, Leaves, ShowsAt, TellsChange, TellsTrouble, WritesOnly}
 
 -- ---- The accounts file. Where the place tells, it has these bytes.
 
@@ -187,6 +187,10 @@ module _ {K L I O : Type 0} (G : Ghosts K) (accounts : AccountsServed) (input : 
   -- Where no fault of what keeps the book rose, and where it failed no more from the beginning on, no answer tells a trouble with it.
   abbrev pub ServedTroublesHaveCauses : Type 0
   ServedTroublesHaveCauses = OfAllServed (λ opened now turn. ((G.faults now.keeper ≡ G.faults opened.keeper) × (G.faults opened.keeper < 2 ^ 64 - 1)) ⊎ G.fails_no_more opened.keeper → TellsTrouble (Some turn.1) → ⊥)
+
+  -- Where the keeper tells as the room is closed, no answer says that another changed what is kept.
+  abbrev pub ServedKeepersStay : Type 0
+  ServedKeepersStay = OfAllServed (λ opened now turn. G.tells now.keeper → TellsChange (Some turn.1) → ⊥)
 
   -- The book at the end begins with the first, each client's acts in it have the ids 1, 2, 3 and so on, and the orders of each group's
   -- looks rise.

@@ -2,7 +2,7 @@
 //! proves them.
 ghost use Rattle.rv_accounts.specs.File.{Served as AccountsServed};
 ghost use Rattle.rv_cli.specs.Headline.{BooksAreLawful, PullsAreShown, TroublesHaveCauses};
-ghost use Rattle.rv_cli.specs.Serving.{ServedBooksAreLawful, ServedPullsAreShown, ServedTroublesHaveCauses, TurnsStand};
+ghost use Rattle.rv_cli.specs.Serving.{ServedBooksAreLawful, ServedKeepersStay, ServedPullsAreShown, ServedTroublesHaveCauses, TurnsStand};
 
 use rv_keeper::Keeper;
 use rv_net::Listen;
@@ -60,4 +60,9 @@ pub fn served_pulls_are_shown<K: Keeper, L: Listen>()
 /// An answer that tells a trouble with what keeps the book comes only where a fault of that rose.
 pub fn served_troubles_have_causes<K: Keeper, L: Listen>()
     ensures { (accounts : AccountsServed) → ServedTroublesHaveCauses K.Keeper accounts L.In.state L.Out.state L.In.fails_no_more L.Out.fails_no_more L.tells L.to_come L.came_back L.out L.ends }
+{}
+
+/// Where the keeper tells what it holds as the room is closed, no answer says that another changed what is kept.
+pub fn served_keepers_stay<K: Keeper, L: Listen>()
+    ensures { (accounts : AccountsServed) → ServedKeepersStay K.Keeper accounts L.In.state L.Out.state L.In.fails_no_more L.Out.fails_no_more L.tells L.to_come L.came_back L.out L.ends }
 {}
