@@ -55,7 +55,7 @@ tells_entries book entries old new (NotOpened ending) is never = never
 tells_entries book entries old new Net is never = never
 tells_entries book entries old new Memory is never = never
 
-module _ {P K : Type 0} (tells : P → Type 0) (holds : P → List ℕ → Loaded → Type 0) (is_out : P → List ℕ → Type 0) (accounts : P → List ℕ → List ℕ → Type 0) (faults : P → ℕ) (kept_tells kept_steady : K → Type 0) (kept_holds : K → Loaded → Type 0) (kept_faults : K → ℕ) (store name : List ℕ) where
+module _ {P K : Type 0} (tells : P → Type 0) (holds : P → List ℕ → Loaded → Type 0) (is_out : P → List ℕ → Type 0) (accounts : P → List ℕ → List ℕ → Type 0) (faults : P → ℕ) (G : Ghosts K) (store name : List ℕ) where
   abbrev Read : P → Result AccountsServed ServeEnding → P → Type 0
   Read old result mid = AccountsRead tells holds accounts faults name old result mid
 
@@ -65,14 +65,14 @@ module _ {P K : Type 0} (tells : P → Type 0) (holds : P → List ℕ → Loade
 
   -- there are no accounts
   pub has_refused : (old new : P) (ending : ServeEnding) (out out' : OutputState) → Read old (Err ending) new → WritesOnly out out' (serve_text ending)
-      → HasRefused kept_faults (tells new) (accounts old name) (holds old store) (OpensAs store (holds old store)) (holds new store) (faults old) (faults new) out out' ending
+      → HasRefused G (tells new) (accounts old name) (holds old store) (OpensAs store (holds old store)) (holds new store) (faults old) (faults new) out out' ending
   has_refused old new ending out out' read text = record { why = read.tells_so; stays = λ t held was. read.stays t store held was; text = text }
 
   -- the store did not open
   pub has_no_store : (old mid new : P) (said : AccountsServed) (other : Ending) (out out' : OutputState) → Read old (Ok said) mid → (tells new → tells mid)
       → IsNotOpened (tells new) (OpensAs store (holds mid store)) (holds new store) (faults mid) (faults new) other × IsLeftAs (tells new) (holds mid store) (OpensAs store (holds mid store)) (holds new store)
       → WritesOnly out out' (serve_text (NotOpened other))
-      → HasNoStore kept_faults (tells new) (accounts old name) (holds old store) (OpensAs store (holds old store)) (holds new store) (faults old) (faults new) out out' (NotOpened other)
+      → HasNoStore G (tells new) (accounts old name) (holds old store) (OpensAs store (holds old store)) (holds new store) (faults old) (faults new) out out' (NotOpened other)
   has_no_store old mid new said other out out' read before (why, left) text = record {
     other = other;
     is = refl;
@@ -87,18 +87,18 @@ module _ {P K : Type 0} (tells : P → Type 0) (holds : P → List ℕ → Loade
 
   -- the store was opened, its desk came from the first to the last, and its keeper went back
   module _ (old mid opened new : P) (said : AccountsServed) (first last : Seated K) (keeper : K) (read : Read old (Ok said) mid)
-      (opens : HasOpened tells holds is_out faults kept_tells kept_faults store mid first opened) (before : tells opened → tells mid) (is : keeper ≡ last.keeper)
-      (held : kept_tells last.keeper → HoldsBook (kept_holds last.keeper) last.book last.doubt) (kept_before : kept_tells last.keeper → kept_tells first.keeper)
-      (back : WentBack tells holds is_out faults kept_tells kept_steady kept_holds kept_faults store opened new keeper) where
-    home : WentBack tells holds is_out faults kept_tells kept_steady kept_holds kept_faults store opened new last.keeper
-    home = subst (λ (k : K). WentBack tells holds is_out faults kept_tells kept_steady kept_holds kept_faults store opened new k) is back
+      (opens : HasOpened tells holds is_out faults G.tells G.faults store mid first opened) (before : tells opened → tells mid) (is : keeper ≡ last.keeper)
+      (held : G.tells last.keeper → HoldsBook (G.holds last.keeper) last.book last.doubt) (kept_before : G.tells last.keeper → G.tells first.keeper)
+      (back : WentBack tells holds is_out faults G.tells G.fails_no_more G.holds G.faults store opened new keeper) where
+    home : WentBack tells holds is_out faults G.tells G.fails_no_more G.holds G.faults store opened new last.keeper
+    home = subst (λ (k : K). WentBack tells holds is_out faults G.tells G.fails_no_more G.holds G.faults store opened new k) is back
 
     told : tells new → tells mid
     told t = before (home.told t).0
 
-    pub serve_begins : Begins (tells new) (OpensAs store (holds old store)) (served kept_faults first)
+    pub serve_begins : Begins (tells new) (OpensAs store (holds old store)) (served G.faults first)
     serve_begins =
-        let from = begins tells holds is_out faults kept_tells kept_steady kept_holds kept_faults store mid opened new first last.keeper opens kept_before home in
+        let from = begins tells holds is_out faults G.tells G.fails_no_more G.holds G.faults store mid opened new first last.keeper opens kept_before home in
         record {
           loaded = from.loaded;
           stored = λ t held was. from.stored t held (opens_as store (holds old store) (holds mid store) (λ h w. read.stays (told t) store h w) held was);
@@ -108,16 +108,16 @@ module _ {P K : Type 0} (tells : P → Type 0) (holds : P → List ℕ → Loade
           faults = from.faults;
         }
 
-    pub serve_leaves : Leaves (tells new) (holds new store) (faults old) (faults new) (served kept_faults last)
-    serve_leaves = leaves tells holds is_out faults kept_tells kept_steady kept_holds kept_faults store old opened new (served kept_faults last) last.keeper
+    pub serve_leaves : Leaves (tells new) (holds new store) (faults old) (faults new) (served G.faults last)
+    serve_leaves = leaves tells holds is_out faults G.tells G.fails_no_more G.holds G.faults store old opened new (served G.faults last) last.keeper
         (opens.same ∙ read.tells_so.1) (record { held = held; later = omega arith }) home
 
     pub serve_says : FileSays (tells new) (accounts old name) (Ok said)
     serve_says = says_later (tells new) old mid (Ok said) told read.tells_so.0
 
     pub has_served : (Serves : AccountsServed → Seated K → Seated K → Type 0) (entries : ℕ) (out out' : OutputState) (ending : ServeEnding) → Serves said first last
-        → IsSound (served kept_faults last) → entries ≡ size last.book → TellsCount (count_text entries) out out' ending
-        → HasServed kept_faults (tells new) (accounts old name) (holds old store) (OpensAs store (holds old store)) (holds new store) (faults old) (faults new) Serves out out' ending
+        → IsSound (served G.faults last) → entries ≡ size last.book → TellsCount (count_text entries) out out' ending
+        → HasServed G (tells new) (accounts old name) (holds old store) (OpensAs store (holds old store)) (holds new store) (faults old) (faults new) Serves out out' ending
     has_served Serves entries out out' ending serves sound count text = record {
       accounts = said;
       says = serve_says;
@@ -126,19 +126,20 @@ module _ {P K : Type 0} (tells : P → Type 0) (holds : P → List ℕ → Loade
       begins = serve_begins;
       serves = serves;
       sound = sound;
+      told = λ t. (home.told t).1;
       leaves = serve_leaves;
       entries = tells_entries last.book entries out out' ending count text;
     }
 
     pub has_no_net : (net net' : ℕ) (out out' : OutputState) (ending : ServeEnding) → last ≡ first → IsNoNet net net' ending → WritesOnly out out' (serve_text ending)
-        → HasNoNet kept_faults (tells new) (accounts old name) (holds old store) (OpensAs store (holds old store)) (holds new store) (faults old) (faults new) net net' out out' ending
+        → HasNoNet G (tells new) (accounts old name) (holds old store) (OpensAs store (holds old store)) (holds new store) (faults old) (faults new) net net' out out' ending
     has_no_net net net' out out' ending same why text = record {
       accounts = said;
       says = serve_says;
-      first = served kept_faults first;
+      first = served G.faults first;
       begins = serve_begins;
       why = why;
-      leaves = subst (λ (desk : Seated K). Leaves (tells new) (holds new store) (faults old) (faults new) (served kept_faults desk)) same serve_leaves;
+      leaves = subst (λ (desk : Seated K). Leaves (tells new) (holds new store) (faults old) (faults new) (served G.faults desk)) same serve_leaves;
       text = text;
     }
 
@@ -163,38 +164,38 @@ net_before Told kept_tells tells Serves workers to_give left came_back back befo
 net_before Told kept_tells tells Serves workers to_give left came_back back before after old new (Err nets.Failed) (same, rose) = λ t. subst (λ (desk : Seated _). kept_tells desk.keeper) same t
 net_before Told kept_tells tells Serves workers to_give left came_back back before after old new (Err nets.Memory) same = λ t. subst (λ (desk : Seated _). kept_tells desk.keeper) same t
 
-module _ {P K : Type 0} (tells : P → Type 0) (holds : P → List ℕ → Loaded → Type 0) (is_out : P → List ℕ → Type 0) (accounts : P → List ℕ → List ℕ → Type 0) (faults : P → ℕ) (kept_tells kept_steady : K → Type 0) (kept_holds : K → Loaded → Type 0) (kept_faults : K → ℕ) (store name : List ℕ) where
+module _ {P K : Type 0} (tells : P → Type 0) (holds : P → List ℕ → Loaded → Type 0) (is_out : P → List ℕ → Type 0) (accounts : P → List ℕ → List ℕ → Type 0) (faults : P → ℕ) (G : Ghosts K) (store name : List ℕ) where
   -- the store was opened, the net was served or not, and what is told of it
   pub serve_ended : (old mid opened new : P) (said : AccountsServed) (first last : Seated K) (keeper : K) → AccountsRead tells holds accounts faults name old (Ok said) mid
-      → HasOpened tells holds is_out faults kept_tells kept_faults store mid first opened → (tells opened → tells mid) → keeper ≡ last.keeper
-      → (kept_tells last.keeper → HoldsBook (kept_holds last.keeper) last.book last.doubt) → IsSound (served kept_faults last)
-      → WentBack tells holds is_out faults kept_tells kept_steady kept_holds kept_faults store opened new keeper
+      → HasOpened tells holds is_out faults G.tells G.faults store mid first opened → (tells opened → tells mid) → keeper ≡ last.keeper
+      → (G.tells last.keeper → HoldsBook (G.holds last.keeper) last.book last.doubt) → IsSound (served G.faults last)
+      → WentBack tells holds is_out faults G.tells G.fails_no_more G.holds G.faults store opened new keeper
       → {L : Type 0} (Told : Type 0) (listener_tells : L → Type 0) (Serves : AccountsServed → Seated K → Seated K → List L → List L → Type 0) (workers : ℕ) (to_give left came_back back : List L) (net net' : ℕ)
       (result : Result (Unit {0}) NetFault) (entries : ℕ) (out out' : OutputState) (ending : ServeEnding)
-      → NetServed Told kept_tells listener_tells (Serves said first last) workers to_give left came_back back net net' first last result
+      → NetServed Told G.tells listener_tells (Serves said first last) workers to_give left came_back back net net' first last result
       → entries ≡ size last.book → TellsServed result entries out out' ending
-      → HasNoNet kept_faults (tells new) (accounts old name) (holds old store) (OpensAs store (holds old store)) (holds new store) (faults old) (faults new) net net' out out' ending
-      ⊎ HasServed kept_faults (tells new) (accounts old name) (holds old store) (OpensAs store (holds old store)) (holds new store) (faults old) (faults new)
+      → HasNoNet G (tells new) (accounts old name) (holds old store) (OpensAs store (holds old store)) (holds new store) (faults old) (faults new) net net' out out' ending
+      ⊎ HasServed G (tells new) (accounts old name) (holds old store) (OpensAs store (holds old store)) (holds new store) (faults old) (faults new)
       (λ a f n. NetServes Told listener_tells (Serves a f n) workers to_give left came_back back) out out' ending
   serve_ended old mid opened new said first last keeper read opens before is held sound home Told listener_tells Serves workers to_give left came_back back net net' result entries out out' ending net_served count told =
       by_result result net_served told
     where
-      kept : kept_tells last.keeper → kept_tells first.keeper
-      kept = net_before Told kept_tells listener_tells (Serves said first last) workers to_give left came_back back net net' first last result net_served
+      kept : G.tells last.keeper → G.tells first.keeper
+      kept = net_before Told G.tells listener_tells (Serves said first last) workers to_give left came_back back net net' first last result net_served
 
       no_net : (other : ServeEnding) → last ≡ first → IsNoNet net net' other → WritesOnly out out' (serve_text other)
-          → HasNoNet kept_faults (tells new) (accounts old name) (holds old store) (OpensAs store (holds old store)) (holds new store) (faults old) (faults new) net net' out out' other
-      no_net other same why text = has_no_net tells holds is_out accounts faults kept_tells kept_steady kept_holds kept_faults store name old mid opened new said first last keeper read opens before is held kept home net net' out out' other same why text
+          → HasNoNet G (tells new) (accounts old name) (holds old store) (OpensAs store (holds old store)) (holds new store) (faults old) (faults new) net net' out out' other
+      no_net other same why text = has_no_net tells holds is_out accounts faults G store name old mid opened new said first last keeper read opens before is held kept home net net' out out' other same why text
 
-      by_result : (r : Result (Unit {0}) NetFault) → NetServed Told kept_tells listener_tells (Serves said first last) workers to_give left came_back back net net' first last r
+      by_result : (r : Result (Unit {0}) NetFault) → NetServed Told G.tells listener_tells (Serves said first last) workers to_give left came_back back net net' first last r
           → TellsServed r entries out out' ending
-          → HasNoNet kept_faults (tells new) (accounts old name) (holds old store) (OpensAs store (holds old store)) (holds new store) (faults old) (faults new) net net' out out' ending
-          ⊎ HasServed kept_faults (tells new) (accounts old name) (holds old store) (OpensAs store (holds old store)) (holds new store) (faults old) (faults new)
+          → HasNoNet G (tells new) (accounts old name) (holds old store) (OpensAs store (holds old store)) (holds new store) (faults old) (faults new) net net' out out' ending
+          ⊎ HasServed G (tells new) (accounts old name) (holds old store) (OpensAs store (holds old store)) (holds new store) (faults old) (faults new)
           (λ a f n. NetServes Told listener_tells (Serves a f n) workers to_give left came_back back) out out' ending
-      by_result (Ok done) (serves, on, same) tells_so = inr (has_served tells holds is_out accounts faults kept_tells kept_steady kept_holds kept_faults store name old mid opened new said first last keeper read opens before is held kept home
+      by_result (Ok done) (serves, on, same) tells_so = inr (has_served tells holds is_out accounts faults G store name old mid opened new said first last keeper read opens before is held kept home
           (λ a f n. NetServes Told listener_tells (Serves a f n) workers to_give left came_back back) entries out out' ending serves sound count tells_so)
-      by_result (Err nets.Failed) (same, rose) (ends, text) = inl (subst (λ (e : ServeEnding). HasNoNet kept_faults (tells new) (accounts old name) (holds old store) (OpensAs store (holds old store)) (holds new store) (faults old) (faults new) net net' out out' e) (sym ends) (no_net Net same rose text))
-      by_result (Err nets.Memory) same (ends, text) = inl (subst (λ (e : ServeEnding). HasNoNet kept_faults (tells new) (accounts old name) (holds old store) (OpensAs store (holds old store)) (holds new store) (faults old) (faults new) net net' out out' e) (sym ends) (no_net Memory same tt text))
+      by_result (Err nets.Failed) (same, rose) (ends, text) = inl (subst (λ (e : ServeEnding). HasNoNet G (tells new) (accounts old name) (holds old store) (OpensAs store (holds old store)) (holds new store) (faults old) (faults new) net net' out out' e) (sym ends) (no_net Net same rose text))
+      by_result (Err nets.Memory) same (ends, text) = inl (subst (λ (e : ServeEnding). HasNoNet G (tells new) (accounts old name) (holds old store) (OpensAs store (holds old store)) (holds new store) (faults old) (faults new) net net' out out' e) (sym ends) (no_net Memory same tt text))
 
 -- at other statuses than 0 and 7 the net did not serve
 pub unserved_by : (Unserves : Type 0) (result : Result (Unit {0}) NetFault) (entries : ℕ) (out out' : OutputState) (ending : ServeEnding) (status : ℕ)
@@ -243,15 +244,15 @@ served_undamaged book old new (NotOpened ending) never is = never
 served_undamaged book old new Net never is = never
 served_undamaged book old new Memory never is = never
 
-pub serve_sound : {K : Type 0} (kept_faults : K → ℕ) (Told : Type 0) (HasFile : List ℕ → Type 0) (Was Stored Holds : Loaded → Type 0) (before after : ℕ) (Serves : AccountsServed → Seated K → Seated K → Type 0) (net net' : ℕ) (out out' : OutputState) (status : ℕ)
-    → Told → KeptSound Stored → RunsServe kept_faults Told HasFile Was Stored Holds before after Serves net net' out out' status → status ≢ 5
-serve_sound kept_faults Told HasFile Was Stored Holds before after Serves net net' out out' status told kept (ending, is, inl refused) five =
+pub serve_sound : {K : Type 0} (G : Ghosts K) (Told : Type 0) (HasFile : List ℕ → Type 0) (Was Stored Holds : Loaded → Type 0) (before after : ℕ) (Serves : AccountsServed → Seated K → Seated K → Type 0) (net net' : ℕ) (out out' : OutputState) (status : ℕ)
+    → Told → KeptSound Stored → RunsServe G Told HasFile Was Stored Holds before after Serves net net' out out' status → status ≢ 5
+serve_sound G Told HasFile Was Stored Holds before after Serves net net' out out' status told kept (ending, is, inl refused) five =
     accounts_undamaged Told HasFile before after ending refused.why (sym is ∙ five)
-serve_sound kept_faults Told HasFile Was Stored Holds before after Serves net net' out out' status told kept (ending, is, inr (inl none)) five =
+serve_sound G Told HasFile Was Stored Holds before after Serves net net' out out' status told kept (ending, is, inr (inl none)) five =
     refused_sound Told Stored Holds before after told kept none.other status none.why (is ∙ ap serve_status none.is) five
-serve_sound kept_faults Told HasFile Was Stored Holds before after Serves net net' out out' status told kept (ending, is, inr (inr (inl none))) five =
+serve_sound G Told HasFile Was Stored Holds before after Serves net net' out out' status told kept (ending, is, inr (inr (inl none))) five =
     net_undamaged net net' ending none.why (sym is ∙ five)
-serve_sound kept_faults Told HasFile Was Stored Holds before after Serves net net' out out' status told kept (ending, is, inr (inr (inr served))) five =
+serve_sound G Told HasFile Was Stored Holds before after Serves net net' out out' status told kept (ending, is, inr (inr (inr served))) five =
     served_undamaged served.now.book out out' ending served.entries (sym is ∙ five)
 
 -- ---- What a run of `serve` tells by its status.
@@ -367,8 +368,8 @@ module _ (before after net net' : ℕ) (out out' : OutputState) (status : ℕ) w
   served_facts book Net is never = absurd never
   served_facts book Memory is never = absurd never
 
-  pub serve_facts : {K : Type 0} (kept_faults : K → ℕ) (Told : Type 0) (HasFile : List ℕ → Type 0) (Was Stored Holds : Loaded → Type 0) (Serves : AccountsServed → Seated K → Seated K → Type 0) → RunsServe kept_faults Told HasFile Was Stored Holds before after Serves net net' out out' status → Facts
-  serve_facts kept_faults Told HasFile Was Stored Holds Serves (ending, is, inl refused) = refused_facts Told HasFile ending is refused.why refused.text
-  serve_facts kept_faults Told HasFile Was Stored Holds Serves (ending, is, inr (inl none)) = store_facts Told Stored Holds none.other (is ∙ ap serve_status none.is) none.why (serve_text ending) none.text
-  serve_facts kept_faults Told HasFile Was Stored Holds Serves (ending, is, inr (inr (inl none))) = no_net_facts ending is none.why none.text
-  serve_facts kept_faults Told HasFile Was Stored Holds Serves (ending, is, inr (inr (inr served))) = served_facts served.now.book ending is served.entries
+  pub serve_facts : {K : Type 0} (G : Ghosts K) (Told : Type 0) (HasFile : List ℕ → Type 0) (Was Stored Holds : Loaded → Type 0) (Serves : AccountsServed → Seated K → Seated K → Type 0) → RunsServe G Told HasFile Was Stored Holds before after Serves net net' out out' status → Facts
+  serve_facts G Told HasFile Was Stored Holds Serves (ending, is, inl refused) = refused_facts Told HasFile ending is refused.why refused.text
+  serve_facts G Told HasFile Was Stored Holds Serves (ending, is, inr (inl none)) = store_facts Told Stored Holds none.other (is ∙ ap serve_status none.is) none.why (serve_text ending) none.text
+  serve_facts G Told HasFile Was Stored Holds Serves (ending, is, inr (inr (inl none))) = no_net_facts ending is none.why none.text
+  serve_facts G Told HasFile Was Stored Holds Serves (ending, is, inr (inr (inr served))) = served_facts served.now.book ending is served.entries

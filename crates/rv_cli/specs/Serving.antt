@@ -90,7 +90,7 @@ TellsEntries book old new ending = ⊥
 -- ---- What becomes of a run. The store held this before, is opened with this and holds this afterwards; the net is served so, with
 -- these accounts, between opening a desk and closing it.
 
-module _ {K : Type 0} (kept_faults : K → ℕ) (Told : Type 0) (HasFile : List ℕ → Type 0) (Was Stored Holds : Loaded → Type 0) (before after : ℕ) where
+module _ {K : Type 0} (G : Ghosts K) (Told : Type 0) (HasFile : List ℕ → Type 0) (Was Stored Holds : Loaded → Type 0) (before after : ℕ) where
   -- the store was not opened, and is left as it was
   pub record HasRefused (output output' : OutputState) (ending : ServeEnding) : Type 0 where
     pub why : HasNoAccounts Told HasFile before after ending
@@ -117,16 +117,18 @@ module _ {K : Type 0} (kept_faults : K → ℕ) (Told : Type 0) (HasFile : List 
     pub leaves : Leaves Told Holds before after first
     pub text : WritesOnly output output' (serve_text ending)
 
-  -- the net was served, and the store keeps the book that is left, which is lawful
+  -- The net was served, and the store keeps the book that is left, which is lawful. Where the place tells, so did the desk's keeper to
+  -- the end.
   pub record HasServed (Serves : AccountsServed → Seated K → Seated K → Type 0) (output output' : OutputState) (ending : ServeEnding) : Type 0 where
     pub accounts : AccountsServed
     pub says : FileSays Told HasFile (Ok accounts)
     pub first : Seated K
     pub now : Seated K
-    pub begins : Begins Told Stored (served kept_faults first)
+    pub begins : Begins Told Stored (served G.faults first)
     pub serves : Serves accounts first now
-    pub sound : IsSound (served kept_faults now)
-    pub leaves : Leaves Told Holds before after (served kept_faults now)
+    pub sound : IsSound (served G.faults now)
+    pub told : Told → G.tells now.keeper
+    pub leaves : Leaves Told Holds before after (served G.faults now)
     pub entries : TellsEntries now.book output output' ending
 
   -- the status is that of an ending, and the run ended so

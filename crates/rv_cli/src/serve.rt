@@ -136,7 +136,7 @@ fn serve_all<R: Wait + Sync, P: Place, O: Sink, N: Net, C: Crew>(
 where
     <N::Listen as Listen>::In: Send,
     <N::Listen as Listen>::Out: Send,
-    ensures serve { RunsServe P.Kept.faults (P.tells place.new) (P.accounts place.old options.now.accounts) (P.holds place.old store.now) (OpensAs store.now (P.holds place.old store.now)) (P.holds place.new store.now) (P.faults place.old) (P.faults place.new)
+    ensures serve { RunsServe P.Kept.Keeper (P.tells place.new) (P.accounts place.old options.now.accounts) (P.holds place.old store.now) (OpensAs store.now (P.holds place.old store.now)) (P.holds place.new store.now) (P.faults place.old) (P.faults place.new)
         (λ accounts first now. NetServes (N.tells net.new) N.Listen.tells
         (λ given returned. ServesTogether P.Kept.Keeper
         (λ view listener view' listener'. IsServed P.Kept.Keeper accounts N.Listen.In.state N.Listen.Out.state N.Listen.In.fails_no_more N.Listen.Out.fails_no_more N.Listen.tells N.Listen.to_come N.Listen.came_back N.Listen.out N.Listen.ends view listener view' listener')
@@ -183,7 +183,7 @@ where
     <N::Listen as Listen>::Out: Send,
     // What is written are the answers to the requests of connections, over turns of seats at one book from the one that the store kept,
     // and the store keeps the book that they leave.
-    ensures serve { RunsServe P.Kept.faults (P.tells place.new) (P.accounts place.old options.now.accounts) (P.holds place.old store.now) (OpensAs store.now (P.holds place.old store.now)) (P.holds place.new store.now) (P.faults place.old) (P.faults place.new)
+    ensures serve { RunsServe P.Kept.Keeper (P.tells place.new) (P.accounts place.old options.now.accounts) (P.holds place.old store.now) (OpensAs store.now (P.holds place.old store.now)) (P.holds place.new store.now) (P.faults place.old) (P.faults place.new)
         (λ accounts first now. NetServes (N.tells net.new) N.Listen.tells
         (λ given returned. ServesTogether P.Kept.Keeper
         (λ view listener view' listener'. IsServed P.Kept.Keeper accounts N.Listen.In.state N.Listen.Out.state N.Listen.In.fails_no_more N.Listen.Out.fails_no_more N.Listen.tells N.Listen.to_come N.Listen.came_back N.Listen.out N.Listen.ends view listener view' listener')

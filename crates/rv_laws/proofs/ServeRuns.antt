@@ -12,11 +12,11 @@ use Rattle.rv_cli.specs.declared.ending.Ending.{Ending}
 use Rattle.rv_cli.specs.declared.ending.Ending.TheVariants as endings
 use Rattle.rv_cli.specs.declared.serve_ending.ServeEnding.{ServeEnding}
 use Rattle.rv_cli.specs.declared.serve_ending.ServeEnding.TheVariants.{BadAccounts, TwiceAccounts, NotOpened, Net, Memory}
-use Rattle.rv_cli.specs.Headline.{IsNotOpened, TellsTrouble}
-use Rattle.rv_cli.specs.Serving.{HasNoAccounts, IsNoNet, ServedBooksAreLawful, ServedPullsAreShown, ServedTroublesHaveCauses}
+use Rattle.rv_cli.specs.Headline.{IsNotOpened, TellsChange, TellsTrouble}
+use Rattle.rv_cli.specs.Serving.{HasNoAccounts, IsNoNet, ServedBooksAreLawful, ServedKeepersStay, ServedPullsAreShown, ServedTroublesHaveCauses}
 use Rattle.rv_cli.specs.Texts.{serve_status, status_of}
 use Rattle.rv_laws.specs.Listeners.{ServedClientsFollow, ServedPushesStand}
-use Rattle.rv_laws.specs.Serves.{all_turns, ServeBooksAreLawful, ServeClientsFollow, ServePullsAreShown, ServePushesStand, ServesAreRuns, ServeTroublesHaveCauses}
+use Rattle.rv_laws.specs.Serves.{all_turns, ServeBooksAreLawful, ServeClientsFollow, ServeKeepersStay, ServePullsAreShown, ServePushesStand, ServesAreRuns, ServeTroublesHaveCauses}
 use Rattle.rv_laws.proofs.FedLaws.{no_fault}
 
 -- what holds of each under a premise that holds
@@ -74,6 +74,7 @@ module _ {P N K L I O : Type 0} (tells : P → Type 0) (files : P → List ℕ �
         begins = ran.begins;
         together = net.serves;
         sound = ran.sound;
+        told = ran.told;
         leaves = ran.leaves;
         count = net.count;
         first = net.first;
@@ -93,6 +94,12 @@ module _ {P N K L I O : Type 0} (tells : P → Type 0) (files : P → List ℕ �
   troubles_have_causes law old new net net' store options run stays below =
       each_so (((G.faults run.now.keeper ≡ G.faults run.opened.keeper) × (G.faults run.opened.keeper < 2 ^ 64 - 1)) ⊎ G.fails_no_more run.opened.keeper) (λ turn. TellsTrouble (Some turn.1) → ⊥)
       (all_turns tells files holds place_faults net_tells to_give given_back net_faults G input output input_steady output_steady listener_tells to_come came_back out ends old new net net' store options run) (inl ((no_fault run.leaves.kept (place_faults old) (place_faults new) (G.faults run.now.keeper) run.leaves.taken stays below run.leaves.later) ∙ sym run.begins.faults, omega (arith, run.begins.faults))) (law run.accounts run.opened run.now run.givens run.backs run.together)
+
+  pub keepers_stay : ((accounts : AccountsServed) → ServedKeepersStay G accounts input output input_steady output_steady listener_tells to_come came_back out ends)
+      → ServeKeepersStay tells files holds place_faults net_tells to_give given_back net_faults G input output input_steady output_steady listener_tells to_come came_back out ends
+  keepers_stay law old new net net' store options run told =
+      each_so (G.tells run.now.keeper) (λ turn. TellsChange (Some turn.1) → ⊥)
+      (all_turns tells files holds place_faults net_tells to_give given_back net_faults G input output input_steady output_steady listener_tells to_come came_back out ends old new net net' store options run) (run.told told) (law run.accounts run.opened run.now run.givens run.backs run.together)
 
   pub pushes_stand : ((accounts : AccountsServed) → ServedPushesStand G accounts input output input_steady output_steady listener_tells to_come came_back out ends)
       → ServePushesStand tells files holds place_faults net_tells to_give given_back net_faults G input output input_steady output_steady listener_tells to_come came_back out ends

@@ -17,7 +17,7 @@ use Rattle.rv_answering.specs.declared.answer.Answer.TheVariants.{Pushed, Pulled
 use Rattle.rv_answering.specs.declared.request.Request.TheVariants.{Push, Pull}
 use Rattle.rv_answering.specs.Requests.{Asked}
 use Rattle.rv_net.specs.declared.conn.Conn.{Conn}
-use Rattle.rv_cli.specs.Headline.{Begins, IsLawfulRun, Leaves, TellsTrouble}
+use Rattle.rv_cli.specs.Headline.{Begins, IsLawfulRun, Leaves, TellsChange, TellsTrouble}
 use Rattle.rv_cli.specs.Serving.{NetServes, RunsServe, ShowsIn}
 use Rattle.rv_laws.specs.Listeners.{FollowsIn, Together, turns_in}
 
@@ -31,12 +31,13 @@ module _ {P N K L I O : Type 0} (tells : P → Type 0) (files : P → List ℕ �
 
   -- what `run` says
   abbrev pub RunsServing : P → P → N → N → List ℕ → ServeOptions → OutputState → OutputState → ℕ → Type 0
-  RunsServing old new net net' store options = RunsServe G.faults (tells new) (files old options.accounts) (holds old store) (OpensAs store (holds old store)) (holds new store) (place_faults old) (place_faults new)
+  RunsServing old new net net' store options = RunsServe G (tells new) (files old options.accounts) (holds old store) (OpensAs store (holds old store)) (holds new store) (place_faults old) (place_faults new)
       (λ accounts opened now. NetServes (net_tells net') listener_tells (λ givens backs. AreServed accounts opened givens now backs) options.workers (to_give net) (to_give net') (given_back net) (given_back net'))
       (net_faults net) (net_faults net')
 
   -- The listeners of the net were served side by side at a desk, which was opened with the book that the store kept, and closed with the
-  -- one that it keeps. Where the net tells, they are the first that it had to give, and came back to it.
+  -- one that it keeps. Where the place tells, so did the desk's keeper to the end. Where the net tells, they are the first that it had to
+  -- give, and came back to it.
   pub record ServeRun (old new : P) (net net' : N) (store : List ℕ) (options : ServeOptions) : Type 0 where
     pub accounts : AccountsServed
     pub opened : Seated K
@@ -46,6 +47,7 @@ module _ {P N K L I O : Type 0} (tells : P → Type 0) (files : P → List ℕ �
     pub begins : Begins (tells new) (OpensAs store (holds old store)) (served G.faults opened)
     pub together : AreServed accounts opened givens now backs
     pub sound : IsSound (served G.faults now)
+    pub told : tells new → G.tells now.keeper
     pub leaves : Leaves (tells new) (holds new store) (place_faults old) (place_faults new) (served G.faults now)
     pub count : length givens ≡ options.workers
     pub first : net_tells net' → to_give net ≡ givens ++ to_give net'
@@ -77,6 +79,10 @@ module _ {P N K L I O : Type 0} (tells : P → Type 0) (files : P → List ℕ �
   abbrev pub ServeTroublesHaveCauses : Type 0
   ServeTroublesHaveCauses = OfAllServes (λ old new net net' store options run. place_faults new ≡ place_faults old → place_faults old < 2 ^ 64 - 1
       → AllByRecursion (λ turn. TellsTrouble (Some turn.1) → ⊥) (all_turns old new net net' store options run))
+
+  -- Where the place tells, no answer says that another changed what is kept.
+  abbrev pub ServeKeepersStay : Type 0
+  ServeKeepersStay = OfAllServes (λ old new net net' store options run. tells new → AllByRecursion (λ turn. TellsChange (Some turn.1) → ⊥) (all_turns old new net net' store options run))
 
   -- Each mutation of a push that was not refused stands in the book at the end; but for an id of 0, which is skipped and stands nowhere.
   abbrev pub ServePushesStand : Type 0

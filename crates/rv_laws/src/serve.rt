@@ -1,5 +1,5 @@
 //! What follows from the clause `serve`.
-ghost use Rattle.rv_laws.specs.Serves.{ServesAreRuns, ServeBooksAreLawful, ServePullsAreShown, ServeTroublesHaveCauses, ServePushesStand, ServeClientsFollow};
+ghost use Rattle.rv_laws.specs.Serves.{ServesAreRuns, ServeBooksAreLawful, ServePullsAreShown, ServeTroublesHaveCauses, ServeKeepersStay, ServePushesStand, ServeClientsFollow};
 
 use rv_keeper::{Keeper, Place};
 use rv_net::{Listen, Net};
@@ -35,6 +35,14 @@ pub fn troubles_have_causes<K: Keeper, P: Place<Kept = K>, L: Listen, N: Net<Lis
         L.In.state L.Out.state L.In.fails_no_more L.Out.fails_no_more L.tells L.to_come L.came_back L.out L.ends }
 {
     rv_cli::laws::served_troubles_have_causes::<K, L>();
+}
+
+/// Where the place tells, no answer says that another changed what is kept.
+pub fn keepers_stay<K: Keeper, P: Place<Kept = K>, L: Listen, N: Net<Listen = L>>()
+    ensures { ServeKeepersStay P.tells P.accounts P.holds P.faults N.tells N.to_give N.came_back N.faults K.Keeper
+        L.In.state L.Out.state L.In.fails_no_more L.Out.fails_no_more L.tells L.to_come L.came_back L.out L.ends }
+{
+    rv_cli::laws::served_keepers_stay::<K, L>();
 }
 
 /// Each mutation of a push that was answered as done stands in the book at the end, as an act of its user, group and client with its id;
