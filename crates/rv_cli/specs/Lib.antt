@@ -1,5 +1,6 @@
 pub mod Texts
 pub mod Headline
+pub mod Promises
 pub mod RunLaws
 pub mod Storing
 pub mod Feeding

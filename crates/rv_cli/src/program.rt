@@ -7,7 +7,8 @@ ghost use Rattle.rv_words.specs.declared.serve_options.ServeOptions.{ServeOption
 ghost use Rattle.rv_keeper.specs.Stores.{OpensAs, OthersStay};
 ghost use Rattle.rv_answering.specs.declared.request.Request.TheVariants.{Retire};
 ghost use Rattle.rv_cli.specs.Texts.{usage_text, status_of, status_text};
-ghost use Rattle.rv_cli.specs.Headline.{RunsFeed, RunsOne, RunsReport, TellsActivity, TellsLists, TellsSound, WritesOnly, AllAsk, IsOther, KeptSound};
+ghost use Rattle.rv_cli.specs.Headline.{TellsActivity, TellsLists, TellsSound, WritesOnly, AllAsk, IsOther, KeptSound};
+ghost use Rattle.rv_cli.specs.Promises.{WasFed, WasFedOrNot, WasReportedOrNot, WasRetired, WasRetiredOrNot};
 ghost use Rattle.rv_cli.specs.Commands.{HasFile, IsOfStore, IsReportOf};
 ghost use Rattle.rv_cli.specs.Serving.{NetServes, RunsServe, Unserved};
 ghost use Rattle.rv_cli.specs.Replying.{Retired, WritesReply};
@@ -42,8 +43,7 @@ pub fn run_feed<P: Place, S: Source, O: Sink>(
 ) -> u8
     // What is written are the answers of a run from the book that the store kept over the lines that were read, and the store keeps
     // the book that the run leaves.
-    ensures feed { RunsFeed (P.tells place.new) (OpensAs store.now (P.holds place.old store.now)) (P.holds place.new store.now) (P.faults place.old) (P.faults place.new) (P.holds place.old store.now)
-        (S.state input.old) (S.state input.new) (O.state out.old) (O.state out.new) result }
+    ensures feed { WasFed P.Place O.Sink store.now place.old place.new S.Source input.old input.new out.old out.new result }
 
     // Where all lines are of the form, the status is none of a line that isn't.
     ensures complete { AllAsk (S.state input.old).left (IsOther result) }
@@ -100,8 +100,7 @@ pub fn run_retire<P: Place, O: Sink>(
     out: &mut O,
 ) -> u8
     // What is written is the answer at the book that the store kept, and the store keeps the book that it leaves.
-    ensures retire { RunsOne (P.tells place.new) (OpensAs store.now (P.holds place.old store.now)) (P.holds place.new store.now) (P.faults place.old) (P.faults place.new) (P.holds place.old store.now)
-        (Ok (Retire group.now)) (O.state out.old) (O.state out.new) result }
+    ensures retire { WasRetired P.Place O.Sink store.now place.old place.new group.now out.old out.new result }
 
     // Where the place tells, and the store kept a lawful book within the limit, the status is no damage.
     ensures sound { P.tells place.new → KeptSound (OpensAs store.now (P.holds place.old store.now)) → result ≢ 5 }
@@ -175,13 +174,11 @@ where
     // What is written are the answers of a run from the book that the store kept over the lines that were read, and the store keeps
     // the book that the run leaves; or memory was refused in reading the words.
     ensures feed { (store : List ℕ) → command_in (map string_bytes words.now) ≡ Some (commands.Feed store)
-        → RunsFeed (P.tells place.new) (OpensAs store (P.holds place.old store)) (P.holds place.new store) (P.faults place.old) (P.faults place.new) (P.holds place.old store) (S.state input.old) (S.state input.new) (O.state out.old) (O.state out.new) result
-        ⊎ ((result ≡ 8) × (input.new ≡ input.old) × (place.new ≡ place.old) × WritesOnly (O.state out.old) (O.state out.new) (status_text endings.Memory)) }
+        → WasFedOrNot P.Place O.Sink store place.old place.new S.Source input.old input.new out.old out.new result }
 
     // And so over the one line that retires the group.
     ensures retire { (store group : List ℕ) → command_in (map string_bytes words.now) ≡ Some (commands.Retire store group)
-        → RunsOne (P.tells place.new) (OpensAs store (P.holds place.old store)) (P.holds place.new store) (P.faults place.old) (P.faults place.new) (P.holds place.old store) (Ok (Retire group)) (O.state out.old) (O.state out.new) result
-        ⊎ ((result ≡ 8) × (place.new ≡ place.old) × WritesOnly (O.state out.old) (O.state out.new) (status_text endings.Memory)) }
+        → WasRetiredOrNot P.Place O.Sink store place.old place.new group out.old out.new result }
 
     // What is written to connections are the answers to their requests, over turns of seats at one book from the one that the store
     // kept, and the store keeps the book that they leave.
@@ -205,14 +202,11 @@ where
 
     // A report is a text of the book that the store kept, which it still keeps.
     ensures lists { (store : List ℕ) → command_in (map string_bytes words.now) ≡ Some (commands.Lists store)
-        → RunsReport (P.tells place.new) (OpensAs store (P.holds place.old store)) (P.holds place.new store) (P.faults place.old) (P.faults place.new) (P.holds place.old store) TellsLists (O.state out.old) (O.state out.new) result
-        ⊎ ((result ≡ 8) × (place.new ≡ place.old) × WritesOnly (O.state out.old) (O.state out.new) (status_text endings.Memory)) }
+        → WasReportedOrNot P.Place O.Sink store place.old place.new TellsLists out.old out.new result }
     ensures activity { (store : List ℕ) → command_in (map string_bytes words.now) ≡ Some (commands.Activity store)
-        → RunsReport (P.tells place.new) (OpensAs store (P.holds place.old store)) (P.holds place.new store) (P.faults place.old) (P.faults place.new) (P.holds place.old store) TellsActivity (O.state out.old) (O.state out.new) result
-        ⊎ ((result ≡ 8) × (place.new ≡ place.old) × WritesOnly (O.state out.old) (O.state out.new) (status_text endings.Memory)) }
+        → WasReportedOrNot P.Place O.Sink store place.old place.new TellsActivity out.old out.new result }
     ensures check { (store : List ℕ) → command_in (map string_bytes words.now) ≡ Some (commands.Check store)
-        → RunsReport (P.tells place.new) (OpensAs store (P.holds place.old store)) (P.holds place.new store) (P.faults place.old) (P.faults place.new) (P.holds place.old store) TellsSound (O.state out.old) (O.state out.new) result
-        ⊎ ((result ≡ 8) × (place.new ≡ place.old) × WritesOnly (O.state out.old) (O.state out.new) (status_text endings.Memory)) }
+        → WasReportedOrNot P.Place O.Sink store place.old place.new TellsSound out.old out.new result }
 
     // A fault is told exactly where one rose, but for a write of a status's own text that failed.
     ensures keeper { result ≡ 4 → Rose (P.faults place.old) (P.faults place.new) }

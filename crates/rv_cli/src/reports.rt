@@ -2,7 +2,8 @@
 ghost use Rattle.std.specs.Prelude.{◌≡◌, ◌≢◌, ◌⊎◌, ◌++◌, codes, decimal};
 ghost use Rattle.rv_base.specs.Causes.{Rose};
 ghost use Rattle.rv_keeper.specs.Stores.{OpensAs, OthersStay};
-ghost use Rattle.rv_cli.specs.Headline.{KeptSound, RunsReport, TellsActivity, TellsLists, TellsSound};
+ghost use Rattle.rv_cli.specs.Headline.{KeptSound, TellsActivity, TellsLists, TellsSound};
+ghost use Rattle.rv_cli.specs.Promises.{WasReported};
 ghost use Rattle.rv_cli.specs.Reporting.{WritesMade, WritesText};
 ghost use Rattle.rv_cli.specs.Steadiness.{OutputIsSteady, PlaceIsSteady};
 
@@ -53,8 +54,7 @@ fn report_sound<O: Sink>(out: &mut O, entries: u32) -> Ending
 /// Writes the lists of the book that the store keeps, as [`lists_text`](rv_report::lists_text): the command `lists STORE`. The
 /// status is 0, 4, 5, 7 or 8; it is 4 where the store isn't there, and none is made. The store stays as it is.
 pub fn run_lists<P: Place, O: Sink>(alloc: Global, place: &mut P, store: &str, out: &mut O) -> u8
-    ensures report { RunsReport (P.tells place.new) (OpensAs store.now (P.holds place.old store.now)) (P.holds place.new store.now) (P.faults place.old) (P.faults place.new) (P.holds place.old store.now)
-        TellsLists (O.state out.old) (O.state out.new) result }
+    ensures report { WasReported P.Place O.Sink store.now place.old place.new TellsLists out.old out.new result }
 
     // Where the place tells, and the store kept a lawful book within the limit, the status is no damage.
     ensures sound { P.tells place.new → KeptSound (OpensAs store.now (P.holds place.old store.now)) → result ≢ 5 }
@@ -81,8 +81,7 @@ pub fn run_lists<P: Place, O: Sink>(alloc: Global, place: &mut P, store: &str, o
 /// Writes who did how much in the book that the store keeps, as [`activity_text`](rv_report::activity_text): the command
 /// `activity STORE`. The status is 0, 4, 5, 7 or 8; it is 4 where the store isn't there, and none is made. The store stays as it is.
 pub fn run_activity<P: Place, O: Sink>(alloc: Global, place: &mut P, store: &str, out: &mut O) -> u8
-    ensures report { RunsReport (P.tells place.new) (OpensAs store.now (P.holds place.old store.now)) (P.holds place.new store.now) (P.faults place.old) (P.faults place.new) (P.holds place.old store.now)
-        TellsActivity (O.state out.old) (O.state out.new) result }
+    ensures report { WasReported P.Place O.Sink store.now place.old place.new TellsActivity out.old out.new result }
     ensures sound { P.tells place.new → KeptSound (OpensAs store.now (P.holds place.old store.now)) → result ≢ 5 }
     ensures absent { P.tells place.new → result ≡ 0 → P.has place.old store.now }
     ensures none_made { P.tells place.new → P.has place.new store.now → P.has place.old store.now }
@@ -103,8 +102,7 @@ pub fn run_activity<P: Place, O: Sink>(alloc: Global, place: &mut P, store: &str
 /// Writes that the store is sound, with the number of its book's entries: the command `check STORE`. The status is 0, 4, 5, 7 or 8,
 /// where 4 also tells that the store isn't there, and none is made, and 5 what is wrong first. The store stays as it is.
 pub fn run_check<P: Place, O: Sink>(alloc: Global, place: &mut P, store: &str, out: &mut O) -> u8
-    ensures report { RunsReport (P.tells place.new) (OpensAs store.now (P.holds place.old store.now)) (P.holds place.new store.now) (P.faults place.old) (P.faults place.new) (P.holds place.old store.now)
-        TellsSound (O.state out.old) (O.state out.new) result }
+    ensures report { WasReported P.Place O.Sink store.now place.old place.new TellsSound out.old out.new result }
     ensures sound { P.tells place.new → KeptSound (OpensAs store.now (P.holds place.old store.now)) → result ≢ 5 }
     ensures absent { P.tells place.new → result ≡ 0 → P.has place.old store.now }
     ensures none_made { P.tells place.new → P.has place.new store.now → P.has place.old store.now }
