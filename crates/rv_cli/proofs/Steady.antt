@@ -1,12 +1,12 @@
 -- What stays of a place's other stores, and what goes on where nothing fails any more.
-use Rattle.std.proofs.Common.{codes, decimal, ◌≡◌, ◌≢◌, ℕ, ◌-◌, ◌^◌, ◌++◌, List, Result, Ok, Err, IfOk, IsErrOf, refl, sym, ap, ◌∙◌, subst, arith}
+use Rattle.std.proofs.Common.{codes, decimal, ◌≡◌, ◌≢◌, ℕ, ◌-◌, ◌^◌, ◌++◌, List, Result, Ok, Err, IsErrOf, refl, sym, ap, ◌∙◌, subst, arith}
 use Rattle.rv_keeper.specs.declared.fault.KeepFault.{KeepFault}
 use Rattle.rv_keeper.specs.declared.fault.KeepFault.TheVariants as keeping
 use Rattle.rv_keeper.specs.declared.loaded.Loaded.{Loaded}
 use Rattle.rv_keeper.specs.Keeping.{HasKeepCause}
-use Rattle.rv_keeper.specs.Stores.{GoesOn, TakesUp}
+use Rattle.rv_keeper.specs.Stores.{TakesUp}
 use Rattle.rv_desk.specs.Seated.{Seated}
-use Rattle.rv_desk.specs.Opened.{Opens, IsLeft, IsRefused}
+use Rattle.rv_desk.specs.Opened.{IsRefused}
 use Rattle.rv_desk.specs.declared.open_fault.OpenFault.{OpenFault}
 use Rattle.rv_desk.specs.declared.open_fault.OpenFault.TheVariants as faulting
 use Rattle.rv_base.specs.Outside.{OutputState}
@@ -24,7 +24,7 @@ use Rattle.rv_cli.specs.declared.ending.Ending.{Ending}
 use Rattle.rv_cli.specs.declared.ending.Ending.TheVariants.{Done, Keeper, Damaged, Read, Write, Memory, Malformed}
 use Rattle.rv_cli.specs.Texts.{fault_ending, keep_ending, serve_status, status_of}
 use Rattle.std.specs.Prelude.{IsErr, IsErrAnd}
-use Rattle.rv_cli.specs.Steadiness.{CheckIsSteady, DeskIsSteady, PlaceIsSteady}
+use Rattle.rv_cli.specs.Steadiness.{CheckIsSteady, DeskIsSteady}
 use Rattle.rv_cli.proofs.Storing.{none_taken}
 
 -- an ending that is none of a keeper has another status

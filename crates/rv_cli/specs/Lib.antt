@@ -1,6 +1,5 @@
 pub mod Texts
 pub mod Headline
-pub mod Promises
 pub mod RunLaws
 pub mod Storing
 pub mod Feeding
@@ -10,3 +9,4 @@ pub mod Reporting
 pub mod Commands
 pub mod Serving
 pub mod ServingSteps
+pub mod Promises

@@ -1,14 +1,22 @@
--- What each command promises, by the place before the run and after it, and by the input and the output.
-use Rattle.std.specs.Prelude.{◌≡◌, ◌⊎◌, ℕ, List, Ok}
+-- What each command promises, by the place before the run and after it, and by the input, the output and the net.
+use Rattle.std.specs.Prelude.{◌≡◌, ◌⊎◌, ℕ, List, Option, Some, Ok}
 use Rattle.rv_base.specs.declared.outside.Source.{Ghosts as SourceGhosts}
 use Rattle.rv_base.specs.declared.outside.Sink.{Ghosts as SinkGhosts}
 use Rattle.rv_keeper.specs.declared.place.Place.{Ghosts as PlaceGhosts}
+use Rattle.rv_keeper.specs.declared.keeper.Keeper.{Ghosts as KeeperGhosts}
 use Rattle.rv_keeper.specs.Stores.{OpensAs}
+use Rattle.rv_net.specs.declared.listen.Listen.{Ghosts as ListenGhosts}
+use Rattle.rv_net.specs.declared.net.Net.{Ghosts as NetGhosts}
 use Rattle.rv_book.specs.Book.{Book}
 use Rattle.rv_answering.specs.declared.request.Request.TheVariants.{Retire}
+use Rattle.rv_words.specs.declared.command.Command.{Command}
+use Rattle.rv_words.specs.declared.command.Command.TheVariants.{Serve}
+use Rattle.rv_words.specs.declared.serve_options.ServeOptions.{ServeOptions}
+use Rattle.rv_workers.specs.Serving.{ServesBy, ServesTogether}
 use Rattle.rv_cli.specs.declared.ending.Ending.TheVariants.{Memory}
 use Rattle.rv_cli.specs.Texts.{status_text}
 use Rattle.rv_cli.specs.Headline.{RunsFeed, RunsOne, RunsReport, WritesOnly}
+use Rattle.rv_cli.specs.Serving.{NetServes, RunsServe, Unserved}
 
 module _ {P Kept O : Type 0} (place : PlaceGhosts P Kept) (output : SinkGhosts O) (store : List ℕ) (old new : P) where
   -- Of `feed`: what is written are the answers of a run from the book that the store kept over the lines that were read, and the store
@@ -34,3 +42,26 @@ module _ {P Kept O : Type 0} (place : PlaceGhosts P Kept) (output : SinkGhosts O
 
   abbrev pub WasReportedOrNot : (Book → List ℕ → Type 0) → O → O → ℕ → Type 0
   WasReportedOrNot Tells out out' status = WasReported Tells out out' status ⊎ ((status ≡ 8) × (new ≡ old) × WritesOnly (output.state out) (output.state out') (status_text Memory))
+
+module _ {N L I O : Type 0} (net : NetGhosts N L I O) (old new : N) where
+  -- what the net was asked for, if it was: at the port of the options as many listeners as workers, each for as many connections
+  abbrev pub WasWanted : ServeOptions → Type 0
+  WasWanted options = (new ≡ old) ⊎ (net.tells new → net.wanted new ≡ Some (record { port = options.port; count = options.workers; most = options.connections }))
+
+  -- at other statuses than 0 and 7 nothing was served
+  abbrev pub WasUnserved : ℕ → Type 0
+  WasUnserved status = (new ≡ old) ⊎ (status ≡ 0) ⊎ (status ≡ 7) ⊎ (net.tells new → Unserved (net.to_give old) (net.to_give new) (net.came_back old) (net.came_back new))
+
+module _ {P K N L I O Out : Type 0} (place : PlaceGhosts P K) (keeper : KeeperGhosts K) (net : NetGhosts N L I O) (listen : ListenGhosts L I O) (source : SourceGhosts I) (sink : SinkGhosts O) (output : SinkGhosts Out) where
+  -- Of `serve`: what is written to connections are the answers to their requests, over turns of seats at one book from the one that the
+  -- store kept, and the store keeps the book that they leave.
+  abbrev pub WasServed : List ℕ → ServeOptions → P → P → N → N → Out → Out → ℕ → Type 0
+  WasServed store options old new before after out out' =
+      RunsServe keeper (place.tells new) (place.accounts old options.accounts) (place.holds old store) (OpensAs store (place.holds old store)) (place.holds new store) (place.faults old) (place.faults new)
+      (λ accounts first now. NetServes (net.tells after) listen.tells (λ given returned. ServesTogether keeper (ServesBy keeper listen source sink accounts) first given now returned) options.workers (net.to_give before) (net.to_give after) (net.came_back before) (net.came_back after))
+      (net.faults before) (net.faults after) (output.state out) (output.state out')
+
+  -- The same, where the words ask for it; or memory was refused in reading the words.
+  abbrev pub ServesAsAsked : Option Command → P → P → N → N → Out → Out → ℕ → Type 0
+  ServesAsAsked asked old new before after out out' status = (store : List ℕ) (options : ServeOptions) → asked ≡ Some (Serve store options)
+      → WasServed store options old new before after out out' status ⊎ ((status ≡ 8) × (new ≡ old) × (after ≡ before) × WritesOnly (output.state out) (output.state out') (status_text Memory))

@@ -1,5 +1,5 @@
 -- The steps of `serve`: the accounts, the net, and what is written at the end, before they are put together.
-use Rattle.std.specs.Prelude.{ℕ, ◌≡◌, ◌⊎◌, List, ◌++◌, Result, Ok, Err, codes, decimal}
+use Rattle.std.specs.Prelude.{ℕ, ◌≡◌, List, ◌++◌, Result, Ok, Err, codes, decimal}
 use Rattle.std.specs.Io.KnownBytes.{Appends}
 use Rattle.rv_base.specs.Causes.{Rose}
 use Rattle.rv_base.specs.Outside.{OutputState}
@@ -16,6 +16,12 @@ use Rattle.rv_cli.specs.Texts.{serve_text}
 use Rattle.rv_cli.specs.Headline.{WritesOnly}
 use Rattle.rv_desk.specs.Seated.{Seated}
 use Rattle.rv_cli.specs.Serving.{FileSays, HasNoAccounts, NetServes}
+use Rattle.rv_base.specs.declared.outside.Source.{Ghosts as SourceGhosts}
+use Rattle.rv_base.specs.declared.outside.Sink.{Ghosts as SinkGhosts}
+use Rattle.rv_keeper.specs.declared.keeper.Keeper.{Ghosts as KeeperGhosts}
+use Rattle.rv_net.specs.declared.listen.Listen.{Ghosts as ListenGhosts}
+use Rattle.rv_net.specs.declared.net.Net.{Ghosts as NetGhosts}
+use Rattle.rv_workers.specs.Serving.{ServesBy, ServesTogether}
 
 -- what an accounts file of these bytes says, as it is told
 abbrev pub TellsFile : List ℕ → Result AccountsServed ServeEnding → Type 0
@@ -57,3 +63,10 @@ abbrev pub TellsServed : Result (Unit {0}) NetFault → ℕ → OutputState → 
 TellsServed (Ok done) entries old new ending = TellsCount (count_text entries) old new ending
 TellsServed (Err nets.Failed) entries old new ending = (ending ≡ Net) × WritesOnly old new (serve_text Net)
 TellsServed (Err nets.Memory) entries old new ending = (ending ≡ Memory) × WritesOnly old new (serve_text Memory)
+
+-- The listeners of a net were served side by side at a desk, with these accounts, as many as workers were asked for.
+module _ {K N L I O : Type 0} (keeper : KeeperGhosts K) (net : NetGhosts N L I O) (listen : ListenGhosts L I O) (source : SourceGhosts I) (sink : SinkGhosts O) where
+  abbrev pub ServesNet : AccountsServed → ℕ → N → N → Seated K → Seated K → Result (Unit {0}) NetFault → Type 0
+  ServesNet accounts workers old new desk now result =
+      NetServed (net.tells new) keeper.tells listen.tells (λ given returned. ServesTogether keeper (ServesBy keeper listen source sink accounts) desk given now returned)
+      workers (net.to_give old) (net.to_give new) (net.came_back old) (net.came_back new) (net.faults old) (net.faults new) desk now result

@@ -8,13 +8,11 @@ ghost use Rattle.rv_keeper.specs.Stores.{OpensAs, OthersStay};
 ghost use Rattle.rv_answering.specs.declared.request.Request.TheVariants.{Retire};
 ghost use Rattle.rv_cli.specs.Texts.{usage_text, status_of, status_text};
 ghost use Rattle.rv_cli.specs.Headline.{TellsActivity, TellsLists, TellsSound, WritesOnly, AllAsk, IsOther, KeptSound};
-ghost use Rattle.rv_cli.specs.Promises.{WasFed, WasFedOrNot, WasReportedOrNot, WasRetired, WasRetiredOrNot};
+ghost use Rattle.rv_cli.specs.Promises.{ServesAsAsked, WasFed, WasFedOrNot, WasReportedOrNot, WasRetired, WasRetiredOrNot, WasUnserved, WasWanted};
 ghost use Rattle.rv_cli.specs.Commands.{HasFile, IsOfStore, IsReportOf};
-ghost use Rattle.rv_cli.specs.Serving.{NetServes, RunsServe, Unserved};
 ghost use Rattle.rv_cli.specs.Replying.{Retired, WritesReply};
 ghost use Rattle.rv_cli.specs.Steadiness.{OutputIsSteady, PlaceIsSteady};
 ghost use Rattle.rv_cli.specs.declared.ending.Ending.TheVariants as endings;
-ghost use Rattle.rv_workers.specs.Serving.{IsServed, ServesTogether};
 
 use crate::ending::Ending;
 use crate::feed::feed;
@@ -182,23 +180,15 @@ where
 
     // What is written to connections are the answers to their requests, over turns of seats at one book from the one that the store
     // kept, and the store keeps the book that they leave.
-    ensures serve { (store : List ℕ) (options : ServeOptions) → command_in (map string_bytes words.now) ≡ Some (commands.Serve store options)
-        → RunsServe P.Kept.Keeper (P.tells place.new) (P.accounts place.old options.accounts) (P.holds place.old store) (OpensAs store (P.holds place.old store)) (P.holds place.new store) (P.faults place.old) (P.faults place.new)
-        (λ accounts first now. NetServes (N.tells net.new) N.Listen.tells
-        (λ given returned. ServesTogether P.Kept.Keeper
-        (λ view listener view' listener'. IsServed P.Kept.Keeper accounts N.Listen.In.state N.Listen.Out.state N.Listen.In.fails_no_more N.Listen.Out.fails_no_more N.Listen.tells N.Listen.to_come N.Listen.came_back N.Listen.out N.Listen.ends view listener view' listener')
-        first given now returned)
-        options.workers (N.to_give net.old) (N.to_give net.new) (N.came_back net.old) (N.came_back net.new))
-        (N.faults net.old) (N.faults net.new) (O.state out.old) (O.state out.new) result
-        ⊎ ((result ≡ 8) × (place.new ≡ place.old) × (net.new ≡ net.old) × WritesOnly (O.state out.old) (O.state out.new) (status_text endings.Memory)) }
+    ensures serve { ServesAsAsked P.Place P.Kept.Keeper N.Net N.Listen.Listen N.Listen.In.Source N.Listen.Out.Sink O.Sink (command_in (map string_bytes words.now)) place.old place.new net.old net.new out.old out.new result }
 
     // At other statuses than 0 and 7 nothing was served.
     ensures unserved { (store : List ℕ) (options : ServeOptions) → command_in (map string_bytes words.now) ≡ Some (commands.Serve store options)
-        → (net.new ≡ net.old) ⊎ (result ≡ 0) ⊎ (result ≡ 7) ⊎ (N.tells net.new → Unserved (N.to_give net.old) (N.to_give net.new) (N.came_back net.old) (N.came_back net.new)) }
+        → WasUnserved N.Net net.old net.new result }
 
     // What the net was asked for, if it was: at the port of the words as many listeners as workers, each for as many connections.
     ensures wanted { (store : List ℕ) (options : ServeOptions) → command_in (map string_bytes words.now) ≡ Some (commands.Serve store options)
-        → (net.new ≡ net.old) ⊎ (N.tells net.new → N.wanted net.new ≡ Some (record { port = options.port; count = options.workers; most = options.connections })) }
+        → WasWanted N.Net net.old net.new options }
 
     // A report is a text of the book that the store kept, which it still keeps.
     ensures lists { (store : List ℕ) → command_in (map string_bytes words.now) ≡ Some (commands.Lists store)

@@ -4,12 +4,12 @@ ghost use Rattle.rv_base.specs.Causes.{Rose};
 ghost use Rattle.rv_keeper.specs.Stores.{OpensAs, OthersStay, Stays};
 ghost use Rattle.rv_net.specs.declared.net_fault.NetFault.TheVariants as nets;
 ghost use Rattle.rv_cli.specs.Headline.{KeptSound, WritesOnly};
-ghost use Rattle.rv_cli.specs.Serving.{NetServes, RunsServe, Unserved};
-ghost use Rattle.rv_cli.specs.ServingSteps.{AccountsRead, NetServed, TellsCount, TellsFile, TellsServed, count_text};
+ghost use Rattle.rv_cli.specs.Serving.{Unserved};
+ghost use Rattle.rv_cli.specs.Promises.{WasServed, WasUnserved, WasWanted};
+ghost use Rattle.rv_cli.specs.ServingSteps.{AccountsRead, ServesNet, TellsCount, TellsFile, TellsServed, count_text};
 ghost use Rattle.rv_cli.specs.Commands.{HasFile};
 ghost use Rattle.rv_cli.specs.Steadiness.{AccountsAreSteady, ServeIsSteady};
 ghost use Rattle.rv_cli.specs.Texts.{serve_status, serve_text};
-ghost use Rattle.rv_workers.specs.Serving.{IsServed, ServesTogether};
 
 use crate::ending::Ending;
 use crate::serve_ending::ServeEnding;
@@ -65,11 +65,7 @@ where
     <N::Listen as Listen>::In: Send,
     <N::Listen as Listen>::Out: Send,
     requires { desk.doubt ≡ None }
-    ensures serves { NetServed (N.tells net.new) K.tells N.Listen.tells
-        (λ given returned. ServesTogether K.Keeper
-        (λ view listener view' listener'. IsServed K.Keeper accounts.now N.Listen.In.state N.Listen.Out.state N.Listen.In.fails_no_more N.Listen.Out.fails_no_more N.Listen.tells N.Listen.to_come N.Listen.came_back N.Listen.out N.Listen.ends view listener view' listener')
-        desk given result.1 returned)
-        options.now.workers (N.to_give net.old) (N.to_give net.new) (N.came_back net.old) (N.came_back net.new) (N.faults net.old) (N.faults net.new) desk result.1 result.0 }
+    ensures serves { ServesNet K.Keeper N.Net N.Listen.Listen N.Listen.In.Source N.Listen.Out.Sink accounts.now options.now.workers net.old net.new desk result.1 result.0 }
     ensures unserved { IfErr result.0 (λ fault. N.tells net.new → Unserved (N.to_give net.old) (N.to_give net.new) (N.came_back net.old) (N.came_back net.new)) }
     ensures wanted { N.tells net.new → N.wanted net.new ≡ Some (record { port = options.now.port; count = options.now.workers; most = options.now.connections }) }
     ensures steady { K.fails_no_more desk.keeper → K.fails_no_more result.1.keeper }
@@ -136,15 +132,9 @@ fn serve_all<R: Wait + Sync, P: Place, O: Sink, N: Net, C: Crew>(
 where
     <N::Listen as Listen>::In: Send,
     <N::Listen as Listen>::Out: Send,
-    ensures serve { RunsServe P.Kept.Keeper (P.tells place.new) (P.accounts place.old options.now.accounts) (P.holds place.old store.now) (OpensAs store.now (P.holds place.old store.now)) (P.holds place.new store.now) (P.faults place.old) (P.faults place.new)
-        (λ accounts first now. NetServes (N.tells net.new) N.Listen.tells
-        (λ given returned. ServesTogether P.Kept.Keeper
-        (λ view listener view' listener'. IsServed P.Kept.Keeper accounts N.Listen.In.state N.Listen.Out.state N.Listen.In.fails_no_more N.Listen.Out.fails_no_more N.Listen.tells N.Listen.to_come N.Listen.came_back N.Listen.out N.Listen.ends view listener view' listener')
-        first given now returned)
-        options.now.workers (N.to_give net.old) (N.to_give net.new) (N.came_back net.old) (N.came_back net.new))
-        (N.faults net.old) (N.faults net.new) (O.state out.old) (O.state out.new) result }
-    ensures unserved { (net.new ≡ net.old) ⊎ (result ≡ 0) ⊎ (result ≡ 7) ⊎ (N.tells net.new → Unserved (N.to_give net.old) (N.to_give net.new) (N.came_back net.old) (N.came_back net.new)) }
-    ensures wanted { (net.new ≡ net.old) ⊎ (N.tells net.new → N.wanted net.new ≡ Some (record { port = options.now.port; count = options.now.workers; most = options.now.connections })) }
+    ensures serve { WasServed P.Place P.Kept.Keeper N.Net N.Listen.Listen N.Listen.In.Source N.Listen.Out.Sink O.Sink store.now options.now place.old place.new net.old net.new out.old out.new result }
+    ensures unserved { WasUnserved N.Net net.old net.new result }
+    ensures wanted { WasWanted N.Net net.old net.new options.now }
     ensures steady { O.fails_no_more out.old → O.fails_no_more out.new × (Rose (O.state out.old).refusals (O.state out.new).refusals ⊎ (result ≢ 7)) }
     ensures others { P.tells place.new → OthersStay P.holds P.is_out P.has P.accounts store.now place.old place.new }
     ensures steady_place { P.fails_no_more place.old → HasFile (P.accounts place.old) options.now.accounts → P.fails_no_more place.new × (result ≢ 4) }
@@ -183,19 +173,13 @@ where
     <N::Listen as Listen>::Out: Send,
     // What is written are the answers to the requests of connections, over turns of seats at one book from the one that the store kept,
     // and the store keeps the book that they leave.
-    ensures serve { RunsServe P.Kept.Keeper (P.tells place.new) (P.accounts place.old options.now.accounts) (P.holds place.old store.now) (OpensAs store.now (P.holds place.old store.now)) (P.holds place.new store.now) (P.faults place.old) (P.faults place.new)
-        (λ accounts first now. NetServes (N.tells net.new) N.Listen.tells
-        (λ given returned. ServesTogether P.Kept.Keeper
-        (λ view listener view' listener'. IsServed P.Kept.Keeper accounts N.Listen.In.state N.Listen.Out.state N.Listen.In.fails_no_more N.Listen.Out.fails_no_more N.Listen.tells N.Listen.to_come N.Listen.came_back N.Listen.out N.Listen.ends view listener view' listener')
-        first given now returned)
-        options.now.workers (N.to_give net.old) (N.to_give net.new) (N.came_back net.old) (N.came_back net.new))
-        (N.faults net.old) (N.faults net.new) (O.state out.old) (O.state out.new) result }
+    ensures serve { WasServed P.Place P.Kept.Keeper N.Net N.Listen.Listen N.Listen.In.Source N.Listen.Out.Sink O.Sink store.now options.now place.old place.new net.old net.new out.old out.new result }
 
     // At other statuses than 0 and 7 nothing was served.
-    ensures unserved { (net.new ≡ net.old) ⊎ (result ≡ 0) ⊎ (result ≡ 7) ⊎ (N.tells net.new → Unserved (N.to_give net.old) (N.to_give net.new) (N.came_back net.old) (N.came_back net.new)) }
+    ensures unserved { WasUnserved N.Net net.old net.new result }
 
     // What the net was asked for, if it was: at the port of the options as many listeners as workers, each for as many connections.
-    ensures wanted { (net.new ≡ net.old) ⊎ (N.tells net.new → N.wanted net.new ≡ Some (record { port = options.now.port; count = options.now.workers; most = options.now.connections })) }
+    ensures wanted { WasWanted N.Net net.old net.new options.now }
 
     // Where the place tells, and the store kept a lawful book within the limit, the status is no damage.
     ensures sound { P.tells place.new → KeptSound (OpensAs store.now (P.holds place.old store.now)) → result ≢ 5 }

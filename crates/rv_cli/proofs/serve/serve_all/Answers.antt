@@ -3,7 +3,7 @@ use Rattle.std.proofs.Common.{inl, inr, ap, sym, ◌∙◌}
 use Rattle.rv_cli.proofs.Steady.{no_accounts_not_nine, no_store_not_four, no_store_not_nine, serve_not_four, serve_not_nine, served_not_four, served_not_nine}
 use Rattle.rv_book.specs.Book.{size}
 use Rattle.rv_cli.specs.declared.serve_ending.ServeEnding.TheVariants.{NotOpened}
-use Rattle.rv_cli.proofs.Serving.{has_no_store, net_before, serve_ended, unserved_by}
+use Rattle.rv_cli.proofs.Serving.{has_no_store, serve_ended, unserved_by}
 use Rattle.rv_cli.proofs.serve.serve_all.Goals as goal
 
 pub returns-in-Err-open_desk-clause-serve : goal.returns-in-Err-open_desk-clause-serve
