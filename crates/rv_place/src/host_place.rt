@@ -1,7 +1,7 @@
 ghost use Rattle.std.specs.Prelude.{◌≡◌, ◌≢◌, ◌≤◌, IfOk, codes};
 ghost use Rattle.rv_base.specs.Causes.{Rose};
 ghost use Rattle.rv_keeper.specs.Keeping.{HasKeepCause};
-ghost use Rattle.rv_sqlite.specs.Stored.{IsFresh};
+ghost use Rattle.rv_sqlite.specs.Stored.{IsFresh, stored_faults};
 
 use rv_base::Bytes;
 use rv_keeper::{KeepFault, Keeper, MemoryKeeper, Place};
@@ -145,11 +145,19 @@ impl Place for HostPlace<'_> {
         self.faults
     }
 
-    fn open_keeper(&mut self, name: &str) -> Result<HostKeeper, KeepFault> {
+    fn open_keeper(&mut self, name: &str) -> Result<HostKeeper, KeepFault>
+        ensures fresh { IfOk result (λ kept. stored_faults kept ≡ 0) }
+        ensures cause { HasKeepCause self.old.faults self.new.faults result }
+        ensures opened { IfOk result (IsFresh name.now) }
+    {
         counted(&mut self.faults, open_store(self.rt, name))
     }
 
-    fn open_existing(&mut self, name: &str) -> Result<HostKeeper, KeepFault> {
+    fn open_existing(&mut self, name: &str) -> Result<HostKeeper, KeepFault>
+        ensures fresh { IfOk result (λ kept. stored_faults kept ≡ 0) }
+        ensures cause { HasKeepCause self.old.faults self.new.faults result }
+        ensures opened { IfOk result (IsFresh name.now) }
+    {
         counted(&mut self.faults, open_found(self.rt, name))
     }
 

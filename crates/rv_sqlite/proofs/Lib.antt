@@ -1,1 +1,3 @@
 mod Ordered
+mod Gathered
+mod RowsGiven

@@ -1,8 +1,9 @@
 //! Cells and a generation in a table of a SQLite database.
 //!
-//! [`SqliteKeeper`] keeps them over any store of the crate `sqlite`: a file, or memory. [`StoreKeeper`] is a keeper in memory or over
-//! SQLite, whichever a store is. Neither tells what it holds: of them safety, the order of what is loaded, and the causes of each
-//! answer are proved.
+//! [`SqliteKeeper`] keeps them over any store of the crate `sqlite`: a file, or memory. It does not tell what it holds: of it are
+//! proved safety, the order of what is loaded, the causes of each answer, and, where the disk gave back what was written, that what
+//! is loaded is just the rows of the table's one `SELECT`. [`StoreKeeper`] is a keeper in memory, which tells, or over SQLite,
+//! whichever a store is.
 #![tactic(auto)]
 
 mod number;

@@ -1,9 +1,13 @@
 // Rows as cells.
-ghost use Rattle.std.specs.Prelude.{◌≡◌, IfOk, OnOk, OnErr, ◌++◌, ◌∷◌, [], IsTrue, ◌<◌};
+ghost use Rattle.std.specs.Prelude.{◌≡◌, ◌++◌, ◌∷◌, [], IfOk, IsTrue, None, OnOk, Some, option_to_list};
 ghost use Rattle.rv_keeper.specs.Cells.{AreCells};
 ghost use Rattle.sqlite_value.specs.declared.value.Value.TheVariants.{Int, Blob};
 ghost use Rattle.sqlite_value.specs.Order.{column};
+ghost use Rattle.sqlite.specs.State.{HasCleanDisk};
+ghost use Rattle.sqlite.specs.Held.{state};
 ghost use Rattle.rv_sqlite.specs.Rows.{IsRow, Shows};
+ghost use Rattle.rv_sqlite.specs.Loads.{ReadsTable, cells_among, generations_among};
+ghost use Rattle.rv_sqlite.specs.Moves.{MovesTo};
 
 use crate::number::number_in;
 use crate::row_read::RowRead;
@@ -70,7 +74,8 @@ fn may_end(cells: &[Cell], cell: &Cell) -> bool
 // Adds a cell at the end, where it is in order there.
 fn append(cells: &mut Vec<Cell>, cell: Cell) -> Result<(), KeepFault>
     requires { AreCells cells.old.items }
-    ensures { AreCells cells.new.items }
+    ensures order { AreCells cells.new.items }
+    ensures added { OnOk result (cells.new.items ≡ cells.old.items ++ cell ∷ []) }
 {
     if !may_end(cells, &cell) {
         return Err(KeepFault::Failed);
@@ -81,47 +86,72 @@ fn append(cells: &mut Vec<Cell>, cell: Cell) -> Result<(), KeepFault>
     }
 }
 
-// Reads the rows that are left. A second row of the generation is a fault.
-fn read_rows<S: Alter>(alloc: Global, rows: &mut Rows<'_, S>) -> Result<Loaded, KeepFault>
-    ensures { IfOk result (λ loaded. AreCells loaded.cells) }
+// Keeps the generation. A second one is a fault.
+fn keep_generation(generation: &mut Option<u64>, number: u64) -> Result<(), KeepFault>
+    ensures { OnOk result ((generation.old ≡ None) × (generation.new ≡ Some number)) }
+{
+    if generation.is_some() {
+        return Err(KeepFault::Failed);
+    }
+    *generation = Some(number);
+    Ok(())
+}
+
+// Adds what a row stands for.
+fn gather(
+    cells: &mut Vec<Cell>,
+    generation: &mut Option<u64>,
+    read: RowRead,
+) -> Result<(), KeepFault>
+    requires { AreCells cells.old.items }
+    ensures order { AreCells cells.new.items }
+    ensures cells { OnOk result (cells.new.items ≡ cells.old.items ++ cells_among (read ∷ [])) }
+    ensures generation { OnOk result (option_to_list generation.new ≡ option_to_list generation.old ++ generations_among (read ∷ [])) }
+{
+    match read {
+        RowRead::Cell(cell) => append(cells, cell),
+        RowRead::Generation(number) => keep_generation(generation, number),
+    }
+}
+
+// What the next row stands for, if there is one.
+fn next_read<S: Alter>(rows: &mut Rows<'_, S>) -> Result<Option<RowRead>, KeepFault>
+    ensures same_reference { rows.new.conn.ghost_name ≡ rows.old.conn.ghost_name }
+    ensures clean { HasCleanDisk (state S.Store rows.new.conn.now) → HasCleanDisk (state S.Store rows.old.conn.now) }
+    ensures found { HasCleanDisk (state S.Store rows.new.conn.now) → IfOk result (MovesTo S.Store rows.old.conn.now rows.new.conn.now) }
+{
+    match rows.next() {
+        Ok(Some(row)) => Ok(Some(read_row(row)?)),
+        Ok(None) => Ok(None),
+        Err(error) => Err(fault_of(error)),
+    }
+}
+
+/// The cells and the generation that the table has. A second row of the generation is a fault.
+pub(crate) fn read_table<S: Alter>(
+    alloc: Global,
+    connection: &mut Connection<S>,
+) -> Result<Loaded, KeepFault>
+    ensures order { IfOk result (λ loaded. AreCells loaded.cells) }
+    ensures clean { HasCleanDisk (state S.Store connection.new) → OnOk result (HasCleanDisk (state S.Store connection.old)) }
+    ensures found { HasCleanDisk (state S.Store connection.new) → IfOk result (ReadsTable (state S.Store connection.old) (state S.Store connection.new)) }
 {
     let mut cells = Vec::new(alloc);
     let mut generation = None;
+    let mut rows = match all_rows(connection) {
+        Ok(rows) => rows,
+        Err(refused) => return Err(fault_of(refused)),
+    };
     for _ in 0..u64::MAX {
-        match rows.next() {
-            Ok(Some(row)) => match read_row(row)? {
-                RowRead::Cell(cell) => append(&mut cells, cell)?,
-                RowRead::Generation(number) => {
-                    if generation.is_some() {
-                        return Err(KeepFault::Failed);
-                    }
-                    generation = Some(number);
-                }
-            },
-            Ok(None) => {
+        match next_read(&mut rows)? {
+            Some(read) => gather(&mut cells, &mut generation, read)?,
+            None => {
                 return Ok(Loaded {
                     cells: Cells::from_vec(cells),
                     generation: generation.unwrap_or(0),
                 });
             }
-            Err(error) => return Err(fault_of(error)),
         }
     }
     Err(KeepFault::Failed)
-}
-
-/// The cells and the generation that the table has.
-pub(crate) fn read_table<S: Alter>(
-    alloc: Global,
-    connection: &mut Connection<S>,
-) -> Result<Loaded, KeepFault>
-    ensures { IfOk result (λ loaded. AreCells loaded.cells) }
-{
-    match all_rows(connection) {
-        Ok(rows) => {
-            let mut rows = rows;
-            read_rows(alloc, &mut rows)
-        }
-        Err(error) => Err(fault_of(error)),
-    }
 }

@@ -5,6 +5,7 @@ ghost use Rattle.rv_keeper.specs.Keeping.{HasKeepCause, HasGenerationCause};
 ghost use Rattle.sqlite.specs.State.{HasCleanDisk};
 ghost use Rattle.sqlite.specs.Held.{state};
 ghost use Rattle.rv_sqlite.specs.Asked.{FindsGeneration};
+ghost use Rattle.rv_sqlite.specs.Loads.{LoadsTable};
 ghost use Rattle.rv_sqlite.specs.Rows.{ShowsNumber};
 
 use crate::number::number_in;
@@ -90,7 +91,8 @@ fn count_in<T: Drop>(faults: &mut u64, answer: Result<T, KeepFault>) -> Result<T
 
 // What the table has, which is made where there is none.
 fn load_from<S: Alter>(alloc: Global, connection: &mut Connection<S>) -> Result<Loaded, KeepFault>
-    ensures { IfOk result (λ loaded. AreCells loaded.cells) }
+    ensures order { IfOk result (λ loaded. AreCells loaded.cells) }
+    ensures found { HasCleanDisk (state S.Store connection.new) → IfOk result (LoadsTable S.Store connection.old connection.new) }
 {
     if !connection.is_autocommit() {
         return Err(KeepFault::Failed);
@@ -142,7 +144,11 @@ impl<S: Alter> Keeper for SqliteKeeper<S> {
         self.faults
     }
 
-    fn load(&mut self) -> Result<Loaded, KeepFault> {
+    fn load(&mut self) -> Result<Loaded, KeepFault>
+        ensures order { IfOk result (λ loaded. AreCells loaded.cells) }
+        ensures cause { HasKeepCause self.old.faults self.new.faults result }
+        ensures found { HasCleanDisk (state S.Store self.new.connection) → IfOk result (LoadsTable S.Store self.old.connection self.new.connection) }
+    {
         let answer = load_from(self.alloc, &mut self.connection);
         count_in(&mut self.faults, answer)
     }

@@ -1,8 +1,10 @@
 // The statements, each in a function of its own.
-ghost use Rattle.std.specs.Prelude.{IfOk};
+ghost use Rattle.std.specs.Prelude.{◌≡◌, [], IfOk, OnOk};
 ghost use Rattle.sqlite.specs.State.{HasCleanDisk};
 ghost use Rattle.sqlite.specs.Held.{state};
+ghost use Rattle.sqlite.specs.Given.{HasBegun};
 ghost use Rattle.rv_sqlite.specs.Asked.{FindsRow};
+ghost use Rattle.rv_sqlite.specs.Loads.{MakesTable, all_text};
 
 use itoa::Buffer;
 use rv_keeper::Change;
@@ -24,13 +26,19 @@ const REMOVE: &str = "DELETE FROM cell WHERE shelf = ?1 AND k = ?2";
 pub(crate) const GENERATION_SHELF: u8 = 0;
 
 /// Makes the table, where there is none.
-pub(crate) fn make_table<S: Alter>(connection: &mut Connection<S>) -> Result<(), Error> {
+pub(crate) fn make_table<S: Alter>(connection: &mut Connection<S>) -> Result<(), Error>
+    ensures { HasCleanDisk (state S.Store connection.new) → OnOk result (MakesTable (state S.Store connection.old) (state S.Store connection.new)) }
+{
     connection.execute(MAKE, &[])?;
     Ok(())
 }
 
 /// All rows, in the order of shelves and then of keys, one at a time.
-pub(crate) fn all_rows<S: Alter>(connection: &mut Connection<S>) -> Result<Rows<'_, S>, Error> {
+pub(crate) fn all_rows<S: Alter>(connection: &mut Connection<S>) -> Result<Rows<'_, S>, Error>
+    ensures same_reference { IfOk result (λ rows. rows.conn.ghost_name ≡ connection.entry.ghost_name) }
+    ensures clean { IfOk result (λ rows. HasCleanDisk (state S.Store rows.conn.now) → HasCleanDisk (state S.Store connection.old)) }
+    ensures begun { IfOk result (λ rows. HasCleanDisk (state S.Store rows.conn.now) → HasBegun S.Store all_text [] connection.old rows.conn.now) }
+{
     connection.query(ALL, &[])
 }
 

@@ -1,4 +1,4 @@
-use Rattle.std.proofs.Common.{rules, arith, sym}
+use Rattle.std.proofs.Common.{arith, sym}
 use Rattle.rv_sqlite.proofs.Ordered.{one_more}
 use Rattle.rv_sqlite.proofs.reading.may_end.Goals as goal
 

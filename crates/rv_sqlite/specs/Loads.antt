@@ -1,0 +1,61 @@
+-- What a load finds in the table, in the words of the crate `sqlite`: true where the disk gave back what was written.
+use Rattle.std.specs.Prelude.{◌≡◌, ℕ, List, [], ◌∷◌, Ok, codes}
+use Rattle.sqlite_value.specs.Order.{Row}
+use Rattle.sqlite_trees.specs.declared.store.Store.{Ghosts}
+use Rattle.sqlite.specs.State.{State, Executes, Shown}
+use Rattle.sqlite.specs.Held.{Held, state}
+use Rattle.rv_keeper.specs.declared.cell.Cell.{Cell}
+use Rattle.rv_keeper.specs.declared.loaded.Loaded.{Loaded}
+use Rattle.rv_sqlite.specs.declared.row_read.RowRead.{RowRead}
+use Rattle.rv_sqlite.specs.declared.row_read.RowRead.TheVariants as row_read
+use Rattle.rv_sqlite.specs.Rows.{Shows}
+
+abbrev pub make_text : List ℕ
+make_text = codes "CREATE TABLE IF NOT EXISTS cell (shelf INTEGER NOT NULL, k BLOB NOT NULL, body BLOB NOT NULL, PRIMARY KEY (shelf, k)) STRICT"
+
+abbrev pub all_text : List ℕ
+all_text = codes "SELECT shelf, k, body FROM cell ORDER BY shelf, k"
+
+-- each row stands for its read, in turn
+abbrev pub AllShow : List Row → List RowRead → Type 0
+AllShow [] [] = Unit {0}
+AllShow [] (read ∷ reads) = ⊥
+AllShow (row ∷ rows) [] = ⊥
+AllShow (row ∷ rows) (read ∷ reads) = Shows row read × AllShow rows reads
+
+-- the cells among reads, in turn
+abbrev pub cells_among : List RowRead → List Cell
+cells_among [] = []
+cells_among (row_read.Cell cell ∷ reads) = cell ∷ cells_among reads
+cells_among (row_read.Generation number ∷ reads) = cells_among reads
+
+-- the generations among reads, in turn
+abbrev pub generations_among : List RowRead → List ℕ
+generations_among [] = []
+generations_among (row_read.Cell cell ∷ reads) = generations_among reads
+generations_among (row_read.Generation number ∷ reads) = number ∷ generations_among reads
+
+-- the generation by those that rows tell: 0 where none does, and else the only one
+abbrev pub IsTold : List ℕ → ℕ → Type 0
+IsTold [] generation = generation ≡ 0
+IsTold (number ∷ []) generation = generation ≡ number
+IsTold (number ∷ other ∷ more) generation = ⊥
+
+-- the rows stand for these cells, in order, and for this generation, and for nothing else
+pub record AreLoaded (rows : List Row) (loaded : Loaded) : Type 0 where
+  pub reads : List RowRead
+  pub shown : AllShow rows reads
+  pub cells : loaded.cells ≡ cells_among reads
+  pub generation : IsTold (generations_among reads) loaded.generation
+
+-- the table was made, or was there
+abbrev pub MakesTable : State → State → Type 0
+MakesTable old new = (count : ℕ) × Executes make_text [] old new (Ok count)
+
+-- what is loaded is the rows of the statement that asks for all, every one of them
+abbrev pub ReadsTable : State → State → Loaded → Type 0
+ReadsTable old new loaded = (rows : List Row) × Shown all_text [] old new rows × AreLoaded rows loaded
+
+-- the table was made, or was there, and then what it has was loaded
+abbrev pub LoadsTable : {S : Type 0} → Ghosts S → Held S → Held S → Loaded → Type 0
+LoadsTable {S} g old new loaded = (between : Held S) × MakesTable (state g old) (state g between) × ReadsTable (state g between) (state g new) loaded
