@@ -10,9 +10,11 @@ use Rattle.rv_sqlite.specs.declared.row_read.RowRead.{RowRead}
 use Rattle.rv_sqlite.specs.declared.row_read.RowRead.TheVariants as row_read
 use Rattle.rv_sqlite.specs.Rows.{Shows}
 
+-- the statement that makes the table, where there is none
 abbrev pub make_text : List ℕ
 make_text = codes "CREATE TABLE IF NOT EXISTS cell (shelf INTEGER NOT NULL, k BLOB NOT NULL, body BLOB NOT NULL, PRIMARY KEY (shelf, k)) STRICT"
 
+-- the statement that asks for all rows, in the order of shelves and then of keys
 abbrev pub all_text : List ℕ
 all_text = codes "SELECT shelf, k, body FROM cell ORDER BY shelf, k"
 

@@ -1,11 +1,14 @@
 -- What a keeper of either kind shows.
 use Rattle.std.specs.Prelude.{◌≡◌, ◌≢◌, ℕ, List, [], Option, Some, None, codes}
-use Rattle.sqlite.specs.Held.{Held}
+use Rattle.sqlite_trees.specs.declared.store.Store.{Ghosts}
+use Rattle.sqlite.specs.State.{HasCleanDisk}
+use Rattle.sqlite.specs.Held.{Held, state}
 use Rattle.rv_keeper.specs.declared.loaded.Loaded.{Loaded}
 use Rattle.rv_keeper.specs.Keeping.{holding}
 use Rattle.rv_keeper.specs.Schedules.{FailsNoMore}
 use Rattle.rv_sqlite.specs.declared.store_keeper.StoreKeeper.{StoreKeeper}
 use Rattle.rv_sqlite.specs.declared.store_keeper.StoreKeeper.TheVariants.{Memory, Sqlite}
+use Rattle.rv_sqlite.specs.Loads.{LoadsTable}
 
 module _ {S : Type 0} where
   -- how often a call has failed
@@ -38,3 +41,11 @@ module _ {S : Type 0} where
   abbrev pub IsFresh : List ℕ → StoreKeeper S → Type 0
   IsFresh name (Memory keeper) = (name ≡ codes "memory") × (keeper.shelves ≡ []) × (keeper.generation ≡ 0) × (keeper.faults ≡ 0) × (keeper.schedule.items ≡ [])
   IsFresh name (Sqlite keeper) = (name ≢ codes "memory") × (keeper.faults ≡ 0)
+
+-- What is loaded by a keeper in memory is what it held, and by one over a database, where the disk gave back what was written, what the
+-- table has. Neither becomes the other.
+abbrev pub StoredLoads : {S : Type 0} → Ghosts S → StoreKeeper S → StoreKeeper S → Loaded → Type 0
+StoredLoads g (Memory old) (Memory new) loaded = loaded ≡ holding old.shelves old.generation
+StoredLoads g (Sqlite old) (Sqlite new) loaded = HasCleanDisk (state g new.connection) → LoadsTable g old.connection new.connection loaded
+StoredLoads g (Memory old) (Sqlite new) loaded = ⊥
+StoredLoads g (Sqlite old) (Memory new) loaded = ⊥

@@ -1,5 +1,8 @@
-ghost use Rattle.std.specs.Prelude.{◌≡◌, None, Some};
-ghost use Rattle.rv_sqlite.specs.Stored.{StoredHolds, StoredSteady, StoredTells, stored_connection, stored_faults};
+ghost use Rattle.std.specs.Prelude.{◌≡◌, IfOk, None, Some};
+ghost use Rattle.rv_keeper.specs.declared.loaded.Loaded.{Loaded};
+ghost use Rattle.rv_keeper.specs.Cells.{AreCells};
+ghost use Rattle.rv_keeper.specs.Keeping.{HasKeepCause, KeepsSteady, Tells};
+ghost use Rattle.rv_sqlite.specs.Stored.{StoredHolds, StoredLoads, StoredSteady, StoredTells, stored_connection, stored_faults};
 ghost use Rattle.rv_sqlite.specs.StoredLaws.{stored_one, stored_tells};
 
 use crate::sqlite_keeper::SqliteKeeper;
@@ -52,7 +55,15 @@ impl<S: Alter> Keeper for StoreKeeper<S> {
         }
     }
 
-    fn load(&mut self) -> Result<Loaded, KeepFault> {
+    fn load(&mut self) -> Result<Loaded, KeepFault>
+        ensures order { IfOk result (λ loaded. AreCells loaded.cells) }
+        ensures tells { StoredTells self.new → StoredTells self.old }
+        ensures same { StoredTells self.new → (held : Loaded) → StoredHolds self.old held → StoredHolds self.new held }
+        ensures told { StoredTells self.new → IfOk result (λ loaded. Tells loaded (StoredHolds self.old) (StoredHolds self.new)) }
+        ensures cause { HasKeepCause (stored_faults self.old) (stored_faults self.new) result }
+        ensures steady { StoredSteady self.old → KeepsSteady (StoredSteady self.new) result }
+        ensures found { IfOk result (StoredLoads S.Store self.old self.new) }
+    {
         match self {
             StoreKeeper::Memory(keeper) => keeper.load(),
             StoreKeeper::Sqlite(keeper) => keeper.load(),
