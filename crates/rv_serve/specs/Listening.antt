@@ -2,14 +2,19 @@
 use Rattle.std.specs.Prelude.{◌≡◌, ℕ, List, [], ◌∷◌, ◌++◌, map, Option}
 use Rattle.std.specs.List.{flat_map}
 use Rattle.rv_base.specs.Outside.{InputState, OutputState}
+use Rattle.rv_base.specs.declared.outside.Source.{Ghosts as SourceGhosts}
+use Rattle.rv_base.specs.declared.outside.Sink.{Ghosts as SinkGhosts}
 use Rattle.rv_net.specs.declared.conn.Conn.{Conn}
+use Rattle.rv_net.specs.declared.listen.Listen.{Ghosts as ListenGhosts}
 use Rattle.rv_wire.specs.declared.push.Mutation.{Mutation}
 use Rattle.rv_wire.specs.declared.pull.PullRequest.{PullRequest}
 use Rattle.rv_history.specs.declared.turn.Turn.{Turn}
 use Rattle.rv_history.specs.declared.pull_answer.PullAnswer.{PullAnswer}
 use Rattle.rv_history.specs.declared.retire_answer.RetireAnswer.{RetireAnswer}
 use Rattle.rv_history.specs.Machine.{Sender}
+use Rattle.rv_history.specs.declared.turns.Turns.{Ghosts as TurnsGhosts}
 use Rattle.rv_accounts.specs.File.{Served as Accounts}
+use Rattle.rv_crew.specs.declared.gate.Gate.{Ghosts as GateGhosts}
 use Rattle.rv_crew.specs.declared.heard.Heard.{Heard}
 use Rattle.rv_crew.specs.Hearing.{Hears}
 use Rattle.rv_serve.specs.declared.conn_end.ConnEnd.{ConnEnd}
@@ -60,3 +65,10 @@ module _ {S I O : Type 0} (mutates : S → Sender → Mutation → Turn → S �
   pub record ServesPast (Told : Type 0) (old new : S) (to_come to_come' came_back came_back' : List (Conn I O)) (out out' : ℕ) (heard heard' : Option (List Heard)) : Type 0 where
     pub all : ServesAll Told old new to_come to_come' came_back came_back' out out'
     pub hears : Hears heard heard' (heard_over all.conns)
+
+-- the same, by what turns, listeners, sources, sinks and gates show
+module _ {S L I O G : Type 0} (turns : TurnsGhosts S) (listen : ListenGhosts L I O) (source : SourceGhosts I) (sink : SinkGhosts O) (gate : GateGhosts G) (accounts : Accounts) where
+  abbrev pub ServesListener : S → S → L → L → G → G → Type 0
+  ServesListener old new given back before after =
+      ServesPast turns.mutates turns.pulls turns.retires accounts source.state sink.state source.fails_no_more sink.fails_no_more (listen.tells back) old new
+      (listen.to_come given) (listen.to_come back) (listen.came_back given) (listen.came_back back) (listen.out given) (listen.out back) (gate.heard before) (gate.heard after)

@@ -1,7 +1,7 @@
 // The connections of a listener are served.
 ghost use Rattle.std.specs.Prelude.{◌≡◌};
 ghost use Rattle.rv_base.specs.Outside.{counted};
-ghost use Rattle.rv_serve.specs.Listening.{ServesPast};
+ghost use Rattle.rv_serve.specs.Listening.{ServesListener};
 
 use crate::serving::serve_with;
 use rv_accounts::Accounts;
@@ -19,7 +19,7 @@ pub fn serve_listener<T: Turns, G: Gate, L: Listen>(
     gate: &mut G,
     listener: &mut L,
 )
-    ensures serves { ServesPast T.mutates T.pulls T.retires accounts.now L.In.state L.Out.state L.In.fails_no_more L.Out.fails_no_more (L.tells listener.new) turns.old turns.new (L.to_come listener.old) (L.to_come listener.new) (L.came_back listener.old) (L.came_back listener.new) (L.out listener.old) (L.out listener.new) (G.heard gate.old) (G.heard gate.new) }
+    ensures serves { ServesListener T.Turns L.Listen L.In.Source L.Out.Sink G.Gate accounts.now turns.old turns.new listener.old listener.new gate.old gate.new }
     ensures tells { L.tells listener.new → L.tells listener.old }
     ensures ends { L.ends listener.new ≡ counted (L.ends listener.old) }
 {
