@@ -1,14 +1,11 @@
 -- Steps over known bytes.
-use Rattle.std.proofs.Common.{◌≡◌, ◌≢◌, ℕ, ◌+◌, ◌-◌, ◌<◌, min, true, false, List, [], ◌∷◌, ◌++◌, length, take, drop, Some, None, refl, sym, ap, ◌∙◌, arith, append_assoc, append-nil}
-use Rattle.std.specs.List.{AllByRecursion}
-use Rattle.std.proofs.lemmas.Grind.{common_steps}
+use Rattle.std.proofs.Common.{◌≡◌, ℕ, ◌+◌, ◌-◌, ◌<◌, min, List, [], ◌++◌, length, take, drop, sym, ap, ◌∙◌, arith, append_assoc, append-nil}
 use Rattle.std.specs.declared.option.Option.{Option}
 use Rattle.std.proofs.lemmas.List.{drop_min, drop-drop, take-append-drop, nil_from_length, length-drop, take_rest}
 use Rattle.std.specs.Io.KnownBytes.{Appends, Keeps}
 use Rattle.std.proofs.KnownBytes.{Appends-trans}
 use Rattle.rv_base.specs.Writes.{AppendsFront, appends_keeps}
-use Rattle.rv_base.specs.Outside.{OutputState, counted}
-use Rattle.rv_base.specs.InMemory.{FailsNoMore, fails_next}
+use Rattle.rv_base.specs.Outside.{OutputState}
 
 -- what a read of n bytes at a place gives, and what it leaves
 pub read_front : (items piece : List ℕ) (old at n : ℕ) → at ≡ min old (length items) → take n piece ≡ take n (take (length items - at) (drop at items)) → drop old items ≡ take n piece ++ drop (at + n) items

@@ -1,9 +1,9 @@
 -- The state of a source and of a sink in memory, and when they fail.
-use Rattle.std.specs.Prelude.{ℕ, ◌+◌, ◌<◌, ◌==◌, ◌&&◌, not, min, max, Bool, List, length, drop, Some, Result, Ok, Err}
+use Rattle.std.specs.Prelude.{ℕ, ◌+◌, ◌<◌, ◌==◌, ◌&&◌, not, min, max, Bool, List, length, drop, Some, Result, Ok, Err, is_err}
 use Rattle.std.specs.List.{list_any, AllByRecursion}
 use Rattle.rv_base.specs.declared.in_memory.MemorySource.{MemorySource}
 use Rattle.rv_base.specs.declared.in_memory.MemorySink.{MemorySink}
-use Rattle.rv_base.specs.Outside.{InputState, OutputState, counted}
+use Rattle.rv_base.specs.Outside.{InputState, OutputState, counted, counted_if}
 
 -- a source in memory tells its bytes from its place on
 abbrev pub source_state : MemorySource → InputState
@@ -25,7 +25,11 @@ FailsNoMore calls failing = AllByRecursion (λ call. call < counted calls) faili
 abbrev pub moved : ℕ → ℕ → ℕ
 moved most there = min (max most 1) there
 
--- where the next byte stands after a read
-abbrev pub place_after : {E : Type 0} → ℕ → ℕ → Result ℕ E → ℕ
-place_after at size (Ok n) = min at size + n
-place_after at size (Err e) = at
+-- where the next byte of a source stands after a read
+abbrev pub stands_after : {E : Type 0} → MemorySource → Result ℕ E → ℕ
+stands_after s (Ok n) = min s.at (length s.bytes.items) + n
+stands_after s (Err e) = s.at
+
+-- how often memory was refused to a sink after a write: once more where one failed that was not to fail
+abbrev pub refusals_after : {T E : Type 0} → MemorySink → Result T E → ℕ
+refusals_after s result = counted_if (is_err result && not (fails_next s.calls s.failing.items)) s.refusals

@@ -1,7 +1,6 @@
 -- Laws of texts that are written one after another.
-use Rattle.std.proofs.Common.{◌≡◌, List, ℕ, ◌++◌, Result, Ok, Err, ◌∙◌, arith, subst}
-use Rattle.std.specs.Result.{OnErr}
-use Rattle.rv_base.specs.Causes.{HasCause, Counts, Rose, rose_before}
+use Rattle.std.proofs.Common.{List, ℕ, ◌++◌, Result, Ok, Err, ◌∙◌, arith}
+use Rattle.rv_base.specs.Causes.{HasCause, Counts, rose_before}
 use Rattle.rv_base.specs.Writes.{writes_after, front_longer}
 use Rattle.rv_base.specs.Outside.{OutputState, Writes, IsSteady}
 

@@ -57,7 +57,7 @@ impl Source for MemorySource {
     ghost use Rattle.std.specs.Prelude.{◌≡◌, ◌-◌, ◌≤◌, min, length, IfOk, IsOk, is_err};
     ghost use Rattle.std.specs.Io.{ReadsAtMost};
     ghost use Rattle.rv_base.specs.Outside.{Reads, counted, counted_if, tells_end};
-    ghost use Rattle.rv_base.specs.InMemory.{source_state, fails_next, FailsNoMore, moved, place_after};
+    ghost use Rattle.rv_base.specs.InMemory.{source_state, fails_next, FailsNoMore, moved, stands_after};
 
     ghost state = { source_state };
 
@@ -75,7 +75,7 @@ impl Source for MemorySource {
         ensures count { IfOk result (λ n. n ≡ min (moved self.old.most (length self.old.bytes.items - self.old.at)) (length piece.new)) }
 
         // Nothing else changes.
-        ensures after { self.new ≡ record self.old { at = place_after self.old.at (length self.old.bytes.items) result; calls = counted self.old.calls; faults = counted_if (is_err result) self.old.faults; ends = counted_if (tells_end result piece.new) self.old.ends } }
+        ensures after { self.new ≡ record self.old { at = stands_after self.old result; calls = counted self.old.calls; faults = counted_if (is_err result) self.old.faults; ends = counted_if (tells_end result piece.new) self.old.ends } }
     {
         self.calls = self.calls.saturating_add(1);
         if self.failing.contains(&self.calls) {
@@ -128,7 +128,7 @@ impl Sink for MemorySink {
     ghost use Rattle.std.specs.Prelude.{◌≡◌, ◌+◌, ◌<◌, ◌⊎◌, ◌&&◌, not, true, length, vec_len, vec_capacity, IfOk, is_err};
     ghost use Rattle.std.specs.Io.{WritesAtMost};
     ghost use Rattle.rv_base.specs.Outside.{WritesSome, IsSteady, counted, counted_if};
-    ghost use Rattle.rv_base.specs.InMemory.{sink_state, fails_next, FailsNoMore, moved};
+    ghost use Rattle.rv_base.specs.InMemory.{sink_state, fails_next, FailsNoMore, moved, refusals_after};
 
     ghost state = { sink_state };
 
@@ -148,7 +148,7 @@ impl Sink for MemorySink {
         ensures count { IfOk result (λ n. n ≡ moved self.old.most (length piece.now)) }
 
         // Nothing else changes.
-        ensures after { self.new ≡ record self.old { bytes = self.new.bytes; calls = counted self.old.calls; faults = counted_if (is_err result) self.old.faults; refusals = counted_if (is_err result && not (fails_next self.old.calls self.old.failing.items)) self.old.refusals } }
+        ensures after { self.new ≡ record self.old { bytes = self.new.bytes; calls = counted self.old.calls; faults = counted_if (is_err result) self.old.faults; refusals = refusals_after self.old result } }
     {
         self.calls = self.calls.saturating_add(1);
         if self.failing.contains(&self.calls) {

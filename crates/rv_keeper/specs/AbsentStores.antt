@@ -1,5 +1,5 @@
 -- Stores of a place in memory that are not there.
-use Rattle.std.proofs.Common.{◌≡◌, ◌||◌, Bool, true, false, ℕ, List, [], codes, Option, Some, None, unwrap_or, refl}
+use Rattle.std.proofs.Common.{◌≡◌, ◌||◌, true, false, ℕ, List, [], codes, Option, Some, None, unwrap_or, refl}
 use Rattle.std.specs.Option.{is_some}
 use Rattle.std.specs.Str.{bytes_eq}
 use Rattle.rv_keeper.specs.declared.store.Store.{Store}

@@ -62,3 +62,7 @@ abbrev pub IsCommit : Bool → Bool → ℕ → List Change → Loaded → Loade
 IsCommit before after from changes old new (Ok done) = (before ≡ false) × (after ≡ false) × (new ≡ committed from changes old)
 IsCommit before after from changes old new (Err Failed) = ((before ≡ true) × (new ≡ old)) ⊎ ((before ≡ false) × (after ≡ true) × (new ≡ committed from changes old))
 IsCommit before after from changes old new (Err Memory) = (before ≡ false) × (new ≡ old)
+
+-- the same of the commit of this number, by the calls that fail
+abbrev pub IsCommitBy : List Fails → ℕ → ℕ → List Change → Loaded → Loaded → Result (Unit {0}) KeepFault → Type 0
+IsCommitBy schedule number = IsCommit (fails_at (Before number) schedule) (fails_at (After number) schedule)

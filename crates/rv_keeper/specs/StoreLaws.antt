@@ -1,5 +1,5 @@
 -- Laws of what stays of a place's stores and accounts files.
-use Rattle.std.specs.Prelude.{◌≢◌, ℕ, List}
+use Rattle.std.specs.Prelude.{ℕ, List}
 use Rattle.rv_keeper.specs.declared.loaded.Loaded.{Loaded}
 use Rattle.rv_keeper.specs.Stores.{OthersStay, Stays}
 

@@ -5,7 +5,7 @@ ghost use Rattle.rv_base.specs.Causes.{Rose};
 ghost use Rattle.rv_keeper.specs.declared.fails.Fails.TheVariants as calls;
 ghost use Rattle.rv_keeper.specs.Cells.{AreCells, AreChanges, changed};
 ghost use Rattle.rv_keeper.specs.Keeping.{Made, HasKeepCause, HasGenerationCause, KeepsSteady, holding};
-ghost use Rattle.rv_keeper.specs.Schedules.{fails_at, one_more, counted, is_strange, has_failed, FailsNoMore, IsLoad, IsCommit};
+ghost use Rattle.rv_keeper.specs.Schedules.{fails_at, one_more, counted, is_strange, has_failed, FailsNoMore, IsLoad, IsCommitBy};
 
 use crate::change::Change;
 use crate::fails::{Fails, fails_at};
@@ -165,8 +165,7 @@ impl Keeper for MemoryKeeper {
         ensures made { Made from changes.now result (λ held. held ≡ holding self.new.shelves self.new.generation) (holding self.old.shelves self.old.generation) }
         ensures cause { HasKeepCause self.old.faults self.new.faults result }
         ensures steady { FailsNoMore self.old.loads self.old.questions self.old.commits self.old.schedule.items → KeepsSteady (FailsNoMore self.new.loads self.new.questions self.new.commits self.new.schedule.items) result }
-        ensures answer { IsCommit (fails_at (calls.Before self.new.commits) self.old.schedule.items) (fails_at (calls.After self.new.commits) self.old.schedule.items) from changes.now
-            (holding self.old.shelves self.old.generation) (holding self.new.shelves self.new.generation) result }
+        ensures answer { IsCommitBy self.old.schedule.items self.new.commits from changes.now (holding self.old.shelves self.old.generation) (holding self.new.shelves self.new.generation) result }
         ensures after { self.new ≡ record self.old { shelves = self.new.shelves; generation = self.new.generation; commits = one_more self.old.commits; faults = counted (has_failed result) self.old.faults } }
     {
         self.commits = self.commits.saturating_add(1);

@@ -1,4 +1,4 @@
-use Rattle.std.proofs.Common.{arith, ◌∙◌}
+use Rattle.std.proofs.Common.{◌∙◌}
 use Rattle.rv_base.proofs.Known.{write_more}
 use Rattle.rv_base.proofs.writing.write_all.Goals as goal
 

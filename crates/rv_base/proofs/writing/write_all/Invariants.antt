@@ -1,5 +1,4 @@
-use Rattle.std.proofs.Common.{◌≡◌, ◌≤◌, List, ℕ, ◌++◌, length}
-use Rattle.std.specs.Io.KnownBytes.{Appends}
+use Rattle.std.proofs.Common.{length}
 use Rattle.rv_base.proofs.Known.{Goes}
 use Rattle.rv_base.proofs.writing.write_all.Given as goal
 

@@ -1,6 +1,5 @@
-use Rattle.std.proofs.Common.{◌≡◌, ◌||◌, true, not, ap, refl}
+use Rattle.std.proofs.Common.{◌||◌, true, not, ap}
 use Rattle.rv_base.specs.InMemory.{fails_next}
-use Rattle.rv_keeper.specs.MemoryStores.{has_store}
 use Rattle.rv_keeper.specs.declared.memory_place.MemoryPlace.{MemoryPlace}
 use Rattle.rv_keeper.proofs.MemoryStores.{Opened, OpensSo, opened, others_stay, so_refused, so_steady}
 use Rattle.rv_keeper.proofs.memory_place.MemoryPlacePlace.open_keeper.Goals as goal
