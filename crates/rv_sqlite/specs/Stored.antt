@@ -8,6 +8,7 @@ use Rattle.rv_keeper.specs.Keeping.{holding}
 use Rattle.rv_keeper.specs.Schedules.{FailsNoMore}
 use Rattle.rv_sqlite.specs.declared.store_keeper.StoreKeeper.{StoreKeeper}
 use Rattle.rv_sqlite.specs.declared.store_keeper.StoreKeeper.TheVariants.{Memory, Sqlite}
+use Rattle.rv_sqlite.specs.Asked.{FindsGeneration}
 use Rattle.rv_sqlite.specs.Loads.{LoadsTable}
 
 module _ {S : Type 0} where
@@ -49,3 +50,11 @@ StoredLoads g (Memory old) (Memory new) loaded = loaded ≡ holding old.shelves 
 StoredLoads g (Sqlite old) (Sqlite new) loaded = HasCleanDisk (state g new.connection) → LoadsTable g old.connection new.connection loaded
 StoredLoads g (Memory old) (Sqlite new) loaded = ⊥
 StoredLoads g (Sqlite old) (Memory new) loaded = ⊥
+
+-- The generation that a keeper over a database answers is, where the disk gave back what was written, the one that the table has. Of one in
+-- memory the clauses of a keeper that tells say which it is. Neither becomes the other.
+abbrev pub StoredFinds : {S : Type 0} → Ghosts S → StoreKeeper S → StoreKeeper S → ℕ → Type 0
+StoredFinds g (Memory old) (Memory new) number = Unit {0}
+StoredFinds g (Sqlite old) (Sqlite new) number = HasCleanDisk (state g new.connection) → FindsGeneration (state g old.connection) (state g new.connection) number
+StoredFinds g (Memory old) (Sqlite new) number = ⊥
+StoredFinds g (Sqlite old) (Memory new) number = ⊥

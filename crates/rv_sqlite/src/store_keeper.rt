@@ -1,8 +1,8 @@
-ghost use Rattle.std.specs.Prelude.{◌≡◌, IfOk, None, Some};
+ghost use Rattle.std.specs.Prelude.{◌≡◌, ◌<◌, ◌-◌, ◌^◌, IfOk, IsOk, None, Some};
 ghost use Rattle.rv_keeper.specs.declared.loaded.Loaded.{Loaded};
 ghost use Rattle.rv_keeper.specs.Cells.{AreCells};
-ghost use Rattle.rv_keeper.specs.Keeping.{HasKeepCause, KeepsSteady, Tells};
-ghost use Rattle.rv_sqlite.specs.Stored.{StoredHolds, StoredLoads, StoredSteady, StoredTells, stored_connection, stored_faults};
+ghost use Rattle.rv_keeper.specs.Keeping.{HasGenerationCause, HasKeepCause, KeepsSteady, Tells};
+ghost use Rattle.rv_sqlite.specs.Stored.{StoredFinds, StoredHolds, StoredLoads, StoredSteady, StoredTells, stored_connection, stored_faults};
 ghost use Rattle.rv_sqlite.specs.StoredLaws.{stored_one, stored_tells};
 
 use crate::sqlite_keeper::SqliteKeeper;
@@ -70,7 +70,15 @@ impl<S: Alter> Keeper for StoreKeeper<S> {
         }
     }
 
-    fn generation(&mut self, from: u64) -> Result<u64, Failed> {
+    fn generation(&mut self, from: u64) -> Result<u64, Failed>
+        requires { from < 2 ^ 64 - 1 }
+        ensures tells { StoredTells self.new → StoredTells self.old }
+        ensures same { StoredTells self.new → (held : Loaded) → StoredHolds self.old held → StoredHolds self.new held }
+        ensures told { StoredTells self.new → IfOk result (λ n. (held : Loaded) → StoredHolds self.old held → held.generation ≡ n) }
+        ensures cause { HasGenerationCause from (stored_faults self.old) (stored_faults self.new) result }
+        ensures steady { StoredSteady self.old → StoredSteady self.new × IsOk result }
+        ensures found { IfOk result (StoredFinds S.Store self.old self.new) }
+    {
         match self {
             StoreKeeper::Memory(keeper) => keeper.generation(from),
             StoreKeeper::Sqlite(keeper) => keeper.generation(from),
