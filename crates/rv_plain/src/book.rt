@@ -10,7 +10,7 @@ use rv_rows::{Clients, Row};
 use std::alloc::Global;
 
 /// The user whom a group is bound to: that of the first act or look that names it.
-pub fn bound<'b>(book: &'b [Entry], group: &Id) -> Option<&'b User>
+pub(crate) fn bound<'b>(book: &'b [Entry], group: &Id) -> Option<&'b User>
     ensures { option_map (λ user. user.now) result ≡ bound group.now book.now }
 {
     for entry in book {
@@ -50,7 +50,7 @@ fn retires(entry: &Entry, group: &Id) -> bool
 }
 
 /// Whether an entry retires a group.
-pub fn retired(book: &[Entry], group: &Id) -> bool
+pub(crate) fn retired(book: &[Entry], group: &Id) -> bool
     ensures { result ≡ retired group.now book.now }
 {
     book.iter().any(|entry| retires(entry, group))
@@ -75,7 +75,7 @@ pub fn last(book: &[Entry], client: &Id) -> u64
 }
 
 /// The group of a client's first act.
-pub fn group_of<'b>(book: &'b [Entry], client: &Id) -> Option<&'b Id>
+pub(crate) fn group_of<'b>(book: &'b [Entry], client: &Id) -> Option<&'b Id>
     ensures { option_map (λ group. group.now) result ≡ group_of client.now book.now }
 {
     for entry in book {
@@ -109,7 +109,7 @@ fn order_after(entry: &Entry, group: &Id, before: Num) -> Num
 
 /// The order of a group's last look, or 0.
 #[tactic(auto, using(std::proofs::lemmas::List::Sums::fold_more))]
-pub fn last_order(book: &[Entry], group: &Id) -> Num
+pub(crate) fn last_order(book: &[Entry], group: &Id) -> Num
     ensures { result ≡ last_order group.now book.now }
 {
     let mut order = Num::from_u64(0);
@@ -192,7 +192,7 @@ fn enter(
 }
 
 /// The clients of a group with their last mutation ids, in the order of the clients' bytes.
-pub fn ids(alloc: Global, book: &[Entry], group: &Id) -> Result<Clients, Memory>
+pub(crate) fn ids(alloc: Global, book: &[Entry], group: &Id) -> Result<Clients, Memory>
     requires { size book.now < 2 ^ 53 }
     ensures ids { IfOk result (λ v. v ≡ ids group.now book.now) }
     ensures order { IfOk result (λ v. InOrder (λ pair. pair.0) v) }
@@ -205,7 +205,7 @@ pub fn ids(alloc: Global, book: &[Entry], group: &Id) -> Result<Clients, Memory>
 }
 
 /// The same entries, in memory of their own.
-pub fn copies(alloc: Global, book: &[Entry]) -> Result<Vec<Entry>, Memory>
+pub(crate) fn copies(alloc: Global, book: &[Entry]) -> Result<Vec<Entry>, Memory>
     ensures { IfOk result (λ v. v.items ≡ book.now) }
 {
     let mut copies = Vec::new(alloc);
@@ -216,7 +216,7 @@ pub fn copies(alloc: Global, book: &[Entry]) -> Result<Vec<Entry>, Memory>
 }
 
 /// The rows after one more entry.
-pub fn rows_after(alloc: Global, rows: Vec<Row>, entry: &Entry) -> Result<Vec<Row>, Memory>
+pub(crate) fn rows_after(alloc: Global, rows: Vec<Row>, entry: &Entry) -> Result<Vec<Row>, Memory>
     ensures { IfOk result (λ v. v.items ≡ rows_after rows.items entry.now) }
 {
     match entry {

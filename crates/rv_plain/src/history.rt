@@ -31,8 +31,8 @@ fn same_todo(a: &TodoRow, b: &TodoRow) -> bool
         && a.sort == b.sort
 }
 
-/// Whether the two rows are the same.
-pub fn same_row(a: &Row, b: &Row) -> bool
+// Whether the two rows are the same.
+fn same_row(a: &Row, b: &Row) -> bool
     ensures { result ≡ same_row a.now b.now }
 {
     match (a, b) {
@@ -54,8 +54,8 @@ fn is_at(kind: Kind, id: &Id, row: &Row) -> bool
     row.kind() == kind && row.id() == id
 }
 
-/// The row of this kind and id.
-pub fn row_at<'r>(rows: &'r [Row], kind: Kind, id: &Id) -> Option<&'r Row>
+// The row of this kind and id.
+fn row_at<'r>(rows: &'r [Row], kind: Kind, id: &Id) -> Option<&'r Row>
     ensures { option_map (λ row. row.now) result ≡ row_at (key_text (record { kind = kind; id = id.now })) rows.now }
 {
     for row in rows {
@@ -66,8 +66,8 @@ pub fn row_at<'r>(rows: &'r [Row], kind: Kind, id: &Id) -> Option<&'r Row>
     None
 }
 
-/// Whether the row of this kind and id is there afterwards, and was not, or was another, before.
-pub fn is_written(kind: Kind, id: &Id, before: &[Row], after: &[Row]) -> bool
+// Whether the row of this kind and id is there afterwards, and was not, or was another, before.
+fn is_written(kind: Kind, id: &Id, before: &[Row], after: &[Row]) -> bool
     ensures { result ≡ is_written (key_text (record { kind = kind; id = id.now })) before.now after.now }
 {
     match row_at(after, kind, id) {
@@ -96,8 +96,8 @@ fn next_rows(alloc: Global, rows: &[Row], entry: &Entry) -> Result<Vec<Row>, Mem
     rows_after(alloc, copy_rows(alloc, rows)?, entry)
 }
 
-/// Whether some of the entries writes the row of this kind and id, from these rows on.
-pub fn is_touched(
+// Whether some of the entries writes the row of this kind and id, from these rows on.
+fn is_touched(
     alloc: Global,
     kind: Kind,
     id: &Id,
@@ -117,17 +117,17 @@ pub fn is_touched(
     Ok(false)
 }
 
-/// Whether the row's key is not among those of the rows.
+// Whether the row's key is not among those of the rows.
 #[tactic(auto, unfolding(rv_history::specs::History::is_absent))]
-pub fn is_absent(rows: &[Row], row: &Row) -> bool
+fn is_absent(rows: &[Row], row: &Row) -> bool
     ensures { result ≡ is_absent rows.now row.now }
 {
     !has_row(rows, row.kind(), row.id())
 }
 
-/// Whether the row was not seen at the base, or was written since, from these rows on.
+// Whether the row was not seen at the base, or was written since, from these rows on.
 #[tactic(auto, unfolding(rv_history::specs::History::is_news))]
-pub fn is_news(
+fn is_news(
     alloc: Global,
     base: &[Row],
     rows: &[Row],
@@ -220,7 +220,7 @@ fn patch_after(alloc: Global, book: &[Entry], user: &User, place: u32) -> Result
 /// The patch since a base: dels, in key order, of the rows that were seen then and are not now; then puts, in key order, of the
 /// rows that are seen now and were not, or were written since. Without a base everything goes, and each row that is seen now
 /// is put.
-pub fn patch_since(
+pub(crate) fn patch_since(
     alloc: Global,
     book: &[Entry],
     user: &User,
@@ -237,9 +237,9 @@ pub fn patch_since(
     }
 }
 
-/// Whether a client with a last mutation id is among these.
+// Whether a client with a last mutation id is among these.
 #[tactic(auto, unfolding(rv_history::specs::History::is_among))]
-pub fn is_among(pairs: &[(Id, Num)], client: &Id, last: Num) -> bool
+fn is_among(pairs: &[(Id, Num)], client: &Id, last: Num) -> bool
     ensures { result ≡ is_among pairs.now (client.now, last) }
 {
     pairs.iter().any(|pair| pair.0 == *client && pair.1 == last)
@@ -279,7 +279,7 @@ fn ids_after(
 }
 
 /// The last mutation ids of a group's clients that the base look's own group did not have at the base; all without a base.
-pub fn ids_since(
+pub(crate) fn ids_since(
     alloc: Global,
     book: &[Entry],
     group: &Id,

@@ -7,12 +7,8 @@
 mod book;
 mod history;
 mod looks;
-pub mod rows;
+mod rows;
 mod server;
 
-pub use book::{bound, copies, group_of, ids, last, last_order, retired, rows_after, rows_of};
-pub use history::{
-    ids_since, is_absent, is_among, is_news, is_touched, is_written, patch_since, row_at, same_row,
-};
-pub use looks::{base_of, kept, look_at, names_base};
+pub use book::{last, rows_of};
 pub use server::PlainDesk;

@@ -23,7 +23,7 @@ fn entry_at(book: &[Entry], place: u32) -> Option<&Entry>
 }
 
 /// The look at a place.
-pub fn look_at(book: &[Entry], place: u32) -> Option<LookRef<'_>>
+pub(crate) fn look_at(book: &[Entry], place: u32) -> Option<LookRef<'_>>
     ensures { option_map (λ look. (look.user.now, look.group.now, look.order)) result ≡ look_at place book.now }
 {
     match entry_at(book, place)? {
@@ -71,10 +71,10 @@ fn later_looks(book: &[Entry], group: &Id, place: u32) -> usize
         .count()
 }
 
-/// Whether the look at a place is kept: its group is not retired, and fewer than [`KEPT_LOOKS`] later looks of its group
-/// stand in the book.
+// Whether the look at a place is kept: its group is not retired, and fewer than [`KEPT_LOOKS`] later looks of its group
+// stand in the book.
 #[tactic(auto, unfolding(rv_book::specs::Kept::kept))]
-pub fn kept(book: &[Entry], place: u32) -> bool
+fn kept(book: &[Entry], place: u32) -> bool
     ensures { result ≡ kept place book.now }
 {
     match look_at(book, place) {
@@ -101,9 +101,9 @@ fn is_by(book: &[Entry], user: &User, order: Num, place: u32) -> bool
     }
 }
 
-/// Whether a text spells the place in decimal, and the look there is kept, by this user and of this order.
+// Whether a text spells the place in decimal, and the look there is kept, by this user and of this order.
 #[tactic(auto, unfolding(rv_history::specs::Bases::names_base))]
-pub fn names_base(book: &[Entry], user: &User, text: &str, order: Num, place: u32) -> bool
+fn names_base(book: &[Entry], user: &User, text: &str, order: Num, place: u32) -> bool
     ensures { result ≡ names_base user.now text.now order book.now place }
 {
     spells(text, place) && kept(book, place) && is_by(book, user, order, place)
@@ -123,7 +123,7 @@ fn named(book: &[Entry], user: &User, text: &str, order: Num) -> Option<u32>
 }
 
 /// The place of the kept look that a cookie names, where it names one.
-pub fn base_of(book: &[Entry], user: &User, cookie: &Cookie) -> Option<u32>
+pub(crate) fn base_of(book: &[Entry], user: &User, cookie: &Cookie) -> Option<u32>
     requires { size book.now < 2 ^ 32 }
     ensures { result ≡ base_of user.now cookie.now book.now }
 {

@@ -19,7 +19,7 @@ fn is_at(kind: Kind, id: &Id, row: &Row) -> bool
 }
 
 /// Whether some row has the key of this kind and id.
-pub fn has_row(rows: &[Row], kind: Kind, id: &Id) -> bool
+pub(crate) fn has_row(rows: &[Row], kind: Kind, id: &Id) -> bool
     ensures { result ≡ has_row (key_text (record { kind = kind; id = id.now })) rows.now }
 {
     rows.iter().any(|row| is_at(kind, id, row))
@@ -65,16 +65,16 @@ fn has_list(list: &Id, rows: &[Row]) -> bool
     rows.iter().any(|row| is_list(list, row))
 }
 
-/// Whether the user may see the list: it is there, and the user owns it or a share of it names the user.
-pub fn may(user: &User, list: &Id, rows: &[Row]) -> bool
+// Whether the user may see the list: it is there, and the user owns it or a share of it names the user.
+fn may(user: &User, list: &Id, rows: &[Row]) -> bool
     ensures { result ≡ may user.now list.now rows.now }
 {
     owns_list(user, list, rows) || (has_list(list, rows) && has_share(user, list, rows))
 }
 
-/// Whether the user sees the row, as one of these: the user may see the list that it is or belongs to.
+// Whether the user sees the row, as one of these: the user may see the list that it is or belongs to.
 #[tactic(auto, unfolding(rv_rows::specs::Sharing::sees))]
-pub fn sees(user: &User, rows: &[Row], row: &Row) -> bool
+fn sees(user: &User, rows: &[Row], row: &Row) -> bool
     ensures { result ≡ sees user.now rows.now row.now }
 {
     may(user, row.list(), rows)
@@ -282,7 +282,7 @@ fn update_todo(
 }
 
 /// The rows after a call of the user.
-pub fn effect(alloc: Global, rows: Vec<Row>, user: &User, call: &Call) -> Result<Vec<Row>, Memory>
+pub(crate) fn effect(alloc: Global, rows: Vec<Row>, user: &User, call: &Call) -> Result<Vec<Row>, Memory>
     ensures { IfOk result (λ new. new.items ≡ effect rows.items user.now call.now) }
 {
     match call {
@@ -349,9 +349,9 @@ fn put(rows: &mut Vec<Row>, row: Row) -> Result<(), Memory>
     }
 }
 
-/// The rows in the order of their keys.
+// The rows in the order of their keys.
 #[tactic(auto, using(std::proofs::lemmas::List::Sums::fold_more))]
-pub fn in_key_order(alloc: Global, rows: &[Row]) -> Result<Vec<Row>, Memory>
+fn in_key_order(alloc: Global, rows: &[Row]) -> Result<Vec<Row>, Memory>
     ensures rows { IfOk result (λ v. v.items ≡ in_key_order rows.now) }
     ensures order { IfOk result (λ v. InOrder row_text v.items) }
 {
@@ -364,7 +364,7 @@ pub fn in_key_order(alloc: Global, rows: &[Row]) -> Result<Vec<Row>, Memory>
 
 /// The rows that the user sees, in the order of their keys.
 #[tactic(auto, using(std::proofs::lemmas::List::Elements::filter_more))]
-pub fn seen(alloc: Global, rows: &[Row], user: &User) -> Result<Vec<Row>, Memory>
+pub(crate) fn seen(alloc: Global, rows: &[Row], user: &User) -> Result<Vec<Row>, Memory>
     ensures { IfOk result (λ v. v.items ≡ seen user.now rows.now) }
 {
     let sorted = in_key_order(alloc, rows)?;

@@ -11,7 +11,7 @@ use crate::history::{ids_since, patch_since};
 use crate::looks::base_of;
 use rv_base::{Id, Memory, Num, User};
 use rv_book::Entry;
-use rv_history::{PullAnswer, PullReply, RetireAnswer, Turn, Turns, entries, next_order};
+use rv_history::{PullAnswer, PullReply, RetireAnswer, Turn, entries, next_order};
 use rv_rows::{Call, Clients};
 use rv_wire::{Ops, PullRequest, Which};
 use std::alloc::Global;
@@ -36,7 +36,7 @@ fn is_elsewhere(book: &[Entry], client: &Id, group: &Id) -> bool
 }
 
 // What a pull is told, with the place of its base.
-#[derive(Debug, Drop)]
+#[derive(Drop)]
 struct Told {
     base: Option<u32>,
     ops: Ops,
@@ -72,7 +72,7 @@ fn told_at(
 }
 
 /// A server that has nothing but its book, and replays it at each pull.
-#[derive(Debug, Drop)]
+#[derive(Drop)]
 pub struct PlainDesk {
     entries: Vec<Entry>,
     limit: u32,
@@ -91,7 +91,10 @@ impl Model for PlainDesk {
 }
 
 impl PlainDesk {
-    ghost use Rattle.rv_history.specs.Machine.{Mutates, Pulls, Retires, next_order, reply_to};
+    ghost use Rattle.std.specs.Prelude.{MatchOption};
+    ghost use Rattle.rv_rows.specs.declared.call.Call.{Call};
+    ghost use Rattle.rv_history.specs.Machine.{Sender, Mutates, Pulls, Retires, Takes, next_order, reply_to};
+    ghost use Rattle.rv_book.specs.Book.{last};
 
     /// A server with the empty book, which takes at most so many entries.
     pub fn new(alloc: Global, limit: u32) -> PlainDesk
@@ -129,36 +132,49 @@ impl PlainDesk {
         &self.entries
     }
 
+    // How a mutation is answered that is not run.
+    fn hindrance(&self, user: &User, group: &Id, client: &Id, id: Num) -> Option<Turn>
+        ensures { let from : Sender = record { user = user.now; group = group.now } in MatchOption result
+            (Takes from client.now self.now.book × (id ≡ last client.now self.now.book + 1) × (size self.now.book < self.now.limit))
+            (λ turn. (call : Call) → Mutates self.now.limit from (record { client = client.now; id = id; call = call }) self.now.book turn self.now.book) }
+    {
+        let limit = self.limit;
+        if is_of_other(&self.entries, user, group) {
+            return Some(Turn::GroupOfOther);
+        }
+        if retired(&self.entries, group) {
+            return Some(Turn::NotFound);
+        }
+        if is_elsewhere(&self.entries, client, group) {
+            return Some(Turn::ClientOfOther);
+        }
+        let last = last(&self.entries, client);
+        if id.get() <= last {
+            return Some(Turn::Skipped(Num::from_u64(last)));
+        }
+        if id.get() > last + 1 {
+            return Some(Turn::Future {
+                expected: Num::from_u64(last + 1),
+                got: id,
+            });
+        }
+        if self.entries.len() >= limit as usize {
+            return Some(Turn::Limit(Which::Book, Num::from_u64(u64::from(limit))));
+        }
+        None
+    }
+
     /// One mutation.
     pub fn mutate(&mut self, user: &User, group: &Id, client: &Id, id: Num, call: Call) -> Turn
         ensures turn { Mutates self.old.limit (record { user = user.now; group = group.now }) (record { client = client.now; id = id; call = call }) self.old.book result self.new.book }
         ensures limit { self.new.limit ≡ self.old.limit }
     {
-        if is_of_other(&self.entries, user, group) {
-            return Turn::GroupOfOther;
-        }
-        if retired(&self.entries, group) {
-            return Turn::NotFound;
-        }
-        if is_elsewhere(&self.entries, client, group) {
-            return Turn::ClientOfOther;
-        }
-        let last = last(&self.entries, client);
-        if id.get() <= last {
-            return Turn::Skipped(Num::from_u64(last));
-        }
-        if id.get() > last + 1 {
-            return Turn::Future {
-                expected: Num::from_u64(last + 1),
-                got: id,
-            };
-        }
-        if self.entries.len() >= self.limit as usize {
-            return Turn::Limit(Which::Book, Num::from_u64(u64::from(self.limit)));
-        }
-        match self.act(user, group, client, id, call) {
-            Ok(()) => Turn::Acted(self.entries.len() as u32),
-            Err(Memory) => Turn::Memory,
+        match self.hindrance(user, group, client, id) {
+            Some(turn) => turn,
+            None => match self.act(user, group, client, id, call) {
+                Ok(()) => Turn::Acted(self.entries.len() as u32),
+                Err(Memory) => Turn::Memory,
+            },
         }
     }
 
@@ -275,28 +291,5 @@ impl PlainDesk {
         let entry = entries::retirement(self.alloc, group)?;
         self.entries.push(entry)?;
         Ok(())
-    }
-}
-
-impl Turns for PlainDesk {
-    ghost use Rattle.rv_history.specs.Served.{ServedMutates, ServedPulls, ServedRetires};
-    ghost use Rattle.rv_plain.specs.Plain.{served};
-
-    ghost mutates = { λ old from mutation turn new. ServedMutates (served old) from mutation turn (served new) };
-
-    ghost pulls = { λ old user request answer new. ServedPulls (served old) user request answer (served new) };
-
-    ghost retires = { λ old group answer new. ServedRetires (served old) group answer (served new) };
-
-    fn mutate(&mut self, user: &User, group: &Id, client: &Id, id: Num, call: Call) -> Turn {
-        PlainDesk::mutate(self, user, group, client, id, call)
-    }
-
-    fn pull(&mut self, user: &User, request: &PullRequest) -> PullAnswer {
-        PlainDesk::pull(self, user, request)
-    }
-
-    fn retire(&mut self, group: &Id) -> RetireAnswer {
-        PlainDesk::retire(self, group)
     }
 }

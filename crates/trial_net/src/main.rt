@@ -1,8 +1,9 @@
 //! Connections over TCP, of this program to itself: each is accepted after a client has connected. What happens is printed, and
-//! no port.
+//! no port. Then a reader and a writer of std fail behind the adapters.
 #![tactic(auto)]
 
 mod client;
+mod failing;
 mod server;
 
 use rv_net::{Listeners, Net, TcpListen, TcpNet};
@@ -60,19 +61,34 @@ fn knock_elsewhere(rt: &HostRuntime, port: u16) -> anyhow::Result<()> {
     Ok(())
 }
 
+// One client asks, and another closes, each at a listener of its own.
+fn visit(rt: &HostRuntime, port: u16, listeners: &mut [TcpListen]) -> anyhow::Result<()> {
+    if let [second, first] = listeners {
+        ask(rt, port, first)?;
+        close(rt, port, second)?;
+    }
+    Ok(())
+}
+
+// What happens while the listeners are there.
+fn play(
+    rt: &HostRuntime,
+    net: &mut TcpNet<'_>,
+    port: u16,
+    listeners: &mut [TcpListen],
+) -> anyhow::Result<()> {
+    println!(rt; "listeners: {}", listeners.len())?;
+    visit(rt, port, listeners)?;
+    listen_again(rt, net, port)?;
+    knock_elsewhere(rt, port)
+}
+
 fn main(rt: HostRuntime) -> anyhow::Result<()> {
     let mut net = TcpNet::new(&rt);
-    let (port, mut listeners) = open(&mut net)?;
-    let count = listeners.len();
-    println!(rt; "listeners: {count}")?;
-    if let (Some(mut first), Some(mut second)) = (listeners.take(), listeners.take()) {
-        ask(&rt, port, &mut first)?;
-        close(&rt, port, &mut second)?;
-        listeners.give(second);
-        listeners.give(first);
-    }
-    listen_again(&rt, &mut net, port)?;
-    knock_elsewhere(&rt, port)?;
-    net.done(listeners);
-    Ok(())
+    let (port, listeners) = open(&mut net)?;
+    let mut listeners = listeners.into_vec();
+    let played = play(&rt, &mut net, port, &mut listeners);
+    net.done(Listeners::from_vec(listeners));
+    played?;
+    failing::call(&rt)
 }

@@ -18,7 +18,10 @@ pub fn serve(rt: &HostRuntime, listener: &mut TcpListen) -> anyhow::Result<()> {
 
 // The seconds of a time-out, or 0.
 fn seconds(idle: Option<Duration>) -> u64 {
-    idle.map_or(0, |idle| idle.as_secs())
+    match idle {
+        Some(idle) => idle.as_secs(),
+        None => 0,
+    }
 }
 
 // How long the two halves wait, and whether what is written is sent at once.

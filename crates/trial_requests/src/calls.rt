@@ -1,7 +1,8 @@
 // Calls on ids of a small common set.
 use rv_base::Memory;
 use std::alloc::Global;
-use trial_stage::Draws;
+use trial_stage::Part::{Number, Text};
+use trial_stage::{Draws, tell, told};
 
 /// How many users there are.
 pub const USERS: usize = 3;
@@ -15,100 +16,190 @@ pub fn name(user: usize) -> &'static str {
     }
 }
 
-fn list_call(alloc: Global, draws: &mut Draws, owner: &str) -> Result<String, Memory> {
-    let list = draws.below(3);
-    if draws.once_in(3) {
-        return Ok(format!(in alloc; "\"deleteList\",\"args\":\"l{list}\"")?);
-    }
-    Ok(format!(in alloc;
-        "\"createList\",\"args\":{{\"id\":\"l{list}\",\"name\":\"Home\",\"ownerID\":\"{owner}\"}}"
-    )?)
+// A number below a bound.
+fn drawn(draws: &mut Draws, bound: usize) -> u64 {
+    draws.below(bound) as u64
 }
 
-fn share_call(alloc: Global, draws: &mut Draws) -> Result<String, Memory> {
-    let list = draws.below(3);
-    let share = draws.below(4);
+fn add_list_call(
+    alloc: Global,
+    text: &mut String,
+    draws: &mut Draws,
+    owner: &str,
+) -> Result<(), Memory> {
+    let list = drawn(draws, 3);
     if draws.once_in(3) {
-        return Ok(format!(in alloc; "\"deleteShare\",\"args\":\"s{share}\"")?);
+        let call = [Text("\"deleteList\",\"args\":\"l"), Number(list), Text("\"")];
+        return tell(alloc, text, &call);
     }
-    let user = name(draws.below(USERS));
-    Ok(format!(in alloc;
-        "\"createShare\",\"args\":{{\"id\":\"s{share}\",\"listID\":\"l{list}\",\"userID\":\"{user}\"}}"
-    )?)
+    let call = [
+        Text("\"createList\",\"args\":{\"id\":\"l"),
+        Number(list),
+        Text("\",\"name\":\"Home\",\"ownerID\":\""),
+        Text(owner),
+        Text("\"}"),
+    ];
+    tell(alloc, text, &call)
 }
 
-fn new_todo(alloc: Global, draws: &mut Draws) -> Result<String, Memory> {
-    let list = draws.below(3);
-    let todo = draws.below(6);
-    let text = draws.below(3);
-    Ok(format!(in alloc;
-        "\"createTodo\",\"args\":{{\"id\":\"t{todo}\",\"listID\":\"l{list}\",\"text\":\"w{text}\",\"complete\":false}}"
-    )?)
+fn add_share_call(alloc: Global, text: &mut String, draws: &mut Draws) -> Result<(), Memory> {
+    let list = drawn(draws, 3);
+    let share = drawn(draws, 4);
+    if draws.once_in(3) {
+        let call = [Text("\"deleteShare\",\"args\":\"s"), Number(share), Text("\"")];
+        return tell(alloc, text, &call);
+    }
+    let call = [
+        Text("\"createShare\",\"args\":{\"id\":\"s"),
+        Number(share),
+        Text("\",\"listID\":\"l"),
+        Number(list),
+        Text("\",\"userID\":\""),
+        Text(name(draws.below(USERS))),
+        Text("\"}"),
+    ];
+    tell(alloc, text, &call)
+}
+
+fn add_new_todo(alloc: Global, text: &mut String, draws: &mut Draws) -> Result<(), Memory> {
+    let list = drawn(draws, 3);
+    let todo = drawn(draws, 6);
+    let call = [
+        Text("\"createTodo\",\"args\":{\"id\":\"t"),
+        Number(todo),
+        Text("\",\"listID\":\"l"),
+        Number(list),
+        Text("\",\"text\":\"w"),
+        Number(drawn(draws, 3)),
+        Text("\",\"complete\":false}"),
+    ];
+    tell(alloc, text, &call)
 }
 
 // A field of a todo that is changed, and what it becomes.
-fn change(alloc: Global, draws: &mut Draws) -> Result<String, Memory> {
-    let number = draws.below(3);
+fn add_change(alloc: Global, text: &mut String, draws: &mut Draws) -> Result<(), Memory> {
+    let number = drawn(draws, 3);
     match draws.below(4) {
-        0 => Ok(String::from_str(alloc, "\"complete\":true")?),
-        1 => Ok(format!(in alloc; "\"sort\":{number}")?),
-        _ => Ok(format!(in alloc; "\"text\":\"w{number}\"")?),
+        0 => tell(alloc, text, &[Text("\"complete\":true")]),
+        1 => tell(alloc, text, &[Text("\"sort\":"), Number(number)]),
+        _ => tell(
+            alloc,
+            text,
+            &[Text("\"text\":\"w"), Number(number), Text("\"")],
+        ),
     }
 }
 
-fn todo_change(alloc: Global, draws: &mut Draws) -> Result<String, Memory> {
-    let todo = draws.below(6);
+fn add_todo_change(alloc: Global, text: &mut String, draws: &mut Draws) -> Result<(), Memory> {
+    let todo = drawn(draws, 6);
     if draws.once_in(3) {
-        return Ok(format!(in alloc; "\"deleteTodo\",\"args\":\"t{todo}\"")?);
+        let call = [Text("\"deleteTodo\",\"args\":\"t"), Number(todo), Text("\"")];
+        return tell(alloc, text, &call);
     }
-    let change = change(alloc, draws)?;
-    Ok(format!(in alloc; "\"updateTodo\",\"args\":{{\"id\":\"t{todo}\",{change}}}")?)
+    let call = [
+        Text("\"updateTodo\",\"args\":{\"id\":\"t"),
+        Number(todo),
+        Text("\","),
+    ];
+    tell(alloc, text, &call)?;
+    add_change(alloc, text, draws)?;
+    tell(alloc, text, &[Text("}")])
 }
 
-// A name and the arguments of a call of a user's, mostly in a list of its own.
-fn call(alloc: Global, draws: &mut Draws, user: usize) -> Result<String, Memory> {
+// Adds a name and the arguments of a call of a user's, mostly in a list of its own.
+fn add_call(
+    alloc: Global,
+    text: &mut String,
+    draws: &mut Draws,
+    user: usize,
+) -> Result<(), Memory> {
     let user = if draws.once_in(8) {
         draws.below(USERS)
     } else {
         user
     };
     match draws.below(26) {
-        0..=6 => list_call(alloc, draws, name(user)),
-        7..=13 => share_call(alloc, draws),
-        14..=18 => new_todo(alloc, draws),
-        19..=23 => todo_change(alloc, draws),
-        24 => Ok(String::from_str(alloc, "\"renameList\",\"args\":{}")?),
-        _ => Ok(String::from_str(alloc, "\"createTodo\",\"args\":{}")?),
+        0..=6 => add_list_call(alloc, text, draws, name(user)),
+        7..=13 => add_share_call(alloc, text, draws),
+        14..=18 => add_new_todo(alloc, text, draws),
+        19..=23 => add_todo_change(alloc, text, draws),
+        24 => tell(alloc, text, &[Text("\"renameList\",\"args\":{}")]),
+        _ => tell(alloc, text, &[Text("\"createTodo\",\"args\":{}")]),
     }
 }
 
-/// A mutation of a client of a user's.
-pub fn mutation(
+/// Adds a mutation of a client of a user's.
+pub fn add_mutation(
     alloc: Global,
+    text: &mut String,
     draws: &mut Draws,
     user: usize,
     client: &str,
     id: u64,
-) -> Result<String, Memory> {
-    let call = call(alloc, draws, user)?;
-    Ok(format!(in alloc; "{{\"clientID\":\"{client}\",\"id\":{id},\"name\":{call}}}")?)
+) -> Result<(), Memory> {
+    let front = [
+        Text("{\"clientID\":\""),
+        Text(client),
+        Text("\",\"id\":"),
+        Number(id),
+        Text(",\"name\":"),
+    ];
+    tell(alloc, text, &front)?;
+    add_call(alloc, text, draws, user)?;
+    tell(alloc, text, &[Text("}")])
 }
 
 /// The body of a push.
-pub fn push(alloc: Global, group: &str, mutations: &str) -> Result<String, Memory> {
-    Ok(format!(in alloc;
-        "{{\"pushVersion\":1,\"schemaVersion\":\"1\",\"profileID\":\"p\",\"clientGroupID\":\"{group}\",\"mutations\":[{mutations}]}}"
-    )?)
+pub fn push<'x>(alloc: Global, group: &'x str, mutations: &'x str) -> Result<String, Memory> {
+    told(
+        alloc,
+        &[
+            Text(
+                "{\"pushVersion\":1,\"schemaVersion\":\"1\",\"profileID\":\"p\",\"clientGroupID\":\"",
+            ),
+            Text(group),
+            Text("\",\"mutations\":["),
+            Text(mutations),
+            Text("]}"),
+        ],
+    )
 }
 
 /// The body of a pull.
-pub fn pull(alloc: Global, group: &str, cookie: &str) -> Result<String, Memory> {
-    Ok(format!(in alloc;
-        "{{\"pullVersion\":1,\"schemaVersion\":\"1\",\"profileID\":\"p\",\"clientGroupID\":\"{group}\",\"cookie\":{cookie}}}"
-    )?)
+pub fn pull<'x>(alloc: Global, group: &'x str, cookie: &'x str) -> Result<String, Memory> {
+    told(
+        alloc,
+        &[
+            Text(
+                "{\"pullVersion\":1,\"schemaVersion\":\"1\",\"profileID\":\"p\",\"clientGroupID\":\"",
+            ),
+            Text(group),
+            Text("\",\"cookie\":"),
+            Text(cookie),
+            Text("}"),
+        ],
+    )
 }
 
-/// The line in which a user sends a body.
-pub fn line(alloc: Global, user: &str, word: &str, body: &str) -> Result<String, Memory> {
-    Ok(format!(in alloc; "{{\"user\":\"{user}\",\"{word}\":{body}}}\n")?)
+/// Adds the line in which a user sends a body.
+pub fn add_line<'x>(
+    alloc: Global,
+    text: &mut String,
+    user: &'x str,
+    word: &'x str,
+    body: &'x str,
+) -> Result<(), Memory> {
+    tell(
+        alloc,
+        text,
+        &[
+            Text("{\"user\":\""),
+            Text(user),
+            Text("\",\""),
+            Text(word),
+            Text("\":"),
+            Text(body),
+            Text("}\n"),
+        ],
+    )
 }

@@ -20,16 +20,21 @@ fn are_same(cells: &[Cell], others: &[Cell]) -> bool {
     others.next().is_none()
 }
 
+// Whether two stores hold the same.
+fn are_as_one(alloc: Global, one: &Store, other: &Store) -> Result<bool, Memory> {
+    let cells = one.shelves.cells(alloc)?;
+    let others = other.shelves.cells(alloc)?;
+    Ok(one.generation == other.generation && are_same(cells.as_slice(), others.as_slice()))
+}
+
 /// Whether two stores are there, and hold the same.
 pub fn hold_the_same(
     alloc: Global,
     one: Option<&Store>,
     other: Option<&Store>,
 ) -> Result<bool, Memory> {
-    let (Some(one), Some(other)) = (one, other) else {
-        return Ok(false);
-    };
-    let cells = one.shelves.cells(alloc)?;
-    let others = other.shelves.cells(alloc)?;
-    Ok(one.generation == other.generation && are_same(cells.as_slice(), others.as_slice()))
+    match (one, other) {
+        (Some(one), Some(other)) => are_as_one(alloc, one, other),
+        _ => Ok(false),
+    }
 }

@@ -1,8 +1,11 @@
 // Connections, and the requests that each sends, drawn by a seed.
 use crate::calls::{self, USERS, name};
+use crate::numbers::four_numbers;
 use rv_base::Memory;
 use std::alloc::Global;
-use trial_stage::{Draws, number_in};
+use trial_stage::Draws;
+use trial_stage::Part::{Number, Text};
+use trial_stage::told;
 
 /// How many requests there are, and on how many connections.
 #[derive(Clone, Copy)]
@@ -19,12 +22,12 @@ pub struct Plan {
 
 /// The plan of words, where they are one.
 pub fn plan_of(words: &str) -> Option<Plan> {
-    let mut words = words.split(' ');
+    let [workers, connections, requests, seed] = four_numbers(words)?;
     Some(Plan {
-        workers: number_in(words.next()?)? as usize,
-        connections: number_in(words.next()?)? as usize,
-        requests: number_in(words.next()?)? as usize,
-        seed: number_in(words.next()?)?,
+        workers: workers as usize,
+        connections: connections as usize,
+        requests: requests as usize,
+        seed,
     })
 }
 
@@ -50,16 +53,16 @@ pub struct Connection {
     pub requests: Vec<Request>,
 }
 
-// A push of the next mutation of a connection, which has sent so many.
+// A push of the mutation of a connection that has this id.
 fn push(
     alloc: Global,
     draws: &mut Draws,
     number: usize,
     group: &str,
-    sent: u64,
+    id: u64,
 ) -> Result<Request, Memory> {
-    let id = sent.saturating_add(1);
-    let mutation = calls::mutation(alloc, draws, number % USERS, group, id)?;
+    let mut mutation = String::new(alloc);
+    calls::add_mutation(alloc, &mut mutation, draws, number % USERS, group, id)?;
     Ok(Request {
         makes: true,
         word: "push",
@@ -93,6 +96,25 @@ fn again(
     }
 }
 
+// The next request of the connection of a number, after these, among which so many were sent that are new mutations.
+fn next_request(
+    alloc: Global,
+    draws: &mut Draws,
+    number: usize,
+    group: &str,
+    sent: &mut u64,
+    requests: &[Request],
+) -> Result<Request, Memory> {
+    match draws.below(8) {
+        0..5 => {
+            *sent = sent.saturating_add(1);
+            push(alloc, draws, number, group, *sent)
+        }
+        5..7 => pull(alloc, group),
+        _ => again(alloc, draws, group, requests),
+    }
+}
+
 // The requests of the connection of a number.
 fn requests(
     alloc: Global,
@@ -104,14 +126,7 @@ fn requests(
     let mut requests = Vec::new(alloc);
     let mut sent: u64 = 0;
     for _ in 0..many {
-        let request = match draws.below(8) {
-            0..5 => {
-                sent = sent.saturating_add(1);
-                push(alloc, draws, number, group, sent.saturating_sub(1))?
-            }
-            5..7 => pull(alloc, group)?,
-            _ => again(alloc, draws, group, &requests)?,
-        };
+        let request = next_request(alloc, draws, number, group, &mut sent, &requests)?;
         requests.push(request)?;
     }
     Ok(requests)
@@ -124,7 +139,7 @@ fn make_connection(
     number: usize,
     many: usize,
 ) -> Result<Connection, Memory> {
-    let group = format!(in alloc; "g{number}")?;
+    let group = told(alloc, &[Text("g"), Number(number as u64)])?;
     let requests = requests(alloc, draws, number, group.as_str(), many)?;
     Ok(Connection {
         user: name(number % USERS),

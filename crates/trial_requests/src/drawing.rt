@@ -5,6 +5,8 @@ use crate::story::{CLIENTS, GROUPS, Story};
 use rv_base::{Id, Memory, TextRefusal};
 use rv_book::Entry;
 use std::alloc::Global;
+use trial_stage::Part::{Number, Text};
+use trial_stage::{tell, told};
 
 // The last mutation id of a client.
 fn last(alloc: Global, plain: &PlainServer, client: &str) -> Result<u64, Memory> {
@@ -15,38 +17,71 @@ fn last(alloc: Global, plain: &PlainServer, client: &str) -> Result<u64, Memory>
     }
 }
 
-// One mutation of a client, or two, one after the other.
+// Adds one mutation of a client, or two, one after the other.
+fn add_mutations(
+    alloc: Global,
+    text: &mut String,
+    plain: &PlainServer,
+    story: &mut Story,
+    user: usize,
+    client: &str,
+) -> Result<(), Memory> {
+    let id = story.id_after(last(alloc, plain, client)?);
+    calls::add_mutation(alloc, text, &mut story.draws, user, client, id)?;
+    if !story.draws.once_in(4) {
+        return Ok(());
+    }
+    tell(alloc, text, &[Text(",")])?;
+    let next = id.saturating_add(1);
+    calls::add_mutation(alloc, text, &mut story.draws, user, client, next)
+}
+
+// The name of a group or a client, by the letter of its kind and its number.
+fn name_of(alloc: Global, letter: &str, number: usize, age: usize) -> Result<String, Memory> {
+    told(
+        alloc,
+        &[
+            Text(letter),
+            Number(number as u64),
+            Text("x"),
+            Number(age as u64),
+        ],
+    )
+}
+
+fn group_name(alloc: Global, story: &mut Story, group: usize) -> Result<String, Memory> {
+    let age = story.age(group);
+    name_of(alloc, "g", group, age)
+}
+
+// The mutations of a client, which goes with the group of its number.
 fn mutations(
     alloc: Global,
     plain: &PlainServer,
     story: &mut Story,
     user: usize,
-    client: &str,
+    client: usize,
 ) -> Result<String, Memory> {
-    let id = story.id_after(last(alloc, plain, client)?);
-    let first = calls::mutation(alloc, &mut story.draws, user, client, id)?;
-    if !story.draws.once_in(4) {
-        return Ok(first);
-    }
-    let second = calls::mutation(alloc, &mut story.draws, user, client, id.saturating_add(1))?;
-    Ok(format!(in alloc; "{first},{second}")?)
+    let age = story.age(client % GROUPS);
+    let client = name_of(alloc, "c", client, age)?;
+    let mut text = String::new(alloc);
+    add_mutations(alloc, &mut text, plain, story, user, client.as_str())?;
+    Ok(text)
 }
 
-fn group_name(alloc: Global, story: &mut Story, group: usize) -> Result<String, Memory> {
-    let age = story.age(group);
-    Ok(format!(in alloc; "g{group}x{age}")?)
-}
-
-fn push(alloc: Global, plain: &PlainServer, story: &mut Story) -> Result<String, Memory> {
+fn add_push(
+    alloc: Global,
+    text: &mut String,
+    plain: &PlainServer,
+    story: &mut Story,
+) -> Result<(), Memory> {
     let client = story.draws.below(CLIENTS);
     let group = story.mostly(client % GROUPS, GROUPS);
     let user = story.mostly(group % USERS, USERS);
-    let age = story.age(client % GROUPS);
-    let client = format!(in alloc; "c{client}x{age}")?;
-    let mutations = mutations(alloc, plain, story, user, client.as_str())?;
+    let mutations = mutations(alloc, plain, story, user, client)?;
     let group = group_name(alloc, story, group)?;
     let body = calls::push(alloc, group.as_str(), mutations.as_str())?;
-    calls::line(alloc, name(user), "push", body.as_str())
+    calls::add_line(alloc, text, name(user), "push", body.as_str())
 }
 
 // The order of a look, if it is of this group, or any where none is named.
@@ -84,11 +119,17 @@ fn look_back(book: &[Entry], group: Option<&str>, many: usize) -> Option<(usize,
 // The cookie of a look, with so much added to its order, or null.
 fn cookie_text(alloc: Global, look: Option<(usize, u64)>, more: usize) -> Result<String, Memory> {
     match look {
-        Some((place, order)) => {
-            let order = order.saturating_add(more as u64);
-            Ok(format!(in alloc; "{{\"cvrID\":\"{place}\",\"order\":{order}}}")?)
-        }
-        None => Ok(String::from_str(alloc, "null")?),
+        Some((place, order)) => told(
+            alloc,
+            &[
+                Text("{\"cvrID\":\""),
+                Number(place as u64),
+                Text("\",\"order\":"),
+                Number(order.saturating_add(more as u64)),
+                Text("}"),
+            ],
+        ),
+        None => told(alloc, &[Text("null")]),
     }
 }
 
@@ -107,32 +148,46 @@ fn cookie(
         11..=13 => cookie_text(alloc, look_back(book, Some(group), far), 0),
         14..=16 => cookie_text(alloc, look_back(book, None, far / 4), 0),
         17 => cookie_text(alloc, look_back(book, Some(group), 0), far),
-        18 => Ok(format!(in alloc; "{far}")?),
+        18 => told(alloc, &[Number(far as u64)]),
         _ => cookie_text(alloc, None, 0),
     }
 }
 
-fn pull(alloc: Global, plain: &PlainServer, story: &mut Story) -> Result<String, Memory> {
+fn add_pull(
+    alloc: Global,
+    text: &mut String,
+    plain: &PlainServer,
+    story: &mut Story,
+) -> Result<(), Memory> {
     let group = story.draws.below(GROUPS);
     let user = story.mostly(group % USERS, USERS);
     let group = group_name(alloc, story, group)?;
     let cookie = cookie(alloc, plain, story, group.as_str())?;
     let body = calls::pull(alloc, group.as_str(), cookie.as_str())?;
-    calls::line(alloc, name(user), "pull", body.as_str())
+    calls::add_line(alloc, text, name(user), "pull", body.as_str())
 }
 
-fn retirement(alloc: Global, story: &mut Story) -> Result<String, Memory> {
+fn add_retirement(alloc: Global, text: &mut String, story: &mut Story) -> Result<(), Memory> {
     let group = story.draws.below(GROUPS);
     let name = group_name(alloc, story, group)?;
     story.retires(group)?;
-    Ok(format!(in alloc; "{{\"retire\":\"{name}\"}}\n")?)
+    tell(
+        alloc,
+        text,
+        &[Text("{\"retire\":\""), Text(name.as_str()), Text("\"}\n")],
+    )
 }
 
-/// The next line, with LF at its end.
-pub fn next_line(alloc: Global, plain: &PlainServer, story: &mut Story) -> Result<String, Memory> {
+/// Adds the next line, with LF at its end.
+pub fn add_line(
+    alloc: Global,
+    text: &mut String,
+    plain: &PlainServer,
+    story: &mut Story,
+) -> Result<(), Memory> {
     match story.draws.below(60) {
-        0 => retirement(alloc, story),
-        1..=32 => push(alloc, plain, story),
-        _ => pull(alloc, plain, story),
+        0 => add_retirement(alloc, text, story),
+        1..=32 => add_push(alloc, text, plain, story),
+        _ => add_pull(alloc, text, plain, story),
     }
 }

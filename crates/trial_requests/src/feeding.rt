@@ -1,19 +1,21 @@
 // Lines that are fed, beside a plain server that answers the same.
-use crate::drawing::next_line;
-use crate::plain_answers::{all_answered, answered};
+use crate::drawing::add_line;
+use crate::numbers::four_numbers;
+use crate::plain_answers::{add_answer, answers};
 use crate::plain_server::PlainServer;
 use crate::runs::{Finished, run_alone};
 use crate::schedules::schedule;
 use crate::story::Story;
-use rv_base::{Memory, Sequence};
+use rv_base::Memory;
 use rv_keeper::MemoryPlace;
 use std::alloc::Global;
 use std::sync::Wait;
 use std::thread::Threads;
-use trial_stage::{Stage, number_in};
+use trial_stage::Part::{Number, Text};
+use trial_stage::{Stage, tell, told};
 
-/// Feeds lines to the store F of a place.
-pub fn fed<R: Threads + Wait + Sync>(
+// Feeds lines to the store F of a place.
+fn fed<R: Threads + Wait + Sync>(
     stage: &Stage<'_, R>,
     place: &mut MemoryPlace,
     lines: &str,
@@ -22,27 +24,45 @@ pub fn fed<R: Threads + Wait + Sync>(
     run_alone(stage, "rv feed F", place, input)
 }
 
-/// What a run wrote, or how it differs from what the plain server answers.
-pub fn compared(alloc: Global, run: &Finished, plain: &str) -> Result<String, Memory> {
-    let text = run.text();
-    let status = run.status;
-    if status == 0 && text == plain {
-        return Ok(String::from_str(alloc, text)?);
+// What a run wrote, or how it differs from what the plain server answers.
+fn compared<'x>(alloc: Global, run: &'x Finished, plain: &'x str) -> Result<String, Memory> {
+    if run.tells(plain) {
+        return told(alloc, &[Text(plain)]);
     }
-    Ok(format!(in alloc; "differs: status {status}\n{text}-- the plain server:\n{plain}")?)
+    told(
+        alloc,
+        &[
+            Text("differs: status "),
+            Number(u64::from(run.status)),
+            Text("\n"),
+            Text(run.text()),
+            Text("-- the plain server:\n"),
+            Text(plain),
+        ],
+    )
 }
 
-/// What comes where these lines are fed to an empty store: the same from `rv feed` and from the plain server.
-pub fn told<R: Threads + Wait + Sync>(
+/// What comes where these lines are fed to the store F of a place that does not have it yet: the same from `rv feed` and from the
+/// plain server.
+pub fn fed_beside<R: Threads + Wait + Sync>(
+    stage: &Stage<'_, R>,
+    place: &mut MemoryPlace,
+    lines: &str,
+) -> Result<String, Memory> {
+    let alloc = stage.host.alloc();
+    let run = fed(stage, place, lines)?;
+    let plain = answers(alloc, lines)?;
+    compared(alloc, &run, plain.as_str())
+}
+
+/// What comes where these lines are fed to an empty store.
+pub fn told_of_lines<R: Threads + Wait + Sync>(
     stage: &Stage<'_, R>,
     lines: &str,
 ) -> Result<Option<String>, Memory> {
     let alloc = stage.host.alloc();
     let mut place = MemoryPlace::new(alloc, Vec::new(alloc), Vec::new(alloc));
-    let mut plain = PlainServer::new(alloc, Sequence::new(alloc));
-    let run = fed(stage, &mut place, lines)?;
-    let text = all_answered(alloc, &mut plain, lines)?;
-    Ok(Some(compared(alloc, &run, text.as_str())?))
+    Ok(Some(fed_beside(stage, &mut place, lines)?))
 }
 
 // How many lines there are; of how many calls of each kind of the keeper one fails; and after one of how many lines a stop comes. 0
@@ -56,12 +76,12 @@ struct Plan {
 }
 
 fn plan_of(words: &str) -> Option<Plan> {
-    let mut words = words.split(' ');
+    let [seed, many, fails, stops] = four_numbers(words)?;
     Some(Plan {
-        seed: number_in(words.next()?)?,
-        many: number_in(words.next()?)?,
-        fails: number_in(words.next()?)? as usize,
-        stops: number_in(words.next()?)? as usize,
+        seed,
+        many,
+        fails: fails as usize,
+        stops: stops as usize,
     })
 }
 
@@ -73,16 +93,28 @@ struct Drawn {
     plain: PlainServer,
 }
 
+// Adds a line that is drawn, or a stop.
+fn add_drawn(
+    alloc: Global,
+    text: &mut String,
+    plain: &PlainServer,
+    story: &mut Story,
+    stops: usize,
+) -> Result<(), Memory> {
+    if stops > 0 && story.draws.once_in(stops) {
+        tell(alloc, text, &[Text("{\"stop\":true}\n")])
+    } else {
+        add_line(alloc, text, plain, story)
+    }
+}
+
 // Draws one more line.
 fn draw(alloc: Global, drawn: &mut Drawn, story: &mut Story, stops: usize) -> Result<(), Memory> {
-    let line = if stops > 0 && story.draws.once_in(stops) {
-        String::from_str(alloc, "{\"stop\":true}\n")?
-    } else {
-        next_line(alloc, &drawn.plain, story)?
-    };
-    let answer = answered(alloc, &mut drawn.plain, line.as_str().trim_end())?;
+    let mut line = String::new(alloc);
+    add_drawn(alloc, &mut line, &drawn.plain, story, stops)?;
+    let text = line.as_str().trim_end();
+    add_answer(alloc, &mut drawn.answers, &mut drawn.plain, text)?;
     drawn.lines.push_str(line.as_str())?;
-    drawn.answers.push_str(answer.as_str())?;
     Ok(())
 }
 
@@ -101,21 +133,39 @@ fn draw_all(alloc: Global, plan: Plan) -> Result<Drawn, Memory> {
 }
 
 // How many lines of a text begin so.
-fn count(text: &str, front: &str) -> usize {
-    text.lines().filter(|line| line.starts_with(front)).count()
+fn count(text: &str, front: &str) -> u64 {
+    let mut many: u64 = 0;
+    for line in text.lines() {
+        if line.starts_with(front) {
+            many = many.saturating_add(1);
+        }
+    }
+    many
 }
 
-// How many answers there are of each kind.
-fn counts(alloc: Global, answers: &str) -> Result<String, Memory> {
-    let pushed = count(answers, "200 {}");
-    let pulled = count(answers, "200 {\"cookie\"");
-    let retired = count(answers, "200 {\"retired\"");
-    let refused = count(answers, "40");
-    let keeper = count(answers, "503 ");
-    let all = count(answers, "");
-    Ok(format!(in alloc;
-        "{all} answers: pushed {pushed}, pulled {pulled}, retired {retired}, refused {refused}, keeper {keeper}"
-    )?)
+// How many answers there are of each kind, how many entries are kept, and what a check tells.
+fn summary(alloc: Global, drawn: &Drawn, check: &str) -> Result<String, Memory> {
+    let answers = drawn.answers.as_str();
+    told(
+        alloc,
+        &[
+            Number(count(answers, "")),
+            Text(" answers: pushed "),
+            Number(count(answers, "200 {}")),
+            Text(", pulled "),
+            Number(count(answers, "200 {\"cookie\"")),
+            Text(", retired "),
+            Number(count(answers, "200 {\"retired\"")),
+            Text(", refused "),
+            Number(count(answers, "40")),
+            Text(", keeper "),
+            Number(count(answers, "503 ")),
+            Text(", kept "),
+            Number(drawn.plain.kept() as u64),
+            Text(", check "),
+            Text(check),
+        ],
+    )
 }
 
 // A place whose first keeper fails as planned.
@@ -125,20 +175,38 @@ fn place_of(alloc: Global, plan: Plan) -> Result<MemoryPlace, Memory> {
     Ok(MemoryPlace::new(alloc, schedules, Vec::new(alloc)))
 }
 
+// What comes of drawn lines, to which a run has answered the same.
+fn checked<R: Threads + Wait + Sync>(
+    stage: &Stage<'_, R>,
+    place: &mut MemoryPlace,
+    drawn: &Drawn,
+) -> Result<String, Memory> {
+    let alloc = stage.host.alloc();
+    let check = run_alone(stage, "rv check F", place, Vec::new(alloc))?;
+    summary(alloc, drawn, check.text())
+}
+
+// What comes of drawn lines that are fed to a place.
+fn played_over<R: Threads + Wait + Sync>(
+    stage: &Stage<'_, R>,
+    place: &mut MemoryPlace,
+    drawn: &Drawn,
+) -> Result<String, Memory> {
+    let run = fed(stage, place, drawn.lines.as_str())?;
+    let answers = drawn.answers.as_str();
+    if run.tells(answers) {
+        checked(stage, place, drawn)
+    } else {
+        compared(stage.host.alloc(), &run, answers)
+    }
+}
+
 // What comes of drawn lines that are fed.
 fn played<R: Threads + Wait + Sync>(stage: &Stage<'_, R>, plan: Plan) -> Result<String, Memory> {
     let alloc = stage.host.alloc();
     let drawn = draw_all(alloc, plan)?;
     let mut place = place_of(alloc, plan)?;
-    let run = fed(stage, &mut place, drawn.lines.as_str())?;
-    let told = compared(alloc, &run, drawn.answers.as_str())?;
-    if told.as_str() != drawn.answers.as_str() {
-        return Ok(told);
-    }
-    let check = run_alone(stage, "rv check F", &mut place, Vec::new(alloc))?;
-    let kept = drawn.plain.kept();
-    let counts = counts(alloc, drawn.answers.as_str())?;
-    Ok(format!(in alloc; "{counts}, kept {kept}, check {}", check.text())?)
+    played_over(stage, &mut place, &drawn)
 }
 
 /// `SEED N FAILS STOPS`: what comes of so many lines that are drawn by the seed and fed over a keeper of whose calls one in so many

@@ -1,9 +1,13 @@
 // A job that waits for another.
+use crate::crews::EitherCrew;
 use rv_base::Memory;
-use rv_crew::{Crew, Job, run_all};
+use rv_crew::{Job, run_all};
 use std::alloc::Global;
 use std::sync::atomic::{AtomicU64, Ordering};
 use std::thread;
+use std::thread::Threads;
+use trial_stage::Part::Text;
+use trial_stage::told;
 
 // How often the one looks whether the other is done.
 const LOOKS: u32 = 1_000_000;
@@ -44,13 +48,16 @@ fn made<'x>(done: &'x AtomicU64, is_first: bool) -> Hand<'x> {
     }
 }
 
-/// Tells whether the first job waited in vain.
-pub fn told<C: Crew>(crew: &C, alloc: Global) -> Result<String, Memory> {
+// Whether the first job waited in vain.
+fn gives_up<R: Threads + Sync>(crew: &EitherCrew<'_, R>) -> bool {
     let done = AtomicU64::new(0);
-    let mut hands = Vec::new(alloc);
-    hands.push(made(&done, true))?;
-    hands.push(made(&done, false))?;
-    run_all(crew, hands.as_mut_slice());
-    let in_vain = hands.iter().any(|hand| hand.has_given_up);
-    Ok(String::from_str(alloc, if in_vain { "gave up\n" } else { "met\n" })?)
+    let mut hands = [made(&done, true), made(&done, false)];
+    run_all(crew, &mut hands);
+    hands[0].has_given_up
+}
+
+/// Tells whether the first job waited in vain.
+pub fn met<R: Threads + Sync>(crew: &EitherCrew<'_, R>, alloc: Global) -> Result<String, Memory> {
+    let text = if gives_up(crew) { "gave up\n" } else { "met\n" };
+    told(alloc, &[Text(text)])
 }

@@ -8,9 +8,11 @@
 mod calls;
 mod cells;
 mod connections;
+mod crews;
 mod drawing;
 mod feeding;
 mod holding;
+mod numbers;
 mod order;
 mod plain_answers;
 mod plain_server;
@@ -22,15 +24,16 @@ mod serving;
 mod story;
 mod touched;
 
+use crews::EitherCrew;
 use rv_base::Memory;
-use rv_crew::{Crew, Serial, Threaded};
-use rv_words::command_of;
+use rv_words::{Command, command_of};
 use std::alloc::Global;
 use std::io;
 use std::sync::Wait;
 use std::thread::Threads;
-use trial_stage::Part::Text;
-use trial_stage::{Line, Stage, first_word, kind_of, named, print_answer, told};
+use trial_stage::{
+    Line, Stage, echoed, first_word, kind_of, named, print_answer, silent, words_at,
+};
 
 // What a command is of.
 #[derive(Clone, Copy)]
@@ -54,28 +57,28 @@ static ITEMS: [(&str, Item); 7] = [
     ("serial", Item::Serial),
 ];
 
-// What words between bars ask for. An empty text has none.
+// The command that words between bars ask for, where they ask for one. An empty text has no words.
+fn command_in(alloc: Global, line: &str) -> Result<Option<Command>, Memory> {
+    let words = words_at(alloc, '|', line)?;
+    command_of(alloc, &words)
+}
+
+// What words between bars ask for.
 fn worded(alloc: Global, line: &str) -> Result<Option<String>, Memory> {
-    let mut words = Vec::new(alloc);
-    if !line.is_empty() {
-        for word in line.split('|') {
-            words.push(String::from_str(alloc, word)?)?;
-        }
-    }
-    let command = command_of(alloc, &words)?;
+    let command = command_in(alloc, line)?;
     Ok(Some(format!(in alloc; "{command:?}\n")?))
 }
 
 // What a crew does: `holds`, or it serves drawn requests.
-fn crewed<R: Threads + Wait + Sync, C: Crew>(
+fn crewed<R: Threads + Wait + Sync>(
     stage: &Stage<'_, R>,
-    crew: &mut C,
+    crew: &mut EitherCrew<'_, R>,
     words: &str,
 ) -> Result<Option<String>, Memory> {
     if words == "holds" {
-        return Ok(Some(holding::told(crew, stage.host.alloc())?));
+        return Ok(Some(holding::met(crew, stage.host.alloc())?));
     }
-    serving::told(stage, crew, words)
+    serving::one_history(stage, crew, words)
 }
 
 // Plays a command over the lines of its case.
@@ -89,50 +92,51 @@ fn played<R: Threads + Wait + Sync>(
     match named(&ITEMS, word) {
         Some(Item::Touched) => touched::told(alloc, lines, rest),
         Some(Item::Words) => worded(alloc, rest),
-        Some(Item::Feed) => feeding::told(stage, lines),
+        Some(Item::Feed) => feeding::told_of_lines(stage, lines),
         Some(Item::Drawn) => feeding::generated(stage, rest),
-        Some(Item::Seats) => seats::told(stage.threads, alloc, rest),
-        Some(Item::Threads) => crewed(stage, &mut Threaded::new(stage.threads), rest),
-        Some(Item::Serial) => crewed(stage, &mut Serial::<R>::new(), rest),
+        Some(Item::Seats) => seats::taken(stage.threads, alloc, rest),
+        Some(Item::Threads) => crewed(stage, &mut EitherCrew::threaded(stage.threads), rest),
+        Some(Item::Serial) => crewed(stage, &mut EitherCrew::serial(), rest),
         None => Ok(None),
     }
 }
 
-// The lines of the case that is played.
-#[derive(Drop)]
-struct Requests {
-    lines: String,
+// Adds a line to the input.
+fn add_line(lines: &mut String, line: &str) -> Result<(), Memory> {
+    lines.push_str(line)?;
+    lines.push_str("\n")?;
+    Ok(())
 }
 
-impl Requests {
-    // Begins a case, without lines, and gives back the line that does.
-    fn begin(&mut self, rt: &HostRuntime, line: &str) -> Result<Option<String>, Memory> {
-        self.lines.clear();
-        Ok(Some(told(rt.alloc(), &[Text(line), Text("\n")])?))
-    }
-
-    // Adds a line to the input.
-    fn add_line(&mut self, rt: &HostRuntime, line: &str) -> Result<Option<String>, Memory> {
-        self.lines.push_str(line)?;
-        self.lines.push_str("\n")?;
-        Ok(Some(String::new(rt.alloc())))
-    }
-
-    // What a line prints.
-    fn answer<R: Threads + Wait + Sync>(
-        &mut self,
-        stage: &Stage<'_, R>,
-        line: &str,
-    ) -> Result<Option<String>, Memory> {
-        if line.starts_with('{') {
-            return self.add_line(stage.host, line);
+// What a line prints, after these lines of its case.
+fn answer<R: Threads + Wait + Sync>(
+    stage: &Stage<'_, R>,
+    lines: &mut String,
+    line: &str,
+) -> Result<Option<String>, Memory> {
+    let alloc = stage.host.alloc();
+    match kind_of(line) {
+        Line::Subject(_) | Line::Case => {
+            lines.clear();
+            echoed(alloc, line, Ok(()))
         }
-        match kind_of(line) {
-            Line::Subject(_) | Line::Case => self.begin(stage.host, line),
-            Line::Note => Ok(Some(String::new(stage.host.alloc()))),
-            Line::Command => played(stage, self.lines.as_str(), line),
-        }
+        Line::Note => silent(alloc, Ok(())),
+        Line::Input => silent(alloc, add_line(lines, line)),
+        Line::Command => played(stage, lines.as_str(), line),
     }
+}
+
+// Plays the lines of the input, one after another.
+fn play_lines<R: Threads + Wait + Sync>(
+    stage: &Stage<'_, R>,
+    lines: &mut String,
+) -> io::Result<()> {
+    for line in stage.host.lines(stage.host.alloc()) {
+        let line = line?;
+        let answer = answer(stage, lines, line.as_str());
+        print_answer(stage.host, line.as_str(), answer)?;
+    }
+    Ok(())
 }
 
 fn main(rt: HostRuntime) -> io::Result<()> {
@@ -140,13 +144,5 @@ fn main(rt: HostRuntime) -> io::Result<()> {
         host: &rt,
         threads: &rt,
     };
-    let mut requests = Requests {
-        lines: String::new(rt.alloc()),
-    };
-    for line in rt.lines(rt.alloc()) {
-        let line = line?;
-        let answer = requests.answer(&stage, line.as_str());
-        print_answer(&rt, line.as_str(), answer)?;
-    }
-    Ok(())
+    play_lines(&stage, &mut String::new(rt.alloc()))
 }

@@ -37,8 +37,9 @@ fn place_of(connections: &[Connection], group: &Id) -> usize {
 
 // The place of the connection whose group the entry of a cell names, or that of none.
 fn maker(alloc: Global, connections: &[Connection], cell: &Cell) -> Result<usize, Memory> {
-    match entry_of_cell(alloc, cell) {
-        Ok((_, entry)) => Ok(place_of(connections, group_of(&entry))),
+    let read = entry_of_cell(alloc, cell);
+    match &read {
+        Ok((_, entry)) => Ok(place_of(connections, group_of(entry))),
         Err(CellFault::Memory) => Err(Memory),
         Err(CellFault::BadCell(_, _)) => Ok(usize::MAX),
     }
@@ -82,6 +83,40 @@ fn taken_of(alloc: Global, connections: &[Connection]) -> Result<Vec<usize>, Mem
     Ok(taken)
 }
 
+// Adds the requests up to the one that made the entry of a cell.
+fn take_made(
+    alloc: Global,
+    turns: &mut Vec<Turn>,
+    connections: &[Connection],
+    taken: &mut [usize],
+    cell: &Cell,
+) -> Result<(), Memory> {
+    let connection = maker(alloc, connections, cell)?;
+    if let Some(place) = taken.get_mut(connection) {
+        *place = take(turns, connections, connection, *place)?;
+    }
+    Ok(())
+}
+
+// Adds all requests, those that made the entries of these cells in the entries' order.
+fn take_all(
+    alloc: Global,
+    turns: &mut Vec<Turn>,
+    connections: &[Connection],
+    taken: &mut [usize],
+    cells: &[Cell],
+) -> Result<(), Memory> {
+    for cell in cells {
+        if cell.shelf == 1 {
+            take_made(alloc, turns, connections, taken, cell)?;
+        }
+    }
+    for (connection, place) in taken.iter().enumerate() {
+        take(turns, connections, connection, *place)?;
+    }
+    Ok(())
+}
+
 /// The requests of the connections in one order, in which they make the entries of a store: each entry tells whose turn it was. The
 /// requests after the last that makes one come at the end.
 pub fn turns_of(
@@ -89,19 +124,15 @@ pub fn turns_of(
     connections: &[Connection],
     store: &Store,
 ) -> Result<Vec<Turn>, Memory> {
-    let mut turns = Vec::new(alloc);
     let mut taken = taken_of(alloc, connections)?;
     let cells = store.shelves.cells(alloc)?;
-    for cell in cells.as_slice() {
-        if cell.shelf == 1 {
-            let connection = maker(alloc, connections, cell)?;
-            if let Some(place) = taken.get_mut(connection) {
-                *place = take(&mut turns, connections, connection, *place)?;
-            }
-        }
-    }
-    for (connection, place) in taken.iter().enumerate() {
-        take(&mut turns, connections, connection, *place)?;
-    }
+    let mut turns = Vec::new(alloc);
+    take_all(
+        alloc,
+        &mut turns,
+        connections,
+        &mut taken,
+        cells.as_slice(),
+    )?;
     Ok(turns)
 }

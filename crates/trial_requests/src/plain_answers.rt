@@ -1,44 +1,75 @@
 // What the plain server answers to lines.
 use crate::plain_server::PlainServer;
 use rv_answering::{Answer, Line, line_of, serve_asked};
-use rv_base::Memory;
+use rv_base::{Memory, Sequence};
 use rv_wire::{ErrorBody, error_text};
 use std::alloc::Global;
-use trial_stage::text_of;
+use trial_stage::Part::{Number, Text};
+use trial_stage::{tell, text_of};
 
-fn refused(alloc: Global, refusal: &ErrorBody) -> Result<String, Memory> {
+fn add_refusal(alloc: Global, text: &mut String, refusal: &ErrorBody) -> Result<(), Memory> {
     let mut buffer = [0; 128];
     let length = error_text(refusal, &mut buffer);
-    let status = refusal.status();
-    Ok(format!(in alloc; "{status} {}\n", text_of(&buffer[..length]))?)
+    let status = u64::from(refusal.status());
+    tell(
+        alloc,
+        text,
+        &[
+            Number(status),
+            Text(" "),
+            Text(text_of(&buffer[..length])),
+            Text("\n"),
+        ],
+    )
 }
 
-fn told(alloc: Global, answer: &Answer) -> Result<String, Memory> {
+fn add_told(alloc: Global, text: &mut String, answer: &Answer) -> Result<(), Memory> {
     match answer {
-        Answer::Pushed => Ok(String::from_str(alloc, "200 {}\n")?),
-        Answer::Pulled(reply) => Ok(format!(in alloc; "200 {}\n", text_of(reply.text.as_slice()))?),
-        Answer::Retired(place) => Ok(format!(in alloc; "200 {{\"retired\":{place}}}\n")?),
-        Answer::Refused(refusal) => refused(alloc, refusal),
-    }
-}
-
-/// The answer to a line, each with LF at its end. A stop has none.
-pub fn answered(alloc: Global, plain: &mut PlainServer, line: &str) -> Result<String, Memory> {
-    match line_of(alloc, line.as_bytes())? {
-        Some(Line::Asks(read)) => told(alloc, &serve_asked(plain, read)),
-        Some(Line::Stop) => {
-            plain.stop()?;
-            Ok(String::new(alloc))
+        Answer::Pushed => tell(alloc, text, &[Text("200 {}\n")]),
+        Answer::Pulled(reply) => {
+            let reply = text_of(reply.text.as_slice());
+            tell(alloc, text, &[Text("200 "), Text(reply), Text("\n")])
         }
-        None => Ok(String::from_str(alloc, "no line\n")?),
+        Answer::Retired(place) => {
+            let place = u64::from(*place);
+            let told = [Text("200 {\"retired\":"), Number(place), Text("}\n")];
+            tell(alloc, text, &told)
+        }
+        Answer::Refused(refusal) => add_refusal(alloc, text, refusal),
     }
 }
 
-/// The answers to lines, one after the other.
-pub fn all_answered(alloc: Global, plain: &mut PlainServer, lines: &str) -> Result<String, Memory> {
-    let mut text = String::new(alloc);
-    for line in lines.lines() {
-        text.push_str(answered(alloc, plain, line)?.as_str())?;
+/// Adds the answer to a line, with LF at its end. A stop has none.
+pub fn add_answer(
+    alloc: Global,
+    text: &mut String,
+    plain: &mut PlainServer,
+    line: &str,
+) -> Result<(), Memory> {
+    match line_of(alloc, line.as_bytes())? {
+        Some(Line::Asks(read)) => add_told(alloc, text, &serve_asked(plain, read)),
+        Some(Line::Stop) => plain.stop(),
+        None => tell(alloc, text, &[Text("no line\n")]),
     }
+}
+
+/// Adds the answers to lines, one after the other.
+pub fn add_answers(
+    alloc: Global,
+    text: &mut String,
+    plain: &mut PlainServer,
+    lines: &str,
+) -> Result<(), Memory> {
+    for line in lines.lines() {
+        add_answer(alloc, text, plain, line)?;
+    }
+    Ok(())
+}
+
+/// The answers to lines where nothing was kept before.
+pub fn answers(alloc: Global, lines: &str) -> Result<String, Memory> {
+    let mut plain = PlainServer::new(alloc, Sequence::new(alloc));
+    let mut text = String::new(alloc);
+    add_answers(alloc, &mut text, &mut plain, lines)?;
     Ok(text)
 }

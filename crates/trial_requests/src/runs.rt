@@ -1,13 +1,13 @@
 // Runs over a place.
+use crate::crews::EitherCrew;
 use rv_base::{Memory, MemorySink, MemorySource};
 use rv_cli::run;
-use rv_crew::{Crew, Serial};
 use rv_keeper::MemoryPlace;
 use rv_net::MemoryNet;
 use std::alloc::Global;
 use std::sync::Wait;
 use std::thread::Threads;
-use trial_stage::{Stage, text_of, words_of};
+use trial_stage::{Stage, text_of, words_at};
 
 /// How a run ended, and what it wrote.
 #[derive(Drop)]
@@ -23,19 +23,24 @@ impl Finished {
     pub fn text(&self) -> &str {
         text_of(&self.written)
     }
+
+    /// The status is 0, and this was written.
+    pub fn tells(&self, text: &str) -> bool {
+        self.status == 0 && self.text() == text
+    }
 }
 
 /// Runs the words of a line over a place, an input and a net, with a crew.
-pub fn run_with<R: Threads + Wait + Sync, C: Crew>(
+pub fn run_with<R: Threads + Wait + Sync>(
     stage: &Stage<'_, R>,
-    crew: &mut C,
+    crew: &mut EitherCrew<'_, R>,
     line: &str,
     place: &mut MemoryPlace,
     input: Vec<u8>,
     net: &mut MemoryNet,
 ) -> Result<Finished, Memory> {
     let alloc = stage.host.alloc();
-    let words = words_of(alloc, line)?;
+    let words = words_at(alloc, ' ', line)?;
     let mut input = MemorySource::new(input, 65_536, Vec::new(alloc));
     let mut out = MemorySink::new(alloc, 65_536, Vec::new(alloc));
     let status = run(
@@ -63,6 +68,12 @@ pub fn run_alone<R: Threads + Wait + Sync>(
 ) -> Result<Finished, Memory> {
     let alloc = stage.host.alloc();
     let mut net = MemoryNet::new(alloc, Vec::new(alloc), Vec::new(alloc))?;
-    let mut crew = Serial::<R>::new();
-    run_with(stage, &mut crew, line, place, input, &mut net)
+    run_with(
+        stage,
+        &mut EitherCrew::serial(),
+        line,
+        place,
+        input,
+        &mut net,
+    )
 }

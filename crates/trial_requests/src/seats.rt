@@ -12,29 +12,44 @@ use rv_desk::{Desk, OpenFault};
 use rv_room::Room;
 use std::alloc::Global;
 use std::sync::Wait;
-use trial_stage::number_in;
+use trial_stage::Part::{Number, Text};
+use trial_stage::{number_in, tell, told};
+use turns::Names;
+
+// What turns were answered, with the number of entries.
+fn counted(alloc: Global, told: Result<String, Memory>, entries: u64) -> Result<String, Memory> {
+    let mut text = told?;
+    tell(
+        alloc,
+        &mut text,
+        &[Text("entries "), Number(entries), Text("\n")],
+    )?;
+    Ok(text)
+}
 
 // Plays turns in a room over this desk, and closes both.
 fn played<R: Wait>(
     rt: &R,
     alloc: Global,
     desk: Desk<Meddled>,
+    names: &Names,
     words: &str,
 ) -> Result<String, Memory>
     requires { desk.doubt ≡ None }
 {
-    let (room, seats) = match Room::open(alloc, desk, 2) {
-        Ok(opened) => opened,
+    match Room::open(alloc, desk, 2) {
+        Ok((room, seats)) => {
+            let (told, seats) = turns::taken(rt, alloc, &room, seats, names, words);
+            let desk = room.close(seats);
+            let entries = desk.book().len() as u64;
+            let _keeper = desk.close();
+            counted(alloc, told, entries)
+        }
         Err((_, desk)) => {
             let _keeper = desk.close();
-            return Err(Memory);
+            Err(Memory)
         }
-    };
-    let (told, seats) = turns::taken(rt, alloc, &room, seats, words);
-    let desk = room.close(seats);
-    let entries = desk.book().len();
-    let _keeper = desk.close();
-    Ok(format!(in alloc; "{}entries {entries}\n", told?)?)
+    }
 }
 
 fn opened<R: Wait>(
@@ -42,18 +57,19 @@ fn opened<R: Wait>(
     alloc: Global,
     keeper: Meddled,
     limit: u32,
+    names: &Names,
     words: &str,
 ) -> Result<String, Memory> {
     match Desk::open(alloc, keeper, limit) {
-        Ok(desk) => played(rt, alloc, desk, words),
+        Ok(desk) => played(rt, alloc, desk, names, words),
         Err((OpenFault::Memory, _)) => Err(Memory),
-        Err(_) => Ok(String::from_str(alloc, "not opened\n")?),
+        Err(_) => told(alloc, &[Text("not opened\n")]),
     }
 }
 
 /// `LIMIT CALLS TURNS`: what comes of turns by two seats of a room, with a book of so many entries at most, over a keeper that fails at
 /// these calls; and then the number of the entries of the desk that the room gives back.
-pub fn told<R: Wait>(rt: &R, alloc: Global, words: &str) -> Result<Option<String>, Memory> {
+pub fn taken<R: Wait>(rt: &R, alloc: Global, words: &str) -> Result<Option<String>, Memory> {
     let Some((limit, words)) = words.split_once(' ') else {
         return Ok(None);
     };
@@ -63,8 +79,9 @@ pub fn told<R: Wait>(rt: &R, alloc: Global, words: &str) -> Result<Option<String
     };
     match u32::try_from(limit) {
         Ok(limit) => {
+            let names = Names::new(alloc)?;
             let keeper = calls_of(alloc, calls)?;
-            Ok(Some(opened(rt, alloc, keeper, limit, words)?))
+            Ok(Some(opened(rt, alloc, keeper, limit, &names, words)?))
         }
         Err(_) => Ok(None),
     }

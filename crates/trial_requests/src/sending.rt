@@ -1,37 +1,59 @@
 // What connections send and get over HTTP, and listeners that have them.
-use crate::connections::{Connection, Plan, Request};
+use crate::connections::{Connection, Plan};
 use rv_base::{Memory, MemorySink, MemorySource};
 use rv_net::{Conn, MemoryConn, MemoryListen, MemoryNet};
 use std::alloc::Global;
+use trial_stage::Part::{Number, Text};
+use trial_stage::tell;
 
-// A request over HTTP.
-fn request_text(alloc: Global, user: &str, request: &Request) -> Result<String, Memory> {
-    let path = request.word;
-    let body = request.body.as_str();
-    let length = body.len();
-    Ok(format!(in alloc;
-        "POST /{path} HTTP/1.1\r\nAuthorization: k-{user}\r\nContent-Length: {length}\r\n\r\n{body}"
-    )?)
+// Adds a request over HTTP.
+fn add_request<'x>(
+    alloc: Global,
+    text: &mut String,
+    user: &'x str,
+    word: &'x str,
+    body: &'x str,
+) -> Result<(), Memory> {
+    tell(
+        alloc,
+        text,
+        &[
+            Text("POST /"),
+            Text(word),
+            Text(" HTTP/1.1\r\nAuthorization: k-"),
+            Text(user),
+            Text("\r\nContent-Length: "),
+            Number(body.len() as u64),
+            Text("\r\n\r\n"),
+            Text(body),
+        ],
+    )
 }
 
-/// The response that an answer line is over HTTP, where its status is 200.
-pub fn response(alloc: Global, line: &str) -> Result<String, Memory> {
+/// Adds the response that an answer line is over HTTP, where its status is 200.
+pub fn add_response(alloc: Global, text: &mut String, line: &str) -> Result<(), Memory> {
     let body = line.strip_prefix("200 ").unwrap_or("other");
-    let length = body.len();
-    Ok(format!(in alloc;
-        "HTTP/1.1 200 OK\r\nContent-Type: application/json\r\nContent-Length: {length}\r\n\r\n{body}"
-    )?)
+    tell(
+        alloc,
+        text,
+        &[
+            Text("HTTP/1.1 200 OK\r\nContent-Type: application/json\r\nContent-Length: "),
+            Number(body.len() as u64),
+            Text("\r\n\r\n"),
+            Text(body),
+        ],
+    )
 }
 
 // A connection that sends its requests, in pieces of at most 1000 bytes.
 fn conn(alloc: Global, connection: &Connection) -> Result<MemoryConn, Memory> {
-    let mut bytes = Vec::new(alloc);
+    let mut text = String::new(alloc);
     for request in &connection.requests {
-        let text = request_text(alloc, connection.user, request)?;
-        bytes.extend_from_slice(text.as_bytes())?;
+        let body = request.body.as_str();
+        add_request(alloc, &mut text, connection.user, request.word, body)?;
     }
     Ok(Conn {
-        source: MemorySource::new(bytes, 1000, Vec::new(alloc)),
+        source: MemorySource::new(text.into_bytes(), 1000, Vec::new(alloc)),
         sink: MemorySink::new(alloc, 1000, Vec::new(alloc)),
     })
 }

@@ -2,20 +2,19 @@
 use crate::calls;
 use crate::cells::hold_the_same;
 use crate::connections::{Connection, Plan, connections_of, plan_of};
-use crate::feeding::{compared, fed};
+use crate::crews::EitherCrew;
+use crate::feeding::fed_beside;
 use crate::order::{Turn, turns_of};
-use crate::plain_answers::all_answered;
-use crate::plain_server::PlainServer;
 use crate::runs::{run_alone, run_with};
-use crate::sending::{are_answered, net, response};
-use rv_base::{Bytes, Memory, Sequence};
-use rv_crew::Crew;
+use crate::sending::{add_response, are_answered, net};
+use rv_base::{Bytes, Memory};
 use rv_keeper::MemoryPlace;
 use rv_net::MemoryNet;
 use std::alloc::Global;
 use std::sync::Wait;
 use std::thread::Threads;
-use trial_stage::Stage;
+use trial_stage::Part::{Number, Text};
+use trial_stage::{Stage, told};
 
 // The accounts of the three users.
 const ACCOUNTS: &str =
@@ -29,77 +28,92 @@ fn new_place(alloc: Global) -> Result<MemoryPlace, Memory> {
     Ok(place)
 }
 
+// The words that serve the store S by so many workers.
+fn words_of(alloc: Global, workers: usize) -> Result<String, Memory> {
+    told(
+        alloc,
+        &[
+            Text("rv serve S --accounts A --port 8080 --workers "),
+            Number(workers as u64),
+            Text(" --connections 1"),
+        ],
+    )
+}
+
 // Serves the connections of a net into the store S. Gives what was told at the end.
-fn served<R: Threads + Wait + Sync, C: Crew>(
+fn served<R: Threads + Wait + Sync>(
     stage: &Stage<'_, R>,
-    crew: &mut C,
+    crew: &mut EitherCrew<'_, R>,
     workers: usize,
     place: &mut MemoryPlace,
     net: &mut MemoryNet,
 ) -> Result<String, Memory> {
     let alloc = stage.host.alloc();
-    let line = format!(in alloc;
-        "rv serve S --accounts A --port 8080 --workers {workers} --connections 1"
-    )?;
+    let line = words_of(alloc, workers)?;
     let run = run_with(stage, crew, line.as_str(), place, Vec::new(alloc), net)?;
     let check = run_alone(stage, "rv check S", place, Vec::new(alloc))?;
-    Ok(format!(in alloc; "{}, {}", run.text().trim_end(), check.text().trim_end())?)
+    told(
+        alloc,
+        &[
+            Text(run.text().trim_end()),
+            Text(", "),
+            Text(check.text().trim_end()),
+        ],
+    )
 }
 
-// The line that asks a request.
-fn line_of(alloc: Global, connections: &[Connection], turn: Turn) -> Result<String, Memory> {
+// Adds the line that asks a request.
+fn add_line_of(
+    alloc: Global,
+    text: &mut String,
+    connections: &[Connection],
+    turn: Turn,
+) -> Result<(), Memory> {
     if let Some(connection) = connections.get(turn.connection) {
         if let Some(request) = connection.requests.get(turn.request) {
-            return calls::line(alloc, connection.user, request.word, request.body.as_str());
+            let body = request.body.as_str();
+            return calls::add_line(alloc, text, connection.user, request.word, body);
         }
     }
-    Ok(String::new(alloc))
+    Ok(())
 }
 
 // The lines that ask requests in this order.
 fn lines_of(alloc: Global, connections: &[Connection], turns: &[Turn]) -> Result<String, Memory> {
     let mut lines = String::new(alloc);
     for turn in turns {
-        lines.push_str(line_of(alloc, connections, *turn)?.as_str())?;
+        add_line_of(alloc, &mut lines, connections, *turn)?;
     }
     Ok(lines)
 }
 
-// What each connection gets, where the requests are answered these lines in this order.
-fn responses_of(
-    alloc: Global,
-    connections: &[Connection],
-    turns: &[Turn],
-    answers: &str,
-) -> Result<Vec<String>, Memory> {
+// A response for each connection, which is empty yet.
+fn empty_responses(alloc: Global, connections: &[Connection]) -> Result<Vec<String>, Memory> {
     let mut responses = Vec::new(alloc);
     for _ in connections {
         responses.push(String::new(alloc))?;
     }
-    let mut lines = answers.lines();
-    for turn in turns {
-        let response = response(alloc, lines.next().unwrap_or(""))?;
-        if let Some(text) = responses.get_mut(turn.connection) {
-            text.push_str(response.as_str())?;
-        }
-    }
     Ok(responses)
 }
 
-// The answers to these lines, fed to the store F and told by the plain server.
-fn answers<R: Threads + Wait + Sync>(
-    stage: &Stage<'_, R>,
-    place: &mut MemoryPlace,
-    lines: &str,
-) -> Result<String, Memory> {
-    let alloc = stage.host.alloc();
-    let run = fed(stage, place, lines)?;
-    let mut plain = PlainServer::new(alloc, Sequence::new(alloc));
-    let text = all_answered(alloc, &mut plain, lines)?;
-    compared(alloc, &run, text.as_str())
+// Adds to each connection's responses what it gets, where the requests are answered these lines in this order.
+fn respond(
+    alloc: Global,
+    responses: &mut [String],
+    turns: &[Turn],
+    answers: &str,
+) -> Result<(), Memory> {
+    let mut lines = answers.lines();
+    for turn in turns {
+        let line = lines.next().unwrap_or("");
+        if let Some(text) = responses.get_mut(turn.connection) {
+            add_response(alloc, text, line)?;
+        }
+    }
+    Ok(())
 }
 
-// Whether the connections were answered so in the one order, and the stores hold the same.
+// Whether the connections were answered so in the one order, which answers these lines, and the stores hold the same.
 fn fits(
     alloc: Global,
     place: &MemoryPlace,
@@ -115,34 +129,88 @@ fn fits(
     Ok("one history")
 }
 
-// What comes of a plan.
-fn played<R: Threads + Wait + Sync, C: Crew>(
+// The same, where the requests are fed to the store F in this order.
+fn fits_in_order<R: Threads + Wait + Sync>(
     stage: &Stage<'_, R>,
-    crew: &mut C,
+    connections: &[Connection],
+    turns: &[Turn],
+    place: &mut MemoryPlace,
+    net: &MemoryNet,
+) -> Result<&'static str, Memory> {
+    let alloc = stage.host.alloc();
+    let lines = lines_of(alloc, connections, turns)?;
+    let answers = fed_beside(stage, place, lines.as_str())?;
+    let mut responses = empty_responses(alloc, connections)?;
+    respond(alloc, &mut responses, turns, answers.as_str())?;
+    fits(alloc, place, net, &responses)
+}
+
+// The one order that the store S tells.
+fn order(
+    alloc: Global,
+    connections: &[Connection],
+    place: &MemoryPlace,
+) -> Result<Vec<Turn>, Memory> {
+    match place.store("S") {
+        Some(store) => turns_of(alloc, connections, store),
+        None => Ok(Vec::new(alloc)),
+    }
+}
+
+// What was served, and how many answers fit how.
+fn history_told<'x>(
+    alloc: Global,
+    served: &'x str,
+    answers: usize,
+    fits: &'x str,
+) -> Result<String, Memory> {
+    told(
+        alloc,
+        &[
+            Text(served),
+            Text(", "),
+            Number(answers as u64),
+            Text(" answers, "),
+            Text(fits),
+            Text("\n"),
+        ],
+    )
+}
+
+// What comes of these connections, of a net.
+fn played_over<R: Threads + Wait + Sync>(
+    stage: &Stage<'_, R>,
+    crew: &mut EitherCrew<'_, R>,
+    workers: usize,
+    connections: &[Connection],
+    net: &mut MemoryNet,
+) -> Result<String, Memory> {
+    let alloc = stage.host.alloc();
+    let mut place = new_place(alloc)?;
+    let served = served(stage, crew, workers, &mut place, net)?;
+    let turns = order(alloc, connections, &place)?;
+    let fits = fits_in_order(stage, connections, &turns, &mut place, net)?;
+    history_told(alloc, served.as_str(), turns.len(), fits)
+}
+
+// What comes of a plan.
+fn played<R: Threads + Wait + Sync>(
+    stage: &Stage<'_, R>,
+    crew: &mut EitherCrew<'_, R>,
     plan: &Plan,
 ) -> Result<String, Memory> {
     let alloc = stage.host.alloc();
     let connections = connections_of(alloc, plan)?;
-    let mut place = new_place(alloc)?;
     let mut net = net(alloc, plan, &connections)?;
-    let told = served(stage, crew, plan.workers, &mut place, &mut net)?;
-    let turns = match place.store("S") {
-        Some(store) => turns_of(alloc, &connections, store)?,
-        None => Vec::new(alloc),
-    };
-    let lines = lines_of(alloc, &connections, &turns)?;
-    let answers = answers(stage, &mut place, lines.as_str())?;
-    let responses = responses_of(alloc, &connections, &turns, answers.as_str())?;
-    let fits = fits(alloc, &place, &net, &responses)?;
-    Ok(format!(in alloc; "{told}, {} answers, {fits}\n", turns.len())?)
+    played_over(stage, crew, plan.workers, &connections, &mut net)
 }
 
 /// `WORKERS CONNECTIONS REQUESTS SEED`: what comes of so many drawn requests on each of so many connections to each of so many workers.
 /// The entries of the book tell one order of all requests. In that order they are fed to another store, and told by the plain server:
 /// the answers must be those that the connections got, and the stores hold the same.
-pub fn told<R: Threads + Wait + Sync, C: Crew>(
+pub fn one_history<R: Threads + Wait + Sync>(
     stage: &Stage<'_, R>,
-    crew: &mut C,
+    crew: &mut EitherCrew<'_, R>,
     words: &str,
 ) -> Result<Option<String>, Memory> {
     match plan_of(words) {

@@ -1,26 +1,34 @@
 // Who sees what a call writes.
-use crate::plain_answers::all_answered;
+use crate::plain_answers::add_answers;
 use crate::plain_server::PlainServer;
 use rv_base::{Id, Memory, Sequence, TextRefusal, User};
 use rv_mutators::stage;
 use rv_rows::{Call, Row, Tables, Users};
 use std::alloc::Global;
 
-// The tables of rows, each of version 1.
-fn tables_of(alloc: Global, rows: Vec<Row>) -> Result<Tables, Memory> {
-    let mut tables = Tables::new(alloc);
+// Puts rows into tables, each as of version 1.
+fn put(alloc: Global, tables: &mut Tables, rows: &[Row]) -> Result<(), Memory> {
     for row in rows {
         tables.reserve(1)?;
-        tables.put(row, 1);
+        tables.put(row.copy(alloc)?, 1);
     }
-    Ok(tables)
+    Ok(())
 }
 
 // The rows that these lines leave.
-fn tables_after(alloc: Global, lines: &str) -> Result<Tables, Memory> {
+fn rows_after(alloc: Global, lines: &str) -> Result<Vec<Row>, Memory> {
     let mut plain = PlainServer::new(alloc, Sequence::new(alloc));
-    all_answered(alloc, &mut plain, lines)?;
-    tables_of(alloc, rv_plain::rows_of(alloc, plain.book())?)
+    let mut answers = String::new(alloc);
+    add_answers(alloc, &mut answers, &mut plain, lines)?;
+    rv_plain::rows_of(alloc, plain.book())
+}
+
+// The tables of these rows.
+fn tables_after(alloc: Global, lines: &str) -> Result<Tables, Memory> {
+    let rows = rows_after(alloc, lines)?;
+    let mut tables = Tables::new(alloc);
+    put(alloc, &mut tables, &rows)?;
+    Ok(tables)
 }
 
 fn names(alloc: Global, users: &Users) -> Result<String, Memory> {
@@ -40,20 +48,21 @@ fn touched(alloc: Global, tables: &mut Tables, user: &User, call: &Call) -> Resu
     names(alloc, &users)
 }
 
-// The same, where ann deletes a list.
-fn deleted(alloc: Global, tables: &mut Tables, list: Id) -> Result<String, Memory> {
-    let Ok(ann) = User::new(alloc, "ann") else {
-        return Err(Memory);
-    };
-    touched(alloc, tables, &ann, &Call::DeleteList { id: list })
+// The same of a call of ann's, after these lines.
+fn touched_by_ann(alloc: Global, lines: &str, call: &Call) -> Result<String, Memory> {
+    let mut tables = tables_after(alloc, lines)?;
+    match User::new(alloc, "ann") {
+        Ok(ann) => touched(alloc, &mut tables, &ann, call),
+        Err(_) => Err(Memory),
+    }
 }
 
 /// `LIST`: the users who see a row that goes where ann deletes the list after these lines, each with `;` after the name.
 pub fn told(alloc: Global, lines: &str, list: &str) -> Result<Option<String>, Memory> {
     match Id::new(alloc, list) {
         Ok(list) => {
-            let mut tables = tables_after(alloc, lines)?;
-            Ok(Some(deleted(alloc, &mut tables, list)?))
+            let call = Call::DeleteList { id: list };
+            Ok(Some(touched_by_ann(alloc, lines, &call)?))
         }
         Err(TextRefusal::Memory) => Err(Memory),
         Err(_) => Ok(None),

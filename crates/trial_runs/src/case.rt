@@ -5,7 +5,8 @@ use rv_keeper::{Fails, MemoryPlace, Schedule, Shelves};
 use std::alloc::Global;
 use std::sync::Wait;
 use std::thread::Threads;
-use trial_stage::{Stage, number_in, text_of, words_at_blanks};
+use trial_stage::Part::Text;
+use trial_stage::{Stage, text_of, told, words_at};
 
 /// The words of a command line, an input, and the store that they run on.
 #[derive(Drop)]
@@ -73,13 +74,40 @@ impl Case {
 
     /// Takes other words.
     pub fn say(&mut self, alloc: Global, words: &str) -> Result<(), Memory> {
-        self.words = words_at_blanks(alloc, words)?;
+        self.words = words_at(alloc, ' ', words)?;
+        Ok(())
+    }
+
+    /// Takes one more word, which may have blanks.
+    pub fn add_word(&mut self, alloc: Global, word: &str) -> Result<(), Memory> {
+        let word = told(alloc, &[Text(word)])?;
+        self.words.push(word)?;
         Ok(())
     }
 
     /// Adds a line to the input.
     pub fn add_line(&mut self, line: &str) -> Result<(), Memory> {
         add_line(&mut self.input, line)
+    }
+
+    /// Adds bytes to the input.
+    pub fn add_bytes(&mut self, bytes: &[u8]) -> Result<(), Memory> {
+        self.input.extend_from_slice(bytes)?;
+        Ok(())
+    }
+
+    /// Adds so many blanks to the input.
+    pub fn add_blanks(&mut self, count: u64) -> Result<(), Memory> {
+        for _ in 0..count {
+            self.input.push(b' ')?;
+        }
+        Ok(())
+    }
+
+    /// Sends each push of the input twice.
+    pub fn push_twice(&mut self, alloc: Global) -> Result<(), Memory> {
+        self.input = self.with_more(alloc, After::Push)?;
+        Ok(())
     }
 
     /// The input, with more after each line.
@@ -97,14 +125,26 @@ impl Case {
         if self.is_stated { "kept" } else { "memory" }
     }
 
+    // The schedule of the first keeper.
+    fn schedules(&self, alloc: Global) -> Result<Vec<Schedule>, Memory> {
+        let fails = Vec::from_slice(alloc, &self.fails)?;
+        let mut schedules = Vec::new(alloc);
+        schedules.push(Schedule::from_vec(fails))?;
+        Ok(schedules)
+    }
+
+    // Adds the store to a place.
+    fn add_store(&self, alloc: Global, place: &mut MemoryPlace) -> Result<(), Memory> {
+        let shelves = copied(alloc, &self.shelves)?;
+        place.add_store(self.name(), shelves, self.generation)
+    }
+
     /// A place that has the store.
     pub fn new_place(&self, alloc: Global) -> Result<MemoryPlace, Memory> {
-        let mut schedules = Vec::new(alloc);
-        schedules.push(Schedule::from_vec(Vec::from_slice(alloc, &self.fails)?))?;
+        let schedules = self.schedules(alloc)?;
         let opens = Vec::from_slice(alloc, &self.opens)?;
-        let shelves = copied(alloc, &self.shelves)?;
         let mut place = MemoryPlace::new(alloc, schedules, opens);
-        place.add_store(self.name(), shelves, self.generation)?;
+        self.add_store(alloc, &mut place)?;
         Ok(place)
     }
 
@@ -143,9 +183,21 @@ impl Case {
         self.state(alloc)
     }
 
+    /// This call for a keeper fails.
+    pub fn fail_opening(&mut self, call: u64) -> Result<(), Memory> {
+        self.opens.push(call)?;
+        Ok(())
+    }
+
+    /// The keeper fails at this call.
+    pub fn fail(&mut self, call: Fails) -> Result<(), Memory> {
+        self.fails.push(call)?;
+        Ok(())
+    }
+
     /// Sets the store's generation.
-    pub fn set_generation(&mut self, alloc: Global, text: &str) -> Result<(), Memory> {
-        self.generation = number_in(text).unwrap_or(0);
+    pub fn set_generation(&mut self, alloc: Global, generation: u64) -> Result<(), Memory> {
+        self.generation = generation;
         self.state(alloc)
     }
 

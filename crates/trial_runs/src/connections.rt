@@ -1,16 +1,17 @@
 // Connections that `serve` serves, in threads. The bytes of a connection are in the file NAME.in of the folder, and what must come is
 // in NAME.out.
+use crate::crew::{Counts, TrialCrew};
+use crate::machine::Machine;
 use crate::nets::{answers_in, conn, net_of, written};
-use crate::running::{Pieces, run_over};
+use crate::running::run_line;
 use rv_base::Memory;
-use rv_crew::Threaded;
+use rv_keeper::Place;
 use rv_net::MemoryNet;
-use rv_place::HostPlace;
 use std::fs;
 use std::sync::Wait;
 use std::thread::Threads;
 use trial_stage::Part::{Number, Text};
-use trial_stage::{Stage, first_word, named, number_in, told, words_at_blanks};
+use trial_stage::{Stage, first_word, named, number_in, told};
 
 // The words that serve a store in memory with the folder's accounts.
 const SERVE: &str =
@@ -38,18 +39,16 @@ fn bytes_of(rt: &HostRuntime, name: &str, end: &str) -> Result<Vec<u8>, Memory> 
     }
 }
 
-// Runs the words of a line over a net, and tells what was written, with the status.
-fn run_line<R: Threads + Wait + Sync>(
+// Runs the words of a line over a net by a crew with threads, and tells what was written, with the status.
+fn run_by_threads<R: Threads + Wait + Sync, P: Place>(
     stage: &Stage<'_, R>,
+    machine: &mut Machine<P>,
     line: &str,
     net: &mut MemoryNet,
 ) -> Result<String, Memory> {
-    let alloc = stage.host.alloc();
-    let words = words_at_blanks(alloc, line)?;
-    let mut place = HostPlace::new(stage.host);
-    let mut crew = Threaded::new(stage.threads);
-    let pieces = Pieces::of(100_000);
-    run_over(stage, &words, &mut place, b"", pieces, net, &mut crew)?.line(alloc)
+    let counts = Counts::new();
+    let mut crew = TrialCrew::new(Some(stage.threads), false, &counts);
+    run_line(stage, line, &mut machine.place, net, &mut crew)
 }
 
 // A net whose connection sends what NAME.in has, in pieces of at most so many bytes.
@@ -90,48 +89,55 @@ fn compared<'x>(
 
 // `serves NAME MOST`: the connection NAME in pieces of at most so many bytes. Prints whether what was written is what must come, how
 // many answers there are, and what the program told.
-fn serves<R: Threads + Wait + Sync>(stage: &Stage<'_, R>, rest: &str) -> Result<String, Memory> {
+fn serves<R: Threads + Wait + Sync, P: Place>(
+    stage: &Stage<'_, R>,
+    machine: &mut Machine<P>,
+    rest: &str,
+) -> Result<String, Memory> {
     let (name, most) = first_word(rest);
     let most = number_in(most).unwrap_or(0);
     let mut net = net_that_sends(stage.host, name, most)?;
-    let line = run_line(stage, SERVE, &mut net)?;
+    let line = run_by_threads(stage, machine, SERVE, &mut net)?;
     compared(stage.host, name, most, written(&net), line.as_str())
 }
 
 // Runs words over a net to which no connection comes, and prints what was told. The call of `listen` with this number fails.
-fn run_words<R: Threads + Wait + Sync>(
+fn run_words<R: Threads + Wait + Sync, P: Place>(
     stage: &Stage<'_, R>,
+    machine: &mut Machine<P>,
     line: &str,
     fails: u64,
 ) -> Result<String, Memory> {
     let alloc = stage.host.alloc();
     let mut net = net_of(alloc, Vec::new(alloc), fails)?;
-    let line = run_line(stage, line, &mut net)?;
+    let line = run_by_threads(stage, machine, line, &mut net)?;
     told(alloc, &[Text(line.as_str()), Text("\n")])
 }
 
 // What a command prints.
-fn played<R: Threads + Wait + Sync>(
+fn played<R: Threads + Wait + Sync, P: Place>(
     stage: &Stage<'_, R>,
+    machine: &mut Machine<P>,
     command: Command,
     line: &str,
     rest: &str,
 ) -> Result<String, Memory> {
     match command {
-        Command::Serves => serves(stage, rest),
-        Command::NetFails => run_words(stage, SERVE, 1),
-        Command::Run => run_words(stage, line, 0),
+        Command::Serves => serves(stage, machine, rest),
+        Command::NetFails => run_words(stage, machine, SERVE, 1),
+        Command::Run => run_words(stage, machine, line, 0),
     }
 }
 
 /// What a command on connections prints, where it is one.
-pub fn answer<R: Threads + Wait + Sync>(
+pub fn answer<R: Threads + Wait + Sync, P: Place>(
     stage: &Stage<'_, R>,
+    machine: &mut Machine<P>,
     line: &str,
 ) -> Result<Option<String>, Memory> {
     let (word, rest) = first_word(line);
     match named(&COMMANDS, word) {
-        Some(command) => Ok(Some(played(stage, command, line, rest)?)),
+        Some(command) => Ok(Some(played(stage, machine, command, line, rest)?)),
         None => Ok(None),
     }
 }

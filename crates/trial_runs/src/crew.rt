@@ -87,12 +87,20 @@ impl Gate for TrialGate<'_> {
 /// A crew with such gates, and with threads or without.
 #[derive(Drop)]
 pub struct TrialCrew<'x, R: Threads + Sync> {
-    /// What starts the threads, if any.
-    pub runtime: Option<&'x R>,
-    /// The first worker's gate holds its requests.
-    pub holds: bool,
-    /// Where its gates count.
-    pub counts: &'x Counts,
+    runtime: Option<&'x R>,
+    holds: bool,
+    counts: &'x Counts,
+}
+
+impl<'x, R: Threads + Sync> TrialCrew<'x, R> {
+    /// The crew of what starts its threads, if any, and of where its gates count. The first worker's gate may hold its requests.
+    pub fn new(runtime: Option<&'x R>, holds: bool, counts: &'x Counts) -> TrialCrew<'x, R> {
+        TrialCrew {
+            runtime,
+            holds,
+            counts,
+        }
+    }
 }
 
 impl<'x, R: Threads + Sync> Crew for TrialCrew<'x, R> {

@@ -57,6 +57,20 @@ fn failing(call: u64, is_read: bool) -> Pieces {
     }
 }
 
+// Adds what comes of the run in which this call fails. Tells whether the run had no fault, since there is no such call.
+fn add_run<R: Threads + Wait + Sync>(
+    stage: &Stage<'_, R>,
+    case: &Case,
+    whole: &Finished,
+    (call, is_read): (u64, bool),
+    text: &mut String,
+) -> Result<bool, Memory> {
+    let some = case.run(stage, failing(call, is_read))?;
+    let line = line_of(stage.host.alloc(), call, whole, &some)?;
+    text.push_str(line.as_str())?;
+    Ok(some.faults == (0, 0))
+}
+
 /// `failing-reads` and `failing-writes` run the case, in pieces of 20 bytes, with each read or write failing in turn, and
 /// then once with none.
 pub fn each<R: Threads + Wait + Sync>(
@@ -64,14 +78,11 @@ pub fn each<R: Threads + Wait + Sync>(
     case: &Case,
     is_read: bool,
 ) -> Result<String, Memory> {
-    let alloc = stage.host.alloc();
+    let mut text = String::new(stage.host.alloc());
     let whole = case.run(stage, failing(0, is_read))?;
-    let mut text = String::new(alloc);
     for call in 1..100 {
-        let some = case.run(stage, failing(call, is_read))?;
-        text.push_str(line_of(alloc, call, &whole, &some)?.as_str())?;
-        if some.faults == (0, 0) {
-            return Ok(text);
+        if add_run(stage, case, &whole, (call, is_read), &mut text)? {
+            break;
         }
     }
     Ok(text)

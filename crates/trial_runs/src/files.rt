@@ -1,9 +1,9 @@
 // Runs over the files of the folder.
 use crate::case::Case;
+use crate::machine::Machine;
 use crate::running::{Pieces, run_alone};
 use rv_base::Memory;
 use rv_keeper::Place;
-use rv_place::HostPlace;
 use std::alloc::Global;
 use std::sync::Wait;
 use std::thread::Threads;
@@ -58,77 +58,81 @@ fn compare(rt: &HostRuntime, case: &Case, path: &str) -> Result<String, Memory> 
 }
 
 // `rv WORD ..`: runs these words over the lines since the last run, and prints what was written and the status.
-fn run_words<R: Threads + Wait + Sync>(
+fn run_words<R: Threads + Wait + Sync, P: Place>(
     stage: &Stage<'_, R>,
     case: &mut Case,
+    place: &mut P,
     line: &str,
 ) -> Result<String, Memory> {
     let alloc = stage.host.alloc();
     case.say(alloc, line)?;
     let input = mem::replace(&mut case.input, Vec::new(alloc));
-    let mut place = HostPlace::new(stage.host);
-    run_alone(stage, &case.words, &mut place, &input, Pieces::of(100_000))?.told(alloc)
+    run_alone(stage, &case.words, place, &input, Pieces::of(100_000))?.told(alloc)
 }
 
 // `while-open STORE`: feeds the store while another place has its keeper out.
-fn run_beside<R: Threads + Wait + Sync>(
+fn run_beside<R: Threads + Wait + Sync, P: Place>(
     stage: &Stage<'_, R>,
     case: &mut Case,
+    machine: &mut Machine<P>,
     store: &str,
 ) -> Result<String, Memory> {
     let alloc = stage.host.alloc();
     let line = told(alloc, &[Text("rv feed "), Text(store)])?;
-    let mut place = HostPlace::new(stage.host);
-    match place.open_keeper(store) {
+    match machine.beside.open_keeper(store) {
         Ok(kept) => {
-            let text = run_words(stage, case, line.as_str());
-            place.close_keeper(store, kept);
+            let text = run_words(stage, case, &mut machine.place, line.as_str());
+            machine.beside.close_keeper(store, kept);
             text
         }
         Err(_) => told(alloc, &[Text("no keeper\n")]),
     }
 }
 
-// `accounts FILE`: what the place reads of an accounts file; or why it reads none, and how many faults it counts then.
-fn read_accounts(rt: &HostRuntime, path: &str) -> Result<String, Memory> {
-    let alloc = rt.alloc();
-    let mut place = HostPlace::new(rt);
+// `accounts FILE`: what a place reads of an accounts file; or why it reads none, and how many faults it counts for that.
+fn read_accounts<P: Place>(alloc: Global, place: &mut P, path: &str) -> Result<String, Memory> {
+    let before = place.fault_count();
     match place.read_accounts(path) {
         Ok(bytes) => {
             let count = bytes.len() as u64;
             let text = text_of(bytes.as_slice());
             told(alloc, &[Number(count), Text(" bytes\n"), Text(text)])
         }
-        Err(fault) => Ok(format!(in alloc; "{fault}, faults {}\n", place.fault_count())?),
+        Err(fault) => {
+            let faults = place.fault_count().saturating_sub(before);
+            Ok(format!(in alloc; "{fault}, faults {faults}\n")?)
+        }
     }
 }
 
 // What a command prints.
-fn played<R: Threads + Wait + Sync>(
+fn played<R: Threads + Wait + Sync, P: Place>(
     stage: &Stage<'_, R>,
     case: &mut Case,
+    machine: &mut Machine<P>,
     command: Command,
     line: &str,
     rest: &str,
 ) -> Result<String, Memory> {
     match command {
-        Command::Run => run_words(stage, case, line),
-        Command::Accounts => read_accounts(stage.host, rest),
-        Command::WhileOpen => run_beside(stage, case, rest),
+        Command::Run => run_words(stage, case, &mut machine.place, line),
+        Command::Accounts => read_accounts(stage.host.alloc(), &mut machine.place, rest),
+        Command::WhileOpen => run_beside(stage, case, machine, rest),
         Command::Remember => remember(stage.host, case, rest),
         Command::Is => compare(stage.host, case, rest),
     }
 }
 
 /// What a command on files prints, where it is one.
-pub fn answer<R: Threads + Wait + Sync>(
+pub fn answer<R: Threads + Wait + Sync, P: Place>(
     stage: &Stage<'_, R>,
     case: &mut Case,
+    machine: &mut Machine<P>,
     line: &str,
 ) -> Result<Option<String>, Memory> {
     let (word, rest) = first_word(line);
     match named(&COMMANDS, word) {
-        Some(command) => Ok(Some(played(stage, case, command, line, rest)?)),
+        Some(command) => Ok(Some(played(stage, case, machine, command, line, rest)?)),
         None => Ok(None),
     }
 }

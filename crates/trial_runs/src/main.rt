@@ -12,6 +12,7 @@ mod connections;
 mod crew;
 mod faults;
 mod files;
+mod machine;
 mod nets;
 mod running;
 mod scripts;
@@ -19,12 +20,15 @@ mod stores;
 mod workers;
 
 use case::Case;
+use machine::Machine;
 use rv_base::Memory;
+use rv_keeper::Place;
+use rv_place::HostPlace;
+use std::alloc::Global;
 use std::io;
 use std::sync::Wait;
 use std::thread::Threads;
-use trial_stage::Part::Text;
-use trial_stage::{Line, Stage, kind_of, named, print_answer, told};
+use trial_stage::{Line, Stage, echoed, kind_of, named, print_answer, silent};
 
 // What the commands are of.
 #[derive(Clone, Copy)]
@@ -42,26 +46,25 @@ static SUBJECTS: [(&str, Subject); 4] = [
     ("workers", Subject::Workers),
 ];
 
-// The case that is played.
+// The case that is played, and the stores of the machine.
 #[derive(Drop)]
-struct Runs {
+struct Runs<P: Place> {
     subject: Subject,
     case: Case,
+    machine: Machine<P>,
 }
 
-impl Runs {
-    // Begins a case, with nothing left of those before it, and gives back the line that does.
-    fn begin(&mut self, rt: &HostRuntime, line: &str) -> Result<Option<String>, Memory> {
-        let alloc = rt.alloc();
+impl<P: Place> Runs<P> {
+    // Begins a case, with nothing left of those before it.
+    fn begin(&mut self, alloc: Global) -> Result<(), Memory> {
         self.case = Case::new(alloc);
-        self.case.say(alloc, "rv feed memory")?;
-        Ok(Some(told(alloc, &[Text(line), Text("\n")])?))
+        self.case.say(alloc, "rv feed memory")
     }
 
-    // Adds a line to the input.
-    fn add_line(&mut self, rt: &HostRuntime, line: &str) -> Result<Option<String>, Memory> {
-        self.case.add_line(line)?;
-        Ok(Some(String::new(rt.alloc())))
+    // Begins the cases of a subject.
+    fn begin_subject(&mut self, alloc: Global, subject: &str) -> Result<(), Memory> {
+        self.subject = named(&SUBJECTS, subject).unwrap_or(self.subject);
+        self.begin(alloc)
     }
 
     // What a command prints, where it is one.
@@ -70,14 +73,11 @@ impl Runs {
         stage: &Stage<'_, R>,
         line: &str,
     ) -> Result<Option<String>, Memory> {
-        if line.starts_with('{') {
-            return self.add_line(stage.host, line);
-        }
         match self.subject {
-            Subject::Scripts => scripts::answer(stage, &mut self.case, line),
-            Subject::Files => files::answer(stage, &mut self.case, line),
-            Subject::Connections => connections::answer(stage, line),
-            Subject::Workers => workers::answer(stage, line),
+            Subject::Scripts => scripts::answer(stage, &mut self.case, &mut self.machine, line),
+            Subject::Files => files::answer(stage, &mut self.case, &mut self.machine, line),
+            Subject::Connections => connections::answer(stage, &mut self.machine, line),
+            Subject::Workers => workers::answer(stage, &mut self.machine, line),
         }
     }
 
@@ -87,16 +87,28 @@ impl Runs {
         stage: &Stage<'_, R>,
         line: &str,
     ) -> Result<Option<String>, Memory> {
+        let alloc = stage.host.alloc();
         match kind_of(line) {
-            Line::Subject(name) => {
-                self.subject = named(&SUBJECTS, name).unwrap_or(self.subject);
-                self.begin(stage.host, line)
-            }
-            Line::Case => self.begin(stage.host, line),
-            Line::Note => Ok(Some(String::new(stage.host.alloc()))),
+            Line::Subject(name) => echoed(alloc, line, self.begin_subject(alloc, name)),
+            Line::Case => echoed(alloc, line, self.begin(alloc)),
+            Line::Note => silent(alloc, Ok(())),
+            Line::Input => silent(alloc, self.case.add_line(line)),
             Line::Command => self.play(stage, line),
         }
     }
+}
+
+// Plays the lines of the input, one after another.
+fn play_lines<R: Threads + Wait + Sync, P: Place>(
+    stage: &Stage<'_, R>,
+    runs: &mut Runs<P>,
+) -> io::Result<()> {
+    for line in stage.host.lines(stage.host.alloc()) {
+        let line = line?;
+        let answer = runs.answer(stage, line.as_str());
+        print_answer(stage.host, line.as_str(), answer)?;
+    }
+    Ok(())
 }
 
 fn main(rt: HostRuntime) -> io::Result<()> {
@@ -107,11 +119,10 @@ fn main(rt: HostRuntime) -> io::Result<()> {
     let mut runs = Runs {
         subject: Subject::Scripts,
         case: Case::new(rt.alloc()),
+        machine: Machine {
+            place: HostPlace::new(&rt),
+            beside: HostPlace::new(&rt),
+        },
     };
-    for line in rt.lines(rt.alloc()) {
-        let line = line?;
-        let answer = runs.answer(&stage, line.as_str());
-        print_answer(&rt, line.as_str(), answer)?;
-    }
-    Ok(())
+    play_lines(&stage, &mut runs)
 }

@@ -1,14 +1,14 @@
 // Runs of the program over a place, and an input and an output in memory.
+use crate::crew::{Counts, TrialCrew};
 use rv_base::{Memory, MemorySink, MemorySource};
 use rv_cli::run;
-use rv_crew::{Crew, Serial};
 use rv_keeper::Place;
 use rv_net::MemoryNet;
 use std::alloc::Global;
 use std::sync::Wait;
 use std::thread::Threads;
 use trial_stage::Part::{Number, Text};
-use trial_stage::{Stage, text_of, told};
+use trial_stage::{Stage, text_of, told, words_at};
 
 /// The most bytes of a read and of a write, and the read and the write that fail, by their numbers from 1; 0 is none.
 #[derive(Clone, Copy)]
@@ -80,20 +80,32 @@ pub fn failing(alloc: Global, call: u64) -> Result<Vec<u64>, Memory> {
     Ok(calls)
 }
 
-/// Runs words over a place, these bytes as the input, a net, and a crew.
-pub fn run_over<R: Threads + Wait + Sync, P: Place, C: Crew>(
+// The input of these bytes.
+fn source(alloc: Global, bytes: &[u8], pieces: Pieces) -> Result<MemorySource, Memory> {
+    let bytes = Vec::from_slice(alloc, bytes)?;
+    let fails = failing(alloc, pieces.read)?;
+    Ok(MemorySource::new(bytes, pieces.most, fails))
+}
+
+// The output.
+fn sink(alloc: Global, pieces: Pieces) -> Result<MemorySink, Memory> {
+    let fails = failing(alloc, pieces.write)?;
+    Ok(MemorySink::new(alloc, pieces.most, fails))
+}
+
+// Runs words over a place, these bytes as the input, a net, and a crew.
+fn run_over<R: Threads + Wait + Sync, P: Place>(
     stage: &Stage<'_, R>,
     words: &[String],
     place: &mut P,
     bytes: &[u8],
     pieces: Pieces,
     net: &mut MemoryNet,
-    crew: &mut C,
+    crew: &mut TrialCrew<'_, R>,
 ) -> Result<Finished, Memory> {
     let alloc = stage.host.alloc();
-    let bytes = Vec::from_slice(alloc, bytes)?;
-    let mut input = MemorySource::new(bytes, pieces.most, failing(alloc, pieces.read)?);
-    let mut out = MemorySink::new(alloc, pieces.most, failing(alloc, pieces.write)?);
+    let mut input = source(alloc, bytes, pieces)?;
+    let mut out = sink(alloc, pieces)?;
     let status = run(
         alloc,
         stage.threads,
@@ -111,7 +123,20 @@ pub fn run_over<R: Threads + Wait + Sync, P: Place, C: Crew>(
     })
 }
 
-/// Runs words so over a net that has no listener.
+/// Runs the words of a line so over no input, and tells in one line what was written and the status.
+pub fn run_line<R: Threads + Wait + Sync, P: Place>(
+    stage: &Stage<'_, R>,
+    line: &str,
+    place: &mut P,
+    net: &mut MemoryNet,
+    crew: &mut TrialCrew<'_, R>,
+) -> Result<String, Memory> {
+    let alloc = stage.host.alloc();
+    let words = words_at(alloc, ' ', line)?;
+    run_over(stage, &words, place, b"", Pieces::of(1000), net, crew)?.line(alloc)
+}
+
+/// Runs words over a place and these bytes as the input, with no threads and a net that has no listener.
 pub fn run_alone<R: Threads + Wait + Sync, P: Place>(
     stage: &Stage<'_, R>,
     words: &[String],
@@ -121,6 +146,7 @@ pub fn run_alone<R: Threads + Wait + Sync, P: Place>(
 ) -> Result<Finished, Memory> {
     let alloc = stage.host.alloc();
     let mut net = MemoryNet::new(alloc, Vec::new(alloc), Vec::new(alloc))?;
-    let mut crew = Serial::<R>::new();
+    let counts = Counts::new();
+    let mut crew = TrialCrew::new(None, false, &counts);
     run_over(stage, words, place, bytes, pieces, &mut net, &mut crew)
 }

@@ -1,9 +1,10 @@
 // Scripts over stores in memory and over a SQLite file.
 use crate::case::{After, Case};
+use crate::machine::Machine;
 use crate::running::Pieces;
 use crate::{faults, stores};
 use rv_base::Memory;
-use rv_keeper::Fails;
+use rv_keeper::{Fails, Place};
 use std::alloc::Global;
 use std::sync::Wait;
 use std::thread::Threads;
@@ -27,21 +28,6 @@ enum Play {
     Sqlite,
 }
 
-static PLAYS: [(&str, Play); 12] = [
-    ("run", Play::Run),
-    ("once", Play::Once),
-    ("stops", Play::Stops),
-    ("failing-reads", Play::FailingReads),
-    ("failing-writes", Play::FailingWrites),
-    ("length", Play::Length),
-    ("keep", Play::Keep),
-    ("cells", Play::Cells),
-    ("retire", Play::Retire),
-    ("next", Play::Next),
-    ("held", Play::Held),
-    ("sqlite", Play::Sqlite),
-];
-
 // What changes the case.
 #[derive(Clone, Copy)]
 enum Change {
@@ -61,21 +47,40 @@ enum Change {
     AfterFails,
 }
 
-static CHANGES: [(&str, Change); 14] = [
-    ("words", Change::Words),
-    ("word", Change::Word),
-    ("text", Change::Text),
-    ("byte", Change::Byte),
-    ("blanks", Change::Blanks),
-    ("twice", Change::Twice),
-    ("cell", Change::Cell),
-    ("remove", Change::Remove),
-    ("generation-is", Change::Generation),
-    ("open", Change::Open),
-    ("load", Change::LoadFails),
-    ("generation", Change::GenerationFails),
-    ("before", Change::BeforeFails),
-    ("after", Change::AfterFails),
+// What a command does.
+#[derive(Clone, Copy)]
+enum Command {
+    Plays(Play),
+    Changes(Change),
+}
+
+static COMMANDS: [(&str, Command); 26] = [
+    ("run", Command::Plays(Play::Run)),
+    ("once", Command::Plays(Play::Once)),
+    ("stops", Command::Plays(Play::Stops)),
+    ("failing-reads", Command::Plays(Play::FailingReads)),
+    ("failing-writes", Command::Plays(Play::FailingWrites)),
+    ("length", Command::Plays(Play::Length)),
+    ("keep", Command::Plays(Play::Keep)),
+    ("cells", Command::Plays(Play::Cells)),
+    ("retire", Command::Plays(Play::Retire)),
+    ("next", Command::Plays(Play::Next)),
+    ("held", Command::Plays(Play::Held)),
+    ("sqlite", Command::Plays(Play::Sqlite)),
+    ("words", Command::Changes(Change::Words)),
+    ("word", Command::Changes(Change::Word)),
+    ("text", Command::Changes(Change::Text)),
+    ("byte", Command::Changes(Change::Byte)),
+    ("blanks", Command::Changes(Change::Blanks)),
+    ("twice", Command::Changes(Change::Twice)),
+    ("cell", Command::Changes(Change::Cell)),
+    ("remove", Command::Changes(Change::Remove)),
+    ("generation-is", Command::Changes(Change::Generation)),
+    ("open", Command::Changes(Change::Open)),
+    ("load", Command::Changes(Change::LoadFails)),
+    ("generation", Command::Changes(Change::GenerationFails)),
+    ("before", Command::Changes(Change::BeforeFails)),
+    ("after", Command::Changes(Change::AfterFails)),
 ];
 
 // Runs the case in pieces of 1, 7 and 100,000 bytes, and prints what comes where it is the same.
@@ -104,17 +109,26 @@ fn run_with_stops<R: Threads + Wait + Sync>(
         .told(alloc)
 }
 
+// Runs the case.
+fn run_once<R: Threads + Wait + Sync>(
+    stage: &Stage<'_, R>,
+    case: &Case,
+) -> Result<String, Memory> {
+    case.run(stage, Pieces::of(100_000))?
+        .told(stage.host.alloc())
+}
+
 // Runs the case, and prints what it is asked for.
-fn played<R: Threads + Wait + Sync>(
+fn played<R: Threads + Wait + Sync, P: Place>(
     stage: &Stage<'_, R>,
     case: &mut Case,
+    machine: &mut Machine<P>,
     play: Play,
     rest: &str,
 ) -> Result<String, Memory> {
-    let alloc = stage.host.alloc();
     match play {
         Play::Run => run_in_pieces(stage, case),
-        Play::Once => case.run(stage, Pieces::of(100_000))?.told(alloc),
+        Play::Once => run_once(stage, case),
         Play::Stops => run_with_stops(stage, case),
         Play::FailingReads => faults::each(stage, case, true),
         Play::FailingWrites => faults::each(stage, case, false),
@@ -123,17 +137,9 @@ fn played<R: Threads + Wait + Sync>(
         Play::Cells => stores::cells(stage, case),
         Play::Retire => stores::retire(stage, case, rest),
         Play::Next => stores::next(stage, case),
-        Play::Held => stores::held(alloc, case, rest),
-        Play::Sqlite => stores::compare(stage, case),
+        Play::Held => stores::held(stage.host.alloc(), case, rest),
+        Play::Sqlite => stores::compare(stage, case, &mut machine.place),
     }
-}
-
-// Adds so many blanks to the input.
-fn add_blanks(case: &mut Case, count: u64) -> Result<(), Memory> {
-    for _ in 0..count {
-        case.input.push(b' ')?;
-    }
-    Ok(())
 }
 
 // Changes the case. `words WORD ..` takes other words, `word TEXT` adds one more; `text TEXT` adds a text to the input that no LF
@@ -144,38 +150,36 @@ fn add_blanks(case: &mut Case, count: u64) -> Result<(), Memory> {
 fn make_change(alloc: Global, case: &mut Case, change: Change, rest: &str) -> Result<(), Memory> {
     let number = number_in(rest).unwrap_or(0);
     match change {
-        Change::Words => case.say(alloc, rest)?,
-        Change::Word => case.words.push(told(alloc, &[Text(rest)])?)?,
-        Change::Text => case.input.extend_from_slice(rest.as_bytes())?,
-        Change::Byte => case.input.push(number.min(255) as u8)?,
-        Change::Blanks => add_blanks(case, number)?,
-        Change::Twice => case.input = case.with_more(alloc, After::Push)?,
-        Change::Cell => case.put(alloc, rest)?,
-        Change::Remove => case.remove(alloc, rest)?,
-        Change::Generation => case.set_generation(alloc, rest)?,
-        Change::Open => case.opens.push(number)?,
-        Change::LoadFails => case.fails.push(Fails::Load(number))?,
-        Change::GenerationFails => case.fails.push(Fails::Generation(number))?,
-        Change::BeforeFails => case.fails.push(Fails::Before(number))?,
-        Change::AfterFails => case.fails.push(Fails::After(number))?,
+        Change::Words => case.say(alloc, rest),
+        Change::Word => case.add_word(alloc, rest),
+        Change::Text => case.add_bytes(rest.as_bytes()),
+        Change::Byte => case.add_bytes(&[number.min(255) as u8]),
+        Change::Blanks => case.add_blanks(number),
+        Change::Twice => case.push_twice(alloc),
+        Change::Cell => case.put(alloc, rest),
+        Change::Remove => case.remove(alloc, rest),
+        Change::Generation => case.set_generation(alloc, number),
+        Change::Open => case.fail_opening(number),
+        Change::LoadFails => case.fail(Fails::Load(number)),
+        Change::GenerationFails => case.fail(Fails::Generation(number)),
+        Change::BeforeFails => case.fail(Fails::Before(number)),
+        Change::AfterFails => case.fail(Fails::After(number)),
     }
-    Ok(())
 }
 
 /// What a command of a script prints, where it is one.
-pub fn answer<R: Threads + Wait + Sync>(
+pub fn answer<R: Threads + Wait + Sync, P: Place>(
     stage: &Stage<'_, R>,
     case: &mut Case,
+    machine: &mut Machine<P>,
     line: &str,
 ) -> Result<Option<String>, Memory> {
-    let alloc = stage.host.alloc();
     let (word, rest) = first_word(line);
-    if let Some(play) = named(&PLAYS, word) {
-        return Ok(Some(played(stage, case, play, rest)?));
-    }
-    match named(&CHANGES, word) {
-        Some(kind) => {
-            make_change(alloc, case, kind, rest)?;
+    match named(&COMMANDS, word) {
+        Some(Command::Plays(play)) => Ok(Some(played(stage, case, machine, play, rest)?)),
+        Some(Command::Changes(change)) => {
+            let alloc = stage.host.alloc();
+            make_change(alloc, case, change, rest)?;
             Ok(Some(String::new(alloc)))
         }
         None => Ok(None),

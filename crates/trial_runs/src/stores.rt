@@ -4,13 +4,12 @@ use crate::cells::store_text;
 use crate::running::{Finished, Pieces, run_alone};
 use rv_base::Memory;
 use rv_keeper::{Keeper, MemoryPlace, Place};
-use rv_place::HostPlace;
 use std::alloc::Global;
 use std::fs;
 use std::sync::Wait;
 use std::thread::Threads;
 use trial_stage::Part::{Number, Text};
-use trial_stage::{Stage, told, words_at_blanks};
+use trial_stage::{Stage, told, words_at};
 
 // The file that is compared with the store in memory.
 const FILE: &str = "beside-memory.db";
@@ -26,15 +25,32 @@ fn held_text(alloc: Global, place: &MemoryPlace, name: &str) -> Result<String, M
     }
 }
 
+// How a run of the case ended, and the place that it left.
+#[derive(Drop)]
+struct Left {
+    finished: Finished,
+    place: MemoryPlace,
+}
+
+// Runs the case with this input over a place of its own.
+fn run<R: Threads + Wait + Sync>(
+    stage: &Stage<'_, R>,
+    case: &Case,
+    input: &[u8],
+) -> Result<Left, Memory> {
+    let mut place = case.new_place(stage.host.alloc())?;
+    let pieces = Pieces::of(100_000);
+    let finished = run_alone(stage, &case.words, &mut place, input, pieces)?;
+    Ok(Left { finished, place })
+}
+
 /// `cells` runs the case, and prints the cells that its store then holds, each as `SHELF KEY BODY`, and the generation.
 pub fn cells<R: Threads + Wait + Sync>(
     stage: &Stage<'_, R>,
     case: &Case,
 ) -> Result<String, Memory> {
-    let alloc = stage.host.alloc();
-    let mut place = case.new_place(alloc)?;
-    let _finished = case.run_in(stage, &mut place, Pieces::of(100_000))?;
-    held_text(alloc, &place, case.name())
+    let left = run(stage, case, &case.input)?;
+    held_text(stage.host.alloc(), &left.place, case.name())
 }
 
 // The generation of a store of a place: the length of the book that it is kept for.
@@ -50,11 +66,12 @@ pub fn length<R: Threads + Wait + Sync>(
     stage: &Stage<'_, R>,
     case: &Case,
 ) -> Result<String, Memory> {
-    let alloc = stage.host.alloc();
-    let mut place = case.new_place(alloc)?;
-    let _finished = case.run_in(stage, &mut place, Pieces::of(100_000))?;
-    let length = generation(&place, case.name());
-    told(alloc, &[Text("length "), Number(length), Text("\n")])
+    let left = run(stage, case, &case.input)?;
+    let length = generation(&left.place, case.name());
+    told(
+        stage.host.alloc(),
+        &[Text("length "), Number(length), Text("\n")],
+    )
 }
 
 // Runs the case. From here on its store is what this left.
@@ -62,11 +79,9 @@ fn run_and_keep<R: Threads + Wait + Sync>(
     stage: &Stage<'_, R>,
     case: &mut Case,
 ) -> Result<Finished, Memory> {
-    let alloc = stage.host.alloc();
-    let mut place = case.new_place(alloc)?;
-    let finished = case.run_in(stage, &mut place, Pieces::of(100_000))?;
-    case.take(alloc, &place)?;
-    Ok(finished)
+    let left = run(stage, case, &case.input)?;
+    case.take(stage.host.alloc(), &left.place)?;
+    Ok(left.finished)
 }
 
 /// `keep` runs the case. From here on its store is what this left, and there is no input.
@@ -79,13 +94,8 @@ pub fn keep<R: Threads + Wait + Sync>(
     Ok(String::new(stage.host.alloc()))
 }
 
-/// `retire GROUP` retires a group of the case's store, which is what this left from here on.
-pub fn retire<R: Threads + Wait + Sync>(
-    stage: &Stage<'_, R>,
-    case: &mut Case,
-    group: &str,
-) -> Result<String, Memory> {
-    let alloc = stage.host.alloc();
+// The words are to retire a group.
+fn say_retirement(alloc: Global, case: &mut Case, group: &str) -> Result<(), Memory> {
     let words = told(
         alloc,
         &[
@@ -95,8 +105,29 @@ pub fn retire<R: Threads + Wait + Sync>(
             Text(group),
         ],
     )?;
-    case.say(alloc, words.as_str())?;
+    case.say(alloc, words.as_str())
+}
+
+/// `retire GROUP` retires a group of the case's store, which is what this left from here on.
+pub fn retire<R: Threads + Wait + Sync>(
+    stage: &Stage<'_, R>,
+    case: &mut Case,
+    group: &str,
+) -> Result<String, Memory> {
+    let alloc = stage.host.alloc();
+    say_retirement(alloc, case, group)?;
     run_and_keep(stage, case)?.told(alloc)
+}
+
+// Runs the case in pieces of 7 bytes over the place that stays.
+fn run_next<R: Threads + Wait + Sync>(
+    stage: &Stage<'_, R>,
+    case: &mut Case,
+) -> Result<Finished, Memory> {
+    let mut place = case.lasting_place(stage.host.alloc())?;
+    let finished = case.run_in(stage, &mut place, Pieces::of(7));
+    case.place = Some(place);
+    finished
 }
 
 /// `next` runs the case in pieces of 7 bytes over a place that stays as it is left until the case ends, prints what is written and
@@ -106,9 +137,7 @@ pub fn next<R: Threads + Wait + Sync>(
     case: &mut Case,
 ) -> Result<String, Memory> {
     let alloc = stage.host.alloc();
-    let mut place = case.lasting_place(alloc)?;
-    let finished = case.run_in(stage, &mut place, Pieces::of(7))?;
-    case.place = Some(place);
+    let finished = run_next(stage, case)?;
     case.input = Vec::new(alloc);
     finished.told(alloc)
 }
@@ -121,8 +150,29 @@ pub fn held(alloc: Global, case: &mut Case, name: &str) -> Result<String, Memory
     text
 }
 
-// What the store of a file holds.
-fn filed_text(alloc: Global, place: &mut HostPlace<'_>, name: &str) -> Result<String, Memory> {
+// How a run ended, and what the store then holds.
+#[derive(Drop)]
+struct Ended {
+    finished: Finished,
+    held: String,
+}
+
+// Runs the case over the store in memory with this input.
+fn in_memory<R: Threads + Wait + Sync>(
+    stage: &Stage<'_, R>,
+    case: &Case,
+    input: &[u8],
+) -> Result<Ended, Memory> {
+    let left = run(stage, case, input)?;
+    let held = held_text(stage.host.alloc(), &left.place, case.name())?;
+    Ok(Ended {
+        finished: left.finished,
+        held,
+    })
+}
+
+// What a store of the machine holds.
+fn filed_text<P: Place>(alloc: Global, place: &mut P, name: &str) -> Result<String, Memory> {
     let Ok(mut keeper) = place.open_existing(name) else {
         return told(alloc, &[Text("no store\n")]);
     };
@@ -134,50 +184,45 @@ fn filed_text(alloc: Global, place: &mut HostPlace<'_>, name: &str) -> Result<St
     }
 }
 
-// Runs the case over the store in memory with this input: how it ended, and what the store then holds.
-fn in_memory<R: Threads + Wait + Sync>(
-    stage: &Stage<'_, R>,
-    case: &Case,
-    input: &[u8],
-) -> Result<(Finished, String), Memory> {
-    let alloc = stage.host.alloc();
-    let mut place = case.new_place(alloc)?;
-    let finished = run_alone(stage, &case.words, &mut place, input, Pieces::of(100_000))?;
-    Ok((finished, held_text(alloc, &place, case.name())?))
-}
-
 // Runs it so over a file that is not there yet.
-fn in_file<R: Threads + Wait + Sync>(
+fn in_file<R: Threads + Wait + Sync, P: Place>(
     stage: &Stage<'_, R>,
+    place: &mut P,
     input: &[u8],
-) -> Result<(Finished, String), Memory> {
+) -> Result<Ended, Memory> {
     let alloc = stage.host.alloc();
     let _removed = fs::remove_file(stage.host, FILE);
-    let mut place = HostPlace::new(stage.host);
-    let words = words_at_blanks(alloc, "rv feed beside-memory.db")?;
-    let finished = run_alone(stage, &words, &mut place, input, Pieces::of(100_000))?;
-    Ok((finished, filed_text(alloc, &mut place, FILE)?))
+    let words = words_at(alloc, ' ', "rv feed beside-memory.db")?;
+    let finished = run_alone(stage, &words, place, input, Pieces::of(100_000))?;
+    let held = filed_text(alloc, place, FILE)?;
+    Ok(Ended { finished, held })
 }
 
-/// `sqlite` runs the case with a stop after each line, over the store in memory and over a SQLite file, and prints whether both wrote
-/// the same bytes with the same status, and hold the same cells at the same generation.
-pub fn compare<R: Threads + Wait + Sync>(
-    stage: &Stage<'_, R>,
-    case: &Case,
-) -> Result<String, Memory> {
-    let alloc = stage.host.alloc();
-    let input = case.with_more(alloc, After::Stop)?;
-    let (finished, held) = in_memory(stage, case, &input)?;
-    let (other, filed) = in_file(stage, &input)?;
-    let answers = if finished.is_as(&other) {
+// Whether both runs wrote the same with the same status, and hold the same.
+fn compared(alloc: Global, one: &Ended, other: &Ended) -> Result<String, Memory> {
+    let answers = if one.finished.is_as(&other.finished) {
         "the same answers, "
     } else {
         "other answers, "
     };
-    let cells = if held.as_str() == filed.as_str() {
+    let cells = if one.held.as_str() == other.held.as_str() {
         "the same cells\n"
     } else {
         "other cells\n"
     };
     told(alloc, &[Text(answers), Text(cells)])
+}
+
+/// `sqlite` runs the case with a stop after each line, over the store in memory and over a SQLite file, and prints whether both wrote
+/// the same bytes with the same status, and hold the same cells at the same generation.
+pub fn compare<R: Threads + Wait + Sync, P: Place>(
+    stage: &Stage<'_, R>,
+    case: &Case,
+    place: &mut P,
+) -> Result<String, Memory> {
+    let alloc = stage.host.alloc();
+    let input = case.with_more(alloc, After::Stop)?;
+    let one = in_memory(stage, case, &input)?;
+    let other = in_file(stage, place, &input)?;
+    compared(alloc, &one, &other)
 }

@@ -1,17 +1,17 @@
 // `serve` over listeners in memory, by workers side by side.
 use crate::crew::{Counts, TrialCrew};
+use crate::machine::Machine;
 use crate::nets::conn;
-use crate::running::{Pieces, run_over};
+use crate::running::run_line;
 use rv_base::Memory;
-use rv_crew::Crew;
+use rv_keeper::Place;
 use rv_net::{MemoryListen, MemoryNet};
-use rv_place::HostPlace;
 use std::alloc::Global;
 use std::sync::Wait;
 use std::sync::atomic::Ordering;
 use std::thread::Threads;
 use trial_stage::Part::{Number, Text};
-use trial_stage::{Stage, first_word, named, number_in, told, words_at_blanks};
+use trial_stage::{Stage, first_word, named, number_in, told};
 
 // The answer to a push that was taken.
 const GOOD: &str =
@@ -137,27 +137,29 @@ fn answers_in(net: &MemoryNet) -> (u64, u64) {
     (good, bad)
 }
 
-// Plays a plan.
-fn played<R: Threads + Wait + Sync, C: Crew>(
-    stage: &Stage<'_, R>,
-    crew: &mut C,
-    plan: Plan,
-) -> Result<String, Memory> {
-    let alloc = stage.host.alloc();
-    let line = told(
+// The words that serve a plan.
+fn words_of(alloc: Global, plan: Plan) -> Result<String, Memory> {
+    told(
         alloc,
         &[
             Text("rv serve memory --accounts accounts.toml --port 8080 --workers "),
             Number(plan.listeners),
             Text(" --connections 1"),
         ],
-    )?;
-    let words = words_at_blanks(alloc, line.as_str())?;
-    let mut place = HostPlace::new(stage.host);
+    )
+}
+
+// Plays a plan.
+fn played<R: Threads + Wait + Sync, P: Place>(
+    stage: &Stage<'_, R>,
+    machine: &mut Machine<P>,
+    crew: &mut TrialCrew<'_, R>,
+    plan: Plan,
+) -> Result<String, Memory> {
+    let alloc = stage.host.alloc();
+    let words = words_of(alloc, plan)?;
     let mut net = net_of(alloc, plan)?;
-    let pieces = Pieces::of(1000);
-    let finished = run_over(stage, &words, &mut place, b"", pieces, &mut net, crew)?;
-    let finished = finished.line(alloc)?;
+    let line = run_line(stage, words.as_str(), &mut machine.place, &mut net, crew)?;
     let (good, bad) = answers_in(&net);
     told(
         alloc,
@@ -166,24 +168,47 @@ fn played<R: Threads + Wait + Sync, C: Crew>(
             Text(" answers, "),
             Number(bad),
             Text(" connections with others, "),
-            Text(finished.as_str()),
+            Text(line.as_str()),
         ],
     )
 }
 
-// What the gates counted.
-fn counted(alloc: Global, counts: &Counts) -> Result<String, Memory> {
+// What was played, and what the gates counted where they held.
+fn counted(alloc: Global, played: &str, holds: bool, counts: &Counts) -> Result<String, Memory> {
+    if !holds {
+        return told(alloc, &[Text(played), Text("\n")]);
+    }
     let given_up = counts.given_up.load(Ordering::SeqCst);
     let misheard = counts.misheard.load(Ordering::SeqCst);
     told(
         alloc,
         &[
+            Text(played),
             Text(", gave up "),
             Number(given_up),
             Text(" times, misheard "),
             Number(misheard),
+            Text("\n"),
         ],
     )
+}
+
+// Plays a plan by a crew that has threads or none, and whose first worker's gate holds or does not.
+fn played_by<R: Threads + Wait + Sync, P: Place>(
+    stage: &Stage<'_, R>,
+    machine: &mut Machine<P>,
+    (has_threads, holds): (bool, bool),
+    plan: Plan,
+) -> Result<String, Memory> {
+    let counts = Counts::new();
+    let runtime = if has_threads {
+        Some(stage.threads)
+    } else {
+        None
+    };
+    let mut crew = TrialCrew::new(runtime, holds, &counts);
+    let text = played(stage, machine, &mut crew, plan)?;
+    counted(stage.host.alloc(), text.as_str(), holds, &counts)
 }
 
 /// What a line `CREW LISTENERS CONNECTIONS MUTATIONS WHOSE` prints. The crew is `threads` or `serial`; each connection sends so many
@@ -192,33 +217,14 @@ fn counted(alloc: Global, counts: &Counts) -> Result<String, Memory> {
 /// with its status. After `held-` the first worker's gate holds each request until the second worker has answered one, and gives up
 /// after 1,000,000 looks; printed is then also how often, and how often a gate heard what should not come then: a number that is
 /// neither 1 nor the next one, a request before the last one's end, or an end without one.
-pub fn answer<R: Threads + Wait + Sync>(
+pub fn answer<R: Threads + Wait + Sync, P: Place>(
     stage: &Stage<'_, R>,
+    machine: &mut Machine<P>,
     line: &str,
 ) -> Result<Option<String>, Memory> {
-    let alloc = stage.host.alloc();
     let (word, rest) = first_word(line);
-    let Some((has_threads, holds)) = named(&CREWS, word) else {
-        return Ok(None);
-    };
-    let counts = Counts::new();
-    let mut crew = TrialCrew {
-        runtime: if has_threads {
-            Some(stage.threads)
-        } else {
-            None
-        },
-        holds,
-        counts: &counts,
-    };
-    let text = played(stage, &mut crew, plan_of(rest))?;
-    let heard = if holds {
-        counted(alloc, &counts)?
-    } else {
-        String::new(alloc)
-    };
-    Ok(Some(told(
-        alloc,
-        &[Text(text.as_str()), Text(heard.as_str()), Text("\n")],
-    )?))
+    match named(&CREWS, word) {
+        Some(crew) => Ok(Some(played_by(stage, machine, crew, plan_of(rest))?)),
+        None => Ok(None),
+    }
 }

@@ -2,7 +2,7 @@ ghost use Rattle.std.specs.Prelude.{◌≡◌, ◌+◌, ◌*◌, ◌/◌, ◌%�
 
 /// Numbers that are drawn one after another, the same for each run of a seed: the upper 31 bits of a linear congruential generator of 64
 /// bits, with the multiplier and increment of Knuth's MMIX.
-#[derive(Clone, Copy, Debug)]
+#[derive(Clone, Copy)]
 pub struct Draws {
     state: u64,
 }

@@ -1,5 +1,5 @@
-//! What the trials stand on: how the commands of cases are read and played, texts and numbers in them, the runtime that a trial is
-//! given, and numbers that are drawn.
+//! What the trials stand on: how the lines of cases are read, played and answered, texts and numbers in them, the runtime that a trial
+//! is given, and numbers that are drawn.
 #![tactic(auto)]
 
 mod draws;
@@ -8,8 +8,6 @@ mod stage;
 mod texts;
 
 pub use draws::Draws;
-pub use player::{Line, kind_of, print_answer};
+pub use player::{Line, echoed, kind_of, print_answer, silent};
 pub use stage::Stage;
-pub use texts::{
-    Part, digits_of, first_word, joined, named, number_in, text_of, told, words_at_blanks, words_of,
-};
+pub use texts::{Part, first_word, named, number_in, tell, text_of, told, words_at};

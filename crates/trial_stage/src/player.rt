@@ -1,9 +1,13 @@
+// How the lines of cases are read and answered.
+use crate::texts::Part::Text;
+use crate::texts::told;
 use rv_base::Memory;
+use std::alloc::Global;
 use std::io;
 use std::io::ErrorKind;
 
 /// What a line of a trial's cases is.
-#[derive(Clone, Copy, Debug)]
+#[derive(Clone, Copy)]
 pub enum Line<'l> {
     /// `=== SUBJECT`: the cases of a subject begin.
     Subject(&'l str),
@@ -11,6 +15,8 @@ pub enum Line<'l> {
     Case,
     /// It begins with `#`, and is passed over.
     Note,
+    /// It begins with `{`, and is one of the input.
+    Input,
     /// A command.
     Command,
 }
@@ -26,7 +32,26 @@ pub fn kind_of(line: &str) -> Line<'_> {
     if line.starts_with('#') {
         return Line::Note;
     }
+    if line.starts_with('{') {
+        return Line::Input;
+    }
     Line::Command
+}
+
+/// What a line prints that begins a case, unless memory was refused: itself.
+pub fn echoed(
+    alloc: Global,
+    line: &str,
+    begun: Result<(), Memory>,
+) -> Result<Option<String>, Memory> {
+    begun?;
+    Ok(Some(told(alloc, &[Text(line), Text("\n")])?))
+}
+
+/// What a line prints that tells nothing, unless memory was refused.
+pub fn silent(alloc: Global, done: Result<(), Memory>) -> Result<Option<String>, Memory> {
+    done?;
+    Ok(Some(String::new(alloc)))
 }
 
 /// Prints what a line comes to: a text, each of its lines with LF at its end; or the line itself after `?? `, where it is none.

@@ -6,17 +6,8 @@ pub fn first_word(text: &str) -> (&str, &str) {
     text.split_once(' ').unwrap_or((text, ""))
 }
 
-/// These texts, one after the other.
-pub fn joined(alloc: Global, parts: &[&str]) -> Result<String, Memory> {
-    let mut text = String::new(alloc);
-    for part in parts {
-        text.push_str(part)?;
-    }
-    Ok(text)
-}
-
 /// A part of a text that is told.
-#[derive(Clone, Copy, Debug)]
+#[derive(Clone, Copy)]
 pub enum Part<'a> {
     /// This text.
     Text(&'a str),
@@ -33,31 +24,28 @@ fn add_part(alloc: Global, text: &mut String, part: Part<'_>) -> Result<(), Memo
     Ok(())
 }
 
+/// Adds these parts to a text, one after the other.
+pub fn tell(alloc: Global, text: &mut String, parts: &[Part<'_>]) -> Result<(), Memory> {
+    for part in parts {
+        add_part(alloc, text, *part)?;
+    }
+    Ok(())
+}
+
 /// These parts, one after the other.
 pub fn told(alloc: Global, parts: &[Part<'_>]) -> Result<String, Memory> {
     let mut text = String::new(alloc);
-    for part in parts {
-        add_part(alloc, &mut text, *part)?;
-    }
+    tell(alloc, &mut text, parts)?;
     Ok(text)
 }
 
-/// The words of a text that single blanks part; of an empty text none.
-pub fn words_at_blanks(alloc: Global, text: &str) -> Result<Vec<String>, Memory> {
+/// The words of a text that single marks part; of an empty text none.
+pub fn words_at(alloc: Global, mark: char, text: &str) -> Result<Vec<String>, Memory> {
     let mut words = Vec::new(alloc);
     if text.is_empty() {
         return Ok(words);
     }
-    for word in text.split(' ') {
-        words.push(String::from_str(alloc, word)?)?;
-    }
-    Ok(words)
-}
-
-/// The words of a text.
-pub fn words_of(alloc: Global, text: &str) -> Result<Vec<String>, Memory> {
-    let mut words = Vec::new(alloc);
-    for word in text.split_whitespace() {
+    for word in text.split(mark) {
         words.push(String::from_str(alloc, word)?)?;
     }
     Ok(words)
@@ -68,8 +56,8 @@ pub fn number_in(text: &str) -> Option<u64> {
     text.parse::<u64>().ok()
 }
 
-/// A number in decimal digits.
-pub fn digits_of(alloc: Global, number: u64) -> Result<String, Memory> {
+// A number in decimal digits.
+fn digits_of(alloc: Global, number: u64) -> Result<String, Memory> {
     Ok(format!(in alloc; "{number}")?)
 }
 

@@ -10,10 +10,20 @@ use rv_rows::{Call, Reason};
 use rv_wire::{Cookie, PullRequest};
 use std::alloc::Global;
 use std::sync::Wait;
-use trial_stage::number_in;
+use trial_stage::Part::{Number, Text};
+use trial_stage::{number_in, told};
 
 // A seat of the room that takes turns.
 type Player<'a, R> = SeatTurns<'a, R, Meddled>;
+
+// Who takes the turns, in which group and by which client.
+#[derive(Drop)]
+pub struct Names {
+    user: User,
+    client: Id,
+    // A pull of the group, without a cookie.
+    request: PullRequest,
+}
 
 // Of these texts none is refused but for want of memory.
 fn id(alloc: Global, text: &str) -> Result<Id, Memory> {
@@ -30,14 +40,34 @@ fn user(alloc: Global) -> Result<User, Memory> {
     }
 }
 
-// A mutation of the client c1 with this number.
-fn mutated<R: Wait>(alloc: Global, turns: &mut Player<'_, R>, number: u64) -> Result<String, Memory>
+impl Names {
+    /// The user ann, the group g1 and the client c1.
+    pub fn new(alloc: Global) -> Result<Names, Memory> {
+        let user = user(alloc)?;
+        let client = id(alloc, "c1")?;
+        let group = id(alloc, "g1")?;
+        let cookie = Cookie::Null;
+        Ok(Names {
+            user,
+            client,
+            request: PullRequest { group, cookie },
+        })
+    }
+}
+
+// A mutation with this number.
+fn mutated<R: Wait>(
+    alloc: Global,
+    turns: &mut Player<'_, R>,
+    names: &Names,
+    number: u64,
+) -> Result<String, Memory>
     ensures { turns.new.room.now ≡ turns.old.room.now }
 {
     let turn = turns.mutate(
-        &user(alloc)?,
-        &id(alloc, "g1")?,
-        &id(alloc, "c1")?,
+        &names.user,
+        &names.request.group,
+        &names.client,
         Num::from_u64(number % 1000),
         Call::Void(Reason::UnknownName),
     );
@@ -46,60 +76,81 @@ fn mutated<R: Wait>(alloc: Global, turns: &mut Player<'_, R>, number: u64) -> Re
 
 fn pull_told(alloc: Global, answer: &PullAnswer) -> Result<String, Memory> {
     match answer {
-        PullAnswer::Pulled(reply) => match &reply.cookie {
-            Cookie::Named { place_text, order } => {
-                Ok(format!(in alloc; "Pulled({}, {})", place_text.as_str(), order.get())?)
-            }
-            _ => Ok(String::from_str(alloc, "Pulled")?),
-        },
+        PullAnswer::Pulled(reply) => cookie_told(alloc, &reply.cookie),
         _ => Ok(format!(in alloc; "{answer:?}")?),
     }
 }
 
-fn pulled<R: Wait>(alloc: Global, turns: &mut Player<'_, R>) -> Result<String, Memory>
+fn cookie_told(alloc: Global, cookie: &Cookie) -> Result<String, Memory> {
+    match cookie {
+        Cookie::Named { place_text, order } => told(
+            alloc,
+            &[
+                Text("Pulled("),
+                Text(place_text.as_str()),
+                Text(", "),
+                Number(order.get()),
+                Text(")"),
+            ],
+        ),
+        _ => told(alloc, &[Text("Pulled")]),
+    }
+}
+
+fn pulled<R: Wait>(
+    alloc: Global,
+    turns: &mut Player<'_, R>,
+    names: &Names,
+) -> Result<String, Memory>
     ensures { turns.new.room.now ≡ turns.old.room.now }
 {
-    let request = PullRequest {
-        group: id(alloc, "g1")?,
-        cookie: Cookie::Null,
-    };
-    let answer = turns.pull(&user(alloc)?, &request);
+    let answer = turns.pull(&names.user, &names.request);
     pull_told(alloc, &answer)
 }
 
-fn retired<R: Wait>(alloc: Global, turns: &mut Player<'_, R>) -> Result<String, Memory>
+fn retired<R: Wait>(
+    alloc: Global,
+    turns: &mut Player<'_, R>,
+    names: &Names,
+) -> Result<String, Memory>
     ensures { turns.new.room.now ≡ turns.old.room.now }
 {
-    let answer = turns.retire(&id(alloc, "g1")?);
+    let answer = turns.retire(&names.request.group);
     Ok(format!(in alloc; "{answer:?}")?)
 }
 
 // The turn of a word, without its seat: the number of a mutation, `p` for a pull, or `r` for a retirement of the group.
-fn turned<R: Wait>(alloc: Global, turns: &mut Player<'_, R>, word: &str) -> Result<String, Memory>
+fn turned<R: Wait>(
+    alloc: Global,
+    turns: &mut Player<'_, R>,
+    names: &Names,
+    word: &str,
+) -> Result<String, Memory>
     ensures { turns.new.room.now ≡ turns.old.room.now }
 {
     if let Some(number) = number_in(word) {
-        return mutated(alloc, turns, number);
+        return mutated(alloc, turns, names, number);
     }
     if word == "p" {
-        return pulled(alloc, turns);
+        return pulled(alloc, turns, names);
     }
-    retired(alloc, turns)
+    retired(alloc, turns, names)
 }
 
 // The turn of a word, which begins with `a` for the first seat, and with `b` for the second.
-fn told<R: Wait>(
+fn turned_by<R: Wait>(
     alloc: Global,
     first: &mut Player<'_, R>,
     second: &mut Player<'_, R>,
+    names: &Names,
     word: &str,
 ) -> Result<String, Memory>
     ensures first { first.new.room.now ≡ first.old.room.now }
     ensures second { second.new.room.now ≡ second.old.room.now }
 {
     match word.strip_prefix('a') {
-        Some(word) => turned(alloc, first, word),
-        None => turned(alloc, second, word.strip_prefix('b').unwrap_or("")),
+        Some(word) => turned(alloc, first, names, word),
+        None => turned(alloc, second, names, word.strip_prefix('b').unwrap_or("")),
     }
 }
 
@@ -108,6 +159,7 @@ fn all_told<R: Wait>(
     alloc: Global,
     first: &mut Player<'_, R>,
     second: &mut Player<'_, R>,
+    names: &Names,
     words: &str,
 ) -> Result<String, Memory>
     ensures first { first.new.room.now ≡ first.old.room.now }
@@ -115,7 +167,7 @@ fn all_told<R: Wait>(
 {
     let mut text = String::new(alloc);
     for word in words.split(' ') {
-        let answer = told(alloc, first, second, word)?;
+        let answer = turned_by(alloc, first, second, names, word)?;
         text.push_str(answer.as_str())?;
         text.push_str("; ")?;
     }
@@ -128,6 +180,7 @@ pub fn taken<R: Wait>(
     alloc: Global,
     room: &Room<Meddled>,
     seats: Seats<Meddled>,
+    names: &Names,
     words: &str,
 ) -> (Result<String, Memory>, Seats<Meddled>)
     requires count { vec_len seats.list ≡ 2 }
@@ -144,7 +197,7 @@ pub fn taken<R: Wait>(
     };
     let mut first = SeatTurns::new(rt, room, first);
     let mut second = SeatTurns::new(rt, room, second);
-    let told = all_told(alloc, &mut first, &mut second, words);
+    let told = all_told(alloc, &mut first, &mut second, names, words);
     seats.give(first.into_seat());
     seats.give(second.into_seat());
     (told, seats)
