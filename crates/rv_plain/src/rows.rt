@@ -282,7 +282,12 @@ fn update_todo(
 }
 
 /// The rows after a call of the user.
-pub(crate) fn effect(alloc: Global, rows: Vec<Row>, user: &User, call: &Call) -> Result<Vec<Row>, Memory>
+pub(crate) fn effect(
+    alloc: Global,
+    rows: Vec<Row>,
+    user: &User,
+    call: &Call,
+) -> Result<Vec<Row>, Memory>
     ensures { IfOk result (λ new. new.items ≡ effect rows.items user.now call.now) }
 {
     match call {

@@ -29,7 +29,11 @@ fn add_list_call(
 ) -> Result<(), Memory> {
     let list = drawn(draws, 3);
     if draws.once_in(3) {
-        let call = [Text("\"deleteList\",\"args\":\"l"), Number(list), Text("\"")];
+        let call = [
+            Text("\"deleteList\",\"args\":\"l"),
+            Number(list),
+            Text("\""),
+        ];
         return tell(alloc, text, &call);
     }
     let call = [
@@ -46,7 +50,11 @@ fn add_share_call(alloc: Global, text: &mut String, draws: &mut Draws) -> Result
     let list = drawn(draws, 3);
     let share = drawn(draws, 4);
     if draws.once_in(3) {
-        let call = [Text("\"deleteShare\",\"args\":\"s"), Number(share), Text("\"")];
+        let call = [
+            Text("\"deleteShare\",\"args\":\"s"),
+            Number(share),
+            Text("\""),
+        ];
         return tell(alloc, text, &call);
     }
     let call = [
@@ -93,7 +101,11 @@ fn add_change(alloc: Global, text: &mut String, draws: &mut Draws) -> Result<(),
 fn add_todo_change(alloc: Global, text: &mut String, draws: &mut Draws) -> Result<(), Memory> {
     let todo = drawn(draws, 6);
     if draws.once_in(3) {
-        let call = [Text("\"deleteTodo\",\"args\":\"t"), Number(todo), Text("\"")];
+        let call = [
+            Text("\"deleteTodo\",\"args\":\"t"),
+            Number(todo),
+            Text("\""),
+        ];
         return tell(alloc, text, &call);
     }
     let call = [

@@ -3,9 +3,8 @@ use crate::calls::{self, USERS, name};
 use crate::numbers::four_numbers;
 use rv_base::Memory;
 use std::alloc::Global;
-use trial_stage::Draws;
 use trial_stage::Part::{Number, Text};
-use trial_stage::told;
+use trial_stage::{Draws, told};
 
 /// How many requests there are, and on how many connections.
 #[derive(Clone, Copy)]

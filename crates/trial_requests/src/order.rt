@@ -127,12 +127,6 @@ pub fn turns_of(
     let mut taken = taken_of(alloc, connections)?;
     let cells = store.shelves.cells(alloc)?;
     let mut turns = Vec::new(alloc);
-    take_all(
-        alloc,
-        &mut turns,
-        connections,
-        &mut taken,
-        cells.as_slice(),
-    )?;
+    take_all(alloc, &mut turns, connections, &mut taken, cells.as_slice())?;
     Ok(turns)
 }

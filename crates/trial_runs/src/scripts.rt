@@ -110,10 +110,7 @@ fn run_with_stops<R: Threads + Wait + Sync>(
 }
 
 // Runs the case.
-fn run_once<R: Threads + Wait + Sync>(
-    stage: &Stage<'_, R>,
-    case: &Case,
-) -> Result<String, Memory> {
+fn run_once<R: Threads + Wait + Sync>(stage: &Stage<'_, R>, case: &Case) -> Result<String, Memory> {
     case.run(stage, Pieces::of(100_000))?
         .told(stage.host.alloc())
 }
