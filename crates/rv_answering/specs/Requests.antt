@@ -11,7 +11,7 @@ use Rattle.rv_rows.specs.Members.{text_in}
 use Rattle.rv_wire.specs.Bodies.{push_in, pull_in, json_in}
 use Rattle.rv_wire.specs.declared.fault.WireFault.{WireFault}
 use Rattle.rv_wire.specs.declared.push.Push as pushes
-use Rattle.rv_wire.specs.declared.pull.PullRequest.{PullRequest}
+use Rattle.rv_turns.specs.declared.pull.PullRequest.{PullRequest}
 use Rattle.rv_answering.specs.declared.request.Request.{Request}
 use Rattle.rv_answering.specs.declared.request.Request.TheVariants.{Push, Pull, Retire}
 use Rattle.rv_answering.specs.declared.line.Line.{Line}
@@ -24,23 +24,23 @@ abbrev pub serves : List ℕ → Bool
 serves schema = list_any (λ served. bytes_eq served schema) ([] ∷ codes "1" ∷ [])
 
 -- What a line of the form asks: a request, or the first thing that is wrong with its body.
-abbrev pub Asked : Type 0
-Asked = Result Request WireFault
+abbrev pub Parsed : Type 0
+Parsed = Result Request WireFault
 
 -- the verb that a member's name spells
 abbrev pub verb_of : List ℕ → Option Verb
 verb_of name = if bytes_eq name (codes "push") then Some verbs.Push else (if bytes_eq name (codes "pull") then Some verbs.Pull else None)
 
-abbrev pub push_asked : List ℕ → Result pushes.Push WireFault → Asked
+abbrev pub push_asked : List ℕ → Result pushes.Push WireFault → Parsed
 push_asked user (Ok push) = Ok (Push user push)
 push_asked user (Err fault) = Err fault
 
-abbrev pub pull_asked : List ℕ → Result PullRequest WireFault → Asked
+abbrev pub pull_asked : List ℕ → Result PullRequest WireFault → Parsed
 pull_asked user (Ok pull) = Ok (Pull user pull)
 pull_asked user (Err fault) = Err fault
 
 -- the request of a user's body
-abbrev pub body_asks : Verb → List ℕ → Data → Asked
+abbrev pub body_asks : Verb → List ℕ → Data → Parsed
 body_asks verbs.Push user body = push_asked user (push_in serves body)
 body_asks verbs.Pull user body = pull_asked user (pull_in serves body)
 
@@ -59,11 +59,11 @@ abbrev pub only : Bool → Option (Unit {0})
 only test = if test then Some tt else None
 
 -- {"retire":G}
-abbrev pub retire_asked : List ℕ → Data → Option Asked
+abbrev pub retire_asked : List ℕ → Data → Option Parsed
 retire_asked name value = if bytes_eq name (codes "retire") then option_map (λ group. Ok (Retire group)) (text_in 1 128 value) else None
 
 -- {"user":U,"push":V} or {"user":U,"pull":V}
-unfoldable pub body_asked : Members → Option Asked
+unfoldable pub body_asked : Members → Option Parsed
 body_asked members = do
   two ← two_members members
   verb ← verb_of two.0.0

@@ -1,4 +1,4 @@
-use rv_history::PullReply;
+use rv_turns::{Outcome, PullReply};
 use rv_wire::ErrorBody;
 
 /// What a request is answered.
@@ -16,7 +16,21 @@ pub enum Answer {
 
 impl Answer {
     ghost use Rattle.std.specs.Prelude.{◌≡◌};
+    ghost use Rattle.rv_answering.specs.Steps.{answer_of};
     ghost use Rattle.rv_answering.specs.Texts.{answer_status};
+
+    /// What an outcome is answered as.
+    pub fn of_outcome(outcome: Outcome) -> Answer
+        ensures { result ≡ answer_of outcome }
+    {
+        match outcome {
+            Outcome::Acted(_) => Answer::Pushed,
+            Outcome::Skipped(_) => Answer::Pushed,
+            Outcome::Pulled(reply) => Answer::Pulled(reply),
+            Outcome::Retired(place) => Answer::Retired(place),
+            Outcome::Refused(refusal) => Answer::Refused(ErrorBody::Refused(refusal)),
+        }
+    }
 
     /// The status that it is told with.
     pub fn status(&self) -> u16

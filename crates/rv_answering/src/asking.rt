@@ -15,7 +15,7 @@ use std::alloc::Global;
 use std::collections::BTreeMap;
 
 /// What a line of the form asks: a request, or the first thing that is wrong with its body.
-pub type Asked = Result<Request, WireFault>;
+pub type Parsed = Result<Request, WireFault>;
 
 // What the user of a line does.
 #[derive(Clone, Copy, Debug, PartialEq, Eq)]
@@ -37,7 +37,7 @@ fn verb_of(name: &str) -> Option<Verb>
 }
 
 // The request of a user's body.
-fn body_asks(alloc: Global, verb: Verb, user: User, body: &Value) -> Asked
+fn body_asks(alloc: Global, verb: Verb, user: User, body: &Value) -> Parsed
     ensures { IsReading (body_asks verb user (view body.now)) result }
 {
     match verb {
@@ -67,7 +67,7 @@ fn two_members(members: &BTreeMap<String, Value>) -> Option<(&str, &Value, &str,
 
 // A push or a pull, where the members are those of one up to its body.
 #[tactic(auto, unfolding(crate::specs::Requests::body_asked))]
-fn body_asked(alloc: Global, members: &BTreeMap<String, Value>) -> Result<Option<Asked>, Memory>
+fn body_asked(alloc: Global, members: &BTreeMap<String, Value>) -> Result<Option<Parsed>, Memory>
     ensures { IfOk result (λ read. AreReadings (body_asked (members_view members.now.entries)) read) }
 {
     let Some((name, body, second, user)) = two_members(members) else {
@@ -86,7 +86,7 @@ fn body_asked(alloc: Global, members: &BTreeMap<String, Value>) -> Result<Option
 }
 
 // A retirement, where this is the one member of one.
-fn retire_asked(alloc: Global, name: &str, group: &Value) -> Result<Option<Asked>, Memory>
+fn retire_asked(alloc: Global, name: &str, group: &Value) -> Result<Option<Parsed>, Memory>
     ensures { IfOk result (λ read. AreReadings (retire_asked name.now (view group.now)) read) }
 {
     if name != "retire" {

@@ -2,7 +2,7 @@
 //! the same calls.
 //!
 //! A [`Line`] asks a [`Request`], or the first thing that is wrong with its body; or it is a stop. Turns are taken by anything that
-//! implements [`rv_history::Turns`].
+//! implements [`rv_turns::Turns`].
 #![tactic(auto)]
 
 mod answer;
@@ -14,7 +14,7 @@ mod schemas;
 
 pub use answer::{Answer, Answered};
 pub use answering::{retire_group, run_pull, run_push, serve_asked, serve_request};
-pub use asking::{Asked, line_of};
+pub use asking::{Parsed, line_of};
 pub use line::Line;
 pub use request::Request;
 pub use schemas::FeedSchemas;

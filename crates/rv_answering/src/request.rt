@@ -1,5 +1,6 @@
 use rv_base::{Id, User};
-use rv_wire::{PullRequest, Push};
+use rv_turns::PullRequest;
+use rv_wire::Push;
 
 /// What a line asks.
 #[derive(Debug, Drop)]

@@ -1,26 +1,29 @@
 -- Runs keep the law, each pull is shown, and each trouble has its cause.
-use Rattle.std.proofs.Common.{◌≡◌, ℕ, List, [], ◌∷◌, ◌++◌, ◌≤◌, ◌-◌, ◌^◌, length, Bool, true, false, Option, Some, None, Result, Ok, Err, refl, sym, ap, ◌∙◌, subst, append_assoc, append-nil, inl, inr, arith}
-use Rattle.rv_wire.specs.declared.error_body.ErrorBody.{ErrorBody}
+use Rattle.std.proofs.Common.{◌≡◌, ℕ, List, [], ◌∷◌, ◌++◌, ◌≤◌, ◌-◌, ◌^◌, length, Bool, true, false, Option, Some, None, Ok, Err, refl, sym, ap, ◌∙◌, subst, append_assoc, append-nil, inl, inr, arith}
 use Rattle.rv_book.specs.declared.entry.Entry.{Entry}
 use Rattle.rv_book.specs.declared.entry.Entry.TheVariants.{Look}
 use Rattle.rv_book.specs.Book.{Book}
-use Rattle.rv_wire.specs.declared.pull.PullRequest.{PullRequest}
 use Rattle.rv_history.specs.Bases.{base_of}
-use Rattle.rv_history.specs.declared.pull_reply.PullReply.{PullReply}
-use Rattle.rv_history.specs.declared.pull_answer.PullAnswer.{PullAnswer}
-use Rattle.rv_history.specs.declared.pull_answer.PullAnswer.TheVariants as pulls
-use Rattle.rv_history.specs.Machine.{Replies, next_order, pull_outcome, retire_outcome}
-use Rattle.rv_history.specs.Served.{Served, Settles, ServedMutates, ServedPulls, ServedRetires, IsSound, KeepsLaw}
-use Rattle.rv_history.specs.Laws.{IdsCountUp, OrdersRise, PushesKeepLaw, PullsKeepLaw, RetirementsKeepLaw, PullsShow}
+use Rattle.rv_history.specs.Machine.{Replies, Step, next_order}
+use Rattle.rv_history.specs.Served.{Served, Settles, IsSound, KeepsLaw, TakesTurn}
+use Rattle.rv_history.specs.TurnLaws.{step_of}
+use Rattle.rv_history.specs.Laws.{IdsCountUp, OrdersRise, PushesKeepLaw, TurnsKeepLaw, PullsShow}
 use Rattle.rv_answering.specs.declared.answer.Answer.{Answer}
 use Rattle.rv_answering.specs.declared.answer.Answer.TheVariants.{Pulled}
 use Rattle.rv_answering.specs.declared.request.Request.{Request}
 use Rattle.rv_answering.specs.declared.request.Request.TheVariants.{Push, Pull, Retire}
 use Rattle.rv_answering.specs.declared.line.Line.{Line}
 use Rattle.rv_answering.specs.declared.line.Line.TheVariants.{Asks, Stop}
-use Rattle.rv_answering.specs.Requests.{Asked}
-use Rattle.rv_answering.specs.Steps.{Answers, push_answer, pull_answer, retire_answer}
-use Rattle.rv_cli.specs.Headline.{Step, Reopens, Takes, Run, ShowsAt, IsLawfulRun, IsShown}
+use Rattle.rv_answering.specs.Requests.{Parsed}
+use Rattle.rv_answering.specs.AnswerLaws.{no_push, same_reply}
+use Rattle.rv_answering.specs.Steps.{Answers, answer_of}
+use Rattle.rv_cli.specs.Headline.{Handles, Reopens, Takes, Run, ShowsAt, IsLawfulRun, IsShown}
+use Rattle.rv_wire.specs.Answers.{pull_json}
+use Rattle.rv_turns.specs.declared.pull.PullRequest.{PullRequest}
+use Rattle.rv_turns.specs.declared.pull.PullReply.{PullReply}
+use Rattle.rv_turns.specs.Asks.{Ask}
+use Rattle.rv_turns.specs.declared.outcome.Outcome.{Outcome}
+use Rattle.rv_turns.specs.declared.outcome.Outcome.TheVariants as outcomes
 
 law_same : (old new : Served) → new ≡ old → IsSound old → KeepsLaw old new
 law_same old new same sound = subst (λ (s : Served). KeepsLaw old s) (sym same) (record { sound = sound; more = ([], sym (append-nil old.book)); limit = refl; later = omega arith })
@@ -58,13 +61,13 @@ settles_go book settled (Some entry) (inr is) = (entry ∷ [], is)
 kept_reopened : (Told : Type 0) (old new : Served) → Reopens Told old new → Kept Told old new
 kept_reopened Told old new r = record { sound = r.sound; more = λ told. settles_go old.book new.book old.doubt (r.settled told); later = let n = r.faults in omega (arith, n); limit = λ is. r.limit }
 
-module _ (pushes : PushesKeepLaw) (pulled : PullsKeepLaw) (retired : RetirementsKeepLaw) where
-  answers_keep : (old new : Served) (request : Request) (answer : Answer) (acted : Bool) → Answers ServedMutates ServedPulls ServedRetires old request answer acted new → IsSound old → KeepsLaw old new
+module _ (pushes : PushesKeepLaw pull_json) (turns : TurnsKeepLaw pull_json) where
+  answers_keep : (old new : Served) (request : Request) (answer : Answer) (acted : Bool) → Answers (TakesTurn pull_json) old request answer acted new → IsSound old → KeepsLaw old new
   answers_keep old new (Push user push) answer acted (refused, h, is) sound = pushes (record { user = user; group = push.group }) push.mutations old new refused acted h sound
-  answers_keep old new (Pull user pull) answer acted (outcome, h, is, none) sound = pulled user pull old new outcome h sound
-  answers_keep old new (Retire group) answer acted (outcome, h, is, none) sound = retired group old new outcome h sound
+  answers_keep old new (Pull user pull) answer acted (outcome, h, is, none) sound = turns (Ask.pull user pull) old new outcome h sound
+  answers_keep old new (Retire group) answer acted (outcome, h, is, none) sound = turns (Ask.retirement group) old new outcome h sound
 
-  step_keeps : (old new : Served) (asked : Asked) (answer : Answer) → Step old asked answer new → IsSound old → KeepsLaw old new
+  step_keeps : (old new : Served) (asked : Parsed) (answer : Answer) → Handles old asked answer new → IsSound old → KeepsLaw old new
   step_keeps old new (Ok (Push user push)) answer (acted, inl wants) sound = law_same old new wants.2 sound
   step_keeps old new (Ok (Push user push)) answer (acted, inr h) sound = answers_keep old new (Push user push) answer acted h sound
   step_keeps old new (Ok (Pull user pull)) answer (acted, inl wants) sound = law_same old new wants.2 sound
@@ -91,65 +94,51 @@ module _ (pushes : PushesKeepLaw) (pulled : PullsKeepLaw) (retired : Retirements
       let kept = run_keeps Told first now lines answers run sound in
       record { sound = kept.sound; more = kept.more; ids = λ client. ids now.book client kept.sound.lawful; orders = λ group. orders now.book group kept.sound.lawful; later = kept.later; limit = kept.limit }
 
--- no push and no retirement is answered by a reply
-pub no_push : (reply : PullReply) (refused : Option ErrorBody) → Pulled reply ≡ push_answer refused → ⊥
-no_push reply None e = cc
-no_push reply (Some refusal) e = cc
-
-pub no_retirement : (reply : PullReply) (outcome : Result ℕ ErrorBody) → Pulled reply ≡ retire_answer outcome → ⊥
-no_retirement reply (Ok place) e = cc
-no_retirement reply (Err refusal) e = cc
-
--- the reply is the machine's
-pub same_reply : (reply : PullReply) (outcome : PullAnswer) → Pulled reply ≡ pull_answer (pull_outcome outcome) → outcome ≡ pulls.Pulled reply
-same_reply reply (pulls.Pulled other) e = let same : other ≡ reply = cc in ap (λ (r : PullReply). pulls.Pulled r) same
-same_reply reply pulls.GroupOfOther e = absurd (cc)
-same_reply reply pulls.NotFound e = absurd (cc)
-same_reply reply (pulls.Limit what at) e = absurd (cc)
-same_reply reply pulls.Keeper e = absurd (cc)
-same_reply reply (pulls.Changed kept found) e = absurd (cc)
-same_reply reply pulls.Memory e = absurd (cc)
+-- no retirement is answered by a reply
+pub no_retirement : (old new : Served) (group : List ℕ) (reply : PullReply) (outcome : Outcome) → Pulled reply ≡ answer_of outcome → TakesTurn pull_json old (Ask.retirement group) outcome new → ⊥
+no_retirement old new group reply outcome is taken =
+    let here : TakesTurn pull_json old (Ask.retirement group) (outcomes.Pulled reply) new = subst (λ (o : Outcome). TakesTurn pull_json old (Ask.retirement group) o new) (same_reply reply outcome is) taken in
+    step_of pull_json (Ask.retirement group) (outcomes.Pulled reply) old new here refl
 
 -- the pull was answered at the settled book
-record AnswersPull (point new : Served) (asked : Asked) (reply : PullReply) : Type 0 where
+record AnswersPull (point new : Served) (asked : Parsed) (reply : PullReply) : Type 0 where
   pub settled : Book
   pub settles : Settles point.book point.doubt settled
   pub shows : ShowsAt asked reply settled new.book
   pub here : (more : Book) × (new.book ≡ settled ++ more)
 
-pulled_at : PullsShow → (point new : Served) (user : List ℕ) (pull : PullRequest) (reply : PullReply) (outcome : PullAnswer) → outcome ≡ pulls.Pulled reply → ServedPulls point user pull outcome new → AnswersPull point new (Ok (Pull user pull)) reply
-pulled_at show point new user pull reply outcome same taken =
-    let here : ServedPulls point user pull (pulls.Pulled reply) new = subst (λ (o : PullAnswer). ServedPulls point user pull o new) same taken in
-    let (settled, settles, step, none, still) = here.turn in
-    record {
-      settled = settled;
-      settles = settles;
-      shows = record { user = user; request = pull; asks = refl; tells = show point.limit user pull settled new.book reply step };
-      here = replied point.limit user pull settled new.book reply.same reply step.1;
-    }
-  where
-    replied : (limit : ℕ) (user : List ℕ) (request : PullRequest) (book new : Book) (same : Bool) (reply : PullReply) → Replies limit user request book same reply new → (more : Book) × (new ≡ book ++ more)
-    replied limit user request book new true reply (none, is, same) = ([], same ∙ sym (append-nil book))
-    replied limit user request book new false reply (some, fits, room, is, more) = (Look user request.group (next_order request book) (base_of user request.cookie book) ∷ [], more)
+replied : (limit : ℕ) (user : List ℕ) (request : PullRequest) (book new : Book) (same : Bool) (reply : PullReply) → Replies pull_json limit book user request same reply new → (more : Book) × (new ≡ book ++ more)
+replied limit user request book new true reply (none, is, same) = ([], same ∙ sym (append-nil book))
+replied limit user request book new false reply (some, fits, room, is, more) = (Look user request.group (next_order request book) (base_of user request.cookie book) ∷ [], more)
 
-shown_at : PullsShow → (point new : Served) (asked : Asked) (reply : PullReply) → Step point asked (Pulled reply) new → AnswersPull point new asked reply
+-- what a reply shows, and how the book goes on
+pub pulled_shown : PullsShow pull_json → (limit : ℕ) (user : List ℕ) (pull : PullRequest) (reply : PullReply) (book new : Book) → Step pull_json limit book (Ask.pull user pull) (outcomes.Pulled reply) new → ShowsAt (Ok (Pull user pull)) reply book new × ((more : Book) × (new ≡ book ++ more))
+pulled_shown show limit user pull reply book new step = (record { user = user; request = pull; asks = refl; tells = show limit user pull book new reply step }, replied limit user pull book new reply.same reply step.1)
+
+pulled_at : PullsShow pull_json → (point new : Served) (user : List ℕ) (pull : PullRequest) (reply : PullReply) (outcome : Outcome) → outcome ≡ outcomes.Pulled reply → TakesTurn pull_json point (Ask.pull user pull) outcome new → AnswersPull point new (Ok (Pull user pull)) reply
+pulled_at show point new user pull reply outcome same taken =
+    let here : TakesTurn pull_json point (Ask.pull user pull) (outcomes.Pulled reply) new = subst (λ (o : Outcome). TakesTurn pull_json point (Ask.pull user pull) o new) same taken in
+    let (shows, goes) = pulled_shown show point.limit user pull reply here.settled new.book (step_of pull_json (Ask.pull user pull) (outcomes.Pulled reply) point new here refl) in
+    record { settled = here.settled; settles = here.settles; shows = shows; here = goes }
+
+shown_at : PullsShow pull_json → (point new : Served) (asked : Parsed) (reply : PullReply) → Handles point asked (Pulled reply) new → AnswersPull point new asked reply
 shown_at show point new (Ok (Push user push)) reply (acted, inl wants) = absurd (let no = wants.0 in cc)
 shown_at show point new (Ok (Push user push)) reply (acted, inr (refused, h, is)) = absurd (no_push reply refused is)
 shown_at show point new (Ok (Pull user pull)) reply (acted, inl wants) = absurd (let no = wants.0 in cc)
 shown_at show point new (Ok (Pull user pull)) reply (acted, inr (outcome, h, is, none)) = pulled_at show point new user pull reply outcome (same_reply reply outcome is) h
-shown_at show point new (Ok (Retire group)) reply (acted, (outcome, h, is, none)) = absurd (no_retirement reply (retire_outcome outcome) is)
+shown_at show point new (Ok (Retire group)) reply (acted, (outcome, h, is, none)) = absurd (no_retirement point new group reply outcome is h)
 shown_at show point new (Err fault) reply (acted, inl wants) = absurd (let no = wants.0 in cc)
 shown_at show point new (Err fault) reply (acted, inr told) = absurd (let no = told.0 in cc)
 
-pub pulls_are_shown : PushesKeepLaw → PullsKeepLaw → RetirementsKeepLaw → PullsShow → (Told : Type 0) (first now : Served) (before after : List Line) (answered answers : List (Option Answer)) (asked : Asked) (reply : PullReply) → IsSound first → length before ≡ length answered
+pub pulls_are_shown : PushesKeepLaw pull_json → TurnsKeepLaw pull_json → PullsShow pull_json → (Told : Type 0) (first now : Served) (before after : List Line) (answered answers : List (Option Answer)) (asked : Parsed) (reply : PullReply) → IsSound first → length before ≡ length answered
     → Run Told first (before ++ Asks asked ∷ after) (answered ++ Some (Pulled reply) ∷ answers) now → IsShown Told first now before answered asked reply
-pulls_are_shown pushes pulled retired show Told first now [] after [] answers asked reply sound same (mid, taken, rest) =
-    let law = step_keeps pushes pulled retired first mid asked (Pulled reply) taken.step sound in
+pulls_are_shown pushes turns show Told first now [] after [] answers asked reply sound same (mid, taken, rest) =
+    let law = step_keeps pushes turns first mid asked (Pulled reply) taken.step sound in
     let at = shown_at show first mid asked reply taken.step in
-    record { point = first; new = mid; settled = at.settled; run = refl; step = taken.step; settles = at.settles; shows = at.shows; here = at.here; on = (run_keeps pushes pulled retired Told mid now after answers rest law.sound).more }
-pulls_are_shown pushes pulled retired show Told first now [] after (x ∷ answered) answers asked reply sound same run = absurd (omega (arith, same))
-pulls_are_shown pushes pulled retired show Told first now (a ∷ before) after [] answers asked reply sound same run = absurd (omega (arith, same))
-pulls_are_shown pushes pulled retired show Told first now (a ∷ before) after (x ∷ answered) answers asked reply sound same (mid, step, rest) =
-    let kept = takes_keep pushes pulled retired Told first mid a x step sound in
-    let shown = pulls_are_shown pushes pulled retired show Told mid now before after answered answers asked reply kept.sound (omega (arith, same)) rest in
+    record { point = first; new = mid; settled = at.settled; run = refl; step = taken.step; settles = at.settles; shows = at.shows; here = at.here; on = (run_keeps pushes turns Told mid now after answers rest law.sound).more }
+pulls_are_shown pushes turns show Told first now [] after (x ∷ answered) answers asked reply sound same run = absurd (omega (arith, same))
+pulls_are_shown pushes turns show Told first now (a ∷ before) after [] answers asked reply sound same run = absurd (omega (arith, same))
+pulls_are_shown pushes turns show Told first now (a ∷ before) after (x ∷ answered) answers asked reply sound same (mid, step, rest) =
+    let kept = takes_keep pushes turns Told first mid a x step sound in
+    let shown = pulls_are_shown pushes turns show Told mid now before after answered answers asked reply kept.sound (omega (arith, same)) rest in
     record { point = shown.point; new = shown.new; settled = shown.settled; run = (mid, step, shown.run); step = shown.step; settles = shown.settles; shows = shown.shows; here = shown.here; on = shown.on }

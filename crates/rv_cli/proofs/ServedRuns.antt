@@ -4,36 +4,39 @@ use Rattle.std.specs.List.{AllByRecursion, flat_map}
 use Rattle.rv_base.specs.Causes.{Rose}
 use Rattle.rv_base.specs.Outside.{InputState, OutputState}
 use Rattle.rv_accounts.specs.File.{Served as AccountsServed}
-use Rattle.rv_wire.specs.declared.pull.PullRequest.{PullRequest}
 use Rattle.rv_book.specs.Book.{Book}
-use Rattle.rv_history.specs.declared.trouble.Trouble.{Trouble}
-use Rattle.rv_history.specs.declared.trouble.Trouble.TheVariants.{Failed, Changed}
-use Rattle.rv_history.specs.declared.pull_reply.PullReply.{PullReply}
-use Rattle.rv_history.specs.declared.pull_answer.PullAnswer.{PullAnswer}
-use Rattle.rv_history.specs.declared.pull_answer.PullAnswer.TheVariants as pulls
+use Rattle.rv_history.specs.TurnLaws.{step_of, turn_goes}
 use Rattle.rv_history.specs.Laws.{IdsCountUp, OrdersRise, PullsShow}
-use Rattle.rv_history.specs.Served.{IsChanged}
 use Rattle.std.specs.Option.{option_map_or}
 use Rattle.rv_keeper.specs.declared.keeper.Keeper.{Ghosts}
-use Rattle.rv_desk.specs.Seated.{Seated}
+use Rattle.rv_desk.specs.Seated.{Seated, served}
 use Rattle.rv_answering.specs.declared.answer.Answer.{Answer}
 use Rattle.rv_answering.specs.declared.answer.Answer.TheVariants.{Pulled, Pushed, Retired, Refused}
 use Rattle.rv_answering.specs.declared.request.Request.TheVariants.{Push, Pull, Retire}
-use Rattle.rv_answering.specs.Requests.{Asked}
-use Rattle.rv_answering.specs.Steps.{Step}
+use Rattle.rv_answering.specs.Requests.{Parsed}
+use Rattle.rv_answering.specs.Steps.{Handles}
 use Rattle.rv_net.specs.declared.conn.Conn.{Conn}
 use Rattle.rv_room.specs.declared.view.SeatView.{SeatView}
 use Rattle.rv_room.specs.Following.{FollowsAll, KeeperFollows}
 use Rattle.rv_room.specs.Lists.{StartsWith}
-use Rattle.rv_room.specs.SeatTurns.{IsSeatTurn, SeatMutates, SeatPulls, SeatRetires, TurnAs, last_book, settled_book}
 use Rattle.rv_room.specs.Views.{newcomer}
 use Rattle.rv_serve.specs.Laws.{RunsTurns, turns_of}
 use Rattle.rv_serve.specs.RunLaws.{conns_run}
 use Rattle.rv_workers.specs.Serving.{EachServes}
 use Rattle.rv_cli.specs.Headline.{TellsChange, TellsTrouble}
 use Rattle.rv_cli.specs.Serving.{IsShownIn, ServedBooksAreLawful, ServedKeepersStay, ServedPullsAreShown, ServedTroublesHaveCauses, Serves, ShowsIn, StandsIn, TurnsStand, turns_served}
-use Rattle.rv_cli.proofs.LawfulRuns.{no_push, no_retirement, same_reply}
-use Rattle.rv_cli.proofs.Troubled.{HasTrouble, any_step_causes, turns_each, turns_later}
+use Rattle.rv_answering.specs.AnswerLaws.{no_push, same_reply}
+use Rattle.rv_cli.proofs.LawfulRuns.{no_retirement, pulled_shown}
+use Rattle.rv_cli.proofs.Troubled.{HasTrouble, any_step_causes, taken_rises, turns_each, turns_later}
+use Rattle.rv_wire.specs.Answers.{pull_json}
+use Rattle.rv_turns.specs.Asks.{Ask}
+use Rattle.rv_turns.specs.Outcomes.{IsChanged, trouble_of}
+use Rattle.rv_turns.specs.declared.outcome.Outcome.{Outcome}
+use Rattle.rv_turns.specs.declared.outcome.Outcome.TheVariants as outcomes
+use Rattle.rv_turns.specs.declared.refusal.Trouble.{Trouble}
+use Rattle.rv_turns.specs.declared.pull.PullRequest.{PullRequest}
+use Rattle.rv_turns.specs.declared.pull.PullReply.{PullReply}
+use Rattle.rv_room.specs.SeatTurns.{IsSeatTurn}
 
 -- ---- Fronts of lists.
 
@@ -101,90 +104,84 @@ module _ {K : Type 0} (G : Ghosts K) where
   stirs_before : (s t u : SeatView K) → SeatGoes s t → Stirs t u → Stirs s u
   stirs_before s t u goes stirs opened at calm = stirs opened (goes.opened ∙ at) calm
 
-module _ {K A : Type 0} (G : Ghosts K) (trouble : A → Option Trouble) (Steps : ℕ → Book → A → Book → Type 0) (old : SeatView K) (answer : A) (new : SeatView K) (turn : IsSeatTurn G trouble Steps old answer new) where
-  turn_goes : SeatGoes old new
-  turn_goes =
-      let p = turn.turn in
-      let grown : StartsWith new.seen p.history = (p.came ++ p.made, turn.seen ∙ append_assoc p.history p.came p.made) in
-      record { seen = starts_on new.seen p.history old.seen grown turn.begins; after = (turn.now ∷ [], turn.after); opened = turn.stays }
+-- no count rises that is quiet
+none_rises : (top before now : ℕ) → Rose before now → top ≤ before → now ≤ top → top < 2 ^ 64 - 1 → ⊥
+none_rises top before now rose begun le below = omega (arith, rose, begun, le, below)
+
+module _ {K : Type 0} (G : Ghosts K) (ask : Ask) (old new : SeatView K) (outcome : Outcome) (turn : IsSeatTurn G old ask outcome new) where
+  seat_goes : SeatGoes old new
+  seat_goes =
+      let (more, is) = turn_goes pull_json ask outcome (served G.faults turn.desk) (served G.faults turn.now) turn.takes.turn in
+      record { seen = starts_on new.seen turn.desk.book old.seen (more, turn.seen ∙ is) turn.begins; after = (turn.now.keeper ∷ [], turn.after); opened = turn.stays }
 
   -- where it tells a trouble, the keeper's count rose
-  turn_rises : HasTrouble (λ trouble. Unit {0}) (trouble answer) → Stirs G old new
-  turn_rises (tr, is, any) opened at (inl (quiet, below)) =
+  seat_rises : HasTrouble (λ trouble. Unit {0}) (trouble_of outcome) → Stirs G old new
+  seat_rises has opened at (inl (quiet, below)) =
       let same : turn.opened ≡ opened = some_desk turn.opened opened (sym turn.room ∙ at) in
       let top : ℕ = G.faults opened.keeper in
-      let now : G.faults turn.now ≤ top = all_last (λ (keeper : K). G.faults keeper ≤ top) old.after turn.now (subst (λ (l : List K). AllByRecursion (λ keeper. G.faults keeper ≤ top) l) turn.after quiet) in
-      let last : turn.turn.last ≤ top = omega (arith, now, turn.last) in
-      let begun : top ≤ turn.turn.first = subst (λ (d : Seated K). G.faults d.keeper ≤ turn.turn.first) same turn.risen in
-      none top turn.turn.first turn.turn.last (risen tr (subst (λ (found : Option Trouble). TurnAs trouble (Steps turn.opened.limit) turn.turn answer found) is turn.is)) begun last below
-    where
-      none : (top before now : ℕ) → Rose before now → top ≤ before → now ≤ top → top < 2 ^ 64 - 1 → ⊥
-      none top before now rose begun le below = omega (arith, rose, begun, le, below)
-
-      risen : (tr : Trouble) → TurnAs trouble (Steps turn.opened.limit) turn.turn answer (Some tr) → Rose turn.turn.first turn.turn.last
-      risen Failed took = took.0
-      risen (Changed kept found) took = took.0
-  turn_rises (tr, is, any) opened at (inr calm) =
+      let now : G.faults turn.now.keeper ≤ top = all_last (λ (keeper : K). G.faults keeper ≤ top) old.after turn.now.keeper (subst (λ (l : List K). AllByRecursion (λ keeper. G.faults keeper ≤ top) l) turn.after quiet) in
+      let begun : top ≤ G.faults turn.desk.keeper = subst (λ (d : Seated K). G.faults d.keeper ≤ G.faults turn.desk.keeper) same turn.keeps.keeper.later in
+      let rose = (taken_rises ask (served G.faults turn.desk) (served G.faults turn.now) outcome turn.takes.turn).1 has in
+      none_rises top (G.faults turn.desk.keeper) (G.faults turn.now.keeper) rose begun now below
+  seat_rises (tr, is, any) opened at (inr calm) =
       let same : turn.opened ≡ opened = some_desk turn.opened opened (sym turn.room ∙ at) in
-      absurd (let no : Some tr ≡ None = sym is ∙ turn.sure (subst (λ (d : Seated K). G.fails_no_more d.keeper) (sym same) calm) in cc)
+      let steady : G.fails_no_more turn.desk.keeper = turn.keeps.keeper.goes_on (subst (λ (d : Seated K). G.fails_no_more d.keeper) (sym same) calm) in
+      absurd (let no : Some tr ≡ None = sym is ∙ turn.takes.assured.sure steady in cc)
 
-  turn_causes : SeatGoes old new × (HasTrouble (λ trouble. Unit {0}) (trouble answer) → Stirs G old new)
-  turn_causes = (turn_goes, turn_rises)
+  seat_causes : SeatGoes old new × (HasTrouble (λ trouble. Unit {0}) (trouble_of outcome) → Stirs G old new)
+  seat_causes = (seat_goes, seat_rises)
 
   -- where it tells a change by another, the keeper did not tell as the turn ended
-  turn_changes : SeatGoes old new × (HasTrouble (λ trouble. IsChanged (Some trouble)) (trouble answer) → Untold G old new)
-  turn_changes = (
-    turn_goes,
+  seat_changed : SeatGoes old new × (HasTrouble (λ trouble. IsChanged (Some trouble)) (trouble_of outcome) → Untold G old new)
+  seat_changed = (
+    seat_goes,
     λ (tr, is, changed) keeper follows told.
-        let last : KeeperFollows G turn.now keeper = all_last (λ (old : K). KeeperFollows G old keeper) old.after turn.now (subst (λ (l : List K). FollowsAll G l keeper) turn.after follows) in
-        turn.near (last.told told) (subst (λ (found : Option Trouble). IsChanged found) (sym is) changed),
+        let last : KeeperFollows G turn.now.keeper keeper = all_last (λ (old : K). KeeperFollows G old keeper) old.after turn.now.keeper (subst (λ (l : List K). FollowsAll G l keeper) turn.after follows) in
+        turn.takes.assured.near (last.told told) (subst (λ (found : Option Trouble). IsChanged found) (sym is) changed),
   )
 
 module _ {K : Type 0} (G : Ghosts K) where
-  seat_step : (old new : SeatView K) (asked : Asked) (answer : Answer) → Step (SeatMutates G) (SeatPulls G) (SeatRetires G) old asked answer new
+  seat_step : (old new : SeatView K) (asked : Parsed) (answer : Answer) → Handles (IsSeatTurn G) old asked answer new
       → SeatGoes old new × (TellsTrouble (Some answer) → Stirs G old new)
-  seat_step = any_step_causes (λ trouble. Unit {0}) (SeatMutates G) (SeatPulls G) (SeatRetires G) SeatGoes (Stirs G) goes_same goes_on (stirs_before G)
-      (λ from m old new turn taken. turn_causes G _ _ old turn new taken) (λ user request old new outcome taken. turn_causes G _ _ old outcome new taken) (λ group old new outcome taken. turn_causes G _ _ old outcome new taken)
+  seat_step = any_step_causes (λ trouble. Unit {0}) (IsSeatTurn G) SeatGoes (Stirs G) goes_same goes_on (stirs_before G) (seat_causes G)
 
-  seat_changes : (old new : SeatView K) (asked : Asked) (answer : Answer) → Step (SeatMutates G) (SeatPulls G) (SeatRetires G) old asked answer new
+  seat_changes : (old new : SeatView K) (asked : Parsed) (answer : Answer) → Handles (IsSeatTurn G) old asked answer new
       → SeatGoes old new × (TellsChange (Some answer) → Untold G old new)
-  seat_changes = any_step_causes (λ trouble. IsChanged (Some trouble)) (SeatMutates G) (SeatPulls G) (SeatRetires G) SeatGoes (Untold G) goes_same goes_on (λ s t u later untold. untold)
-      (λ from m old new turn taken. turn_changes G _ _ old turn new taken) (λ user request old new outcome taken. turn_changes G _ _ old outcome new taken) (λ group old new outcome taken. turn_changes G _ _ old outcome new taken)
+  seat_changes = any_step_causes (λ trouble. IsChanged (Some trouble)) (IsSeatTurn G) SeatGoes (Untold G) goes_same goes_on (λ s t u later untold. untold) (seat_changed G)
 
-  seat_each : (Holds : Asked × Answer → Type 0) (last : SeatView K)
-      → ((old new : SeatView K) (turn : Asked × Answer) → Step (SeatMutates G) (SeatPulls G) (SeatRetires G) old turn.0 turn.1 new → SeatGoes new last → Holds turn)
-      → (old : SeatView K) (turns : List (Asked × Answer)) → RunsTurns (SeatMutates G) (SeatPulls G) (SeatRetires G) old turns last → AllByRecursion Holds turns
-  seat_each = turns_each (λ trouble. Unit {0}) (SeatMutates G) (SeatPulls G) (SeatRetires G) SeatGoes (Stirs G) goes_same goes_on (stirs_before G)
-      (λ from m old new turn taken. turn_causes G _ _ old turn new taken) (λ user request old new outcome taken. turn_causes G _ _ old outcome new taken) (λ group old new outcome taken. turn_causes G _ _ old outcome new taken)
+  seat_each : (Holds : Parsed × Answer → Type 0) (last : SeatView K)
+      → ((old new : SeatView K) (turn : Parsed × Answer) → Handles (IsSeatTurn G) old turn.0 turn.1 new → SeatGoes new last → Holds turn)
+      → (old : SeatView K) (turns : List (Parsed × Answer)) → RunsTurns (IsSeatTurn G) old turns last → AllByRecursion Holds turns
+  seat_each = turns_each (λ trouble. Unit {0}) (IsSeatTurn G) SeatGoes (Stirs G) goes_same goes_on (stirs_before G) (seat_causes G)
 
-  seat_later : (old new : SeatView K) (turns : List (Asked × Answer)) → RunsTurns (SeatMutates G) (SeatPulls G) (SeatRetires G) old turns new → SeatGoes old new
-  seat_later = turns_later (λ trouble. Unit {0}) (SeatMutates G) (SeatPulls G) (SeatRetires G) SeatGoes (Stirs G) goes_same goes_on (stirs_before G)
-      (λ from m old new turn taken. turn_causes G _ _ old turn new taken) (λ user request old new outcome taken. turn_causes G _ _ old outcome new taken) (λ group old new outcome taken. turn_causes G _ _ old outcome new taken)
+  seat_later : (old new : SeatView K) (turns : List (Parsed × Answer)) → RunsTurns (IsSeatTurn G) old turns new → SeatGoes old new
+  seat_later = turns_later (λ trouble. Unit {0}) (IsSeatTurn G) SeatGoes (Stirs G) goes_same goes_on (stirs_before G) (seat_causes G)
 
   -- ---- A pull.
 
-  shown_pull : PullsShow → (book : Book) (old new : SeatView K) (user : List ℕ) (request : PullRequest) (reply : PullReply) (outcome : PullAnswer) → StartsWith book new.seen → outcome ≡ pulls.Pulled reply → SeatPulls G old user request outcome new
+  shown_pull : PullsShow pull_json → (book : Book) (old new : SeatView K) (user : List ℕ) (request : PullRequest) (reply : PullReply) (outcome : Outcome) → StartsWith book new.seen → outcome ≡ outcomes.Pulled reply → IsSeatTurn G old (Ask.pull user request) outcome new
       → IsShownIn book (Ok (Pull user request)) reply
-  shown_pull show book old new user request reply outcome within is taken =
-      let here : SeatPulls G old user request (pulls.Pulled reply) new = subst (λ (o : PullAnswer). SeatPulls G old user request o new) is taken in
-      let p = here.turn in record {
-        point = settled_book p;
-        new = last_book p;
-        shows = record { user = user; request = request; asks = refl; tells = show here.opened.limit user request (settled_book p) (last_book p) reply here.is.1 };
-        here = (p.made, refl);
+  shown_pull show book old new user request reply outcome within is turn =
+      let here : IsSeatTurn G old (Ask.pull user request) (outcomes.Pulled reply) new = subst (λ (o : Outcome). IsSeatTurn G old (Ask.pull user request) o new) is turn in
+      let taken = here.takes.turn in
+      let (shows, goes) = pulled_shown show here.desk.limit user request reply taken.settled here.now.book (step_of pull_json (Ask.pull user request) (outcomes.Pulled reply) (served G.faults here.desk) (served G.faults here.now) taken refl) in record {
+        point = taken.settled;
+        new = here.now.book;
+        shows = shows;
+        here = goes;
         within = subst (λ (b : Book). StartsWith book b) here.seen within;
       }
 
-  shown_step : PullsShow → (book : Book) (old new : SeatView K) (asked : Asked) (reply : PullReply) → StartsWith book new.seen → Step (SeatMutates G) (SeatPulls G) (SeatRetires G) old asked (Pulled reply) new → IsShownIn book asked reply
+  shown_step : PullsShow pull_json → (book : Book) (old new : SeatView K) (asked : Parsed) (reply : PullReply) → StartsWith book new.seen → Handles (IsSeatTurn G) old asked (Pulled reply) new → IsShownIn book asked reply
   shown_step show book old new (Ok (Push user push)) reply within (acted, inl wants) = absurd (let no = wants.0 in cc)
   shown_step show book old new (Ok (Push user push)) reply within (acted, inr (refused, h, is)) = absurd (no_push reply refused is)
   shown_step show book old new (Ok (Pull user pull)) reply within (acted, inl wants) = absurd (let no = wants.0 in cc)
   shown_step show book old new (Ok (Pull user pull)) reply within (acted, inr (outcome, h, is, none)) = shown_pull show book old new user pull reply outcome within (same_reply reply outcome is) h
-  shown_step show book old new (Ok (Retire group)) reply within (acted, (outcome, h, is, none)) = absurd (no_retirement reply _ is)
+  shown_step show book old new (Ok (Retire group)) reply within (acted, (outcome, h, is, none)) = absurd (no_retirement (served G.faults h.desk) (served G.faults h.now) group reply outcome is h.takes.turn)
   shown_step show book old new (Err fault) reply within (acted, inl wants) = absurd (let no = wants.0 in cc)
   shown_step show book old new (Err fault) reply within (acted, inr told) = absurd (let no = told.0 in cc)
 
-  shows_in : PullsShow → (book : Book) (old new : SeatView K) (asked : Asked) (answer : Answer) → StartsWith book new.seen → Step (SeatMutates G) (SeatPulls G) (SeatRetires G) old asked answer new → ShowsIn book (asked, answer)
+  shows_in : PullsShow pull_json → (book : Book) (old new : SeatView K) (asked : Parsed) (answer : Answer) → StartsWith book new.seen → Handles (IsSeatTurn G) old asked answer new → ShowsIn book (asked, answer)
   shows_in show book old new asked (Pulled reply) within step = shown_step show book old new asked reply within step
   shows_in show book old new asked Pushed within step = tt
   shows_in show book old new asked (Retired place) within step = tt
@@ -197,16 +194,16 @@ module _ {K L I O : Type 0} (G : Ghosts K) (accounts : AccountsServed) (input : 
   abbrev Is : SeatView K → L → SeatView K → L → Type 0
   Is = Serves G accounts input output input_steady output_steady tells to_come came_back out ends
 
-  abbrev turns_in : (first : SeatView K) (givens : List L) (lasts : List (SeatView K)) (backs : List L) → EachServes Is first givens lasts backs → List (Asked × Answer)
+  abbrev turns_in : (first : SeatView K) (givens : List L) (lasts : List (SeatView K)) (backs : List L) → EachServes Is first givens lasts backs → List (Parsed × Answer)
   turns_in = turns_served G accounts input output input_steady output_steady tells to_come came_back out ends
 
   -- what holds of each turn of a seat whose last view is known to be good
-  served_each : (Good : SeatView K → Type 0) (Holds : Asked × Answer → Type 0)
+  served_each : (Good : SeatView K → Type 0) (Holds : Parsed × Answer → Type 0)
       → (first : SeatView K)
-      → ((last old new : SeatView K) (turn : Asked × Answer) → Good last → last.opened ≡ first.opened → Step (SeatMutates G) (SeatPulls G) (SeatRetires G) old turn.0 turn.1 new → SeatGoes new last → Holds turn)
+      → ((last old new : SeatView K) (turn : Parsed × Answer) → Good last → last.opened ≡ first.opened → Handles (IsSeatTurn G) old turn.0 turn.1 new → SeatGoes new last → Holds turn)
       → (givens : List L) (lasts : List (SeatView K)) (backs : List L) (each : EachServes Is first givens lasts backs) → AllByRecursion Good lasts → AllByRecursion Holds (turns_in first givens lasts backs each)
   served_each Good Holds first holds (given ∷ givens) (last ∷ lasts) (back ∷ backs) (is, each) (good, goods) =
-      let run = conns_run (SeatMutates G) (SeatPulls G) (SeatRetires G) input output input_steady output_steady accounts first last is.serves.conns is.serves.serves in
+      let run = conns_run (IsSeatTurn G) input output input_steady output_steady accounts first last is.serves.conns is.serves.serves in
       all_both Holds (turns_of accounts (flat_map (λ conn. conn.answers) is.serves.conns)) (turns_in first givens lasts backs each)
       (seat_each G Holds last (λ old new turn step goes. holds last old new turn good (seat_later G first last (turns_of accounts (flat_map (λ conn. conn.answers) is.serves.conns)) run).opened step goes) first (turns_of accounts (flat_map (λ conn. conn.answers) is.serves.conns)) run)
       (served_each Good Holds first holds givens lasts backs each goods)
@@ -226,7 +223,7 @@ module _ {K L I O : Type 0} (G : Ghosts K) (accounts : AccountsServed) (input : 
       })
       givens together.views backs together.serves together.closes.seen
 
-  pub pulls_are_shown : PullsShow → ServedPullsAreShown G accounts input output input_steady output_steady tells to_come came_back out ends
+  pub pulls_are_shown : PullsShow pull_json → ServedPullsAreShown G accounts input output input_steady output_steady tells to_come came_back out ends
   pulls_are_shown show opened now givens backs together =
       served_each (λ v. StartsWith now.book v.seen) (ShowsIn now.book) (newcomer 1 opened)
       (λ last old new turn within room step goes. shows_in G show now.book old new turn.0 turn.1 (starts_on now.book last.seen new.seen within goes.seen) step)

@@ -5,7 +5,6 @@ use Rattle.rv_base.specs.Outside.{OutputState}
 use Rattle.rv_accounts.specs.File.{Served as AccountsServed}
 use Rattle.rv_history.specs.Served.{IsSound}
 use Rattle.rv_net.specs.declared.net_fault.NetFault.{NetFault}
-use Rattle.rv_net.specs.declared.net_fault.NetFault.TheVariants as nets
 use Rattle.rv_keeper.specs.declared.keeper.Keeper.{Ghosts}
 use Rattle.rv_keeper.specs.declared.loaded.Loaded.{Loaded}
 use Rattle.rv_keeper.specs.Stores.{OpensAs}
@@ -17,7 +16,6 @@ use Rattle.rv_room.specs.Views.{newcomer}
 use Rattle.rv_workers.specs.Serving.{EachServes, ServesTogether}
 use Rattle.std.specs.Prelude.{MatchResult, IfErr}
 use Rattle.rv_cli.specs.declared.ending.Ending.{Ending}
-use Rattle.rv_cli.specs.declared.ending.Ending.TheVariants as endings
 use Rattle.rv_cli.specs.declared.serve_ending.ServeEnding.{ServeEnding}
 use Rattle.rv_cli.specs.declared.serve_ending.ServeEnding.TheVariants.{Done, BadAccounts, TwiceAccounts, NotOpened, Net, Memory, Write}
 use Rattle.rv_cli.specs.Texts.{serve_status, serve_text, status_of}
@@ -27,6 +25,8 @@ use Rattle.rv_cli.specs.ServingSteps.{AccountsRead, NetServed, TellsCount, Tells
 use Rattle.rv_cli.specs.Storing.{HasOpened}
 use Rattle.rv_cli.proofs.Sound.{refused_sound}
 use Rattle.rv_cli.proofs.Storing.{WentBack, begins, leaves}
+use Rattle.rv_net.specs.declared.net_fault.NetFault.TheVariants as nets
+use Rattle.rv_cli.specs.declared.ending.Ending.TheVariants as endings
 
 -- what is opened as one thing is opened as another that it implies
 opens_as : (name : List ℕ) (Stored Also : Loaded → Type 0) → ((held : Loaded) → Stored held → Also held) → (held : Loaded) → OpensAs name Stored held → OpensAs name Also held

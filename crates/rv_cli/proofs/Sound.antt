@@ -13,7 +13,7 @@ use Rattle.rv_keeper.specs.Keeping.{holding}
 use Rattle.rv_keeper.specs.Stores.{OpensAs}
 use Rattle.rv_store.specs.Opening.{MayOpen}
 use Rattle.rv_store.specs.OpeningLaws.{opens-not_damaged}
-use Rattle.rv_answering.specs.Requests.{Asked}
+use Rattle.rv_answering.specs.Requests.{Parsed}
 use Rattle.rv_cli.specs.declared.ending.Ending.{Ending}
 use Rattle.rv_cli.specs.declared.ending.Ending.TheVariants.{Done, Keeper, Damaged, Read, Write, Memory, Malformed}
 use Rattle.rv_cli.specs.Texts.{status_of}
@@ -57,12 +57,12 @@ module _ (Told : Type 0) (Stored Holds : Loaded → Type 0) (before after : ℕ)
   pub feed_sound : (Was : Loaded → Type 0) (input input' : InputState) (output output' : OutputState) (status : ℕ) → RunsFeed Told Stored Holds before after Was input input' output output' status → status ≢ 5
   feed_sound Was input input' output output' status (ending, is, runs) five = no_damage ending (fed_sound Was input input' output output' ending runs) (sym is ∙ five)
 
-  replied_sound : (Was : Loaded → Type 0) (asked : Asked) (output output' : OutputState) (ending : Ending) → (NotOpened Told Stored Holds before after output output' ending × IsLeftAs Told Was Stored Holds) ⊎ Replied Told Stored Holds before after asked output output' ending
+  replied_sound : (Was : Loaded → Type 0) (asked : Parsed) (output output' : OutputState) (ending : Ending) → (NotOpened Told Stored Holds before after output output' ending × IsLeftAs Told Was Stored Holds) ⊎ Replied Told Stored Holds before after asked output output' ending
       → (shelf : ℕ) (key : List ℕ) → ending ≢ Damaged shelf key
   replied_sound Was asked output output' ending (inl (none, left)) shelf key is = opens_sound shelf key ending is none.why
   replied_sound Was asked output output' ending (inr replied) shelf key is = subst (λ (e : Ending). EndsOne Told replied.first asked replied.text replied.now e) is replied.ends
 
-  pub retire_sound : (Was : Loaded → Type 0) (asked : Asked) (output output' : OutputState) (status : ℕ) → RunsOne Told Stored Holds before after Was asked output output' status → status ≢ 5
+  pub retire_sound : (Was : Loaded → Type 0) (asked : Parsed) (output output' : OutputState) (status : ℕ) → RunsOne Told Stored Holds before after Was asked output output' status → status ≢ 5
   retire_sound Was asked output output' status (ending, is, runs) five = no_damage ending (replied_sound Was asked output output' ending runs) (sym is ∙ five)
 
 -- the store in memory is opened with the empty book

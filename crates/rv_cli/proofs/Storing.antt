@@ -4,14 +4,12 @@ use Rattle.rv_base.specs.Causes.{Rose}
 use Rattle.rv_base.specs.Outside.{InputState, OutputState, Writes}
 use Rattle.rv_history.specs.Served.{Served}
 use Rattle.rv_keeper.specs.declared.fault.KeepFault.{KeepFault}
-use Rattle.rv_keeper.specs.declared.fault.KeepFault.TheVariants as keeping
 use Rattle.rv_keeper.specs.declared.loaded.Loaded.{Loaded}
 use Rattle.rv_keeper.specs.Keeping.{HasKeepCause}
 use Rattle.rv_keeper.specs.Stores.{OpensAs, OpensWith, TakesUp}
 use Rattle.rv_desk.specs.Seated.{Seated, served}
 use Rattle.rv_desk.specs.Opened.{Opens, IsRefused, IsLeft}
 use Rattle.rv_desk.specs.declared.open_fault.OpenFault.{OpenFault}
-use Rattle.rv_desk.specs.declared.open_fault.OpenFault.TheVariants as faulting
 use Rattle.rv_answering.specs.declared.answer.Answer.{Answer}
 use Rattle.rv_answering.specs.declared.request.Request.TheVariants.{Retire}
 use Rattle.rv_cli.specs.declared.ending.Ending.{Ending}
@@ -23,6 +21,8 @@ use Rattle.rv_cli.specs.Replying.{Retired, WritesReply}
 use Rattle.rv_cli.specs.Storing.{HasOpened, OpensStore, KeptOpened, OpensKept}
 use Rattle.rv_cli.specs.RunLaws.{answered_later, step_later}
 use Rattle.rv_cli.proofs.Ended.{ended}
+use Rattle.rv_keeper.specs.declared.fault.KeepFault.TheVariants as keeping
+use Rattle.rv_desk.specs.declared.open_fault.OpenFault.TheVariants as faulting
 
 -- what is told later was told before
 module _ (Told Now : Type 0) (then : Now → Told) where

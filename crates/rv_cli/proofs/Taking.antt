@@ -8,40 +8,38 @@ use Rattle.rv_book.specs.Book.{Book, size, with_entry}
 use Rattle.rv_book.specs.BookWords.{size-with_entry}
 use Rattle.rv_history.specs.Lawful.{IsLawful}
 use Rattle.rv_history.specs.LawfulBooks.{lawful_more}
-use Rattle.rv_history.specs.declared.trouble.Trouble.{Trouble}
-use Rattle.rv_history.specs.declared.turn.Turn.{Turn}
-use Rattle.rv_history.specs.declared.pull_answer.PullAnswer.{PullAnswer}
-use Rattle.rv_history.specs.declared.retire_answer.RetireAnswer.{RetireAnswer}
-use Rattle.rv_history.specs.Machine.{Sender, retire_outcome}
-use Rattle.rv_history.specs.Troubles.{turn_trouble, pull_trouble, retire_trouble}
-use Rattle.rv_wire.specs.declared.push.Mutation.{Mutation}
-use Rattle.rv_wire.specs.declared.pull.PullRequest.{PullRequest}
-use Rattle.rv_history.specs.Served.{IsChanged, ServedMutates, ServedPulls, ServedRetires, Settles, MayStand, TakesTurn, TurnOf}
+use Rattle.rv_history.specs.Served.{Settles, MayStand, TakesTurn}
+use Rattle.rv_history.specs.TurnLaws.{still_of}
 use Rattle.rv_keeper.specs.declared.loaded.Loaded.{Loaded}
 use Rattle.rv_record.specs.EntryReading.{EntryFits}
 use Rattle.rv_store.specs.Opening.{MayOpen}
 use Rattle.rv_store.specs.OpeningLaws.{opens-not_damaged}
 use Rattle.rv_store.specs.StoreBooks.{IsKeptInDoubt, settled_unique}
-use Rattle.rv_desk.specs.Seated.{Assures, Seated, HoldsBook, IsKeptWith, served}
+use Rattle.rv_keeper.specs.declared.keeper.Keeper.{Ghosts}
+use Rattle.rv_desk.specs.Seated.{Assures, DeskTakes, Seated, HoldsBook, IsKeptWith, served}
 use Rattle.rv_desk.specs.Opened.{Opens, IsDamagedIn, IsRefused, IsLeft}
 use Rattle.rv_desk.specs.declared.open_fault.OpenFault.{OpenFault}
-use Rattle.rv_desk.specs.declared.open_fault.OpenFault.TheVariants as faulting
 use Rattle.rv_answering.specs.declared.answer.Answer.{Answer}
 use Rattle.rv_answering.specs.declared.request.Request.TheVariants.{Retire}
-use Rattle.rv_answering.specs.Steps as steps
-use Rattle.rv_answering.specs.StepLaws.{shown_mutates, shown_pulls, shown_retires, step_shown}
-use Rattle.rv_answering.specs.StepMaps.{map_step}
+use Rattle.rv_answering.specs.StepLaws.{shown_takes, handled_shown}
+use Rattle.rv_answering.specs.StepMaps.{map_handled}
 use Rattle.rv_answering.specs.declared.line.Line.{Line}
 use Rattle.rv_answering.specs.declared.line.Line.TheVariants.{Asks, Stop}
 use Rattle.rv_answering.specs.Reads.{IsReading, IsLineRead, AreLines}
-use Rattle.rv_answering.specs.Requests.{Asked, line_of}
+use Rattle.rv_answering.specs.Requests.{Parsed, line_of}
 use Rattle.rv_cli.specs.declared.ending.Ending.{Ending}
 use Rattle.rv_cli.specs.declared.ending.Ending.TheVariants.{Done, Keeper, Damaged, Read, Write, Memory, Malformed}
 use Rattle.rv_cli.specs.Texts.{fault_ending, text_of}
-use Rattle.rv_cli.specs.Headline.{Reopens, Step, TakesStep, TellsChange}
+use Rattle.rv_cli.specs.Headline.{Reopens, Handles, TakesStep, TellsChange}
 use Rattle.rv_cli.specs.Steadiness.{KeeperIsSteady, LineKeepsSteady}
 use Rattle.rv_cli.specs.Feeding.{IsLeftWith, ServesOrNot, ReopensOrNot, GoesOn, LastLine, TakesLine}
-use Rattle.rv_cli.proofs.Troubled.{HasTrouble, any_step_causes, step_causes}
+use Rattle.rv_cli.proofs.Troubled.{any_step_causes, step_causes}
+use Rattle.rv_turns.specs.Asks.{Ask}
+use Rattle.rv_turns.specs.Outcomes.{IsChanged, trouble_of}
+use Rattle.rv_turns.specs.declared.outcome.Outcome.{Outcome}
+use Rattle.rv_wire.specs.Answers.{pull_json}
+use Rattle.rv_desk.specs.declared.open_fault.OpenFault.TheVariants as faulting
+use Rattle.rv_answering.specs.Steps as steps
 
 in_doubt : (book : Book) (doubt : Option Entry) (held : Loaded) → IsKeptWith book doubt held → IsKeptInDoubt book doubt held
 in_doubt book None held kept = kept
@@ -142,67 +140,50 @@ module _ {K : Type 0} (tells fails_no_more : K → Type 0) (holds : K → Loaded
   before_on s t u first next = record { told = λ x. first.told (next.told x); steady = λ f. let (g, same) = first.steady f in let (h, also) = next.steady g in (h, also ∙ same) }
 
   -- a turn of a desk, with what is known besides
-  abbrev desk_mutates : Seated K → Sender → Mutation → Turn → Seated K → Type 0
-  desk_mutates old from m turn new = ServedMutates (served faults old) from m turn (served faults new) × Assures tells fails_no_more old.keeper (turn_trouble turn) new.keeper
+  abbrev desk_takes : Seated K → Ask → Outcome → Seated K → Type 0
+  desk_takes old ask outcome new = TakesTurn pull_json (served faults old) ask outcome (served faults new) × Assures tells fails_no_more old.keeper (trouble_of outcome) new.keeper
 
-  abbrev desk_pulls : Seated K → List ℕ → PullRequest → PullAnswer → Seated K → Type 0
-  desk_pulls old user request answer new = ServedPulls (served faults old) user request answer (served faults new) × Assures tells fails_no_more old.keeper (pull_trouble answer) new.keeper
-
-  abbrev desk_retires : Seated K → List ℕ → RetireAnswer → Seated K → Type 0
-  desk_retires old group answer new = ServedRetires (served faults old) group answer (served faults new) × Assures tells fails_no_more old.keeper (retire_trouble answer) new.keeper
-
-  pub turn_before : {A : Type 0} (trouble : A → Option Trouble) (Turns : Book → A → Book → Type 0) (old new : Seated K) (answer : A) → TakesTurn trouble Turns (served faults old) answer (served faults new)
-      → Assures tells fails_no_more old.keeper (trouble answer) new.keeper → Before old new
-  turn_before trouble Turns old new answer turn assured = record {
+  pub turn_before : (old new : Seated K) (ask : Ask) (outcome : Outcome) → TakesTurn pull_json (served faults old) ask outcome (served faults new) → Assures tells fails_no_more old.keeper (trouble_of outcome) new.keeper → Before old new
+  turn_before old new ask outcome taken assured = record {
     told = assured.told;
-    steady = λ f. (assured.goes_on f, (subst (λ (t : Option Trouble). TurnOf trouble Turns (served faults old) answer (served faults new) t) (assured.sure f) turn.turn).4);
+    steady = λ f. (assured.goes_on f, still_of pull_json ask outcome (served faults old) (served faults new) taken (assured.sure f));
   }
 
-  desk_goes : (old new : Seated K) (asked : Asked) (answer : Answer)
-      → steps.Step desk_mutates desk_pulls desk_retires old asked answer new → Step (served faults old) asked answer (served faults new) × Before old new
-  desk_goes old new asked answer step = step_shown (served faults) Before before_same before_on ServedMutates ServedPulls ServedRetires old new asked answer
-      (map_step desk_mutates (shown_mutates (served faults) Before before_same before_on ServedMutates ServedPulls ServedRetires)
-      desk_pulls (shown_pulls (served faults) Before before_same before_on ServedMutates ServedPulls ServedRetires)
-      desk_retires (shown_retires (served faults) Before before_same before_on ServedMutates ServedPulls ServedRetires)
-      (λ old new from m turn (taken, assured). (taken, turn_before turn_trouble _ old new turn taken assured))
-      (λ old new user request answer (taken, assured). (taken, turn_before pull_trouble _ old new answer taken assured))
-      (λ old new group answer (taken, assured). (taken, turn_before retire_trouble _ old new answer taken assured))
+  desk_goes : (old new : Seated K) (asked : Parsed) (answer : Answer)
+      → steps.Handles desk_takes old asked answer new → Handles (served faults old) asked answer (served faults new) × Before old new
+  desk_goes old new asked answer step = handled_shown (served faults) Before before_same before_on (TakesTurn pull_json) old new asked answer
+      (map_handled desk_takes (shown_takes (served faults) Before before_same before_on (TakesTurn pull_json))
+      (λ old new ask outcome (taken, assured). (taken, turn_before old new ask outcome taken assured))
       old new asked answer step)
 
   -- a turn tells that another changed what is kept only where its keeper does not tell
-  turn_near : {A : Type 0} (trouble : A → Option Trouble) (old new : Seated K) (answer : A) → Assures tells fails_no_more old.keeper (trouble answer) new.keeper
-      → (tells new.keeper → tells old.keeper) × (HasTrouble (λ found. IsChanged (Some found)) (trouble answer) → tells new.keeper → ⊥)
-  turn_near trouble old new answer assured = (assured.told, λ (found, is, changed) t. assured.near t (subst IsChanged (sym is) changed))
-
-  desk_near : (old new : Seated K) (asked : Asked) (answer : Answer) → steps.Step desk_mutates desk_pulls desk_retires old asked answer new
+  desk_near : (old new : Seated K) (asked : Parsed) (answer : Answer) → steps.Handles desk_takes old asked answer new
       → (tells new.keeper → tells old.keeper) × (TellsChange (Some answer) → tells new.keeper → ⊥)
-  desk_near = any_step_causes (λ found. IsChanged (Some found)) desk_mutates desk_pulls desk_retires (λ (old new : Seated K). tells new.keeper → tells old.keeper) (λ (old new : Seated K). tells new.keeper → ⊥)
+  desk_near = any_step_causes (λ found. IsChanged (Some found)) desk_takes (λ (old new : Seated K). tells new.keeper → tells old.keeper) (λ (old new : Seated K). tells new.keeper → ⊥)
       (λ s t. t) (λ s t u first next told. first (next told)) (λ s t u goes rises. rises)
-      (λ from m old new turn (taken, assured). turn_near turn_trouble old new turn assured)
-      (λ user request old new answer (taken, assured). turn_near pull_trouble old new answer assured)
-      (λ group old new answer (taken, assured). turn_near retire_trouble old new answer assured)
+      (λ ask old new outcome (taken, assured). (assured.told, λ (found, is, changed) t. assured.near t (subst IsChanged (sym is) changed)))
 
   -- the answer to a retirement
-  pub desk_retired : (old new : Seated K) (keeper : K) (group : List ℕ) (outcome : RetireAnswer) (answer : Answer) → answer ≡ steps.retire_answer (retire_outcome outcome) → desk_retires old group outcome new → keeper ≡ new.keeper
+  pub desk_retired : (old new : Seated K) (keeper : K) (group : List ℕ) (outcome : Outcome) (answer : Answer) → answer ≡ steps.answer_of outcome → desk_takes old (Ask.retirement group) outcome new → keeper ≡ new.keeper
       → TakesStep (tells keeper) (served faults old) (Ok (Retire group)) answer (served faults new)
   desk_retired old new keeper group outcome answer is (taken, assured) same = record {
     step = (false, (outcome, taken, is, refl));
     near = λ told change. (desk_near old new (Ok (Retire group)) answer (false, (outcome, (taken, assured), is, refl))).1 change (subst tells same told);
   }
 
-  pub desk_step : (old new : Seated K) (asked : Asked) (answer : Answer)
-      → steps.Step desk_mutates desk_pulls desk_retires old asked answer new → TakesStep (tells new.keeper) (served faults old) asked answer (served faults new) × Before old new
+  pub desk_step : (old new : Seated K) (asked : Parsed) (answer : Answer)
+      → steps.Handles desk_takes old asked answer new → TakesStep (tells new.keeper) (served faults old) asked answer (served faults new) × Before old new
   desk_step old new asked answer step =
       let (is, goes) = desk_goes old new asked answer step in
       (record { step = is; near = λ told change. (desk_near old new asked answer step).1 change told }, goes)
 
-  pub serves_whole : {E : Type 0} (old new : Seated K) (asked : Asked) (answer : Answer) (before now : OutputState) (result : Result (Unit {0}) E) → result ≡ Ok tt → TakesStep (tells new.keeper) (served faults old) asked answer (served faults new) × Before old new
+  pub serves_whole : {E : Type 0} (old new : Seated K) (asked : Parsed) (answer : Answer) (before now : OutputState) (result : Result (Unit {0}) E) → result ≡ Ok tt → TakesStep (tells new.keeper) (served faults old) asked answer (served faults new) × Before old new
       → Writes before now result (text_of answer) → ServesOrNot tells holds faults old asked (Ok new) before now
   serves_whole {E} old new asked answer before now result is (step, goes) w =
       let all = subst (λ (r : Result (Unit {0}) E). Writes before now r (text_of answer)) is w in
       ((answer, step, all.bytes), record { faults = all.cause.still; refusals = all.memory.still }, goes.told)
 
-  pub serves_front : {T E : Type 0} (old new : Seated K) (keeper : K) (asked : Asked) (answer : Answer) (before now : OutputState) (result : Result T E) (fault : E) → result ≡ Err fault → TakesStep (tells new.keeper) (served faults old) asked answer (served faults new) × Before old new
+  pub serves_front : {T E : Type 0} (old new : Seated K) (keeper : K) (asked : Parsed) (answer : Answer) (before now : OutputState) (result : Result T E) (fault : E) → result ≡ Err fault → TakesStep (tells new.keeper) (served faults old) asked answer (served faults new) × Before old new
       → Writes before now result (text_of answer) → keeper ≡ new.keeper → (tells new.keeper → HoldsBook (holds new.keeper) new.book new.doubt) → ServesOrNot tells holds faults old asked (Err (Write, keeper)) before now
   serves_front {T} {E} old new keeper asked answer before now result fault is (step, goes) w same held =
       let part = subst (λ (r : Result T E). Writes before now r (text_of answer)) is w in
@@ -210,13 +191,13 @@ module _ {K : Type 0} (tells fails_no_more : K → Type 0) (holds : K → Loaded
       ((answer, served faults new, step, part.bytes, record { held = held; later = omega arith }), part.cause.failed, goes.told)
 
   -- a line that asks something
-  lines_ask : (line : List ℕ) (read : Asked) → AreLines (line_of line) (Some (Asks read)) → (asked : Asked) × (line_of line ≡ Some (Asks asked)) × IsReading asked read
-  lines_ask line read lines = elim (line_of line) as (λ o. line_of line ≡ o → AreLines o (Some (Asks read)) → (asked : Asked) × (line_of line ≡ Some (Asks asked)) × IsReading asked read) [
+  lines_ask : (line : List ℕ) (read : Parsed) → AreLines (line_of line) (Some (Asks read)) → (asked : Parsed) × (line_of line ≡ Some (Asks asked)) × IsReading asked read
+  lines_ask line read lines = elim (line_of line) as (λ o. line_of line ≡ o → AreLines o (Some (Asks read)) → (asked : Parsed) × (line_of line ≡ Some (Asks asked)) × IsReading asked read) [
     | None ↦ λ e h. absurd h
     | Some l ↦ λ e h. asks_of l e h
   ] refl lines
     where
-      asks_of : (l : Line) → line_of line ≡ Some l → IsLineRead l (Asks read) → (asked : Asked) × (line_of line ≡ Some (Asks asked)) × IsReading asked read
+      asks_of : (l : Line) → line_of line ≡ Some l → IsLineRead l (Asks read) → (asked : Parsed) × (line_of line ≡ Some (Asks asked)) × IsReading asked read
       asks_of (Asks asked) e h = (asked, e, h)
       asks_of Stop e h = absurd h
 
@@ -236,7 +217,7 @@ module _ {K : Type 0} (tells fails_no_more : K → Type 0) (holds : K → Loaded
     | Some l ↦ λ e h. absurd h
   ] refl lines
 
-  served_line : (old : Seated K) (line : List ℕ) (number : ℕ) (asked : Asked) (result : Result (Seated K) (Ending × K)) (before now : OutputState) → line_of line ≡ Some (Asks asked)
+  served_line : (old : Seated K) (line : List ℕ) (number : ℕ) (asked : Parsed) (result : Result (Seated K) (Ending × K)) (before now : OutputState) → line_of line ≡ Some (Asks asked)
       → ServesOrNot tells holds faults old asked result before now → TakesLine tells holds faults old line number result before now
   served_line old line number asked (Ok new) before now is ((answer, step, appended), counts, told) =
       (GoesOn.answered (record { answer = answer; step = record { asked = asked; asks = is; step = step }; appended = appended; counts = counts }), told, (step_causes (served faults old) (served faults new) asked answer step.step).0)
@@ -254,8 +235,8 @@ module _ {K : Type 0} (tells fails_no_more : K → Type 0) (holds : K → Loaded
   served_line old line number asked (Err (Memory, keeper)) before now is never = absurd never
   served_line old line number asked (Err (Malformed n, keeper)) before now is never = absurd never
 
-  pub takes_asked : (old : Seated K) (line : List ℕ) (number : ℕ) (read : Asked) (result : Result (Seated K) (Ending × K)) (before now : OutputState) → AreLines (line_of line) (Some (Asks read))
-      → ((asked : Asked) → IsReading asked read → ServesOrNot tells holds faults old asked result before now) → TakesLine tells holds faults old line number result before now
+  pub takes_asked : (old : Seated K) (line : List ℕ) (number : ℕ) (read : Parsed) (result : Result (Seated K) (Ending × K)) (before now : OutputState) → AreLines (line_of line) (Some (Asks read))
+      → ((asked : Parsed) → IsReading asked read → ServesOrNot tells holds faults old asked result before now) → TakesLine tells holds faults old line number result before now
   takes_asked old line number read result before now lines serves =
       let (asked, is, reading) = lines_ask line read lines in
       served_line old line number asked result before now is (serves asked reading)
@@ -297,8 +278,8 @@ module _ {K : Type 0} (tells fails_no_more : K → Type 0) (holds : K → Loaded
   refused_steady old kept now (faulting.Damaged shelf key) is (damaged, left) f = record { goes_on = left.goes_on (subst fails_no_more (sym is) f); still = damaged.still ∙ ap faults is; no_fault = λ e. absurd (cc) }
   refused_steady old kept now faulting.Memory is (same, left) f = record { goes_on = left.goes_on (subst fails_no_more (sym is) f); still = same ∙ ap faults is; no_fault = λ e. absurd (cc) }
 
-  pub asked_steady : (before : K) (line : List ℕ) (read : Asked) (result : Result (Seated K) (Ending × K)) → AreLines (line_of line) (Some (Asks read))
-      → ((asked : Asked) → IsReading asked read → fails_no_more before → LineKeepsSteady fails_no_more faults before result) → fails_no_more before → LineKeepsSteady fails_no_more faults before result
+  pub asked_steady : (before : K) (line : List ℕ) (read : Parsed) (result : Result (Seated K) (Ending × K)) → AreLines (line_of line) (Some (Asks read))
+      → ((asked : Parsed) → IsReading asked read → fails_no_more before → LineKeepsSteady fails_no_more faults before result) → fails_no_more before → LineKeepsSteady fails_no_more faults before result
   asked_steady before line read result lines serves f = let (asked, is, reading) = lines_ask line read lines in serves asked reading f
 
 -- the endings that tell of no keeper
@@ -316,3 +297,10 @@ not_memory e = absurd (cc)
 
 pub not_malformed : (number : ℕ) → Malformed number ≡ Keeper → ⊥
 not_malformed number e = absurd (cc)
+
+-- what a desk handles, by what a keeper shows
+pub desk_handles : {K : Type 0} (G : Ghosts K) (old new : Seated K) (asked : Parsed) (answer : Answer)
+    → steps.Handles (DeskTakes G) old asked answer new → TakesStep (G.tells new.keeper) (served G.faults old) asked answer (served G.faults new) × Before G.tells G.fails_no_more G.holds G.faults old new
+desk_handles {K} G old new asked answer step = desk_step G.tells G.fails_no_more G.holds G.faults old new asked answer
+    (map_handled (DeskTakes G) (λ (old : Seated K) (ask : Ask) (outcome : Outcome) (new : Seated K). TakesTurn pull_json (served G.faults old) ask outcome (served G.faults new) × Assures G.tells G.fails_no_more old.keeper (trouble_of outcome) new.keeper)
+    (λ old new ask outcome takes. (takes.turn, takes.assured)) old new asked answer step)

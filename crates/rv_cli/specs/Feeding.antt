@@ -9,7 +9,7 @@ use Rattle.rv_history.specs.Served.{Served}
 use Rattle.rv_desk.specs.Seated.{Seated, HoldsBook, served}
 use Rattle.rv_answering.specs.declared.answer.Answer.{Answer}
 use Rattle.rv_answering.specs.declared.line.Line.TheVariants.{Asks, Stop}
-use Rattle.rv_answering.specs.Requests.{Asked, line_of}
+use Rattle.rv_answering.specs.Requests.{Parsed, line_of}
 use Rattle.rv_cli.specs.declared.ending.Ending.{Ending}
 use Rattle.rv_cli.specs.declared.ending.Ending.TheVariants.{Done, Keeper, Damaged, Read, Write, Memory, Malformed}
 use Rattle.rv_cli.specs.Texts.{text_of}
@@ -22,7 +22,7 @@ pub record Stays (old new : OutputState) : Type 0 where
 
 -- the line asks something, and the server answers it so
 pub record LineStep (Told : Type 0) (old : Served) (line : List ℕ) (answer : Answer) (new : Served) : Type 0 where
-  pub asked : Asked
+  pub asked : Parsed
   pub asks : line_of line ≡ Some (Asks asked)
   pub step : TakesStep Told old asked answer new
 
@@ -61,7 +61,7 @@ module _ {K : Type 0} (tells : K → Type 0) (holds : K → Loaded → Type 0) (
     pub later : now.faults ≤ faults keeper
 
   -- a request is answered, and its answer written; or only a front of the answer was
-  abbrev pub ServesOrNot : Seated K → Asked → Result (Seated K) (Ending × K) → OutputState → OutputState → Type 0
+  abbrev pub ServesOrNot : Seated K → Parsed → Result (Seated K) (Ending × K) → OutputState → OutputState → Type 0
   ServesOrNot old asked (Ok new) before now =
       ((answer : Answer) × TakesStep (tells new.keeper) (served faults old) asked answer (served faults new) × Appends before.written now.written (text_of answer)) × Stays before now × (tells new.keeper → tells old.keeper)
   ServesOrNot old asked (Err (Write, keeper)) before now =

@@ -11,16 +11,11 @@ use Rattle.rv_base.specs.Outside.{InputState, OutputState, counted}
 use Rattle.rv_base.specs.Writes.{AppendsFront, IsFront}
 use Rattle.rv_lines.specs.Lines.{lines_of, ended_lines_of, longest_line}
 use Rattle.rv_lines.specs.Taken.{IsNeeded}
-use Rattle.rv_wire.specs.declared.error_body.ErrorBody.TheVariants as errors
-use Rattle.rv_wire.specs.declared.pull.PullRequest.{PullRequest}
 use Rattle.rv_rows.specs.Held.{Stored as StoredRow}
 use Rattle.rv_book.specs.Book.{Book, last, size}
-use Rattle.rv_history.specs.declared.trouble.Trouble.{Trouble}
-use Rattle.rv_history.specs.declared.trouble.Trouble.TheVariants.{Failed, Changed}
-use Rattle.rv_history.specs.Served.{Served, ServedMutates, ServedPulls, ServedRetires, Settles, IsChanged, IsSound}
+use Rattle.rv_history.specs.Served.{Served, Settles, IsSound, TakesTurn}
 use Rattle.rv_history.specs.Replay.{IsReplay}
 use Rattle.rv_history.specs.Laws.{act_ids, look_orders, Tells}
-use Rattle.rv_history.specs.declared.pull_reply.PullReply.{PullReply}
 use Rattle.rv_keeper.specs.declared.loaded.Loaded.{Loaded}
 use Rattle.rv_keeper.specs.Stores.{TakesUp}
 use Rattle.rv_store.specs.Opening.{MayOpen, IsDamaged}
@@ -32,11 +27,18 @@ use Rattle.rv_answering.specs.declared.answer.Answer.{Answer}
 use Rattle.rv_answering.specs.declared.answer.Answer.TheVariants.{Pulled, Refused}
 use Rattle.rv_answering.specs.declared.line.Line.{Line}
 use Rattle.rv_answering.specs.declared.line.Line.TheVariants.{Asks, Stop}
-use Rattle.rv_answering.specs.Requests.{Asked, line_of}
-use Rattle.rv_answering.specs.Steps as steps
+use Rattle.rv_answering.specs.Requests.{Parsed, line_of}
 use Rattle.rv_cli.specs.declared.ending.Ending.{Ending}
 use Rattle.rv_cli.specs.declared.ending.Ending.TheVariants.{Done, Keeper, Damaged, Read, Write, Memory, Malformed}
 use Rattle.rv_cli.specs.Texts.{text_of, status_of, status_text}
+use Rattle.rv_turns.specs.Outcomes.{IsChanged}
+use Rattle.rv_wire.specs.Answers.{pull_json}
+use Rattle.rv_turns.specs.declared.refusal.Trouble.{Trouble}
+use Rattle.rv_turns.specs.declared.pull.PullRequest.{PullRequest}
+use Rattle.rv_turns.specs.declared.pull.PullReply.{PullReply}
+use Rattle.rv_turns.specs.declared.refusal.Refusal.TheVariants as refusals
+use Rattle.rv_wire.specs.declared.error_body.ErrorBody.TheVariants as errors
+use Rattle.rv_answering.specs.Steps as steps
 
 -- ---- A line.
 
@@ -55,13 +57,12 @@ Are number (bytes ∷ rest) [] = ⊥
 -- ---- What is answered.
 
 -- one request is answered by the server
-abbrev pub Step : Served → Asked → Answer → Served → Type 0
-Step = steps.Step ServedMutates ServedPulls ServedRetires
+abbrev pub Handles : Served → Parsed → Answer → Served → Type 0
+Handles = steps.Handles (TakesTurn pull_json)
 
 -- the answer tells a trouble with what keeps the book, of which this holds
 abbrev pub TellsOf : (Trouble → Type 0) → Option Answer → Type 0
-TellsOf Holds (Some (Refused errors.Keeper)) = Holds Failed
-TellsOf Holds (Some (Refused (errors.Changed found kept))) = Holds (Changed kept found)
+TellsOf Holds (Some (Refused (errors.Refused (refusals.Trouble trouble)))) = Holds trouble
 TellsOf Holds answer = ⊥
 
 -- the answer tells that what is kept was changed by another
@@ -69,8 +70,8 @@ abbrev pub TellsChange : Option Answer → Type 0
 TellsChange = TellsOf (λ trouble. IsChanged (Some trouble))
 
 -- One request is answered by the server. Where what is kept is told, the answer is not that another changed it.
-pub record TakesStep (Told : Type 0) (old : Served) (asked : Asked) (answer : Answer) (new : Served) : Type 0 where
-  pub step : Step old asked answer new
+pub record TakesStep (Told : Type 0) (old : Served) (asked : Parsed) (answer : Answer) (new : Served) : Type 0 where
+  pub step : Handles old asked answer new
   pub near : Told → ¬ TellsChange (Some answer)
 
 -- The server is closed and opened again: nothing is in doubt then, and the count of faults stays. Where what is kept is
@@ -121,7 +122,7 @@ pub record IsCutOff (Told : Type 0) (first : Served) (bytes read text : List ℕ
   pub before : List ℕ
   pub mid : Served
   pub answered : Answered Told first lines before mid
-  pub asked : Asked
+  pub asked : Parsed
   pub asks : line_at (length lines + 1) line ≡ Some (Asks asked)
   pub answer : Answer
   pub step : TakesStep Told mid asked answer now
@@ -301,7 +302,7 @@ KeptSound Stored = (book : Book) × (held : Loaded) × Stored held × MayOpen (2
 -- ---- And of `retire`: the same over the one request.
 
 -- A run of one request may end so, with this text and this state: it is answered; or a front of its answer was written.
-abbrev pub EndsOne : Type 0 → Served → Asked → List ℕ → Served → Ending → Type 0
+abbrev pub EndsOne : Type 0 → Served → Parsed → List ℕ → Served → Ending → Type 0
 EndsOne Told first asked text now Done = (answer : Answer) × TakesStep Told first asked answer now × (text ≡ text_of answer)
 EndsOne Told first asked text now Write = (answer : Answer) × TakesStep Told first asked answer now × IsFront text (text_of answer)
 EndsOne Told first asked text now ending = ⊥
@@ -312,7 +313,7 @@ module _ (Told : Type 0) (Stored Holds : Loaded → Type 0) (before after : ℕ)
     pub text : WritesOnly output output' (status_text ending)
 
   -- what was added to the output is the text of the answer
-  pub record Replied (asked : Asked) (output output' : OutputState) (ending : Ending) : Type 0 where
+  pub record Replied (asked : Parsed) (output output' : OutputState) (ending : Ending) : Type 0 where
     pub first : Served
     pub now : Served
     pub begins : Begins Told Stored first
@@ -323,7 +324,7 @@ module _ (Told : Type 0) (Stored Holds : Loaded → Type 0) (before after : ℕ)
     pub leaves : Leaves Told Holds before after now
 
   -- the status is that of an ending, and the run of this one request ended so
-  abbrev pub RunsOne : (Loaded → Type 0) → Asked → OutputState → OutputState → ℕ → Type 0
+  abbrev pub RunsOne : (Loaded → Type 0) → Parsed → OutputState → OutputState → ℕ → Type 0
   RunsOne Was asked output output' status = (ending : Ending) × (status ≡ status_of ending)
       × ((NotOpened output output' ending × IsLeftAs Told Was Stored Holds) ⊎ Replied asked output output' ending)
 
@@ -378,19 +379,19 @@ BooksAreLawful = (told : Bool) (first now : Served) (lines : List Line) (answers
 
 -- A pull was answered at a point of the book, and left the new book: the reply tells what the laws of the machine say of a
 -- pull. Its patch, applied to the view that the request's cookie names, gives exactly what the user sees at the point.
-pub record ShowsAt (asked : Asked) (reply : PullReply) (point new : Book) : Type 0 where
+pub record ShowsAt (asked : Parsed) (reply : PullReply) (point new : Book) : Type 0 where
   pub user : List ℕ
   pub request : PullRequest
   pub asks : asked ≡ Ok (Pull user request)
-  pub tells : Tells user request point new reply
+  pub tells : Tells pull_json user request point new reply
 
 -- Of a pull that is answered in a run: the state before it, the settled book at which it is answered, and the state after it.
-pub record IsShown (Told : Type 0) (first now : Served) (before : List Line) (answered : List (Option Answer)) (asked : Asked) (reply : PullReply) : Type 0 where
+pub record IsShown (Told : Type 0) (first now : Served) (before : List Line) (answered : List (Option Answer)) (asked : Parsed) (reply : PullReply) : Type 0 where
   pub point : Served
   pub new : Served
   pub settled : Book
   pub run : Run Told first before answered point
-  pub step : Step point asked (Pulled reply) new
+  pub step : Handles point asked (Pulled reply) new
   pub settles : Settles point.book point.doubt settled
   pub shows : ShowsAt asked reply settled new.book
   pub here : (more : Book) × (new.book ≡ settled ++ more)
@@ -399,7 +400,7 @@ pub record IsShown (Told : Type 0) (first now : Served) (before : List Line) (an
 -- Each pull that a run from a sound state answers is answered at the settled book of the point that the run before it leaves, by
 -- a step of the server there, and the book goes on from the book after it.
 abbrev pub PullsAreShown : Type 0
-PullsAreShown = (told : Bool) (first now : Served) (before after : List Line) (answered answers : List (Option Answer)) (asked : Asked) (reply : PullReply) → IsSound first → length before ≡ length answered
+PullsAreShown = (told : Bool) (first now : Served) (before after : List Line) (answered answers : List (Option Answer)) (asked : Parsed) (reply : PullReply) → IsSound first → length before ≡ length answered
     → Run (told ≡ true) first (before ++ Asks asked ∷ after) (answered ++ Some (Pulled reply) ∷ answers) now → IsShown (told ≡ true) first now before answered asked reply
 
 -- the answer tells a trouble with what keeps the book

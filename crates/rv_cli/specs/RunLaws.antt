@@ -7,7 +7,7 @@ use Rattle.rv_history.specs.Served.{Served}
 use Rattle.rv_answering.specs.declared.answer.Answer.{Answer}
 use Rattle.rv_answering.specs.declared.line.Line.{Line}
 use Rattle.rv_answering.specs.declared.line.Line.TheVariants.{Asks, Stop}
-use Rattle.rv_answering.specs.Requests.{Asked, line_of}
+use Rattle.rv_answering.specs.Requests.{Parsed, line_of}
 use Rattle.rv_cli.specs.Headline.{line_at, Are, Takes, TakesStep, Reopens, Run, told_text, Answered}
 
 -- a line that is short enough, and early enough, is what its bytes are
@@ -45,7 +45,7 @@ run_more Told (q ∷ lines) (a ∷ answers) first mid new line answer (next, ste
 reopens_later : (Told Now : Type 0) → (Now → Told) → (old new : Served) → Reopens Told old new → Reopens Now old new
 reopens_later Told Now then old new r = record { sound = r.sound; limit = r.limit; doubt = r.doubt; faults = r.faults; settled = λ now. r.settled (then now) }
 
-pub step_later : (Told Now : Type 0) → (Now → Told) → (old new : Served) (asked : Asked) (answer : Answer) → TakesStep Told old asked answer new → TakesStep Now old asked answer new
+pub step_later : (Told Now : Type 0) → (Now → Told) → (old new : Served) (asked : Parsed) (answer : Answer) → TakesStep Told old asked answer new → TakesStep Now old asked answer new
 step_later Told Now then old new asked answer taken = record { step = taken.step; near = λ now. taken.near (then now) }
 
 pub takes_later : (Told Now : Type 0) → (Now → Told) → (old new : Served) (line : Line) (answer : Option Answer) → Takes Told old line answer new → Takes Now old line answer new

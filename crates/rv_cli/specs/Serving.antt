@@ -10,28 +10,28 @@ use Rattle.rv_keeper.specs.declared.keeper.Keeper.{Ghosts}
 use Rattle.rv_keeper.specs.declared.loaded.Loaded.{Loaded}
 use Rattle.rv_accounts.specs.File.{Served as AccountsServed, file_in}
 use Rattle.rv_accounts.specs.declared.fault.AccountsFault.{AccountsFault}
-use Rattle.rv_accounts.specs.declared.fault.AccountsFault.TheVariants as accounts
 use Rattle.rv_book.specs.Book.{Book, size}
 use Rattle.rv_history.specs.Served.{Served, IsSound}
-use Rattle.rv_history.specs.declared.pull_reply.PullReply.{PullReply}
 use Rattle.rv_desk.specs.Seated.{Seated, served}
 use Rattle.rv_answering.specs.declared.answer.Answer.{Answer}
 use Rattle.rv_answering.specs.declared.answer.Answer.TheVariants.{Pulled}
-use Rattle.rv_answering.specs.Requests.{Asked}
-use Rattle.rv_answering.specs.Steps.{Step}
+use Rattle.rv_answering.specs.Requests.{Parsed}
+use Rattle.rv_answering.specs.Steps.{Handles}
 use Rattle.rv_net.specs.declared.conn.Conn.{Conn}
 use Rattle.rv_room.specs.declared.view.SeatView.{SeatView}
 use Rattle.rv_room.specs.Lists.{StartsWith}
-use Rattle.rv_room.specs.SeatTurns.{SeatMutates, SeatPulls, SeatRetires}
 use Rattle.rv_room.specs.Views.{newcomer}
 use Rattle.rv_serve.specs.Laws.{turns_of}
 use Rattle.rv_workers.specs.Serving.{EachServes, IsServed, ServesTogether}
 use Rattle.rv_cli.specs.declared.ending.Ending.{Ending}
-use Rattle.rv_cli.specs.declared.ending.Ending.TheVariants as endings
 use Rattle.rv_cli.specs.declared.serve_ending.ServeEnding.{ServeEnding}
 use Rattle.rv_cli.specs.declared.serve_ending.ServeEnding.TheVariants.{Done, BadAccounts, TwiceAccounts, NotOpened, Net, Memory, Write}
 use Rattle.rv_cli.specs.Texts.{serve_status, serve_text}
 use Rattle.rv_cli.specs.Headline.{Begins, IsLawfulRun, IsLeftAs, IsNotOpened, Leaves, ShowsAt, TellsChange, TellsTrouble, WritesOnly}
+use Rattle.rv_turns.specs.declared.pull.PullReply.{PullReply}
+use Rattle.rv_room.specs.SeatTurns.{IsSeatTurn}
+use Rattle.rv_accounts.specs.declared.fault.AccountsFault.TheVariants as accounts
+use Rattle.rv_cli.specs.declared.ending.Ending.TheVariants as endings
 
 -- ---- The accounts file. Where the place tells, it has these bytes.
 
@@ -140,15 +140,15 @@ module _ {K : Type 0} (G : Ghosts K) (Told : Type 0) (HasFile : List ℕ → Typ
 
 -- A turn of a seat that is closed: what was asked, with its answer. The seat's book as the turn began is a front of its book as the turn
 -- ended, and that one is a front of the book at the end.
-pub record StandsIn {K : Type 0} (G : Ghosts K) (book : Book) (turn : Asked × Answer) : Type 0 where
+pub record StandsIn {K : Type 0} (G : Ghosts K) (book : Book) (turn : Parsed × Answer) : Type 0 where
   pub old : SeatView K
   pub new : SeatView K
-  pub step : Step (SeatMutates G) (SeatPulls G) (SeatRetires G) old turn.0 turn.1 new
+  pub step : Handles (IsSeatTurn G) old turn.0 turn.1 new
   pub grows : StartsWith new.seen old.seen
   pub within : StartsWith book new.seen
 
 -- A pull that was answered shows what its user sees at a point of the book at the end.
-pub record IsShownIn (book : Book) (asked : Asked) (reply : PullReply) : Type 0 where
+pub record IsShownIn (book : Book) (asked : Parsed) (reply : PullReply) : Type 0 where
   pub point : Book
   pub new : Book
   pub shows : ShowsAt asked reply point new
@@ -156,7 +156,7 @@ pub record IsShownIn (book : Book) (asked : Asked) (reply : PullReply) : Type 0 
   pub within : StartsWith book new
 
 -- where the answer is a pull's
-abbrev pub ShowsIn : Book → Asked × Answer → Type 0
+abbrev pub ShowsIn : Book → Parsed × Answer → Type 0
 ShowsIn book (asked, Pulled reply) = IsShownIn book asked reply
 ShowsIn book (asked, answer) = Unit {0}
 
@@ -167,14 +167,14 @@ module _ {K L I O : Type 0} (G : Ghosts K) (accounts : AccountsServed) (input : 
   Serves first given last back = IsServed G accounts input output input_steady output_steady tells to_come came_back out ends first given last back
 
   -- All that was asked over the connections of the listeners, with its answers, listener by listener.
-  abbrev pub turns_served : (first : SeatView K) (givens : List L) (lasts : List (SeatView K)) (backs : List L) → EachServes Serves first givens lasts backs → List (Asked × Answer)
+  abbrev pub turns_served : (first : SeatView K) (givens : List L) (lasts : List (SeatView K)) (backs : List L) → EachServes Serves first givens lasts backs → List (Parsed × Answer)
   turns_served first (given ∷ givens) (last ∷ lasts) (back ∷ backs) (is, each) = turns_of accounts (flat_map (λ conn. conn.answers) is.serves.conns) ++ turns_served first givens lasts backs each
   turns_served first [] lasts backs each = []
   turns_served first (given ∷ givens) [] backs each = []
   turns_served first (given ∷ givens) (last ∷ lasts) [] each = []
 
   -- something holds of all that was asked, where the desk was opened as the first and closed as the last
-  abbrev pub OfAllServed : (Seated K → Seated K → Asked × Answer → Type 0) → Type 0
+  abbrev pub OfAllServed : (Seated K → Seated K → Parsed × Answer → Type 0) → Type 0
   OfAllServed Holds = (opened now : Seated K) (givens backs : List L) (together : ServesTogether G Serves opened givens now backs)
       → AllByRecursion (Holds opened now) (turns_served (newcomer 1 opened) givens together.views backs together.serves)
 

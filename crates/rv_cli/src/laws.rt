@@ -13,8 +13,7 @@ pub fn books_are_lawful()
     ensures { BooksAreLawful }
 {
     rv_history::laws::pushes_keep_law();
-    rv_history::laws::pulls_keep_law();
-    rv_history::laws::retirements_keep_law();
+    rv_history::laws::turns_keep_law();
     rv_history::laws::ids_count_up();
     rv_history::laws::orders_rise();
 }
@@ -25,8 +24,7 @@ pub fn pulls_are_shown()
     ensures { PullsAreShown }
 {
     rv_history::laws::pushes_keep_law();
-    rv_history::laws::pulls_keep_law();
-    rv_history::laws::retirements_keep_law();
+    rv_history::laws::turns_keep_law();
     rv_history::laws::pulls_show();
 }
 

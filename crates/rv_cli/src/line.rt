@@ -2,14 +2,14 @@
 ghost use Rattle.std.specs.Prelude.{◌≡◌, ◌<◌, ◌^◌};
 ghost use Rattle.rv_answering.specs.declared.line.Line.TheVariants.{Asks};
 ghost use Rattle.rv_answering.specs.Reads.{IsReading};
-ghost use Rattle.rv_answering.specs.Requests.{Asked};
+ghost use Rattle.rv_answering.specs.Requests.{Parsed};
 ghost use Rattle.rv_cli.specs.Feeding.{ReopensOrNot, ServesOrNot, TakesLine};
 ghost use Rattle.rv_cli.specs.Steadiness.{LineIsSteady, LineKeepsSteady};
 
 use crate::ending::Ending;
 use crate::feed::BOOK_LIMIT;
 use crate::texts::write_answer;
-use rv_answering::{Asked, Line, line_of, serve_asked};
+use rv_answering::{Line, Parsed, line_of, serve_asked};
 use rv_base::{Failed, Memory, Sink};
 use rv_desk::Desk;
 use rv_keeper::Keeper;
@@ -18,12 +18,12 @@ use std::alloc::Global;
 // Answers what was read of a line, and writes its answer.
 fn serve<K: Keeper, O: Sink>(
     desk: Desk<K>,
-    read: Asked,
+    read: Parsed,
     out: &mut O,
 ) -> Result<Desk<K>, (Ending, K)>
-    ensures serves { (asked : Asked) → IsReading asked read → ServesOrNot K.tells K.holds K.faults desk asked result (O.state out.old) (O.state out.new) }
+    ensures serves { (asked : Parsed) → IsReading asked read → ServesOrNot K.tells K.holds K.faults desk asked result (O.state out.old) (O.state out.new) }
     ensures steady { O.fails_no_more out.old → LineIsSteady (O.fails_no_more out.new) (O.state out.old).refusals (O.state out.new).refusals result }
-    ensures steady_keeper { (asked : Asked) → IsReading asked read → K.fails_no_more desk.keeper → LineKeepsSteady K.fails_no_more K.faults desk.keeper result }
+    ensures steady_keeper { (asked : Parsed) → IsReading asked read → K.fails_no_more desk.keeper → LineKeepsSteady K.fails_no_more K.faults desk.keeper result }
 {
     let mut desk = desk;
     let answer = serve_asked(&mut desk, read);

@@ -5,8 +5,8 @@ use Rattle.rv_book.specs.declared.entry.Entry.{Entry}
 use Rattle.rv_book.specs.Book.{with_entry}
 use Rattle.rv_keeper.specs.declared.fault.KeepFault.{KeepFault}
 use Rattle.rv_keeper.specs.declared.fault.KeepFault.TheVariants.{Failed, Memory}
-use Rattle.rv_history.specs.declared.trouble.Trouble.{Trouble}
-use Rattle.rv_history.specs.declared.trouble.Trouble.TheVariants as troubles
+use Rattle.rv_turns.specs.declared.refusal.Trouble.{Trouble}
+use Rattle.rv_turns.specs.declared.refusal.Trouble.TheVariants as troubles
 use Rattle.rv_history.specs.Served.{Served}
 
 -- It is entered; or the keeper failed, its count of faults rose, and the entry is in doubt; or memory was refused, and all is as before.
@@ -18,7 +18,7 @@ KeepsOrNot old entry (Err Memory) new = (new.book ≡ old.book) × (new.doubt �
 -- the trouble that is told of it, if one is
 abbrev pub keep_trouble : {T : Type 0} → Result T KeepFault → Option Trouble
 keep_trouble (Ok done) = None
-keep_trouble (Err Failed) = Some troubles.Failed
+keep_trouble (Err Failed) = Some troubles.Keeper
 keep_trouble (Err Memory) = None
 
 -- with the count of faults, which never falls, and the limit, which stays

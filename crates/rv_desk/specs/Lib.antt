@@ -2,4 +2,5 @@ pub mod Seated
 pub mod Opened
 pub mod Keeping
 pub mod Settling
-pub mod Pulling
+pub mod Stepping
+pub mod TurnLaws

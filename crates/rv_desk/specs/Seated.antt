@@ -2,8 +2,13 @@
 use Rattle.std.specs.Prelude.{ℕ, ◌⊎◌, Option, None, Some, IfSome, option_map}
 use Rattle.rv_book.specs.declared.entry.Entry.{Entry}
 use Rattle.rv_book.specs.Book.{Book, with_entry}
-use Rattle.rv_history.specs.declared.trouble.Trouble.{Trouble}
-use Rattle.rv_history.specs.Served.{IsAssured, Served}
+use Rattle.rv_turns.specs.Asks.{Ask}
+use Rattle.rv_turns.specs.Outcomes.{trouble_of}
+use Rattle.rv_turns.specs.declared.outcome.Outcome.{Outcome}
+use Rattle.rv_turns.specs.declared.refusal.Trouble.{Trouble}
+use Rattle.rv_wire.specs.Answers.{pull_json}
+use Rattle.rv_history.specs.Served.{IsAssured, Served, TakesTurn}
+use Rattle.rv_keeper.specs.declared.keeper.Keeper.{Ghosts}
 use Rattle.rv_keeper.specs.declared.loaded.Loaded.{Loaded}
 use Rattle.rv_state.specs.declared.prepared.Prepared.{Prepared}
 use Rattle.rv_state.specs.Ready.{IsPrepared}
@@ -25,6 +30,11 @@ served faults desk = record { book = desk.book; limit = desk.limit; doubt = desk
 module _ {K : Type 0} (tells fails_no_more : K → Type 0) where
   abbrev pub Assures : K → Option Trouble → K → Type 0
   Assures old trouble new = IsAssured (tells old) (tells new) (fails_no_more old) (fails_no_more new) trouble
+
+-- A turn of a desk: it is one of its server, whose replies are written as JSON, and this is known besides of its keeper.
+pub record DeskTakes {K : Type 0} (G : Ghosts K) (old : Seated K) (ask : Ask) (outcome : Outcome) (new : Seated K) : Type 0 where
+  pub turn : TakesTurn pull_json (served G.faults old) ask outcome (served G.faults new)
+  pub assured : Assures G.tells G.fails_no_more old.keeper (trouble_of outcome) new.keeper
 
 -- it is kept as the book, or with an entry in doubt as the book or as the book with it
 abbrev pub IsKeptWith : Book → Option Entry → Loaded → Type 0

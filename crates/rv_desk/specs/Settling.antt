@@ -1,18 +1,12 @@
 -- What becomes of an entry in doubt.
-use Rattle.std.specs.Prelude.{◌≡◌, ◌+◌, ◌≤◌, Option, Some, None, IsSome, Result, Ok, Err}
-use Rattle.rv_base.specs.Causes.{Rose}
-use Rattle.rv_book.specs.Book.{size}
-use Rattle.rv_history.specs.declared.trouble.Trouble.{Trouble}
-use Rattle.rv_history.specs.declared.trouble.Trouble.TheVariants.{Failed, Changed}
-use Rattle.rv_history.specs.Served.{Served, Settles, Stays}
+use Rattle.std.specs.Prelude.{◌≡◌, ◌≤◌, Option, Some, None, Result, Ok, Err}
+use Rattle.rv_turns.specs.declared.refusal.Trouble.{Trouble}
+use Rattle.rv_history.specs.Served.{Served, Settles, StaysInDoubt}
 
--- It is dropped or entered, nothing is in doubt any more, and no fault came; or the keeper failed, or is at another generation than either, and
--- all stands as it stood.
+-- It is dropped or entered, nothing is in doubt any more, and no fault came; or it stays in doubt, for this trouble.
 abbrev pub SettlesOrNot : Served → Result (Unit {0}) Trouble → Served → Type 0
 SettlesOrNot old (Ok done) new = Settles old.book old.doubt new.book × (new.doubt ≡ None) × (new.faults ≡ old.faults)
-SettlesOrNot old (Err Failed) new = Rose old.faults new.faults × IsSome old.doubt × Stays old new
-SettlesOrNot old (Err (Changed kept found)) new =
-    Rose old.faults new.faults × IsSome old.doubt × (kept ≡ size old.book) × ¬ (found ≡ kept) × ¬ (found ≡ kept + 1) × Stays old new
+SettlesOrNot old (Err trouble) new = StaysInDoubt old trouble new
 
 -- the trouble that is told, if one is
 abbrev pub settle_trouble : {T : Type 0} → Result T Trouble → Option Trouble

@@ -6,13 +6,12 @@ ghost use Rattle.rv_desk.specs.Opened.{OpensOrNot, OpensLoaded};
 use crate::open_fault::OpenFault;
 use rv_base::{Id, Num, User};
 use rv_book::Book;
-use rv_history::{PullAnswer, RetireAnswer, Turn, Turns};
 use rv_keeper::{KeepFault, Keeper, Loaded};
 use rv_news::Records;
 use rv_rows::{Call, Tables};
 use rv_state::{Prepared, State};
 use rv_store::{Damage, restore};
-use rv_wire::PullRequest;
+use rv_turns::{Asked, Outcome, PullRequest, Refusal, Turns};
 use std::alloc::Global;
 use std::marker::Model;
 
@@ -140,25 +139,47 @@ impl<K: Keeper> Desk<K> {
 }
 
 impl<K: Keeper> Turns for Desk<K> {
-    ghost use Rattle.rv_history.specs.Served.{ServedMutates, ServedPulls, ServedRetires};
-    ghost use Rattle.rv_history.specs.Troubles.{pull_trouble, retire_trouble, turn_trouble};
-    ghost use Rattle.rv_desk.specs.Seated.{Assures, served};
+    ghost use Rattle.rv_desk.specs.Seated.{DeskTakes};
 
-    ghost mutates = { λ old from mutation turn new. ServedMutates (served K.faults old) from mutation turn (served K.faults new) × Assures K.tells K.fails_no_more old.keeper (turn_trouble turn) new.keeper };
+    ghost takes = { DeskTakes K.Keeper };
 
-    ghost pulls = { λ old user request answer new. ServedPulls (served K.faults old) user request answer (served K.faults new) × Assures K.tells K.fails_no_more old.keeper (pull_trouble answer) new.keeper };
+    fn take(&mut self, asked: Asked<'_>) -> Outcome {
+        match self.settle() {
+            Ok(()) => self.take_settled(asked),
+            Err(trouble) => Outcome::Refused(Refusal::Trouble(trouble)),
+        }
+    }
+}
 
-    ghost retires = { λ old group answer new. ServedRetires (served K.faults old) group answer (served K.faults new) × Assures K.tells K.fails_no_more old.keeper (retire_trouble answer) new.keeper };
+impl<K: Keeper> Desk<K> {
+    ghost use Rattle.rv_turns.specs.Asks.{Ask};
+    ghost use Rattle.rv_desk.specs.Seated.{DeskTakes};
 
-    fn mutate(&mut self, user: &User, group: &Id, client: &Id, id: Num, call: Call) -> Turn {
-        Desk::mutate(self, user, group, client, id, call)
+    /// One mutation of a client. Takes no memory unless it is run, and after every refusal but `Trouble::Keeper` all is as before, once
+    /// what was in doubt is settled.
+    pub fn mutate(&mut self, user: &User, group: &Id, client: &Id, id: Num, call: Call) -> Outcome
+        ensures { DeskTakes K.Keeper self.old (Ask.mutation (record { user = user.now; group = group.now }) (record { client = client.now; id = id; call = call })) result self.new }
+    {
+        self.take(Asked::Mutation {
+            user,
+            group,
+            client,
+            id,
+            call,
+        })
     }
 
-    fn pull(&mut self, user: &User, request: &PullRequest) -> PullAnswer {
-        Desk::pull(self, user, request)
+    /// One pull. After every refusal but `Trouble::Keeper` all is as before, once what was in doubt is settled.
+    pub fn pull(&mut self, user: &User, request: &PullRequest) -> Outcome
+        ensures { DeskTakes K.Keeper self.old (Ask.pull user.now request.now) result self.new }
+    {
+        self.take(Asked::Pull { user, request })
     }
 
-    fn retire(&mut self, group: &Id) -> RetireAnswer {
-        Desk::retire(self, group)
+    /// Retires a client group, for good. After every refusal but `Trouble::Keeper` all is as before, once what was in doubt is settled.
+    pub fn retire(&mut self, group: &Id) -> Outcome
+        ensures { DeskTakes K.Keeper self.old (Ask.retirement group.now) result self.new }
+    {
+        self.take(Asked::Retirement { group })
     }
 }

@@ -13,6 +13,7 @@ mod open_fault;
 mod pulling;
 mod retiring;
 mod settling;
+mod stepping;
 
 pub use desk::Desk;
 pub use open_fault::OpenFault;

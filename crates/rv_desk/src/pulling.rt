@@ -1,86 +1,67 @@
-// Turns of pulls.
+// Pulls where nothing is in doubt.
 ghost use Rattle.std.specs.Prelude.{◌≡◌, ◌<◌, None};
 ghost use Rattle.rv_book.specs.Book.{size};
 ghost use Rattle.rv_book.specs.declared.entry.Entry.TheVariants.{Look};
 ghost use Rattle.rv_history.specs.Groups.{Admits};
 ghost use Rattle.rv_history.specs.Lawful.{IsLawfulAfter};
 ghost use Rattle.rv_history.specs.Machine.{IsUnchanged, next_order};
-ghost use Rattle.rv_history.specs.Served.{ServedPulls};
 ghost use Rattle.rv_news.specs.News.{IsNews};
+ghost use Rattle.rv_turns.specs.Asks.{Ask};
 ghost use Rattle.rv_desk.specs.Keeping.{keep_trouble};
-ghost use Rattle.rv_desk.specs.Pulling.{IsPulled};
-ghost use Rattle.rv_history.specs.Troubles.{pull_trouble};
 ghost use Rattle.rv_desk.specs.Seated.{Assures, served};
+ghost use Rattle.rv_desk.specs.Stepping.{HasStepped};
 
 use crate::desk::Desk;
 use crate::keeping::keep;
-use crate::settling::settle;
 use rv_base::{Num, User};
-use rv_history::{PullAnswer, PullReply, next_order};
+use rv_history::next_order;
 use rv_keeper::{KeepFault, Keeper};
 use rv_news::{Admission, News, admits};
-use rv_wire::{PullRequest, Which};
+use rv_turns::{Outcome, PullRequest, Refusal, Which};
+use rv_wire::same_reply;
 
 impl<K: Keeper> Desk<K> {
-    /// One pull. After every refusal but [`PullAnswer::Keeper`] all is as before, once what was in doubt is settled.
-    pub fn pull(&mut self, user: &User, request: &PullRequest) -> PullAnswer
-        ensures turn { ServedPulls (served K.faults self.old) user.now request.now result (served K.faults self.new) }
-        ensures assured { Assures K.tells K.fails_no_more self.old.keeper (pull_trouble result) self.new.keeper }
-    {
-        match settle(&mut self.state, &mut self.doubt, &mut self.keeper) {
-            Ok(()) => self.pull_settled(user, request),
-            Err(trouble) => PullAnswer::of_trouble(trouble),
-        }
-    }
-
-    // A pull where nothing is in doubt.
-    fn pull_settled(&mut self, user: &User, request: &PullRequest) -> PullAnswer
+    // A pull.
+    pub(crate) fn answer(
+        &mut self,
+        user: &User,
+        request: &PullRequest,
+    ) -> Result<Outcome, KeepFault>
         requires settled { self.old.doubt ≡ None }
-        ensures turn { ServedPulls (served K.faults self.old) user.now request.now result (served K.faults self.new) }
-        ensures assured { Assures K.tells K.fails_no_more self.old.keeper (pull_trouble result) self.new.keeper }
+        ensures stepped { HasStepped (served K.faults self.old) (Ask.pull user.now request.now) result (served K.faults self.new) }
+        ensures assured { Assures K.tells K.fails_no_more self.old.keeper (keep_trouble result) self.new.keeper }
     {
         match admits(self.state.book(), user, &request.group) {
-            Admission::OfOther => PullAnswer::GroupOfOther,
-            Admission::Retired => PullAnswer::NotFound,
-            Admission::Open => self.pull_admitted(user, request),
+            Admission::OfOther => Ok(Outcome::Refused(Refusal::GroupOfOther)),
+            Admission::Retired => Ok(Outcome::Refused(Refusal::NotFound)),
+            Admission::Open => self.answer_admitted(user, request),
         }
     }
 
-    // A pull of a group that its user may use.
-    fn pull_admitted(&mut self, user: &User, request: &PullRequest) -> PullAnswer
+    // A pull of a group that its user may use: tells what is news since the base that the cookie names, if there is anything to tell.
+    fn answer_admitted(&mut self, user: &User, request: &PullRequest) -> Result<Outcome, KeepFault>
         requires settled { self.old.doubt ≡ None }
         requires admits { Admits user.now request.now.group self.old.book }
-        ensures turn { ServedPulls (served K.faults self.old) user.now request.now result (served K.faults self.new) }
-        ensures assured { Assures K.tells K.fails_no_more self.old.keeper (pull_trouble result) self.new.keeper }
-    {
-        match self.answer(user, request) {
-            Ok(answer) => answer,
-            Err(KeepFault::Failed) => PullAnswer::Keeper,
-            Err(KeepFault::Memory) => PullAnswer::Memory,
-        }
-    }
-
-    // Tells what is news since the base that the cookie names, if there is anything to tell.
-    fn answer(&mut self, user: &User, request: &PullRequest) -> Result<PullAnswer, KeepFault>
-        requires settled { self.old.doubt ≡ None }
-        requires admits { Admits user.now request.now.group self.old.book }
-        ensures pulled { IsPulled user.now request.now (served K.faults self.old) result (served K.faults self.new) }
+        ensures stepped { HasStepped (served K.faults self.old) (Ask.pull user.now request.now) result (served K.faults self.new) }
         ensures assured { Assures K.tells K.fails_no_more self.old.keeper (keep_trouble result) self.new.keeper }
     {
         if self.state.is_unchanged(user, request)? {
-            return Ok(PullAnswer::Pulled(PullReply::of_request(self.alloc, request)?));
+            return Ok(Outcome::Pulled(same_reply(self.alloc, request)?));
         }
         let news = self.state.news(user, request)?;
         if news.is_empty() {
-            return Ok(PullAnswer::Pulled(PullReply::of_request(self.alloc, request)?));
+            return Ok(Outcome::Pulled(same_reply(self.alloc, request)?));
         }
         let book = self.state.book();
         let order = next_order(&request.cookie, book.last_order(&request.group));
         if order > Num::MAX {
-            return Ok(PullAnswer::Limit(Which::Order, Num::from_u64(Num::MAX)));
+            return Ok(Outcome::Refused(Refusal::Limit(Which::Order, Num::from_u64(Num::MAX))));
         }
         if book.is_full() {
-            return Ok(PullAnswer::Limit(Which::Book, Num::from_u64(u64::from(book.len()))));
+            return Ok(Outcome::Refused(Refusal::Limit(
+                Which::Book,
+                Num::from_u64(u64::from(book.len())),
+            )));
         }
         self.look(user, request, Num::from_u64(order), news)
     }
@@ -92,7 +73,7 @@ impl<K: Keeper> Desk<K> {
         request: &PullRequest,
         order: Num,
         news: News,
-    ) -> Result<PullAnswer, KeepFault>
+    ) -> Result<Outcome, KeepFault>
         requires settled { self.old.doubt ≡ None }
         requires admits { Admits user.now request.now.group self.old.book }
         requires changed { ¬ IsUnchanged user.now request.now self.old.book }
@@ -100,7 +81,7 @@ impl<K: Keeper> Desk<K> {
         requires order { order ≡ next_order request.now self.old.book }
         requires news { IsNews self.old.book user.now request.now news }
         requires lawful { IsLawfulAfter self.old.book (Look user.now request.now.group order news.base) }
-        ensures pulled { IsPulled user.now request.now (served K.faults self.old) result (served K.faults self.new) }
+        ensures stepped { HasStepped (served K.faults self.old) (Ask.pull user.now request.now) result (served K.faults self.new) }
         ensures assured { Assures K.tells K.fails_no_more self.old.keeper (keep_trouble result) self.new.keeper }
     {
         let (reply, prepared) = self.state.prepare_look(user, request, order, news)?;
@@ -111,7 +92,7 @@ impl<K: Keeper> Desk<K> {
             &mut self.keeper,
             prepared,
         ) {
-            Ok(()) => Ok(PullAnswer::Pulled(reply)),
+            Ok(()) => Ok(Outcome::Pulled(reply)),
             Err(KeepFault::Failed) => Err(KeepFault::Failed),
             Err(KeepFault::Memory) => Err(KeepFault::Memory),
         }

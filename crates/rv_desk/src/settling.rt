@@ -7,9 +7,9 @@ ghost use Rattle.rv_state.specs.Ready.{IsPrepared};
 use crate::desk::Desk;
 use crate::doubt::leave_in_doubt;
 use rv_base::Failed;
-use rv_history::Trouble;
 use rv_keeper::Keeper;
 use rv_state::{Prepared, State};
+use rv_turns::Trouble;
 
 impl<K: Keeper> Desk<K> {
     /// Settles the entry in doubt, if there is one: it is entered where it was kept, and dropped where it was not. Where the keeper
@@ -68,7 +68,7 @@ fn settle_one<K: Keeper>(
         }
         Err(Failed) => {
             leave_in_doubt(doubt, prepared);
-            Err(Trouble::Failed)
+            Err(Trouble::Keeper)
         }
     }
 }

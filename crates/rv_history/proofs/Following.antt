@@ -19,6 +19,7 @@ use Rattle.rv_book.specs.BookWords.{entry_at-end, entry_at-up_to, entry_at-withi
 use Rattle.rv_book.specs.Kept.{look_of, look_at}
 use Rattle.rv_history.specs.Bases.{base_of, base_group}
 use Rattle.rv_history.specs.Based.{base_look, base_spelled}
+use Rattle.rv_history.specs.Machine.{ReplyText}
 use Rattle.rv_history.specs.Clients.{Held, nothing, ClientPull, held_then, ArePulls, IsClient, IsCurrent, WasTold, EachCurrent}
 use Rattle.rv_history.specs.Laws.{IsBaseView, known_ids}
 use Rattle.rv_history.specs.LookIds.{ids_look}
@@ -123,7 +124,7 @@ record IsAt (user : List ℕ) (book : Book) (held : Held) : Type 0 where
 abbrev Stands : List ℕ → Book → Held → Type 0
 Stands user book held = (held.cookie ≡ Null) ⊎ IsAt user book held
 
-module _ (user : List ℕ) (book : Book) (pull : ClientPull) (fits : size book < 2 ^ 64) (told : WasTold user book pull) (asks : pull.request.cookie ≡ pull.base.cookie) (stands : Stands user book pull.base) where
+module _ (write : ReplyText) (user : List ℕ) (book : Book) (pull : ClientPull) (fits : size book < 2 ^ 64) (told : WasTold write user book pull) (asks : pull.request.cookie ≡ pull.base.cookie) (stands : Stands user book pull.base) where
   -- the point is a front of the book
   since_point : (more : Book) × (book ≡ told.point ++ more)
   since_point = go pull.reply.same refl
@@ -225,11 +226,11 @@ module _ (user : List ℕ) (book : Book) (pull : ClientPull) (fits : size book <
   stands_then : Stands user book (held_then pull)
   stands_then = elim pull.reply.same as (λ b. pull.reply.same ≡ b → Stands user book (held_then pull)) [ true ↦ same_stands | false ↦ look_stands ] refl
 
-follows : (user : List ℕ) (book : Book) → size book < 2 ^ 64 → (held : List Held) → AllByRecursion (Stands user book) held → (pulls : List ClientPull) → ArePulls held pulls → (told : AllByRecursion (WasTold user book) pulls) → EachCurrent user book pulls told
-follows user book fits held all [] pulls told = tt
-follows user book fits held all (pull ∷ pulls) (within, asks, rest) (told, others) =
+follows : (write : ReplyText) (user : List ℕ) (book : Book) → size book < 2 ^ 64 → (held : List Held) → AllByRecursion (Stands user book) held → (pulls : List ClientPull) → ArePulls held pulls → (told : AllByRecursion (WasTold write user book) pulls) → EachCurrent write user book pulls told
+follows write user book fits held all [] pulls told = tt
+follows write user book fits held all (pull ∷ pulls) (within, asks, rest) (told, others) =
     let stands : Stands user book pull.base = all_at (Stands user book) held pull.base all within in
-    (current_then user book pull fits told asks stands, follows user book fits (held_then pull ∷ held) (stands_then user book pull fits told asks stands, all) pulls rest others)
+    (current_then write user book pull fits told asks stands, follows write user book fits (held_then pull ∷ held) (stands_then write user book pull fits told asks stands, all) pulls rest others)
 
-pub clients_follow : (user : List ℕ) (book : Book) (pulls : List ClientPull) → size book < 2 ^ 64 → IsClient pulls → (told : AllByRecursion (WasTold user book) pulls) → EachCurrent user book pulls told
-clients_follow user book pulls fits client told = follows user book fits (nothing ∷ []) (inl refl, tt) pulls client told
+pub clients_follow : (write : ReplyText) (user : List ℕ) (book : Book) (pulls : List ClientPull) → size book < 2 ^ 64 → IsClient pulls → (told : AllByRecursion (WasTold write user book) pulls) → EachCurrent write user book pulls told
+clients_follow write user book pulls fits client told = follows write user book fits (nothing ∷ []) (inl refl, tt) pulls client told

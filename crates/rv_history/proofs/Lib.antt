@@ -1,5 +1,4 @@
 pub mod Following
 pub mod KeptLaws
-pub mod Pushes
 pub mod Shown
 pub mod Standing

@@ -9,22 +9,21 @@ use Rattle.std.proofs.lemmas.List.Elements.{All-contains, All-contains_itself, A
 use Rattle.std.proofs.lemmas.List.Folds.{list_any-append, list_any_at}
 use Rattle.std.proofs.lemmas.Map.Views.{Contains-from_any}
 use Rattle.std.proofs.lemmas.Slice.Eq.{bytes_eq-Decides}
-use Rattle.serde_json.specs.Written.{compact_text}
-use Rattle.rv_wire.specs.Answers.{pull_data}
 use Rattle.rv_rows.specs.declared.row.Row.{Row}
 use Rattle.rv_rows.specs.Keys.{row_key}
 use Rattle.rv_rows.specs.Sharing.{seen}
-use Rattle.rv_wire.specs.declared.op.Op.{Op}
-use Rattle.rv_wire.specs.declared.op.Op.TheVariants.{Del, Put}
-use Rattle.rv_wire.specs.declared.pull.PullRequest.{PullRequest}
-use Rattle.rv_history.specs.declared.pull_reply.PullReply.{PullReply}
-use Rattle.rv_history.specs.declared.pull_answer.PullAnswer.TheVariants.{Pulled}
+use Rattle.rv_turns.specs.Asks.{Ask}
+use Rattle.rv_turns.specs.declared.op.Op.{Op}
+use Rattle.rv_turns.specs.declared.op.Op.TheVariants.{Del, Put}
+use Rattle.rv_turns.specs.declared.outcome.Outcome.TheVariants.{Pulled}
+use Rattle.rv_turns.specs.declared.pull.PullReply.{PullReply}
+use Rattle.rv_turns.specs.declared.pull.PullRequest.{PullRequest}
 use Rattle.rv_book.specs.Book.{Book, last_order, ids, since, up_to}
 use Rattle.rv_history.specs.Replay.{rows_of}
 use Rattle.rv_history.specs.Bases.{base_of, base_group}
 use Rattle.rv_history.specs.Patches.{ClientView, client_view, apply}
 use Rattle.rv_history.specs.History.{is_absent, is_news, patch_since, is_among, ids_since}
-use Rattle.rv_history.specs.Machine.{Replies, Pulls, cookie_order, next_order, patch_for, ids_for, same_reply, reply_to}
+use Rattle.rv_history.specs.Machine.{ReplyText, Step, Replies, cookie_order, next_order, patch_for, ids_for, same_reply, reply_to}
 use Rattle.rv_history.specs.Laws.{IsBaseView, IsPermitted, is_clear, ClearsWithoutBase, EntersLook, known_ids, Tells}
 use Rattle.rv_history.specs.Based.{first_and, last_and}
 use Rattle.rv_history.specs.Based.{next_above}
@@ -157,42 +156,43 @@ Cookies user request book new reply =
     × (reply.same ≡ false → (last_order request.group book < cookie_order reply.cookie) × (cookie_order request.cookie < cookie_order reply.cookie))
     × (reply.same ≡ false → EntersLook user request book new reply.cookie)
 
-tells : (user : List ℕ) (request : PullRequest) (book new : Book) (reply : PullReply) → reply.ops ≡ patch_for user request book → reply.ids ≡ ids_for user request book → reply.text ≡ compact_text (pull_data reply.cookie reply.ids reply.ops) → Cookies user request book new reply → Tells user request book new reply
-tells user request book new reply ops told text cookies =
-    let base : Option ℕ = base_of user request.cookie book in
-    let group : Option (ℕ × List ℕ) = option_and_then (base_group book) base in
-    record {
-      shows = λ view is. ap (λ (t : List Op). apply t view) ops ∙ patch_shows user book base view is;
-      clears = subst (λ (t : List Op). ClearsWithoutBase base t) (sym ops) (patch_clears user book base);
-      permitted = subst (λ (t : List Op). AllByRecursion (IsPermitted user book base) t) (sym ops) (patch_permitted book user base);
-      complete = λ pair there. subst (λ (t : List (List ℕ × ℕ)). Contains (known_ids user request book) pair ⊎ Contains t pair) (sym told) (ids_complete request.group book group pair there);
-      sound = λ pair there. ids_sound request.group book group pair (subst (λ (t : List (List ℕ × ℕ)). Contains t pair) told there);
-      news = λ pair there. ids_news request.group book group pair (subst (λ (t : List (List ℕ × ℕ)). Contains t pair) told there);
-      no_lower = cookies.0;
-      same = cookies.1;
-      text = text;
-      above = cookies.2;
-      looks = cookies.3;
-    }
+module _ (write : ReplyText) where
+  tells : (user : List ℕ) (request : PullRequest) (book new : Book) (reply : PullReply) → reply.ops ≡ patch_for user request book → reply.ids ≡ ids_for user request book → reply.text ≡ write reply.cookie reply.ids reply.ops → Cookies user request book new reply → Tells write user request book new reply
+  tells user request book new reply ops told text cookies =
+      let base : Option ℕ = base_of user request.cookie book in
+      let group : Option (ℕ × List ℕ) = option_and_then (base_group book) base in
+      record {
+        shows = λ view is. ap (λ (t : List Op). apply t view) ops ∙ patch_shows user book base view is;
+        clears = subst (λ (t : List Op). ClearsWithoutBase base t) (sym ops) (patch_clears user book base);
+        permitted = subst (λ (t : List Op). AllByRecursion (IsPermitted user book base) t) (sym ops) (patch_permitted book user base);
+        complete = λ pair there. subst (λ (t : List (List ℕ × ℕ)). Contains (known_ids user request book) pair ⊎ Contains t pair) (sym told) (ids_complete request.group book group pair there);
+        sound = λ pair there. ids_sound request.group book group pair (subst (λ (t : List (List ℕ × ℕ)). Contains t pair) told there);
+        news = λ pair there. ids_news request.group book group pair (subst (λ (t : List (List ℕ × ℕ)). Contains t pair) told there);
+        no_lower = cookies.0;
+        same = cookies.1;
+        text = text;
+        above = cookies.2;
+        looks = cookies.3;
+      }
 
--- a reply with the text of its parts
-own_text : (reply is : PullReply) → reply ≡ is → is.text ≡ compact_text (pull_data is.cookie is.ids is.ops) → reply.text ≡ compact_text (pull_data reply.cookie reply.ids reply.ops)
-own_text reply is same text = subst (λ (r : PullReply). r.text ≡ compact_text (pull_data r.cookie r.ids r.ops)) (sym same) text
+  -- a reply with the text of its parts
+  own_text : (reply is : PullReply) → reply ≡ is → is.text ≡ write is.cookie is.ids is.ops → reply.text ≡ write reply.cookie reply.ids reply.ops
+  own_text reply is same text = subst (λ (r : PullReply). r.text ≡ write r.cookie r.ids r.ops) (sym same) text
 
-replies_tell : (limit : ℕ) (user : List ℕ) (request : PullRequest) (book new : Book) (same : Bool) (reply : PullReply) → Replies limit user request book same reply new → Tells user request book new reply
-replies_tell limit user request book new true reply (none, is, stays) =
-    let cookie : reply.cookie ≡ request.cookie = ap (λ (r : PullReply). r.cookie) is in
-    let own : reply.same ≡ true = ap (λ (r : PullReply). r.same) is in
-    let order : cookie_order reply.cookie ≡ cookie_order request.cookie = ap cookie_order cookie in
-    let ops : reply.ops ≡ [] = ap (λ (r : PullReply). r.ops) is in
-    let told : reply.ids ≡ [] = ap (λ (r : PullReply). r.ids) is in
-    tells user request book new reply (ops ∙ sym none.0) (told ∙ sym none.1) (own_text reply (same_reply request) is refl)
-    (omega arith, (λ yes. (ops, told, cookie, stays)), (λ no. absurd (let both : true ≡ false = sym own ∙ no in cc)), (λ no. absurd (let both : true ≡ false = sym own ∙ no in cc)))
-replies_tell limit user request book new false reply (some, fits, room, is, more) =
-    let other : reply.same ≡ false = ap (λ (r : PullReply). r.same) is in
-    let rises = next_above (cookie_order request.cookie) (last_order request.group book) (cookie_order reply.cookie) (ap (λ (r : PullReply). cookie_order r.cookie) is) in
-    tells user request book new reply (ap (λ (r : PullReply). r.ops) is) (ap (λ (r : PullReply). r.ids) is) (own_text reply (reply_to user request book) is refl)
-    (omega arith, (λ yes. absurd (let both : true ≡ false = sym yes ∙ other in cc)), (λ no. (rises.1, rises.0)), (λ no. (next_order request book, ap (λ (r : PullReply). r.cookie) is, more)))
+  replies_tell : (limit : ℕ) (user : List ℕ) (request : PullRequest) (book new : Book) (same : Bool) (reply : PullReply) → Replies write limit book user request same reply new → Tells write user request book new reply
+  replies_tell limit user request book new true reply (none, is, stays) =
+      let cookie : reply.cookie ≡ request.cookie = ap (λ (r : PullReply). r.cookie) is in
+      let own : reply.same ≡ true = ap (λ (r : PullReply). r.same) is in
+      let order : cookie_order reply.cookie ≡ cookie_order request.cookie = ap cookie_order cookie in
+      let ops : reply.ops ≡ [] = ap (λ (r : PullReply). r.ops) is in
+      let told : reply.ids ≡ [] = ap (λ (r : PullReply). r.ids) is in
+      tells user request book new reply (ops ∙ sym none.0) (told ∙ sym none.1) (own_text reply (same_reply write request) is refl)
+      (omega arith, (λ yes. (ops, told, cookie, stays)), (λ no. absurd (let both : true ≡ false = sym own ∙ no in cc)), (λ no. absurd (let both : true ≡ false = sym own ∙ no in cc)))
+  replies_tell limit user request book new false reply (some, fits, room, is, more) =
+      let other : reply.same ≡ false = ap (λ (r : PullReply). r.same) is in
+      let rises = next_above (cookie_order request.cookie) (last_order request.group book) (cookie_order reply.cookie) (ap (λ (r : PullReply). cookie_order r.cookie) is) in
+      tells user request book new reply (ap (λ (r : PullReply). r.ops) is) (ap (λ (r : PullReply). r.ids) is) (own_text reply (reply_to write user request book) is refl)
+      (omega arith, (λ yes. absurd (let both : true ≡ false = sym yes ∙ other in cc)), (λ no. (rises.1, rises.0)), (λ no. (next_order request book, ap (λ (r : PullReply). r.cookie) is, more)))
 
-pub pulls_show : (limit : ℕ) (user : List ℕ) (request : PullRequest) (book new : Book) (reply : PullReply) → Pulls limit user request book (Pulled reply) new → Tells user request book new reply
-pulls_show limit user request book new reply (admits, replies) = replies_tell limit user request book new reply.same reply replies
+  pub pulls_show : (limit : ℕ) (user : List ℕ) (request : PullRequest) (book new : Book) (reply : PullReply) → Step write limit book (Ask.pull user request) (Pulled reply) new → Tells write user request book new reply
+  pulls_show limit user request book new reply (admits, replies) = replies_tell limit user request book new reply.same reply replies

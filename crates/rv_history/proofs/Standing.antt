@@ -7,22 +7,24 @@ use Rattle.std.proofs.lemmas.Option.{same_Some}
 use Rattle.std.proofs.lemmas.List.Elements.{Contains-append_left, Contains-append_right}
 use Rattle.std.proofs.lemmas.Slice.Eq.{bytes_eq-Decides}
 use Rattle.rv_rows.specs.declared.call.Call.{Call}
-use Rattle.rv_wire.specs.declared.error_body.ErrorBody.{ErrorBody}
-use Rattle.rv_wire.specs.declared.push.Mutation.{Mutation}
+use Rattle.rv_turns.specs.Asks.{Sender, Ask}
+use Rattle.rv_turns.specs.Outcomes.{refusal_of}
+use Rattle.rv_turns.specs.Pushing.{Pushes}
+use Rattle.rv_turns.specs.declared.mutation.Mutation.{Mutation}
+use Rattle.rv_turns.specs.declared.outcome.Outcome.{Outcome}
+use Rattle.rv_turns.specs.declared.outcome.Outcome.TheVariants.{Acted, Skipped, Pulled, Retired, Refused}
+use Rattle.rv_turns.specs.declared.refusal.Refusal.{Refusal}
 use Rattle.rv_book.specs.declared.entry.Entry.{Entry}
 use Rattle.rv_book.specs.declared.entry.Entry.TheVariants.{Act, Look, Retire}
 use Rattle.rv_book.specs.Book.{Book, bound, group_of, last}
-use Rattle.rv_history.specs.declared.trouble.Trouble.{Trouble}
-use Rattle.rv_history.specs.declared.turn.Turn.{Turn}
-use Rattle.rv_history.specs.declared.turn.Turn.TheVariants.{Acted, Skipped, Future, GroupOfOther, ClientOfOther, NotFound, Limit, Keeper, Changed, Memory}
 use Rattle.rv_history.specs.GroupLaws.{groups_have_one_user, clients_have_one_group}
 use Rattle.rv_history.specs.Lawful.{IsLawful}
 use Rattle.rv_history.specs.LawfulBooks.{ids_count_up}
 use Rattle.rv_history.specs.Laws.{act_ids, IsEntered}
-use Rattle.rv_history.specs.Machine.{Sender, Takes, Mutates, Pushes, refusal}
-use Rattle.rv_history.specs.Troubles.{turn_trouble}
-use Rattle.rv_history.specs.Served.{Served, IsSound, ServedMutates, TurnOf}
-use Rattle.rv_history.proofs.KeptLaws.{mutates_keep, pushes_keep, settled_lawful}
+use Rattle.rv_history.specs.Machine.{ReplyText, Step, Takes}
+use Rattle.rv_history.specs.Served.{Served, IsSound, TakesTurn}
+use Rattle.rv_history.specs.TurnLaws.{no_trouble, step_of}
+use Rattle.rv_history.proofs.KeptLaws.{turns_keep, pushes_keep, settled_lawful}
 
 -- an element is the first, or is among the others
 first_or : {X : Type 0} (x : X) (xs : List X) (y : X) → Contains (x ∷ xs) y → (x ≡ y) ⊎ Contains xs y
@@ -95,55 +97,37 @@ entered from m book lawful takes (user, group, call, there) =
     let who : user ≡ from.user = same_text (bound from.group book) user from.user bound_here takes.admits.own in
     (call, subst (λ (x : Entry). Contains book x) (λ i. Act (who i) (which i) m.client m.id call) there)
 
-pub mutation_stands : (limit : ℕ) (from : Sender) (m : Mutation) (book new : Book) (turn : Turn) → Mutates limit from m book turn new → refusal turn ≡ None → IsLawful book → 1 ≤ m.id → IsEntered from new m
-mutation_stands limit from m book new (Acted place) (takes, next, room, at, is) none lawful first =
-    let e : Entry = Act from.user from.group m.client m.id m.call in
-    (m.call, subst (λ (b : Book). Contains b e) (sym is) (Contains-append_right book (e ∷ []) e (0, omega arith, refl)))
-mutation_stands limit from m book new (Skipped number) (takes, le, is, same) none lawful first =
-    subst (λ (b : Book). IsEntered from b m) (sym same) (entered from m book lawful takes (has_act book m.client m.id lawful first le))
-mutation_stands limit from m book new (Future expected got) step some lawful first = absurd (cc)
-mutation_stands limit from m book new GroupOfOther step some lawful first = absurd (cc)
-mutation_stands limit from m book new ClientOfOther step some lawful first = absurd (cc)
-mutation_stands limit from m book new NotFound step some lawful first = absurd (cc)
-mutation_stands limit from m book new (Limit what at) step some lawful first = absurd (cc)
-mutation_stands limit from m book new Keeper step some lawful first = absurd (cc)
-mutation_stands limit from m book new (Changed kept found) step some lawful first = absurd (cc)
-mutation_stands limit from m book new Memory step some lawful first = absurd (cc)
-
--- a mutation that is not refused tells no trouble
-no_trouble : (turn : Turn) → refusal turn ≡ None → turn_trouble turn ≡ None
-no_trouble (Acted place) none = refl
-no_trouble (Skipped number) none = refl
-no_trouble (Future expected got) some = absurd (cc)
-no_trouble GroupOfOther some = absurd (cc)
-no_trouble ClientOfOther some = absurd (cc)
-no_trouble NotFound some = absurd (cc)
-no_trouble (Limit what at) some = absurd (cc)
-no_trouble Keeper some = absurd (cc)
-no_trouble (Changed kept found) some = absurd (cc)
-no_trouble Memory some = absurd (cc)
-
-turn_stands : (from : Sender) (m : Mutation) (old new : Served) (turn : Turn) → ServedMutates old from m turn new → refusal turn ≡ None → IsSound old → 1 ≤ m.id → IsEntered from new.book m
-turn_stands from m old new turn taken none sound first =
-    let here : TurnOf turn_trouble (Mutates old.limit from m) old turn new None = subst (λ (found : Option Trouble). TurnOf turn_trouble (Mutates old.limit from m) old turn new found) (no_trouble turn none) taken.turn in
-    mutation_stands old.limit from m here.0 new.book turn here.2 none (settled_lawful old here.0 here.1 sound) first
-
 stands_on : (from : Sender) (m : Mutation) (book more new : Book) → new ≡ book ++ more → IsEntered from book m → IsEntered from new m
 stands_on from m book more new is (call, there) =
     let e : Entry = Act from.user from.group m.client m.id call in
     (call, subst (λ (b : Book). Contains b e) (sym is) (Contains-append_left book more e there))
 
--- a push that is not refused goes on after each mutation
-went_on : (from : Sender) (ms : List Mutation) (mid new : Served) (later : Bool) (refused : Option ErrorBody)
-    → MatchOption refused (Pushes ServedMutates from ms mid None later new) (λ why. (None ≡ Some why) × (later ≡ false) × (new ≡ mid))
-    → (refused ≡ None) × Pushes ServedMutates from ms mid None later new
-went_on from ms mid new later None goes = (refl, goes)
-went_on from ms mid new later (Some why) (is, none, same) = absurd (cc)
+module _ (write : ReplyText) (from : Sender) where
+  pub mutation_stands : (limit : ℕ) (m : Mutation) (book new : Book) (outcome : Outcome) → Step write limit book (Ask.mutation from m) outcome new → refusal_of outcome ≡ None → IsLawful book → 1 ≤ m.id → IsEntered from new m
+  mutation_stands limit m book new (Acted place) (takes, next, room, at, is) none lawful first =
+      let e : Entry = Act from.user from.group m.client m.id m.call in
+      (m.call, subst (λ (b : Book). Contains b e) (sym is) (Contains-append_right book (e ∷ []) e (0, omega arith, refl)))
+  mutation_stands limit m book new (Skipped number) (takes, le, is, same) none lawful first =
+      subst (λ (b : Book). IsEntered from b m) (sym same) (entered from m book lawful takes (has_act book m.client m.id lawful first le))
+  mutation_stands limit m book new (Refused refusal) step some lawful first = absurd (cc)
+  mutation_stands limit m book new (Pulled reply) never none lawful first = absurd never
+  mutation_stands limit m book new (Retired place) never none lawful first = absurd never
 
-pub pushes_stand : (from : Sender) (mutations : List Mutation) (old new : Served) (acted : Bool) → Pushes ServedMutates from mutations old None acted new → IsSound old → AllByRecursion (λ m. 1 ≤ m.id → IsEntered from new.book m) mutations
-pushes_stand from [] old new acted pushed sound = tt
-pushes_stand from (m ∷ ms) old new acted (turn, mid, later, taken, acts, rest) sound =
-    let (none, goes) = went_on from ms mid new later (refusal turn) rest in
-    let kept = mutates_keep from m old mid turn taken sound in
-    let more = (pushes_keep from ms mid new None later goes kept.sound).more in
-    (λ first. stands_on from m mid.book more.0 new.book more.1 (turn_stands from m old mid turn taken none sound first), pushes_stand from ms mid new later goes kept.sound)
+  turn_stands : (m : Mutation) (old new : Served) (outcome : Outcome) → TakesTurn write old (Ask.mutation from m) outcome new → refusal_of outcome ≡ None → IsSound old → 1 ≤ m.id → IsEntered from new.book m
+  turn_stands m old new outcome taken none sound first =
+      mutation_stands old.limit m taken.settled new.book outcome (step_of write (Ask.mutation from m) outcome old new taken (no_trouble outcome none)) none (settled_lawful old taken.settled taken.settles sound) first
+
+  -- a push that is not refused goes on after each mutation
+  went_on : (ms : List Mutation) (mid new : Served) (later : Bool) (refused : Option Refusal)
+      → MatchOption refused (Pushes (TakesTurn write) from ms mid None later new) (λ why. (None ≡ Some why) × (later ≡ false) × (new ≡ mid))
+      → (refused ≡ None) × Pushes (TakesTurn write) from ms mid None later new
+  went_on ms mid new later None goes = (refl, goes)
+  went_on ms mid new later (Some why) (is, none, same) = absurd (cc)
+
+  pub pushes_stand : (mutations : List Mutation) (old new : Served) (acted : Bool) → Pushes (TakesTurn write) from mutations old None acted new → IsSound old → AllByRecursion (λ m. 1 ≤ m.id → IsEntered from new.book m) mutations
+  pushes_stand [] old new acted pushed sound = tt
+  pushes_stand (m ∷ ms) old new acted (outcome, mid, later, taken, acts, rest) sound =
+      let (none, goes) = went_on ms mid new later (refusal_of outcome) rest in
+      let kept = turns_keep write (Ask.mutation from m) old mid outcome taken sound in
+      let more = (pushes_keep write from ms mid new None later goes kept.sound).more in
+      (λ first. stands_on from m mid.book more.0 new.book more.1 (turn_stands m old mid outcome taken none sound first), pushes_stand ms mid new later goes kept.sound)

@@ -9,7 +9,7 @@ use Rattle.std.proofs.lemmas.Option.{same_Some}
 use Rattle.std.proofs.lemmas.Slice.Eq.{bytes_eq-Decides}
 use Rattle.rv_views.specs.declared.cookie.Cookie.{Cookie}
 use Rattle.rv_views.specs.declared.cookie.Cookie.TheVariants.{Null, Bare, Named}
-use Rattle.rv_wire.specs.declared.pull.PullRequest.{PullRequest}
+use Rattle.rv_turns.specs.declared.pull.PullRequest.{PullRequest}
 use Rattle.rv_book.specs.Book.{Book, last_order, size}
 use Rattle.rv_book.specs.Kept.{look_at, kept}
 use Rattle.rv_history.specs.Bases.{names_base, base_of}

@@ -4,10 +4,11 @@ use Rattle.std.specs.List.{AllByRecursion}
 use Rattle.rv_base.specs.Sorted.{find_by}
 use Rattle.rv_views.specs.declared.cookie.Cookie.{Cookie}
 use Rattle.rv_views.specs.declared.cookie.Cookie.TheVariants.{Null}
-use Rattle.rv_wire.specs.declared.pull.PullRequest.{PullRequest}
+use Rattle.rv_turns.specs.declared.pull.PullRequest.{PullRequest}
 use Rattle.rv_book.specs.Book.{Book, ids, size}
-use Rattle.rv_history.specs.declared.pull_reply.PullReply.{PullReply}
+use Rattle.rv_turns.specs.declared.pull.PullReply.{PullReply}
 use Rattle.rv_history.specs.Patches.{ClientView, client_view, apply}
+use Rattle.rv_history.specs.Machine.{ReplyText}
 use Rattle.rv_history.specs.Laws.{Tells}
 
 -- What a client holds under a cookie: its view, and the last mutation ids that it was told, of which the first of a client counts.
@@ -46,18 +47,18 @@ pub record IsCurrent (user group : List ℕ) (book : Book) (held : Held) : Type 
   pub ids : (pair : List ℕ × ℕ) → Contains (ids group book) pair → find_by (λ other. other.0) pair.0 held.ids ≡ Some pair
 
 -- The pull was answered at a point of the book, and the book goes on from the one that it left.
-pub record WasTold (user : List ℕ) (book : Book) (pull : ClientPull) : Type 0 where
+pub record WasTold (write : ReplyText) (user : List ℕ) (book : Book) (pull : ClientPull) : Type 0 where
   pub point : Book
   pub new : Book
-  pub tells : Tells user pull.request point new pull.reply
+  pub tells : Tells write user pull.request point new pull.reply
   pub within : (more : Book) × (book ≡ new ++ more)
 
 -- each pull leaves the client with what its user sees at the point at which it was answered
-abbrev pub EachCurrent : (user : List ℕ) (book : Book) (pulls : List ClientPull) → AllByRecursion (WasTold user book) pulls → Type 0
-EachCurrent user book [] told = Unit {0}
-EachCurrent user book (pull ∷ pulls) (told, rest) = IsCurrent user pull.request.group told.point (held_then pull) × EachCurrent user book pulls rest
+abbrev pub EachCurrent : (write : ReplyText) (user : List ℕ) (book : Book) (pulls : List ClientPull) → AllByRecursion (WasTold write user book) pulls → Type 0
+EachCurrent write user book [] told = Unit {0}
+EachCurrent write user book (pull ∷ pulls) (told, rest) = IsCurrent user pull.request.group told.point (held_then pull) × EachCurrent write user book pulls rest
 
 -- Clients follow: a client that begins with nothing, and whose pulls were answered at points of one book, holds after each of them what
 -- its user sees at that point, whatever else stands in the book and whichever replies it lost.
-abbrev pub ClientsFollow : Type 0
-ClientsFollow = (user : List ℕ) (book : Book) (pulls : List ClientPull) → size book < 2 ^ 64 → IsClient pulls → (told : AllByRecursion (WasTold user book) pulls) → EachCurrent user book pulls told
+abbrev pub ClientsFollow : ReplyText → Type 0
+ClientsFollow write = (user : List ℕ) (book : Book) (pulls : List ClientPull) → size book < 2 ^ 64 → IsClient pulls → (told : AllByRecursion (WasTold write user book) pulls) → EachCurrent write user book pulls told

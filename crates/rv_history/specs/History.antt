@@ -8,8 +8,8 @@ use Rattle.rv_rows.specs.declared.row.Row.{Row}
 use Rattle.rv_rows.specs.Keys.{row_key, row_text, row_at, has_row}
 use Rattle.rv_rows.specs.Changes.{same_row}
 use Rattle.rv_rows.specs.Sharing.{seen}
-use Rattle.rv_wire.specs.declared.op.Op.{Op}
-use Rattle.rv_wire.specs.declared.op.Op.TheVariants.{Clear, Del, Put}
+use Rattle.rv_turns.specs.declared.op.Op.{Op}
+use Rattle.rv_turns.specs.declared.op.Op.TheVariants.{Clear, Del, Put}
 use Rattle.rv_book.specs.Book.{Book, ids, since, up_to}
 use Rattle.rv_history.specs.Replay.{rows_after, rows_of}
 

@@ -4,19 +4,19 @@ use Rattle.std.specs.List.{filter_map, list_any, range_with_len, AllByRecursion}
 use Rattle.std.specs.Option.{option_map_or}
 use Rattle.std.specs.List.Sorted.{IsStrictlyIncreasing}
 use Rattle.std.specs.Str.{bytes_eq}
-use Rattle.serde_json.specs.Written.{compact_text}
-use Rattle.rv_wire.specs.Answers.{pull_data}
-use Rattle.rv_wire.specs.declared.op.Op.{Op}
-use Rattle.rv_wire.specs.declared.op.Op.TheVariants.{Clear, Del, Put}
-use Rattle.rv_wire.specs.declared.error_body.ErrorBody.{ErrorBody}
-use Rattle.rv_wire.specs.declared.push.Mutation.{Mutation}
-use Rattle.rv_wire.specs.declared.pull.PullRequest.{PullRequest}
+use Rattle.rv_turns.specs.Asks.{Sender, Ask}
+use Rattle.rv_turns.specs.Outcomes.{refusal_of}
+use Rattle.rv_turns.specs.Pushing.{Pushes}
+use Rattle.rv_turns.specs.declared.mutation.Mutation.{Mutation}
+use Rattle.rv_turns.specs.declared.op.Op.{Op}
+use Rattle.rv_turns.specs.declared.op.Op.TheVariants.{Clear, Del, Put}
+use Rattle.rv_turns.specs.declared.outcome.Outcome.{Outcome}
+use Rattle.rv_turns.specs.declared.outcome.Outcome.TheVariants.{Pulled}
+use Rattle.rv_turns.specs.declared.pull.PullReply.{PullReply}
+use Rattle.rv_turns.specs.declared.pull.PullRequest.{PullRequest}
+use Rattle.rv_turns.specs.declared.refusal.Refusal.{Refusal}
 use Rattle.rv_book.specs.declared.entry.Entry.{Entry}
 use Rattle.rv_book.specs.declared.entry.Entry.TheVariants.{Act, Look, Retire}
-use Rattle.rv_history.specs.declared.pull_answer.PullAnswer.{PullAnswer}
-use Rattle.rv_history.specs.declared.pull_answer.PullAnswer.TheVariants.{Pulled}
-use Rattle.rv_history.specs.declared.pull_reply.PullReply.{PullReply}
-use Rattle.rv_history.specs.declared.retire_answer.RetireAnswer.{RetireAnswer}
 use Rattle.rv_book.specs.Book.{Book, bound, group_of, last, last_order, ids, size, up_to, with_entry}
 use Rattle.rv_rows.specs.declared.row.Row.{Row}
 use Rattle.rv_rows.specs.declared.call.Call.{Call}
@@ -26,12 +26,11 @@ use Rattle.rv_views.specs.declared.cookie.Cookie.{Cookie}
 use Rattle.rv_views.specs.declared.cookie.Cookie.TheVariants.{Named}
 use Rattle.rv_history.specs.Bases.{base_of, base_group}
 use Rattle.rv_history.specs.Replay.{rows_of}
-use Rattle.rv_history.specs.declared.turn.Turn.{Turn}
 use Rattle.rv_history.specs.Lawful.{IsLawful}
 use Rattle.rv_history.specs.Patches.{ClientView, client_view, apply}
 use Rattle.rv_history.specs.History.{patch_since}
-use Rattle.rv_history.specs.Machine.{Sender, Mutates, Pulls, Pushes, cookie_order, refusal}
-use Rattle.rv_history.specs.Served.{Served, ServedMutates, ServedPulls, ServedRetires, IsSound, KeepsLaw}
+use Rattle.rv_history.specs.Machine.{ReplyText, Step, cookie_order}
+use Rattle.rv_history.specs.Served.{Served, TakesTurn, IsSound, KeepsLaw}
 
 abbrev pub act_id : List ℕ → Entry → Option ℕ
 act_id client (Act user group actor id call) = if bytes_eq actor client then Some id else None
@@ -93,17 +92,13 @@ RetiredGroupsRest = (book before after : Book) (group : List ℕ) (entry : Entry
 abbrev pub EntriesStandOnce : Type 0
 EntriesStandOnce = (book before between after : Book) (entry : Entry) → IsLawful book → book ≡ before ++ entry ∷ (between ++ entry ∷ after) → ⊥
 
--- The turns of a push leave a sound server sound, only add to its book, and leave its limit.
-abbrev pub PushesKeepLaw : Type 0
-PushesKeepLaw = (from : Sender) (mutations : List Mutation) (old new : Served) (answer : Option ErrorBody) (acted : Bool) → Pushes ServedMutates from mutations old answer acted new → IsSound old → KeepsLaw old new
+-- A turn leaves a sound server sound, only adds to its book, and leaves its limit.
+abbrev pub TurnsKeepLaw : ReplyText → Type 0
+TurnsKeepLaw write = (ask : Ask) (old new : Served) (outcome : Outcome) → TakesTurn write old ask outcome new → IsSound old → KeepsLaw old new
 
--- So does that of a pull.
-abbrev pub PullsKeepLaw : Type 0
-PullsKeepLaw = (user : List ℕ) (request : PullRequest) (old new : Served) (answer : PullAnswer) → ServedPulls old user request answer new → IsSound old → KeepsLaw old new
-
--- So does that of a retirement.
-abbrev pub RetirementsKeepLaw : Type 0
-RetirementsKeepLaw = (group : List ℕ) (old new : Served) (answer : RetireAnswer) → ServedRetires old group answer new → IsSound old → KeepsLaw old new
+-- So do those of a push.
+abbrev pub PushesKeepLaw : ReplyText → Type 0
+PushesKeepLaw write = (from : Sender) (mutations : List Mutation) (old new : Served) (refused : Option Refusal) (acted : Bool) → Pushes (TakesTurn write) from mutations old refused acted new → IsSound old → KeepsLaw old new
 
 -- The mutation stands in the book, as an act of its sender, of its client and with its id. If it was skipped, the call is that of the
 -- one that came first.
@@ -112,12 +107,12 @@ IsEntered from book m = (call : Call) × Contains book (Act from.user from.group
 
 -- A mutation that is run or skipped at a lawful book stands in the book that is left; but for an id of 0, which is skipped and stands
 -- nowhere.
-abbrev pub MutationsStand : Type 0
-MutationsStand = (limit : ℕ) (from : Sender) (m : Mutation) (book new : Book) (turn : Turn) → Mutates limit from m book turn new → refusal turn ≡ None → IsLawful book → 1 ≤ m.id → IsEntered from new m
+abbrev pub MutationsStand : ReplyText → Type 0
+MutationsStand write = (limit : ℕ) (from : Sender) (m : Mutation) (book new : Book) (outcome : Outcome) → Step write limit book (Ask.mutation from m) outcome new → refusal_of outcome ≡ None → IsLawful book → 1 ≤ m.id → IsEntered from new m
 
 -- So does each mutation of a push that is not refused.
-abbrev pub PushesStand : Type 0
-PushesStand = (from : Sender) (mutations : List Mutation) (old new : Served) (acted : Bool) → Pushes ServedMutates from mutations old None acted new → IsSound old → AllByRecursion (λ m. 1 ≤ m.id → IsEntered from new.book m) mutations
+abbrev pub PushesStand : ReplyText → Type 0
+PushesStand write = (from : Sender) (mutations : List Mutation) (old new : Served) (acted : Bool) → Pushes (TakesTurn write) from mutations old None acted new → IsSound old → AllByRecursion (λ m. 1 ≤ m.id → IsEntered from new.book m) mutations
 
 -- A patch shows what the user sees: since any place, and so since each kept look of the user, it makes of the view at that place
 -- the view at the book's end; and without a base it does so of any view.
@@ -165,9 +160,9 @@ EntersLook user request book new cookie = (order : ℕ) × (cookie ≡ Named (de
 -- user sees; it begins with a clear exactly where there is no base, and names only what the user sees, or saw at the base. Each
 -- last mutation id of the group is known by the cookie or told, and nothing else is told; what is told was not known. The order is
 -- not below the request's. A reply of the same cookie has an empty patch and no ids, and leaves the book as it is; any other names
--- the look that it enters, at the next place, and has an order above the group's last and the request's. The text is the compact
--- JSON of the cookie, the ids and the patch.
-pub record Tells (user : List ℕ) (request : PullRequest) (book new : Book) (reply : PullReply) : Type 0 where
+-- the look that it enters, at the next place, and has an order above the group's last and the request's. The text is what is
+-- written of the cookie, the ids and the patch.
+pub record Tells (write : ReplyText) (user : List ℕ) (request : PullRequest) (book new : Book) (reply : PullReply) : Type 0 where
   pub shows : (view : ClientView) → IsBaseView user book (base_of user request.cookie book) view → apply reply.ops view ≡ client_view user book
   pub clears : ClearsWithoutBase (base_of user request.cookie book) reply.ops
   pub permitted : AllByRecursion (IsPermitted user book (base_of user request.cookie book)) reply.ops
@@ -176,10 +171,10 @@ pub record Tells (user : List ℕ) (request : PullRequest) (book new : Book) (re
   pub news : (pair : List ℕ × ℕ) → Contains reply.ids pair → ¬ Contains (known_ids user request book) pair
   pub no_lower : cookie_order request.cookie ≤ cookie_order reply.cookie
   pub same : reply.same ≡ true → (reply.ops ≡ []) × (reply.ids ≡ []) × (reply.cookie ≡ request.cookie) × (new ≡ book)
-  pub text : reply.text ≡ compact_text (pull_data reply.cookie reply.ids reply.ops)
+  pub text : reply.text ≡ write reply.cookie reply.ids reply.ops
   pub above : reply.same ≡ false → (last_order request.group book < cookie_order reply.cookie) × (cookie_order request.cookie < cookie_order reply.cookie)
   pub looks : reply.same ≡ false → EntersLook user request book new reply.cookie
 
 -- So does each reply that the machine gives.
-abbrev pub PullsShow : Type 0
-PullsShow = (limit : ℕ) (user : List ℕ) (request : PullRequest) (book new : Book) (reply : PullReply) → Pulls limit user request book (Pulled reply) new → Tells user request book new reply
+abbrev pub PullsShow : ReplyText → Type 0
+PullsShow write = (limit : ℕ) (user : List ℕ) (request : PullRequest) (book new : Book) (reply : PullReply) → Step write limit book (Ask.pull user request) (Pulled reply) new → Tells write user request book new reply

@@ -10,8 +10,8 @@ pub mod History
 pub mod Patches
 pub mod PatchLaws
 pub mod Machine
-pub mod Troubles
 pub mod Served
+pub mod TurnLaws
 pub mod Laws
 pub mod LookIds
 pub mod Clients

@@ -1,54 +1,26 @@
--- The machine: what a mutation, a pull, a retirement and a push may be answered at a book, and which book is left.
-use Rattle.std.specs.Prelude.{◌≡◌, ℕ, ◌+◌, ◌-◌, ◌^◌, ◌<◌, ◌≤◌, Bool, true, false, ◌||◌, max, List, [], ◌∷◌, Option, Some, None, IsSome, MatchOption, option_and_then, decimal, Result, Ok, Err}
-use Rattle.serde_json.specs.Written.{compact_text}
+-- The machine: what may come of what is asked at a book, and which book is left.
+use Rattle.std.specs.Prelude.{decimal, ℕ, ◌≡◌, ◌+◌, ◌-◌, ◌^◌, ◌<◌, ◌≤◌, Bool, true, false, max, List, [], None, IsSome, option_and_then}
 use Rattle.rv_book.specs.declared.entry.Entry.TheVariants.{Act, Look, Retire}
 use Rattle.rv_book.specs.Book.{Book, bound, retired, last, last_order, size, with_entry}
-use Rattle.rv_wire.specs.Answers.{pull_data}
-use Rattle.rv_wire.specs.declared.op.Op.{Op}
 use Rattle.rv_views.specs.declared.cookie.Cookie.{Cookie}
 use Rattle.rv_views.specs.declared.cookie.Cookie.TheVariants.{Null, Bare, Named}
-use Rattle.rv_wire.specs.declared.error_body.Which.TheVariants as which
-use Rattle.rv_wire.specs.declared.error_body.ErrorBody.{ErrorBody}
-use Rattle.rv_wire.specs.declared.error_body.ErrorBody.TheVariants as errors
-use Rattle.rv_wire.specs.declared.push.Mutation.{Mutation}
-use Rattle.rv_wire.specs.declared.pull.PullRequest.{PullRequest}
-use Rattle.rv_history.specs.declared.turn.Turn.{Turn}
-use Rattle.rv_history.specs.declared.turn.Turn.TheVariants.{Acted, Skipped, Future, GroupOfOther, ClientOfOther, NotFound, Limit, Keeper, Changed, Memory}
-use Rattle.rv_history.specs.declared.pull_reply.PullReply.{PullReply}
-use Rattle.rv_history.specs.declared.pull_answer.PullAnswer.{PullAnswer}
-use Rattle.rv_history.specs.declared.pull_answer.PullAnswer.TheVariants as pulls
-use Rattle.rv_history.specs.declared.retire_answer.RetireAnswer.{RetireAnswer}
-use Rattle.rv_history.specs.declared.retire_answer.RetireAnswer.TheVariants as retires
+use Rattle.rv_turns.specs.Asks.{Sender, Ask}
+use Rattle.rv_turns.specs.declared.op.Op.{Op}
+use Rattle.rv_turns.specs.declared.outcome.Outcome.{Outcome}
+use Rattle.rv_turns.specs.declared.outcome.Outcome.TheVariants.{Acted, Skipped, Pulled, Retired, Refused}
+use Rattle.rv_turns.specs.declared.pull.PullReply.{PullReply}
+use Rattle.rv_turns.specs.declared.pull.PullRequest.{PullRequest}
+use Rattle.rv_turns.specs.declared.refusal.Refusal.{Refusal}
+use Rattle.rv_turns.specs.declared.refusal.Refusal.TheVariants.{Future, GroupOfOther, ClientOfOther, NotFound, NoGroup, Limit, Memory}
+use Rattle.rv_turns.specs.declared.refusal.Which.TheVariants as which
 use Rattle.rv_history.specs.Groups.{is_of_other, is_elsewhere, Admits}
 use Rattle.rv_history.specs.History.{patch_since, ids_since}
 use Rattle.rv_history.specs.Bases.{base_of, base_group}
-
--- who sends what
-pub record Sender : Type 0 where
-  pub user : List ℕ
-  pub group : List ℕ
 
 -- A mutation's id is looked at where its user may use the group and its client is of no other group.
 pub record Takes (from : Sender) (client : List ℕ) (book : Book) : Type 0 where
   pub admits : Admits from.user from.group book
   pub here : is_elsewhere client from.group book ≡ false
-
--- The first case that holds: the group is bound to another user; it is retired; the client is of another group; the id is
--- not above the client's last, and the mutation is skipped; it is above the last + 1, from the future; the book is full;
--- and else the mutation is run: it becomes one entry, at the book's end. Only this changes the book. Memory may be refused
--- only where the mutation would have been run, and then nothing changes. The machine has no trouble with what keeps the book:
--- that is told of a whole server.
-abbrev pub Mutates : ℕ → Sender → Mutation → Book → Turn → Book → Type 0
-Mutates limit from m book GroupOfOther new = (is_of_other from.user from.group book ≡ true) × (new ≡ book)
-Mutates limit from m book NotFound new = (is_of_other from.user from.group book ≡ false) × (retired from.group book ≡ true) × (new ≡ book)
-Mutates limit from m book ClientOfOther new = Admits from.user from.group book × (is_elsewhere m.client from.group book ≡ true) × (new ≡ book)
-Mutates limit from m book (Skipped number) new = Takes from m.client book × (m.id ≤ last m.client book) × (number ≡ last m.client book) × (new ≡ book)
-Mutates limit from m book (Future expected got) new = Takes from m.client book × (last m.client book + 1 < m.id) × (expected ≡ last m.client book + 1) × (got ≡ m.id) × (new ≡ book)
-Mutates limit from m book (Limit what at) new = Takes from m.client book × (m.id ≡ last m.client book + 1) × (size book ≡ limit) × (what ≡ which.Book) × (at ≡ limit) × (new ≡ book)
-Mutates limit from m book (Acted place) new = Takes from m.client book × (m.id ≡ last m.client book + 1) × (size book < limit) × (place ≡ size book + 1) × (new ≡ with_entry book (Act from.user from.group m.client m.id m.call))
-Mutates limit from m book Memory new = Takes from m.client book × (m.id ≡ last m.client book + 1) × (size book < limit) × (new ≡ book)
-Mutates limit from m book Keeper new = ⊥
-Mutates limit from m book (Changed kept found) new = ⊥
 
 abbrev pub cookie_order : Cookie → ℕ
 cookie_order Null = 0
@@ -70,100 +42,64 @@ ids_for user request book = ids_since request.group book (option_and_then (base_
 abbrev pub IsUnchanged : List ℕ → PullRequest → Book → Type 0
 IsUnchanged user request book = (patch_for user request book ≡ []) × (ids_for user request book ≡ [])
 
--- The reply where there is nothing to tell: the request's cookie.
-abbrev pub same_reply : PullRequest → PullReply
-same_reply request = record { cookie = request.cookie; same = true; ids = []; ops = []; text = compact_text (pull_data request.cookie [] []) }
+-- Why what is asked is refused: the first case that holds. Of a mutation: the group is bound to another user; it is retired; the client
+-- is of another group; the id is above the client's last + 1, from the future; the book is full. One whose id is not above the client's
+-- last is skipped. Of a pull: the group is bound to another user; it is retired; the next order is above 2^53 - 1; the book is full. One
+-- with nothing to tell is answered whatever the limits. Of a retirement: no act or look names the group; it is retired already; the
+-- book is full. Memory may be refused to a mutation and to a retirement only where they would have been done, and to a pull wherever the
+-- group is the user's and not retired. The machine has no trouble with what keeps the book: that is told of a whole server.
+abbrev pub Refuses : ℕ → Book → Ask → Refusal → Type 0
+Refuses limit book (Ask.mutation from m) GroupOfOther = is_of_other from.user from.group book ≡ true
+Refuses limit book (Ask.mutation from m) NotFound = (is_of_other from.user from.group book ≡ false) × (retired from.group book ≡ true)
+Refuses limit book (Ask.mutation from m) ClientOfOther = Admits from.user from.group book × (is_elsewhere m.client from.group book ≡ true)
+Refuses limit book (Ask.mutation from m) (Future expected got) = Takes from m.client book × (last m.client book + 1 < m.id) × (expected ≡ last m.client book + 1) × (got ≡ m.id)
+Refuses limit book (Ask.mutation from m) (Limit what at) = Takes from m.client book × (m.id ≡ last m.client book + 1) × (size book ≡ limit) × (what ≡ which.Book) × (at ≡ limit)
+Refuses limit book (Ask.mutation from m) Memory = Takes from m.client book × (m.id ≡ last m.client book + 1) × (size book < limit)
+Refuses limit book (Ask.pull user request) GroupOfOther = is_of_other user request.group book ≡ true
+Refuses limit book (Ask.pull user request) NotFound = (is_of_other user request.group book ≡ false) × (retired request.group book ≡ true)
+Refuses limit book (Ask.pull user request) (Limit which.Order at) = Admits user request.group book × ¬ IsUnchanged user request book × (2 ^ 53 ≤ next_order request book) × (at ≡ 2 ^ 53 - 1)
+Refuses limit book (Ask.pull user request) (Limit which.Book at) = Admits user request.group book × ¬ IsUnchanged user request book × (next_order request book < 2 ^ 53) × (size book ≡ limit) × (at ≡ limit)
+Refuses limit book (Ask.pull user request) Memory = Admits user request.group book
+Refuses limit book (Ask.retirement group) NoGroup = bound group book ≡ None
+Refuses limit book (Ask.retirement group) NotFound = IsSome (bound group book) × (retired group book ≡ true)
+Refuses limit book (Ask.retirement group) (Limit what at) = IsSome (bound group book) × (retired group book ≡ false) × (size book ≡ limit) × (what ≡ which.Book) × (at ≡ limit)
+Refuses limit book (Ask.retirement group) Memory = IsSome (bound group book) × (retired group book ≡ false) × (size book < limit)
+Refuses limit book ask refusal = ⊥
 
--- the reply with a cookie of its own
-abbrev pub answered : Cookie → List (List ℕ × ℕ) → List Op → PullReply
-answered cookie ids ops = record { cookie = cookie; same = false; ids = ids; ops = ops; text = compact_text (pull_data cookie ids ops) }
+-- How the text of a reply is written is not the machine's: it is any function of the reply's cookie, last mutation ids and patch.
+abbrev pub ReplyText : Type 0
+ReplyText = Cookie → List (List ℕ × ℕ) → List Op → List ℕ
 
--- The reply that is entered at the next place: the cookie has that place and the next order.
-abbrev pub reply_to : List ℕ → PullRequest → Book → PullReply
-reply_to user request book = answered (Named (decimal (size book + 1)) (next_order request book)) (ids_for user request book) (patch_for user request book)
+module _ (write : ReplyText) where
+  -- the reply where there is nothing to tell: the request's cookie
+  abbrev pub same_reply : PullRequest → PullReply
+  same_reply request = record { cookie = request.cookie; same = true; ids = []; ops = []; text = write request.cookie [] [] }
 
--- A pull is answered: by its own cookie where there is nothing to tell, whatever the limits, and then nothing is entered; and
--- else as one entry, a look with its base.
-abbrev pub Replies : ℕ → List ℕ → PullRequest → Book → Bool → PullReply → Book → Type 0
-Replies limit user request book true reply new = IsUnchanged user request book × (reply ≡ same_reply request) × (new ≡ book)
-Replies limit user request book false reply new =
-    ¬ IsUnchanged user request book × (next_order request book < 2 ^ 53) × (size book < limit) × (reply ≡ reply_to user request book)
-    × (new ≡ with_entry book (Look user request.group (next_order request book) (base_of user request.cookie book)))
+  -- the reply with a cookie of its own
+  abbrev pub answered : Cookie → List (List ℕ × ℕ) → List Op → PullReply
+  answered cookie ids ops = record { cookie = cookie; same = false; ids = ids; ops = ops; text = write cookie ids ops }
 
--- The first case that holds: the group is bound to another user; it is retired; there is nothing to tell, and the pull is
--- answered; the next order is above 2^53 - 1; the book is full; and else the pull is answered, and becomes one entry. Memory
--- may be refused wherever the group is the user's and not retired, and then nothing changes.
-abbrev pub Pulls : ℕ → List ℕ → PullRequest → Book → PullAnswer → Book → Type 0
-Pulls limit user request book pulls.GroupOfOther new = (is_of_other user request.group book ≡ true) × (new ≡ book)
-Pulls limit user request book pulls.NotFound new = (is_of_other user request.group book ≡ false) × (retired request.group book ≡ true) × (new ≡ book)
-Pulls limit user request book (pulls.Limit which.Order at) new = Admits user request.group book × ¬ IsUnchanged user request book × (2 ^ 53 ≤ next_order request book) × (at ≡ 2 ^ 53 - 1) × (new ≡ book)
-Pulls limit user request book (pulls.Limit which.Book at) new = Admits user request.group book × ¬ IsUnchanged user request book × (next_order request book < 2 ^ 53) × (size book ≡ limit) × (at ≡ limit) × (new ≡ book)
-Pulls limit user request book (pulls.Pulled reply) new = Admits user request.group book × Replies limit user request book reply.same reply new
-Pulls limit user request book pulls.Memory new = Admits user request.group book × (new ≡ book)
-Pulls limit user request book pulls.Keeper new = ⊥
-Pulls limit user request book (pulls.Changed kept found) new = ⊥
+  -- The reply that is entered at the next place: the cookie has that place and the next order.
+  abbrev pub reply_to : List ℕ → PullRequest → Book → PullReply
+  reply_to user request book = answered (Named (decimal (size book + 1)) (next_order request book)) (ids_for user request book) (patch_for user request book)
 
--- The first case that holds: no act or look names the group; it is retired already; the book is full; and else the
--- retirement becomes one entry.
-abbrev pub Retires : ℕ → List ℕ → Book → RetireAnswer → Book → Type 0
-Retires limit group book retires.NoGroup new = (bound group book ≡ None) × (new ≡ book)
-Retires limit group book retires.NotFound new = IsSome (bound group book) × (retired group book ≡ true) × (new ≡ book)
-Retires limit group book (retires.Limit what at) new = IsSome (bound group book) × (retired group book ≡ false) × (size book ≡ limit) × (what ≡ which.Book) × (at ≡ limit) × (new ≡ book)
-Retires limit group book (retires.Retired place) new = IsSome (bound group book) × (retired group book ≡ false) × (size book < limit) × (place ≡ size book + 1) × (new ≡ with_entry book (Retire group))
-Retires limit group book retires.Memory new = IsSome (bound group book) × (retired group book ≡ false) × (size book < limit) × (new ≡ book)
-Retires limit group book retires.Keeper new = ⊥
-Retires limit group book (retires.Changed kept found) new = ⊥
+  -- A pull is answered: by its own cookie where there is nothing to tell, whatever the limits, and then nothing is entered; and
+  -- else as one entry, a look with its base.
+  abbrev pub Replies : ℕ → Book → List ℕ → PullRequest → Bool → PullReply → Book → Type 0
+  Replies limit book user request true reply new = IsUnchanged user request book × (reply ≡ same_reply request) × (new ≡ book)
+  Replies limit book user request false reply new =
+      ¬ IsUnchanged user request book × (next_order request book < 2 ^ 53) × (size book < limit) × (reply ≡ reply_to user request book)
+      × (new ≡ with_entry book (Look user request.group (next_order request book) (base_of user request.cookie book)))
 
--- What a turn of a mutation is told as: the refusal that ends its push, or none.
-abbrev pub refusal : Turn → Option ErrorBody
-refusal (Acted place) = None
-refusal (Skipped number) = None
-refusal (Future expected got) = Some (errors.Future expected got)
-refusal GroupOfOther = Some errors.GroupOfOther
-refusal ClientOfOther = Some errors.ClientOfOther
-refusal NotFound = Some errors.ClientStateNotFound
-refusal (Limit what at) = Some (errors.Limit what at)
-refusal Keeper = Some errors.Keeper
-refusal (Changed kept found) = Some (errors.Changed found kept)
-refusal Memory = Some errors.Memory
-
--- what the answer to a pull is told as: the reply or a refusal
-abbrev pub pull_outcome : PullAnswer → Result PullReply ErrorBody
-pull_outcome (pulls.Pulled reply) = Ok reply
-pull_outcome pulls.GroupOfOther = Err errors.GroupOfOther
-pull_outcome pulls.NotFound = Err errors.ClientStateNotFound
-pull_outcome (pulls.Limit what at) = Err (errors.Limit what at)
-pull_outcome pulls.Keeper = Err errors.Keeper
-pull_outcome (pulls.Changed kept found) = Err (errors.Changed found kept)
-pull_outcome pulls.Memory = Err errors.Memory
-
--- what the answer to a retirement is told as: its place or a refusal
-abbrev pub retire_outcome : RetireAnswer → Result ℕ ErrorBody
-retire_outcome (retires.Retired place) = Ok place
-retire_outcome retires.NoGroup = Err errors.NoGroup
-retire_outcome retires.NotFound = Err errors.ClientStateNotFound
-retire_outcome (retires.Limit what at) = Err (errors.Limit what at)
-retire_outcome retires.Keeper = Err errors.Keeper
-retire_outcome (retires.Changed kept found) = Err (errors.Changed found kept)
-retire_outcome retires.Memory = Err errors.Memory
-
--- its mutation was run
-abbrev pub has_acted : Turn → Bool
-has_acted (Acted place) = true
-has_acted (Skipped number) = false
-has_acted (Future expected got) = false
-has_acted GroupOfOther = false
-has_acted ClientOfOther = false
-has_acted NotFound = false
-has_acted (Limit what at) = false
-has_acted Keeper = false
-has_acted (Changed kept found) = false
-has_acted Memory = false
-
--- A push takes its mutations in order, one turn each, from a state to the next, up to the first refusal, which is its answer. It
--- acted where one of these turns has.
-abbrev pub Pushes : {S : Type 0} → (S → Sender → Mutation → Turn → S → Type 0) → Sender → List Mutation → S → Option ErrorBody → Bool → S → Type 0
-Pushes mutates from [] old answer acted new = (answer ≡ None) × (acted ≡ false) × (new ≡ old)
-Pushes {S} mutates from (m ∷ ms) old answer acted new =
-    (turn : Turn) × (mid : S) × (later : Bool) × mutates old from m turn mid × (acted ≡ (has_acted turn || later))
-    × MatchOption (refusal turn) (Pushes mutates from ms mid answer later new) (λ refused. (answer ≡ Some refused) × (later ≡ false) × (new ≡ mid))
+  -- One step, under a limit, from a book: what is asked, what comes of it, and the book that is left. What is refused and a mutation that is
+  -- skipped leave the book as it is. A mutation that is run becomes one entry, at the book's end; so does a retirement; and so does a pull
+  -- that has something to tell.
+  abbrev pub Step : ℕ → Book → Ask → Outcome → Book → Type 0
+  Step limit book ask (Refused refusal) new = Refuses limit book ask refusal × (new ≡ book)
+  Step limit book (Ask.mutation from m) (Skipped number) new = Takes from m.client book × (m.id ≤ last m.client book) × (number ≡ last m.client book) × (new ≡ book)
+  Step limit book (Ask.mutation from m) (Acted place) new =
+      Takes from m.client book × (m.id ≡ last m.client book + 1) × (size book < limit) × (place ≡ size book + 1) × (new ≡ with_entry book (Act from.user from.group m.client m.id m.call))
+  Step limit book (Ask.pull user request) (Pulled reply) new = Admits user request.group book × Replies limit book user request reply.same reply new
+  Step limit book (Ask.retirement group) (Retired place) new =
+      IsSome (bound group book) × (retired group book ≡ false) × (size book < limit) × (place ≡ size book + 1) × (new ≡ with_entry book (Retire group))
+  Step limit book ask outcome new = ⊥

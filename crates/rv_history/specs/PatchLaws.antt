@@ -18,8 +18,8 @@ use Rattle.rv_rows.specs.Keys.{row_key, key_text, row_text, row_at, has_row, in_
 use Rattle.rv_rows.specs.Sharing.{sees, seen}
 use Rattle.rv_rows.specs.Changes.{same_row}
 use Rattle.rv_rows.specs.EffectLaws.{same_row-Decides}
-use Rattle.rv_wire.specs.declared.op.Op.{Op}
-use Rattle.rv_wire.specs.declared.op.Op.TheVariants.{Clear, Del, Put}
+use Rattle.rv_turns.specs.declared.op.Op.{Op}
+use Rattle.rv_turns.specs.declared.op.Op.TheVariants.{Clear, Del, Put}
 use Rattle.rv_book.specs.Book.{Book, since, up_to}
 use Rattle.rv_book.specs.BookWords.{up_to-since}
 use Rattle.rv_history.specs.Replay.{rows_after, rows_of}

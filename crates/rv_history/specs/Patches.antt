@@ -6,8 +6,8 @@ use Rattle.rv_rows.specs.declared.row.Row.{Row}
 use Rattle.rv_rows.specs.Keys.{key_text, row_text}
 use Rattle.rv_rows.specs.RowTexts.{row_data}
 use Rattle.rv_rows.specs.Sharing.{seen}
-use Rattle.rv_wire.specs.declared.op.Op.{Op}
-use Rattle.rv_wire.specs.declared.op.Op.TheVariants.{Clear, Del, Put}
+use Rattle.rv_turns.specs.declared.op.Op.{Op}
+use Rattle.rv_turns.specs.declared.op.Op.TheVariants.{Clear, Del, Put}
 use Rattle.rv_book.specs.Book.{Book}
 use Rattle.rv_history.specs.Replay.{rows_of}
 

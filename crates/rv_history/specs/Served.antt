@@ -1,18 +1,15 @@
 -- A server, as contracts see it, and its turns: each settles what is in doubt, and is then a step of the machine.
-use Rattle.std.specs.Prelude.{◌≡◌, ℕ, ◌+◌, ◌<◌, ◌≤◌, ◌⊎◌, List, ◌++◌, Option, Some, None, IsSome}
+use Rattle.std.specs.Prelude.{◌≡◌, ℕ, ◌+◌, ◌<◌, ◌≤◌, ◌⊎◌, ◌++◌, Option, Some, None, IsSome}
 use Rattle.rv_base.specs.Causes.{Rose}
-use Rattle.rv_wire.specs.declared.push.Mutation.{Mutation}
-use Rattle.rv_wire.specs.declared.pull.PullRequest.{PullRequest}
 use Rattle.rv_book.specs.declared.entry.Entry.{Entry}
 use Rattle.rv_book.specs.Book.{Book, size, with_entry}
-use Rattle.rv_history.specs.declared.trouble.Trouble.{Trouble}
-use Rattle.rv_history.specs.declared.trouble.Trouble.TheVariants.{Failed, Changed}
-use Rattle.rv_history.specs.declared.turn.Turn.{Turn}
-use Rattle.rv_history.specs.declared.pull_answer.PullAnswer.{PullAnswer}
-use Rattle.rv_history.specs.declared.retire_answer.RetireAnswer.{RetireAnswer}
+use Rattle.rv_turns.specs.Asks.{Ask}
+use Rattle.rv_turns.specs.Outcomes.{trouble_of, IsChanged}
+use Rattle.rv_turns.specs.declared.outcome.Outcome.{Outcome}
+use Rattle.rv_turns.specs.declared.refusal.Trouble.{Trouble}
+use Rattle.rv_turns.specs.declared.refusal.Trouble.TheVariants.{Keeper, Changed}
 use Rattle.rv_history.specs.Lawful.{IsLawful, IsLawfulAfter}
-use Rattle.rv_history.specs.Machine.{Sender, Mutates, Pulls, Retires}
-use Rattle.rv_history.specs.Troubles.{turn_trouble, pull_trouble, retire_trouble}
+use Rattle.rv_history.specs.Machine.{ReplyText, Step}
 
 -- The book; the most entries that it may have; the entry in doubt, which may have been kept and was not entered yet; and how
 -- often what keeps the book has failed.
@@ -31,35 +28,46 @@ Settles book (Some entry) settled = (settled ≡ book) ⊎ (settled ≡ with_ent
 abbrev pub Stays : Served → Served → Type 0
 Stays old new = (new.book ≡ old.book) × (new.doubt ≡ old.doubt)
 
-module _ {A : Type 0} (trouble : A → Option Trouble) (Step : Book → A → Book → Type 0) where
-  -- The step from the settled book would have entered this entry, which then is in doubt.
-  pub record LeavesDoubt (old new : Served) : Type 0 where
-    pub entry : Entry
-    pub answer : A
-    pub settled : Settles old.book old.doubt new.book
-    pub step : Step new.book answer (with_entry new.book entry)
+-- What is in doubt could not be settled, for this trouble: the keeper failed; or it is at another generation than the book, and than the book
+-- with the entry. Its count of faults rose, and all stands as it stood.
+abbrev pub IsFoundAt : Book → Trouble → Type 0
+IsFoundAt book Keeper = Unit {0}
+IsFoundAt book (Changed kept found) = (kept ≡ size book) × ¬ (found ≡ kept) × ¬ (found ≡ kept + 1)
+
+pub record StaysInDoubt (old : Served) (trouble : Trouble) (new : Served) : Type 0 where
+  pub rose : Rose old.faults new.faults
+  pub doubt : IsSome old.doubt
+  pub found : IsFoundAt old.book trouble
+  pub stays : Stays old new
+
+module _ (write : ReplyText) where
+  -- The keeper failed as the entry of a step from the settled book was to be kept: its count of faults rose, and the entry is in doubt.
+  pub record LeavesDoubt (old : Served) (settled : Book) (ask : Ask) (entry : Entry) (new : Served) : Type 0 where
+    pub outcome : Outcome
+    pub step : Step write old.limit settled ask outcome (with_entry settled entry)
+    pub rose : Rose old.faults new.faults
+    pub book : new.book ≡ settled
     pub doubt : new.doubt ≡ Some entry
 
-  -- The turn, by the trouble that its answer tells. Without one, what was in doubt is settled, and then the machine makes its
-  -- step, and no fault came. Where the keeper failed, its count of faults rose: either the doubt stands as it stood, or it was settled and the entry
-  -- of the step is in doubt. Where what is kept was changed by another, the count rose too, and all stands as it stood.
-  abbrev pub TurnOf : Served → A → Served → Option Trouble → Type 0
-  TurnOf old answer new None = (settled : Book) × Settles old.book old.doubt settled × Step settled answer new.book × (new.doubt ≡ None) × (new.faults ≡ old.faults)
-  TurnOf old answer new (Some Failed) = Rose old.faults new.faults × ((IsSome old.doubt × Stays old new) ⊎ LeavesDoubt old new)
-  TurnOf old answer new (Some (Changed kept found)) =
-      Rose old.faults new.faults × IsSome old.doubt × (kept ≡ size old.book) × ¬ (found ≡ kept) × ¬ (found ≡ kept + 1) × Stays old new
+  -- The turn, by the book as it settled, the entry that it left in doubt, and the trouble that its outcome tells. Without a trouble the
+  -- machine makes its step from the settled book, and nothing is in doubt and no fault came. With one, either what was in doubt still is; or
+  -- the entry of the step is, and the trouble is that the keeper failed.
+  abbrev pub TurnOf : Served → Book → Ask → Outcome → Option Entry → Option Trouble → Served → Type 0
+  TurnOf old settled ask outcome None None new = Step write old.limit settled ask outcome new.book × (new.doubt ≡ None) × (new.faults ≡ old.faults)
+  TurnOf old settled ask outcome None (Some trouble) new = (settled ≡ old.book) × StaysInDoubt old trouble new
+  TurnOf old settled ask outcome (Some entry) (Some Keeper) new = LeavesDoubt old settled ask entry new
+  TurnOf old settled ask outcome left trouble new = ⊥
 
-  -- a turn of a server: its count of faults never falls, and its limit stays
-  pub record TakesTurn (old : Served) (answer : A) (new : Served) : Type 0 where
-    pub turn : TurnOf old answer new (trouble answer)
+  -- A turn of a server: what was in doubt is settled, and then a step is made. Its count of faults never falls, and its limit stays.
+  pub record TakesTurn (old : Served) (ask : Ask) (outcome : Outcome) (new : Served) : Type 0 where
+    -- the book once it was settled, or as it was, where it could not be
+    pub settled : Book
+    -- the entry that this turn left in doubt
+    pub left : Option Entry
+    pub settles : Settles old.book old.doubt settled
+    pub turn : TurnOf old settled ask outcome left (trouble_of outcome) new
     pub later : old.faults ≤ new.faults
     pub limit : new.limit ≡ old.limit
-
--- what is kept was changed by another
-abbrev pub IsChanged : Option Trouble → Type 0
-IsChanged None = ⊥
-IsChanged (Some Failed) = ⊥
-IsChanged (Some (Changed kept found)) = Unit {0}
 
 -- What is known besides of a turn, by what keeps the book, before it and after. One that tells told before, and its answer is not that
 -- what is kept was changed by another. One that fails no more goes on so, and its answer tells no trouble.
@@ -68,16 +76,6 @@ pub record IsAssured (Told Tells Steady Steadies : Type 0) (trouble : Option Tro
   pub near : Tells → ¬ IsChanged trouble
   pub goes_on : Steady → Steadies
   pub sure : Steady → trouble ≡ None
-
--- the turns of a mutation, of a pull and of a retirement
-abbrev pub ServedMutates : Served → Sender → Mutation → Turn → Served → Type 0
-ServedMutates old from m turn new = TakesTurn turn_trouble (Mutates old.limit from m) old turn new
-
-abbrev pub ServedPulls : Served → List ℕ → PullRequest → PullAnswer → Served → Type 0
-ServedPulls old user request answer new = TakesTurn pull_trouble (Pulls old.limit user request) old answer new
-
-abbrev pub ServedRetires : Served → List ℕ → RetireAnswer → Served → Type 0
-ServedRetires old group answer new = TakesTurn retire_trouble (Retires old.limit group) old answer new
 
 -- an entry in doubt may stand next in the book, which is not full
 abbrev pub MayStand : Book → ℕ → Option Entry → Type 0

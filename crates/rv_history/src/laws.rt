@@ -1,6 +1,7 @@
 //! What follows from the machine, as contracts of functions that do nothing: a check of the crate proves them.
 ghost use Rattle.rv_history.specs.Clients.{ClientsFollow};
-ghost use Rattle.rv_history.specs.Laws.{IdsCountUp, OrdersRise, GroupsHaveOneUser, ClientsHaveOneGroup, RetiredGroupsRest, EntriesStandOnce, PushesKeepLaw, PullsKeepLaw, RetirementsKeepLaw, PullsShow, PatchesShow, PatchesArePermitted, MutationsStand, PushesStand};
+ghost use Rattle.rv_history.specs.Machine.{ReplyText};
+ghost use Rattle.rv_history.specs.Laws.{IdsCountUp, OrdersRise, GroupsHaveOneUser, ClientsHaveOneGroup, RetiredGroupsRest, EntriesStandOnce, PushesKeepLaw, TurnsKeepLaw, PullsShow, PatchesShow, PatchesArePermitted, MutationsStand, PushesStand};
 
 /// In a lawful book each client's acts have the ids 1, 2, 3 and so on.
 pub fn ids_count_up()
@@ -32,30 +33,25 @@ pub fn entries_stand_once()
     ensures { EntriesStandOnce }
 {}
 
-/// The turns of a push leave a sound server sound, only add to its book, and leave its limit.
+/// A turn leaves a sound server sound, only adds to its book, and leaves its limit.
+pub fn turns_keep_law()
+    ensures { (write : ReplyText) → TurnsKeepLaw write }
+{}
+
+/// So do the turns of a push.
 pub fn pushes_keep_law()
-    ensures { PushesKeepLaw }
-{}
-
-/// So does the turn of a pull.
-pub fn pulls_keep_law()
-    ensures { PullsKeepLaw }
-{}
-
-/// So does the turn of a retirement.
-pub fn retirements_keep_law()
-    ensures { RetirementsKeepLaw }
+    ensures { (write : ReplyText) → PushesKeepLaw write }
 {}
 
 /// A mutation that is run or skipped stands in the book that is left, as an act of its user, group and client with its id; but for an
 /// id of 0, which is skipped and stands nowhere.
 pub fn mutations_stand()
-    ensures { MutationsStand }
+    ensures { (write : ReplyText) → MutationsStand write }
 {}
 
 /// So does each mutation of a push that is not refused.
 pub fn pushes_stand()
-    ensures { PushesStand }
+    ensures { (write : ReplyText) → PushesStand write }
 {}
 
 /// A patch names only what its user may know: each row that is put is one that the user sees at the book, and each key that is
@@ -74,14 +70,15 @@ pub fn patches_show()
 /// the cookie names no kept look of the user, it begins with a clear and may be applied to any view. It names only what the user
 /// sees, or saw at the base. Each last mutation id of the group is told or known by the cookie. A reply of the request's own cookie
 /// tells nothing and leaves the book; any other names the look that it enters, and its order is above the request's and above the
-/// group's last. The reply's text is its JSON.
+/// group's last. The reply's text is what is written
+/// of its cookie, ids and patch.
 pub fn pulls_show()
-    ensures { PullsShow }
+    ensures { (write : ReplyText) → PullsShow write }
 {}
 
 /// A client that begins with nothing, applies each patch to the view that it holds under the cookie with which it asked, and keeps the
 /// cookie that it is answered, holds after each of its pulls exactly what its user sees at the point of the book at which that pull was
 /// answered, and the last mutation ids of its group there: whatever else the book has, and whichever replies it lost.
 pub fn clients_follow()
-    ensures { ClientsFollow }
+    ensures { (write : ReplyText) → ClientsFollow write }
 {}

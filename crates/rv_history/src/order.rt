@@ -3,7 +3,7 @@ ghost use Rattle.std.specs.Prelude.{◌≡◌, ◌+◌, ◌<◌, ◌^◌, max};
 ghost use Rattle.rv_history.specs.Machine.{cookie_order};
 
 use rv_base::Num;
-use rv_wire::Cookie;
+use rv_views::Cookie;
 
 fn cookie_order(cookie: &Cookie) -> u64
     ensures value { result ≡ cookie_order cookie.now }

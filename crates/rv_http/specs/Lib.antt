@@ -7,6 +7,7 @@ pub mod Looks
 pub mod Requests
 pub mod Steps
 pub mod Responses
+pub mod Rejections
 pub mod Routes
 pub mod RequestLaws
 pub mod Laws

@@ -3,12 +3,10 @@ use Rattle.std.proofs.Common.{◌≡◌, ℕ, zero, suc, ◌-◌, ◌^◌, ◌<�
 use Rattle.std.specs.List.{AllByRecursion}
 use Rattle.rv_keeper.specs.declared.loaded.Loaded.{Loaded}
 use Rattle.rv_keeper.specs.Stores.{OpensAs, TakesUp}
-use Rattle.rv_wire.specs.declared.pull.PullRequest.{PullRequest}
 use Rattle.rv_book.specs.declared.entry.Entry.{Entry}
 use Rattle.rv_book.specs.Book.{size}
-use Rattle.rv_history.specs.declared.pull_reply.PullReply.{PullReply}
 use Rattle.rv_history.specs.Clients.{ClientPull, EachCurrent, WasTold}
-use Rattle.rv_history.specs.Clients as clients
+use Rattle.rv_wire.specs.Answers.{pull_json}
 use Rattle.rv_history.specs.Laws.{PushesStand, Tells}
 use Rattle.rv_history.specs.Served.{Served, IsSound, MayStand}
 use Rattle.rv_answering.specs.declared.answer.Answer.{Answer}
@@ -16,11 +14,14 @@ use Rattle.rv_answering.specs.declared.answer.Answer.TheVariants.{Pulled}
 use Rattle.rv_answering.specs.declared.line.Line.{Line}
 use Rattle.rv_answering.specs.declared.line.Line.TheVariants.{Asks}
 use Rattle.rv_answering.specs.declared.request.Request.TheVariants.{Pull}
-use Rattle.rv_answering.specs.Requests.{Asked}
+use Rattle.rv_answering.specs.Requests.{Parsed}
 use Rattle.rv_cli.specs.Headline.{Begins, BooksAreLawful, IsLawfulRun, IsShown, PullsAreShown, Run, TroublesHaveCauses}
 use Rattle.rv_cli.specs.RunLaws.{run_later}
 use Rattle.rv_laws.specs.Feeds.{FedBooksAreLawful, FedPullsAreShown, FedTroublesHaveCauses, FedPushesStand, FedClientsFollow, IsTurn, IsPull, EachFollows}
 use Rattle.rv_laws.proofs.Turns.{Yes, turn_at, step_stands, all_later}
+use Rattle.rv_turns.specs.declared.pull.PullRequest.{PullRequest}
+use Rattle.rv_turns.specs.declared.pull.PullReply.{PullReply}
+use Rattle.rv_history.specs.Clients as clients
 
 -- what opens is sound
 begins_sound : (Told : Type 0) (Stored : Loaded → Type 0) (first : Served) → Begins Told Stored first → IsSound first
@@ -36,7 +37,7 @@ module _ (Told : Type 0) (first now : Served) (lines : List Line) (answers : Lis
   told_run told run = run_later Told Yes (λ yes. told) lines answers first now run
 
   -- split at a turn
-  run_at : (asked : Asked) (answer : Answer) (turn : IsTurn lines answers asked answer) → Run Yes first lines answers now → Run Yes first (turn.before ++ Asks asked ∷ turn.after) (turn.answered ++ Some answer ∷ turn.others) now
+  run_at : (asked : Parsed) (answer : Answer) (turn : IsTurn lines answers asked answer) → Run Yes first lines answers now → Run Yes first (turn.before ++ Asks asked ∷ turn.after) (turn.answered ++ Some answer ∷ turn.others) now
   run_at asked answer turn run =
       subst (λ (l : List Line). Run Yes first l (turn.answered ++ Some answer ∷ turn.others) now) turn.asks
       (subst (λ (a : List (Option Answer)). Run Yes first lines a now) turn.told run)
@@ -46,7 +47,7 @@ module _ (Told : Type 0) (first now : Served) (lines : List Line) (answers : Lis
       let is = law true first now lines answers (told_run told run) sound in
       record { sound = is.sound; more = λ told. is.more refl; ids = is.ids; orders = is.orders; later = is.later; limit = is.limit }
 
-  shown : PullsAreShown → Told → Run Told first lines answers now → IsSound first → (asked : Asked) (reply : PullReply) (turn : IsTurn lines answers asked (Pulled reply)) → IsShown Told first now turn.before turn.answered asked reply
+  shown : PullsAreShown → Told → Run Told first lines answers now → IsSound first → (asked : Parsed) (reply : PullReply) (turn : IsTurn lines answers asked (Pulled reply)) → IsShown Told first now turn.before turn.answered asked reply
   shown law told run sound asked reply turn =
       let is = law true first now turn.before turn.after turn.answered turn.others asked reply sound turn.same (run_at asked (Pulled reply) turn (told_run told run)) in
       record {
@@ -63,29 +64,29 @@ module _ (Told : Type 0) (first now : Served) (lines : List Line) (answers : Lis
 
 -- ---- Clients.
 
-same_pull : (asked : Asked) (user user' : List ℕ) (request request' : PullRequest) → asked ≡ Ok (Pull user request) → asked ≡ Ok (Pull user' request') → (user' ≡ user) × (request' ≡ request)
+same_pull : (asked : Parsed) (user user' : List ℕ) (request request' : PullRequest) → asked ≡ Ok (Pull user request) → asked ≡ Ok (Pull user' request') → (user' ≡ user) × (request' ≡ request)
 same_pull asked user user' request request' one other = (cc, cc)
 
 module _ (Told : Type 0) (first now : Served) (lines : List Line) (answers : List (Option Answer)) (user : List ℕ) (told : Told)
-    (show : (asked : Asked) (reply : PullReply) (turn : IsTurn lines answers asked (Pulled reply)) → IsShown Told first now turn.before turn.answered asked reply) where
+    (show : (asked : Parsed) (reply : PullReply) (turn : IsTurn lines answers asked (Pulled reply)) → IsShown Told first now turn.before turn.answered asked reply) where
   abbrev At : (pull : ClientPull) (turn : IsPull Told first now lines answers user pull) → IsShown Told first now turn.before turn.answered (Ok (Pull user pull.request)) pull.reply
   At pull turn = show (Ok (Pull user pull.request)) pull.reply turn
 
-  tells_at : (pull : ClientPull) (turn : IsPull Told first now lines answers user pull) → Tells user pull.request (At pull turn).settled (At pull turn).new.book pull.reply
+  tells_at : (pull : ClientPull) (turn : IsPull Told first now lines answers user pull) → Tells pull_json user pull.request (At pull turn).settled (At pull turn).new.book pull.reply
   tells_at pull turn =
       let at = At pull turn in
       let shows = at.shows in
       let (who, what) = same_pull (Ok (Pull user pull.request)) user shows.user pull.request shows.request refl shows.asks in
-      subst (λ (u : List ℕ). Tells u pull.request at.settled at.new.book pull.reply) who (subst (λ (r : PullRequest). Tells shows.user r at.settled at.new.book pull.reply) what shows.tells)
+      subst (λ (u : List ℕ). Tells pull_json u pull.request at.settled at.new.book pull.reply) who (subst (λ (r : PullRequest). Tells pull_json shows.user r at.settled at.new.book pull.reply) what shows.tells)
 
-  abbrev was_told : (pull : ClientPull) → IsPull Told first now lines answers user pull → WasTold user now.book pull
+  abbrev was_told : (pull : ClientPull) → IsPull Told first now lines answers user pull → WasTold pull_json user now.book pull
   was_told pull turn = record { point = (At pull turn).settled; new = (At pull turn).new.book; tells = tells_at pull turn; within = (At pull turn).on told }
 
-  abbrev all_told : (pulls : List ClientPull) → AllByRecursion (IsPull Told first now lines answers user) pulls → AllByRecursion (WasTold user now.book) pulls
+  abbrev all_told : (pulls : List ClientPull) → AllByRecursion (IsPull Told first now lines answers user) pulls → AllByRecursion (WasTold pull_json user now.book) pulls
   all_told [] turns = tt
   all_told (pull ∷ pulls) (turn, turns) = (was_told pull turn, all_told pulls turns)
 
-  each_follows : (pulls : List ClientPull) (turns : AllByRecursion (IsPull Told first now lines answers user) pulls) → EachCurrent user now.book pulls (all_told pulls turns) → EachFollows Told first now lines answers user pulls turns
+  each_follows : (pulls : List ClientPull) (turns : AllByRecursion (IsPull Told first now lines answers user) pulls) → EachCurrent pull_json user now.book pulls (all_told pulls turns) → EachFollows Told first now lines answers user pulls turns
   each_follows [] turns current = tt
   each_follows (pull ∷ pulls) (turn, turns) (current, rest) = (record { shown = At pull turn; current = current }, each_follows pulls turns rest)
 
@@ -108,14 +109,14 @@ module _ {P : Type 0} (tells : P → Type 0) (holds : P → List ℕ → Loaded 
       law true run.first run.now run.lines run.answers (told_run (tells new) run.first run.now run.lines run.answers run.told run.run)
       (no_fault run.leaves.kept (faults old) (faults new) run.now.faults run.leaves.taken stays below run.leaves.later)
 
-  pub pushes_stand : BooksAreLawful → PushesStand → FedPushesStand tells holds faults
+  pub pushes_stand : BooksAreLawful → PushesStand pull_json → FedPushesStand tells holds faults
   pushes_stand law stand old new store bytes output output' run user push turn =
       let sound = begins_sound (tells new) (OpensAs store (holds old store)) run.first run.begins in
       let at = turn_at law run.first run.now turn.before turn.after turn.answered turn.others _ _ sound turn.same
       (run_at (tells new) run.first run.now run.lines run.answers _ _ turn (told_run (tells new) run.first run.now run.lines run.answers run.told run.run)) in
       all_later (record { user = user; group = push.group }) push.mutations at.new.book at.more.0 run.now.book at.more.1 (step_stands stand at.point at.new user push at.takes.step at.sound)
 
-  pub clients_follow : BooksAreLawful → PullsAreShown → clients.ClientsFollow → FedClientsFollow tells holds faults
+  pub clients_follow : BooksAreLawful → PullsAreShown → clients.ClientsFollow pull_json → FedClientsFollow tells holds faults
   clients_follow law show follow old new store bytes output output' run user pulls client turns =
       let sound = begins_sound (tells new) (OpensAs store (holds old store)) run.first run.begins in
       let shows = shown (tells new) run.first run.now run.lines run.answers show run.told run.run sound in

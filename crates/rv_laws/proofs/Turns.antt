@@ -1,23 +1,25 @@
 -- One turn of a run: the run before it, its step, and that the book goes on from there.
-use Rattle.std.proofs.Common.{◌≡◌, ℕ, ◌≤◌, inl, inr, List, [], ◌∷◌, ◌++◌, length, true, Option, Some, None, Ok, refl, sym, subst, arith}
+use Rattle.std.proofs.Common.{◌≡◌, ℕ, ◌≤◌, inl, inr, List, [], ◌∷◌, ◌++◌, length, true, Option, Some, Ok, refl, sym, subst, arith}
 use Rattle.std.specs.List.{AllByRecursion, Contains}
 use Rattle.std.proofs.lemmas.List.Elements.{Contains-append_left}
-use Rattle.rv_wire.specs.declared.error_body.ErrorBody.{ErrorBody}
-use Rattle.rv_wire.specs.declared.push.Mutation.{Mutation}
-use Rattle.rv_wire.specs.declared.push.Push as pushes
 use Rattle.rv_book.specs.declared.entry.Entry.TheVariants.{Act}
 use Rattle.rv_book.specs.Book.{Book}
 use Rattle.rv_history.specs.Laws.{IsEntered, PushesStand}
-use Rattle.rv_history.specs.Machine.{Pushes, Sender}
-use Rattle.rv_history.specs.Served.{Served, IsSound, ServedMutates}
+use Rattle.rv_history.specs.Served.{Served, IsSound, TakesTurn}
 use Rattle.rv_answering.specs.declared.answer.Answer.{Answer}
 use Rattle.rv_answering.specs.declared.answer.Answer.TheVariants.{Pushed}
 use Rattle.rv_answering.specs.declared.line.Line.{Line}
 use Rattle.rv_answering.specs.declared.line.Line.TheVariants.{Asks}
 use Rattle.rv_answering.specs.declared.request.Request.TheVariants.{Push}
-use Rattle.rv_answering.specs.Requests.{Asked}
-use Rattle.rv_answering.specs.Steps.{push_answer}
-use Rattle.rv_cli.specs.Headline.{BooksAreLawful, Run, Step, Takes}
+use Rattle.rv_answering.specs.Requests.{Parsed}
+use Rattle.rv_answering.specs.AnswerLaws.{went}
+use Rattle.rv_wire.specs.Answers.{pull_json}
+use Rattle.rv_cli.specs.Headline.{BooksAreLawful, Run, Handles, Takes}
+use Rattle.rv_turns.specs.Asks.{Sender}
+use Rattle.rv_turns.specs.Pushing.{Pushes}
+use Rattle.rv_turns.specs.declared.mutation.Mutation.{Mutation}
+use Rattle.rv_turns.specs.declared.refusal.Refusal.{Refusal}
+use Rattle.rv_wire.specs.declared.push.Push as pushes
 
 -- what is kept is told
 abbrev pub Yes : Type 0
@@ -25,7 +27,7 @@ Yes = true ≡ true
 
 -- ---- A turn.
 
-pub record At (first now : Served) (before : List Line) (answered : List (Option Answer)) (asked : Asked) (answer : Answer) : Type 0 where
+pub record At (first now : Served) (before : List Line) (answered : List (Option Answer)) (asked : Parsed) (answer : Answer) : Type 0 where
   pub point : Served
   pub new : Served
   pub run : Run Yes first before answered point
@@ -33,7 +35,7 @@ pub record At (first now : Served) (before : List Line) (answered : List (Option
   pub takes : Takes Yes point (Asks asked) (Some answer) new
   pub more : (more : Book) × (now.book ≡ new.book ++ more)
 
-pub turn_at : BooksAreLawful → (first now : Served) (before after : List Line) (answered others : List (Option Answer)) (asked : Asked) (answer : Answer) → IsSound first → length before ≡ length answered
+pub turn_at : BooksAreLawful → (first now : Served) (before after : List Line) (answered others : List (Option Answer)) (asked : Parsed) (answer : Answer) → IsSound first → length before ≡ length answered
     → Run Yes first (before ++ Asks asked ∷ after) (answered ++ Some answer ∷ others) now → At first now before answered asked answer
 turn_at law first now [] after [] others asked answer sound same (mid, takes, rest) =
     let kept = law true first mid (Asks asked ∷ []) (Some answer ∷ []) (mid, takes, refl) sound in
@@ -47,18 +49,14 @@ turn_at law first now (a ∷ before) after (x ∷ answered) others asked answer 
 
 -- ---- Of a push that was not refused each mutation stands.
 
-pub went : (refused : Option ErrorBody) → Pushed ≡ push_answer refused → refused ≡ None
-went None is = refl
-went (Some why) is = absurd (cc)
-
 abbrev pub AllStand : List ℕ → pushes.Push → Book → Type 0
 AllStand user push book = AllByRecursion (λ m. 1 ≤ m.id → IsEntered (record { user = user; group = push.group }) book m) push.mutations
 
-pub step_stands : PushesStand → (point new : Served) (user : List ℕ) (push : pushes.Push) → Step point (Ok (Push user push)) Pushed new → IsSound point → AllStand user push new.book
+pub step_stands : PushesStand pull_json → (point new : Served) (user : List ℕ) (push : pushes.Push) → Handles point (Ok (Push user push)) Pushed new → IsSound point → AllStand user push new.book
 step_stands stand point new user push (acted, inl wants) sound = absurd (let no = wants.0 in cc)
 step_stands stand point new user push (acted, inr (refused, pushed, is)) sound =
     let from : Sender = record { user = user; group = push.group } in
-    stand from push.mutations point new acted (subst (λ (r : Option ErrorBody). Pushes ServedMutates from push.mutations point r acted new) (went refused is) pushed) sound
+    stand from push.mutations point new acted (subst (λ (r : Option Refusal). Pushes (TakesTurn pull_json) from push.mutations point r acted new) (went refused is) pushed) sound
 
 pub entered_later : (from : Sender) (m : Mutation) (book more new : Book) → new ≡ book ++ more → IsEntered from book m → IsEntered from new m
 entered_later from m book more new is (call, there) =

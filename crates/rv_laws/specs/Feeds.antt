@@ -7,8 +7,6 @@ use Rattle.rv_base.specs.Writes.{IsFront}
 use Rattle.rv_lines.specs.Lines.{lines_of}
 use Rattle.rv_keeper.specs.declared.loaded.Loaded.{Loaded}
 use Rattle.rv_keeper.specs.Stores.{OpensAs}
-use Rattle.rv_wire.specs.declared.push.Push as pushes
-use Rattle.rv_history.specs.declared.pull_reply.PullReply.{PullReply}
 use Rattle.rv_history.specs.Clients.{ClientPull, IsClient, IsCurrent, held_then}
 use Rattle.rv_history.specs.Laws.{IsEntered}
 use Rattle.rv_history.specs.Served.{Served}
@@ -17,10 +15,12 @@ use Rattle.rv_answering.specs.declared.answer.Answer.TheVariants.{Pushed, Pulled
 use Rattle.rv_answering.specs.declared.line.Line.{Line}
 use Rattle.rv_answering.specs.declared.line.Line.TheVariants.{Asks}
 use Rattle.rv_answering.specs.declared.request.Request.TheVariants.{Push, Pull}
-use Rattle.rv_answering.specs.Requests.{Asked}
+use Rattle.rv_answering.specs.Requests.{Parsed}
 use Rattle.rv_cli.specs.declared.ending.Ending.{Ending}
 use Rattle.rv_cli.specs.Headline.{Are, Begins, IsLawfulRun, IsLeftAs, IsShown, Leaves, NotFed, Run, RunsFeed, TellsTrouble, told_text}
 use Rattle.rv_cli.specs.Texts.{status_of}
+use Rattle.rv_turns.specs.declared.pull.PullReply.{PullReply}
+use Rattle.rv_wire.specs.declared.push.Push as pushes
 
 -- ---- A run, and what was asked at a line of it.
 
@@ -37,7 +37,7 @@ abbrev pub WritesAnswers : OutputState → OutputState → List (Option Answer) 
 WritesAnswers old new answers = (text own : List ℕ) × Appends old.written new.written (text ++ own) × IsFrontOrAll text (flat_map told_text answers)
 
 -- At some line this was asked, and was answered so.
-pub record IsTurn (lines : List Line) (answers : List (Option Answer)) (asked : Asked) (answer : Answer) : Type 0 where
+pub record IsTurn (lines : List Line) (answers : List (Option Answer)) (asked : Parsed) (answer : Answer) : Type 0 where
   pub before : List Line
   pub after : List Line
   pub answered : List (Option Answer)
@@ -98,7 +98,7 @@ module _ {P : Type 0} (tells : P → Type 0) (holds : P → List ℕ → Loaded 
 
   -- Each pull that was answered shows what its user sees at that point.
   abbrev pub FedPullsAreShown : Type 0
-  FedPullsAreShown = OfAllRuns (λ old new store bytes output output' run. (asked : Asked) (reply : PullReply) (turn : IsTurn run.lines run.answers asked (Pulled reply)) → IsShown (tells new) run.first run.now turn.before turn.answered asked reply)
+  FedPullsAreShown = OfAllRuns (λ old new store bytes output output' run. (asked : Parsed) (reply : PullReply) (turn : IsTurn run.lines run.answers asked (Pulled reply)) → IsShown (tells new) run.first run.now turn.before turn.answered asked reply)
 
   -- Where the place's count of faults stayed below its last value, no answer tells a trouble with what keeps the book.
   abbrev pub FedTroublesHaveCauses : Type 0

@@ -3,34 +3,35 @@ use Rattle.std.specs.Prelude.{ℕ, ◌≤◌, ◌<◌, ◌^◌, List, Ok, Contai
 use Rattle.std.specs.List.{AllByRecursion}
 use Rattle.rv_base.specs.Outside.{InputState, OutputState}
 use Rattle.rv_accounts.specs.File.{Served as AccountsServed}
-use Rattle.rv_wire.specs.declared.push.Push as pushes
 use Rattle.rv_book.specs.Book.{Book, size}
 use Rattle.rv_keeper.specs.declared.keeper.Keeper.{Ghosts}
 use Rattle.rv_history.specs.Clients.{ClientPull, IsClient, IsCurrent, held_then}
+use Rattle.rv_wire.specs.Answers.{pull_json}
 use Rattle.rv_history.specs.Laws.{IsEntered, Tells}
 use Rattle.rv_history.specs.Served.{IsSound}
 use Rattle.rv_desk.specs.Seated.{Seated, served}
 use Rattle.rv_answering.specs.declared.answer.Answer.{Answer}
 use Rattle.rv_answering.specs.declared.answer.Answer.TheVariants.{Pushed, Pulled}
 use Rattle.rv_answering.specs.declared.request.Request.TheVariants.{Push, Pull}
-use Rattle.rv_answering.specs.Requests.{Asked}
-use Rattle.rv_answering.specs.Steps.{Step}
+use Rattle.rv_answering.specs.Requests.{Parsed}
+use Rattle.rv_answering.specs.Steps.{Handles}
 use Rattle.rv_net.specs.declared.conn.Conn.{Conn}
 use Rattle.rv_room.specs.declared.view.SeatView.{SeatView}
 use Rattle.rv_room.specs.Lists.{StartsWith}
-use Rattle.rv_room.specs.SeatTurns.{SeatMutates, SeatPulls, SeatRetires}
 use Rattle.rv_room.specs.Views.{newcomer}
 use Rattle.rv_workers.specs.Serving.{ServesTogether}
 use Rattle.rv_cli.specs.Serving.{Serves, turns_served}
+use Rattle.rv_room.specs.SeatTurns.{IsSeatTurn}
+use Rattle.rv_wire.specs.declared.push.Push as pushes
 
 -- A pull was answered by a turn of a seat, at a point of the book at the end that begins with all that the seat had seen.
 pub record IsServedPull {K : Type 0} (G : Ghosts K) (book : Book) (user : List ℕ) (pull : ClientPull) : Type 0 where
   pub old : SeatView K
   pub new : SeatView K
-  pub step : Step (SeatMutates G) (SeatPulls G) (SeatRetires G) old (Ok (Pull user pull.request)) (Pulled pull.reply) new
+  pub step : Handles (IsSeatTurn G) old (Ok (Pull user pull.request)) (Pulled pull.reply) new
   pub point : Book
   pub since : StartsWith point old.seen
-  pub tells : Tells user pull.request point new.seen pull.reply
+  pub tells : Tells pull_json user pull.request point new.seen pull.reply
   pub within : StartsWith book new.seen
 
 -- and it left the client with what its user sees there
@@ -45,12 +46,12 @@ module _ {K L I O : Type 0} (G : Ghosts K) (accounts : AccountsServed) (input : 
   Together opened givens now backs = ServesTogether G (Serves G accounts input output input_steady output_steady tells to_come came_back out ends) opened givens now backs
 
   -- all that was asked, with its answers
-  abbrev pub turns_in : (opened : Seated K) (givens : List L) (now : Seated K) (backs : List L) → Together opened givens now backs → List (Asked × Answer)
+  abbrev pub turns_in : (opened : Seated K) (givens : List L) (now : Seated K) (backs : List L) → Together opened givens now backs → List (Parsed × Answer)
   turns_in opened givens now backs together =
       turns_served G accounts input output input_steady output_steady tells to_come came_back out ends (newcomer 1 opened) givens together.views backs together.serves
 
   -- something holds of all that were served so, where the desk that was closed is sound, by all that was asked
-  abbrev pub OfAllSound : (Seated K → List (Asked × Answer) → Type 0) → Type 0
+  abbrev pub OfAllSound : (Seated K → List (Parsed × Answer) → Type 0) → Type 0
   OfAllSound Holds = (opened now : Seated K) (givens backs : List L) (together : Together opened givens now backs) → IsSound (served G.faults now) → Holds now (turns_in opened givens now backs together)
 
   -- Each mutation of a push that was not refused stands in the book at the end; but for an id of 0, which is skipped and stands nowhere.

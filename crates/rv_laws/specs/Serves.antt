@@ -7,7 +7,6 @@ use Rattle.rv_accounts.specs.File.{Served as AccountsServed}
 use Rattle.rv_keeper.specs.declared.keeper.Keeper.{Ghosts}
 use Rattle.rv_keeper.specs.declared.loaded.Loaded.{Loaded}
 use Rattle.rv_keeper.specs.Stores.{OpensAs}
-use Rattle.rv_wire.specs.declared.push.Push as pushes
 use Rattle.rv_history.specs.Clients.{ClientPull, IsClient}
 use Rattle.rv_history.specs.Laws.{IsEntered}
 use Rattle.rv_history.specs.Served.{IsSound}
@@ -15,11 +14,12 @@ use Rattle.rv_desk.specs.Seated.{Seated, served}
 use Rattle.rv_answering.specs.declared.answer.Answer.{Answer}
 use Rattle.rv_answering.specs.declared.answer.Answer.TheVariants.{Pushed, Pulled}
 use Rattle.rv_answering.specs.declared.request.Request.TheVariants.{Push, Pull}
-use Rattle.rv_answering.specs.Requests.{Asked}
+use Rattle.rv_answering.specs.Requests.{Parsed}
 use Rattle.rv_net.specs.declared.conn.Conn.{Conn}
 use Rattle.rv_cli.specs.Headline.{Begins, IsLawfulRun, Leaves, TellsChange, TellsTrouble}
 use Rattle.rv_cli.specs.Serving.{NetServes, RunsServe, ShowsIn}
 use Rattle.rv_laws.specs.Listeners.{FollowsIn, Together, turns_in}
+use Rattle.rv_wire.specs.declared.push.Push as pushes
 
 -- A run of `serve` on a store of a place and over a net, which are these before and these after.
 module _ {P N K L I O : Type 0} (tells : P → Type 0) (files : P → List ℕ → List ℕ → Type 0) (holds : P → List ℕ → Loaded → Type 0) (place_faults : P → ℕ)
@@ -63,7 +63,7 @@ module _ {P N K L I O : Type 0} (tells : P → Type 0) (files : P → List ℕ �
   OfAllServes Holds = (old new : P) (net net' : N) (store : List ℕ) (options : ServeOptions) (run : ServeRun old new net net' store options) → Holds old new net net' store options run
 
   -- all that was asked over the connections, with its answers
-  abbrev pub all_turns : (old new : P) (net net' : N) (store : List ℕ) (options : ServeOptions) → ServeRun old new net net' store options → List (Asked × Answer)
+  abbrev pub all_turns : (old new : P) (net net' : N) (store : List ℕ) (options : ServeOptions) → ServeRun old new net net' store options → List (Parsed × Answer)
   all_turns old new net net' store options run =
       turns_in G run.accounts input output input_steady output_steady listener_tells to_come came_back out ends run.opened run.givens run.now run.backs run.together
 

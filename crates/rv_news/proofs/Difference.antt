@@ -13,8 +13,8 @@ use Rattle.rv_rows.specs.Keys.{key_text, row_key, row_text, row_at, has_row, in_
 use Rattle.rv_rows.specs.Held.{Stored, stored_key, find, rows_in}
 use Rattle.rv_rows.specs.Sharing.{sees as sees_row, seen}
 use Rattle.rv_rows.specs.EffectLaws.{sees-sorted}
-use Rattle.rv_wire.specs.declared.op.Op.{Op}
-use Rattle.rv_wire.specs.declared.op.Op.TheVariants.{Clear, Del, Put}
+use Rattle.rv_turns.specs.declared.op.Op.{Op}
+use Rattle.rv_turns.specs.declared.op.Op.TheVariants.{Clear, Del, Put}
 use Rattle.rv_sharing.specs.Visible.{visible}
 use Rattle.rv_book.specs.Book.{Book, since, up_to}
 use Rattle.rv_history.specs.Replay.{rows_of, IsReplay}

@@ -8,8 +8,8 @@ use Rattle.rv_base.specs.declared.memory.Memory.{Memory}
 use Rattle.rv_base.specs.Sorted.{InOrder}
 use Rattle.rv_rows.specs.declared.key.Key.{Key}
 use Rattle.rv_rows.specs.Held.{Stored}
-use Rattle.rv_wire.specs.declared.op.Op.TheVariants.{Clear, Del}
-use Rattle.rv_wire.specs.declared.pull.PullRequest.{PullRequest}
+use Rattle.rv_turns.specs.declared.op.Op.TheVariants.{Clear, Del}
+use Rattle.rv_turns.specs.declared.pull.PullRequest.{PullRequest}
 use Rattle.rv_sharing.specs.Visible.{visible}
 use Rattle.rv_views.specs.Viewed.{Viewed}
 use Rattle.rv_views.specs.Difference.{lost_keys, touched_keys, changed_ids, difference}

@@ -4,7 +4,7 @@ use Rattle.std.specs.List.{filter, filter_map}
 use Rattle.rv_rows.specs.declared.key.Key.{Key}
 use Rattle.rv_rows.specs.Held.{Stored}
 use Rattle.rv_sharing.specs.Visible.{visible}
-use Rattle.rv_wire.specs.declared.op.Op.TheVariants.{Del}
+use Rattle.rv_turns.specs.declared.op.Op.TheVariants.{Del}
 use Rattle.rv_views.specs.Viewed.{Viewed}
 use Rattle.rv_views.specs.Difference.{is_absent, is_untouched, is_among as is_among_views, lost_keys, touched_keys, changed_ids}
 use Rattle.rv_book.specs.Book.{Book, ids}

@@ -5,7 +5,7 @@ use Rattle.std.proofs.lemmas.List.{take_more}
 use Rattle.std.proofs.lemmas.List.Elements.{filter_map-append}
 use Rattle.rv_rows.specs.declared.key.Key.{Key}
 use Rattle.rv_rows.specs.Held.{Stored}
-use Rattle.rv_wire.specs.declared.op.Op.{Op}
+use Rattle.rv_turns.specs.declared.op.Op.{Op}
 use Rattle.rv_news.specs.Shows.{put_of}
 
 -- the puts of some keys go on by one key

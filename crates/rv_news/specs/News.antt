@@ -3,7 +3,7 @@ use Rattle.std.specs.Prelude.{◌≡◌, ℕ, List, [], true, Option, Some, None
 use Rattle.rv_rows.specs.declared.key.Key.{Key}
 use Rattle.rv_views.specs.Difference.{changed_ids}
 use Rattle.rv_base.specs.Sorted.{InOrder}
-use Rattle.rv_wire.specs.declared.pull.PullRequest.{PullRequest}
+use Rattle.rv_turns.specs.declared.pull.PullRequest.{PullRequest}
 use Rattle.rv_views.specs.Viewed.{Viewed}
 use Rattle.rv_book.specs.Book.{Book}
 use Rattle.rv_book.specs.Kept.{kept}

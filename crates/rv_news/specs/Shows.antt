@@ -4,8 +4,8 @@ use Rattle.std.specs.List.{filter_map}
 use Rattle.rv_rows.specs.declared.key.Key.{Key}
 use Rattle.rv_rows.specs.Keys.{key_text}
 use Rattle.rv_rows.specs.Held.{Stored, find}
-use Rattle.rv_wire.specs.declared.op.Op.{Op}
-use Rattle.rv_wire.specs.declared.op.Op.TheVariants.{Clear, Del, Put}
+use Rattle.rv_turns.specs.declared.op.Op.{Op}
+use Rattle.rv_turns.specs.declared.op.Op.TheVariants.{Clear, Del, Put}
 use Rattle.rv_views.specs.declared.diff.Diff.{Diff}
 
 -- the put of a key's row, where it is stored

@@ -10,7 +10,7 @@ ghost use Rattle.rv_history.specs.Bases.{base_of, names_base};
 use itoa::Buffer;
 use rv_base::{Num, User};
 use rv_book::Book;
-use rv_wire::Cookie;
+use rv_views::Cookie;
 
 fn spells(text: &str, place: u32) -> bool
     ensures { result ≡ bytes_eq (decimal place) text.now }

@@ -2,7 +2,7 @@
 ghost use Rattle.std.specs.Prelude.{◌≡◌, ◌++◌, ◌∷◌, [], ◌↔◌, IsTrue, IfOk, OnOk, map, option_map, Some, None};
 ghost use Rattle.std.specs.List.{filter_map};
 ghost use Rattle.rv_base.specs.Sorted.{InOrder};
-ghost use Rattle.rv_wire.specs.declared.op.Op.TheVariants.{Del};
+ghost use Rattle.rv_turns.specs.declared.op.Op.TheVariants.{Del};
 ghost use Rattle.rv_sharing.specs.Visible.{visible};
 ghost use Rattle.rv_book.specs.Book.{ids};
 ghost use Rattle.rv_views.specs.Difference.{difference};
@@ -12,8 +12,8 @@ use rv_base::{Id, Memory, Sequence, User};
 use rv_book::Book;
 use rv_rows::{Clients, Key, Keys, Tables};
 use rv_sharing::visible;
+use rv_turns::{Op, Ops};
 use rv_views::{Diff, ViewRecord, difference, record_now};
-use rv_wire::{Op, Ops};
 use std::alloc::Global;
 
 // What a pull is told, with the place of its base and what its user and its group see now.

@@ -14,8 +14,8 @@ use rv_base::{Memory, User};
 use rv_book::Book;
 use rv_rows::Tables;
 use rv_sharing::sees_exactly;
+use rv_turns::PullRequest;
 use rv_views::ViewRecord;
-use rv_wire::PullRequest;
 use std::alloc::Global;
 
 /// What a pull is told at a book. The tables are the book's replay, and the records those of its kept looks.

@@ -6,7 +6,7 @@ ghost use Rattle.rv_rows.specs.Changes.{same_row};
 ghost use Rattle.rv_rows.specs.Keys.{key_text, row_at, row_key, row_text};
 ghost use Rattle.rv_rows.specs.Sharing.{seen};
 ghost use Rattle.rv_rows.specs.declared.row.Row.TheVariants.{Todo};
-ghost use Rattle.rv_wire.specs.declared.op.Op.TheVariants.{Clear, Del, Put};
+ghost use Rattle.rv_turns.specs.declared.op.Op.TheVariants.{Clear, Del, Put};
 ghost use Rattle.rv_book.specs.Book.{since, size};
 ghost use Rattle.rv_history.specs.Replay.{rows_after, rows_of};
 ghost use Rattle.rv_history.specs.Bases.{base_group};
@@ -18,7 +18,7 @@ use crate::rows::{has_row, seen};
 use rv_base::{Id, Memory, Num, Sequence, User};
 use rv_book::Entry;
 use rv_rows::{Clients, Key, Kind, Row, TodoRow};
-use rv_wire::{Op, Ops};
+use rv_turns::{Op, Ops};
 use std::alloc::Global;
 
 fn same_todo(a: &TodoRow, b: &TodoRow) -> bool

@@ -10,7 +10,7 @@ use crate::book::retired;
 use itoa::Buffer;
 use rv_base::{Id, Num, User};
 use rv_book::{Entry, KEPT_LOOKS, LookRef};
-use rv_wire::Cookie;
+use rv_views::Cookie;
 
 // The entry at a place, from 1.
 fn entry_at(book: &[Entry], place: u32) -> Option<&Entry>

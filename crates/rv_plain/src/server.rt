@@ -5,15 +5,18 @@ ghost use Rattle.rv_book.specs.Book.{size, with_entry};
 ghost use Rattle.rv_history.specs.Groups.{is_of_other, is_elsewhere, Admits};
 ghost use Rattle.rv_history.specs.Bases.{base_of};
 ghost use Rattle.rv_history.specs.Machine.{patch_for, ids_for};
+ghost use Rattle.rv_turns.specs.declared.refusal.Refusal.TheVariants as refusals;
+ghost use Rattle.rv_turns.specs.declared.refusal.Which.TheVariants as which;
 
 use crate::book::{bound, copies, group_of, last, last_order, retired};
 use crate::history::{ids_since, patch_since};
 use crate::looks::base_of;
 use rv_base::{Id, Memory, Num, User};
 use rv_book::Entry;
-use rv_history::{PullAnswer, PullReply, RetireAnswer, Turn, entries, next_order};
+use rv_history::{entries, next_order};
 use rv_rows::{Call, Clients};
-use rv_wire::{Ops, PullRequest, Which};
+use rv_turns::{Asked, Ops, Outcome, PullReply, PullRequest, Refusal, Turns, Which};
+use rv_wire::{look_reply, same_reply};
 use std::alloc::Global;
 use std::marker::Model;
 
@@ -33,6 +36,13 @@ fn is_elsewhere(book: &[Entry], client: &Id, group: &Id) -> bool
         Some(other) => other != group,
         None => false,
     }
+}
+
+// The refusal of a book that has so many entries, and may have no more.
+fn full(limit: u32) -> Refusal
+    ensures { result ≡ refusals.Limit which.Book limit }
+{
+    Refusal::Limit(Which::Book, Num::from_u64(u64::from(limit)))
 }
 
 // What a pull is told, with the place of its base.
@@ -93,7 +103,9 @@ impl Model for PlainDesk {
 impl PlainDesk {
     ghost use Rattle.std.specs.Prelude.{MatchOption};
     ghost use Rattle.rv_rows.specs.declared.call.Call.{Call};
-    ghost use Rattle.rv_history.specs.Machine.{Sender, Mutates, Pulls, Retires, Takes, next_order, reply_to};
+    ghost use Rattle.rv_history.specs.Machine.{Step, Takes, next_order, reply_to};
+    ghost use Rattle.rv_turns.specs.Asks.{Sender, Ask};
+    ghost use Rattle.rv_wire.specs.Answers.{pull_json};
     ghost use Rattle.rv_book.specs.Book.{last};
 
     /// A server with the empty book, which takes at most so many entries.
@@ -133,47 +145,47 @@ impl PlainDesk {
     }
 
     // How a mutation is answered that is not run.
-    fn hindrance(&self, user: &User, group: &Id, client: &Id, id: Num) -> Option<Turn>
+    fn hindrance(&self, user: &User, group: &Id, client: &Id, id: Num) -> Option<Outcome>
         ensures { let from : Sender = record { user = user.now; group = group.now } in MatchOption result
             (Takes from client.now self.now.book × (id ≡ last client.now self.now.book + 1) × (size self.now.book < self.now.limit))
-            (λ turn. (call : Call) → Mutates self.now.limit from (record { client = client.now; id = id; call = call }) self.now.book turn self.now.book) }
+            (λ outcome. (call : Call) → Step pull_json self.now.limit self.now.book (Ask.mutation from (record { client = client.now; id = id; call = call })) outcome self.now.book) }
     {
         let limit = self.limit;
         if is_of_other(&self.entries, user, group) {
-            return Some(Turn::GroupOfOther);
+            return Some(Outcome::Refused(Refusal::GroupOfOther));
         }
         if retired(&self.entries, group) {
-            return Some(Turn::NotFound);
+            return Some(Outcome::Refused(Refusal::NotFound));
         }
         if is_elsewhere(&self.entries, client, group) {
-            return Some(Turn::ClientOfOther);
+            return Some(Outcome::Refused(Refusal::ClientOfOther));
         }
         let last = last(&self.entries, client);
         if id.get() <= last {
-            return Some(Turn::Skipped(Num::from_u64(last)));
+            return Some(Outcome::Skipped(Num::from_u64(last)));
         }
         if id.get() > last + 1 {
-            return Some(Turn::Future {
+            return Some(Outcome::Refused(Refusal::Future {
                 expected: Num::from_u64(last + 1),
                 got: id,
-            });
+            }));
         }
         if self.entries.len() >= limit as usize {
-            return Some(Turn::Limit(Which::Book, Num::from_u64(u64::from(limit))));
+            return Some(Outcome::Refused(full(limit)));
         }
         None
     }
 
     /// One mutation.
-    pub fn mutate(&mut self, user: &User, group: &Id, client: &Id, id: Num, call: Call) -> Turn
-        ensures turn { Mutates self.old.limit (record { user = user.now; group = group.now }) (record { client = client.now; id = id; call = call }) self.old.book result self.new.book }
+    pub fn mutate(&mut self, user: &User, group: &Id, client: &Id, id: Num, call: Call) -> Outcome
+        ensures step { Step pull_json self.old.limit self.old.book (Ask.mutation (record { user = user.now; group = group.now }) (record { client = client.now; id = id; call = call })) result self.new.book }
         ensures limit { self.new.limit ≡ self.old.limit }
     {
         match self.hindrance(user, group, client, id) {
-            Some(turn) => turn,
+            Some(outcome) => outcome,
             None => match self.act(user, group, client, id, call) {
-                Ok(()) => Turn::Acted(self.entries.len() as u32),
-                Err(Memory) => Turn::Memory,
+                Ok(()) => Outcome::Acted(self.entries.len() as u32),
+                Err(Memory) => Outcome::Refused(Refusal::Memory),
             },
         }
     }
@@ -197,42 +209,42 @@ impl PlainDesk {
     }
 
     /// One pull.
-    pub fn pull(&mut self, user: &User, request: &PullRequest) -> PullAnswer
-        ensures answer { Pulls self.old.limit user.now request.now self.old.book result self.new.book }
+    pub fn pull(&mut self, user: &User, request: &PullRequest) -> Outcome
+        ensures step { Step pull_json self.old.limit self.old.book (Ask.pull user.now request.now) result self.new.book }
         ensures limit { self.new.limit ≡ self.old.limit }
     {
         if is_of_other(&self.entries, user, &request.group) {
-            return PullAnswer::GroupOfOther;
+            return Outcome::Refused(Refusal::GroupOfOther);
         }
         if retired(&self.entries, &request.group) {
-            return PullAnswer::NotFound;
+            return Outcome::Refused(Refusal::NotFound);
         }
         match self.answer(user, request) {
-            Ok(answer) => answer,
-            Err(Memory) => PullAnswer::Memory,
+            Ok(outcome) => outcome,
+            Err(Memory) => Outcome::Refused(Refusal::Memory),
         }
     }
 
     // The answer to a pull of a group that is the user's and not retired.
-    fn answer(&mut self, user: &User, request: &PullRequest) -> Result<PullAnswer, Memory>
+    fn answer(&mut self, user: &User, request: &PullRequest) -> Result<Outcome, Memory>
         requires admits { Admits user.now request.now.group self.old.book }
-        ensures ok { IfOk result (λ answer. Pulls self.old.limit user.now request.now self.old.book answer self.new.book) }
+        ensures ok { IfOk result (λ outcome. Step pull_json self.old.limit self.old.book (Ask.pull user.now request.now) outcome self.new.book) }
         ensures err { OnErr result (self.new.book ≡ self.old.book) }
         ensures limit { self.new.limit ≡ self.old.limit }
     {
         let told = told_at(self.alloc, &self.entries, user, request)?;
         if told.is_empty() {
-            return Ok(PullAnswer::Pulled(PullReply::of_request(self.alloc, request)?));
+            return Ok(Outcome::Pulled(same_reply(self.alloc, request)?));
         }
         let order = next_order(&request.cookie, last_order(&self.entries, &request.group));
         if order > Num::MAX {
-            return Ok(PullAnswer::Limit(Which::Order, Num::from_u64(Num::MAX)));
+            return Ok(Outcome::Refused(Refusal::Limit(Which::Order, Num::from_u64(Num::MAX))));
         }
         if self.entries.len() >= self.limit as usize {
-            return Ok(PullAnswer::Limit(Which::Book, Num::from_u64(u64::from(self.limit))));
+            return Ok(Outcome::Refused(full(self.limit)));
         }
         let reply = self.look(user, request, Num::from_u64(order), told)?;
-        Ok(PullAnswer::Pulled(reply))
+        Ok(Outcome::Pulled(reply))
     }
 
     // Makes the reply, and then enters the look.
@@ -249,36 +261,36 @@ impl PlainDesk {
         requires ops { told.ops ≡ patch_for user.now request.now self.old.book }
         requires ids { told.ids ≡ ids_for user.now request.now self.old.book }
         requires ids_order { InOrder (λ pair. pair.0) told.ids }
-        ensures reply { IfOk result (λ reply. reply ≡ reply_to user.now request.now self.old.book) }
+        ensures reply { IfOk result (λ reply. reply ≡ reply_to pull_json user.now request.now self.old.book) }
         ensures ok { OnOk result (self.new.book ≡ with_entry self.old.book (Look user.now request.now.group order (base_of user.now request.now.cookie self.old.book))) }
         ensures err { OnErr result (self.new.book ≡ self.old.book) }
         ensures limit { self.new.limit ≡ self.old.limit }
     {
         let Told { base, ops, ids } = told;
         let place = self.entries.len() as u32 + 1;
-        let reply = PullReply::of_look(self.alloc, place, order, ids, ops)?;
+        let reply = look_reply(self.alloc, place, order, ids, ops)?;
         let entry = entries::look(self.alloc, user, &request.group, order, base)?;
         self.entries.push(entry)?;
         Ok(reply)
     }
 
     /// One retirement.
-    pub fn retire(&mut self, group: &Id) -> RetireAnswer
-        ensures answer { Retires self.old.limit group.now self.old.book result self.new.book }
+    pub fn retire(&mut self, group: &Id) -> Outcome
+        ensures step { Step pull_json self.old.limit self.old.book (Ask.retirement group.now) result self.new.book }
         ensures limit { self.new.limit ≡ self.old.limit }
     {
         if bound(&self.entries, group).is_none() {
-            return RetireAnswer::NoGroup;
+            return Outcome::Refused(Refusal::NoGroup);
         }
         if retired(&self.entries, group) {
-            return RetireAnswer::NotFound;
+            return Outcome::Refused(Refusal::NotFound);
         }
         if self.entries.len() >= self.limit as usize {
-            return RetireAnswer::Limit(Which::Book, Num::from_u64(u64::from(self.limit)));
+            return Outcome::Refused(full(self.limit));
         }
         match self.enter_retirement(group) {
-            Ok(()) => RetireAnswer::Retired(self.entries.len() as u32),
-            Err(Memory) => RetireAnswer::Memory,
+            Ok(()) => Outcome::Retired(self.entries.len() as u32),
+            Err(Memory) => Outcome::Refused(Refusal::Memory),
         }
     }
 
@@ -291,5 +303,27 @@ impl PlainDesk {
         let entry = entries::retirement(self.alloc, group)?;
         self.entries.push(entry)?;
         Ok(())
+    }
+}
+
+impl Turns for PlainDesk {
+    ghost use Rattle.std.specs.Prelude.{◌≡◌};
+    ghost use Rattle.rv_history.specs.Machine.{Step};
+    ghost use Rattle.rv_wire.specs.Answers.{pull_json};
+
+    ghost takes = { λ old ask outcome new. Step pull_json old.limit old.book ask outcome new.book × (new.limit ≡ old.limit) };
+
+    fn take(&mut self, asked: Asked<'_>) -> Outcome {
+        match asked {
+            Asked::Mutation {
+                user,
+                group,
+                client,
+                id,
+                call,
+            } => self.mutate(user, group, client, id, call),
+            Asked::Pull { user, request } => self.pull(user, request),
+            Asked::Retirement { group } => self.retire(group),
+        }
     }
 }

@@ -1,24 +1,31 @@
 -- What a turn leaves in what its seat knows.
 use Rattle.std.proofs.Common.{◌≡◌, ◌≢◌, ◌⊎◌, ℕ, ◌+◌, ◌≤◌, Bool, true, false, List, [], ◌∷◌, ◌++◌, length, drop, Option, Some, None, refl, sym, ap, ◌∙◌, subst, ⊎_elim, inl, inr, arith, append-nil, length-append}
 use Rattle.std.specs.Prelude.{Result, Ok, Err, IfSome, IsSome}
-use Rattle.rv_base.specs.Causes.{Rose, rose_before}
 use Rattle.rv_book.specs.declared.entry.Entry.{Entry}
 use Rattle.rv_book.specs.Book.{Book, size, since, with_entry}
-use Rattle.rv_history.specs.declared.trouble.Trouble.{Trouble}
-use Rattle.rv_history.specs.declared.trouble.Trouble.TheVariants.{Failed, Changed}
-use Rattle.rv_history.specs.Served.{Served, IsChanged, Settles, Stays, LeavesDoubt, TurnOf, TakesTurn}
+use Rattle.rv_turns.specs.Asks.{Ask}
+use Rattle.rv_turns.specs.Outcomes.{trouble_of}
+use Rattle.rv_turns.specs.declared.outcome.Outcome.{Outcome}
+use Rattle.rv_turns.specs.declared.outcome.Outcome.TheVariants.{Refused}
+use Rattle.rv_turns.specs.declared.refusal.Refusal.TheVariants as refusals
+use Rattle.rv_turns.specs.declared.refusal.Trouble.{Trouble}
+use Rattle.rv_turns.specs.declared.refusal.Trouble.TheVariants.{Keeper, Changed}
+use Rattle.rv_wire.specs.Answers.{pull_json}
+use Rattle.rv_history.specs.TurnLaws.{Adds, step_adds}
+use Rattle.rv_history.specs.Served.{Served, Settles, TurnOf, TakesTurn}
 use Rattle.rv_keeper.specs.declared.keeper.Keeper.{Ghosts}
-use Rattle.rv_desk.specs.Seated.{Assures, Seated, served}
-use Rattle.rv_desk.specs.Settling.{IsSettled, SettlesOrNot, settle_trouble}
+use Rattle.rv_desk.specs.Seated.{Assures, DeskTakes, Seated, served}
+use Rattle.rv_desk.specs.Settling.{IsSettled, settle_trouble}
+use Rattle.rv_desk.specs.TurnLaws.{turn_after, turn_unsettled}
 use Rattle.rv_room.specs.declared.view.SeatView.{SeatView}
 use Rattle.rv_room.specs.Following.{KeeperFollows, FollowsAll, follows_on}
 use Rattle.rv_room.specs.Lists.{StartsWith, numbered}
 use Rattle.rv_room.specs.Views.{waiting, on_turn, grown, entered, listed}
 use Rattle.rv_room.specs.Rule.{IsOf}
 use Rattle.rv_room.specs.Plays.{Knows}
-use Rattle.rv_room.specs.Ends.{Adds, end_view, held_view}
-use Rattle.rv_room.specs.SeatTurns.{Parts, settled_book, last_book, TurnAs, IsSeatTurn}
-use Rattle.rv_room.proofs.Totals.{all_map, drop_front, drop_self}
+use Rattle.rv_room.specs.Ends.{end_view, held_view}
+use Rattle.rv_room.specs.SeatTurns.{IsSeatTurn}
+use Rattle.rv_room.proofs.Totals.{drop_front, drop_self}
 
 -- ---- Which way a book settled, and whether a step made an entry.
 
@@ -116,121 +123,85 @@ module _ {K : Type 0} (G : Ghosts K) where
   pub of_after : (v : SeatView K) (d d' : Seated K) → IsOf G v d → d'.limit ≡ d.limit → KeeperFollows G d.keeper d'.keeper → IsOf G v d'
   of_after v d d' of limit goes = (of.0, of.1, record { limit = limit ∙ of.2.limit; keeper = follows_on G of.0.keeper d.keeper d'.keeper of.2.keeper goes })
 
-module _ {A : Type 0} (trouble : A → Option Trouble) (Step : Book → A → Book → Type 0) (adds : (book : Book) (a : A) (new : Book) → Step book a new → Adds book new) where
-  -- where nothing was in doubt, a turn adds at most one entry
-  pub turn_adds : (old : Served) (a : A) (new : Served) → old.doubt ≡ None → TakesTurn trouble Step old a new → Adds old.book new.book
-  turn_adds old a new sure t = go (trouble a) t.turn
-    where
-      go : (tr : Option Trouble) → TurnOf trouble Step old a new tr → Adds old.book new.book
-      go None u = subst (λ (b : Book). Adds b new.book) (sure_settles old.book old.doubt sure u.0 u.1) (adds u.0 a new.book u.2)
-      go (Some Failed) u = ⊎_elim (λ (h : IsSome old.doubt × Stays old new). absurd (sure_is_none old.doubt sure h.0)) (λ (h : LeavesDoubt trouble Step old new). inl (sure_settles old.book old.doubt sure new.book h.settled)) u.1
-      go (Some (Changed kept found)) u = absurd (sure_is_none old.doubt sure u.1)
+-- where nothing was in doubt, a turn adds at most one entry
+module _ (old : Served) (ask : Ask) (outcome : Outcome) (new : Served) (sure : old.doubt ≡ None) where
+  adds_by : (settled : Book) (left : Option Entry) (trouble : Option Trouble) → Settles old.book old.doubt settled → TurnOf pull_json old settled ask outcome left trouble new → Adds old.book new.book
+  adds_by settled None None is (step, none, still) = subst (λ (b : Book). Adds b new.book) (sure_settles old.book old.doubt sure settled is) (step_adds pull_json old.limit settled ask outcome new.book step)
+  adds_by settled None (Some trouble) is (same, stays) = absurd (sure_is_none old.doubt sure stays.doubt)
+  adds_by settled (Some entry) (Some Keeper) is left = inl (left.book ∙ sure_settles old.book old.doubt sure settled is)
+  adds_by settled (Some entry) (Some (Changed kept found)) is never = absurd never
+  adds_by settled (Some entry) None is never = absurd never
 
-  -- a turn from where nothing is in doubt, as a turn of a seat that had settled
-  pub turn_as : (p : Parts) (old : Served) (a : A) (new : Served) → old.doubt ≡ None → settled_book p ≡ old.book → p.made ≡ since (size old.book) new.book → p.left ≡ listed new.doubt → p.first ≡ old.faults → p.last ≡ new.faults
-      → TakesTurn trouble Step old a new → TurnAs trouble Step p a (trouble a)
-  turn_as p old a new sure settled made left first last t = go (trouble a) t.turn
-    where
-      whole : last_book p ≡ new.book
-      whole = (λ i. settled i ++ made i) ∙ behind old.book new.book (turn_adds old a new sure t)
+  pub turn_adds : TakesTurn pull_json old ask outcome new → Adds old.book new.book
+  turn_adds taken = adds_by taken.settled taken.left (trouble_of outcome) taken.settles taken.turn
 
-      go : (tr : Option Trouble) → TurnOf trouble Step old a new tr → TurnAs trouble Step p a tr
-      go None u = (
-        left ∙ ap listed u.3,
-        subst (λ (b : Book × Book). Step b.0 a b.1) (λ i. ((sure_settles old.book old.doubt sure u.0 u.1 ∙ sym settled) i, sym whole i)) u.2,
-        last ∙ (u.4 ∙ sym first),
-      )
-      go (Some Failed) u =
-          ⊎_elim
-          (λ (h : IsSome old.doubt × Stays old new). absurd (sure_is_none old.doubt sure h.0))
-          (λ (h : LeavesDoubt trouble Step old new).
-          let book : new.book ≡ old.book = sure_settles old.book old.doubt sure new.book h.settled in (
-            subst (λ (n : ℕ). Rose p.first n) (sym last) (rose_before p.first old.faults new.faults (omega (arith, first)) u.0),
-            made ∙ (ap (λ (b : Book). drop (length old.book) b) book ∙ drop_self old.book),
-            inr (record {
-              entry = h.entry;
-              answer = h.answer;
-              step = subst (λ (b : Book). Step b h.answer (with_entry b h.entry)) (book ∙ sym settled) h.step;
-              left = left ∙ ap listed h.doubt;
-            }),
-          ))
-          u.1
-      go (Some (Changed kept found)) u = absurd (sure_is_none old.doubt sure u.1)
+-- what a turn left in doubt is in doubt, and nothing else, where nothing was
+module _ (old : Served) (ask : Ask) (outcome : Outcome) (new : Served) (sure : old.doubt ≡ None) where
+  left_by : (settled : Book) (left : Option Entry) (trouble : Option Trouble) → TurnOf pull_json old settled ask outcome left trouble new → new.doubt ≡ left
+  left_by settled None None (step, none, still) = none
+  left_by settled None (Some trouble) (same, stays) = absurd (sure_is_none old.doubt sure stays.doubt)
+  left_by settled (Some entry) (Some Keeper) left = left.doubt
+  left_by settled (Some entry) (Some (Changed kept found)) never = absurd never
+  left_by settled (Some entry) None never = absurd never
 
-module _ {K A : Type 0} (G : Ghosts K) (trouble : A → Option Trouble) (Step : ℕ → Book → A → Book → Type 0) where
-  pub seat_turn : ((limit : ℕ) (book : Book) (a : A) (new : Book) → Step limit book a new → Adds book new)
-      → (v : SeatView K) (t : ℕ) (d mid d' : Seated K) (a : A) → IsOf G v d → StartsWith d.book v.seen → FollowsAll G v.after d.keeper
-      → IsSettled (served G.faults d) (Ok tt) (served G.faults mid) → TakesTurn trouble (Step mid.limit) (served G.faults mid) a (served G.faults d') → (G.fails_no_more d.keeper → trouble a ≡ None) → (G.tells d'.keeper → ¬ IsChanged (trouble a))
-      → IsSeatTurn G trouble Step v a (end_view (on_turn G.faults (waiting v t) d) mid.book d'.book d'.doubt d'.keeper)
-  seat_turn adds v t d mid d' a of begins later settled turn sure near =
-      let limit : mid.limit ≡ of.0.limit = settled.limit ∙ of.2.limit in
-      let turn' : TakesTurn trouble (Step of.0.limit) (served G.faults mid) a (served G.faults d') = subst (λ (n : ℕ). TakesTurn trouble (Step n) (served G.faults mid) a (served G.faults d')) limit turn in
-      let came : List Entry = since (size d.book) mid.book in
-      let made : List Entry = since (size mid.book) d'.book in
-      let whole : d.book ++ came ≡ mid.book = behind d.book mid.book (settled_adds d.book d.doubt mid.book settled.settled.0) in
-      let last : (d.book ++ came) ++ made ≡ d'.book = ap (λ (b : Book). b ++ made) whole ∙ behind mid.book d'.book (turn_adds trouble (Step of.0.limit) (adds of.0.limit) (served G.faults mid) a (served G.faults d') settled.settled.1 turn') in
-      let up = settled.later in let up' = turn.later in
-      let p : Parts = record { history = d.book; doubt = d.doubt; came = came; made = made; left = listed d'.doubt; first = G.faults d.keeper; last = G.faults d'.keeper } in
-      record {
+  turn_left : (taken : TakesTurn pull_json old ask outcome new) → new.doubt ≡ taken.left
+  turn_left taken = left_by taken.settled taken.left (trouble_of outcome) taken.turn
+
+module _ {K : Type 0} (G : Ghosts K) where
+  -- what was settled, and then the step, are a turn of the desk
+  desk_turn : (desk mid after : Seated K) (ask : Ask) (outcome : Outcome) → IsSettled (served G.faults desk) (Ok tt) (served G.faults mid) → Assures G.tells G.fails_no_more desk.keeper None mid.keeper → DeskTakes G mid ask outcome after → Assures G.tells G.fails_no_more desk.keeper (trouble_of outcome) after.keeper
+  desk_turn desk mid after ask outcome settled assured takes = record {
+    told = λ tells. assured.told (takes.assured.told tells);
+    near = takes.assured.near;
+    goes_on = λ steady. takes.assured.goes_on (assured.goes_on steady);
+    sure = λ steady. takes.assured.sure (assured.goes_on steady);
+  }
+
+  pub seat_turn : (v : SeatView K) (t : ℕ) (d mid d' : Seated K) (ask : Ask) (outcome : Outcome) → IsOf G v d → StartsWith d.book v.seen → FollowsAll G v.after d.keeper
+      → IsSettled (served G.faults d) (Ok tt) (served G.faults mid) → Assures G.tells G.fails_no_more d.keeper None mid.keeper → DeskTakes G mid ask outcome d'
+      → IsSeatTurn G v ask outcome (end_view (on_turn G.faults (waiting v t) d) mid.book d'.book d'.doubt d'.keeper)
+  seat_turn v t d mid d' ask outcome of begins later settled assured takes = record {
+    opened = of.0;
+    desk = d;
+    now = d';
+    room = of.1;
+    keeps = of.2;
+    begins = begins;
+    follows = later;
+    takes = record { turn = turn_after pull_json ask outcome (served G.faults d) (served G.faults mid) (served G.faults d') settled takes.turn; assured = desk_turn d mid d' ask outcome settled assured takes };
+    stays = refl;
+    seen = refl;
+    ends = refl;
+    own = refl;
+    settled = refl;
+    left = ap (λ (doubt : Option Entry). v.left ++ listed doubt) (turn_left (served G.faults mid) ask outcome (served G.faults d') settled.settled.1 takes.turn);
+    before = refl;
+    after = refl;
+  }
+
+  pub seat_held : (v : SeatView K) (t : ℕ) (d d' : Seated K) (trouble : Trouble) (ask : Ask) → IsOf G v d → StartsWith d.book v.seen → FollowsAll G v.after d.keeper
+      → IsSettled (served G.faults d) (Err trouble) (served G.faults d') → Assures G.tells G.fails_no_more d.keeper (Some trouble) d'.keeper
+      → IsSeatTurn G v ask (Refused (refusals.Trouble trouble)) (held_view (on_turn G.faults (waiting v t) d) d'.keeper)
+  seat_held v t d d' trouble ask of begins later settled assured =
+      let same : d'.book ≡ d.book = settled.settled.stays.0 in
+      let none : since (size d.book) d.book ≡ [] = drop_self d.book in record {
         opened = of.0;
-        turn = p;
-        now = d'.keeper;
+        desk = d;
+        now = d';
         room = of.1;
-        risen = of.2.keeper.later;
-        sure = λ steady. sure (of.2.keeper.goes_on steady);
-        near = near;
+        keeps = of.2;
         begins = begins;
-        since = all_map (λ k. KeeperFollows G k d.keeper) (λ k. G.faults k ≤ G.faults d.keeper) v.after (λ k follows. follows.later) later;
-        later = omega arith;
-        last = refl;
-        comes = ⊎_elim
-            (λ (same : mid.book ≡ d.book). inl (ap (λ (b : Book). drop (length d.book) b) same ∙ drop_self d.book))
-            (λ (u : (e : Entry) × (d.doubt ≡ Some e) × (mid.book ≡ with_entry d.book e)). inr (u.0, u.1, ap (λ (b : Book). drop (length d.book) b) u.2 ∙ drop_front d.book (u.0 ∷ [])))
-            (settled_ways d.book d.doubt mid.book settled.settled.0);
-        is = turn_as trouble (Step of.0.limit) (adds of.0.limit) p (served G.faults mid) a (served G.faults d') settled.settled.1 whole refl refl (sym settled.settled.2) refl turn';
+        follows = later;
+        takes = record { turn = turn_unsettled pull_json ask (served G.faults d) (served G.faults d') trouble settled; assured = assured };
         stays = refl;
-        seen = sym last;
-        ends = ap (λ (b : Book). v.ends ++ size b ∷ []) (sym last);
-        own = ap (λ (b : Book). (v.own ++ numbered (size d.book) came) ++ numbered (size b) made) (sym whole);
-        settled = refl;
-        left = refl;
-        before = refl;
-        after = refl;
-      }
-
-  pub seat_held : (v : SeatView K) (t : ℕ) (d d' : Seated K) (tr : Trouble) (a : A) → IsOf G v d → StartsWith d.book v.seen → FollowsAll G v.after d.keeper
-      → IsSettled (served G.faults d) (Err tr) (served G.faults d') → trouble a ≡ Some tr → (G.fails_no_more d.keeper → Some tr ≡ None) → (G.tells d'.keeper → ¬ IsChanged (Some tr))
-      → IsSeatTurn G trouble Step v a (held_view (on_turn G.faults (waiting v t) d) d'.keeper)
-  seat_held v t d d' tr a of begins later settled is sure near =
-      let whole : (d.book ++ []) ++ [] ≡ d.book = append-nil (d.book ++ []) ∙ append-nil d.book in
-      let p : Parts = record { history = d.book; doubt = d.doubt; came = []; made = []; left = []; first = G.faults d.keeper; last = G.faults d'.keeper } in
-      record {
-        opened = of.0;
-        turn = p;
-        now = d'.keeper;
-        room = of.1;
-        risen = of.2.keeper.later;
-        sure = λ steady. absurd (let e = sure (of.2.keeper.goes_on steady) in cc);
-        near = subst (λ (x : Option Trouble). G.tells d'.keeper → ¬ IsChanged x) (sym is) near;
-        begins = begins;
-        since = all_map (λ k. KeeperFollows G k d.keeper) (λ k. G.faults k ≤ G.faults d.keeper) v.after (λ k follows. follows.later) later;
-        later = settled.later;
-        last = refl;
-        comes = inl refl;
-        is = subst (TurnAs trouble (Step of.0.limit) p a) (sym is) (go tr settled.settled);
-        stays = refl;
-        seen = sym whole;
-        ends = ap (λ (b : Book). v.ends ++ size b ∷ []) (sym whole);
-        own = sym (append-nil (v.own ++ []) ∙ append-nil v.own);
-        settled = sym (append-nil v.settled);
+        seen = sym same;
+        ends = ap (λ (b : Book). v.ends ++ size b ∷ []) (sym same);
+        own = sym (ap (λ (l : List Entry). (v.own ++ numbered (size d.book) (since (size d.book) d.book)) ++ numbered (size d.book) l) (ap (λ (b : Book). since (size d.book) b) same ∙ none) ∙ append-nil (v.own ++ numbered (size d.book) (since (size d.book) d.book)) ∙ ap (λ (l : List Entry). v.own ++ numbered (size d.book) l) none ∙ append-nil v.own);
+        settled = sym (ap (λ (l : List Entry). v.settled ++ l) none ∙ append-nil v.settled);
         left = sym (append-nil v.left);
         before = refl;
         after = refl;
       }
-    where
-      go : (tr : Trouble) → SettlesOrNot (served G.faults d) (Err tr) (served G.faults d') → TurnAs trouble (Step of.0.limit) (record { history = d.book; doubt = d.doubt; came = []; made = []; left = []; first = G.faults d.keeper; last = G.faults d'.keeper }) a (Some tr)
-      go Failed u = (u.0, refl, inl (record { doubt = u.1; came = refl; left = refl }))
-      go (Changed kept found) u = (u.0, refl, record { doubt = u.1; came = refl; left = refl }, u.2, u.3, u.4)
 
 -- ---- The steps of a turn, one after another.
 
@@ -248,21 +219,21 @@ module _ {K : Type 0} (G : Ghosts K) where
   pub taken_settles : (v : SeatView K) (d : Seated K) (m : Knows K) (s : Book) → HasTaken v d m → Settles d.book d.doubt s → Settles m.0.book m.0.doubt s
   taken_settles v d m s taken is = subst (λ (m : Knows K). Settles m.0.book m.0.doubt s) (sym taken.1) is
 
-module _ {K A : Type 0} (G : Ghosts K) (trouble : A → Option Trouble) (Step : ℕ → Book → A → Book → Type 0) (adds : (limit : ℕ) (book : Book) (a : A) (new : Book) → Step limit book a new → Adds book new) where
-  pub ended_turn : (v : SeatView K) (d mid d' : Seated K) (m : Knows K) (a : A) (w : SeatView K) → HasTaken G v d m → IsOf G v d → StartsWith d.book v.seen → FollowsAll G v.after d.keeper
-      → (settled : Result (Unit {0}) Trouble) → settled ≡ Ok tt → IsSettled (served G.faults d) settled (served G.faults mid) → TakesTurn trouble (Step mid.limit) (served G.faults mid) a (served G.faults d') → (G.fails_no_more d.keeper → trouble a ≡ None) → (G.tells d'.keeper → ¬ IsChanged (trouble a))
+module _ {K : Type 0} (G : Ghosts K) where
+  pub ended_turn : (v : SeatView K) (d mid d' : Seated K) (m : Knows K) (ask : Ask) (outcome : Outcome) (w : SeatView K) → HasTaken G v d m → IsOf G v d → StartsWith d.book v.seen → FollowsAll G v.after d.keeper
+      → (settled : Result (Unit {0}) Trouble) → settled ≡ Ok tt → IsSettled (served G.faults d) settled (served G.faults mid) → Assures G.tells G.fails_no_more d.keeper (settle_trouble settled) mid.keeper → DeskTakes G mid ask outcome d'
       → w ≡ end_view m.0 mid.book d'.book d'.doubt d'.keeper
-      → IsSeatTurn G trouble Step v a w
-  ended_turn v d mid d' m a w taken of begins later settled ok is turn sure near view =
-      subst (IsSeatTurn G trouble Step v a) (sym (view ∙ ap (λ (m : Knows K). end_view m.0 mid.book d'.book d'.doubt d'.keeper) taken.1))
-      (seat_turn G trouble Step adds v taken.0 d mid d' a of begins later (subst (λ (r : Result (Unit {0}) Trouble). IsSettled (served G.faults d) r (served G.faults mid)) ok is) turn sure near)
+      → IsSeatTurn G v ask outcome w
+  ended_turn v d mid d' m ask outcome w taken of begins later settled ok is assured takes view =
+      subst (IsSeatTurn G v ask outcome) (sym (view ∙ ap (λ (m : Knows K). end_view m.0 mid.book d'.book d'.doubt d'.keeper) taken.1))
+      (seat_turn G v taken.0 d mid d' ask outcome of begins later (subst (λ (r : Result (Unit {0}) Trouble). IsSettled (served G.faults d) r (served G.faults mid)) ok is)
+      (subst (λ (r : Result (Unit {0}) Trouble). Assures G.tells G.fails_no_more d.keeper (settle_trouble r) mid.keeper) ok assured) takes)
 
-  pub held_turn : (v : SeatView K) (d d' : Seated K) (m : Knows K) (a : A) (w : SeatView K) (why : Trouble) → HasTaken G v d m → IsOf G v d → StartsWith d.book v.seen → FollowsAll G v.after d.keeper
-      → (settled : Result (Unit {0}) Trouble) → settled ≡ Err why → IsSettled (served G.faults d) settled (served G.faults d') → trouble a ≡ Some why → (G.fails_no_more d.keeper → settle_trouble settled ≡ None) → (G.tells d'.keeper → ¬ IsChanged (settle_trouble settled))
+  pub held_turn : (v : SeatView K) (d d' : Seated K) (m : Knows K) (ask : Ask) (w : SeatView K) (why : Trouble) → HasTaken G v d m → IsOf G v d → StartsWith d.book v.seen → FollowsAll G v.after d.keeper
+      → (settled : Result (Unit {0}) Trouble) → settled ≡ Err why → IsSettled (served G.faults d) settled (served G.faults d') → Assures G.tells G.fails_no_more d.keeper (settle_trouble settled) d'.keeper
       → w ≡ held_view m.0 d'.keeper
-      → IsSeatTurn G trouble Step v a w
-  held_turn v d d' m a w why taken of begins later settled err is told sure near view =
-      subst (IsSeatTurn G trouble Step v a) (sym (view ∙ ap (λ (m : Knows K). held_view m.0 d'.keeper) taken.1))
-      (seat_held G trouble Step v taken.0 d d' why a of begins later (subst (λ (r : Result (Unit {0}) Trouble). IsSettled (served G.faults d) r (served G.faults d')) err is) told
-      (λ steady. ap settle_trouble (sym err) ∙ sure steady)
-      (subst (λ (r : Result (Unit {0}) Trouble). G.tells d'.keeper → ¬ IsChanged (settle_trouble r)) err near))
+      → IsSeatTurn G v ask (Refused (refusals.Trouble why)) w
+  held_turn v d d' m ask w why taken of begins later settled err is assured view =
+      subst (IsSeatTurn G v ask (Refused (refusals.Trouble why))) (sym (view ∙ ap (λ (m : Knows K). held_view m.0 d'.keeper) taken.1))
+      (seat_held G v taken.0 d d' why ask of begins later (subst (λ (r : Result (Unit {0}) Trouble). IsSettled (served G.faults d) r (served G.faults d')) err is)
+      (subst (λ (r : Result (Unit {0}) Trouble). Assures G.tells G.fails_no_more d.keeper (settle_trouble r) d'.keeper) err assured))

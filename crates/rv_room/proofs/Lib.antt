@@ -1,5 +1,4 @@
 pub mod Totals
 pub mod Moves
 pub mod Ways
-pub mod Adding
 pub mod Ending

@@ -1,13 +1,9 @@
 -- What a seat knows once its turn has ended.
-use Rattle.std.specs.Prelude.{◌≡◌, ◌⊎◌, Option, Some}
+use Rattle.std.specs.Prelude.{Option, Some}
 use Rattle.rv_book.specs.declared.entry.Entry.{Entry}
-use Rattle.rv_book.specs.Book.{Book, with_entry}
+use Rattle.rv_book.specs.Book.{Book}
 use Rattle.rv_room.specs.declared.view.SeatView.{SeatView}
 use Rattle.rv_room.specs.Views.{grown, entered, noted, with_keeper, ended}
-
--- at most one entry is added
-abbrev pub Adds : Book → Book → Type 0
-Adds old new = (new ≡ old) ⊎ ((e : Entry) × (new ≡ with_entry old e))
 
 module _ {K : Type 0} where
   -- the desk has settled to this book, then stepped to that one, this is in doubt, and this is the keeper

@@ -2,10 +2,11 @@
 ghost use Rattle.std.specs.Prelude.{◌≡◌, ◌≢◌, ℕ, ◌^◌, ◌<◌, true, false, [], ◌∷◌, Some, None, IfSome};
 ghost use Rattle.rv_book.specs.Book.{Book, size, with_entry};
 ghost use Rattle.rv_book.specs.declared.entry.Entry.{Entry};
+ghost use Rattle.rv_history.specs.TurnLaws.{Adds};
 ghost use Rattle.rv_history.specs.Served.{Settles};
 ghost use Rattle.rv_desk.specs.Seated.{Seated};
 ghost use Rattle.rv_room.specs.Following.{FollowsAll, KeeperFollows};
-ghost use Rattle.rv_room.specs.Ends.{Adds, end_view, held_view};
+ghost use Rattle.rv_room.specs.Ends.{end_view, held_view};
 ghost use Rattle.rv_room.specs.Lists.{StartsWith};
 ghost use Rattle.rv_room.specs.Rule.{IsOf};
 ghost use Rattle.rv_room.specs.Views.{IsIdle, entered, grown, noted, waiting, on_turn, with_keeper};

@@ -1,19 +1,42 @@
 // The turns of a seat.
 ghost use Rattle.std.specs.Prelude.{◌≡◌, None};
-ghost use Rattle.rv_room.specs.SeatTurns.{SeatMutates, SeatPulls, SeatRetires};
+ghost use Rattle.rv_turns.specs.Asks.{Ask, ask_of};
+ghost use Rattle.rv_room.specs.SeatTurns.{IsSeatTurn};
 ghost use Rattle.rv_room.specs.Seats.{id_of, room_of, view_of};
 
 use crate::room::Room;
 use crate::seat::Seat;
 use rv_base::{Id, Num, User};
-use rv_history::{PullAnswer, RetireAnswer, Turn};
 use rv_keeper::Keeper;
 use rv_rows::Call;
-use rv_wire::PullRequest;
+use rv_turns::{Asked, Outcome, PullRequest, Refusal};
 use std::sync::Wait;
 
 impl<K: Keeper> Room<K> {
-    /// One mutation of a client, as a turn of a seat: it waits for the turn, and then the desk takes one.
+    /// A turn of a seat: it waits for the turn, and then the desk takes one.
+    pub fn turn(&self, rt: &impl Wait, seat: &mut Seat<K>, asked: Asked<'_>) -> Outcome
+        requires { room_of seat.old ≡ id_of self.now }
+        ensures same { room_of seat.new ≡ room_of seat.old }
+        ensures turn { IsSeatTurn K.Keeper (view_of seat.old) (ask_of asked.entry) result (view_of seat.new) }
+    {
+        let token = &mut seat.token;
+        let mut desk = self.begin(rt, token);
+        let began = desk.book().len();
+        match desk.settle() {
+            Ok(()) => {
+                let settled = desk.book().len();
+                let outcome = desk.take_settled(asked);
+                self.end(token, desk, began, settled);
+                outcome
+            }
+            Err(trouble) => {
+                self.end_held(token, desk);
+                Outcome::Refused(Refusal::Trouble(trouble))
+            }
+        }
+    }
+
+    /// One mutation of a client, as a turn of a seat.
     pub fn turn_mutate(
         &self,
         rt: &impl Wait,
@@ -23,26 +46,22 @@ impl<K: Keeper> Room<K> {
         client: &Id,
         id: Num,
         call: Call,
-    ) -> Turn
+    ) -> Outcome
         requires { room_of seat.old ≡ id_of self.now }
         ensures same { room_of seat.new ≡ room_of seat.old }
-        ensures turn { SeatMutates K.Keeper (view_of seat.old) (record { user = user.now; group = group.now }) (record { client = client.now; id = id; call = call }) result (view_of seat.new) }
+        ensures turn { IsSeatTurn K.Keeper (view_of seat.old) (Ask.mutation (record { user = user.now; group = group.now }) (record { client = client.now; id = id; call = call })) result (view_of seat.new) }
     {
-        let token = &mut seat.token;
-        let mut desk = self.begin(rt, token);
-        let began = desk.book().len();
-        match desk.settle() {
-            Ok(()) => {
-                let settled = desk.book().len();
-                let turn = desk.mutate(user, group, client, id, call);
-                self.end(token, desk, began, settled);
-                turn
-            }
-            Err(trouble) => {
-                self.end_held(token, desk);
-                Turn::of_trouble(trouble)
-            }
-        }
+        self.turn(
+            rt,
+            seat,
+            Asked::Mutation {
+                user,
+                group,
+                client,
+                id,
+                call,
+            },
+        )
     }
 
     /// One pull, as a turn of a seat.
@@ -52,48 +71,20 @@ impl<K: Keeper> Room<K> {
         seat: &mut Seat<K>,
         user: &User,
         request: &PullRequest,
-    ) -> PullAnswer
+    ) -> Outcome
         requires { room_of seat.old ≡ id_of self.now }
         ensures same { room_of seat.new ≡ room_of seat.old }
-        ensures turn { SeatPulls K.Keeper (view_of seat.old) user.now request.now result (view_of seat.new) }
+        ensures turn { IsSeatTurn K.Keeper (view_of seat.old) (Ask.pull user.now request.now) result (view_of seat.new) }
     {
-        let token = &mut seat.token;
-        let mut desk = self.begin(rt, token);
-        let began = desk.book().len();
-        match desk.settle() {
-            Ok(()) => {
-                let settled = desk.book().len();
-                let answer = desk.pull(user, request);
-                self.end(token, desk, began, settled);
-                answer
-            }
-            Err(trouble) => {
-                self.end_held(token, desk);
-                PullAnswer::of_trouble(trouble)
-            }
-        }
+        self.turn(rt, seat, Asked::Pull { user, request })
     }
 
     /// One retirement of a client group, as a turn of a seat.
-    pub fn turn_retire(&self, rt: &impl Wait, seat: &mut Seat<K>, group: &Id) -> RetireAnswer
+    pub fn turn_retire(&self, rt: &impl Wait, seat: &mut Seat<K>, group: &Id) -> Outcome
         requires { room_of seat.old ≡ id_of self.now }
         ensures same { room_of seat.new ≡ room_of seat.old }
-        ensures turn { SeatRetires K.Keeper (view_of seat.old) group.now result (view_of seat.new) }
+        ensures turn { IsSeatTurn K.Keeper (view_of seat.old) (Ask.retirement group.now) result (view_of seat.new) }
     {
-        let token = &mut seat.token;
-        let mut desk = self.begin(rt, token);
-        let began = desk.book().len();
-        match desk.settle() {
-            Ok(()) => {
-                let settled = desk.book().len();
-                let answer = desk.retire(group);
-                self.end(token, desk, began, settled);
-                answer
-            }
-            Err(trouble) => {
-                self.end_held(token, desk);
-                RetireAnswer::of_trouble(trouble)
-            }
-        }
+        self.turn(rt, seat, Asked::Retirement { group })
     }
 }

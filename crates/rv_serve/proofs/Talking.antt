@@ -4,15 +4,8 @@ use Rattle.std.proofs.lemmas.Bool.{eq-eqb}
 use Rattle.std.specs.Io.KnownBytes.{Consumes, Appends}
 use Rattle.std.proofs.KnownBytes.{Consumes-nil, Consumes-trans, Appends-nil, Appends-trans}
 use Rattle.rv_base.specs.Outside.{InputState, OutputState}
-use Rattle.rv_wire.specs.declared.push.Mutation.{Mutation}
-use Rattle.rv_wire.specs.declared.pull.PullRequest.{PullRequest}
-use Rattle.rv_history.specs.declared.turn.Turn.{Turn}
-use Rattle.rv_history.specs.declared.pull_answer.PullAnswer.{PullAnswer}
-use Rattle.rv_history.specs.declared.retire_answer.RetireAnswer.{RetireAnswer}
-use Rattle.rv_history.specs.Machine.{Sender}
 use Rattle.rv_http.specs.declared.request.Request.{Request}
 use Rattle.rv_http.specs.declared.http_end.HttpEnd.{HttpEnd}
-use Rattle.rv_http.specs.declared.http_end.HttpEnd.TheVariants as reading
 use Rattle.rv_http.specs.declared.response.WriteFault.{WriteFault as WriteFailed}
 use Rattle.rv_http.specs.Requests.{Gives, ReadsOne}
 use Rattle.rv_http.specs.RequestLaws.{gives_more}
@@ -27,13 +20,16 @@ use Rattle.rv_serve.specs.Replies.{Replies}
 use Rattle.rv_serve.specs.Talk.{Exchange, closes_at, exchange_text, text_from, heard_of, heard_from, Ends, EndsUnread, AnswersEach, TalksPast}
 use Rattle.rv_serve.specs.Steps.{AnswersOne, EndsConn}
 use Rattle.rv_serve.proofs.Counting.{counts_from}
+use Rattle.rv_turns.specs.Asks.{Ask}
+use Rattle.rv_turns.specs.declared.outcome.Outcome.{Outcome}
+use Rattle.rv_http.specs.declared.http_end.HttpEnd.TheVariants as reading
 
-module _ {S : Type 0} (mutates : S → Sender → Mutation → Turn → S → Type 0) (pulls : S → List ℕ → PullRequest → PullAnswer → S → Type 0) (retires : S → List ℕ → RetireAnswer → S → Type 0) (accounts : Accounts) where
+module _ {S : Type 0} (takes : S → Ask → Outcome → S → Type 0) (accounts : Accounts) where
   abbrev Each : ℕ → S → List ℕ → List Exchange → S → List ℕ → Type 0
-  Each = AnswersEach mutates pulls retires accounts
+  Each = AnswersEach takes accounts
 
   abbrev Replied : S → Request → Exchange → S → Type 0
-  Replied old request x new = Replies mutates pulls retires accounts old request x.answer x.acted new
+  Replied old request x new = Replies takes accounts old request x.answer x.acted new
 
   answers_more : (n : ℕ) (old : S) (bytes more : List ℕ) (xs : List Exchange) (new : S) (rest : List ℕ) → Each n old bytes xs new rest → Each n old (bytes ++ more) xs new (rest ++ more)
   answers_more n old bytes more [] new rest (same, left) = (same, ap (λ l. l ++ more) left)
@@ -90,7 +86,7 @@ module _ {S : Type 0} (mutates : S → Sender → Mutation → Turn → S → Ty
 
   module _ (old now : S) (input input' input'' : InputState) (output output' output'' : OutputState) (heard heard' heard'' : Option (List Heard)) (bytes bytes' : List ℕ) (count : ℕ) (going : Going old now input input' output output' heard heard' bytes count) where
     pub going_on : (request : Request) (new : S) → ReadsOne bytes bytes' input'.left input''.left (Ok request) → Counts input' input'' false false
-        → AnswersOne mutates pulls retires accounts (count + 1) now request output' output'' heard' heard'' new (Ok false) → Going old new input input'' output output'' heard heard'' bytes' (count + 1)
+        → AnswersOne takes accounts (count + 1) now request output' output'' heard' heard'' new (Ok false) → Going old new input input'' output output'' heard heard'' bytes' (count + 1)
     going_on request new one counts told =
         let x : Exchange = record { request = request; answer = told.answer; acted = told.acted } in
         let at : count + 1 ≡ 1 + length going.exchanges = omega (arith, going.counted) in record {
@@ -108,7 +104,7 @@ module _ {S : Type 0} (mutates : S → Sender → Mutation → Turn → S → Ty
         }
 
     pub closed : (request : Request) (new : S) → ReadsOne bytes bytes' input'.left input''.left (Ok request) → Counts input' input'' false false
-        → AnswersOne mutates pulls retires accounts (count + 1) now request output' output'' heard' heard'' new (Ok true) → TalksPast mutates pulls retires accounts old new input input'' output output'' heard heard'' (Done (count + 1))
+        → AnswersOne takes accounts (count + 1) now request output' output'' heard' heard'' new (Ok true) → TalksPast takes accounts old new input input'' output output'' heard heard'' (Done (count + 1))
     closed request new one counts told =
         let x : Exchange = record { request = request; answer = told.answer; acted = told.acted } in record {
           talks = record {
@@ -132,7 +128,7 @@ module _ {S : Type 0} (mutates : S → Sender → Mutation → Turn → S → Ty
         }
 
     pub write_failed : (request : Request) (new : S) (fault : WriteFailed) → ReadsOne bytes bytes' input'.left input''.left (Ok request) → Counts input' input'' false false
-        → AnswersOne mutates pulls retires accounts (count + 1) now request output' output'' heard' heard'' new (Err fault) → TalksPast mutates pulls retires accounts old new input input'' output output'' heard heard'' WriteFault
+        → AnswersOne takes accounts (count + 1) now request output' output'' heard' heard'' new (Err fault) → TalksPast takes accounts old new input input'' output output'' heard heard'' WriteFault
     write_failed request new fault one counts told =
         let x : Exchange = record { request = request; answer = told.answer; acted = told.acted } in
         let (part, front, added) = told.writes.bytes in record {
@@ -157,7 +153,7 @@ module _ {S : Type 0} (mutates : S → Sender → Mutation → Turn → S → Ty
         }
 
     pub refused : (cause : HttpEnd) (end : ConnEnd) → ReadsOne bytes bytes' input'.left input''.left (Err cause) → Counts input' input'' (told_end {T = Request} (Err cause)) (read_failed {T = Request} (Err cause))
-        → EndsConn count cause output' output'' end → TalksPast mutates pulls retires accounts old now input input'' output output'' heard heard' end
+        → EndsConn count cause output' output'' end → TalksPast takes accounts old now input input'' output output'' heard heard' end
     refused cause end one counts told = record {
       talks = record {
         read = going.read ++ one.read;
@@ -180,7 +176,7 @@ module _ {S : Type 0} (mutates : S → Sender → Mutation → Turn → S → Ty
     }
 
   -- memory was refused before anything was read
-  pub no_room : (old : S) (input : InputState) (output output' : OutputState) (heard : Option (List Heard)) (end : ConnEnd) → EndsConn 0 (reading.Memory false) output output' end → TalksPast mutates pulls retires accounts old old input input output output' heard heard end
+  pub no_room : (old : S) (input : InputState) (output output' : OutputState) (heard : Option (List Heard)) (end : ConnEnd) → EndsConn 0 (reading.Memory false) output output' end → TalksPast takes accounts old old input input output output' heard heard end
   no_room old input output output' heard end told = record {
     talks = record {
       read = [];

@@ -1,44 +1,42 @@
 -- What is answered over connections is a run of the server's turns.
-use Rattle.std.specs.Prelude.{ℕ, List, [], ◌∷◌, ◌++◌, map, Result, Ok, Err}
+use Rattle.std.specs.Prelude.{ℕ, List, [], ◌∷◌, ◌++◌, map, Result, Ok}
 use Rattle.std.specs.List.{flat_map}
 use Rattle.rv_base.specs.Outside.{InputState, OutputState}
-use Rattle.rv_wire.specs.declared.error_body.ErrorBody.{ErrorBody}
-use Rattle.rv_wire.specs.declared.push.Mutation.{Mutation}
-use Rattle.rv_wire.specs.declared.pull.PullRequest.{PullRequest}
-use Rattle.rv_history.specs.declared.turn.Turn.{Turn}
-use Rattle.rv_history.specs.declared.pull_answer.PullAnswer.{PullAnswer}
-use Rattle.rv_history.specs.declared.retire_answer.RetireAnswer.{RetireAnswer}
-use Rattle.rv_history.specs.Machine.{Sender}
 use Rattle.rv_accounts.specs.File.{Served as Accounts}
 use Rattle.rv_answering.specs.declared.answer.Answer.{Answer}
-use Rattle.rv_answering.specs.Requests.{Asked}
+use Rattle.rv_answering.specs.Requests.{Parsed}
 use Rattle.rv_answering.specs.Steps.{Run}
 use Rattle.rv_serve.specs.declared.conn_end.ConnEnd.{ConnEnd}
 use Rattle.rv_serve.specs.Replies.{asked_of}
 use Rattle.rv_serve.specs.Talk.{Exchange, Talks, answered}
 use Rattle.rv_serve.specs.Listening.{ServedConn, ServesEach}
+use Rattle.rv_turns.specs.Asks.{Ask}
+use Rattle.rv_turns.specs.declared.outcome.Outcome.{Outcome}
+use Rattle.rv_http.specs.declared.rejection.Rejection.{Rejection}
+use Rattle.rv_serve.specs.declared.http_answer.HttpAnswer.{HttpAnswer}
+use Rattle.rv_serve.specs.declared.http_answer.HttpAnswer.TheVariants.{Answered}
 
 -- what is asked, with its answer, where something is asked
-abbrev pub turn_of : Result Asked ErrorBody → Answer → List (Asked × Answer)
-turn_of (Ok asked) answer = (asked, answer) ∷ []
-turn_of (Err refusal) answer = []
+abbrev pub turn_of : Result Parsed Rejection → HttpAnswer → List (Parsed × Answer)
+turn_of (Ok parsed) (Answered answer) = (parsed, answer) ∷ []
+turn_of parsed answer = []
 
--- What the requests asked, in order, with their answers. A request that was refused before its body asked nothing.
-abbrev pub turns_of : Accounts → List Exchange → List (Asked × Answer)
+-- What the requests asked, in order, with their answers. A request that was rejected before its body asked nothing.
+abbrev pub turns_of : Accounts → List Exchange → List (Parsed × Answer)
 turns_of accounts [] = []
 turns_of accounts (x ∷ xs) = turn_of (asked_of accounts x.request) x.answer ++ turns_of accounts xs
 
-module _ {S : Type 0} (mutates : S → Sender → Mutation → Turn → S → Type 0) (pulls : S → List ℕ → PullRequest → PullAnswer → S → Type 0) (retires : S → List ℕ → RetireAnswer → S → Type 0) where
+module _ {S : Type 0} (takes : S → Ask → Outcome → S → Type 0) where
   -- these are asked and answered so, one after another
-  abbrev pub RunsTurns : S → List (Asked × Answer) → S → Type 0
-  RunsTurns old turns new = Run mutates pulls retires old (map (λ turn. turn.0) turns) (map (λ turn. turn.1) turns) new
+  abbrev pub RunsTurns : S → List (Parsed × Answer) → S → Type 0
+  RunsTurns old turns new = Run takes old (map (λ turn. turn.0) turns) (map (λ turn. turn.1) turns) new
 
   -- What was answered on a connection is a run from the state before it to the state after it.
   abbrev pub TalksAreRuns : Type 0
-  TalksAreRuns = (accounts : Accounts) (old new : S) (input input' : InputState) (output output' : OutputState) (end : ConnEnd) (talk : Talks mutates pulls retires accounts old new input input' output output' end)
-      → RunsTurns old (turns_of accounts (answered mutates pulls retires accounts talk)) new
+  TalksAreRuns = (accounts : Accounts) (old new : S) (input input' : InputState) (output output' : OutputState) (end : ConnEnd) (talk : Talks takes accounts old new input input' output output' end)
+      → RunsTurns old (turns_of accounts (answered takes accounts talk)) new
 
   -- So is all that was answered on connections that were served one after another.
   abbrev pub ConnsAreRuns : {I O : Type 0} → (I → InputState) → (O → OutputState) → (I → Type 0) → (O → Type 0) → Type 0
   ConnsAreRuns {I} {O} input output input_steady output_steady = (accounts : Accounts) (old new : S) (conns : List (ServedConn I O))
-      → ServesEach mutates pulls retires accounts input output input_steady output_steady old conns new → RunsTurns old (turns_of accounts (flat_map (λ conn. conn.answers) conns)) new
+      → ServesEach takes accounts input output input_steady output_steady old conns new → RunsTurns old (turns_of accounts (flat_map (λ conn. conn.answers) conns)) new

@@ -6,13 +6,7 @@ use Rattle.rv_base.specs.declared.outside.Source.{Ghosts as SourceGhosts}
 use Rattle.rv_base.specs.declared.outside.Sink.{Ghosts as SinkGhosts}
 use Rattle.rv_net.specs.declared.conn.Conn.{Conn}
 use Rattle.rv_net.specs.declared.listen.Listen.{Ghosts as ListenGhosts}
-use Rattle.rv_wire.specs.declared.push.Mutation.{Mutation}
-use Rattle.rv_wire.specs.declared.pull.PullRequest.{PullRequest}
-use Rattle.rv_history.specs.declared.turn.Turn.{Turn}
-use Rattle.rv_history.specs.declared.pull_answer.PullAnswer.{PullAnswer}
-use Rattle.rv_history.specs.declared.retire_answer.RetireAnswer.{RetireAnswer}
-use Rattle.rv_history.specs.Machine.{Sender}
-use Rattle.rv_history.specs.declared.turns.Turns.{Ghosts as TurnsGhosts}
+use Rattle.rv_turns.specs.declared.turns.Turns.{Ghosts as TurnsGhosts}
 use Rattle.rv_accounts.specs.File.{Served as Accounts}
 use Rattle.rv_crew.specs.declared.gate.Gate.{Ghosts as GateGhosts}
 use Rattle.rv_crew.specs.declared.heard.Heard.{Heard}
@@ -20,6 +14,8 @@ use Rattle.rv_crew.specs.Hearing.{Hears}
 use Rattle.rv_serve.specs.declared.conn_end.ConnEnd.{ConnEnd}
 use Rattle.rv_serve.specs.Talk.{Exchange, Talks, answered, heard_from}
 use Rattle.rv_serve.specs.Causes.{ConnCause, InputIsSteady, OutputIsSteady}
+use Rattle.rv_turns.specs.Asks.{Ask}
+use Rattle.rv_turns.specs.declared.outcome.Outcome.{Outcome}
 
 -- a connection as it was given and as it went back, how serving it ended, and all that was answered on it
 pub record ServedConn (I O : Type 0) : Type 0 where
@@ -40,12 +36,12 @@ pub record AreBack {I O : Type 0} (conns : List (ServedConn I O)) (to_come to_co
   pub back : came_back' ≡ came_back ++ map (λ conn. conn.back) conns
   pub same : out' ≡ out
 
-module _ {S I O : Type 0} (mutates : S → Sender → Mutation → Turn → S → Type 0) (pulls : S → List ℕ → PullRequest → PullAnswer → S → Type 0) (retires : S → List ℕ → RetireAnswer → S → Type 0) (accounts : Accounts)
+module _ {S I O : Type 0} (takes : S → Ask → Outcome → S → Type 0) (accounts : Accounts)
     (input : I → InputState) (output : O → OutputState) (input_steady : I → Type 0) (output_steady : O → Type 0) where
   -- a connection is served from one state to the next, as the clauses of serving it say
   pub record ServesConn (old : S) (conn : ServedConn I O) (new : S) : Type 0 where
-    pub talks : Talks mutates pulls retires accounts old new (input conn.given.source) (input conn.back.source) (output conn.given.sink) (output conn.back.sink) conn.end
-    pub answers : conn.answers ≡ answered mutates pulls retires accounts talks
+    pub talks : Talks takes accounts old new (input conn.given.source) (input conn.back.source) (output conn.given.sink) (output conn.back.sink) conn.end
+    pub answers : conn.answers ≡ answered takes accounts talks
     pub cause : ConnCause (input conn.given.source) (input conn.back.source) (output conn.given.sink) (output conn.back.sink) conn.end
     pub steady_input : input_steady conn.given.source → InputIsSteady (input_steady conn.back.source) conn.end
     pub steady_output : output_steady conn.given.sink → OutputIsSteady (output_steady conn.back.sink) (output conn.given.sink) (output conn.back.sink) conn.end
@@ -70,5 +66,5 @@ module _ {S I O : Type 0} (mutates : S → Sender → Mutation → Turn → S �
 module _ {S L I O G : Type 0} (turns : TurnsGhosts S) (listen : ListenGhosts L I O) (source : SourceGhosts I) (sink : SinkGhosts O) (gate : GateGhosts G) (accounts : Accounts) where
   abbrev pub ServesListener : S → S → L → L → G → G → Type 0
   ServesListener old new given back before after =
-      ServesPast turns.mutates turns.pulls turns.retires accounts source.state sink.state source.fails_no_more sink.fails_no_more (listen.tells back) old new
+      ServesPast turns.takes accounts source.state sink.state source.fails_no_more sink.fails_no_more (listen.tells back) old new
       (listen.to_come given) (listen.to_come back) (listen.came_back given) (listen.came_back back) (listen.out given) (listen.out back) (gate.heard before) (gate.heard after)

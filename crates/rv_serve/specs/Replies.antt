@@ -1,24 +1,21 @@
 -- What a request asks, and what it is answered. The state, and the turns on it, are anyone's who takes turns.
-use Rattle.std.specs.Prelude.{ℕ, Bool, List, bytes_eq, Result, Ok, Err, option_and_then}
+use Rattle.std.specs.Prelude.{◌≡◌, ℕ, Bool, false, List, bytes_eq, Result, Ok, Err, option_and_then}
 use Rattle.std.specs.List.{list_any}
 use Rattle.rv_base.specs.Chains.{◌>>=◌, need}
 use Rattle.rv_wire.specs.Bodies.{push_body, pull_body}
-use Rattle.rv_wire.specs.declared.error_body.ErrorBody.{ErrorBody}
-use Rattle.rv_wire.specs.declared.error_body.ErrorBody.TheVariants as errors
-use Rattle.rv_wire.specs.declared.push.Mutation.{Mutation}
-use Rattle.rv_wire.specs.declared.pull.PullRequest.{PullRequest}
-use Rattle.rv_history.specs.declared.turn.Turn.{Turn}
-use Rattle.rv_history.specs.declared.pull_answer.PullAnswer.{PullAnswer}
-use Rattle.rv_history.specs.declared.retire_answer.RetireAnswer.{RetireAnswer}
-use Rattle.rv_history.specs.Machine.{Sender}
 use Rattle.rv_http.specs.declared.request.Request.{Request}
 use Rattle.rv_http.specs.declared.routes.Route.{Route}
 use Rattle.rv_http.specs.declared.routes.Route.TheVariants.{Push, Pull, NoRoute, OtherMethod}
 use Rattle.rv_http.specs.Routes.{route_of}
 use Rattle.rv_accounts.specs.File.{Served as Accounts, user_in}
-use Rattle.rv_answering.specs.declared.answer.Answer.{Answer}
-use Rattle.rv_answering.specs.Requests.{Asked, push_asked, pull_asked}
-use Rattle.rv_answering.specs.Steps.{RefusesWith, StepActing}
+use Rattle.rv_answering.specs.Requests.{Parsed, push_asked, pull_asked}
+use Rattle.rv_answering.specs.Steps.{HandlesActing}
+use Rattle.rv_turns.specs.Asks.{Ask}
+use Rattle.rv_turns.specs.declared.outcome.Outcome.{Outcome}
+use Rattle.rv_http.specs.declared.rejection.Rejection.{Rejection}
+use Rattle.rv_http.specs.declared.rejection.Rejection.TheVariants as rejections
+use Rattle.rv_serve.specs.declared.http_answer.HttpAnswer.{HttpAnswer}
+use Rattle.rv_serve.specs.declared.http_answer.HttpAnswer.TheVariants.{Answered, Rejected}
 
 -- a schema version is served where it is one of these
 abbrev pub serves : List (List ℕ) → List ℕ → Bool
@@ -26,28 +23,29 @@ serves schemas schema = list_any (λ served. bytes_eq served schema) schemas
 
 -- The user of a request is that of the account whose key is the whole value of its first Authorization field. Without one the
 -- request is not authorized (RFC 9110, sections 11.6.2 and 15.5.2).
-abbrev pub user_of : Accounts → Request → Result (List ℕ) ErrorBody
-user_of accounts request = need errors.Unauthorized (option_and_then (λ key. user_in key accounts.accounts) request.authorization)
+abbrev pub user_of : Accounts → Request → Result (List ℕ) Rejection
+user_of accounts request = need rejections.Unauthorized (option_and_then (λ key. user_in key accounts.accounts) request.authorization)
 
 -- What is asked where a request goes: its body is a push or a pull of its user, where it has one.
-abbrev pub asked_at : Accounts → Request → Route → Result Asked ErrorBody
-asked_at accounts request NoRoute = Err errors.NoRoute
-asked_at accounts request OtherMethod = Err errors.OtherMethod
+abbrev pub asked_at : Accounts → Request → Route → Result Parsed Rejection
+asked_at accounts request NoRoute = Err rejections.NoRoute
+asked_at accounts request OtherMethod = Err rejections.OtherMethod
 asked_at accounts request Push = user_of accounts request >>= λ user. Ok (push_asked user (push_body (serves accounts.schemas) request.body))
 asked_at accounts request Pull = user_of accounts request >>= λ user. Ok (pull_asked user (pull_body (serves accounts.schemas) request.body))
 
--- What a request asks, or the first thing that it is refused for before its body: the path is not served, it is for another
+-- What a request asks, or the first thing that it is rejected for before its body: the path is not served, it is for another
 -- method, or no account has the key.
-abbrev pub asked_of : Accounts → Request → Result Asked ErrorBody
+abbrev pub asked_of : Accounts → Request → Result Parsed Rejection
 asked_of accounts request = asked_at accounts request (route_of request.method request.path)
 
-module _ {S : Type 0} (mutates : S → Sender → Mutation → Turn → S → Type 0) (pulls : S → List ℕ → PullRequest → PullAnswer → S → Type 0) (retires : S → List ℕ → RetireAnswer → S → Type 0) where
-  -- What is asked is answered by its turns, and acted tells whether a mutation was run for it. Where nothing is asked the refusal is
+module _ {S : Type 0} (takes : S → Ask → Outcome → S → Type 0) where
+  -- What is asked is answered by its turns, and acted tells whether a mutation was run for it. Where nothing is asked the rejection is
   -- the answer, and nothing changes.
-  abbrev pub AnswersAsked : S → Result Asked ErrorBody → Answer → Bool → S → Type 0
-  AnswersAsked old (Ok asked) answer acted new = StepActing mutates pulls retires old asked answer acted new
-  AnswersAsked old (Err refusal) answer acted new = RefusesWith refusal old answer acted new
+  abbrev pub AnswersAsked : S → Result Parsed Rejection → HttpAnswer → Bool → S → Type 0
+  AnswersAsked old (Ok parsed) (Answered answer) acted new = HandlesActing takes old parsed answer acted new
+  AnswersAsked old (Ok parsed) (Rejected rejection) acted new = ⊥
+  AnswersAsked old (Err rejection) answer acted new = (answer ≡ Rejected rejection) × (acted ≡ false) × (new ≡ old)
 
   -- a request is answered so
-  abbrev pub Replies : Accounts → S → Request → Answer → Bool → S → Type 0
+  abbrev pub Replies : Accounts → S → Request → HttpAnswer → Bool → S → Type 0
   Replies accounts old request answer acted new = AnswersAsked old (asked_of accounts request) answer acted new

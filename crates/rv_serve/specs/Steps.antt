@@ -3,30 +3,26 @@ use Rattle.std.specs.Prelude.{◌≡◌, ℕ, Bool, List, Option, Some, None, Re
 use Rattle.std.specs.Borrow.{Bor}
 use Rattle.std.specs.Io.KnownBytes.{Appends}
 use Rattle.rv_base.specs.Outside.{OutputState, Writes}
-use Rattle.rv_wire.specs.declared.push.Mutation.{Mutation}
-use Rattle.rv_wire.specs.declared.pull.PullRequest.{PullRequest}
-use Rattle.rv_history.specs.declared.turn.Turn.{Turn}
-use Rattle.rv_history.specs.declared.pull_answer.PullAnswer.{PullAnswer}
-use Rattle.rv_history.specs.declared.retire_answer.RetireAnswer.{RetireAnswer}
-use Rattle.rv_history.specs.Machine.{Sender}
 use Rattle.rv_http.specs.declared.request.Request.{Request}
 use Rattle.rv_http.specs.declared.http_end.HttpEnd.{HttpEnd}
 use Rattle.rv_http.specs.declared.response.WriteFault.{WriteFault}
 use Rattle.rv_accounts.specs.File.{Served as Accounts}
-use Rattle.rv_answering.specs.declared.answer.Answer.{Answer}
 use Rattle.rv_crew.specs.declared.heard.Heard.{Heard}
 use Rattle.rv_crew.specs.Hearing.{Hears}
-use Rattle.rv_wire.specs.declared.error_body.ErrorBody.{ErrorBody}
-use Rattle.rv_wire.specs.declared.error_body.ErrorBody.TheVariants as errors
 use Rattle.rv_serve.specs.declared.conn_end.ConnEnd.{ConnEnd}
 use Rattle.rv_serve.specs.Replies.{Replies}
 use Rattle.rv_serve.specs.Talk.{closes_at, exchange_text, heard_of, TellsLast, EndsUnread}
 use Rattle.rv_serve.specs.Causes.{OutputCause}
+use Rattle.rv_turns.specs.Asks.{Ask}
+use Rattle.rv_turns.specs.declared.outcome.Outcome.{Outcome}
+use Rattle.rv_http.specs.declared.rejection.Rejection.{Rejection}
+use Rattle.rv_http.specs.declared.rejection.Rejection.TheVariants as rejections
+use Rattle.rv_serve.specs.declared.http_answer.HttpAnswer.{HttpAnswer}
 
 -- the user that was found, or the refusal where there is none
-abbrev pub user_found : Option (Bor (List ℕ)) → Result (List ℕ) ErrorBody
+abbrev pub user_found : Option (Bor (List ℕ)) → Result (List ℕ) Rejection
 user_found (Some user) = Ok user.now
-user_found None = Err errors.Unauthorized
+user_found None = Err rejections.Unauthorized
 
 -- a text that ends a connection, with which so many answers are written
 pub record WritesLast (count : ℕ) (whole : List ℕ) (output output' : OutputState) (end : ConnEnd) : Type 0 where
@@ -42,13 +38,13 @@ pub record EndsConn (count : ℕ) (unread : HttpEnd) (output output' : OutputSta
   pub appended : Appends output.written output'.written text
   pub cause : OutputCause output output' end
 
-module _ {S : Type 0} (mutates : S → Sender → Mutation → Turn → S → Type 0) (pulls : S → List ℕ → PullRequest → PullAnswer → S → Type 0) (retires : S → List ℕ → RetireAnswer → S → Type 0) (accounts : Accounts) where
+module _ {S : Type 0} (takes : S → Ask → Outcome → S → Type 0) (accounts : Accounts) where
   -- A request, a connection's so many-th, is answered, and its response is written, or a front of it. Whether it closes is told, and
   -- the gate hears of it.
   pub record AnswersOne (number : ℕ) (old : S) (request : Request) (output output' : OutputState) (heard heard' : Option (List Heard)) (new : S) (result : Result Bool WriteFault) : Type 0 where
-    pub answer : Answer
+    pub answer : HttpAnswer
     pub acted : Bool
-    pub replies : Replies mutates pulls retires accounts old request answer acted new
+    pub replies : Replies takes accounts old request answer acted new
     pub writes : Writes output output' result (exchange_text number (record { request = request; answer = answer; acted = acted }))
     pub hears : Hears heard heard' (heard_of number (record { request = request; answer = answer; acted = acted }))
     pub closes : IfOk result (λ closes. closes ≡ closes_at number request)

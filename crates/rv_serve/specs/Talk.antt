@@ -4,33 +4,28 @@ use Rattle.std.specs.Io.KnownBytes.{Consumes, Appends}
 use Rattle.rv_base.specs.Causes.{Rose}
 use Rattle.rv_base.specs.Outside.{InputState, OutputState}
 use Rattle.rv_base.specs.Writes.{IsFront}
-use Rattle.rv_wire.specs.declared.error_body.ErrorBody.TheVariants as errors
-use Rattle.rv_wire.specs.declared.push.Mutation.{Mutation}
-use Rattle.rv_wire.specs.declared.pull.PullRequest.{PullRequest}
-use Rattle.rv_history.specs.declared.turn.Turn.{Turn}
-use Rattle.rv_history.specs.declared.pull_answer.PullAnswer.{PullAnswer}
-use Rattle.rv_history.specs.declared.retire_answer.RetireAnswer.{RetireAnswer}
-use Rattle.rv_history.specs.Machine.{Sender}
 use Rattle.rv_http.specs.declared.request.Request.{Request}
 use Rattle.rv_http.specs.declared.http_end.HttpEnd.{HttpEnd}
-use Rattle.rv_http.specs.declared.http_end.HttpEnd.TheVariants as reading
 use Rattle.rv_http.specs.Requests.{Gives, EndsSo}
 use Rattle.rv_http.specs.Causes.{Counts, told_end, read_failed}
 use Rattle.rv_accounts.specs.File.{Served as Accounts}
-use Rattle.rv_answering.specs.declared.answer.Answer.{Answer}
-use Rattle.rv_answering.specs.Texts.{answer_status}
 use Rattle.rv_crew.specs.declared.heard.Heard.{Heard}
 use Rattle.rv_crew.specs.declared.heard.Heard.TheVariants.{Before, After}
 use Rattle.rv_crew.specs.Hearing.{Hears}
 use Rattle.rv_serve.specs.declared.conn_end.ConnEnd.{ConnEnd}
 use Rattle.rv_serve.specs.declared.conn_end.ConnEnd.TheVariants.{Done, ReadFault, WriteFault, Memory}
 use Rattle.rv_serve.specs.Replies.{Replies}
-use Rattle.rv_serve.specs.Texts.{answer_text, refusal_text, memory_text}
+use Rattle.rv_serve.specs.Texts.{answer_text, http_status, rejection_text, memory_text}
+use Rattle.rv_serve.specs.declared.http_answer.HttpAnswer.{HttpAnswer}
+use Rattle.rv_turns.specs.Asks.{Ask}
+use Rattle.rv_turns.specs.declared.outcome.Outcome.{Outcome}
+use Rattle.rv_http.specs.declared.rejection.Rejection.TheVariants as rejections
+use Rattle.rv_http.specs.declared.http_end.HttpEnd.TheVariants as reading
 
 -- a request and its answer, and whether a mutation was run for it
 pub record Exchange : Type 0 where
   pub request : Request
-  pub answer : Answer
+  pub answer : HttpAnswer
   pub acted : Bool
 
 -- The answer to a connection's so many-th request closes where the request asks so, and at the 100th (RFC 9112, sections 9.3
@@ -50,7 +45,7 @@ text_from number (x ∷ xs) = exchange_text number x ++ text_from (number + 1) x
 -- What a gate hears of a connection's so many-th request: that it was read, and then with which status it was answered, and whether
 -- a mutation was run for it.
 abbrev pub heard_of : ℕ → Exchange → List Heard
-heard_of number x = Before number ∷ After (answer_status x.answer) x.acted ∷ []
+heard_of number x = Before number ∷ After (http_status x.answer) x.acted ∷ []
 
 -- the same of requests in order, from the one with this number on
 abbrev pub heard_from : ℕ → List Exchange → List Heard
@@ -90,11 +85,11 @@ abbrev pub EndsUnread : ℕ → HttpEnd → List ℕ → ℕ → ℕ → ConnEnd
 EndsUnread count reading.End text before now end = (text ≡ []) × (end ≡ Done count)
 EndsUnread count reading.Cut text before now end = (text ≡ []) × (end ≡ Done count)
 EndsUnread count reading.ReadFault text before now end = (text ≡ []) × (end ≡ ReadFault)
-EndsUnread count (reading.BadHead flag) text before now end = TellsLast (count + 1) (refusal_text errors.BadHead flag) text end
-EndsUnread count (reading.HeadTooLarge flag) text before now end = TellsLast (count + 1) (refusal_text errors.HeadTooLarge flag) text end
-EndsUnread count reading.LengthRequired text before now end = TellsLast (count + 1) (refusal_text errors.LengthRequired false) text end
-EndsUnread count (reading.BodyTooLarge flag) text before now end = TellsLast (count + 1) (refusal_text errors.BodyTooLarge flag) text end
-EndsUnread count (reading.CodingNotServed flag) text before now end = TellsLast (count + 1) (refusal_text errors.CodingNotServed flag) text end
+EndsUnread count (reading.BadHead flag) text before now end = TellsLast (count + 1) (rejection_text rejections.BadHead flag) text end
+EndsUnread count (reading.HeadTooLarge flag) text before now end = TellsLast (count + 1) (rejection_text rejections.HeadTooLarge flag) text end
+EndsUnread count reading.LengthRequired text before now end = TellsLast (count + 1) (rejection_text rejections.LengthRequired false) text end
+EndsUnread count (reading.BodyTooLarge flag) text before now end = TellsLast (count + 1) (rejection_text rejections.BodyTooLarge flag) text end
+EndsUnread count (reading.CodingNotServed flag) text before now end = TellsLast (count + 1) (rejection_text rejections.CodingNotServed flag) text end
 EndsUnread count (reading.Memory flag) text before now end = TriesLast (memory_text flag) text before now end
 
 -- After so many answers that do not close, this text is written last. A request's answer ends a connection where it closes, or
@@ -106,18 +101,18 @@ Ends count (Ok x) text before now ReadFault = ⊥
 Ends count (Ok x) text before now Memory = ⊥
 Ends count (Err cause) text before now end = EndsUnread count cause text before now end
 
-module _ {S : Type 0} (mutates : S → Sender → Mutation → Turn → S → Type 0) (pulls : S → List ℕ → PullRequest → PullAnswer → S → Type 0) (retires : S → List ℕ → RetireAnswer → S → Type 0) (accounts : Accounts) where
+module _ {S : Type 0} (takes : S → Ask → Outcome → S → Type 0) (accounts : Accounts) where
   -- The bytes give these requests one after another, from the one with this number on. Each is answered at the state that the
   -- one before it left, no answer closes, and this is left of the bytes.
   abbrev pub AnswersEach : ℕ → S → List ℕ → List Exchange → S → List ℕ → Type 0
   AnswersEach number old bytes [] new rest = (new ≡ old) × (rest ≡ bytes)
   AnswersEach number old bytes (x ∷ xs) new rest =
-      (after : List ℕ) × (mid : S) × Gives bytes after (Ok x.request) × Replies mutates pulls retires accounts old x.request x.answer x.acted mid
+      (after : List ℕ) × (mid : S) × Gives bytes after (Ok x.request) × Replies takes accounts old x.request x.answer x.acted mid
       × (closes_at number x.request ≡ false) × AnswersEach (number + 1) mid after xs new rest
 
   -- the request that was read last is answered; where none was read, nothing changes
   abbrev pub AnswersLast : S → Result Exchange HttpEnd → S → Type 0
-  AnswersLast old (Ok x) new = Replies mutates pulls retires accounts old x.request x.answer x.acted new
+  AnswersLast old (Ok x) new = Replies takes accounts old x.request x.answer x.acted new
   AnswersLast old (Err cause) new = new ≡ old
 
   -- A connection was served: these bytes were read, these requests were answered in turn, then this was read last, and this text

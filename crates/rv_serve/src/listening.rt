@@ -6,8 +6,8 @@ ghost use Rattle.rv_serve.specs.Listening.{ServesListener};
 use crate::serving::serve_with;
 use rv_accounts::Accounts;
 use rv_crew::Gate;
-use rv_history::Turns;
 use rv_net::{Accepted, Listen};
+use rv_turns::Turns;
 use std::alloc::Global;
 
 /// Serves the connections of a listener, one after the other, until none is to come. Each goes back to it, whatever its end. The gate

@@ -2,19 +2,20 @@
 ghost use Rattle.std.specs.Prelude.{◌≡◌, false, map, string_bytes};
 ghost use Rattle.rv_base.specs.Chains.{need};
 ghost use Rattle.rv_wire.specs.Bodies.{push_body, pull_body};
-ghost use Rattle.rv_wire.specs.declared.error_body.ErrorBody.TheVariants as errors;
 ghost use Rattle.rv_answering.specs.Requests.{push_asked, pull_asked};
-ghost use Rattle.rv_answering.specs.Steps.{StepActing};
+ghost use Rattle.rv_answering.specs.Steps.{HandlesActing};
 ghost use Rattle.rv_http.specs.declared.routes.Route.TheVariants as routes;
 ghost use Rattle.rv_serve.specs.Replies.{serves, user_of, asked_at, AnswersAsked, Replies};
 ghost use Rattle.rv_serve.specs.Steps.{user_found};
+ghost use Rattle.rv_serve.specs.declared.http_answer.HttpAnswer.TheVariants as answers;
 
+use crate::http_answer::{HttpAnswer, HttpAnswered};
 use rv_accounts::{Accounts, Schemas};
 use rv_answering::{Answer, Answered, run_pull, run_push};
 use rv_base::User;
-use rv_history::Turns;
-use rv_http::{Request, Route, Routes};
-use rv_wire::{ErrorBody, read_pull, read_push};
+use rv_http::{Rejection, Request, Route, Routes};
+use rv_turns::Turns;
+use rv_wire::{read_pull, read_push};
 use std::alloc::Global;
 
 // Whom a request is from.
@@ -35,7 +36,7 @@ fn answer_push<T: Turns>(
     user: &User,
     body: &[u8],
 ) -> Answered
-    ensures { StepActing T.mutates T.pulls T.retires turns.old (push_asked user.now (push_body (serves (map string_bytes schemas.now)) body.now)) result.answer result.acted turns.new }
+    ensures { HandlesActing T.takes turns.old (push_asked user.now (push_body (serves (map string_bytes schemas.now)) body.now)) result.answer result.acted turns.new }
 {
     match read_push(alloc, body, schemas) {
         Ok(push) => run_push(turns, user, push),
@@ -51,7 +52,7 @@ fn answer_pull<T: Turns>(
     user: &User,
     body: &[u8],
 ) -> Answer
-    ensures { StepActing T.mutates T.pulls T.retires turns.old (pull_asked user.now (pull_body (serves (map string_bytes schemas.now)) body.now)) result false turns.new }
+    ensures { HandlesActing T.takes turns.old (pull_asked user.now (pull_body (serves (map string_bytes schemas.now)) body.now)) result false turns.new }
 {
     match read_pull(alloc, body, schemas) {
         Ok(pull) => run_pull(turns, user, &pull),
@@ -65,18 +66,24 @@ fn reply_push<T: Turns>(
     turns: &mut T,
     accounts: &Accounts,
     request: &Request,
-) -> Answered
-    ensures { AnswersAsked T.mutates T.pulls T.retires turns.old (asked_at accounts.now request.now routes.Push) result.answer result.acted turns.new }
+) -> HttpAnswered
+    ensures { AnswersAsked T.takes turns.old (asked_at accounts.now request.now routes.Push) result.answer result.acted turns.new }
 {
     match user_of(accounts, request) {
-        Some(user) => answer_push(
-            alloc,
-            turns,
-            accounts.schemas(),
-            user,
-            request.body.as_slice(),
-        ),
-        None => Answered::without_act(Answer::Refused(ErrorBody::Unauthorized)),
+        Some(user) => {
+            let Answered { answer, acted } = answer_push(
+                alloc,
+                turns,
+                accounts.schemas(),
+                user,
+                request.body.as_slice(),
+            );
+            HttpAnswered {
+                answer: HttpAnswer::Answered(answer),
+                acted,
+            }
+        }
+        None => rejected(Rejection::Unauthorized),
     }
 }
 
@@ -86,18 +93,31 @@ fn reply_pull<T: Turns>(
     turns: &mut T,
     accounts: &Accounts,
     request: &Request,
-) -> Answer
-    ensures { AnswersAsked T.mutates T.pulls T.retires turns.old (asked_at accounts.now request.now routes.Pull) result false turns.new }
+) -> HttpAnswered
+    ensures { AnswersAsked T.takes turns.old (asked_at accounts.now request.now routes.Pull) result.answer result.acted turns.new }
 {
     match user_of(accounts, request) {
-        Some(user) => answer_pull(
-            alloc,
-            turns,
-            accounts.schemas(),
-            user,
-            request.body.as_slice(),
-        ),
-        None => Answer::Refused(ErrorBody::Unauthorized),
+        Some(user) => HttpAnswered {
+            answer: HttpAnswer::Answered(answer_pull(
+                alloc,
+                turns,
+                accounts.schemas(),
+                user,
+                request.body.as_slice(),
+            )),
+            acted: false,
+        },
+        None => rejected(Rejection::Unauthorized),
+    }
+}
+
+// A rejection, for which no mutation was run.
+fn rejected(rejection: Rejection) -> HttpAnswered
+    ensures { (result.answer ≡ answers.Rejected rejection) × (result.acted ≡ false) }
+{
+    HttpAnswered {
+        answer: HttpAnswer::Rejected(rejection),
+        acted: false,
     }
 }
 
@@ -108,13 +128,13 @@ pub(crate) fn reply<T: Turns>(
     accounts: &Accounts,
     routes: &Routes,
     request: &Request,
-) -> Answered
-    ensures { Replies T.mutates T.pulls T.retires accounts.now turns.old request.now result.answer result.acted turns.new }
+) -> HttpAnswered
+    ensures { Replies T.takes accounts.now turns.old request.now result.answer result.acted turns.new }
 {
     match routes.route(&request.method, request.path.as_slice()) {
-        Route::NoRoute => Answered::without_act(Answer::Refused(ErrorBody::NoRoute)),
-        Route::OtherMethod => Answered::without_act(Answer::Refused(ErrorBody::OtherMethod)),
+        Route::NoRoute => rejected(Rejection::NoRoute),
+        Route::OtherMethod => rejected(Rejection::OtherMethod),
         Route::Push => reply_push(alloc, turns, accounts, request),
-        Route::Pull => Answered::without_act(reply_pull(alloc, turns, accounts, request)),
+        Route::Pull => reply_pull(alloc, turns, accounts, request),
     }
 }

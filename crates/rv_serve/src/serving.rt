@@ -2,23 +2,22 @@
 ghost use Rattle.std.specs.Prelude.{◌≡◌, ◌+◌, ◌<◌, ◌^◌, []};
 ghost use Rattle.rv_base.specs.Outside.{IsSteady};
 ghost use Rattle.rv_http.specs.declared.http_end.HttpEnd.TheVariants as reading;
-ghost use Rattle.rv_serve.specs.Texts.{refusal_text};
+ghost use Rattle.rv_serve.specs.Texts.{rejection_text};
 ghost use Rattle.rv_serve.specs.Talk.{closes_at, TalksPast};
 ghost use Rattle.rv_serve.specs.Causes.{ConnCause, InputIsSteady, OutputIsSteady};
 ghost use Rattle.rv_serve.specs.Steps.{AnswersOne, EndsConn, WritesLast};
 
 use crate::conn_end::ConnEnd;
+use crate::http_answer::HttpAnswered;
 use crate::replying::reply;
-use crate::telling::{write_answer, write_refusal};
+use crate::telling::{write_answer, write_no_memory, write_rejection};
 use crate::tools::Tools;
 use rv_accounts::Accounts;
-use rv_answering::Answered;
 use rv_base::{Sink, Source};
 use rv_crew::Gate;
-use rv_history::Turns;
-use rv_http::{Buffer, HttpEnd, Request, Routes, WriteFault, read_request};
+use rv_http::{Buffer, HttpEnd, Rejection, Request, Routes, WriteFault, read_request};
 use rv_net::Conn;
-use rv_wire::ErrorBody;
+use rv_turns::Turns;
 use std::alloc::Global;
 
 // The most requests of a connection.
@@ -43,11 +42,11 @@ fn answer_request<T: Turns, G: Gate, O: Sink>(
     number: u32,
     sink: &mut O,
 ) -> Result<bool, WriteFault>
-    ensures answers { AnswersOne T.mutates T.pulls T.retires accounts.now number turns.old request.now (O.state sink.old) (O.state sink.new) (G.heard gate.old) (G.heard gate.new) turns.new result }
+    ensures answers { AnswersOne T.takes accounts.now number turns.old request.now (O.state sink.old) (O.state sink.new) (G.heard gate.old) (G.heard gate.new) turns.new result }
     ensures steady { O.fails_no_more sink.old → IsSteady (O.fails_no_more sink.new) (O.state sink.old) (O.state sink.new) result }
 {
     gate.before(number);
-    let Answered { answer, acted } = reply(alloc, turns, accounts, routes, request);
+    let HttpAnswered { answer, acted } = reply(alloc, turns, accounts, routes, request);
     let closes = closes_at(number, request);
     let written = write_answer(sink, &answer, closes, request.head_only);
     gate.after(answer.status(), acted);
@@ -57,13 +56,13 @@ fn answer_request<T: Turns, G: Gate, O: Sink>(
     }
 }
 
-// Writes a refusal that ends a connection after so many answers.
-fn close_with<O: Sink>(sink: &mut O, refusal: ErrorBody, head_only: bool, count: u32) -> ConnEnd
+// Writes a rejection that ends a connection after so many answers.
+fn close_with<O: Sink>(sink: &mut O, rejection: Rejection, head_only: bool, count: u32) -> ConnEnd
     requires { count < 2 ^ 31 }
-    ensures writes { WritesLast (count + 1) (refusal_text refusal head_only) (O.state sink.old) (O.state sink.new) result }
+    ensures writes { WritesLast (count + 1) (rejection_text rejection head_only) (O.state sink.old) (O.state sink.new) result }
     ensures steady { O.fails_no_more sink.old → OutputIsSteady (O.fails_no_more sink.new) (O.state sink.old) (O.state sink.new) result }
 {
-    match write_refusal(sink, &refusal, true, head_only) {
+    match write_rejection(sink, rejection, true, head_only) {
         Ok(()) => ConnEnd::Done(count + 1),
         Err(WriteFault) => ConnEnd::WriteFault,
     }
@@ -74,7 +73,7 @@ fn refuse_memory<O: Sink>(sink: &mut O, head_only: bool) -> ConnEnd
     ensures ends { EndsConn 0 (reading.Memory head_only) (O.state sink.old) (O.state sink.new) result }
     ensures steady { O.fails_no_more sink.old → OutputIsSteady (O.fails_no_more sink.new) (O.state sink.old) (O.state sink.new) result }
 {
-    match write_refusal(sink, &ErrorBody::Memory, true, head_only) {
+    match write_no_memory(sink, head_only) {
         Ok(()) => ConnEnd::Memory,
         Err(WriteFault) => ConnEnd::Memory,
     }
@@ -91,11 +90,11 @@ fn refuse<O: Sink>(sink: &mut O, cause: HttpEnd, count: u32) -> ConnEnd
         HttpEnd::Cut => ConnEnd::Done(count),
         HttpEnd::ReadFault => ConnEnd::ReadFault,
         HttpEnd::Memory(flag) => refuse_memory(sink, flag),
-        HttpEnd::BadHead(flag) => close_with(sink, ErrorBody::BadHead, flag, count),
-        HttpEnd::HeadTooLarge(flag) => close_with(sink, ErrorBody::HeadTooLarge, flag, count),
-        HttpEnd::LengthRequired => close_with(sink, ErrorBody::LengthRequired, false, count),
-        HttpEnd::BodyTooLarge(flag) => close_with(sink, ErrorBody::BodyTooLarge, flag, count),
-        HttpEnd::CodingNotServed(flag) => close_with(sink, ErrorBody::CodingNotServed, flag, count),
+        HttpEnd::BadHead(flag) => close_with(sink, Rejection::BadHead, flag, count),
+        HttpEnd::HeadTooLarge(flag) => close_with(sink, Rejection::HeadTooLarge, flag, count),
+        HttpEnd::LengthRequired => close_with(sink, Rejection::LengthRequired, false, count),
+        HttpEnd::BodyTooLarge(flag) => close_with(sink, Rejection::BodyTooLarge, flag, count),
+        HttpEnd::CodingNotServed(flag) => close_with(sink, Rejection::CodingNotServed, flag, count),
     }
 }
 
@@ -111,7 +110,7 @@ fn serve_requests<T: Turns, G: Gate, S: Source, O: Sink>(
     sink: &mut O,
 ) -> ConnEnd
     requires { buffer.old ≡ [] }
-    ensures talks { TalksPast T.mutates T.pulls T.retires accounts.now turns.old turns.new (S.state source.old) (S.state source.new) (O.state sink.old) (O.state sink.new) (G.heard gate.old) (G.heard gate.new) result }
+    ensures talks { TalksPast T.takes accounts.now turns.old turns.new (S.state source.old) (S.state source.new) (O.state sink.old) (O.state sink.new) (G.heard gate.old) (G.heard gate.new) result }
     ensures cause { ConnCause (S.state source.old) (S.state source.new) (O.state sink.old) (O.state sink.new) result }
     ensures steady_input { S.fails_no_more source.old → InputIsSteady (S.fails_no_more source.new) result }
     ensures steady_output { O.fails_no_more sink.old → OutputIsSteady (O.fails_no_more sink.new) (O.state sink.old) (O.state sink.new) result }
@@ -149,7 +148,7 @@ pub(crate) fn serve_with<T: Turns, G: Gate, S: Source, O: Sink>(
     tools: Option<Tools>,
     conn: &mut Conn<S, O>,
 ) -> (ConnEnd, Option<Tools>)
-    ensures talks { TalksPast T.mutates T.pulls T.retires accounts.now turns.old turns.new (S.state conn.old.source) (S.state conn.new.source) (O.state conn.old.sink) (O.state conn.new.sink) (G.heard gate.old) (G.heard gate.new) result.0 }
+    ensures talks { TalksPast T.takes accounts.now turns.old turns.new (S.state conn.old.source) (S.state conn.new.source) (O.state conn.old.sink) (O.state conn.new.sink) (G.heard gate.old) (G.heard gate.new) result.0 }
     ensures cause { ConnCause (S.state conn.old.source) (S.state conn.new.source) (O.state conn.old.sink) (O.state conn.new.sink) result.0 }
     ensures steady_input { S.fails_no_more conn.old.source → InputIsSteady (S.fails_no_more conn.new.source) result.0 }
     ensures steady_output { O.fails_no_more conn.old.sink → OutputIsSteady (O.fails_no_more conn.new.sink) (O.state conn.old.sink) (O.state conn.new.sink) result.0 }
@@ -179,7 +178,7 @@ pub fn serve_connection<T: Turns, G: Gate, S: Source, O: Sink>(
     gate: &mut G,
     conn: &mut Conn<S, O>,
 ) -> ConnEnd
-    ensures talks { TalksPast T.mutates T.pulls T.retires accounts.now turns.old turns.new (S.state conn.old.source) (S.state conn.new.source) (O.state conn.old.sink) (O.state conn.new.sink) (G.heard gate.old) (G.heard gate.new) result }
+    ensures talks { TalksPast T.takes accounts.now turns.old turns.new (S.state conn.old.source) (S.state conn.new.source) (O.state conn.old.sink) (O.state conn.new.sink) (G.heard gate.old) (G.heard gate.new) result }
     ensures cause { ConnCause (S.state conn.old.source) (S.state conn.new.source) (O.state conn.old.sink) (O.state conn.new.sink) result }
     ensures steady_input { S.fails_no_more conn.old.source → InputIsSteady (S.fails_no_more conn.new.source) result }
     ensures steady_output { O.fails_no_more conn.old.sink → OutputIsSteady (O.fails_no_more conn.new.sink) (O.state conn.old.sink) (O.state conn.new.sink) result }

@@ -8,11 +8,12 @@ use crate::fitting::entry_fits;
 use crate::prepared::{Prepared, SideEffect};
 use rv_base::{Id, Memory, Num, User};
 use rv_book::{Book, BookFault, Entry};
-use rv_history::{PullReply, entries};
+use rv_history::entries;
 use rv_mutators::stage;
 use rv_news::{News, Records, is_unchanged, news_for, view_now};
 use rv_rows::{Call, Tables};
-use rv_wire::PullRequest;
+use rv_turns::{PullReply, PullRequest};
+use rv_wire::look_reply;
 use std::alloc::Global;
 use std::marker::Model;
 
@@ -77,6 +78,7 @@ impl State {
     ghost use Rattle.std.specs.List.{AllByRecursion};
     ghost use Rattle.rv_history.specs.Machine.{IsUnchanged, next_order, reply_to};
     ghost use Rattle.rv_news.specs.Records.{AreRecords};
+    ghost use Rattle.rv_wire.specs.Answers.{pull_json};
     ghost use Rattle.rv_state.specs.Ready.{IsPrepared, IsEffectOf};
 
     /// The state of the empty book, which takes at most so many entries.
@@ -186,7 +188,7 @@ impl State {
         requires lawful { IsLawfulAfter self.old.book (Look user.now request.now.group order news.base) }
         ensures prepared { IfOk result (λ made. IsPrepared self.new made.1) }
         ensures entry { IfOk result (λ made. made.1.entry ≡ Look user.now request.now.group order (base_of user.now request.now.cookie self.old.book)) }
-        ensures reply { IfOk result (λ made. made.0 ≡ reply_to user.now request.now self.old.book) }
+        ensures reply { IfOk result (λ made. made.0 ≡ reply_to pull_json user.now request.now self.old.book) }
         ensures book { self.new.book ≡ self.old.book }
         ensures limit { self.new.limit ≡ self.old.limit }
     {
@@ -197,7 +199,7 @@ impl State {
             ids,
         } = news;
         let place = self.book.len() + 1;
-        let reply = PullReply::of_look(self.alloc, place, order, ids, ops)?;
+        let reply = look_reply(self.alloc, place, order, ids, ops)?;
         let entry = entries::look(self.alloc, user, &request.group, order, base)?;
         entry_fits(&entry);
         reserve(&mut self.book, &entry)?;

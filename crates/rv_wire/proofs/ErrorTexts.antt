@@ -3,35 +3,37 @@ use Rattle.std.proofs.Common.{◌≡◌, ℕ, ◌++◌, refl, append_assoc}
 use Rattle.std.specs.Prelude.{codes, decimal}
 use Rattle.serde_json.specs.Written.{compact_text}
 use Rattle.serde_json.proofs.OnLiterals.{serde_json_on_literals}
-use Rattle.rv_wire.specs.declared.error_body.Which.{Which}
-use Rattle.rv_wire.specs.declared.error_body.Which.TheVariants.{Book, Order}
-use Rattle.rv_wire.specs.declared.error_body.ErrorBody.TheVariants.{ClientStateNotFound, VersionNotSupported, NotJson, Field, GroupOfOther, ClientOfOther, NoGroup, Future, Limit, Changed, Keeper, Memory, BadHead, Unauthorized, NoRoute, OtherMethod, LengthRequired, BodyTooLarge, HeadTooLarge, CodingNotServed}
+use Rattle.rv_turns.specs.declared.refusal.Which.{Which}
+use Rattle.rv_turns.specs.declared.refusal.Which.TheVariants.{Book, Order}
+use Rattle.rv_turns.specs.declared.refusal.Trouble.TheVariants.{Keeper, Changed}
+use Rattle.rv_turns.specs.declared.refusal.Refusal.TheVariants.{Future, GroupOfOther, ClientOfOther, NotFound, NoGroup, Limit, Memory}
+use Rattle.rv_wire.specs.declared.error_body.ErrorBody.TheVariants.{VersionNotSupported, NotJson, Field}
 use Rattle.rv_wire.specs.declared.fault.FieldName.{FieldName}
 use Rattle.rv_wire.specs.declared.fault.FieldName.TheVariants as fields
 use Rattle.rv_wire.specs.declared.fault.VersionKind.{VersionKind}
 use Rattle.rv_wire.specs.declared.fault.VersionKind.TheVariants as versions
 use Rattle.rv_wire.specs.Answers.{retired_data}
 use Rattle.rv_wire.specs.Members.{field_text}
-use Rattle.rv_wire.specs.Errors.{version_text, which_text, error_data}
+use Rattle.rv_wire.specs.Errors.{version_text, which_text, trouble_data, refusal_data, error_data}
 
-pub future_text : (e g : ℕ) → (((codes "{\"error\":\"Future\",\"expected\":" ++ decimal e) ++ codes ",\"got\":") ++ decimal g) ++ codes "}" ≡ compact_text (error_data (Future e g))
+pub future_text : (e g : ℕ) → (((codes "{\"error\":\"Future\",\"expected\":" ++ decimal e) ++ codes ",\"got\":") ++ decimal g) ++ codes "}" ≡ compact_text (refusal_data (Future e g))
 unfolding serde_json_on_literals
 future_text e g = simp append_assoc
 
-pub limit_text : (which : Which) (n : ℕ) → (codes "{\"at\":" ++ decimal n) ++ (codes ",\"error\":\"Limit\",\"which\":\"" ++ which_text which ++ codes "\"}") ≡ compact_text (error_data (Limit which n))
+pub limit_text : (which : Which) (n : ℕ) → (codes "{\"at\":" ++ decimal n) ++ (codes ",\"error\":\"Limit\",\"which\":\"" ++ which_text which ++ codes "\"}") ≡ compact_text (refusal_data (Limit which n))
 unfolding serde_json_on_literals
 limit_text Book n = simp append_assoc
 limit_text Order n = simp append_assoc
 
-pub changed_text : (f k : ℕ) → (((codes "{\"error\":\"Changed\",\"found\":" ++ decimal f) ++ codes ",\"kept\":") ++ decimal k) ++ codes "}" ≡ compact_text (error_data (Changed f k))
+pub changed_text : (f k : ℕ) → (((codes "{\"error\":\"Changed\",\"found\":" ++ decimal f) ++ codes ",\"kept\":") ++ decimal k) ++ codes "}" ≡ compact_text (trouble_data (Changed k f))
 unfolding serde_json_on_literals
 changed_text f k = simp append_assoc
 
-pub keeper_text : compact_text (error_data Keeper) ≡ codes "{\"error\":\"keeper\"}"
+pub keeper_text : compact_text (trouble_data Keeper) ≡ codes "{\"error\":\"keeper\"}"
 unfolding serde_json_on_literals
 keeper_text = refl
 
-pub memory_text : compact_text (error_data Memory) ≡ codes "{\"error\":\"memory\"}"
+pub memory_text : compact_text (refusal_data Memory) ≡ codes "{\"error\":\"memory\"}"
 unfolding serde_json_on_literals
 memory_text = refl
 
@@ -39,53 +41,21 @@ pub not_json_text : compact_text (error_data NotJson) ≡ codes "{\"error\":\"No
 unfolding serde_json_on_literals
 not_json_text = refl
 
-pub not_found_text : compact_text (error_data ClientStateNotFound) ≡ codes "{\"error\":\"ClientStateNotFound\"}"
+pub not_found_text : compact_text (refusal_data NotFound) ≡ codes "{\"error\":\"ClientStateNotFound\"}"
 unfolding serde_json_on_literals
 not_found_text = refl
 
-pub group_of_other_text : compact_text (error_data GroupOfOther) ≡ codes "{\"error\":\"GroupOfOther\"}"
+pub group_of_other_text : compact_text (refusal_data GroupOfOther) ≡ codes "{\"error\":\"GroupOfOther\"}"
 unfolding serde_json_on_literals
 group_of_other_text = refl
 
-pub client_of_other_text : compact_text (error_data ClientOfOther) ≡ codes "{\"error\":\"ClientOfOther\"}"
+pub client_of_other_text : compact_text (refusal_data ClientOfOther) ≡ codes "{\"error\":\"ClientOfOther\"}"
 unfolding serde_json_on_literals
 client_of_other_text = refl
 
-pub no_group_text : compact_text (error_data NoGroup) ≡ codes "{\"error\":\"NoGroup\"}"
+pub no_group_text : compact_text (refusal_data NoGroup) ≡ codes "{\"error\":\"NoGroup\"}"
 unfolding serde_json_on_literals
 no_group_text = refl
-
-pub bad_head_text : compact_text (error_data BadHead) ≡ codes "{\"error\":\"BadHead\"}"
-unfolding serde_json_on_literals
-bad_head_text = refl
-
-pub unauthorized_text : compact_text (error_data Unauthorized) ≡ codes "{\"error\":\"Unauthorized\"}"
-unfolding serde_json_on_literals
-unauthorized_text = refl
-
-pub no_route_text : compact_text (error_data NoRoute) ≡ codes "{\"error\":\"NoRoute\"}"
-unfolding serde_json_on_literals
-no_route_text = refl
-
-pub other_method_text : compact_text (error_data OtherMethod) ≡ codes "{\"error\":\"OtherMethod\"}"
-unfolding serde_json_on_literals
-other_method_text = refl
-
-pub length_required_text : compact_text (error_data LengthRequired) ≡ codes "{\"error\":\"LengthRequired\"}"
-unfolding serde_json_on_literals
-length_required_text = refl
-
-pub body_too_large_text : compact_text (error_data BodyTooLarge) ≡ codes "{\"error\":\"BodyTooLarge\"}"
-unfolding serde_json_on_literals
-body_too_large_text = refl
-
-pub head_too_large_text : compact_text (error_data HeadTooLarge) ≡ codes "{\"error\":\"HeadTooLarge\"}"
-unfolding serde_json_on_literals
-head_too_large_text = refl
-
-pub coding_not_served_text : compact_text (error_data CodingNotServed) ≡ codes "{\"error\":\"CodingNotServed\"}"
-unfolding serde_json_on_literals
-coding_not_served_text = refl
 
 pub field_error_text : (field : FieldName) → (codes "{\"error\":\"Field\",\"field\":\"" ++ field_text field) ++ codes "\"}" ≡ compact_text (error_data (Field field))
 unfolding serde_json_on_literals

@@ -10,7 +10,7 @@ use Rattle.serde_json.specs.View.{items_of}
 use Rattle.serde_json.specs.Written.{outline, items_outline, members_outline, compact_text}
 use Rattle.serde_json.proofs.Texts.{print-outline}
 use Rattle.std.specs.Prelude.{decimal}
-use Rattle.rv_wire.specs.declared.op.Op.{Op}
+use Rattle.rv_turns.specs.declared.op.Op.{Op}
 use Rattle.rv_wire.specs.Answers.{id_members, op_data}
 
 -- the id changes and the end of their object

@@ -1,13 +1,15 @@
 -- The answers to a pull and to a retirement, as JSON.
-use Rattle.std.specs.Prelude.{ℕ, List, [], ◌∷◌, map, codes}
+use Rattle.std.specs.Prelude.{ℕ, Bool, List, [], ◌∷◌, map, codes}
 use Rattle.serde_json.specs.Data.{Data, null, number, unsigned, string, array, object, Members, member, no_members}
 use Rattle.serde_json.specs.View.{items_of}
+use Rattle.serde_json.specs.Written.{compact_text}
 use Rattle.rv_rows.specs.Keys.{key_text, row_text}
 use Rattle.rv_rows.specs.RowTexts.{row_data}
 use Rattle.rv_views.specs.declared.cookie.Cookie.{Cookie}
 use Rattle.rv_views.specs.declared.cookie.Cookie.TheVariants.{Null, Bare, Named}
-use Rattle.rv_wire.specs.declared.op.Op.{Op}
-use Rattle.rv_wire.specs.declared.op.Op.TheVariants.{Clear, Del, Put}
+use Rattle.rv_turns.specs.declared.pull.PullReply.{PullReply}
+use Rattle.rv_turns.specs.declared.op.Op.{Op}
+use Rattle.rv_turns.specs.declared.op.Op.TheVariants.{Clear, Del, Put}
 
 -- {"cvrID":"PLACE","order":N}
 abbrev pub cookie_data : Cookie → Data
@@ -41,6 +43,14 @@ answer_data cookie changes patch = object (member (codes "cookie") cookie (membe
 -- {"cookie":COOKIE,"lastMutationIDChanges":{CLIENT:N,..},"patch":[OP,..]}
 abbrev pub pull_data : Cookie → List (List ℕ × ℕ) → List Op → Data
 pull_data cookie ids ops = answer_data (cookie_data cookie) (object (id_members ids)) (array (items_of (map op_data ops)))
+
+-- the text of the answer to a pull: its compact JSON
+abbrev pub pull_json : Cookie → List (List ℕ × ℕ) → List Op → List ℕ
+pull_json cookie ids ops = compact_text (pull_data cookie ids ops)
+
+-- a reply with this cookie, these ids and this patch, and whether the cookie is the request's own
+abbrev pub reply_of : Bool → Cookie → List (List ℕ × ℕ) → List Op → PullReply
+reply_of same cookie ids ops = record { cookie = cookie; same = same; ids = ids; ops = ops; text = pull_json cookie ids ops }
 
 -- {"retired":PLACE}
 abbrev pub retired_data : ℕ → Data

@@ -15,9 +15,9 @@ use Rattle.rv_wire.specs.declared.fault.VersionKind.{VersionKind}
 use Rattle.rv_wire.specs.declared.fault.VersionKind.TheVariants as versions
 use Rattle.rv_views.specs.declared.cookie.Cookie.{Cookie}
 use Rattle.rv_views.specs.declared.cookie.Cookie.TheVariants.{Null, Bare, Named}
-use Rattle.rv_wire.specs.declared.push.Mutation.{Mutation}
+use Rattle.rv_turns.specs.declared.mutation.Mutation.{Mutation}
 use Rattle.rv_wire.specs.declared.push.Push.{Push}
-use Rattle.rv_wire.specs.declared.pull.PullRequest.{PullRequest}
+use Rattle.rv_turns.specs.declared.pull.PullRequest.{PullRequest}
 use Rattle.rv_wire.specs.Members.{field_text, text_member, string_member, num_member, array_member}
 use Rattle.rv_rows.specs.Members.{num_in}
 use Rattle.rv_wire.specs.Calls.{call_in}

@@ -1,18 +1,17 @@
 ghost use Rattle.std.specs.Prelude.{◌≡◌, IfOk, map};
 ghost use Rattle.serde_json.specs.Data.{object, array};
 ghost use Rattle.serde_json.specs.View.{items_of};
-ghost use Rattle.serde_json.specs.Written.{compact_text};
 ghost use Rattle.rv_base.specs.Sorted.{InOrder};
 ghost use Rattle.rv_rows.specs.Additions.{Adds};
 ghost use Rattle.rv_rows.specs.RowTexts.{row_data};
 ghost use Rattle.rv_views.specs.declared.cookie.Cookie.TheVariants.{Named};
-ghost use Rattle.rv_wire.specs.declared.op.Op.TheVariants.{Clear};
-ghost use Rattle.rv_wire.specs.Answers.{cookie_data, id_members, del_data, put_data, op_data, pull_data};
+ghost use Rattle.rv_turns.specs.declared.op.Op.TheVariants.{Clear};
+ghost use Rattle.rv_wire.specs.Answers.{cookie_data, id_members, del_data, put_data, op_data, pull_data, pull_json};
 
-use crate::op::{Op, Ops};
 use json::Writer;
 use rv_base::{Bytes, Id, Memory, Num, Sequence, Text};
 use rv_rows::{Clients, Row, write_num_member, write_row, write_text_member};
+use rv_turns::{Op, Ops};
 use rv_views::Cookie;
 use std::alloc::Global;
 
@@ -135,7 +134,7 @@ fn likely_length(ops: usize) -> usize {
 /// bytes and each once, and the patch.
 pub fn pull_text(alloc: Global, cookie: &Cookie, ids: &Clients, ops: &Ops) -> Result<Bytes, Memory>
     requires { InOrder (λ p. p.0) ids.now }
-    ensures { IfOk result (λ s. s ≡ compact_text (pull_data cookie.now ids.now ops.now)) }
+    ensures { IfOk result (λ s. s ≡ pull_json cookie.now ids.now ops.now) }
 {
     let mut key_text = String::new(alloc);
     let mut out = Writer::new(Vec::with_capacity(alloc, likely_length(ops.len()))?);

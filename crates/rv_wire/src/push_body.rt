@@ -11,10 +11,11 @@ use crate::calls::read_call;
 use crate::fault::{FieldName, VersionKind, WireFault};
 use crate::json_reading::read_json;
 use crate::members::{array_member, num_member, string_member, text_member};
-use crate::push::{Mutation, Push};
+use crate::push::Push;
 use crate::schema_versions::SchemaVersions;
 use rv_base::{Memory, Sequence};
 use rv_rows::Call;
+use rv_turns::Mutation;
 use serde_json::Value;
 use std::alloc::Global;
 

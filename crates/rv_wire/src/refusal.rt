@@ -1,10 +1,11 @@
 ghost use Rattle.std.specs.Prelude.{◌≡◌, ◌≤◌, ◌+◌, ◌++◌, ◌<◌, length, take, decimal, codes};
 ghost use Rattle.serde_json.specs.Written.{compact_text};
-ghost use Rattle.rv_wire.specs.Errors.{which_text, error_data, error_status, fault_error};
+ghost use Rattle.rv_wire.specs.Errors.{which_text, trouble_data, trouble_status, refusal_data, refusal_status, error_data, error_status, fault_error};
 
-use crate::error_body::{ErrorBody, Which};
+use crate::error_body::ErrorBody;
 use crate::fault::WireFault;
 use itoa::Buffer;
+use rv_turns::{Refusal, Trouble, Which};
 
 // Copies a text into the buffer from a place on, and answers the place after it.
 pub(crate) fn put(out: &mut [u8; 128], at: usize, text: &[u8]) -> usize
@@ -72,13 +73,52 @@ fn put_numbers(out: &mut [u8; 128], first: &[u8], one: u64, second: &[u8], other
     put(out, at, b"}")
 }
 
+// Writes the JSON text of a turn that could not be kept.
+fn trouble_text(trouble: &Trouble, out: &mut [u8; 128]) -> usize
+    ensures length { result ≤ 128 }
+    ensures text { take result out.new ≡ compact_text (trouble_data trouble.now) }
+{
+    match trouble {
+        Trouble::Keeper => put(out, 0, b"{\"error\":\"keeper\"}"),
+        Trouble::Changed { kept, found } => put_numbers(
+            out,
+            b"{\"error\":\"Changed\",\"found\":",
+            *found,
+            b",\"kept\":",
+            *kept,
+        ),
+    }
+}
+
+// Writes the JSON text of a refused turn.
+fn refusal_text(refusal: &Refusal, out: &mut [u8; 128]) -> usize
+    ensures length { result ≤ 128 }
+    ensures text { take result out.new ≡ compact_text (refusal_data refusal.now) }
+{
+    match refusal {
+        Refusal::Future { expected, got } => put_numbers(
+            out,
+            b"{\"error\":\"Future\",\"expected\":",
+            expected.get(),
+            b",\"got\":",
+            got.get(),
+        ),
+        Refusal::GroupOfOther => put(out, 0, b"{\"error\":\"GroupOfOther\"}"),
+        Refusal::ClientOfOther => put(out, 0, b"{\"error\":\"ClientOfOther\"}"),
+        Refusal::NotFound => put(out, 0, b"{\"error\":\"ClientStateNotFound\"}"),
+        Refusal::NoGroup => put(out, 0, b"{\"error\":\"NoGroup\"}"),
+        Refusal::Limit(which, number) => put_limit(out, *which, number.get()),
+        Refusal::Trouble(trouble) => trouble_text(trouble, out),
+        Refusal::Memory => put(out, 0, b"{\"error\":\"memory\"}"),
+    }
+}
+
 /// Writes the JSON text of a refusal to the buffer's front, and answers how many bytes it has. Takes no memory.
 pub fn error_text(error: &ErrorBody, out: &mut [u8; 128]) -> usize
     ensures length { result ≤ 128 }
     ensures text { take result out.new ≡ compact_text (error_data error.now) }
 {
     match error {
-        ErrorBody::ClientStateNotFound => put(out, 0, b"{\"error\":\"ClientStateNotFound\"}"),
         ErrorBody::VersionNotSupported(kind) => put_text(
             out,
             b"{\"error\":\"VersionNotSupported\",\"versionType\":\"",
@@ -90,34 +130,33 @@ pub fn error_text(error: &ErrorBody, out: &mut [u8; 128]) -> usize
             b"{\"error\":\"Field\",\"field\":\"",
             field.name().as_bytes(),
         ),
-        ErrorBody::GroupOfOther => put(out, 0, b"{\"error\":\"GroupOfOther\"}"),
-        ErrorBody::ClientOfOther => put(out, 0, b"{\"error\":\"ClientOfOther\"}"),
-        ErrorBody::NoGroup => put(out, 0, b"{\"error\":\"NoGroup\"}"),
-        ErrorBody::Future { expected, got } => put_numbers(
-            out,
-            b"{\"error\":\"Future\",\"expected\":",
-            expected.get(),
-            b",\"got\":",
-            got.get(),
-        ),
-        ErrorBody::Limit(which, number) => put_limit(out, *which, number.get()),
-        ErrorBody::Changed { found, kept } => put_numbers(
-            out,
-            b"{\"error\":\"Changed\",\"found\":",
-            *found,
-            b",\"kept\":",
-            *kept,
-        ),
-        ErrorBody::Keeper => put(out, 0, b"{\"error\":\"keeper\"}"),
-        ErrorBody::Memory => put(out, 0, b"{\"error\":\"memory\"}"),
-        ErrorBody::BadHead => put(out, 0, b"{\"error\":\"BadHead\"}"),
-        ErrorBody::Unauthorized => put(out, 0, b"{\"error\":\"Unauthorized\"}"),
-        ErrorBody::NoRoute => put(out, 0, b"{\"error\":\"NoRoute\"}"),
-        ErrorBody::OtherMethod => put(out, 0, b"{\"error\":\"OtherMethod\"}"),
-        ErrorBody::LengthRequired => put(out, 0, b"{\"error\":\"LengthRequired\"}"),
-        ErrorBody::BodyTooLarge => put(out, 0, b"{\"error\":\"BodyTooLarge\"}"),
-        ErrorBody::HeadTooLarge => put(out, 0, b"{\"error\":\"HeadTooLarge\"}"),
-        ErrorBody::CodingNotServed => put(out, 0, b"{\"error\":\"CodingNotServed\"}"),
+        ErrorBody::Refused(refusal) => refusal_text(refusal, out),
+    }
+}
+
+// The status that a turn is answered with which could not be kept.
+fn trouble_status(trouble: &Trouble) -> u16
+    ensures { result ≡ trouble_status trouble.now }
+{
+    match trouble {
+        Trouble::Keeper => 503,
+        Trouble::Changed { .. } => 500,
+    }
+}
+
+// The status that a refused turn is answered with.
+fn refusal_status(refusal: &Refusal) -> u16
+    ensures { result ≡ refusal_status refusal.now }
+{
+    match refusal {
+        Refusal::Future { .. } => 409,
+        Refusal::GroupOfOther => 403,
+        Refusal::ClientOfOther => 403,
+        Refusal::NotFound => 200,
+        Refusal::NoGroup => 404,
+        Refusal::Limit(_, _) => 507,
+        Refusal::Trouble(trouble) => trouble_status(trouble),
+        Refusal::Memory => 503,
     }
 }
 
@@ -127,26 +166,10 @@ impl ErrorBody {
         ensures { result ≡ error_status self.now }
     {
         match self {
-            ErrorBody::ClientStateNotFound => 200,
             ErrorBody::VersionNotSupported(_) => 200,
             ErrorBody::NotJson => 400,
             ErrorBody::Field(_) => 400,
-            ErrorBody::GroupOfOther => 403,
-            ErrorBody::ClientOfOther => 403,
-            ErrorBody::NoGroup => 404,
-            ErrorBody::Future { .. } => 409,
-            ErrorBody::Limit(_, _) => 507,
-            ErrorBody::Changed { .. } => 500,
-            ErrorBody::Keeper => 503,
-            ErrorBody::Memory => 503,
-            ErrorBody::BadHead => 400,
-            ErrorBody::Unauthorized => 401,
-            ErrorBody::NoRoute => 404,
-            ErrorBody::OtherMethod => 405,
-            ErrorBody::LengthRequired => 411,
-            ErrorBody::BodyTooLarge => 413,
-            ErrorBody::HeadTooLarge => 431,
-            ErrorBody::CodingNotServed => 501,
+            ErrorBody::Refused(refusal) => refusal_status(refusal),
         }
     }
 }
@@ -160,7 +183,7 @@ impl WireFault {
             WireFault::NotJson => ErrorBody::NotJson,
             WireFault::Field(field) => ErrorBody::Field(field),
             WireFault::Version(kind) => ErrorBody::VersionNotSupported(kind),
-            WireFault::Memory => ErrorBody::Memory,
+            WireFault::Memory => ErrorBody::Refused(Refusal::Memory),
         }
     }
 }

@@ -10,9 +10,9 @@ use Rattle.rv_net.specs.declared.conn.Conn.{Conn}
 use Rattle.rv_net.specs.declared.listen.Listen.{Ghosts as ListenGhosts}
 use Rattle.rv_room.specs.declared.view.SeatView.{SeatView}
 use Rattle.rv_room.specs.Closing.{Closes}
-use Rattle.rv_room.specs.SeatTurns.{SeatMutates, SeatPulls, SeatRetires}
 use Rattle.rv_room.specs.Views.{newcomer}
 use Rattle.rv_serve.specs.Listening.{ServesAll}
+use Rattle.rv_room.specs.SeatTurns.{IsSeatTurn}
 
 module _ {K L I O : Type 0} (G : Ghosts K) (accounts : Accounts) (input : I → InputState) (output : O → OutputState) (input_steady : I → Type 0) (output_steady : O → Type 0)
     (tells : L → Type 0) (to_come came_back : L → List (Conn I O)) (out ends : L → ℕ) where
@@ -21,7 +21,7 @@ module _ {K L I O : Type 0} (G : Ghosts K) (accounts : Accounts) (input : I → 
   pub record IsServed (first : SeatView K) (given : L) (last : SeatView K) (back : L) : Type 0 where
     pub told : tells back → tells given
     pub ended : ends back ≡ counted (ends given)
-    pub serves : ServesAll (SeatMutates G) (SeatPulls G) (SeatRetires G) accounts input output input_steady output_steady (tells back) first last (to_come given) (to_come back) (came_back given) (came_back back) (out given) (out back)
+    pub serves : ServesAll (IsSeatTurn G) accounts input output input_steady output_steady (tells back) first last (to_come given) (to_come back) (came_back given) (came_back back) (out given) (out back)
 
 -- the same, by what listeners, sources and sinks show
 module _ {K L I O : Type 0} (G : Ghosts K) (listen : ListenGhosts L I O) (source : SourceGhosts I) (sink : SinkGhosts O) (accounts : Accounts) where

@@ -3,11 +3,11 @@ use Rattle.std.specs.Prelude.{◌≡◌, ℕ, List, Option}
 use Rattle.rv_base.specs.Outside.{InputState, OutputState, counted}
 use Rattle.rv_keeper.specs.declared.keeper.Keeper.{Ghosts}
 use Rattle.rv_net.specs.declared.conn.Conn.{Conn}
-use Rattle.rv_room.specs.SeatTurns.{SeatMutates, SeatPulls, SeatRetires}
 use Rattle.rv_room.specs.Seats.{view_of}
 use Rattle.rv_crew.specs.declared.heard.Heard.{Heard}
 use Rattle.rv_serve.specs.Listening.{ServesPast}
 use Rattle.rv_workers.specs.declared.worker.Worker.{Worker}
+use Rattle.rv_room.specs.SeatTurns.{IsSeatTurn}
 
 module _ {R K L W I O : Type 0} (G : Ghosts K) (input : I → InputState) (output : O → OutputState) (input_steady : I → Type 0) (output_steady : O → Type 0)
     (tells : L → Type 0) (to_come came_back : L → List (Conn I O)) (out ends : L → ℕ) (heard : W → Option (List Heard)) where
@@ -18,5 +18,5 @@ module _ {R K L W I O : Type 0} (G : Ghosts K) (input : I → InputState) (outpu
       (new.turns.room.now ≡ old.turns.room.now)
       × (tells new.listener → tells old.listener)
       × (ends new.listener ≡ counted (ends old.listener))
-      × ServesPast (SeatMutates G) (SeatPulls G) (SeatRetires G) old.accounts.now input output input_steady output_steady (tells new.listener) (view_of old.turns.seat) (view_of new.turns.seat)
+      × ServesPast (IsSeatTurn G) old.accounts.now input output input_steady output_steady (tells new.listener) (view_of old.turns.seat) (view_of new.turns.seat)
       (to_come old.listener) (to_come new.listener) (came_back old.listener) (came_back new.listener) (out old.listener) (out new.listener) (heard old.gate) (heard new.gate)

@@ -37,9 +37,8 @@ fn place_of(connections: &[Connection], group: &Id) -> usize {
 
 // The place of the connection whose group the entry of a cell names, or that of none.
 fn maker(alloc: Global, connections: &[Connection], cell: &Cell) -> Result<usize, Memory> {
-    let read = entry_of_cell(alloc, cell);
-    match &read {
-        Ok((_, entry)) => Ok(place_of(connections, group_of(entry))),
+    match entry_of_cell(alloc, cell) {
+        Ok((_, entry)) => Ok(place_of(connections, group_of(&entry))),
         Err(CellFault::Memory) => Err(Memory),
         Err(CellFault::BadCell(_, _)) => Ok(usize::MAX),
     }

@@ -1,13 +1,11 @@
 // A plain server over a plain keeper, written from the rules: what is kept is a list of entries.
 ghost use Rattle.std.specs.Prelude.{◌<◌, ◌^◌, length};
 
-use rv_base::{Id, Memory, Num, User};
+use rv_base::Memory;
 use rv_book::Entry;
-use rv_history::{PullAnswer, RetireAnswer, Trouble, Turn, Turns};
 use rv_keeper::{Fails, Schedule};
 use rv_plain::PlainDesk;
-use rv_rows::Call;
-use rv_wire::PullRequest;
+use rv_turns::{Asked, Outcome, Refusal, Trouble, Turns};
 use std::alloc::Global;
 
 // The most entries of a book.
@@ -133,63 +131,22 @@ impl PlainServer {
         Ok(())
     }
 
-    fn try_mutate(
-        &mut self,
-        user: &User,
-        group: &Id,
-        client: &Id,
-        id: Num,
-        call: Call,
-    ) -> Result<Turn, Hindered> {
+    fn try_take(&mut self, asked: Asked<'_>) -> Result<Outcome, Hindered> {
         self.settle()?;
-        let turn = self.desk.mutate(user, group, client, id, call);
+        let outcome = self.desk.take(asked);
         self.keep()?;
-        Ok(turn)
-    }
-
-    fn try_pull(&mut self, user: &User, request: &PullRequest) -> Result<PullAnswer, Hindered> {
-        self.settle()?;
-        let answer = self.desk.pull(user, request);
-        self.keep()?;
-        Ok(answer)
-    }
-
-    fn try_retire(&mut self, group: &Id) -> Result<RetireAnswer, Hindered> {
-        self.settle()?;
-        let answer = self.desk.retire(group);
-        self.keep()?;
-        Ok(answer)
+        Ok(outcome)
     }
 }
 
 impl Turns for PlainServer {
-    ghost mutates = { λ old from mutation turn new. Unit {0} };
+    ghost takes = { λ old ask outcome new. Unit {0} };
 
-    ghost pulls = { λ old user request answer new. Unit {0} };
-
-    ghost retires = { λ old group answer new. Unit {0} };
-
-    fn mutate(&mut self, user: &User, group: &Id, client: &Id, id: Num, call: Call) -> Turn {
-        match self.try_mutate(user, group, client, id, call) {
-            Ok(turn) => turn,
-            Err(Hindered::Keeper) => Turn::of_trouble(Trouble::Failed),
-            Err(Hindered::Memory) => Turn::Memory,
-        }
-    }
-
-    fn pull(&mut self, user: &User, request: &PullRequest) -> PullAnswer {
-        match self.try_pull(user, request) {
-            Ok(answer) => answer,
-            Err(Hindered::Keeper) => PullAnswer::of_trouble(Trouble::Failed),
-            Err(Hindered::Memory) => PullAnswer::Memory,
-        }
-    }
-
-    fn retire(&mut self, group: &Id) -> RetireAnswer {
-        match self.try_retire(group) {
-            Ok(answer) => answer,
-            Err(Hindered::Keeper) => RetireAnswer::of_trouble(Trouble::Failed),
-            Err(Hindered::Memory) => RetireAnswer::Memory,
+    fn take(&mut self, asked: Asked<'_>) -> Outcome {
+        match self.try_take(asked) {
+            Ok(outcome) => outcome,
+            Err(Hindered::Keeper) => Outcome::Refused(Refusal::Trouble(Trouble::Keeper)),
+            Err(Hindered::Memory) => Outcome::Refused(Refusal::Memory),
         }
     }
 }

@@ -4,10 +4,9 @@ ghost use Rattle.rv_room.specs.Seats.{id_of, opened_of, AllNew, AllOf};
 
 use super::meddled::Meddled;
 use rv_base::{Id, Memory, Num, User};
-use rv_history::{PullAnswer, Turns};
 use rv_room::{Room, SeatTurns, Seats};
 use rv_rows::{Call, Reason};
-use rv_wire::{Cookie, PullRequest};
+use rv_turns::{Asked, Cookie, Outcome, PullRequest, Refusal, Turns};
 use std::alloc::Global;
 use std::sync::Wait;
 use trial_stage::Part::{Number, Text};
@@ -55,29 +54,10 @@ impl Names {
     }
 }
 
-// A mutation with this number.
-fn mutated<R: Wait>(
-    alloc: Global,
-    turns: &mut Player<'_, R>,
-    names: &Names,
-    number: u64,
-) -> Result<String, Memory>
-    ensures { turns.new.room.now ≡ turns.old.room.now }
-{
-    let turn = turns.mutate(
-        &names.user,
-        &names.request.group,
-        &names.client,
-        Num::from_u64(number % 1000),
-        Call::Void(Reason::UnknownName),
-    );
-    Ok(format!(in alloc; "{turn:?}")?)
-}
-
-fn pull_told(alloc: Global, answer: &PullAnswer) -> Result<String, Memory> {
-    match answer {
-        PullAnswer::Pulled(reply) => cookie_told(alloc, &reply.cookie),
-        _ => Ok(format!(in alloc; "{answer:?}")?),
+fn refusal_told(alloc: Global, refusal: &Refusal) -> Result<String, Memory> {
+    match refusal {
+        Refusal::Trouble(trouble) => Ok(format!(in alloc; "{trouble:?}")?),
+        _ => Ok(format!(in alloc; "{refusal:?}")?),
     }
 }
 
@@ -97,29 +77,37 @@ fn cookie_told(alloc: Global, cookie: &Cookie) -> Result<String, Memory> {
     }
 }
 
-fn pulled<R: Wait>(
-    alloc: Global,
-    turns: &mut Player<'_, R>,
-    names: &Names,
-) -> Result<String, Memory>
-    ensures { turns.new.room.now ≡ turns.old.room.now }
-{
-    let answer = turns.pull(&names.user, &names.request);
-    pull_told(alloc, &answer)
+fn outcome_told(alloc: Global, outcome: &Outcome) -> Result<String, Memory> {
+    match outcome {
+        Outcome::Pulled(reply) => cookie_told(alloc, &reply.cookie),
+        Outcome::Refused(refusal) => refusal_told(alloc, refusal),
+        _ => Ok(format!(in alloc; "{outcome:?}")?),
+    }
 }
 
-fn retired<R: Wait>(
-    alloc: Global,
-    turns: &mut Player<'_, R>,
-    names: &Names,
-) -> Result<String, Memory>
-    ensures { turns.new.room.now ≡ turns.old.room.now }
-{
-    let answer = turns.retire(&names.request.group);
-    Ok(format!(in alloc; "{answer:?}")?)
+// What a word asks: the number of a mutation, `p` for a pull, or `r` for a retirement of the group.
+fn asked<'n>(names: &'n Names, word: &str) -> Asked<'n> {
+    if let Some(number) = number_in(word) {
+        return Asked::Mutation {
+            user: &names.user,
+            group: &names.request.group,
+            client: &names.client,
+            id: Num::from_u64(number % 1000),
+            call: Call::Void(Reason::UnknownName),
+        };
+    }
+    if word == "p" {
+        return Asked::Pull {
+            user: &names.user,
+            request: &names.request,
+        };
+    }
+    Asked::Retirement {
+        group: &names.request.group,
+    }
 }
 
-// The turn of a word, without its seat: the number of a mutation, `p` for a pull, or `r` for a retirement of the group.
+// The turn of a word, without its seat.
 fn turned<R: Wait>(
     alloc: Global,
     turns: &mut Player<'_, R>,
@@ -128,13 +116,8 @@ fn turned<R: Wait>(
 ) -> Result<String, Memory>
     ensures { turns.new.room.now ≡ turns.old.room.now }
 {
-    if let Some(number) = number_in(word) {
-        return mutated(alloc, turns, names, number);
-    }
-    if word == "p" {
-        return pulled(alloc, turns, names);
-    }
-    retired(alloc, turns, names)
+    let outcome = turns.take(asked(names, word));
+    outcome_told(alloc, &outcome)
 }
 
 // The turn of a word, which begins with `a` for the first seat, and with `b` for the second.

@@ -1,6 +1,6 @@
 use Rattle.std.proofs.Common.{◌≡◌, ◌++◌, map, take}
 use Rattle.std.specs.List.{filter}
-use Rattle.rv_wire.specs.declared.op.Op.TheVariants.{Put}
+use Rattle.rv_turns.specs.declared.op.Op.TheVariants.{Put}
 use Rattle.rv_history.specs.History.{is_news}
 use Rattle.rv_plain.proofs.history.add_puts.Given as goal
 

@@ -3,7 +3,7 @@ use Rattle.std.specs.List.{AllByRecursion}
 use Rattle.rv_crew.specs.Working.{EachWorked}
 use Rattle.rv_accounts.specs.File.{Served as Accounts}
 use Rattle.rv_room.specs.declared.view.SeatView.{SeatView}
-use Rattle.rv_room.specs.SeatTurns.{SeatMutates, SeatPulls, SeatRetires}
+use Rattle.rv_room.specs.SeatTurns.{IsSeatTurn}
 use Rattle.rv_room.specs.Seats.{opened_of, view_of}
 use Rattle.rv_room.specs.Views.{newcomer}
 use Rattle.rv_serve.specs.Listening.{ServesAll}
@@ -76,7 +76,7 @@ returns-clause-serves g c =
     (λ w w' h j. record {
       told = j.1;
       ended = j.2;
-      serves = subst (λ (x : Accounts × SeatView g.row.K.Denot). ServesAll (SeatMutates g.K.Keeper) (SeatPulls g.K.Keeper) (SeatRetires g.K.Keeper) x.0 g.L.In.Source.state g.L.Out.Sink.state g.L.In.Source.fails_no_more g.L.Out.Sink.fails_no_more (g.L.Listen.tells w'.listener) x.1 (view_of w'.turns.seat) (g.L.Listen.to_come w.listener) (g.L.Listen.to_come w'.listener) (g.L.Listen.came_back w.listener) (g.L.Listen.came_back w'.listener) (g.L.Listen.out w.listener) (g.L.Listen.out w'.listener)) (λ i. (h.1 i, h.2 i)) j.3.all;
+      serves = subst (λ (x : Accounts × SeatView g.row.K.Denot). ServesAll (IsSeatTurn g.K.Keeper) x.0 g.L.In.Source.state g.L.Out.Sink.state g.L.In.Source.fails_no_more g.L.Out.Sink.fails_no_more (g.L.Listen.tells w'.listener) x.1 (view_of w'.turns.seat) (g.L.Listen.to_come w.listener) (g.L.Listen.to_come w'.listener) (g.L.Listen.came_back w.listener) (g.L.Listen.came_back w'.listener) (g.L.Listen.out w.listener) (g.L.Listen.out w'.listener)) (λ i. (h.1 i, h.2 i)) j.3.all;
     })
     hired.items c.run_all.new.jobs c.hire_all.ensures.each worked in
     let views = ap (map view_of) (c.dismiss_all.ensures.seats ∙ ap (turned (λ worker. worker.turns.seat)) whole) ∙ map-turned view_of (λ worker. worker.turns.seat) c.run_all.new.jobs in

@@ -4,7 +4,7 @@ use Rattle.rv_book.specs.Book.{Book, size, with_entry}
 use Rattle.rv_desk.specs.Seated.{Seated}
 use Rattle.rv_history.specs.Served.{Settles}
 use Rattle.rv_room.specs.declared.view.SeatView.{SeatView}
-use Rattle.rv_room.specs.Ends.{Adds}
+use Rattle.rv_history.specs.TurnLaws.{Adds}
 use Rattle.rv_room.specs.Following.{KeeperFollows}
 use Rattle.rv_room.specs.Plays.{Knows}
 use Rattle.rv_room.specs.Rule.{IsOf}

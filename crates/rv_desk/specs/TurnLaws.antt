@@ -1,0 +1,75 @@
+-- A turn is what was settled, and then a step; or what could not be settled.
+use Rattle.std.proofs.Common.{◌≡◌, ℕ, ◌≤◌, Option, Some, None, Ok, Err, refl, ◌∙◌, subst, arith, inl}
+use Rattle.std.specs.Prelude.{IsSome}
+use Rattle.rv_base.specs.Causes.{rose_before}
+use Rattle.rv_book.specs.declared.entry.Entry.{Entry}
+use Rattle.rv_book.specs.Book.{Book, with_entry}
+use Rattle.rv_turns.specs.Asks.{Ask}
+use Rattle.rv_turns.specs.Outcomes.{trouble_of}
+use Rattle.rv_turns.specs.declared.outcome.Outcome.{Outcome}
+use Rattle.rv_turns.specs.declared.outcome.Outcome.TheVariants.{Refused}
+use Rattle.rv_turns.specs.declared.refusal.Refusal.TheVariants as refusals
+use Rattle.rv_turns.specs.declared.refusal.Trouble.{Trouble}
+use Rattle.rv_turns.specs.declared.refusal.Trouble.TheVariants.{Keeper, Changed}
+use Rattle.rv_history.specs.Machine.{ReplyText, Step}
+use Rattle.rv_history.specs.Served.{Served, Settles, TurnOf, TakesTurn}
+use Rattle.rv_desk.specs.Settling.{IsSettled}
+
+-- nothing in doubt settles as the book that it is
+pub none_settles : (book : Book) (doubt : Option Entry) (settled : Book) → doubt ≡ None → Settles book doubt settled → settled ≡ book
+none_settles book None settled none same = same
+none_settles book (Some entry) settled none settling = absurd (cc)
+
+pub settles_same : (book : Book) (doubt : Option Entry) → doubt ≡ None → Settles book doubt book
+settles_same book None none = refl
+settles_same book (Some entry) none = absurd (cc)
+
+no_doubt : {T : Type 0} (doubt : Option Entry) → doubt ≡ None → IsSome doubt → T
+no_doubt None none some = absurd (cc)
+no_doubt (Some entry) none some = absurd (cc)
+
+-- what stays in doubt may be dropped
+pub drops : (book : Book) (doubt : Option Entry) → IsSome doubt → Settles book doubt book
+drops book None some = refl
+drops book (Some entry) some = inl refl
+
+module _ (write : ReplyText) (ask : Ask) (outcome : Outcome) where
+  -- after what was in doubt is settled
+  pub turn_from : (old mid new : Served) (settled : Book) (left : Option Entry) (trouble : Option Trouble) → IsSettled old (Ok tt) mid → Settles mid.book mid.doubt settled → TurnOf write mid settled ask outcome left trouble new → TurnOf write old mid.book ask outcome left trouble new
+  turn_from old mid new settled None None is settling (step, none, still) = (
+    subst (λ (book : Book). Step write old.limit book ask outcome new.book) (none_settles mid.book mid.doubt settled is.settled.1 settling) (subst (λ (limit : ℕ). Step write limit settled ask outcome new.book) is.limit step),
+    none,
+    still ∙ is.settled.2,
+  )
+  turn_from old mid new settled None (Some trouble) is settling (same, stays) = no_doubt mid.doubt is.settled.1 stays.doubt
+  turn_from old mid new settled (Some entry) (Some Keeper) is settling left =
+      let same : settled ≡ mid.book = none_settles mid.book mid.doubt settled is.settled.1 settling in record {
+        outcome = left.outcome;
+        step = subst (λ (book : Book). Step write old.limit book ask left.outcome (with_entry book entry)) same (subst (λ (limit : ℕ). Step write limit settled ask left.outcome (with_entry settled entry)) is.limit left.step);
+        rose = rose_before old.faults mid.faults new.faults is.later left.rose;
+        book = left.book ∙ same;
+        doubt = left.doubt;
+      }
+  turn_from old mid new settled (Some entry) (Some (Changed kept found)) is settling never = absurd never
+  turn_from old mid new settled (Some entry) None is settling never = absurd never
+
+  abbrev pub turn_after : (old mid new : Served) → IsSettled old (Ok tt) mid → TakesTurn write mid ask outcome new → TakesTurn write old ask outcome new
+  turn_after old mid new is taken = record {
+    settled = mid.book;
+    left = taken.left;
+    settles = is.settled.0;
+    turn = turn_from old mid new taken.settled taken.left (trouble_of outcome) is taken.settles taken.turn;
+    later = omega (arith, is.later, taken.later);
+    limit = taken.limit ∙ is.limit;
+  }
+
+-- where it could not be settled
+abbrev pub turn_unsettled : (write : ReplyText) (ask : Ask) (old new : Served) (trouble : Trouble) → IsSettled old (Err trouble) new → TakesTurn write old ask (Refused (refusals.Trouble trouble)) new
+turn_unsettled write ask old new trouble is = record {
+  settled = old.book;
+  left = None;
+  settles = drops old.book old.doubt is.settled.doubt;
+  turn = (refl, is.settled);
+  later = is.later;
+  limit = is.limit;
+}

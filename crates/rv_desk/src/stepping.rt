@@ -1,0 +1,43 @@
+// Turns where nothing is in doubt.
+ghost use Rattle.std.specs.Prelude.{◌≡◌, None};
+ghost use Rattle.rv_turns.specs.Asks.{ask_of};
+ghost use Rattle.rv_desk.specs.Keeping.{keep_trouble};
+ghost use Rattle.rv_desk.specs.Seated.{Assures, DeskTakes, served};
+ghost use Rattle.rv_desk.specs.Stepping.{HasStepped};
+
+use crate::desk::Desk;
+use rv_keeper::{KeepFault, Keeper};
+use rv_turns::{Asked, Outcome, Refusal, Trouble};
+
+impl<K: Keeper> Desk<K> {
+    /// A turn where nothing is in doubt.
+    pub fn take_settled(&mut self, asked: Asked<'_>) -> Outcome
+        requires { self.old.doubt ≡ None }
+        ensures { DeskTakes K.Keeper self.old (ask_of asked.entry) result self.new }
+    {
+        match self.step(asked) {
+            Ok(outcome) => outcome,
+            Err(KeepFault::Failed) => Outcome::Refused(Refusal::Trouble(Trouble::Keeper)),
+            Err(KeepFault::Memory) => Outcome::Refused(Refusal::Memory),
+        }
+    }
+
+    // A step where nothing is in doubt.
+    fn step(&mut self, asked: Asked<'_>) -> Result<Outcome, KeepFault>
+        requires settled { self.old.doubt ≡ None }
+        ensures stepped { HasStepped (served K.faults self.old) (ask_of asked.entry) result (served K.faults self.new) }
+        ensures assured { Assures K.tells K.fails_no_more self.old.keeper (keep_trouble result) self.new.keeper }
+    {
+        match asked {
+            Asked::Mutation {
+                user,
+                group,
+                client,
+                id,
+                call,
+            } => self.run(user, group, client, id, call),
+            Asked::Pull { user, request } => self.answer(user, request),
+            Asked::Retirement { group } => self.end_group(group),
+        }
+    }
+}

@@ -1,0 +1,35 @@
+use rv_answering::Answer;
+use rv_http::Rejection;
+
+/// What a request is answered over HTTP.
+#[derive(Debug, Drop)]
+pub enum HttpAnswer {
+    /// What it asks was answered so.
+    Answered(Answer),
+    /// It was rejected before its body was looked at.
+    Rejected(Rejection),
+}
+
+impl HttpAnswer {
+    ghost use Rattle.std.specs.Prelude.{◌≡◌};
+    ghost use Rattle.rv_serve.specs.Texts.{http_status};
+
+    /// The status of the response.
+    pub fn status(&self) -> u16
+        ensures { result ≡ http_status self.now }
+    {
+        match self {
+            HttpAnswer::Answered(answer) => answer.status(),
+            HttpAnswer::Rejected(rejection) => rejection.status(),
+        }
+    }
+}
+
+/// What a request is answered over HTTP, and whether a mutation was run for it.
+#[derive(Debug, Drop)]
+pub struct HttpAnswered {
+    /// The answer.
+    pub answer: HttpAnswer,
+    /// Whether a mutation was run.
+    pub acted: bool,
+}

@@ -1,0 +1,25 @@
+//! What is asked of a server in one turn, and what comes of it.
+//!
+//! An [`Asked`] is a mutation of a client, a pull of a user or the retirement of a client group. An [`Outcome`] is what comes of
+//! it, which is a [`Refusal`] where it was not done. Whoever takes turns implements [`Turns`]. A push is the turns of its mutations,
+//! one after another ([`push`]). Nothing here knows how any of it is written or read.
+#![tactic(auto)]
+
+mod asked;
+mod mutation;
+mod op;
+mod outcome;
+mod pull;
+mod pushing;
+mod refusal;
+mod turns;
+
+pub use asked::Asked;
+pub use mutation::{Mutation, Mutations};
+pub use op::{Op, Ops};
+pub use outcome::Outcome;
+pub use pull::{PullReply, PullRequest};
+pub use pushing::{PushEnd, push};
+pub use refusal::{Refusal, Trouble, Which};
+pub use rv_views::Cookie;
+pub use turns::Turns;

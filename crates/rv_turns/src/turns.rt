@@ -1,0 +1,15 @@
+use crate::asked::Asked;
+use crate::outcome::Outcome;
+
+/// Who takes turns, one after another: each is taken at the state that the one before it left.
+pub trait Turns {
+    ghost use Rattle.rv_turns.specs.Asks.{Ask, ask_of};
+    ghost use Rattle.rv_turns.specs.declared.outcome.Outcome.{Outcome};
+
+    /// A turn: a state, what is asked, what comes of it, and the next state.
+    ghost takes: { Self → Ask → Outcome → Self → Type 0 };
+
+    /// Takes a turn.
+    fn take(&mut self, asked: Asked<'_>) -> Outcome
+        ensures { takes self.old (ask_of asked.entry) result self.new };
+}
