@@ -4,9 +4,9 @@
 
 use rv_base::{Reading, Writing};
 use rv_cli::run;
-use rv_crew::Threaded;
 use rv_net::TcpNet;
 use rv_place::HostPlace;
+use rv_workers::Threaded;
 use std::alloc::Global;
 use std::process::ExitCode;
 use std::{env, io};

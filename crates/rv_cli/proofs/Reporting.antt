@@ -4,12 +4,15 @@ use Rattle.rv_base.specs.Outside.{OutputState}
 use Rattle.rv_base.specs.declared.memory.Memory.{Memory as Refused}
 use Rattle.rv_keeper.specs.declared.fault.KeepFault.{KeepFault}
 use Rattle.rv_keeper.specs.declared.loaded.Loaded.{Loaded}
+use Rattle.rv_keeper.specs.declared.keeper.Keeper.{Ghosts}
+use Rattle.rv_keeper.specs.declared.place.Place.{Ghosts as PlaceGhosts}
 use Rattle.rv_keeper.specs.Keeping.{HasKeepCause}
-use Rattle.rv_keeper.specs.Stores.{OpensAs, OpensWith}
+use Rattle.rv_keeper.specs.Stores.{OpensWith}
 use Rattle.rv_book.specs.Book.{Book}
 use Rattle.rv_desk.specs.Seated.{Seated, served, HoldsBook}
 use Rattle.rv_cli.specs.declared.ending.Ending.{Ending}
 use Rattle.rv_cli.specs.declared.ending.Ending.TheVariants.{Done, Keeper, Damaged, Read, Write, Memory, Malformed}
+use Rattle.rv_cli.specs.Change.{change}
 use Rattle.rv_cli.specs.Headline.{Reported, TellsSound, WritesReport}
 use Rattle.rv_cli.specs.Reporting.{WritesText, WritesMade, WasSound, ChecksStore, ChecksKept}
 use Rattle.rv_cli.specs.Storing.{HasOpened}
@@ -35,27 +38,27 @@ reports_made Tells (Err refused) old new ending is (e, w) = subst (λ (ending : 
 pub if_ok : {T E : Type 0} (P : T → Type 0) (r : Result T E) (x : T) → IfOk r P → r ≡ Ok x → P x
 if_ok P r x holds is = let Q : Result _ _ → Type 0 = λ r. IfOk r P in subst Q is holds
 
-module _ {P K : Type 0} (tells : P → Type 0) (holds : P → List ℕ → Loaded → Type 0) (is_out : P → List ℕ → Type 0) (faults : P → ℕ) (kept_tells kept_steady : K → Type 0) (kept_holds : K → Loaded → Type 0) (kept_faults : K → ℕ) (store : List ℕ) where
+module _ {P K : Type 0} (place : PlaceGhosts P K) (G : Ghosts K) (store : List ℕ) where
   abbrev Back : P → P → K → Type 0
-  Back mid new keeper = WentBack tells holds is_out faults kept_tells kept_steady kept_holds kept_faults store mid new keeper
+  Back mid new keeper = WentBack place G store mid new keeper
 
   -- the desk was opened and reported of, and its keeper went back
   pub has_reported : (Tells : Book → List ℕ → Type 0) (old mid new : P) (desk : Seated K) (keeper : K) (out out' : OutputState) (ending : Ending)
-      → HasOpened tells holds is_out faults kept_tells kept_faults store old desk mid → keeper ≡ desk.keeper → (kept_tells desk.keeper → HoldsBook (kept_holds desk.keeper) desk.book desk.doubt)
+      → HasOpened place G store old desk mid → keeper ≡ desk.keeper → (G.tells desk.keeper → HoldsBook (G.holds desk.keeper) desk.book desk.doubt)
       → Back mid new keeper → WritesReport (Tells desk.book) out out' ending
-      → Reported (tells new) (OpensAs store (holds old store)) (holds new store) (faults old) (faults new) Tells out out' ending
+      → Reported (change place store old new) Tells out out' ending
   has_reported Tells old mid new desk keeper out out' ending opened is held back w =
       let home = subst (λ (k : K). Back mid new k) is back in
       record {
-        first = served kept_faults desk;
-        begins = begins tells holds is_out faults kept_tells kept_steady kept_holds kept_faults store old mid new desk desk.keeper opened (λ t. t) home;
+        first = served G.faults desk;
+        begins = begins place G store old mid new desk desk.keeper opened (λ t. t) home;
         writes = w;
-        leaves = leaves tells holds is_out faults kept_tells kept_steady kept_holds kept_faults store old mid new (served kept_faults desk) desk.keeper opened.same (record { held = held; later = omega arith }) home;
+        leaves = leaves place G store old mid new (served G.faults desk) desk.keeper opened.same (record { held = held; later = omega arith }) home;
       }
 
   -- the store's keeper was fetched and checked
-  pub store_checked : (kept : K) (old mid new : P) (result : Result ℕ Ending) → (tells mid → is_out mid store × OpensWith store (holds old store) (kept_holds kept)) → kept_faults kept ≡ 0 → faults mid ≡ faults old
-      → ChecksKept tells holds faults kept_tells kept_holds kept_faults store kept mid result new → ChecksStore tells holds faults store old result new
+  pub store_checked : (kept : K) (old mid new : P) (result : Result ℕ Ending) → (place.tells mid → place.is_out mid store × OpensWith store (place.holds old store) (G.holds kept)) → G.faults kept ≡ 0 → place.faults mid ≡ place.faults old
+      → ChecksKept place G store kept mid result new → ChecksStore place store old result new
   store_checked kept old mid new (Ok entries) got none still checked =
       let sound = checked none in
       record {
@@ -68,24 +71,24 @@ module _ {P K : Type 0} (tells : P → Type 0) (holds : P → List ℕ → Loade
         same = sound.same ∙ still;
       }
   store_checked kept old mid new (Err ending) got none still checked =
-      store_opened tells holds is_out faults kept_tells kept_steady kept_holds kept_faults store kept old mid new (Err ending) got none still checked
+      store_opened place G store kept old mid new (Err ending) got none still checked
 
   -- the place gave no keeper, and so nothing was checked
-  pub check_refused : {T : Type 0} (old new : P) (fault : KeepFault) (result : Result ℕ Ending) → HasKeepCause {T = T} (faults old) (faults new) (Err fault) → IsErr result × IsErrAnd result (λ ending. ending ≡ keep_ending fault) → (tells new → (held : Loaded) → holds old store held → holds new store held)
-      → ChecksStore tells holds faults store old result new
+  pub check_refused : {T : Type 0} (old new : P) (fault : KeepFault) (result : Result ℕ Ending) → HasKeepCause {T = T} (place.faults old) (place.faults new) (Err fault) → IsErr result × IsErrAnd result (λ ending. ending ≡ keep_ending fault) → (place.tells new → (held : Loaded) → place.holds old store held → place.holds new store held)
+      → ChecksStore place store old result new
   check_refused old new fault (Ok entries) cause is same = absurd (let is = is.0 in cc)
-  check_refused old new fault (Err ending) cause is same = (not_given (tells new) (OpensAs store (holds old store)) (holds new store) (faults old) (faults new) fault ending cause is.1, λ t. inl (same t))
+  check_refused old new fault (Err ending) cause is same = (not_given (change place store old new) fault ending cause is.1, λ t. inl (same t))
 
   -- a store is found sound only where it was there
-  pub checked_there : (There : Type 0) (kept : K) (mid new : P) (result : Result ℕ Ending) → (tells mid → There) → kept_faults kept ≡ 0 → ChecksKept tells holds faults kept_tells kept_holds kept_faults store kept mid result new → tells new → IsOk result → There
+  pub checked_there : (There : Type 0) (kept : K) (mid new : P) (result : Result ℕ Ending) → (place.tells mid → There) → G.faults kept ≡ 0 → ChecksKept place G store kept mid result new → place.tells new → IsOk result → There
   checked_there There kept mid new (Ok entries) there none checked t ok = there ((checked none).told t)
   checked_there There kept mid new (Err ending) there none checked t ok = absurd (cc)
 
 -- the store was checked, and told to be sound
-pub has_checked : {P : Type 0} (tells : P → Type 0) (holds : P → List ℕ → Loaded → Type 0) (faults : P → ℕ) (store : List ℕ) (old new : P) (entries : ℕ) (out out' : OutputState) (ending : Ending)
-    → WasSound tells holds faults store old new entries → WritesText out out' (codes "ok " ++ (decimal entries ++ codes "\n")) ending
-    → Reported (tells new) (OpensAs store (holds old store)) (holds new store) (faults old) (faults new) TellsSound out out' ending
-has_checked tells holds faults store old new entries out out' ending was w = record {
+pub has_checked : {P K : Type 0} (place : PlaceGhosts P K) (store : List ℕ) (old new : P) (entries : ℕ) (out out' : OutputState) (ending : Ending)
+    → WasSound place store old new entries → WritesText out out' (codes "ok " ++ (decimal entries ++ codes "\n")) ending
+    → Reported (change place store old new) TellsSound out out' ending
+has_checked place store old new entries out out' ending was w = record {
   first = record { book = was.book; limit = 2 ^ 32 - 1; doubt = None; faults = 0 };
   begins = record { loaded = was.loaded; stored = was.stored; opens = was.opens; limit = refl; doubt = refl; faults = refl };
   writes = reports_text (TellsSound was.book) _ out out' ending (ap (λ n. codes "ok " ++ (decimal n ++ codes "\n")) (sym was.length)) w;

@@ -2,7 +2,8 @@
 use Rattle.std.proofs.Common.{◌≡◌, ◌⊎◌, ⊎_elim, ℕ, ◌-◌, ◌^◌, ◌<◌, ◌≤◌, List, [], ◌∷◌, ◌++◌, Option, Some, None, Ok, Err, refl, sym, ap, ◌∙◌, subst, append_assoc, append-nil, arith, inl, inr}
 use Rattle.std.specs.List.{AllByRecursion, flat_map}
 use Rattle.rv_base.specs.Causes.{Rose}
-use Rattle.rv_base.specs.Outside.{InputState, OutputState}
+use Rattle.rv_base.specs.declared.outside.Source.{Ghosts as SourceGhosts}
+use Rattle.rv_base.specs.declared.outside.Sink.{Ghosts as SinkGhosts}
 use Rattle.rv_accounts.specs.File.{Served as AccountsServed}
 use Rattle.rv_book.specs.Book.{Book}
 use Rattle.rv_history.specs.TurnLaws.{step_of, turn_goes}
@@ -15,7 +16,7 @@ use Rattle.rv_answering.specs.declared.answer.Answer.TheVariants.{Pulled, Pushed
 use Rattle.rv_answering.specs.declared.request.Request.TheVariants.{Push, Pull, Retire}
 use Rattle.rv_answering.specs.Requests.{Parsed}
 use Rattle.rv_answering.specs.Steps.{Handles}
-use Rattle.rv_net.specs.declared.conn.Conn.{Conn}
+use Rattle.rv_net.specs.declared.listen.Listen.{Ghosts as ListenGhosts}
 use Rattle.rv_room.specs.declared.view.SeatView.{SeatView}
 use Rattle.rv_room.specs.Following.{FollowsAll, KeeperFollows}
 use Rattle.rv_room.specs.Lists.{StartsWith}
@@ -189,13 +190,12 @@ module _ {K : Type 0} (G : Ghosts K) where
 
 -- ---- All that is served.
 
-module _ {K L I O : Type 0} (G : Ghosts K) (accounts : AccountsServed) (input : I → InputState) (output : O → OutputState) (input_steady : I → Type 0) (output_steady : O → Type 0)
-    (tells : L → Type 0) (to_come came_back : L → List (Conn I O)) (out ends : L → ℕ) where
+module _ {K L I O : Type 0} (G : Ghosts K) (listen : ListenGhosts L I O) (source : SourceGhosts I) (sink : SinkGhosts O) (accounts : AccountsServed) where
   abbrev Is : SeatView K → L → SeatView K → L → Type 0
-  Is = Serves G accounts input output input_steady output_steady tells to_come came_back out ends
+  Is = Serves G listen source sink accounts
 
   abbrev turns_in : (first : SeatView K) (givens : List L) (lasts : List (SeatView K)) (backs : List L) → EachServes Is first givens lasts backs → List (Parsed × Answer)
-  turns_in = turns_served G accounts input output input_steady output_steady tells to_come came_back out ends
+  turns_in = turns_served G listen source sink accounts
 
   -- what holds of each turn of a seat whose last view is known to be good
   served_each : (Good : SeatView K → Type 0) (Holds : Parsed × Answer → Type 0)
@@ -203,7 +203,7 @@ module _ {K L I O : Type 0} (G : Ghosts K) (accounts : AccountsServed) (input : 
       → ((last old new : SeatView K) (turn : Parsed × Answer) → Good last → last.opened ≡ first.opened → Handles (IsSeatTurn G) old turn.0 turn.1 new → SeatGoes new last → Holds turn)
       → (givens : List L) (lasts : List (SeatView K)) (backs : List L) (each : EachServes Is first givens lasts backs) → AllByRecursion Good lasts → AllByRecursion Holds (turns_in first givens lasts backs each)
   served_each Good Holds first holds (given ∷ givens) (last ∷ lasts) (back ∷ backs) (is, each) (good, goods) =
-      let run = conns_run (IsSeatTurn G) input output input_steady output_steady accounts first last is.serves.conns is.serves.serves in
+      let run = conns_run (IsSeatTurn G) source sink accounts first last is.serves.conns is.serves.serves in
       all_both Holds (turns_of accounts (flat_map (λ conn. conn.answers) is.serves.conns)) (turns_in first givens lasts backs each)
       (seat_each G Holds last (λ old new turn step goes. holds last old new turn good (seat_later G first last (turns_of accounts (flat_map (λ conn. conn.answers) is.serves.conns)) run).opened step goes) first (turns_of accounts (flat_map (λ conn. conn.answers) is.serves.conns)) run)
       (served_each Good Holds first holds givens lasts backs each goods)
@@ -211,7 +211,7 @@ module _ {K L I O : Type 0} (G : Ghosts K) (accounts : AccountsServed) (input : 
   served_each Good Holds first holds (given ∷ givens) [] backs each goods = tt
   served_each Good Holds first holds (given ∷ givens) (last ∷ lasts) [] each goods = tt
 
-  pub turns_stand : TurnsStand G accounts input output input_steady output_steady tells to_come came_back out ends
+  pub turns_stand : TurnsStand G listen source sink accounts
   turns_stand opened now givens backs together =
       served_each (λ v. StartsWith now.book v.seen) (StandsIn G now.book) (newcomer 1 opened)
       (λ last old new turn within room step goes. record {
@@ -223,13 +223,13 @@ module _ {K L I O : Type 0} (G : Ghosts K) (accounts : AccountsServed) (input : 
       })
       givens together.views backs together.serves together.closes.seen
 
-  pub pulls_are_shown : PullsShow pull_json → ServedPullsAreShown G accounts input output input_steady output_steady tells to_come came_back out ends
+  pub pulls_are_shown : PullsShow pull_json → ServedPullsAreShown G listen source sink accounts
   pulls_are_shown show opened now givens backs together =
       served_each (λ v. StartsWith now.book v.seen) (ShowsIn now.book) (newcomer 1 opened)
       (λ last old new turn within room step goes. shows_in G show now.book old new turn.0 turn.1 (starts_on now.book last.seen new.seen within goes.seen) step)
       givens together.views backs together.serves together.closes.seen
 
-  pub troubles_have_causes : ServedTroublesHaveCauses G accounts input output input_steady output_steady tells to_come came_back out ends
+  pub troubles_have_causes : ServedTroublesHaveCauses G listen source sink accounts
   troubles_have_causes opened now givens backs together =
       served_each (λ v. FollowsAll G v.after now.keeper) (λ turn. ((G.faults now.keeper ≡ G.faults opened.keeper) × (G.faults opened.keeper < 2 ^ 64 - 1)) ⊎ G.fails_no_more opened.keeper → TellsTrouble (Some turn.1) → ⊥) (newcomer 1 opened)
       (λ last old new turn follows room step goes calm told.
@@ -241,7 +241,7 @@ module _ {K L I O : Type 0} (G : Ghosts K) (accounts : AccountsServed) (input : 
       calm))
       givens together.views backs together.serves together.closes.after
 
-  pub keepers_stay : ServedKeepersStay G accounts input output input_steady output_steady tells to_come came_back out ends
+  pub keepers_stay : ServedKeepersStay G listen source sink accounts
   keepers_stay opened now givens backs together =
       served_each (λ v. FollowsAll G v.after now.keeper) (λ turn. G.tells now.keeper → TellsChange (Some turn.1) → ⊥) (newcomer 1 opened)
       (λ last old new turn follows room step goes told changed.
@@ -249,7 +249,7 @@ module _ {K L I O : Type 0} (G : Ghosts K) (accounts : AccountsServed) (input : 
       (seat_changes G old new turn.0 turn.1 step).1 changed now.keeper before told)
       givens together.views backs together.serves together.closes.after
 
-  pub books_are_lawful : IdsCountUp → OrdersRise → ServedBooksAreLawful G accounts input output input_steady output_steady tells to_come came_back out ends
+  pub books_are_lawful : IdsCountUp → OrdersRise → ServedBooksAreLawful G listen source sink accounts
   books_are_lawful ids orders opened now givens backs together sound = record {
     sound = sound;
     more = λ told. together.closes.begun;

@@ -7,6 +7,7 @@ use Rattle.rv_history.specs.Served.{IsSound}
 use Rattle.rv_net.specs.declared.net_fault.NetFault.{NetFault}
 use Rattle.rv_keeper.specs.declared.keeper.Keeper.{Ghosts}
 use Rattle.rv_keeper.specs.declared.loaded.Loaded.{Loaded}
+use Rattle.rv_keeper.specs.declared.place.Place.{Ghosts as PlaceGhosts}
 use Rattle.rv_keeper.specs.Stores.{OpensAs}
 use Rattle.rv_desk.specs.Seated.{Seated, HoldsBook, served}
 use Rattle.rv_book.specs.Book.{Book, size}
@@ -19,6 +20,7 @@ use Rattle.rv_cli.specs.declared.ending.Ending.{Ending}
 use Rattle.rv_cli.specs.declared.serve_ending.ServeEnding.{ServeEnding}
 use Rattle.rv_cli.specs.declared.serve_ending.ServeEnding.TheVariants.{Done, BadAccounts, TwiceAccounts, NotOpened, Net, Memory, Write}
 use Rattle.rv_cli.specs.Texts.{serve_status, serve_text, status_of}
+use Rattle.rv_cli.specs.Change.{StoreChange, change}
 use Rattle.rv_cli.specs.Headline.{Begins, IsLeftAs, IsNotOpened, Leaves, WritesOnly, KeptSound}
 use Rattle.rv_cli.specs.Serving.{FileSays, HasNoAccounts, HasNoNet, HasNoStore, HasRefused, HasServed, IsNoNet, NetServes, RunsServe, TellsEntries}
 use Rattle.rv_cli.specs.ServingSteps.{AccountsRead, NetServed, TellsCount, TellsServed, count_text}
@@ -34,16 +36,16 @@ opens_as name Stored Also also held (inl memory) = inl memory
 opens_as name Stored Also also held (inr (other, was)) = inr (other, also held was)
 
 -- a store that did not open, said of what it held before
-not_opened_before : (Told : Type 0) (Stored Also Holds : Loaded → Type 0) (before mid after : ℕ) (ending : Ending)
-    → (Told → (held : Loaded) → Stored held → Also held) → mid ≡ before → IsNotOpened Told Also Holds mid after ending → IsNotOpened Told Stored Holds before after ending
-not_opened_before Told Stored Also Holds before mid after endings.Keeper also same rose = subst (λ (n : ℕ). Rose n after) same rose
-not_opened_before Told Stored Also Holds before mid after (endings.Damaged shelf key) also same (loaded, stored, damaged, left, still) =
-    (loaded, λ t held was. stored t held (also t held was), damaged, λ t held was. left t held (also t held was), still ∙ same)
-not_opened_before Told Stored Also Holds before mid after endings.Memory also same free = tt
-not_opened_before Told Stored Also Holds before mid after endings.Done also same never = never
-not_opened_before Told Stored Also Holds before mid after endings.Read also same never = never
-not_opened_before Told Stored Also Holds before mid after endings.Write also same never = never
-not_opened_before Told Stored Also Holds before mid after (endings.Malformed number) also same never = never
+not_opened_before : (c d : StoreChange) (ending : Ending) → (d.told → c.told) → (d.told → (held : Loaded) → d.opens held → c.opens held) → (d.told → (held : Loaded) → c.holds held → d.holds held)
+    → c.before ≡ d.before → d.after ≡ c.after → IsNotOpened c ending → IsNotOpened d ending
+not_opened_before c d endings.Keeper told also holds same after rose = omega (arith, rose, same, after)
+not_opened_before c d (endings.Damaged shelf key) told also holds same after (loaded, stored, damaged, left, still) =
+    (loaded, λ t held was. stored (told t) held (also t held was), damaged, λ t held was. holds t held (left (told t) held (also t held was)), after ∙ still ∙ same)
+not_opened_before c d endings.Memory told also holds same after free = tt
+not_opened_before c d endings.Done told also holds same after never = never
+not_opened_before c d endings.Read told also holds same after never = never
+not_opened_before c d endings.Write told also holds same after never = never
+not_opened_before c d (endings.Malformed number) told also holds same after never = never
 
 -- the count that is told is that of the book
 pub tells_entries : (book : Book) (entries : ℕ) (old new : OutputState) (ending : ServeEnding) → entries ≡ size book → TellsCount (count_text entries) old new ending → TellsEntries book old new ending
@@ -55,69 +57,68 @@ tells_entries book entries old new (NotOpened ending) is never = never
 tells_entries book entries old new Net is never = never
 tells_entries book entries old new Memory is never = never
 
-module _ {P K : Type 0} (tells : P → Type 0) (holds : P → List ℕ → Loaded → Type 0) (is_out : P → List ℕ → Type 0) (accounts : P → List ℕ → List ℕ → Type 0) (faults : P → ℕ) (G : Ghosts K) (store name : List ℕ) where
+module _ {P K : Type 0} (place : PlaceGhosts P K) (G : Ghosts K) (store name : List ℕ) where
   abbrev Read : P → Result AccountsServed ServeEnding → P → Type 0
-  Read old result mid = AccountsRead tells holds accounts faults name old result mid
+  Read old result mid = AccountsRead place name old result mid
 
   -- the file was read before the place told what it tells later
-  says_later : (Now : Type 0) (old mid : P) (said : Result AccountsServed _) → (Now → tells mid) → FileSays (tells mid) (accounts old name) said → FileSays Now (accounts old name) said
+  says_later : (Now : Type 0) (old mid : P) (said : Result AccountsServed _) → (Now → place.tells mid) → FileSays (place.tells mid) (place.accounts old name) said → FileSays Now (place.accounts old name) said
   says_later Now old mid said before says = record { bytes = says.bytes; read = λ t. says.read (before t); says = says.says }
 
   -- there are no accounts
   pub has_refused : (old new : P) (ending : ServeEnding) (out out' : OutputState) → Read old (Err ending) new → WritesOnly out out' (serve_text ending)
-      → HasRefused G (tells new) (accounts old name) (holds old store) (OpensAs store (holds old store)) (holds new store) (faults old) (faults new) out out' ending
+      → HasRefused G (change place store old new) (place.accounts old name) out out' ending
   has_refused old new ending out out' read text = record { why = read.tells_so; stays = λ t held was. read.stays t store held was; text = text }
 
   -- the store did not open
-  pub has_no_store : (old mid new : P) (said : AccountsServed) (other : Ending) (out out' : OutputState) → Read old (Ok said) mid → (tells new → tells mid)
-      → IsNotOpened (tells new) (OpensAs store (holds mid store)) (holds new store) (faults mid) (faults new) other × IsLeftAs (tells new) (holds mid store) (OpensAs store (holds mid store)) (holds new store)
+  pub has_no_store : (old mid new : P) (said : AccountsServed) (other : Ending) (out out' : OutputState) → Read old (Ok said) mid → (place.tells new → place.tells mid)
+      → IsNotOpened (change place store mid new) other × IsLeftAs (change place store mid new)
       → WritesOnly out out' (serve_text (NotOpened other))
-      → HasNoStore G (tells new) (accounts old name) (holds old store) (OpensAs store (holds old store)) (holds new store) (faults old) (faults new) out out' (NotOpened other)
+      → HasNoStore G (change place store old new) (place.accounts old name) out out' (NotOpened other)
   has_no_store old mid new said other out out' read before (why, left) text = record {
     other = other;
     is = refl;
     accounts = said;
-    says = says_later (tells new) old mid (Ok said) before read.tells_so.0;
-    why = not_opened_before (tells new) (OpensAs store (holds old store)) (OpensAs store (holds mid store)) (holds new store) (faults old) (faults mid) (faults new) other
-        (λ t. opens_as store (holds old store) (holds mid store) (λ held was. read.stays (before t) store held was)) read.tells_so.1 why;
+    says = says_later (place.tells new) old mid (Ok said) before read.tells_so.0;
+    why = not_opened_before (change place store mid new) (change place store old new) other (λ t. t) (λ t. opens_as store (place.holds old store) (place.holds mid store) (λ held was. read.stays (before t) store held was)) (λ t held was. was) read.tells_so.1 refl why;
     left = λ t. ⊎_elim (λ same. inl (λ held was. same held (read.stays (before t) store held was)))
-        (λ same. inr (λ held was. same held (opens_as store (holds old store) (holds mid store) (λ h w. read.stays (before t) store h w) held was))) (left t);
+        (λ same. inr (λ held was. same held (opens_as store (place.holds old store) (place.holds mid store) (λ h w. read.stays (before t) store h w) held was))) (left t);
     text = text;
   }
 
   -- the store was opened, its desk came from the first to the last, and its keeper went back
   module _ (old mid opened new : P) (said : AccountsServed) (first last : Seated K) (keeper : K) (read : Read old (Ok said) mid)
-      (opens : HasOpened tells holds is_out faults G.tells G.faults store mid first opened) (before : tells opened → tells mid) (is : keeper ≡ last.keeper)
+      (opens : HasOpened place G store mid first opened) (before : place.tells opened → place.tells mid) (is : keeper ≡ last.keeper)
       (held : G.tells last.keeper → HoldsBook (G.holds last.keeper) last.book last.doubt) (kept_before : G.tells last.keeper → G.tells first.keeper)
-      (back : WentBack tells holds is_out faults G.tells G.fails_no_more G.holds G.faults store opened new keeper) where
-    home : WentBack tells holds is_out faults G.tells G.fails_no_more G.holds G.faults store opened new last.keeper
-    home = subst (λ (k : K). WentBack tells holds is_out faults G.tells G.fails_no_more G.holds G.faults store opened new k) is back
+      (back : WentBack place G store opened new keeper) where
+    home : WentBack place G store opened new last.keeper
+    home = subst (λ (k : K). WentBack place G store opened new k) is back
 
-    told : tells new → tells mid
+    told : place.tells new → place.tells mid
     told t = before (home.told t).0
 
-    pub serve_begins : Begins (tells new) (OpensAs store (holds old store)) (served G.faults first)
+    pub serve_begins : Begins (change place store old new) (served G.faults first)
     serve_begins =
-        let from = begins tells holds is_out faults G.tells G.fails_no_more G.holds G.faults store mid opened new first last.keeper opens kept_before home in
+        let from = begins place G store mid opened new first last.keeper opens kept_before home in
         record {
           loaded = from.loaded;
-          stored = λ t held was. from.stored t held (opens_as store (holds old store) (holds mid store) (λ h w. read.stays (told t) store h w) held was);
+          stored = λ t held was. from.stored t held (opens_as store (place.holds old store) (place.holds mid store) (λ h w. read.stays (told t) store h w) held was);
           opens = from.opens;
           limit = from.limit;
           doubt = from.doubt;
           faults = from.faults;
         }
 
-    pub serve_leaves : Leaves (tells new) (holds new store) (faults old) (faults new) (served G.faults last)
-    serve_leaves = leaves tells holds is_out faults G.tells G.fails_no_more G.holds G.faults store old opened new (served G.faults last) last.keeper
+    pub serve_leaves : Leaves (change place store old new) (served G.faults last)
+    serve_leaves = leaves place G store old opened new (served G.faults last) last.keeper
         (opens.same ∙ read.tells_so.1) (record { held = held; later = omega arith }) home
 
-    pub serve_says : FileSays (tells new) (accounts old name) (Ok said)
-    serve_says = says_later (tells new) old mid (Ok said) told read.tells_so.0
+    pub serve_says : FileSays (place.tells new) (place.accounts old name) (Ok said)
+    serve_says = says_later (place.tells new) old mid (Ok said) told read.tells_so.0
 
     pub has_served : (Serves : AccountsServed → Seated K → Seated K → Type 0) (entries : ℕ) (out out' : OutputState) (ending : ServeEnding) → Serves said first last
         → IsSound (served G.faults last) → entries ≡ size last.book → TellsCount (count_text entries) out out' ending
-        → HasServed G (tells new) (accounts old name) (holds old store) (OpensAs store (holds old store)) (holds new store) (faults old) (faults new) Serves out out' ending
+        → HasServed G (change place store old new) (place.accounts old name) Serves out out' ending
     has_served Serves entries out out' ending serves sound count text = record {
       accounts = said;
       says = serve_says;
@@ -132,14 +133,14 @@ module _ {P K : Type 0} (tells : P → Type 0) (holds : P → List ℕ → Loade
     }
 
     pub has_no_net : (net net' : ℕ) (out out' : OutputState) (ending : ServeEnding) → last ≡ first → IsNoNet net net' ending → WritesOnly out out' (serve_text ending)
-        → HasNoNet G (tells new) (accounts old name) (holds old store) (OpensAs store (holds old store)) (holds new store) (faults old) (faults new) net net' out out' ending
+        → HasNoNet G (change place store old new) (place.accounts old name) net net' out out' ending
     has_no_net net net' out out' ending same why text = record {
       accounts = said;
       says = serve_says;
       first = served G.faults first;
       begins = serve_begins;
       why = why;
-      leaves = subst (λ (desk : Seated K). Leaves (tells new) (holds new store) (faults old) (faults new) (served G.faults desk)) same serve_leaves;
+      leaves = subst (λ (desk : Seated K). Leaves (change place store old new) (served G.faults desk)) same serve_leaves;
       text = text;
     }
 
@@ -164,18 +165,18 @@ net_before Told kept_tells tells Serves workers to_give left came_back back befo
 net_before Told kept_tells tells Serves workers to_give left came_back back before after old new (Err nets.Failed) (same, rose) = λ t. subst (λ (desk : Seated _). kept_tells desk.keeper) same t
 net_before Told kept_tells tells Serves workers to_give left came_back back before after old new (Err nets.Memory) same = λ t. subst (λ (desk : Seated _). kept_tells desk.keeper) same t
 
-module _ {P K : Type 0} (tells : P → Type 0) (holds : P → List ℕ → Loaded → Type 0) (is_out : P → List ℕ → Type 0) (accounts : P → List ℕ → List ℕ → Type 0) (faults : P → ℕ) (G : Ghosts K) (store name : List ℕ) where
+module _ {P K : Type 0} (place : PlaceGhosts P K) (G : Ghosts K) (store name : List ℕ) where
   -- the store was opened, the net was served or not, and what is told of it
-  pub serve_ended : (old mid opened new : P) (said : AccountsServed) (first last : Seated K) (keeper : K) → AccountsRead tells holds accounts faults name old (Ok said) mid
-      → HasOpened tells holds is_out faults G.tells G.faults store mid first opened → (tells opened → tells mid) → keeper ≡ last.keeper
+  pub serve_ended : (old mid opened new : P) (said : AccountsServed) (first last : Seated K) (keeper : K) → AccountsRead place name old (Ok said) mid
+      → HasOpened place G store mid first opened → (place.tells opened → place.tells mid) → keeper ≡ last.keeper
       → (G.tells last.keeper → HoldsBook (G.holds last.keeper) last.book last.doubt) → IsSound (served G.faults last)
-      → WentBack tells holds is_out faults G.tells G.fails_no_more G.holds G.faults store opened new keeper
+      → WentBack place G store opened new keeper
       → {L : Type 0} (Told : Type 0) (listener_tells : L → Type 0) (Serves : AccountsServed → Seated K → Seated K → List L → List L → Type 0) (workers : ℕ) (to_give left came_back back : List L) (net net' : ℕ)
       (result : Result (Unit {0}) NetFault) (entries : ℕ) (out out' : OutputState) (ending : ServeEnding)
       → NetServed Told G.tells listener_tells (Serves said first last) workers to_give left came_back back net net' first last result
       → entries ≡ size last.book → TellsServed result entries out out' ending
-      → HasNoNet G (tells new) (accounts old name) (holds old store) (OpensAs store (holds old store)) (holds new store) (faults old) (faults new) net net' out out' ending
-      ⊎ HasServed G (tells new) (accounts old name) (holds old store) (OpensAs store (holds old store)) (holds new store) (faults old) (faults new)
+      → HasNoNet G (change place store old new) (place.accounts old name) net net' out out' ending
+      ⊎ HasServed G (change place store old new) (place.accounts old name)
       (λ a f n. NetServes Told listener_tells (Serves a f n) workers to_give left came_back back) out out' ending
   serve_ended old mid opened new said first last keeper read opens before is held sound home Told listener_tells Serves workers to_give left came_back back net net' result entries out out' ending net_served count told =
       by_result result net_served told
@@ -184,18 +185,18 @@ module _ {P K : Type 0} (tells : P → Type 0) (holds : P → List ℕ → Loade
       kept = net_before Told G.tells listener_tells (Serves said first last) workers to_give left came_back back net net' first last result net_served
 
       no_net : (other : ServeEnding) → last ≡ first → IsNoNet net net' other → WritesOnly out out' (serve_text other)
-          → HasNoNet G (tells new) (accounts old name) (holds old store) (OpensAs store (holds old store)) (holds new store) (faults old) (faults new) net net' out out' other
-      no_net other same why text = has_no_net tells holds is_out accounts faults G store name old mid opened new said first last keeper read opens before is held kept home net net' out out' other same why text
+          → HasNoNet G (change place store old new) (place.accounts old name) net net' out out' other
+      no_net other same why text = has_no_net place G store name old mid opened new said first last keeper read opens before is held kept home net net' out out' other same why text
 
       by_result : (r : Result (Unit {0}) NetFault) → NetServed Told G.tells listener_tells (Serves said first last) workers to_give left came_back back net net' first last r
           → TellsServed r entries out out' ending
-          → HasNoNet G (tells new) (accounts old name) (holds old store) (OpensAs store (holds old store)) (holds new store) (faults old) (faults new) net net' out out' ending
-          ⊎ HasServed G (tells new) (accounts old name) (holds old store) (OpensAs store (holds old store)) (holds new store) (faults old) (faults new)
+          → HasNoNet G (change place store old new) (place.accounts old name) net net' out out' ending
+          ⊎ HasServed G (change place store old new) (place.accounts old name)
           (λ a f n. NetServes Told listener_tells (Serves a f n) workers to_give left came_back back) out out' ending
-      by_result (Ok done) (serves, on, same) tells_so = inr (has_served tells holds is_out accounts faults G store name old mid opened new said first last keeper read opens before is held kept home
+      by_result (Ok done) (serves, on, same) tells_so = inr (has_served place G store name old mid opened new said first last keeper read opens before is held kept home
           (λ a f n. NetServes Told listener_tells (Serves a f n) workers to_give left came_back back) entries out out' ending serves sound count tells_so)
-      by_result (Err nets.Failed) (same, rose) (ends, text) = inl (subst (λ (e : ServeEnding). HasNoNet G (tells new) (accounts old name) (holds old store) (OpensAs store (holds old store)) (holds new store) (faults old) (faults new) net net' out out' e) (sym ends) (no_net Net same rose text))
-      by_result (Err nets.Memory) same (ends, text) = inl (subst (λ (e : ServeEnding). HasNoNet G (tells new) (accounts old name) (holds old store) (OpensAs store (holds old store)) (holds new store) (faults old) (faults new) net net' out out' e) (sym ends) (no_net Memory same tt text))
+      by_result (Err nets.Failed) (same, rose) (ends, text) = inl (subst (λ (e : ServeEnding). HasNoNet G (change place store old new) (place.accounts old name) net net' out out' e) (sym ends) (no_net Net same rose text))
+      by_result (Err nets.Memory) same (ends, text) = inl (subst (λ (e : ServeEnding). HasNoNet G (change place store old new) (place.accounts old name) net net' out out' e) (sym ends) (no_net Memory same tt text))
 
 -- at other statuses than 0 and 7 the net did not serve
 pub unserved_by : (Unserves : Type 0) (result : Result (Unit {0}) NetFault) (entries : ℕ) (out out' : OutputState) (ending : ServeEnding) (status : ℕ)
@@ -244,15 +245,15 @@ served_undamaged book old new (NotOpened ending) never is = never
 served_undamaged book old new Net never is = never
 served_undamaged book old new Memory never is = never
 
-pub serve_sound : {K : Type 0} (G : Ghosts K) (Told : Type 0) (HasFile : List ℕ → Type 0) (Was Stored Holds : Loaded → Type 0) (before after : ℕ) (Serves : AccountsServed → Seated K → Seated K → Type 0) (net net' : ℕ) (out out' : OutputState) (status : ℕ)
-    → Told → KeptSound Stored → RunsServe G Told HasFile Was Stored Holds before after Serves net net' out out' status → status ≢ 5
-serve_sound G Told HasFile Was Stored Holds before after Serves net net' out out' status told kept (ending, is, inl refused) five =
-    accounts_undamaged Told HasFile before after ending refused.why (sym is ∙ five)
-serve_sound G Told HasFile Was Stored Holds before after Serves net net' out out' status told kept (ending, is, inr (inl none)) five =
-    refused_sound Told Stored Holds before after told kept none.other status none.why (is ∙ ap serve_status none.is) five
-serve_sound G Told HasFile Was Stored Holds before after Serves net net' out out' status told kept (ending, is, inr (inr (inl none))) five =
+pub serve_sound : {K : Type 0} (G : Ghosts K) (c : StoreChange) (HasFile : List ℕ → Type 0) (Serves : AccountsServed → Seated K → Seated K → Type 0) (net net' : ℕ) (out out' : OutputState) (status : ℕ)
+    → c.told → KeptSound c.opens → RunsServe G c HasFile Serves net net' out out' status → status ≢ 5
+serve_sound G c HasFile Serves net net' out out' status told kept (ending, is, inl refused) five =
+    accounts_undamaged c.told HasFile c.before c.after ending refused.why (sym is ∙ five)
+serve_sound G c HasFile Serves net net' out out' status told kept (ending, is, inr (inl none)) five =
+    refused_sound c told kept none.other status none.why (is ∙ ap serve_status none.is) five
+serve_sound G c HasFile Serves net net' out out' status told kept (ending, is, inr (inr (inl none))) five =
     net_undamaged net net' ending none.why (sym is ∙ five)
-serve_sound G Told HasFile Was Stored Holds before after Serves net net' out out' status told kept (ending, is, inr (inr (inr served))) five =
+serve_sound G c HasFile Serves net net' out out' status told kept (ending, is, inr (inr (inr served))) five =
     served_undamaged served.now.book out out' ending served.entries (sym is ∙ five)
 
 -- ---- What a run of `serve` tells by its status.
@@ -272,9 +273,9 @@ only_told : (out out' : OutputState) (text : List ℕ) (status : ℕ) → Writes
 only_told out out' text status (own, appended, inl (same, still)) some = inr (inl still)
 only_told out out' text status (own, appended, inr (front, rose)) some = inr (inr (some, rose))
 
-module _ (before after net net' : ℕ) (out out' : OutputState) (status : ℕ) where
+module _ (c : StoreChange) (net net' : ℕ) (out out' : OutputState) (status : ℕ) where
   abbrev Facts : Type 0
-  Facts = ServeFacts before after net net' out out' status
+  Facts = ServeFacts c.before c.after net net' out out' status
 
   -- a status that tells neither a trouble of the place, nor of the net, nor of the output
   plain_facts : (k : ℕ) → status ≡ k → k ≢ 4 → k ≢ 7 → k ≢ 9 → IsServeStatus status
@@ -287,7 +288,7 @@ module _ (before after net net' : ℕ) (out out' : OutputState) (status : ℕ) w
     complete = among;
   }
 
-  keeper_facts : status ≡ 4 → Rose before after → (text : List ℕ) → WritesOnly out out' text → Facts
+  keeper_facts : status ≡ 4 → Rose c.before c.after → (text : List ℕ) → WritesOnly out out' text → Facts
   keeper_facts is rose text only = record {
     keeper = λ e. rose;
     net_rose = λ e. absurd (omega (arith, is, e));
@@ -326,29 +327,29 @@ module _ (before after net net' : ℕ) (out out' : OutputState) (status : ℕ) w
   done_facts : status ≡ 0 → out'.faults ≡ out.faults → Facts
   done_facts is still = plain_facts 0 is (λ e. omega (arith, e)) (λ e. omega (arith, e)) (λ e. omega (arith, e)) (inl is) (inr (inl still))
 
-  refused_facts : (Told : Type 0) (HasFile : List ℕ → Type 0) (ending : ServeEnding) → status ≡ serve_status ending → HasNoAccounts Told HasFile before after ending → WritesOnly out out' (serve_text ending) → Facts
-  refused_facts Told HasFile (BadAccounts number) is why only = accounts_facts is (serve_text (BadAccounts number)) only
-  refused_facts Told HasFile (TwiceAccounts number) is why only = accounts_facts is (serve_text (TwiceAccounts number)) only
-  refused_facts Told HasFile (NotOpened endings.Keeper) is why only = keeper_facts is why (serve_text (NotOpened endings.Keeper)) only
-  refused_facts Told HasFile (NotOpened endings.Memory) is why only = memory_facts is (serve_text (NotOpened endings.Memory)) only
-  refused_facts Told HasFile (NotOpened endings.Done) is never only = absurd never
-  refused_facts Told HasFile (NotOpened (endings.Damaged shelf key)) is never only = absurd never
-  refused_facts Told HasFile (NotOpened endings.Read) is never only = absurd never
-  refused_facts Told HasFile (NotOpened endings.Write) is never only = absurd never
-  refused_facts Told HasFile (NotOpened (endings.Malformed number)) is never only = absurd never
-  refused_facts Told HasFile Done is never only = absurd never
-  refused_facts Told HasFile Net is never only = absurd never
-  refused_facts Told HasFile Memory is never only = absurd never
-  refused_facts Told HasFile Write is never only = absurd never
+  refused_facts : (HasFile : List ℕ → Type 0) (ending : ServeEnding) → status ≡ serve_status ending → HasNoAccounts c.told HasFile c.before c.after ending → WritesOnly out out' (serve_text ending) → Facts
+  refused_facts HasFile (BadAccounts number) is why only = accounts_facts is (serve_text (BadAccounts number)) only
+  refused_facts HasFile (TwiceAccounts number) is why only = accounts_facts is (serve_text (TwiceAccounts number)) only
+  refused_facts HasFile (NotOpened endings.Keeper) is why only = keeper_facts is why (serve_text (NotOpened endings.Keeper)) only
+  refused_facts HasFile (NotOpened endings.Memory) is why only = memory_facts is (serve_text (NotOpened endings.Memory)) only
+  refused_facts HasFile (NotOpened endings.Done) is never only = absurd never
+  refused_facts HasFile (NotOpened (endings.Damaged shelf key)) is never only = absurd never
+  refused_facts HasFile (NotOpened endings.Read) is never only = absurd never
+  refused_facts HasFile (NotOpened endings.Write) is never only = absurd never
+  refused_facts HasFile (NotOpened (endings.Malformed number)) is never only = absurd never
+  refused_facts HasFile Done is never only = absurd never
+  refused_facts HasFile Net is never only = absurd never
+  refused_facts HasFile Memory is never only = absurd never
+  refused_facts HasFile Write is never only = absurd never
 
-  store_facts : (Told : Type 0) (Stored Holds : Loaded → Type 0) (other : Ending) → status ≡ status_of other → IsNotOpened Told Stored Holds before after other → (text : List ℕ) → WritesOnly out out' text → Facts
-  store_facts Told Stored Holds endings.Keeper is why text only = keeper_facts is why text only
-  store_facts Told Stored Holds (endings.Damaged shelf key) is why text only = damage_facts is text only
-  store_facts Told Stored Holds endings.Memory is why text only = memory_facts is text only
-  store_facts Told Stored Holds endings.Done is never text only = absurd never
-  store_facts Told Stored Holds endings.Read is never text only = absurd never
-  store_facts Told Stored Holds endings.Write is never text only = absurd never
-  store_facts Told Stored Holds (endings.Malformed number) is never text only = absurd never
+  store_facts : (other : Ending) → status ≡ status_of other → IsNotOpened c other → (text : List ℕ) → WritesOnly out out' text → Facts
+  store_facts endings.Keeper is why text only = keeper_facts is why text only
+  store_facts (endings.Damaged shelf key) is why text only = damage_facts is text only
+  store_facts endings.Memory is why text only = memory_facts is text only
+  store_facts endings.Done is never text only = absurd never
+  store_facts endings.Read is never text only = absurd never
+  store_facts endings.Write is never text only = absurd never
+  store_facts (endings.Malformed number) is never text only = absurd never
 
   no_net_facts : (ending : ServeEnding) → status ≡ serve_status ending → IsNoNet net net' ending → WritesOnly out out' (serve_text ending) → Facts
   no_net_facts Net is why only = net_facts is why (serve_text Net) only
@@ -368,8 +369,8 @@ module _ (before after net net' : ℕ) (out out' : OutputState) (status : ℕ) w
   served_facts book Net is never = absurd never
   served_facts book Memory is never = absurd never
 
-  pub serve_facts : {K : Type 0} (G : Ghosts K) (Told : Type 0) (HasFile : List ℕ → Type 0) (Was Stored Holds : Loaded → Type 0) (Serves : AccountsServed → Seated K → Seated K → Type 0) → RunsServe G Told HasFile Was Stored Holds before after Serves net net' out out' status → Facts
-  serve_facts G Told HasFile Was Stored Holds Serves (ending, is, inl refused) = refused_facts Told HasFile ending is refused.why refused.text
-  serve_facts G Told HasFile Was Stored Holds Serves (ending, is, inr (inl none)) = store_facts Told Stored Holds none.other (is ∙ ap serve_status none.is) none.why (serve_text ending) none.text
-  serve_facts G Told HasFile Was Stored Holds Serves (ending, is, inr (inr (inl none))) = no_net_facts ending is none.why none.text
-  serve_facts G Told HasFile Was Stored Holds Serves (ending, is, inr (inr (inr served))) = served_facts served.now.book ending is served.entries
+  pub serve_facts : {K : Type 0} (G : Ghosts K) (HasFile : List ℕ → Type 0) (Serves : AccountsServed → Seated K → Seated K → Type 0) → RunsServe G c HasFile Serves net net' out out' status → Facts
+  serve_facts G HasFile Serves (ending, is, inl refused) = refused_facts HasFile ending is refused.why refused.text
+  serve_facts G HasFile Serves (ending, is, inr (inl none)) = store_facts none.other (is ∙ ap serve_status none.is) none.why (serve_text ending) none.text
+  serve_facts G HasFile Serves (ending, is, inr (inr (inl none))) = no_net_facts ending is none.why none.text
+  serve_facts G HasFile Serves (ending, is, inr (inr (inr served))) = served_facts served.now.book ending is served.entries

@@ -18,6 +18,7 @@ use Rattle.rv_cli.specs.declared.ending.Ending.{Ending}
 use Rattle.rv_cli.specs.declared.ending.Ending.TheVariants.{Done, Keeper, Damaged, Read, Write, Memory, Malformed}
 use Rattle.rv_cli.specs.Texts.{status_of}
 use Rattle.rv_cli.specs.Commands.{IsReportOf}
+use Rattle.rv_cli.specs.Change.{StoreChange}
 use Rattle.rv_cli.specs.Headline.{IsLeftAs, IsNotOpened, NotFed, HasFed, RunsFeed, NotOpened, Replied, RunsOne, EndsOne, KeepsSo, KeptSound}
 
 -- an ending whose status is that of damage is damage
@@ -30,22 +31,22 @@ no_damage Write other is = omega (arith, is)
 no_damage Memory other is = omega (arith, is)
 no_damage (Malformed number) other is = omega (arith, is)
 
-module _ (Told : Type 0) (Stored Holds : Loaded → Type 0) (before after : ℕ) (told : Told) (kept : KeptSound Stored) where
-  opens_sound : (shelf : ℕ) (key : List ℕ) (ending : Ending) → ending ≡ Damaged shelf key → IsNotOpened Told Stored Holds before after ending → ⊥
+module _ (c : StoreChange) (told : c.told) (kept : KeptSound c.opens) where
+  opens_sound : (shelf : ℕ) (key : List ℕ) (ending : Ending) → ending ≡ Damaged shelf key → IsNotOpened c ending → ⊥
   opens_sound shelf key ending is why =
       let (book, held, was, opens) = kept in
-      let (loaded, stored, damaged, left, same) = subst (λ (e : Ending). IsNotOpened Told Stored Holds before after e) is why in
+      let (loaded, stored, damaged, left, same) = subst (λ (e : Ending). IsNotOpened c e) is why in
       opens-not_damaged (2 ^ 32 - 1) book loaded shelf key (subst (λ (l : Loaded). MayOpen (2 ^ 32 - 1) book l) (stored told held was) opens) damaged
 
-  pub refused_sound : (ending : Ending) (status : ℕ) → IsNotOpened Told Stored Holds before after ending → status ≡ status_of ending → status ≢ 5
+  pub refused_sound : (ending : Ending) (status : ℕ) → IsNotOpened c ending → status ≡ status_of ending → status ≢ 5
   refused_sound ending status why is five = no_damage ending (λ shelf key e. opens_sound shelf key ending e why) (sym is ∙ five)
 
-  fed_sound : (Was : Loaded → Type 0) (input input' : InputState) (output output' : OutputState) (ending : Ending) → (NotFed Told Stored Holds before after input input' output output' ending × IsLeftAs Told Was Stored Holds) ⊎ HasFed Told Stored Holds before after input input' output output' ending
+  fed_sound : (input input' : InputState) (output output' : OutputState) (ending : Ending) → (NotFed c input input' output output' ending × IsLeftAs c) ⊎ HasFed c input input' output output' ending
       → (shelf : ℕ) (key : List ℕ) → ending ≢ Damaged shelf key
-  fed_sound Was input input' output output' ending (inl (none, left)) shelf key is = opens_sound shelf key ending is none.why
-  fed_sound Was input input' output output' ending (inr fed) shelf key is = untold ending is fed.keeps
+  fed_sound input input' output output' ending (inl (none, left)) shelf key is = opens_sound shelf key ending is none.why
+  fed_sound input input' output output' ending (inr fed) shelf key is = untold ending is fed.keeps
     where
-      untold : (ending : Ending) → ending ≡ Damaged shelf key → KeepsSo Told before after ending → ⊥
+      untold : (ending : Ending) → ending ≡ Damaged shelf key → KeepsSo c ending → ⊥
       untold Done is keeps = cc
       untold Keeper is keeps = cc
       untold (Damaged s k) is keeps = keeps told
@@ -54,16 +55,16 @@ module _ (Told : Type 0) (Stored Holds : Loaded → Type 0) (before after : ℕ)
       untold Memory is keeps = cc
       untold (Malformed number) is keeps = cc
 
-  pub feed_sound : (Was : Loaded → Type 0) (input input' : InputState) (output output' : OutputState) (status : ℕ) → RunsFeed Told Stored Holds before after Was input input' output output' status → status ≢ 5
-  feed_sound Was input input' output output' status (ending, is, runs) five = no_damage ending (fed_sound Was input input' output output' ending runs) (sym is ∙ five)
+  pub feed_sound : (input input' : InputState) (output output' : OutputState) (status : ℕ) → RunsFeed c input input' output output' status → status ≢ 5
+  feed_sound input input' output output' status (ending, is, runs) five = no_damage ending (fed_sound input input' output output' ending runs) (sym is ∙ five)
 
-  replied_sound : (Was : Loaded → Type 0) (asked : Parsed) (output output' : OutputState) (ending : Ending) → (NotOpened Told Stored Holds before after output output' ending × IsLeftAs Told Was Stored Holds) ⊎ Replied Told Stored Holds before after asked output output' ending
+  replied_sound : (asked : Parsed) (output output' : OutputState) (ending : Ending) → (NotOpened c output output' ending × IsLeftAs c) ⊎ Replied c asked output output' ending
       → (shelf : ℕ) (key : List ℕ) → ending ≢ Damaged shelf key
-  replied_sound Was asked output output' ending (inl (none, left)) shelf key is = opens_sound shelf key ending is none.why
-  replied_sound Was asked output output' ending (inr replied) shelf key is = subst (λ (e : Ending). EndsOne Told replied.first asked replied.text replied.now e) is replied.ends
+  replied_sound asked output output' ending (inl (none, left)) shelf key is = opens_sound shelf key ending is none.why
+  replied_sound asked output output' ending (inr replied) shelf key is = subst (λ (e : Ending). EndsOne c.told replied.first asked replied.text replied.now e) is replied.ends
 
-  pub retire_sound : (Was : Loaded → Type 0) (asked : Parsed) (output output' : OutputState) (status : ℕ) → RunsOne Told Stored Holds before after Was asked output output' status → status ≢ 5
-  retire_sound Was asked output output' status (ending, is, runs) five = no_damage ending (replied_sound Was asked output output' ending runs) (sym is ∙ five)
+  pub retire_sound : (asked : Parsed) (output output' : OutputState) (status : ℕ) → RunsOne c asked output output' status → status ≢ 5
+  retire_sound asked output output' status (ending, is, runs) five = no_damage ending (replied_sound asked output output' ending runs) (sym is ∙ five)
 
 -- the store in memory is opened with the empty book
 pub memory_sound : (store : List ℕ) (Stored : Loaded → Type 0) → store ≡ codes "memory" → KeptSound (OpensAs store Stored)

@@ -5,8 +5,10 @@ use Rattle.rv_base.specs.Outside.{InputState, OutputState, Writes}
 use Rattle.rv_history.specs.Served.{Served}
 use Rattle.rv_keeper.specs.declared.fault.KeepFault.{KeepFault}
 use Rattle.rv_keeper.specs.declared.loaded.Loaded.{Loaded}
+use Rattle.rv_keeper.specs.declared.keeper.Keeper.{Ghosts}
+use Rattle.rv_keeper.specs.declared.place.Place.{Ghosts as PlaceGhosts}
 use Rattle.rv_keeper.specs.Keeping.{HasKeepCause}
-use Rattle.rv_keeper.specs.Stores.{OpensAs, OpensWith, TakesUp}
+use Rattle.rv_keeper.specs.Stores.{OpensWith, TakesUp}
 use Rattle.rv_desk.specs.Seated.{Seated, served}
 use Rattle.rv_desk.specs.Opened.{Opens, IsRefused, IsLeft}
 use Rattle.rv_desk.specs.declared.open_fault.OpenFault.{OpenFault}
@@ -15,6 +17,7 @@ use Rattle.rv_answering.specs.declared.request.Request.TheVariants.{Retire}
 use Rattle.rv_cli.specs.declared.ending.Ending.{Ending}
 use Rattle.rv_cli.specs.declared.ending.Ending.TheVariants.{Done, Keeper, Damaged, Read, Write, Memory, Malformed}
 use Rattle.rv_cli.specs.Texts.{fault_ending, keep_ending, status_of, status_text}
+use Rattle.rv_cli.specs.Change.{StoreChange, change, kept_change}
 use Rattle.rv_cli.specs.Headline.{Ends, Begins, Leaves, IsNotOpened, KeepsSo, HasFed, Replied}
 use Rattle.rv_cli.specs.Feeding.{IsLeftWith, RoseAt, FedAnswers, Feeds, FeedsWith}
 use Rattle.rv_cli.specs.Replying.{Retired, WritesReply}
@@ -64,20 +67,20 @@ module _ (Told Now : Type 0) (then : Now → Told) where
   feeds_later first now input input' output output' ending f = record { reads = f.reads; writes = f.writes; fed = fed_later input.left first now input' output output' ending f.fed }
 
 -- the place gave no keeper, and that is told
-pub not_given : {T : Type 0} (Told : Type 0) (Stored Holds : Loaded → Type 0) (before after : ℕ) (fault : KeepFault) (ending : Ending) → HasKeepCause {T = T} before after (Err fault) → ending ≡ keep_ending fault
-    → IsNotOpened Told Stored Holds before after ending
-not_given Told Stored Holds before after keeping.Failed ending cause is = subst (λ (e : Ending). IsNotOpened Told Stored Holds before after e) (sym is) (cause.failed refl)
-not_given Told Stored Holds before after keeping.Memory ending cause is = subst (λ (e : Ending). IsNotOpened Told Stored Holds before after e) (sym is) tt
+pub not_given : {T : Type 0} (c : StoreChange) (fault : KeepFault) (ending : Ending) → HasKeepCause {T = T} c.before c.after (Err fault) → ending ≡ keep_ending fault
+    → IsNotOpened c ending
+not_given c keeping.Failed ending cause is = subst (λ (e : Ending). IsNotOpened c e) (sym is) (cause.failed refl)
+not_given c keeping.Memory ending cause is = subst (λ (e : Ending). IsNotOpened c e) (sym is) tt
 
 -- a store that did not open has no status 0
-pub refused_fails : (Told : Type 0) (Stored Holds : Loaded → Type 0) (before after : ℕ) (ending : Ending) (status : ℕ) → IsNotOpened Told Stored Holds before after ending → status ≡ status_of ending → status ≢ 0
-refused_fails Told Stored Holds before after Keeper status why is none = omega (arith, is, none)
-refused_fails Told Stored Holds before after (Damaged shelf key) status why is none = omega (arith, is, none)
-refused_fails Told Stored Holds before after Memory status why is none = omega (arith, is, none)
-refused_fails Told Stored Holds before after Done status why is none = why
-refused_fails Told Stored Holds before after Read status why is none = why
-refused_fails Told Stored Holds before after Write status why is none = why
-refused_fails Told Stored Holds before after (Malformed number) status why is none = why
+pub refused_fails : (c : StoreChange) (ending : Ending) (status : ℕ) → IsNotOpened c ending → status ≡ status_of ending → status ≢ 0
+refused_fails c Keeper status why is none = omega (arith, is, none)
+refused_fails c (Damaged shelf key) status why is none = omega (arith, is, none)
+refused_fails c Memory status why is none = omega (arith, is, none)
+refused_fails c Done status why is none = why
+refused_fails c Read status why is none = why
+refused_fails c Write status why is none = why
+refused_fails c (Malformed number) status why is none = why
 
 -- a count that rose from 0 is above it, and what takes it up rises
 above_none : (n : ℕ) → Rose 0 n → 0 < n
@@ -91,47 +94,47 @@ pub none_taken : (n before after : ℕ) → n ≡ 0 → TakesUp n before after �
 none_taken zero before after none taken = taken
 none_taken (suc n) before after none taken = absurd (omega (arith, none))
 
-module _ {P K : Type 0} (tells : P → Type 0) (holds : P → List ℕ → Loaded → Type 0) (is_out : P → List ℕ → Type 0) (faults : P → ℕ) (kept_tells kept_steady : K → Type 0) (kept_holds : K → Loaded → Type 0) (kept_faults : K → ℕ) (store : List ℕ) where
+module _ {P K : Type 0} (place : PlaceGhosts P K) (G : Ghosts K) (store : List ℕ) where
   -- a keeper that went back to the place
   pub record WentBack (before after : P) (keeper : K) : Type 0 where
-    pub told : tells after → tells before × kept_tells keeper
-    pub held : tells after → (held : Loaded) → kept_holds keeper held → holds after store held
-    pub taken : TakesUp (kept_faults keeper) (faults before) (faults after)
+    pub told : place.tells after → place.tells before × G.tells keeper
+    pub held : place.tells after → (held : Loaded) → G.holds keeper held → place.holds after store held
+    pub taken : TakesUp (G.faults keeper) (place.faults before) (place.faults after)
 
-  pub kept_opened : (kept : K) (old : P) (desk : Seated K) → Opens kept_tells kept_steady kept_holds kept_faults (2 ^ 32 - 1) kept desk → KeptOpened tells holds is_out faults kept_tells kept_holds kept_faults kept old desk old
+  pub kept_opened : (kept : K) (old : P) (desk : Seated K) → Opens G.tells G.fails_no_more G.holds G.faults (2 ^ 32 - 1) kept desk → KeptOpened place G kept old desk old
   kept_opened kept old desk opens = record { loaded = opens.loaded; stored = λ now. opens.was.told now; opens = opens.opens; limit = opens.most; doubt = opens.doubt; still = opens.still; same = refl }
 
-  given_back : (kept now : K) (old new : P) → IsLeft kept_tells kept_steady kept_holds kept_faults kept now → WentBack old new now → tells new → (held : Loaded) → kept_holds kept held → holds new store held
+  given_back : (kept now : K) (old new : P) → IsLeft G.tells G.fails_no_more G.holds G.faults kept now → WentBack old new now → place.tells new → (held : Loaded) → G.holds kept held → place.holds new store held
   given_back kept now old new left back t held was = back.held t held (left.held (back.told t).1 held was)
 
-  pub kept_refused : (kept now : K) (old new : P) (fault : OpenFault) → IsRefused kept_tells kept_steady kept_holds kept_faults (2 ^ 32 - 1) kept fault now → IsLeft kept_tells kept_steady kept_holds kept_faults kept now → WentBack old new now → kept_faults kept ≡ 0
-      → (tells new → tells old) × IsNotOpened (tells new) (kept_holds kept) (holds new store) (faults old) (faults new) (fault_ending fault) × (tells new → (held : Loaded) → kept_holds kept held → holds new store held)
+  pub kept_refused : (kept now : K) (old new : P) (fault : OpenFault) → IsRefused G.tells G.fails_no_more G.holds G.faults (2 ^ 32 - 1) kept fault now → IsLeft G.tells G.fails_no_more G.holds G.faults kept now → WentBack old new now → G.faults kept ≡ 0
+      → (place.tells new → place.tells old) × IsNotOpened (kept_change place G store kept old new) (fault_ending fault) × (place.tells new → (held : Loaded) → G.holds kept held → place.holds new store held)
   kept_refused kept now old new faulting.Keeper (rose, unsteady) left back none =
-      (λ t. (back.told t).0, rises (kept_faults now) (faults old) (faults new) (above_none (kept_faults now) (subst (λ (n : ℕ). Rose n (kept_faults now)) none rose)) back.taken, given_back kept now old new left back)
+      (λ t. (back.told t).0, rises (G.faults now) (place.faults old) (place.faults new) (above_none (G.faults now) (subst (λ (n : ℕ). Rose n (G.faults now)) none rose)) back.taken, given_back kept now old new left back)
   kept_refused kept now old new (faulting.Damaged shelf key) damaged left back none =
-      (λ t. (back.told t).0, (damaged.loaded, λ t. damaged.was.told (back.told t).1, damaged.damaged, λ t held was. back.held t held (left.held (back.told t).1 held was), none_taken (kept_faults now) (faults old) (faults new) (damaged.still ∙ none) back.taken), given_back kept now old new left back)
+      (λ t. (back.told t).0, (damaged.loaded, λ t. damaged.was.told (back.told t).1, damaged.damaged, λ t held was. back.held t held (left.held (back.told t).1 held was), none_taken (G.faults now) (place.faults old) (place.faults new) (damaged.still ∙ none) back.taken), given_back kept now old new left back)
   kept_refused kept now old new faulting.Memory free left back none = (λ t. (back.told t).0, tt, given_back kept now old new left back)
 
   -- the store's keeper was fetched, and its desk opened or not
-  pub store_opened : (kept : K) (old mid new : P) (result : Result (Seated K) Ending) → (tells mid → is_out mid store × OpensWith store (holds old store) (kept_holds kept)) → kept_faults kept ≡ 0 → faults mid ≡ faults old
-      → OpensKept tells holds is_out faults kept_tells kept_holds kept_faults store kept mid result new → OpensStore tells holds is_out faults kept_tells kept_faults store old result new
+  pub store_opened : (kept : K) (old mid new : P) (result : Result (Seated K) Ending) → (place.tells mid → place.is_out mid store × OpensWith store (place.holds old store) (G.holds kept)) → G.faults kept ≡ 0 → place.faults mid ≡ place.faults old
+      → OpensKept place G store kept mid result new → OpensStore place G store old result new
   store_opened kept old mid new (Ok desk) got none still opened = record {
     loaded = opened.loaded;
-    stored = λ t now held was. opened.stored now held ((got (subst (λ (p : P). tells p) opened.same t)).1 held was);
+    stored = λ t now held was. opened.stored now held ((got (subst (λ (p : P). place.tells p) opened.same t)).1 held was);
     opens = opened.opens;
     limit = opened.limit;
     doubt = opened.doubt;
     none = opened.still ∙ none;
-    out = λ t. subst (λ (p : P). is_out p store) (sym opened.same) (got (subst (λ (p : P). tells p) opened.same t)).0;
-    same = ap faults opened.same ∙ still;
+    out = λ t. subst (λ (p : P). place.is_out p store) (sym opened.same) (got (subst (λ (p : P). place.tells p) opened.same t)).0;
+    same = ap place.faults opened.same ∙ still;
   }
   store_opened kept old mid new (Err ending) got none still opened =
       let (told, why, back) = opened none in
       (again ending told why, λ t. inr (λ held was. back t held ((got (told t)).1 held was)))
     where
-      again : (ending : Ending) → (tells new → tells mid) → IsNotOpened (tells new) (kept_holds kept) (holds new store) (faults mid) (faults new) ending
-          → IsNotOpened (tells new) (OpensAs store (holds old store)) (holds new store) (faults old) (faults new) ending
-      again Keeper told rose = subst (λ (n : ℕ). Rose n (faults new)) still rose
+      again : (ending : Ending) → (place.tells new → place.tells mid) → IsNotOpened (kept_change place G store kept mid new) ending
+          → IsNotOpened (change place store old new) ending
+      again Keeper told rose = subst (λ (n : ℕ). Rose n (place.faults new)) still rose
       again (Damaged shelf key) told (loaded, stored, damaged, left, same) =
           (loaded, λ t held was. stored t held ((got (told t)).1 held was), damaged, λ t held was. left t held ((got (told t)).1 held was), same ∙ still)
       again Memory told free = tt
@@ -141,20 +144,20 @@ module _ {P K : Type 0} (tells : P → Type 0) (holds : P → List ℕ → Loade
       again (Malformed number) told never = never
 
   -- the place gave no keeper, and so there is no desk
-  pub store_refused : {T : Type 0} (old new : P) (fault : KeepFault) (result : Result (Seated K) Ending) → HasKeepCause {T = T} (faults old) (faults new) (Err fault) → IsErr result × IsErrAnd result (λ ending. ending ≡ keep_ending fault) → (tells new → (held : Loaded) → holds old store held → holds new store held)
-      → OpensStore tells holds is_out faults kept_tells kept_faults store old result new
+  pub store_refused : {T : Type 0} (old new : P) (fault : KeepFault) (result : Result (Seated K) Ending) → HasKeepCause {T = T} (place.faults old) (place.faults new) (Err fault) → IsErr result × IsErrAnd result (λ ending. ending ≡ keep_ending fault) → (place.tells new → (held : Loaded) → place.holds old store held → place.holds new store held)
+      → OpensStore place G store old result new
   store_refused old new fault (Ok desk) cause is same = absurd (let is = is.0 in cc)
-  store_refused old new fault (Err ending) cause is same = (not_given (tells new) (OpensAs store (holds old store)) (holds new store) (faults old) (faults new) fault ending cause is.1, λ t. inl (same t))
+  store_refused old new fault (Err ending) cause is same = (not_given (change place store old new) fault ending cause is.1, λ t. inl (same t))
 
   -- a desk is opened only of a store that was there
-  pub opened_there : (There : Type 0) (kept : K) (mid new : P) (result : Result (Seated K) Ending) → (tells mid → There) → OpensKept tells holds is_out faults kept_tells kept_holds kept_faults store kept mid result new → tells new → IsOk result → There
-  opened_there There kept mid new (Ok desk) there opened t ok = there (subst (λ (p : P). tells p) opened.same t)
+  pub opened_there : (There : Type 0) (kept : K) (mid new : P) (result : Result (Seated K) Ending) → (place.tells mid → There) → OpensKept place G store kept mid result new → place.tells new → IsOk result → There
+  opened_there There kept mid new (Ok desk) there opened t ok = there (subst (λ (p : P). place.tells p) opened.same t)
   opened_there There kept mid new (Err ending) there opened t ok = absurd (cc)
 
-  keeps_so : (old mid new : P) (desk : Seated K) (keeper : K) (ending : Ending) → kept_faults desk.keeper ≡ 0 → faults mid ≡ faults old → WentBack mid new keeper
-      → RoseAt kept_tells kept_holds kept_faults ending (kept_faults desk.keeper) keeper → KeepsSo (tells new) (faults old) (faults new) ending
+  keeps_so : (old mid new : P) (desk : Seated K) (keeper : K) (ending : Ending) → G.faults desk.keeper ≡ 0 → place.faults mid ≡ place.faults old → WentBack mid new keeper
+      → RoseAt G.tells G.holds G.faults ending (G.faults desk.keeper) keeper → KeepsSo (change place store old new) ending
   keeps_so old mid new desk keeper Keeper none same back rose =
-      subst (λ (n : ℕ). Rose n (faults new)) same (rises (kept_faults keeper) (faults mid) (faults new) (above_none (kept_faults keeper) (subst (λ (n : ℕ). Rose n (kept_faults keeper)) none rose)) back.taken)
+      subst (λ (n : ℕ). Rose n (place.faults new)) same (rises (G.faults keeper) (place.faults mid) (place.faults new) (above_none (G.faults keeper) (subst (λ (n : ℕ). Rose n (G.faults keeper)) none rose)) back.taken)
   keeps_so old mid new desk keeper Done none same taken rose = tt
   keeps_so old mid new desk keeper (Damaged shelf key) none same back untold = λ t. untold (back.told t).1
   keeps_so old mid new desk keeper Read none same taken rose = tt
@@ -162,8 +165,8 @@ module _ {P K : Type 0} (tells : P → Type 0) (holds : P → List ℕ → Loade
   keeps_so old mid new desk keeper Memory none same taken rose = tt
   keeps_so old mid new desk keeper (Malformed number) none same taken rose = tt
 
-  pub begins : (old mid new : P) (desk : Seated K) (keeper : K) → HasOpened tells holds is_out faults kept_tells kept_faults store old desk mid → (kept_tells keeper → kept_tells desk.keeper) → WentBack mid new keeper
-      → Begins (tells new) (OpensAs store (holds old store)) (served kept_faults desk)
+  pub begins : (old mid new : P) (desk : Seated K) (keeper : K) → HasOpened place G store old desk mid → (G.tells keeper → G.tells desk.keeper) → WentBack mid new keeper
+      → Begins (change place store old new) (served G.faults desk)
   begins old mid new desk keeper opened before back = record {
     loaded = opened.loaded;
     stored = λ t. opened.stored (back.told t).0 (before (back.told t).1);
@@ -173,23 +176,23 @@ module _ {P K : Type 0} (tells : P → Type 0) (holds : P → List ℕ → Loade
     faults = opened.none;
   }
 
-  pub leaves : (old mid new : P) (now : Served) (keeper : K) → faults mid ≡ faults old → IsLeftWith kept_tells kept_holds kept_faults now keeper → WentBack mid new keeper → Leaves (tells new) (holds new store) (faults old) (faults new) now
+  pub leaves : (old mid new : P) (now : Served) (keeper : K) → place.faults mid ≡ place.faults old → IsLeftWith G.tells G.holds G.faults now keeper → WentBack mid new keeper → Leaves (change place store old new) now
   leaves old mid new now keeper same left back = record {
     held = λ t. let (h, was, with) = left.held (back.told t).1 in (h, back.held t h was, with);
-    kept = kept_faults keeper;
+    kept = G.faults keeper;
     later = left.later;
-    taken = subst (λ (n : ℕ). TakesUp (kept_faults keeper) n (faults new)) same back.taken;
+    taken = subst (λ (n : ℕ). TakesUp (G.faults keeper) n (place.faults new)) same back.taken;
   }
 
   -- the desk was opened and fed, and its keeper went back
   pub has_fed : {T E : Type 0} (old mid new : P) (desk : Seated K) (ended' : Ending × K) (input input' : InputState) (first out out' : OutputState) (result : Result T E)
-      → HasOpened tells holds is_out faults kept_tells kept_faults store old desk mid → FeedsWith kept_tells kept_holds kept_faults desk input input' first out ended' → WentBack mid new ended'.1 → Writes out out' result (status_text ended'.0)
-      → HasFed (tells new) (OpensAs store (holds old store)) (holds new store) (faults old) (faults new) input input' first out' ended'.0
+      → HasOpened place G store old desk mid → FeedsWith G.tells G.holds G.faults desk input input' first out ended' → WentBack mid new ended'.1 → Writes out out' result (status_text ended'.0)
+      → HasFed (change place store old new) input input' first out' ended'.0
   has_fed old mid new desk ended' input input' first out out' result opened fed back w =
-      let later = feeds_later (kept_tells ended'.1) (tells new) (λ t. (back.told t).1) (served kept_faults desk) fed.now input input' first out ended'.0 fed.feeds in
-      let (reads, writes, all) = ended (tells new) (served kept_faults desk) fed.now input input' first out out' ended'.0 result later w in
+      let later = feeds_later (G.tells ended'.1) (place.tells new) (λ t. (back.told t).1) (served G.faults desk) fed.now input input' first out ended'.0 fed.feeds in
+      let (reads, writes, all) = ended (place.tells new) (served G.faults desk) fed.now input input' first out out' ended'.0 result later w in
       record {
-        first = served kept_faults desk;
+        first = served G.faults desk;
         now = fed.now;
         begins = begins old mid new desk ended'.1 opened fed.told back;
         reads = reads;
@@ -201,25 +204,25 @@ module _ {P K : Type 0} (tells : P → Type 0) (holds : P → List ℕ → Loade
 
   -- the same of one retirement
   pub has_replied : (old mid new : P) (desk : Seated K) (group : List ℕ) (told : Answer × K) (first out : OutputState) (ending : Ending)
-      → HasOpened tells holds is_out faults kept_tells kept_faults store old desk mid → Retired kept_tells kept_holds kept_faults desk group told → WentBack mid new told.1 → WritesReply first out told.0 ending
-      → Replied (tells new) (OpensAs store (holds old store)) (holds new store) (faults old) (faults new) (Ok (Retire group)) first out ending
+      → HasOpened place G store old desk mid → Retired G.tells G.holds G.faults desk group told → WentBack mid new told.1 → WritesReply first out told.0 ending
+      → Replied (change place store old new) (Ok (Retire group)) first out ending
   has_replied old mid new desk group told first out Done opened retired back (appended, still) = record {
-    first = served kept_faults desk;
+    first = served G.faults desk;
     now = retired.new;
     begins = begins old mid new desk told.1 opened retired.before back;
     text = _;
     appended = appended;
-    ends = (told.0, step_later (kept_tells told.1) (tells new) (λ t. (back.told t).1) (served kept_faults desk) retired.new (Ok (Retire group)) told.0 retired.step, refl);
+    ends = (told.0, step_later (G.tells told.1) (place.tells new) (λ t. (back.told t).1) (served G.faults desk) retired.new (Ok (Retire group)) told.0 retired.step, refl);
     status = (refl, still);
     leaves = leaves old mid new retired.new told.1 opened.same retired.left back;
   }
   has_replied old mid new desk group told first out Write opened retired back ((part, front, appended), rose) = record {
-    first = served kept_faults desk;
+    first = served G.faults desk;
     now = retired.new;
     begins = begins old mid new desk told.1 opened retired.before back;
     text = part;
     appended = appended;
-    ends = (told.0, step_later (kept_tells told.1) (tells new) (λ t. (back.told t).1) (served kept_faults desk) retired.new (Ok (Retire group)) told.0 retired.step, front);
+    ends = (told.0, step_later (G.tells told.1) (place.tells new) (λ t. (back.told t).1) (served G.faults desk) retired.new (Ok (Retire group)) told.0 retired.step, front);
     status = (refl, rose);
     leaves = leaves old mid new retired.new told.1 opened.same retired.left back;
   }

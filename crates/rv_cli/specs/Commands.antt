@@ -1,7 +1,13 @@
--- Which commands are reports, which store a command names, and that an accounts file is there.
-use Rattle.std.specs.Prelude.{◌≡◌, ℕ, List, Option, Some, None}
+-- What words ask for, which commands are reports, which store a command names, and that an accounts file is there.
+use Rattle.std.specs.Prelude.{◌≡◌, ℕ, List, Option, Some, None, String, map, string_bytes}
+use Rattle.std.specs.Global.{Global}
+use Rattle.rv_words.specs.Words.{command_in}
 use Rattle.rv_words.specs.declared.command.Command.{Command}
 use Rattle.rv_words.specs.declared.command.Command.TheVariants.{Feed, Retire, Lists, Activity, Check, Serve}
+
+-- what the words of a run ask for
+abbrev pub asked_by : List (String Global) → Option Command
+asked_by words = command_in (map string_bytes words)
 
 -- the words ask for a report of the store
 abbrev pub IsReportOf : List ℕ → Option Command → Type 0

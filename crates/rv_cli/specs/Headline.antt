@@ -30,6 +30,7 @@ use Rattle.rv_answering.specs.declared.line.Line.TheVariants.{Asks, Stop}
 use Rattle.rv_answering.specs.Requests.{Parsed, line_of}
 use Rattle.rv_cli.specs.declared.ending.Ending.{Ending}
 use Rattle.rv_cli.specs.declared.ending.Ending.TheVariants.{Done, Keeper, Damaged, Read, Write, Memory, Malformed}
+use Rattle.rv_cli.specs.Change.{StoreChange}
 use Rattle.rv_cli.specs.Texts.{text_of, status_of, status_text}
 use Rattle.rv_turns.specs.Outcomes.{IsChanged}
 use Rattle.rv_wire.specs.Answers.{pull_json}
@@ -221,17 +222,16 @@ WritesSo before now Read = (now ≡ before) ⊎ Rose before now
 WritesSo before now Memory = (now ≡ before) ⊎ Rose before now
 WritesSo before now (Malformed number) = (now ≡ before) ⊎ Rose before now
 
--- ---- How a run begins, and what it leaves. The place tells what its stores hold; this is what the store is opened with, and
--- this is what it holds afterwards; and these are the place's counts of faults before and after.
+-- ---- How a run begins, and what it leaves of its store.
 
 -- This was loaded: where the place tells, the one thing that the store is opened with.
-abbrev pub WasStored : Type 0 → (Loaded → Type 0) → Loaded → Type 0
-WasStored Told Stored loaded = Told → (held : Loaded) → Stored held → held ≡ loaded
+abbrev pub WasStored : StoreChange → Loaded → Type 0
+WasStored c loaded = c.told → (held : Loaded) → c.opens held → held ≡ loaded
 
 -- The state of the book that the store was kept as: nothing is in doubt, and no fault rose.
-pub record Begins (Told : Type 0) (Stored : Loaded → Type 0) (first : Served) : Type 0 where
+pub record Begins (c : StoreChange) (first : Served) : Type 0 where
   pub loaded : Loaded
-  pub stored : WasStored Told Stored loaded
+  pub stored : WasStored c loaded
   pub opens : MayOpen (2 ^ 32 - 1) first.book loaded
   pub limit : first.limit ≡ 2 ^ 32 - 1
   pub doubt : first.doubt ≡ None
@@ -239,53 +239,53 @@ pub record Begins (Told : Type 0) (Stored : Loaded → Type 0) (first : Served) 
 
 -- Where the place tells, the store holds the cells of the book, or with an entry in doubt of the book or of the book with it. The
 -- place takes up the faults of the keeper, of which each trouble in the run was one.
-pub record Leaves (Told : Type 0) (Holds : Loaded → Type 0) (before after : ℕ) (now : Served) : Type 0 where
-  pub held : Told → (held : Loaded) × Holds held × IsKeptWith now.book now.doubt held
+pub record Leaves (c : StoreChange) (now : Served) : Type 0 where
+  pub held : c.told → (held : Loaded) × c.holds held × IsKeptWith now.book now.doubt held
   pub kept : ℕ
   pub later : now.faults ≤ kept
-  pub taken : TakesUp kept before after
+  pub taken : TakesUp kept c.before c.after
 
 -- Why a store did not open: the place or the keeper failed, and the place's count of faults rose; or what was loaded is damaged
 -- first at this place, and is left as it is; or memory was refused.
-abbrev pub IsNotOpened : Type 0 → (Loaded → Type 0) → (Loaded → Type 0) → ℕ → ℕ → Ending → Type 0
-IsNotOpened Told Stored Holds before after Keeper = Rose before after
-IsNotOpened Told Stored Holds before after (Damaged shelf key) =
-    (loaded : Loaded) × WasStored Told Stored loaded × IsDamaged (2 ^ 32 - 1) loaded shelf key × (Told → (held : Loaded) → Stored held → Holds held) × (after ≡ before)
-IsNotOpened Told Stored Holds before after Memory = Unit {0}
-IsNotOpened Told Stored Holds before after ending = ⊥
+abbrev pub IsNotOpened : StoreChange → Ending → Type 0
+IsNotOpened c Keeper = Rose c.before c.after
+IsNotOpened c (Damaged shelf key) =
+    (loaded : Loaded) × WasStored c loaded × IsDamaged (2 ^ 32 - 1) loaded shelf key × (c.told → (held : Loaded) → c.opens held → c.holds held) × (c.after ≡ c.before)
+IsNotOpened c Memory = Unit {0}
+IsNotOpened c ending = ⊥
 
 -- Where the place tells, a store that did not open holds what it held: it was not given, or its keeper went back as it was opened.
-abbrev pub IsLeftAs : Type 0 → (Loaded → Type 0) → (Loaded → Type 0) → (Loaded → Type 0) → Type 0
-IsLeftAs Told Was Stored Holds = Told → ((held : Loaded) → Was held → Holds held) ⊎ ((held : Loaded) → Stored held → Holds held)
+abbrev pub IsLeftAs : StoreChange → Type 0
+IsLeftAs c = c.told → ((held : Loaded) → c.held held → c.holds held) ⊎ ((held : Loaded) → c.opens held → c.holds held)
 
 -- At a stop a trouble with what keeps the book is told only where the place's count of faults rose, and a damage only where the
 -- place doesn't tell.
-abbrev pub KeepsSo : Type 0 → ℕ → ℕ → Ending → Type 0
-KeepsSo Told before after Keeper = Rose before after
-KeepsSo Told before after (Damaged shelf key) = Told → ⊥
-KeepsSo Told before after ending = Unit {0}
+abbrev pub KeepsSo : StoreChange → Ending → Type 0
+KeepsSo c Keeper = Rose c.before c.after
+KeepsSo c (Damaged shelf key) = c.told → ⊥
+KeepsSo c ending = Unit {0}
 
 -- ---- What `run` promises of `feed`: the status is that of an ending. The store did not open, and nothing was read; or the faults
 -- are told by the ending, and where the source tells its bytes, the run ended so.
-module _ (Told : Type 0) (Stored Holds : Loaded → Type 0) (before after : ℕ) where
+module _ (c : StoreChange) where
   pub record NotFed (input input' : InputState) (output output' : OutputState) (ending : Ending) : Type 0 where
-    pub why : IsNotOpened Told Stored Holds before after ending
+    pub why : IsNotOpened c ending
     pub same : input' ≡ input
     pub text : WritesOnly output output' (status_text ending)
 
   pub record HasFed (input input' : InputState) (output output' : OutputState) (ending : Ending) : Type 0 where
     pub first : Served
     pub now : Served
-    pub begins : Begins Told Stored first
+    pub begins : Begins c first
     pub reads : ReadsSo input input' ending
     pub writes : WritesSo output.faults output'.faults ending
-    pub fed : IfSome input.left (λ bytes. Fed Told first now bytes input' output output' ending)
-    pub keeps : KeepsSo Told before after ending
-    pub leaves : Leaves Told Holds before after now
+    pub fed : IfSome input.left (λ bytes. Fed c.told first now bytes input' output output' ending)
+    pub keeps : KeepsSo c ending
+    pub leaves : Leaves c now
 
-  abbrev pub RunsFeed : (Loaded → Type 0) → InputState → InputState → OutputState → OutputState → ℕ → Type 0
-  RunsFeed Was input input' output output' status = (ending : Ending) × (status ≡ status_of ending)
-      × ((NotFed input input' output output' ending × IsLeftAs Told Was Stored Holds) ⊎ HasFed input input' output output' ending)
+  abbrev pub RunsFeed : InputState → InputState → OutputState → OutputState → ℕ → Type 0
+  RunsFeed input input' output output' status = (ending : Ending) × (status ≡ status_of ending)
+      × ((NotFed input input' output output' ending × IsLeftAs c) ⊎ HasFed input input' output output' ending)
 
 -- where the source tells and all its lines are of the form, P
 abbrev pub AllAsk : Option (List ℕ) → Type 0 → Type 0
@@ -307,26 +307,26 @@ EndsOne Told first asked text now Done = (answer : Answer) × TakesStep Told fir
 EndsOne Told first asked text now Write = (answer : Answer) × TakesStep Told first asked answer now × IsFront text (text_of answer)
 EndsOne Told first asked text now ending = ⊥
 
-module _ (Told : Type 0) (Stored Holds : Loaded → Type 0) (before after : ℕ) where
+module _ (c : StoreChange) where
   pub record NotOpened (output output' : OutputState) (ending : Ending) : Type 0 where
-    pub why : IsNotOpened Told Stored Holds before after ending
+    pub why : IsNotOpened c ending
     pub text : WritesOnly output output' (status_text ending)
 
   -- what was added to the output is the text of the answer
   pub record Replied (asked : Parsed) (output output' : OutputState) (ending : Ending) : Type 0 where
     pub first : Served
     pub now : Served
-    pub begins : Begins Told Stored first
+    pub begins : Begins c first
     pub text : List ℕ
     pub appended : Appends output.written output'.written text
-    pub ends : EndsOne Told first asked text now ending
+    pub ends : EndsOne c.told first asked text now ending
     pub status : IsOwnText output.faults output'.faults [] ending
-    pub leaves : Leaves Told Holds before after now
+    pub leaves : Leaves c now
 
   -- the status is that of an ending, and the run of this one request ended so
-  abbrev pub RunsOne : (Loaded → Type 0) → Parsed → OutputState → OutputState → ℕ → Type 0
-  RunsOne Was asked output output' status = (ending : Ending) × (status ≡ status_of ending)
-      × ((NotOpened output output' ending × IsLeftAs Told Was Stored Holds) ⊎ Replied asked output output' ending)
+  abbrev pub RunsOne : Parsed → OutputState → OutputState → ℕ → Type 0
+  RunsOne asked output output' status = (ending : Ending) × (status ≡ status_of ending)
+      × ((NotOpened output output' ending × IsLeftAs c) ⊎ Replied asked output output' ending)
 
 -- ---- And of a report: it is a text of the book that the store was kept as, which stays kept.
 
@@ -349,17 +349,17 @@ WritesReport Tells old new Write = (text : List ℕ) × Tells text × AppendsFro
 WritesReport Tells old new Memory = WritesOnly old new (status_text Memory)
 WritesReport Tells old new ending = ⊥
 
-module _ (Told : Type 0) (Stored Holds : Loaded → Type 0) (before after : ℕ) where
+module _ (c : StoreChange) where
   pub record Reported (Tells : Book → List ℕ → Type 0) (output output' : OutputState) (ending : Ending) : Type 0 where
     pub first : Served
-    pub begins : Begins Told Stored first
+    pub begins : Begins c first
     pub writes : WritesReport (Tells first.book) output output' ending
-    pub leaves : Leaves Told Holds before after first
+    pub leaves : Leaves c first
 
   -- the status is that of an ending, and the store did not open, or was reported so
-  abbrev pub RunsReport : (Loaded → Type 0) → (Book → List ℕ → Type 0) → OutputState → OutputState → ℕ → Type 0
-  RunsReport Was Tells output output' status = (ending : Ending) × (status ≡ status_of ending)
-      × ((NotOpened Told Stored Holds before after output output' ending × IsLeftAs Told Was Stored Holds) ⊎ Reported Tells output output' ending)
+  abbrev pub RunsReport : (Book → List ℕ → Type 0) → OutputState → OutputState → ℕ → Type 0
+  RunsReport Tells output output' status = (ending : Ending) × (status ≡ status_of ending)
+      × ((NotOpened c output output' ending × IsLeftAs c) ⊎ Reported Tells output output' ending)
 
 -- ---- What follows.
 

@@ -1,4 +1,5 @@
 pub mod Texts
+pub mod Change
 pub mod Headline
 pub mod RunLaws
 pub mod Storing

@@ -4,7 +4,6 @@ use Rattle.rv_base.specs.declared.outside.Source.{Ghosts as SourceGhosts}
 use Rattle.rv_base.specs.declared.outside.Sink.{Ghosts as SinkGhosts}
 use Rattle.rv_keeper.specs.declared.place.Place.{Ghosts as PlaceGhosts}
 use Rattle.rv_keeper.specs.declared.keeper.Keeper.{Ghosts as KeeperGhosts}
-use Rattle.rv_keeper.specs.Stores.{OpensAs}
 use Rattle.rv_net.specs.declared.listen.Listen.{Ghosts as ListenGhosts}
 use Rattle.rv_net.specs.declared.net.Net.{Ghosts as NetGhosts}
 use Rattle.rv_book.specs.Book.{Book}
@@ -12,8 +11,9 @@ use Rattle.rv_answering.specs.declared.request.Request.TheVariants.{Retire}
 use Rattle.rv_words.specs.declared.command.Command.{Command}
 use Rattle.rv_words.specs.declared.command.Command.TheVariants.{Serve}
 use Rattle.rv_words.specs.declared.serve_options.ServeOptions.{ServeOptions}
-use Rattle.rv_workers.specs.Serving.{ServesBy, ServesTogether}
+use Rattle.rv_workers.specs.Serving.{IsServed, ServesTogether}
 use Rattle.rv_cli.specs.declared.ending.Ending.TheVariants.{Memory}
+use Rattle.rv_cli.specs.Change.{change}
 use Rattle.rv_cli.specs.Texts.{status_text}
 use Rattle.rv_cli.specs.Headline.{RunsFeed, RunsOne, RunsReport, WritesOnly}
 use Rattle.rv_cli.specs.Serving.{NetServes, RunsServe, Unserved}
@@ -22,15 +22,15 @@ module _ {P Kept O : Type 0} (place : PlaceGhosts P Kept) (output : SinkGhosts O
   -- Of `feed`: what is written are the answers of a run from the book that the store kept over the lines that were read, and the store
   -- keeps the book that the run leaves.
   abbrev pub WasFed : {S : Type 0} → SourceGhosts S → S → S → O → O → ℕ → Type 0
-  WasFed input read read' out out' = RunsFeed (place.tells new) (OpensAs store (place.holds old store)) (place.holds new store) (place.faults old) (place.faults new) (place.holds old store) (input.state read) (input.state read') (output.state out) (output.state out')
+  WasFed input read read' out out' = RunsFeed (change place store old new) (input.state read) (input.state read') (output.state out) (output.state out')
 
   -- Of `retire`: what is written is the answer at the book that the store kept, and the store keeps the book that it leaves.
   abbrev pub WasRetired : List ℕ → O → O → ℕ → Type 0
-  WasRetired group out out' = RunsOne (place.tells new) (OpensAs store (place.holds old store)) (place.holds new store) (place.faults old) (place.faults new) (place.holds old store) (Ok (Retire group)) (output.state out) (output.state out')
+  WasRetired group out out' = RunsOne (change place store old new) (Ok (Retire group)) (output.state out) (output.state out')
 
   -- Of a report: what is written is a text of the book that the store kept, which it still keeps.
   abbrev pub WasReported : (Book → List ℕ → Type 0) → O → O → ℕ → Type 0
-  WasReported Tells out out' = RunsReport (place.tells new) (OpensAs store (place.holds old store)) (place.holds new store) (place.faults old) (place.faults new) (place.holds old store) Tells (output.state out) (output.state out')
+  WasReported Tells out out' = RunsReport (change place store old new) Tells (output.state out) (output.state out')
 
   -- The same; or memory was refused in reading the words, which the status and its text tell, and nothing else has changed.
   abbrev pub WasFedOrNot : {S : Type 0} → SourceGhosts S → S → S → O → O → ℕ → Type 0
@@ -57,8 +57,8 @@ module _ {P K N L I O Out : Type 0} (place : PlaceGhosts P K) (keeper : KeeperGh
   -- store kept, and the store keeps the book that they leave.
   abbrev pub WasServed : List ℕ → ServeOptions → P → P → N → N → Out → Out → ℕ → Type 0
   WasServed store options old new before after out out' =
-      RunsServe keeper (place.tells new) (place.accounts old options.accounts) (place.holds old store) (OpensAs store (place.holds old store)) (place.holds new store) (place.faults old) (place.faults new)
-      (λ accounts first now. NetServes (net.tells after) listen.tells (λ given returned. ServesTogether keeper (ServesBy keeper listen source sink accounts) first given now returned) options.workers (net.to_give before) (net.to_give after) (net.came_back before) (net.came_back after))
+      RunsServe keeper (change place store old new) (place.accounts old options.accounts)
+      (λ accounts first now. NetServes (net.tells after) listen.tells (λ given returned. ServesTogether keeper (IsServed keeper listen source sink accounts) first given now returned) options.workers (net.to_give before) (net.to_give after) (net.came_back before) (net.came_back after))
       (net.faults before) (net.faults after) (output.state out) (output.state out')
 
   -- The same, where the words ask for it; or memory was refused in reading the words.

@@ -5,13 +5,16 @@ use Rattle.rv_base.specs.Causes.{Rose}
 use Rattle.rv_base.specs.Outside.{OutputState}
 use Rattle.rv_base.specs.Writes.{AppendsFront}
 use Rattle.rv_base.specs.declared.memory.Memory.{Memory as Refused}
+use Rattle.rv_keeper.specs.declared.keeper.Keeper.{Ghosts}
 use Rattle.rv_keeper.specs.declared.loaded.Loaded.{Loaded}
+use Rattle.rv_keeper.specs.declared.place.Place.{Ghosts as PlaceGhosts}
 use Rattle.rv_keeper.specs.Stores.{OpensAs}
 use Rattle.rv_book.specs.Book.{Book, size}
 use Rattle.rv_store.specs.Opening.{MayOpen}
 use Rattle.rv_cli.specs.declared.ending.Ending.{Ending}
 use Rattle.rv_cli.specs.declared.ending.Ending.TheVariants.{Done, Write, Memory}
 use Rattle.rv_cli.specs.Texts.{status_text}
+use Rattle.rv_cli.specs.Change.{change, kept_change}
 use Rattle.rv_cli.specs.Headline.{IsLeftAs, IsNotOpened, WritesOnly}
 
 -- what was written of a text
@@ -25,34 +28,34 @@ abbrev pub WritesMade : OutputState → OutputState → Result (List ℕ) Refuse
 WritesMade old new (Ok text) ending = WritesText old new text ending
 WritesMade old new (Err refused) ending = (ending ≡ Memory) × WritesOnly old new (status_text Memory)
 
-module _ {P : Type 0} (tells : P → Type 0) (holds : P → List ℕ → Loaded → Type 0) (faults : P → ℕ) where
+module _ {P K : Type 0} (place : PlaceGhosts P K) where
   -- the store was kept as a lawful book of so many entries, and is still
   pub record WasSound (store : List ℕ) (old new : P) (entries : ℕ) : Type 0 where
     pub loaded : Loaded
     pub book : Book
-    pub stored : tells new → (held : Loaded) → OpensAs store (holds old store) held → held ≡ loaded
+    pub stored : place.tells new → (held : Loaded) → OpensAs store (place.holds old store) held → held ≡ loaded
     pub opens : MayOpen (2 ^ 32 - 1) book loaded
     pub length : size book ≡ entries
-    pub held : tells new → holds new store loaded
-    pub same : faults new ≡ faults old
+    pub held : place.tells new → place.holds new store loaded
+    pub same : place.faults new ≡ place.faults old
 
   abbrev pub ChecksStore : List ℕ → P → Result ℕ Ending → P → Type 0
   ChecksStore store old (Ok entries) new = WasSound store old new entries
   ChecksStore store old (Err ending) new =
-      IsNotOpened (tells new) (OpensAs store (holds old store)) (holds new store) (faults old) (faults new) ending × IsLeftAs (tells new) (holds old store) (OpensAs store (holds old store)) (holds new store)
+      IsNotOpened (change place store old new) ending × IsLeftAs (change place store old new)
 
   -- the same of a keeper that is out, whose count of faults is 0, and which came back
-  module _ {K : Type 0} (kept_tells : K → Type 0) (kept_holds : K → Loaded → Type 0) (kept_faults : K → ℕ) where
+  module _ (G : Ghosts K) where
     pub record KeptSound (store : List ℕ) (kept : K) (old new : P) (entries : ℕ) : Type 0 where
       pub loaded : Loaded
       pub book : Book
-      pub told : tells new → tells old
-      pub stored : tells new → (held : Loaded) → kept_holds kept held → held ≡ loaded
+      pub told : place.tells new → place.tells old
+      pub stored : place.tells new → (held : Loaded) → G.holds kept held → held ≡ loaded
       pub opens : MayOpen (2 ^ 32 - 1) book loaded
       pub length : size book ≡ entries
-      pub held : tells new → holds new store loaded
-      pub same : faults new ≡ faults old
+      pub held : place.tells new → place.holds new store loaded
+      pub same : place.faults new ≡ place.faults old
 
     abbrev pub ChecksKept : List ℕ → K → P → Result ℕ Ending → P → Type 0
-    ChecksKept store kept old (Ok entries) new = kept_faults kept ≡ 0 → KeptSound store kept old new entries
-    ChecksKept store kept old (Err ending) new = kept_faults kept ≡ 0 → (tells new → tells old) × IsNotOpened (tells new) (kept_holds kept) (holds new store) (faults old) (faults new) ending × (tells new → (held : Loaded) → kept_holds kept held → holds new store held)
+    ChecksKept store kept old (Ok entries) new = G.faults kept ≡ 0 → KeptSound store kept old new entries
+    ChecksKept store kept old (Err ending) new = G.faults kept ≡ 0 → (place.tells new → place.tells old) × IsNotOpened (kept_change place G store kept old new) ending × (place.tells new → (held : Loaded) → G.holds kept held → place.holds new store held)

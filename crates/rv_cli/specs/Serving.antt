@@ -4,7 +4,9 @@ use Rattle.std.specs.Prelude.{ℕ, ◌≡◌, ◌-◌, ◌^◌, ◌<◌, ◌⊎�
 use Rattle.std.specs.List.{flat_map, AllByRecursion}
 use Rattle.std.specs.Io.KnownBytes.{Appends}
 use Rattle.rv_base.specs.Causes.{Rose}
-use Rattle.rv_base.specs.Outside.{InputState, OutputState}
+use Rattle.rv_base.specs.Outside.{OutputState}
+use Rattle.rv_base.specs.declared.outside.Source.{Ghosts as SourceGhosts}
+use Rattle.rv_base.specs.declared.outside.Sink.{Ghosts as SinkGhosts}
 use Rattle.rv_base.specs.Writes.{AppendsFront}
 use Rattle.rv_keeper.specs.declared.keeper.Keeper.{Ghosts}
 use Rattle.rv_keeper.specs.declared.loaded.Loaded.{Loaded}
@@ -17,7 +19,7 @@ use Rattle.rv_answering.specs.declared.answer.Answer.{Answer}
 use Rattle.rv_answering.specs.declared.answer.Answer.TheVariants.{Pulled}
 use Rattle.rv_answering.specs.Requests.{Parsed}
 use Rattle.rv_answering.specs.Steps.{Handles}
-use Rattle.rv_net.specs.declared.conn.Conn.{Conn}
+use Rattle.rv_net.specs.declared.listen.Listen.{Ghosts as ListenGhosts}
 use Rattle.rv_room.specs.declared.view.SeatView.{SeatView}
 use Rattle.rv_room.specs.Lists.{StartsWith}
 use Rattle.rv_room.specs.Views.{newcomer}
@@ -26,6 +28,7 @@ use Rattle.rv_workers.specs.Serving.{EachServes, IsServed, ServesTogether}
 use Rattle.rv_cli.specs.declared.ending.Ending.{Ending}
 use Rattle.rv_cli.specs.declared.serve_ending.ServeEnding.{ServeEnding}
 use Rattle.rv_cli.specs.declared.serve_ending.ServeEnding.TheVariants.{Done, BadAccounts, TwiceAccounts, NotOpened, Net, Memory, Write}
+use Rattle.rv_cli.specs.Change.{StoreChange}
 use Rattle.rv_cli.specs.Texts.{serve_status, serve_text}
 use Rattle.rv_cli.specs.Headline.{Begins, IsLawfulRun, IsLeftAs, IsNotOpened, Leaves, ShowsAt, TellsChange, TellsTrouble, WritesOnly}
 use Rattle.rv_turns.specs.declared.pull.PullReply.{PullReply}
@@ -87,14 +90,13 @@ TellsEntries book old new Done = Appends old.written new.written (entries_text b
 TellsEntries book old new Write = AppendsFront old.written new.written (entries_text book) × Rose old.faults new.faults
 TellsEntries book old new ending = ⊥
 
--- ---- What becomes of a run. The store held this before, is opened with this and holds this afterwards; the net is served so, with
--- these accounts, between opening a desk and closing it.
+-- ---- What becomes of a run. The net is served so, with these accounts, between opening a desk and closing it.
 
-module _ {K : Type 0} (G : Ghosts K) (Told : Type 0) (HasFile : List ℕ → Type 0) (Was Stored Holds : Loaded → Type 0) (before after : ℕ) where
+module _ {K : Type 0} (G : Ghosts K) (c : StoreChange) (HasFile : List ℕ → Type 0) where
   -- the store was not opened, and is left as it was
   pub record HasRefused (output output' : OutputState) (ending : ServeEnding) : Type 0 where
-    pub why : HasNoAccounts Told HasFile before after ending
-    pub stays : Told → (held : Loaded) → Was held → Holds held
+    pub why : HasNoAccounts c.told HasFile c.before c.after ending
+    pub stays : c.told → (held : Loaded) → c.held held → c.holds held
     pub text : WritesOnly output output' (serve_text ending)
 
   -- the store did not open, and holds what it held
@@ -102,33 +104,33 @@ module _ {K : Type 0} (G : Ghosts K) (Told : Type 0) (HasFile : List ℕ → Typ
     pub other : Ending
     pub is : ending ≡ NotOpened other
     pub accounts : AccountsServed
-    pub says : FileSays Told HasFile (Ok accounts)
-    pub why : IsNotOpened Told Stored Holds before after other
-    pub left : IsLeftAs Told Was Stored Holds
+    pub says : FileSays c.told HasFile (Ok accounts)
+    pub why : IsNotOpened c other
+    pub left : IsLeftAs c
     pub text : WritesOnly output output' (serve_text ending)
 
   -- nothing was listened to, and the store keeps its book
   pub record HasNoNet (net net' : ℕ) (output output' : OutputState) (ending : ServeEnding) : Type 0 where
     pub accounts : AccountsServed
-    pub says : FileSays Told HasFile (Ok accounts)
+    pub says : FileSays c.told HasFile (Ok accounts)
     pub first : Served
-    pub begins : Begins Told Stored first
+    pub begins : Begins c first
     pub why : IsNoNet net net' ending
-    pub leaves : Leaves Told Holds before after first
+    pub leaves : Leaves c first
     pub text : WritesOnly output output' (serve_text ending)
 
   -- The net was served, and the store keeps the book that is left, which is lawful. Where the place tells, so did the desk's keeper to
   -- the end.
   pub record HasServed (Serves : AccountsServed → Seated K → Seated K → Type 0) (output output' : OutputState) (ending : ServeEnding) : Type 0 where
     pub accounts : AccountsServed
-    pub says : FileSays Told HasFile (Ok accounts)
+    pub says : FileSays c.told HasFile (Ok accounts)
     pub first : Seated K
     pub now : Seated K
-    pub begins : Begins Told Stored (served G.faults first)
+    pub begins : Begins c (served G.faults first)
     pub serves : Serves accounts first now
     pub sound : IsSound (served G.faults now)
-    pub told : Told → G.tells now.keeper
-    pub leaves : Leaves Told Holds before after (served G.faults now)
+    pub told : c.told → G.tells now.keeper
+    pub leaves : Leaves c (served G.faults now)
     pub entries : TellsEntries now.book output output' ending
 
   -- the status is that of an ending, and the run ended so
@@ -160,11 +162,10 @@ abbrev pub ShowsIn : Book → Parsed × Answer → Type 0
 ShowsIn book (asked, Pulled reply) = IsShownIn book asked reply
 ShowsIn book (asked, answer) = Unit {0}
 
-module _ {K L I O : Type 0} (G : Ghosts K) (accounts : AccountsServed) (input : I → InputState) (output : O → OutputState) (input_steady : I → Type 0) (output_steady : O → Type 0)
-    (tells : L → Type 0) (to_come came_back : L → List (Conn I O)) (out ends : L → ℕ) where
+module _ {K L I O : Type 0} (G : Ghosts K) (listen : ListenGhosts L I O) (source : SourceGhosts I) (sink : SinkGhosts O) (accounts : AccountsServed) where
   -- a listener is served, by its seat
   abbrev pub Serves : SeatView K → L → SeatView K → L → Type 0
-  Serves first given last back = IsServed G accounts input output input_steady output_steady tells to_come came_back out ends first given last back
+  Serves = IsServed G listen source sink accounts
 
   -- All that was asked over the connections of the listeners, with its answers, listener by listener.
   abbrev pub turns_served : (first : SeatView K) (givens : List L) (lasts : List (SeatView K)) (backs : List L) → EachServes Serves first givens lasts backs → List (Parsed × Answer)

@@ -19,9 +19,10 @@ use Rattle.rv_cli.specs.Serving.{FileSays, HasNoAccounts, NetServes}
 use Rattle.rv_base.specs.declared.outside.Source.{Ghosts as SourceGhosts}
 use Rattle.rv_base.specs.declared.outside.Sink.{Ghosts as SinkGhosts}
 use Rattle.rv_keeper.specs.declared.keeper.Keeper.{Ghosts as KeeperGhosts}
+use Rattle.rv_keeper.specs.declared.place.Place.{Ghosts as PlaceGhosts}
 use Rattle.rv_net.specs.declared.listen.Listen.{Ghosts as ListenGhosts}
 use Rattle.rv_net.specs.declared.net.Net.{Ghosts as NetGhosts}
-use Rattle.rv_workers.specs.Serving.{ServesBy, ServesTogether}
+use Rattle.rv_workers.specs.Serving.{IsServed, ServesTogether}
 
 -- what an accounts file of these bytes says, as it is told
 abbrev pub TellsFile : List ℕ → Result AccountsServed ServeEnding → Type 0
@@ -37,10 +38,10 @@ TellsAccounts Told HasFile before after (Ok served) = FileSays Told HasFile (Ok 
 TellsAccounts Told HasFile before after (Err ending) = HasNoAccounts Told HasFile before after ending
 
 -- the file was read, and the stores stay as they are
-pub record AccountsRead {P : Type 0} (tells : P → Type 0) (holds : P → List ℕ → Loaded → Type 0) (accounts : P → List ℕ → List ℕ → Type 0) (faults : P → ℕ) (name : List ℕ) (old : P) (result : Result AccountsServed ServeEnding) (new : P) : Type 0 where
-  pub told : tells new → tells old
-  pub stays : tells new → (store : List ℕ) (held : Loaded) → holds old store held → holds new store held
-  pub tells_so : TellsAccounts (tells new) (accounts old name) (faults old) (faults new) result
+pub record AccountsRead {P K : Type 0} (place : PlaceGhosts P K) (name : List ℕ) (old : P) (result : Result AccountsServed ServeEnding) (new : P) : Type 0 where
+  pub told : place.tells new → place.tells old
+  pub stays : place.tells new → (store : List ℕ) (held : Loaded) → place.holds old store held → place.holds new store held
+  pub tells_so : TellsAccounts (place.tells new) (place.accounts old name) (place.faults old) (place.faults new) result
 
 -- The net was served at a desk, or nothing was served and the desk is as it was.
 abbrev pub NetServed : {L K : Type 0} → Type 0 → (K → Type 0) → (L → Type 0) → (List L → List L → Type 0) → ℕ → List L → List L → List L → List L → ℕ → ℕ → Seated K → Seated K → Result (Unit {0}) NetFault → Type 0
@@ -68,5 +69,5 @@ TellsServed (Err nets.Memory) entries old new ending = (ending ≡ Memory) × Wr
 module _ {K N L I O : Type 0} (keeper : KeeperGhosts K) (net : NetGhosts N L I O) (listen : ListenGhosts L I O) (source : SourceGhosts I) (sink : SinkGhosts O) where
   abbrev pub ServesNet : AccountsServed → ℕ → N → N → Seated K → Seated K → Result (Unit {0}) NetFault → Type 0
   ServesNet accounts workers old new desk now result =
-      NetServed (net.tells new) keeper.tells listen.tells (λ given returned. ServesTogether keeper (ServesBy keeper listen source sink accounts) desk given now returned)
+      NetServed (net.tells new) keeper.tells listen.tells (λ given returned. ServesTogether keeper (IsServed keeper listen source sink accounts) desk given now returned)
       workers (net.to_give old) (net.to_give new) (net.came_back old) (net.came_back new) (net.faults old) (net.faults new) desk now result

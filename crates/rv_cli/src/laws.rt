@@ -36,12 +36,12 @@ pub fn troubles_have_causes()
 /// What is answered over the connections of listeners that are served side by side stands in one book: each turn began at a front of it
 /// that its seat had seen, or a longer one, and ended at one.
 pub fn turns_stand<K: Keeper, L: Listen>()
-    ensures { (accounts : AccountsServed) → TurnsStand K.Keeper accounts L.In.state L.Out.state L.In.fails_no_more L.Out.fails_no_more L.tells L.to_come L.came_back L.out L.ends }
+    ensures { (accounts : AccountsServed) → TurnsStand K.Keeper L.Listen L.In.Source L.Out.Sink accounts }
 {}
 
 /// In that book each client's acts have the ids 1, 2, 3 and so on, and the orders of each group's looks rise.
 pub fn served_books_are_lawful<K: Keeper, L: Listen>()
-    ensures { (accounts : AccountsServed) → ServedBooksAreLawful K.Keeper accounts L.In.state L.Out.state L.In.fails_no_more L.Out.fails_no_more L.tells L.to_come L.came_back L.out L.ends }
+    ensures { (accounts : AccountsServed) → ServedBooksAreLawful K.Keeper L.Listen L.In.Source L.Out.Sink accounts }
 {
     rv_history::laws::ids_count_up();
     rv_history::laws::orders_rise();
@@ -50,17 +50,17 @@ pub fn served_books_are_lawful<K: Keeper, L: Listen>()
 /// The patch of each pull that was answered so, applied to the view that its cookie names, gives exactly what the user sees at a point of
 /// that book.
 pub fn served_pulls_are_shown<K: Keeper, L: Listen>()
-    ensures { (accounts : AccountsServed) → ServedPullsAreShown K.Keeper accounts L.In.state L.Out.state L.In.fails_no_more L.Out.fails_no_more L.tells L.to_come L.came_back L.out L.ends }
+    ensures { (accounts : AccountsServed) → ServedPullsAreShown K.Keeper L.Listen L.In.Source L.Out.Sink accounts }
 {
     rv_history::laws::pulls_show();
 }
 
 /// An answer that tells a trouble with what keeps the book comes only where a fault of that rose.
 pub fn served_troubles_have_causes<K: Keeper, L: Listen>()
-    ensures { (accounts : AccountsServed) → ServedTroublesHaveCauses K.Keeper accounts L.In.state L.Out.state L.In.fails_no_more L.Out.fails_no_more L.tells L.to_come L.came_back L.out L.ends }
+    ensures { (accounts : AccountsServed) → ServedTroublesHaveCauses K.Keeper L.Listen L.In.Source L.Out.Sink accounts }
 {}
 
 /// Where the keeper tells what it holds as the room is closed, no answer says that another changed what is kept.
 pub fn served_keepers_stay<K: Keeper, L: Listen>()
-    ensures { (accounts : AccountsServed) → ServedKeepersStay K.Keeper accounts L.In.state L.Out.state L.In.fails_no_more L.Out.fails_no_more L.tells L.to_come L.came_back L.out L.ends }
+    ensures { (accounts : AccountsServed) → ServedKeepersStay K.Keeper L.Listen L.In.Source L.Out.Sink accounts }
 {}

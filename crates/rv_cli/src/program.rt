@@ -1,7 +1,6 @@
 // The program.
-ghost use Rattle.std.specs.Prelude.{◌≡◌, ◌≢◌, ◌≤◌, ◌⊎◌, ℕ, List, length, map, string_bytes, Some, None, Ok, codes};
+ghost use Rattle.std.specs.Prelude.{◌≡◌, ◌≢◌, ◌≤◌, ◌⊎◌, ℕ, List, length, Some, None, Ok, codes};
 ghost use Rattle.rv_base.specs.Causes.{Rose};
-ghost use Rattle.rv_words.specs.Words.{command_in};
 ghost use Rattle.rv_words.specs.declared.command.Command.TheVariants as commands;
 ghost use Rattle.rv_words.specs.declared.serve_options.ServeOptions.{ServeOptions};
 ghost use Rattle.rv_keeper.specs.Stores.{OpensAs, OthersStay};
@@ -9,7 +8,7 @@ ghost use Rattle.rv_answering.specs.declared.request.Request.TheVariants.{Retire
 ghost use Rattle.rv_cli.specs.Texts.{usage_text, status_of, status_text};
 ghost use Rattle.rv_cli.specs.Headline.{TellsActivity, TellsLists, TellsSound, WritesOnly, AllAsk, IsOther, KeptSound};
 ghost use Rattle.rv_cli.specs.Promises.{ServesAsAsked, WasFed, WasFedOrNot, WasReportedOrNot, WasRetired, WasRetiredOrNot, WasUnserved, WasWanted};
-ghost use Rattle.rv_cli.specs.Commands.{HasFile, IsOfStore, IsReportOf};
+ghost use Rattle.rv_cli.specs.Commands.{HasFile, asked_by, IsOfStore, IsReportOf};
 ghost use Rattle.rv_cli.specs.Replying.{Retired, WritesReply};
 ghost use Rattle.rv_cli.specs.Steadiness.{OutputIsSteady, PlaceIsSteady};
 ghost use Rattle.rv_cli.specs.declared.ending.Ending.TheVariants as endings;
@@ -22,11 +21,11 @@ use crate::store::{open_desk, refuse_opening};
 use crate::texts::{write_answer, write_ending, write_usage};
 use rv_answering::{Answer, retire_group};
 use rv_base::{Failed, Id, Memory, Sink, Source};
-use rv_crew::Crew;
 use rv_desk::Desk;
 use rv_keeper::{Keeper, Place};
 use rv_net::{Listen, Net};
 use rv_words::{Command, command_of};
+use rv_workers::Crew;
 use std::alloc::Global;
 use std::sync::Wait;
 
@@ -160,42 +159,42 @@ where
     <N::Listen as Listen>::Out: Send,
     // The words are no line of the set exactly at 2, unless memory was refused in reading them. Then, and for every command
     // but `feed`, the input is not read.
-    ensures usage { result ≡ 2 → command_in (map string_bytes words.now) ≡ None }
-    ensures usage_only { command_in (map string_bytes words.now) ≡ None → result ≡ 2 ⊎ ((result ≡ 8) × WritesOnly (O.state out.old) (O.state out.new) (status_text endings.Memory)) }
+    ensures usage { result ≡ 2 → asked_by words.now ≡ None }
+    ensures usage_only { asked_by words.now ≡ None → result ≡ 2 ⊎ ((result ≡ 8) × WritesOnly (O.state out.old) (O.state out.new) (status_text endings.Memory)) }
     ensures usage_text { result ≡ 2 → WritesOnly (O.state out.old) (O.state out.new) usage_text }
-    ensures reads { ((store : List ℕ) → command_in (map string_bytes words.now) ≡ Some (commands.Feed store) → ⊥) → input.new ≡ input.old }
-    ensures stays { command_in (map string_bytes words.now) ≡ None → place.new ≡ place.old }
+    ensures reads { ((store : List ℕ) → asked_by words.now ≡ Some (commands.Feed store) → ⊥) → input.new ≡ input.old }
+    ensures stays { asked_by words.now ≡ None → place.new ≡ place.old }
 
     // For every command but `serve` the net is let alone.
-    ensures idle { ((store : List ℕ) (options : ServeOptions) → command_in (map string_bytes words.now) ≡ Some (commands.Serve store options) → ⊥) → net.new ≡ net.old }
+    ensures idle { ((store : List ℕ) (options : ServeOptions) → asked_by words.now ≡ Some (commands.Serve store options) → ⊥) → net.new ≡ net.old }
 
     // What is written are the answers of a run from the book that the store kept over the lines that were read, and the store keeps
     // the book that the run leaves; or memory was refused in reading the words.
-    ensures feed { (store : List ℕ) → command_in (map string_bytes words.now) ≡ Some (commands.Feed store)
+    ensures feed { (store : List ℕ) → asked_by words.now ≡ Some (commands.Feed store)
         → WasFedOrNot P.Place O.Sink store place.old place.new S.Source input.old input.new out.old out.new result }
 
     // And so over the one line that retires the group.
-    ensures retire { (store group : List ℕ) → command_in (map string_bytes words.now) ≡ Some (commands.Retire store group)
+    ensures retire { (store group : List ℕ) → asked_by words.now ≡ Some (commands.Retire store group)
         → WasRetiredOrNot P.Place O.Sink store place.old place.new group out.old out.new result }
 
     // What is written to connections are the answers to their requests, over turns of seats at one book from the one that the store
     // kept, and the store keeps the book that they leave.
-    ensures serve { ServesAsAsked P.Place P.Kept.Keeper N.Net N.Listen.Listen N.Listen.In.Source N.Listen.Out.Sink O.Sink (command_in (map string_bytes words.now)) place.old place.new net.old net.new out.old out.new result }
+    ensures serve { ServesAsAsked P.Place P.Kept.Keeper N.Net N.Listen.Listen N.Listen.In.Source N.Listen.Out.Sink O.Sink (asked_by words.now) place.old place.new net.old net.new out.old out.new result }
 
     // At other statuses than 0 and 7 nothing was served.
-    ensures unserved { (store : List ℕ) (options : ServeOptions) → command_in (map string_bytes words.now) ≡ Some (commands.Serve store options)
+    ensures unserved { (store : List ℕ) (options : ServeOptions) → asked_by words.now ≡ Some (commands.Serve store options)
         → WasUnserved N.Net net.old net.new result }
 
     // What the net was asked for, if it was: at the port of the words as many listeners as workers, each for as many connections.
-    ensures wanted { (store : List ℕ) (options : ServeOptions) → command_in (map string_bytes words.now) ≡ Some (commands.Serve store options)
+    ensures wanted { (store : List ℕ) (options : ServeOptions) → asked_by words.now ≡ Some (commands.Serve store options)
         → WasWanted N.Net net.old net.new options }
 
     // A report is a text of the book that the store kept, which it still keeps.
-    ensures lists { (store : List ℕ) → command_in (map string_bytes words.now) ≡ Some (commands.Lists store)
+    ensures lists { (store : List ℕ) → asked_by words.now ≡ Some (commands.Lists store)
         → WasReportedOrNot P.Place O.Sink store place.old place.new TellsLists out.old out.new result }
-    ensures activity { (store : List ℕ) → command_in (map string_bytes words.now) ≡ Some (commands.Activity store)
+    ensures activity { (store : List ℕ) → asked_by words.now ≡ Some (commands.Activity store)
         → WasReportedOrNot P.Place O.Sink store place.old place.new TellsActivity out.old out.new result }
-    ensures check { (store : List ℕ) → command_in (map string_bytes words.now) ≡ Some (commands.Check store)
+    ensures check { (store : List ℕ) → asked_by words.now ≡ Some (commands.Check store)
         → WasReportedOrNot P.Place O.Sink store place.old place.new TellsSound out.old out.new result }
 
     // A fault is told exactly where one rose, but for a write of a status's own text that failed.
@@ -207,37 +206,37 @@ where
     ensures write_told { result ≡ 7 ⊎ (O.state out.new).faults ≡ (O.state out.old).faults ⊎ ((result ≢ 0) × Rose (O.state out.old).faults (O.state out.new).faults) }
 
     // Where all lines are of the form, the status is 0 or 8, or that of a fault or a damage.
-    ensures complete { (store : List ℕ) → command_in (map string_bytes words.now) ≡ Some (commands.Feed store) → AllAsk (S.state input.old).left (IsOther result) }
-    ensures complete_retire { (store group : List ℕ) → command_in (map string_bytes words.now) ≡ Some (commands.Retire store group) → result ≡ 0 ⊎ result ≡ 4 ⊎ result ≡ 5 ⊎ result ≡ 7 ⊎ result ≡ 8 }
+    ensures complete { (store : List ℕ) → asked_by words.now ≡ Some (commands.Feed store) → AllAsk (S.state input.old).left (IsOther result) }
+    ensures complete_retire { (store group : List ℕ) → asked_by words.now ≡ Some (commands.Retire store group) → result ≡ 0 ⊎ result ≡ 4 ⊎ result ≡ 5 ⊎ result ≡ 7 ⊎ result ≡ 8 }
 
-    ensures complete_reports { (store : List ℕ) → IsReportOf store (command_in (map string_bytes words.now)) → result ≡ 0 ⊎ result ≡ 4 ⊎ result ≡ 5 ⊎ result ≡ 7 ⊎ result ≡ 8 }
+    ensures complete_reports { (store : List ℕ) → IsReportOf store (asked_by words.now) → result ≡ 0 ⊎ result ≡ 4 ⊎ result ≡ 5 ⊎ result ≡ 7 ⊎ result ≡ 8 }
 
-    ensures complete_serve { (store : List ℕ) (options : ServeOptions) → command_in (map string_bytes words.now) ≡ Some (commands.Serve store options)
+    ensures complete_serve { (store : List ℕ) (options : ServeOptions) → asked_by words.now ≡ Some (commands.Serve store options)
         → result ≡ 0 ⊎ result ≡ 3 ⊎ result ≡ 4 ⊎ result ≡ 5 ⊎ result ≡ 7 ⊎ result ≡ 8 ⊎ result ≡ 9 }
 
     // Where the place tells, and the store kept a lawful book within the limit, the status is no damage.
-    ensures sound { (store : List ℕ) → command_in (map string_bytes words.now) ≡ Some (commands.Feed store) → P.tells place.new
+    ensures sound { (store : List ℕ) → asked_by words.now ≡ Some (commands.Feed store) → P.tells place.new
         → KeptSound (OpensAs store (P.holds place.old store)) → result ≢ 5 }
-    ensures sound_retire { (store group : List ℕ) → command_in (map string_bytes words.now) ≡ Some (commands.Retire store group) → P.tells place.new
-        → KeptSound (OpensAs store (P.holds place.old store)) → result ≢ 5 }
-
-    ensures sound_reports { (store : List ℕ) → IsReportOf store (command_in (map string_bytes words.now)) → P.tells place.new
+    ensures sound_retire { (store group : List ℕ) → asked_by words.now ≡ Some (commands.Retire store group) → P.tells place.new
         → KeptSound (OpensAs store (P.holds place.old store)) → result ≢ 5 }
 
-    ensures sound_serve { (store : List ℕ) (options : ServeOptions) → command_in (map string_bytes words.now) ≡ Some (commands.Serve store options) → P.tells place.new
+    ensures sound_reports { (store : List ℕ) → IsReportOf store (asked_by words.now) → P.tells place.new
+        → KeptSound (OpensAs store (P.holds place.old store)) → result ≢ 5 }
+
+    ensures sound_serve { (store : List ℕ) (options : ServeOptions) → asked_by words.now ≡ Some (commands.Serve store options) → P.tells place.new
         → KeptSound (OpensAs store (P.holds place.old store)) → result ≢ 5 }
 
     // And status 0 of a report comes only of a store that is there.
-    ensures absent { (store : List ℕ) → IsReportOf store (command_in (map string_bytes words.now)) → P.tells place.new → result ≡ 0 → P.has place.old store }
-    ensures none_made { (store : List ℕ) → IsReportOf store (command_in (map string_bytes words.now)) → P.tells place.new → P.has place.new store → P.has place.old store }
+    ensures absent { (store : List ℕ) → IsReportOf store (asked_by words.now) → P.tells place.new → result ≡ 0 → P.has place.old store }
+    ensures none_made { (store : List ℕ) → IsReportOf store (asked_by words.now) → P.tells place.new → P.has place.new store → P.has place.old store }
 
     // So over a place that tells the store in memory is never damaged; and without a command no store is.
-    ensures sound_memory_reports { IsReportOf (codes "memory") (command_in (map string_bytes words.now)) → P.tells place.new → result ≢ 5 }
+    ensures sound_memory_reports { IsReportOf (codes "memory") (asked_by words.now) → P.tells place.new → result ≢ 5 }
     ensures sound_memory { (group : List ℕ)
-        → command_in (map string_bytes words.now) ≡ Some (commands.Feed (codes "memory")) ⊎ command_in (map string_bytes words.now) ≡ Some (commands.Retire (codes "memory") group)
+        → asked_by words.now ≡ Some (commands.Feed (codes "memory")) ⊎ asked_by words.now ≡ Some (commands.Retire (codes "memory") group)
         → P.tells place.new → result ≢ 5 }
-    ensures sound_memory_serve { (options : ServeOptions) → command_in (map string_bytes words.now) ≡ Some (commands.Serve (codes "memory") options) → P.tells place.new → result ≢ 5 }
-    ensures sound_none { command_in (map string_bytes words.now) ≡ None → result ≢ 5 }
+    ensures sound_memory_serve { (options : ServeOptions) → asked_by words.now ≡ Some (commands.Serve (codes "memory") options) → P.tells place.new → result ≢ 5 }
+    ensures sound_none { asked_by words.now ≡ None → result ≢ 5 }
 
     // Over an input and an output that fail no more it is none of the faults, but for want of memory in the output.
     ensures steady_input { S.fails_no_more input.old → S.fails_no_more input.new × (result ≢ 6) }
@@ -245,16 +244,16 @@ where
 
     // Over a place and a net that fail no more it is no fault of theirs, where the store of a report and the accounts file are there, and
     // there are as many listeners as workers.
-    ensures steady_feed { (store : List ℕ) → command_in (map string_bytes words.now) ≡ Some (commands.Feed store) → P.fails_no_more place.old → PlaceIsSteady P.fails_no_more P.faults place.old place.new result }
-    ensures steady_retire { (store group : List ℕ) → command_in (map string_bytes words.now) ≡ Some (commands.Retire store group) → P.fails_no_more place.old → PlaceIsSteady P.fails_no_more P.faults place.old place.new result }
-    ensures steady_reports { (store : List ℕ) → IsReportOf store (command_in (map string_bytes words.now)) → P.fails_no_more place.old → P.has place.old store → PlaceIsSteady P.fails_no_more P.faults place.old place.new result }
-    ensures steady_serve { (store : List ℕ) (options : ServeOptions) → command_in (map string_bytes words.now) ≡ Some (commands.Serve store options)
+    ensures steady_feed { (store : List ℕ) → asked_by words.now ≡ Some (commands.Feed store) → P.fails_no_more place.old → PlaceIsSteady P.fails_no_more P.faults place.old place.new result }
+    ensures steady_retire { (store group : List ℕ) → asked_by words.now ≡ Some (commands.Retire store group) → P.fails_no_more place.old → PlaceIsSteady P.fails_no_more P.faults place.old place.new result }
+    ensures steady_reports { (store : List ℕ) → IsReportOf store (asked_by words.now) → P.fails_no_more place.old → P.has place.old store → PlaceIsSteady P.fails_no_more P.faults place.old place.new result }
+    ensures steady_serve { (store : List ℕ) (options : ServeOptions) → asked_by words.now ≡ Some (commands.Serve store options)
         → P.fails_no_more place.old → HasFile (P.accounts place.old) options.accounts → P.fails_no_more place.new × (result ≢ 4) }
-    ensures steady_net { (store : List ℕ) (options : ServeOptions) → command_in (map string_bytes words.now) ≡ Some (commands.Serve store options)
+    ensures steady_net { (store : List ℕ) (options : ServeOptions) → asked_by words.now ≡ Some (commands.Serve store options)
         → N.fails_no_more net.old → options.workers ≤ length (N.to_give net.old) → result ≢ 9 }
 
     // The stores that the words do not name are as they were, and so are the accounts files.
-    ensures others { (store : List ℕ) → IsOfStore store (command_in (map string_bytes words.now)) → P.tells place.new → OthersStay P.holds P.is_out P.has P.accounts store place.old place.new }
+    ensures others { (store : List ℕ) → IsOfStore store (asked_by words.now) → P.tells place.new → OthersStay P.holds P.is_out P.has P.accounts store place.old place.new }
 {
     match command_of(alloc, words) {
         Ok(Some(Command::Feed { store })) => run_feed(alloc, place, store.as_str(), input, out),

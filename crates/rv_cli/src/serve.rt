@@ -17,12 +17,11 @@ use crate::store::open_desk;
 use crate::texts::{write_count, write_serve_ending};
 use rv_accounts::{Accounts, AccountsFault, read_accounts};
 use rv_base::{Bytes, Failed, Memory, Sink};
-use rv_crew::Crew;
 use rv_desk::Desk;
 use rv_keeper::{KeepFault, Keeper, Place};
 use rv_net::{Listen, Listeners, Net, NetFault};
 use rv_words::ServeOptions;
-use rv_workers::serve_listeners;
+use rv_workers::{Crew, serve_listeners};
 use std::alloc::Global;
 use std::sync::Wait;
 
@@ -40,7 +39,7 @@ fn accounts_in(alloc: Global, bytes: &Bytes) -> Result<Accounts, ServeEnding>
 
 // The accounts of the file of this name; or why there are none.
 fn accounts_of<P: Place>(alloc: Global, place: &mut P, name: &str) -> Result<Accounts, ServeEnding>
-    ensures read { AccountsRead P.tells P.holds P.accounts P.faults name.now place.old result place.new }
+    ensures read { AccountsRead P.Place name.now place.old result place.new }
     ensures stays { P.tells place.new → Stays P.holds P.is_out P.has P.accounts place.old place.new }
     ensures steady { P.fails_no_more place.old → HasFile (P.accounts place.old) name.now → P.fails_no_more place.new × AccountsAreSteady result }
 {

@@ -24,7 +24,7 @@ fn open_kept<P: Place>(
     kept: P::Kept,
 ) -> Result<Desk<P::Kept>, Ending>
     requires { P.tells place.old → P.is_out place.old store.now }
-    ensures opens { OpensKept P.tells P.holds P.is_out P.faults P.Kept.tells P.Kept.holds P.Kept.faults store.now kept place.old result place.new }
+    ensures opens { OpensKept P.Place P.Kept.Keeper store.now kept place.old result place.new }
     ensures told { P.tells place.new → P.tells place.old }
     ensures others { P.tells place.new → OthersStay P.holds P.is_out P.has P.accounts store.now place.old place.new }
     ensures steady { P.fails_no_more place.old → P.Kept.fails_no_more kept → P.Kept.faults kept ≡ 0 → P.fails_no_more place.new × (P.faults place.new ≡ P.faults place.old) × DeskIsSteady P.Kept.fails_no_more P.Kept.faults result }
@@ -44,7 +44,7 @@ pub(crate) fn open_desk<P: Place>(
     place: &mut P,
     store: &str,
 ) -> Result<Desk<P::Kept>, Ending>
-    ensures opens { OpensStore P.tells P.holds P.is_out P.faults P.Kept.tells P.Kept.faults store.now place.old result place.new }
+    ensures opens { OpensStore P.Place P.Kept.Keeper store.now place.old result place.new }
     ensures told { P.tells place.new → P.tells place.old }
     ensures others { P.tells place.new → OthersStay P.holds P.is_out P.has P.accounts store.now place.old place.new }
     ensures steady { P.fails_no_more place.old → P.fails_no_more place.new × (P.faults place.new ≡ P.faults place.old) × DeskIsSteady P.Kept.fails_no_more P.Kept.faults result }
@@ -59,7 +59,7 @@ pub(crate) fn open_existing_desk<P: Place>(
     place: &mut P,
     store: &str,
 ) -> Result<Desk<P::Kept>, Ending>
-    ensures opens { OpensStore P.tells P.holds P.is_out P.faults P.Kept.tells P.Kept.faults store.now place.old result place.new }
+    ensures opens { OpensStore P.Place P.Kept.Keeper store.now place.old result place.new }
     ensures there { P.tells place.new → IsOk result → P.has place.old store.now }
     ensures none_made { P.tells place.new → P.has place.new store.now → P.has place.old store.now }
     ensures others { P.tells place.new → OthersStay P.holds P.is_out P.has P.accounts store.now place.old place.new }
@@ -77,7 +77,7 @@ fn check_kept<P: Place>(
     kept: P::Kept,
 ) -> Result<u32, Ending>
     requires { P.tells place.old → P.is_out place.old store.now }
-    ensures checks { ChecksKept P.tells P.holds P.faults P.Kept.tells P.Kept.holds P.Kept.faults store.now kept place.old result place.new }
+    ensures checks { ChecksKept P.Place P.Kept.Keeper store.now kept place.old result place.new }
     ensures told { P.tells place.new → P.tells place.old }
     ensures others { P.tells place.new → OthersStay P.holds P.is_out P.has P.accounts store.now place.old place.new }
     ensures steady { P.fails_no_more place.old → P.Kept.fails_no_more kept → P.Kept.faults kept ≡ 0 → P.fails_no_more place.new × (P.faults place.new ≡ P.faults place.old) × CheckIsSteady result }
@@ -98,7 +98,7 @@ pub(crate) fn check_store<P: Place>(
     place: &mut P,
     store: &str,
 ) -> Result<u32, Ending>
-    ensures checks { ChecksStore P.tells P.holds P.faults store.now place.old result place.new }
+    ensures checks { ChecksStore P.Place store.now place.old result place.new }
     ensures there { P.tells place.new → IsOk result → P.has place.old store.now }
     ensures none_made { P.tells place.new → P.has place.new store.now → P.has place.old store.now }
     ensures others { P.tells place.new → OthersStay P.holds P.is_out P.has P.accounts store.now place.old place.new }

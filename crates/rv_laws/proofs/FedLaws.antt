@@ -1,8 +1,8 @@
 -- What holds of each run of `feed`.
 use Rattle.std.proofs.Common.{◌≡◌, ℕ, zero, suc, ◌-◌, ◌^◌, ◌<◌, ◌≤◌, List, [], ◌∷◌, ◌++◌, true, Option, Some, Ok, refl, sym, subst, arith}
 use Rattle.std.specs.List.{AllByRecursion}
-use Rattle.rv_keeper.specs.declared.loaded.Loaded.{Loaded}
-use Rattle.rv_keeper.specs.Stores.{OpensAs, TakesUp}
+use Rattle.rv_keeper.specs.declared.place.Place.{Ghosts as PlaceGhosts}
+use Rattle.rv_keeper.specs.Stores.{TakesUp}
 use Rattle.rv_book.specs.declared.entry.Entry.{Entry}
 use Rattle.rv_book.specs.Book.{size}
 use Rattle.rv_history.specs.Clients.{ClientPull, EachCurrent, WasTold}
@@ -15,6 +15,7 @@ use Rattle.rv_answering.specs.declared.line.Line.{Line}
 use Rattle.rv_answering.specs.declared.line.Line.TheVariants.{Asks}
 use Rattle.rv_answering.specs.declared.request.Request.TheVariants.{Pull}
 use Rattle.rv_answering.specs.Requests.{Parsed}
+use Rattle.rv_cli.specs.Change.{StoreChange, change}
 use Rattle.rv_cli.specs.Headline.{Begins, BooksAreLawful, IsLawfulRun, IsShown, PullsAreShown, Run, TroublesHaveCauses}
 use Rattle.rv_cli.specs.RunLaws.{run_later}
 use Rattle.rv_laws.specs.Feeds.{FedBooksAreLawful, FedPullsAreShown, FedTroublesHaveCauses, FedPushesStand, FedClientsFollow, IsTurn, IsPull, EachFollows}
@@ -24,8 +25,8 @@ use Rattle.rv_turns.specs.declared.pull.PullReply.{PullReply}
 use Rattle.rv_history.specs.Clients as clients
 
 -- what opens is sound
-begins_sound : (Told : Type 0) (Stored : Loaded → Type 0) (first : Served) → Begins Told Stored first → IsSound first
-begins_sound Told Stored first begins = record {
+begins_sound : (c : StoreChange) (first : Served) → Begins c first → IsSound first
+begins_sound c first begins = record {
   lawful = begins.opens.sound.lawful;
   within = subst (λ (n : ℕ). size first.book ≤ n) (sym begins.limit) begins.opens.sound.within;
   next = subst (λ (d : Option Entry). MayStand first.book first.limit d) (sym begins.doubt) tt;
@@ -97,31 +98,31 @@ pub no_fault : (kept before after faults : ℕ) → TakesUp kept before after �
 no_fault zero before after faults taken stays below le = omega arith
 no_fault (suc kept) before after faults taken stays below le = absurd (omega (arith, taken))
 
-module _ {P : Type 0} (tells : P → Type 0) (holds : P → List ℕ → Loaded → Type 0) (faults : P → ℕ) where
-  pub books_are_lawful : BooksAreLawful → FedBooksAreLawful tells holds faults
-  books_are_lawful law old new store bytes output output' run = lawful (tells new) run.first run.now run.lines run.answers law run.told run.run (begins_sound (tells new) (OpensAs store (holds old store)) run.first run.begins)
+module _ {P K : Type 0} (place : PlaceGhosts P K) where
+  pub books_are_lawful : BooksAreLawful → FedBooksAreLawful place
+  books_are_lawful law old new store bytes output output' run = lawful (place.tells new) run.first run.now run.lines run.answers law run.told run.run (begins_sound (change place store old new) run.first run.begins)
 
-  pub pulls_are_shown : PullsAreShown → FedPullsAreShown tells holds faults
-  pulls_are_shown law old new store bytes output output' run = shown (tells new) run.first run.now run.lines run.answers law run.told run.run (begins_sound (tells new) (OpensAs store (holds old store)) run.first run.begins)
+  pub pulls_are_shown : PullsAreShown → FedPullsAreShown place
+  pulls_are_shown law old new store bytes output output' run = shown (place.tells new) run.first run.now run.lines run.answers law run.told run.run (begins_sound (change place store old new) run.first run.begins)
 
-  pub troubles_have_causes : TroublesHaveCauses → FedTroublesHaveCauses tells holds faults
+  pub troubles_have_causes : TroublesHaveCauses → FedTroublesHaveCauses place
   troubles_have_causes law old new store bytes output output' run stays below =
-      law true run.first run.now run.lines run.answers (told_run (tells new) run.first run.now run.lines run.answers run.told run.run)
-      (no_fault run.leaves.kept (faults old) (faults new) run.now.faults run.leaves.taken stays below run.leaves.later)
+      law true run.first run.now run.lines run.answers (told_run (place.tells new) run.first run.now run.lines run.answers run.told run.run)
+      (no_fault run.leaves.kept (place.faults old) (place.faults new) run.now.faults run.leaves.taken stays below run.leaves.later)
 
-  pub pushes_stand : BooksAreLawful → PushesStand pull_json → FedPushesStand tells holds faults
+  pub pushes_stand : BooksAreLawful → PushesStand pull_json → FedPushesStand place
   pushes_stand law stand old new store bytes output output' run user push turn =
-      let sound = begins_sound (tells new) (OpensAs store (holds old store)) run.first run.begins in
+      let sound = begins_sound (change place store old new) run.first run.begins in
       let at = turn_at law run.first run.now turn.before turn.after turn.answered turn.others _ _ sound turn.same
-      (run_at (tells new) run.first run.now run.lines run.answers _ _ turn (told_run (tells new) run.first run.now run.lines run.answers run.told run.run)) in
+      (run_at (place.tells new) run.first run.now run.lines run.answers _ _ turn (told_run (place.tells new) run.first run.now run.lines run.answers run.told run.run)) in
       all_later (record { user = user; group = push.group }) push.mutations at.new.book at.more.0 run.now.book at.more.1 (step_stands stand at.point at.new user push at.takes.step at.sound)
 
-  pub clients_follow : BooksAreLawful → PullsAreShown → clients.ClientsFollow pull_json → FedClientsFollow tells holds faults
+  pub clients_follow : BooksAreLawful → PullsAreShown → clients.ClientsFollow pull_json → FedClientsFollow place
   clients_follow law show follow old new store bytes output output' run user pulls client turns =
-      let sound = begins_sound (tells new) (OpensAs store (holds old store)) run.first run.begins in
-      let shows = shown (tells new) run.first run.now run.lines run.answers show run.told run.run sound in
-      let kept = lawful (tells new) run.first run.now run.lines run.answers law run.told run.run sound in
+      let sound = begins_sound (change place store old new) run.first run.begins in
+      let shows = shown (place.tells new) run.first run.now run.lines run.answers show run.told run.run sound in
+      let kept = lawful (place.tells new) run.first run.now run.lines run.answers law run.told run.run sound in
       let limit : run.now.limit ≡ 2 ^ 32 - 1 = kept.limit run.begins.limit in
       let within : size run.now.book ≤ run.now.limit = kept.sound.within in
-      each_follows (tells new) run.first run.now run.lines run.answers user run.told shows pulls turns
-      (follow user run.now.book pulls (omega (arith, limit, within)) client (all_told (tells new) run.first run.now run.lines run.answers user run.told shows pulls turns))
+      each_follows (place.tells new) run.first run.now run.lines run.answers user run.told shows pulls turns
+      (follow user run.now.book pulls (omega (arith, limit, within)) client (all_told (place.tells new) run.first run.now run.lines run.answers user run.told shows pulls turns))

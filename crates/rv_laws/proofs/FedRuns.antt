@@ -3,7 +3,9 @@ use Rattle.std.proofs.Common.{◌≡◌, ℕ, ◌+◌, ◌==◌, ◌⊎◌, inl,
 use Rattle.std.specs.List.{flat_map}
 use Rattle.std.specs.Io.KnownBytes.{Consumes}
 use Rattle.rv_lines.specs.Lines.{onto, onto_ended, lines_of, ended_lines_of}
-use Rattle.rv_keeper.specs.declared.loaded.Loaded.{Loaded}
+use Rattle.rv_keeper.specs.declared.place.Place.{Ghosts as PlaceGhosts}
+use Rattle.rv_base.specs.declared.outside.Source.{Ghosts as SourceGhosts}
+use Rattle.rv_base.specs.declared.outside.Sink.{Ghosts as SinkGhosts}
 use Rattle.rv_history.specs.Served.{Served}
 use Rattle.rv_answering.specs.declared.answer.Answer.{Answer}
 use Rattle.rv_answering.specs.declared.line.Line.{Line}
@@ -80,17 +82,18 @@ some_to : {X : Type 0} (o : Option X) (P Q : X → Type 0) → ((x : X) → P x 
 some_to None P Q goes some = tt
 some_to (Some x) P Q goes some = goes x some
 
-module _ {P : Type 0} (tells : P → Type 0) (holds : P → List ℕ → Loaded → Type 0) (faults : P → ℕ) where
-  pub feeds_are_runs : FeedsAreRuns tells holds faults
-  feeds_are_runs old new store input input' output output' status (ending, is, inl refused) told =
-      of_some input.left (λ bytes. DidNotOpen tells holds faults old new store input input' output output' status ⊎ FeedRun tells holds faults old new store bytes output output') (λ bytes. inl (ending, is, refused.0, refused.1))
-  feeds_are_runs old new store input input' output output' status (ending, is, inr fed) told =
-      some_to input.left (λ bytes. Fed (tells new) fed.first fed.now bytes input' output output' ending)
-      (λ bytes. DidNotOpen tells holds faults old new store input input' output output' status ⊎ FeedRun tells holds faults old new store bytes output output') (λ bytes f. inr (of_fed bytes f)) fed.fed
+module _ {P K : Type 0} (place : PlaceGhosts P K) where
+  pub feeds_are_runs : {S O : Type 0} (input : SourceGhosts S) (output : SinkGhosts O) → FeedsAreRuns place input output
+  feeds_are_runs input output old new store read read' out out' status (ending, is, inl refused) told =
+      of_some (input.state read).left (λ bytes. DidNotOpen place old new store (input.state read) (input.state read') (output.state out) (output.state out') status ⊎ FeedRun place old new store bytes (output.state out) (output.state out'))
+      (λ bytes. inl (ending, is, refused.0, refused.1))
+  feeds_are_runs input output old new store read read' out out' status (ending, is, inr fed) told =
+      some_to (input.state read).left (λ bytes. Fed (place.tells new) fed.first fed.now bytes (input.state read') (output.state out) (output.state out') ending)
+      (λ bytes. DidNotOpen place old new store (input.state read) (input.state read') (output.state out) (output.state out') status ⊎ FeedRun place old new store bytes (output.state out) (output.state out')) (λ bytes f. inr (of_fed bytes f)) fed.fed
     where
-      of_fed : (bytes : List ℕ) → Fed (tells new) fed.first fed.now bytes input' output output' ending → FeedRun tells holds faults old new store bytes output output'
+      of_fed : (bytes : List ℕ) → Fed (place.tells new) fed.first fed.now bytes (input.state read') (output.state out) (output.state out') ending → FeedRun place old new store bytes (output.state out) (output.state out')
       of_fed bytes f =
-          let run = run_of (tells new) fed.first fed.now bytes f.read f.text input'.left ending f.consumed f.ends in
+          let run = run_of (place.tells new) fed.first fed.now bytes f.read f.text (input.state read').left ending f.consumed f.ends in
           record {
             told = told;
             first = fed.first;

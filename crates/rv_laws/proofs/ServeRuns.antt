@@ -1,17 +1,19 @@
 -- From the clause of `run` to the listeners that were served, and what holds of them.
 use Rattle.std.proofs.Common.{◌≡◌, ℕ, ◌-◌, ◌^◌, ◌<◌, ◌≤◌, ◌⊎◌, inl, inr, List, [], ◌∷◌, Some, sym, ap, ◌∙◌, subst, arith}
 use Rattle.std.specs.List.{AllByRecursion}
-use Rattle.rv_base.specs.Outside.{InputState, OutputState}
+use Rattle.rv_base.specs.declared.outside.Source.{Ghosts as SourceGhosts}
+use Rattle.rv_base.specs.declared.outside.Sink.{Ghosts as SinkGhosts}
 use Rattle.rv_accounts.specs.File.{Served as AccountsServed}
 use Rattle.rv_keeper.specs.declared.keeper.Keeper.{Ghosts}
-use Rattle.rv_keeper.specs.declared.loaded.Loaded.{Loaded}
-use Rattle.rv_keeper.specs.Stores.{OpensAs}
+use Rattle.rv_keeper.specs.declared.place.Place.{Ghosts as PlaceGhosts}
 use Rattle.rv_book.specs.Book.{size}
-use Rattle.rv_net.specs.declared.conn.Conn.{Conn}
+use Rattle.rv_net.specs.declared.listen.Listen.{Ghosts as ListenGhosts}
+use Rattle.rv_net.specs.declared.net.Net.{Ghosts as NetGhosts}
 use Rattle.rv_cli.specs.declared.ending.Ending.{Ending}
 use Rattle.rv_cli.specs.declared.ending.Ending.TheVariants as endings
 use Rattle.rv_cli.specs.declared.serve_ending.ServeEnding.{ServeEnding}
 use Rattle.rv_cli.specs.declared.serve_ending.ServeEnding.TheVariants.{BadAccounts, TwiceAccounts, NotOpened, Net, Memory}
+use Rattle.rv_cli.specs.Change.{StoreChange, change}
 use Rattle.rv_cli.specs.Headline.{IsNotOpened, TellsChange, TellsTrouble}
 use Rattle.rv_cli.specs.Serving.{HasNoAccounts, IsNoNet, ServedBooksAreLawful, ServedKeepersStay, ServedPullsAreShown, ServedTroublesHaveCauses}
 use Rattle.rv_cli.specs.Texts.{serve_status, status_of}
@@ -40,11 +42,11 @@ no_accounts Told HasFile before after (NotOpened endings.Keeper) why of = neithe
 no_accounts Told HasFile before after (NotOpened endings.Memory) why of = neither 8 (omega arith) (λ is. omega (arith, is)) of
 no_accounts Told HasFile before after ending why of = absurd why
 
-no_store : (Told : Type 0) (Stored Holds : Loaded → Type 0) (before after : ℕ) (ending : Ending) → IsNotOpened Told Stored Holds before after ending → IsOf (status_of ending) → ⊥
-no_store Told Stored Holds before after endings.Keeper why of = neither 4 (omega arith) (λ is. omega (arith, is)) of
-no_store Told Stored Holds before after (endings.Damaged shelf key) why of = neither 5 (omega arith) (λ is. omega (arith, is)) of
-no_store Told Stored Holds before after endings.Memory why of = neither 8 (omega arith) (λ is. omega (arith, is)) of
-no_store Told Stored Holds before after ending why of = absurd why
+no_store : (c : StoreChange) (ending : Ending) → IsNotOpened c ending → IsOf (status_of ending) → ⊥
+no_store c endings.Keeper why of = neither 4 (omega arith) (λ is. omega (arith, is)) of
+no_store c (endings.Damaged shelf key) why of = neither 5 (omega arith) (λ is. omega (arith, is)) of
+no_store c endings.Memory why of = neither 8 (omega arith) (λ is. omega (arith, is)) of
+no_store c ending why of = absurd why
 
 no_net : (before after : ℕ) (ending : ServeEnding) → IsNoNet before after ending → IsOf (serve_status ending) → ⊥
 no_net before after Net why of = neither 9 (omega arith) (λ is. omega (arith, is)) of
@@ -53,62 +55,60 @@ no_net before after ending why of = absurd why
 
 -- ---- The run.
 
-module _ {P N K L I O : Type 0} (tells : P → Type 0) (files : P → List ℕ → List ℕ → Type 0) (holds : P → List ℕ → Loaded → Type 0) (place_faults : P → ℕ)
-    (net_tells : N → Type 0) (to_give given_back : N → List L) (net_faults : N → ℕ) (G : Ghosts K)
-    (input : I → InputState) (output : O → OutputState) (input_steady : I → Type 0) (output_steady : O → Type 0) (listener_tells : L → Type 0) (to_come came_back : L → List (Conn I O)) (out ends : L → ℕ) where
-  pub serves_are_runs : ServesAreRuns tells files holds place_faults net_tells to_give given_back net_faults G input output input_steady output_steady listener_tells to_come came_back out ends
-  serves_are_runs old new net net' store options output output' status (ending, is, inl refused) at =
-      absurd (no_accounts (tells new) (files old options.accounts) (place_faults old) (place_faults new) ending refused.why (subst (λ (n : ℕ). IsOf n) is at))
-  serves_are_runs old new net net' store options output output' status (ending, is, inr (inl closed)) at =
-      absurd (no_store (tells new) (OpensAs store (holds old store)) (holds new store) (place_faults old) (place_faults new) closed.other closed.why (subst (λ (n : ℕ). IsOf n) (is ∙ ap serve_status closed.is) at))
-  serves_are_runs old new net net' store options output output' status (ending, is, inr (inr (inl idle))) at =
-      absurd (no_net (net_faults net) (net_faults net') ending idle.why (subst (λ (n : ℕ). IsOf n) is at))
-  serves_are_runs old new net net' store options output output' status (ending, is, inr (inr (inr ran))) at =
-      let net = ran.serves in
+module _ {P N K L I O : Type 0} (place : PlaceGhosts P K) (G : Ghosts K) (net : NetGhosts N L I O) (listen : ListenGhosts L I O) (source : SourceGhosts I) (sink : SinkGhosts O) where
+  pub serves_are_runs : {Out : Type 0} (output : SinkGhosts Out) → ServesAreRuns place G net listen source sink output
+  serves_are_runs output old new before after store options out out' status (ending, is, inl refused) at =
+      absurd (no_accounts (place.tells new) (place.accounts old options.accounts) (place.faults old) (place.faults new) ending refused.why (subst (λ (n : ℕ). IsOf n) is at))
+  serves_are_runs output old new before after store options out out' status (ending, is, inr (inl closed)) at =
+      absurd (no_store (change place store old new) closed.other closed.why (subst (λ (n : ℕ). IsOf n) (is ∙ ap serve_status closed.is) at))
+  serves_are_runs output old new before after store options out out' status (ending, is, inr (inr (inl idle))) at =
+      absurd (no_net (net.faults before) (net.faults after) ending idle.why (subst (λ (n : ℕ). IsOf n) is at))
+  serves_are_runs output old new before after store options out out' status (ending, is, inr (inr (inr ran))) at =
+      let serves = ran.serves in
       record {
         accounts = ran.accounts;
         opened = ran.first;
         now = ran.now;
-        givens = net.given;
-        backs = net.returned;
+        givens = serves.given;
+        backs = serves.returned;
         begins = ran.begins;
-        together = net.serves;
+        together = serves.serves;
         sound = ran.sound;
         told = ran.told;
         leaves = ran.leaves;
-        count = net.count;
-        first = net.first;
-        last = net.last;
+        count = serves.count;
+        first = serves.first;
+        last = serves.last;
       }
 
-  pub books_are_lawful : ((accounts : AccountsServed) → ServedBooksAreLawful G accounts input output input_steady output_steady listener_tells to_come came_back out ends)
-      → ServeBooksAreLawful tells files holds place_faults net_tells to_give given_back net_faults G input output input_steady output_steady listener_tells to_come came_back out ends
-  books_are_lawful law old new net net' store options run = law run.accounts run.opened run.now run.givens run.backs run.together run.sound
+  pub books_are_lawful : ((accounts : AccountsServed) → ServedBooksAreLawful G listen source sink accounts)
+      → ServeBooksAreLawful place G net listen source sink
+  books_are_lawful law old new before after store options run = law run.accounts run.opened run.now run.givens run.backs run.together run.sound
 
-  pub pulls_are_shown : ((accounts : AccountsServed) → ServedPullsAreShown G accounts input output input_steady output_steady listener_tells to_come came_back out ends)
-      → ServePullsAreShown tells files holds place_faults net_tells to_give given_back net_faults G input output input_steady output_steady listener_tells to_come came_back out ends
-  pulls_are_shown law old new net net' store options run = law run.accounts run.opened run.now run.givens run.backs run.together
+  pub pulls_are_shown : ((accounts : AccountsServed) → ServedPullsAreShown G listen source sink accounts)
+      → ServePullsAreShown place G net listen source sink
+  pulls_are_shown law old new before after store options run = law run.accounts run.opened run.now run.givens run.backs run.together
 
-  pub troubles_have_causes : ((accounts : AccountsServed) → ServedTroublesHaveCauses G accounts input output input_steady output_steady listener_tells to_come came_back out ends)
-      → ServeTroublesHaveCauses tells files holds place_faults net_tells to_give given_back net_faults G input output input_steady output_steady listener_tells to_come came_back out ends
-  troubles_have_causes law old new net net' store options run stays below =
+  pub troubles_have_causes : ((accounts : AccountsServed) → ServedTroublesHaveCauses G listen source sink accounts)
+      → ServeTroublesHaveCauses place G net listen source sink
+  troubles_have_causes law old new before after store options run stays below =
       each_so (((G.faults run.now.keeper ≡ G.faults run.opened.keeper) × (G.faults run.opened.keeper < 2 ^ 64 - 1)) ⊎ G.fails_no_more run.opened.keeper) (λ turn. TellsTrouble (Some turn.1) → ⊥)
-      (all_turns tells files holds place_faults net_tells to_give given_back net_faults G input output input_steady output_steady listener_tells to_come came_back out ends old new net net' store options run) (inl ((no_fault run.leaves.kept (place_faults old) (place_faults new) (G.faults run.now.keeper) run.leaves.taken stays below run.leaves.later) ∙ sym run.begins.faults, omega (arith, run.begins.faults))) (law run.accounts run.opened run.now run.givens run.backs run.together)
+      (all_turns place G net listen source sink old new before after store options run) (inl ((no_fault run.leaves.kept (place.faults old) (place.faults new) (G.faults run.now.keeper) run.leaves.taken stays below run.leaves.later) ∙ sym run.begins.faults, omega (arith, run.begins.faults))) (law run.accounts run.opened run.now run.givens run.backs run.together)
 
-  pub keepers_stay : ((accounts : AccountsServed) → ServedKeepersStay G accounts input output input_steady output_steady listener_tells to_come came_back out ends)
-      → ServeKeepersStay tells files holds place_faults net_tells to_give given_back net_faults G input output input_steady output_steady listener_tells to_come came_back out ends
-  keepers_stay law old new net net' store options run told =
+  pub keepers_stay : ((accounts : AccountsServed) → ServedKeepersStay G listen source sink accounts)
+      → ServeKeepersStay place G net listen source sink
+  keepers_stay law old new before after store options run told =
       each_so (G.tells run.now.keeper) (λ turn. TellsChange (Some turn.1) → ⊥)
-      (all_turns tells files holds place_faults net_tells to_give given_back net_faults G input output input_steady output_steady listener_tells to_come came_back out ends old new net net' store options run) (run.told told) (law run.accounts run.opened run.now run.givens run.backs run.together)
+      (all_turns place G net listen source sink old new before after store options run) (run.told told) (law run.accounts run.opened run.now run.givens run.backs run.together)
 
-  pub pushes_stand : ((accounts : AccountsServed) → ServedPushesStand G accounts input output input_steady output_steady listener_tells to_come came_back out ends)
-      → ServePushesStand tells files holds place_faults net_tells to_give given_back net_faults G input output input_steady output_steady listener_tells to_come came_back out ends
-  pushes_stand law old new net net' store options run = law run.accounts run.opened run.now run.givens run.backs run.together run.sound
+  pub pushes_stand : ((accounts : AccountsServed) → ServedPushesStand G listen source sink accounts)
+      → ServePushesStand place G net listen source sink
+  pushes_stand law old new before after store options run = law run.accounts run.opened run.now run.givens run.backs run.together run.sound
 
-  pub clients_follow : ((accounts : AccountsServed) → ServedBooksAreLawful G accounts input output input_steady output_steady listener_tells to_come came_back out ends)
-      → ((accounts : AccountsServed) → ServedClientsFollow G accounts input output input_steady output_steady listener_tells to_come came_back out ends)
-      → ServeClientsFollow tells files holds place_faults net_tells to_give given_back net_faults G input output input_steady output_steady listener_tells to_come came_back out ends
-  clients_follow lawful law old new net net' store options run =
+  pub clients_follow : ((accounts : AccountsServed) → ServedBooksAreLawful G listen source sink accounts)
+      → ((accounts : AccountsServed) → ServedClientsFollow G listen source sink accounts)
+      → ServeClientsFollow place G net listen source sink
+  clients_follow lawful law old new before after store options run =
       let kept = lawful run.accounts run.opened run.now run.givens run.backs run.together run.sound in
       let limit : run.now.limit ≡ 2 ^ 32 - 1 = kept.limit run.begins.limit in
       let within : size run.now.book ≤ run.now.limit = run.sound.within in

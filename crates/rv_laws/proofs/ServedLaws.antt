@@ -2,7 +2,8 @@
 use Rattle.std.proofs.Common.{◌≡◌, ℕ, zero, suc, ◌≤◌, inl, inr, Bool, false, List, [], ◌∷◌, ◌++◌, Option, Some, None, Ok, refl, sym, ap, ◌∙◌, subst, arith, append_assoc, append-nil}
 use Rattle.std.specs.List.{AllByRecursion, Contains}
 use Rattle.std.specs.Option.{MatchOption}
-use Rattle.rv_base.specs.Outside.{InputState, OutputState}
+use Rattle.rv_base.specs.declared.outside.Source.{Ghosts as SourceGhosts}
+use Rattle.rv_base.specs.declared.outside.Sink.{Ghosts as SinkGhosts}
 use Rattle.rv_accounts.specs.File.{Served as AccountsServed}
 use Rattle.rv_book.specs.Book.{Book}
 use Rattle.rv_history.specs.Clients.{ClientPull, ClientsFollow, EachCurrent, WasTold}
@@ -17,7 +18,7 @@ use Rattle.rv_answering.specs.Requests.{Parsed}
 use Rattle.rv_answering.specs.AnswerLaws.{same_reply, went}
 use Rattle.rv_answering.specs.Steps.{Handles}
 use Rattle.rv_wire.specs.Answers.{pull_json}
-use Rattle.rv_net.specs.declared.conn.Conn.{Conn}
+use Rattle.rv_net.specs.declared.listen.Listen.{Ghosts as ListenGhosts}
 use Rattle.rv_keeper.specs.declared.keeper.Keeper.{Ghosts}
 use Rattle.rv_desk.specs.Seated.{Seated, served}
 use Rattle.rv_room.specs.declared.view.SeatView.{SeatView}
@@ -132,17 +133,16 @@ module _ {K : Type 0} (G : Ghosts K) (show : PullsShow pull_json) (book : Book) 
 
 -- ---- All that is served.
 
-module _ {K L I O : Type 0} (G : Ghosts K) (accounts : AccountsServed) (input : I → InputState) (output : O → OutputState) (input_steady : I → Type 0) (output_steady : O → Type 0)
-    (tells : L → Type 0) (to_come came_back : L → List (Conn I O)) (out ends : L → ℕ) (turns_stand : TurnsStand G accounts input output input_steady output_steady tells to_come came_back out ends) where
-  abbrev turns : (opened : Seated K) (givens : List L) (now : Seated K) (backs : List L) → Together G accounts input output input_steady output_steady tells to_come came_back out ends opened givens now backs → List (Parsed × Answer)
-  turns = turns_in G accounts input output input_steady output_steady tells to_come came_back out ends
+module _ {K L I O : Type 0} (G : Ghosts K) (listen : ListenGhosts L I O) (source : SourceGhosts I) (sink : SinkGhosts O) (accounts : AccountsServed) (turns_stand : TurnsStand G listen source sink accounts) where
+  abbrev turns : (opened : Seated K) (givens : List L) (now : Seated K) (backs : List L) → Together G listen source sink accounts opened givens now backs → List (Parsed × Answer)
+  turns = turns_in G listen source sink accounts
 
-  pub served_pushes_stand : MutationsStand pull_json → ServedPushesStand G accounts input output input_steady output_steady tells to_come came_back out ends
+  pub served_pushes_stand : MutationsStand pull_json → ServedPushesStand G listen source sink accounts
   served_pushes_stand stand opened now givens backs together sound user push there =
       let turn = all_at (StandsIn G now.book) (turns opened givens now backs together) (Ok (Push user push), Pushed) (turns_stand opened now givens backs together) there in
       step_stands G now.book sound.lawful stand turn.old turn.new user push turn.step turn.within
 
-  pub served_clients_follow : PullsShow pull_json → ClientsFollow pull_json → ServedClientsFollow G accounts input output input_steady output_steady tells to_come came_back out ends
+  pub served_clients_follow : PullsShow pull_json → ClientsFollow pull_json → ServedClientsFollow G listen source sink accounts
   served_clients_follow show follow opened now givens backs together sound fits user pulls client there =
       let served = all_served G show now.book user (turns opened givens now backs together) (turns_stand opened now givens backs together) pulls there in
       each_follows G show now.book user pulls served (follow user now.book pulls fits client (all_told G show now.book user pulls served))

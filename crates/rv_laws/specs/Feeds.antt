@@ -3,10 +3,11 @@ use Rattle.std.specs.Prelude.{ℕ, ◌≡◌, ◌≤◌, ◌<◌, ◌-◌, ◌^�
 use Rattle.std.specs.List.{flat_map, AllByRecursion}
 use Rattle.std.specs.Io.KnownBytes.{Appends}
 use Rattle.rv_base.specs.Outside.{InputState, OutputState}
+use Rattle.rv_base.specs.declared.outside.Source.{Ghosts as SourceGhosts}
+use Rattle.rv_base.specs.declared.outside.Sink.{Ghosts as SinkGhosts}
 use Rattle.rv_base.specs.Writes.{IsFront}
 use Rattle.rv_lines.specs.Lines.{lines_of}
-use Rattle.rv_keeper.specs.declared.loaded.Loaded.{Loaded}
-use Rattle.rv_keeper.specs.Stores.{OpensAs}
+use Rattle.rv_keeper.specs.declared.place.Place.{Ghosts as PlaceGhosts}
 use Rattle.rv_history.specs.Clients.{ClientPull, IsClient, IsCurrent, held_then}
 use Rattle.rv_history.specs.Laws.{IsEntered}
 use Rattle.rv_history.specs.Served.{Served}
@@ -17,7 +18,9 @@ use Rattle.rv_answering.specs.declared.line.Line.TheVariants.{Asks}
 use Rattle.rv_answering.specs.declared.request.Request.TheVariants.{Push, Pull}
 use Rattle.rv_answering.specs.Requests.{Parsed}
 use Rattle.rv_cli.specs.declared.ending.Ending.{Ending}
-use Rattle.rv_cli.specs.Headline.{Are, Begins, IsLawfulRun, IsLeftAs, IsShown, Leaves, NotFed, Run, RunsFeed, TellsTrouble, told_text}
+use Rattle.rv_cli.specs.Change.{change}
+use Rattle.rv_cli.specs.Headline.{Are, Begins, IsLawfulRun, IsLeftAs, IsShown, Leaves, NotFed, Run, TellsTrouble, told_text}
+use Rattle.rv_cli.specs.Promises.{WasFed}
 use Rattle.rv_cli.specs.Texts.{status_of}
 use Rattle.rv_turns.specs.declared.pull.PullReply.{PullReply}
 use Rattle.rv_wire.specs.declared.push.Push as pushes
@@ -62,31 +65,31 @@ module _ (Told : Type 0) (first now : Served) (lines : List Line) (answers : Lis
 
 -- ---- What holds of each run of `feed` on a store of a place, which is this before and this after. The source held these bytes.
 
-module _ {P : Type 0} (tells : P → Type 0) (holds : P → List ℕ → Loaded → Type 0) (faults : P → ℕ) where
+module _ {P K : Type 0} (place : PlaceGhosts P K) where
   -- A run of the server over the first lines of the bytes, from the book that the store kept to the one that it keeps.
   pub record FeedRun (old new : P) (store bytes : List ℕ) (output output' : OutputState) : Type 0 where
-    pub told : tells new
+    pub told : place.tells new
     pub first : Served
     pub now : Served
     pub lines : List Line
     pub answers : List (Option Answer)
-    pub begins : Begins (tells new) (OpensAs store (holds old store)) first
-    pub run : Run (tells new) first lines answers now
-    pub leaves : Leaves (tells new) (holds new store) (faults old) (faults new) now
+    pub begins : Begins (change place store old new) first
+    pub run : Run (place.tells new) first lines answers now
+    pub leaves : Leaves (change place store old new) now
     pub asked : AreFirst lines bytes
     pub written : WritesAnswers output output' answers
 
   -- the store did not open, nothing was read, and the store holds what it held
   abbrev pub DidNotOpen : P → P → List ℕ → InputState → InputState → OutputState → OutputState → ℕ → Type 0
   DidNotOpen old new store input input' output output' status =
-      (ending : Ending) × (status ≡ status_of ending) × NotFed (tells new) (OpensAs store (holds old store)) (holds new store) (faults old) (faults new) input input' output output' ending
-      × IsLeftAs (tells new) (holds old store) (OpensAs store (holds old store)) (holds new store)
+      (ending : Ending) × (status ≡ status_of ending) × NotFed (change place store old new) input input' output output' ending
+      × IsLeftAs (change place store old new)
 
   -- The clause of `run` says that there was such a run, or that the store did not open.
-  abbrev pub FeedsAreRuns : Type 0
-  FeedsAreRuns = (old new : P) (store : List ℕ) (input input' : InputState) (output output' : OutputState) (status : ℕ)
-      → RunsFeed (tells new) (OpensAs store (holds old store)) (holds new store) (faults old) (faults new) (holds old store) input input' output output' status → tells new
-      → IfSome input.left (λ bytes. DidNotOpen old new store input input' output output' status ⊎ FeedRun old new store bytes output output')
+  abbrev pub FeedsAreRuns : {S O : Type 0} → SourceGhosts S → SinkGhosts O → Type 0
+  FeedsAreRuns {S} {O} input output = (old new : P) (store : List ℕ) (read read' : S) (out out' : O) (status : ℕ)
+      → WasFed place output store old new input read read' out out' status → place.tells new
+      → IfSome (input.state read).left (λ bytes. DidNotOpen old new store (input.state read) (input.state read') (output.state out) (output.state out') status ⊎ FeedRun old new store bytes (output.state out) (output.state out'))
 
   -- something holds of all such runs
   abbrev pub OfAllRuns : ((old new : P) (store bytes : List ℕ) (output output' : OutputState) → FeedRun old new store bytes output output' → Type 0) → Type 0
@@ -94,15 +97,15 @@ module _ {P : Type 0} (tells : P → Type 0) (holds : P → List ℕ → Loaded 
 
   -- The book at the end is lawful and goes on from the first, each client's acts have the ids 1, 2, 3 and so on, and orders rise.
   abbrev pub FedBooksAreLawful : Type 0
-  FedBooksAreLawful = OfAllRuns (λ old new store bytes output output' run. IsLawfulRun (tells new) run.first run.now)
+  FedBooksAreLawful = OfAllRuns (λ old new store bytes output output' run. IsLawfulRun (place.tells new) run.first run.now)
 
   -- Each pull that was answered shows what its user sees at that point.
   abbrev pub FedPullsAreShown : Type 0
-  FedPullsAreShown = OfAllRuns (λ old new store bytes output output' run. (asked : Parsed) (reply : PullReply) (turn : IsTurn run.lines run.answers asked (Pulled reply)) → IsShown (tells new) run.first run.now turn.before turn.answered asked reply)
+  FedPullsAreShown = OfAllRuns (λ old new store bytes output output' run. (asked : Parsed) (reply : PullReply) (turn : IsTurn run.lines run.answers asked (Pulled reply)) → IsShown (place.tells new) run.first run.now turn.before turn.answered asked reply)
 
   -- Where the place's count of faults stayed below its last value, no answer tells a trouble with what keeps the book.
   abbrev pub FedTroublesHaveCauses : Type 0
-  FedTroublesHaveCauses = OfAllRuns (λ old new store bytes output output' run. faults new ≡ faults old → faults old < 2 ^ 64 - 1 → AllByRecursion (λ answer. TellsTrouble answer → ⊥) run.answers)
+  FedTroublesHaveCauses = OfAllRuns (λ old new store bytes output output' run. place.faults new ≡ place.faults old → place.faults old < 2 ^ 64 - 1 → AllByRecursion (λ answer. TellsTrouble answer → ⊥) run.answers)
 
   -- Each mutation of a push that was not refused stands in the book at the end; but for an id of 0, which is skipped and stands nowhere.
   abbrev pub FedPushesStand : Type 0
@@ -111,5 +114,5 @@ module _ {P : Type 0} (tells : P → Type 0) (holds : P → List ℕ → Loaded 
 
   -- A client that begins with nothing holds after each of its pulls what its user sees at that point of the run.
   abbrev pub FedClientsFollow : Type 0
-  FedClientsFollow = OfAllRuns (λ old new store bytes output output' run. (user : List ℕ) (pulls : List ClientPull) → IsClient pulls → (turns : AllByRecursion (IsPull (tells new) run.first run.now run.lines run.answers user) pulls)
-      → EachFollows (tells new) run.first run.now run.lines run.answers user pulls turns)
+  FedClientsFollow = OfAllRuns (λ old new store bytes output output' run. (user : List ℕ) (pulls : List ClientPull) → IsClient pulls → (turns : AllByRecursion (IsPull (place.tells new) run.first run.now run.lines run.answers user) pulls)
+      → EachFollows (place.tells new) run.first run.now run.lines run.answers user pulls turns)

@@ -1,7 +1,8 @@
 -- What follows of listeners that are served side by side.
 use Rattle.std.specs.Prelude.{ℕ, ◌≤◌, ◌<◌, ◌^◌, List, Ok, Contains}
 use Rattle.std.specs.List.{AllByRecursion}
-use Rattle.rv_base.specs.Outside.{InputState, OutputState}
+use Rattle.rv_base.specs.declared.outside.Source.{Ghosts as SourceGhosts}
+use Rattle.rv_base.specs.declared.outside.Sink.{Ghosts as SinkGhosts}
 use Rattle.rv_accounts.specs.File.{Served as AccountsServed}
 use Rattle.rv_book.specs.Book.{Book, size}
 use Rattle.rv_keeper.specs.declared.keeper.Keeper.{Ghosts}
@@ -15,7 +16,7 @@ use Rattle.rv_answering.specs.declared.answer.Answer.TheVariants.{Pushed, Pulled
 use Rattle.rv_answering.specs.declared.request.Request.TheVariants.{Push, Pull}
 use Rattle.rv_answering.specs.Requests.{Parsed}
 use Rattle.rv_answering.specs.Steps.{Handles}
-use Rattle.rv_net.specs.declared.conn.Conn.{Conn}
+use Rattle.rv_net.specs.declared.listen.Listen.{Ghosts as ListenGhosts}
 use Rattle.rv_room.specs.declared.view.SeatView.{SeatView}
 use Rattle.rv_room.specs.Lists.{StartsWith}
 use Rattle.rv_room.specs.Views.{newcomer}
@@ -39,16 +40,15 @@ pub record FollowsIn {K : Type 0} (G : Ghosts K) (book : Book) (user : List ℕ)
   pub served : IsServedPull G book user pull
   pub current : IsCurrent user pull.request.group served.point (held_then pull)
 
-module _ {K L I O : Type 0} (G : Ghosts K) (accounts : AccountsServed) (input : I → InputState) (output : O → OutputState) (input_steady : I → Type 0) (output_steady : O → Type 0)
-    (tells : L → Type 0) (to_come came_back : L → List (Conn I O)) (out ends : L → ℕ) where
+module _ {K L I O : Type 0} (G : Ghosts K) (listen : ListenGhosts L I O) (source : SourceGhosts I) (sink : SinkGhosts O) (accounts : AccountsServed) where
   -- these listeners were served at the desk that was opened, which was closed as this one
   abbrev pub Together : Seated K → List L → Seated K → List L → Type 0
-  Together opened givens now backs = ServesTogether G (Serves G accounts input output input_steady output_steady tells to_come came_back out ends) opened givens now backs
+  Together opened givens now backs = ServesTogether G (Serves G listen source sink accounts) opened givens now backs
 
   -- all that was asked, with its answers
   abbrev pub turns_in : (opened : Seated K) (givens : List L) (now : Seated K) (backs : List L) → Together opened givens now backs → List (Parsed × Answer)
   turns_in opened givens now backs together =
-      turns_served G accounts input output input_steady output_steady tells to_come came_back out ends (newcomer 1 opened) givens together.views backs together.serves
+      turns_served G listen source sink accounts (newcomer 1 opened) givens together.views backs together.serves
 
   -- something holds of all that were served so, where the desk that was closed is sound, by all that was asked
   abbrev pub OfAllSound : (Seated K → List (Parsed × Answer) → Type 0) → Type 0

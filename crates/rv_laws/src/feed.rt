@@ -1,33 +1,34 @@
 //! What follows from the clause `feed`.
 ghost use Rattle.rv_laws.specs.Feeds.{FeedsAreRuns, FedBooksAreLawful, FedPullsAreShown, FedTroublesHaveCauses, FedPushesStand, FedClientsFollow};
 
+use rv_base::{Sink, Source};
 use rv_keeper::Place;
 
 /// A run of `feed` over a place and a source that tell did not open its store, or is the run of a server over the first lines of the
 /// source, from the book that the store kept to the one that it keeps; and what was written before the status's own text is the text of
 /// its answers, or, where a write failed, a front of it.
-pub fn feeds_are_runs<P: Place>()
-    ensures { FeedsAreRuns P.tells P.holds P.faults }
+pub fn feeds_are_runs<P: Place, S: Source, O: Sink>()
+    ensures { FeedsAreRuns P.Place S.Source O.Sink }
 {}
 
 /// The book of such a run is lawful and goes on from the one that the store kept: each client's acts have the ids 1, 2, 3 and so on, and
 /// the orders of each group's looks rise.
 pub fn books_are_lawful<P: Place>()
-    ensures { FedBooksAreLawful P.tells P.holds P.faults }
+    ensures { FedBooksAreLawful P.Place }
 {
     rv_cli::laws::books_are_lawful();
 }
 
 /// The patch of each pull that it answers, applied to the view that its cookie names, gives exactly what its user sees at that point.
 pub fn pulls_are_shown<P: Place>()
-    ensures { FedPullsAreShown P.tells P.holds P.faults }
+    ensures { FedPullsAreShown P.Place }
 {
     rv_cli::laws::pulls_are_shown();
 }
 
 /// Where the place's count of faults stayed, and stands below its last value, no answer tells a trouble with what keeps the book.
 pub fn troubles_have_causes<P: Place>()
-    ensures { FedTroublesHaveCauses P.tells P.holds P.faults }
+    ensures { FedTroublesHaveCauses P.Place }
 {
     rv_cli::laws::troubles_have_causes();
 }
@@ -35,7 +36,7 @@ pub fn troubles_have_causes<P: Place>()
 /// Each mutation of a push that was answered as done stands in the book at the end, as an act of its user, group and client with its id;
 /// but for an id of 0, which is skipped and stands nowhere.
 pub fn pushes_stand<P: Place>()
-    ensures { FedPushesStand P.tells P.holds P.faults }
+    ensures { FedPushesStand P.Place }
 {
     rv_cli::laws::books_are_lawful();
     rv_history::laws::pushes_stand();
@@ -44,7 +45,7 @@ pub fn pushes_stand<P: Place>()
 /// A client that begins with nothing, and applies the replies that it got, holds after each of its pulls exactly what its user sees at
 /// that point of the run, and its group's last mutation ids there; whatever others asked, and whichever replies it lost.
 pub fn clients_follow<P: Place>()
-    ensures { FedClientsFollow P.tells P.holds P.faults }
+    ensures { FedClientsFollow P.Place }
 {
     rv_cli::laws::books_are_lawful();
     rv_cli::laws::pulls_are_shown();

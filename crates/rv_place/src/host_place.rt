@@ -1,11 +1,12 @@
 ghost use Rattle.std.specs.Prelude.{◌≡◌, ◌≢◌, ◌≤◌, IfOk, codes};
 ghost use Rattle.rv_base.specs.Causes.{Rose};
 ghost use Rattle.rv_keeper.specs.Keeping.{HasKeepCause};
-ghost use Rattle.rv_sqlite.specs.Stored.{IsFresh, stored_faults};
+ghost use Rattle.rv_place.specs.Stored.{IsFresh, stored_faults};
 
+use crate::store_keeper::StoreKeeper;
 use rv_base::Bytes;
 use rv_keeper::{KeepFault, Keeper, MemoryKeeper, Place};
-use rv_sqlite::{SqliteKeeper, StoreKeeper, fault_of};
+use rv_sqlite::{SqliteKeeper, fault_of};
 use sqlite::{Connection, File, FileStore};
 use std::fs;
 use std::io::{self, ErrorKind};

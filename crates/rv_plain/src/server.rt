@@ -101,12 +101,10 @@ impl Model for PlainDesk {
 }
 
 impl PlainDesk {
-    ghost use Rattle.std.specs.Prelude.{MatchOption};
-    ghost use Rattle.rv_rows.specs.declared.call.Call.{Call};
-    ghost use Rattle.rv_history.specs.Machine.{Step, Takes, next_order, reply_to};
-    ghost use Rattle.rv_turns.specs.Asks.{Sender, Ask};
+    ghost use Rattle.rv_history.specs.Machine.{Step, next_order, reply_to};
+    ghost use Rattle.rv_plain.specs.Plain.{Hinders};
+    ghost use Rattle.rv_turns.specs.Asks.{Ask};
     ghost use Rattle.rv_wire.specs.Answers.{pull_json};
-    ghost use Rattle.rv_book.specs.Book.{last};
 
     /// A server with the empty book, which takes at most so many entries.
     pub fn new(alloc: Global, limit: u32) -> PlainDesk
@@ -146,9 +144,7 @@ impl PlainDesk {
 
     // How a mutation is answered that is not run.
     fn hindrance(&self, user: &User, group: &Id, client: &Id, id: Num) -> Option<Outcome>
-        ensures { let from : Sender = record { user = user.now; group = group.now } in MatchOption result
-            (Takes from client.now self.now.book × (id ≡ last client.now self.now.book + 1) × (size self.now.book < self.now.limit))
-            (λ outcome. (call : Call) → Step pull_json self.now.limit self.now.book (Ask.mutation from (record { client = client.now; id = id; call = call })) outcome self.now.book) }
+        ensures { Hinders self.now (record { user = user.now; group = group.now }) client.now id result }
     {
         let limit = self.limit;
         if is_of_other(&self.entries, user, group) {

@@ -1,9 +1,9 @@
 -- A gate hears of a request, and then of its answer.
 use Rattle.std.proofs.Common.{◌≡◌, ℕ, List, [], ◌∷◌, Option, subst}
-use Rattle.rv_crew.specs.declared.heard.Heard.{Heard}
-use Rattle.rv_crew.specs.declared.heard.Heard.TheVariants.{Before, After}
-use Rattle.rv_crew.specs.Hearing.{Hears}
-use Rattle.rv_crew.specs.HearingLaws.{hears_on}
+use Rattle.rv_serve.specs.declared.heard.Heard.{Heard}
+use Rattle.rv_serve.specs.declared.heard.Heard.TheVariants.{Before, After}
+use Rattle.rv_serve.specs.Hearing.{Hears}
+use Rattle.rv_serve.specs.HearingLaws.{hears_on}
 use Rattle.rv_serve.specs.Texts.{http_status}
 use Rattle.rv_serve.specs.Talk.{Exchange, heard_of}
 

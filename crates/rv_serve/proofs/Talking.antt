@@ -11,9 +11,9 @@ use Rattle.rv_http.specs.Requests.{Gives, ReadsOne}
 use Rattle.rv_http.specs.RequestLaws.{gives_more}
 use Rattle.rv_http.specs.Causes.{Counts, told_end, read_failed}
 use Rattle.rv_accounts.specs.File.{Served as Accounts}
-use Rattle.rv_crew.specs.declared.heard.Heard.{Heard}
-use Rattle.rv_crew.specs.Hearing.{Hears}
-use Rattle.rv_crew.specs.HearingLaws.{hears_nothing, hears_on}
+use Rattle.rv_serve.specs.declared.heard.Heard.{Heard}
+use Rattle.rv_serve.specs.Hearing.{Hears}
+use Rattle.rv_serve.specs.HearingLaws.{hears_nothing, hears_on}
 use Rattle.rv_serve.specs.declared.conn_end.ConnEnd.{ConnEnd}
 use Rattle.rv_serve.specs.declared.conn_end.ConnEnd.TheVariants.{Done, WriteFault}
 use Rattle.rv_serve.specs.Replies.{Replies}

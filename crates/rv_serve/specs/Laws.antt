@@ -2,6 +2,8 @@
 use Rattle.std.specs.Prelude.{ℕ, List, [], ◌∷◌, ◌++◌, map, Result, Ok}
 use Rattle.std.specs.List.{flat_map}
 use Rattle.rv_base.specs.Outside.{InputState, OutputState}
+use Rattle.rv_base.specs.declared.outside.Source.{Ghosts as SourceGhosts}
+use Rattle.rv_base.specs.declared.outside.Sink.{Ghosts as SinkGhosts}
 use Rattle.rv_accounts.specs.File.{Served as Accounts}
 use Rattle.rv_answering.specs.declared.answer.Answer.{Answer}
 use Rattle.rv_answering.specs.Requests.{Parsed}
@@ -37,6 +39,6 @@ module _ {S : Type 0} (takes : S → Ask → Outcome → S → Type 0) where
       → RunsTurns old (turns_of accounts (answered takes accounts talk)) new
 
   -- So is all that was answered on connections that were served one after another.
-  abbrev pub ConnsAreRuns : {I O : Type 0} → (I → InputState) → (O → OutputState) → (I → Type 0) → (O → Type 0) → Type 0
-  ConnsAreRuns {I} {O} input output input_steady output_steady = (accounts : Accounts) (old new : S) (conns : List (ServedConn I O))
-      → ServesEach takes accounts input output input_steady output_steady old conns new → RunsTurns old (turns_of accounts (flat_map (λ conn. conn.answers) conns)) new
+  abbrev pub ConnsAreRuns : {I O : Type 0} → SourceGhosts I → SinkGhosts O → Type 0
+  ConnsAreRuns {I} {O} source sink = (accounts : Accounts) (old new : S) (conns : List (ServedConn I O))
+      → ServesEach takes source sink accounts old conns new → RunsTurns old (turns_of accounts (flat_map (λ conn. conn.answers) conns)) new

@@ -1,3 +1,6 @@
+pub mod Hearing
+pub mod HearingLaws
+pub mod MemoryGates
 pub mod Replies
 pub mod Texts
 pub mod Talk

@@ -1,16 +1,14 @@
 -- The connections of a listener, served one after another.
-use Rattle.std.specs.Prelude.{◌≡◌, ℕ, List, [], ◌∷◌, ◌++◌, map, Option}
+use Rattle.std.specs.Prelude.{◌≡◌, ℕ, List, [], ◌∷◌, ◌++◌, map}
 use Rattle.std.specs.List.{flat_map}
-use Rattle.rv_base.specs.Outside.{InputState, OutputState}
 use Rattle.rv_base.specs.declared.outside.Source.{Ghosts as SourceGhosts}
 use Rattle.rv_base.specs.declared.outside.Sink.{Ghosts as SinkGhosts}
 use Rattle.rv_net.specs.declared.conn.Conn.{Conn}
 use Rattle.rv_net.specs.declared.listen.Listen.{Ghosts as ListenGhosts}
-use Rattle.rv_turns.specs.declared.turns.Turns.{Ghosts as TurnsGhosts}
 use Rattle.rv_accounts.specs.File.{Served as Accounts}
-use Rattle.rv_crew.specs.declared.gate.Gate.{Ghosts as GateGhosts}
-use Rattle.rv_crew.specs.declared.heard.Heard.{Heard}
-use Rattle.rv_crew.specs.Hearing.{Hears}
+use Rattle.rv_serve.specs.declared.gate.Gate.{Ghosts as GateGhosts}
+use Rattle.rv_serve.specs.declared.heard.Heard.{Heard}
+use Rattle.rv_serve.specs.Hearing.{Hears}
 use Rattle.rv_serve.specs.declared.conn_end.ConnEnd.{ConnEnd}
 use Rattle.rv_serve.specs.Talk.{Exchange, Talks, answered, heard_from}
 use Rattle.rv_serve.specs.Causes.{ConnCause, InputIsSteady, OutputIsSteady}
@@ -36,35 +34,28 @@ pub record AreBack {I O : Type 0} (conns : List (ServedConn I O)) (to_come to_co
   pub back : came_back' ≡ came_back ++ map (λ conn. conn.back) conns
   pub same : out' ≡ out
 
-module _ {S I O : Type 0} (takes : S → Ask → Outcome → S → Type 0) (accounts : Accounts)
-    (input : I → InputState) (output : O → OutputState) (input_steady : I → Type 0) (output_steady : O → Type 0) where
+module _ {S I O : Type 0} (takes : S → Ask → Outcome → S → Type 0) (source : SourceGhosts I) (sink : SinkGhosts O) (accounts : Accounts) where
   -- a connection is served from one state to the next, as the clauses of serving it say
   pub record ServesConn (old : S) (conn : ServedConn I O) (new : S) : Type 0 where
-    pub talks : Talks takes accounts old new (input conn.given.source) (input conn.back.source) (output conn.given.sink) (output conn.back.sink) conn.end
+    pub talks : Talks takes accounts old new (source.state conn.given.source) (source.state conn.back.source) (sink.state conn.given.sink) (sink.state conn.back.sink) conn.end
     pub answers : conn.answers ≡ answered takes accounts talks
-    pub cause : ConnCause (input conn.given.source) (input conn.back.source) (output conn.given.sink) (output conn.back.sink) conn.end
-    pub steady_input : input_steady conn.given.source → InputIsSteady (input_steady conn.back.source) conn.end
-    pub steady_output : output_steady conn.given.sink → OutputIsSteady (output_steady conn.back.sink) (output conn.given.sink) (output conn.back.sink) conn.end
+    pub cause : ConnCause (source.state conn.given.source) (source.state conn.back.source) (sink.state conn.given.sink) (sink.state conn.back.sink) conn.end
+    pub steady_input : source.fails_no_more conn.given.source → InputIsSteady (source.fails_no_more conn.back.source) conn.end
+    pub steady_output : sink.fails_no_more conn.given.sink → OutputIsSteady (sink.fails_no_more conn.back.sink) (sink.state conn.given.sink) (sink.state conn.back.sink) conn.end
 
   -- connections are served one after another, each from the state that the one before it left
   abbrev pub ServesEach : S → List (ServedConn I O) → S → Type 0
   ServesEach old [] new = new ≡ old
   ServesEach old (conn ∷ conns) new = (mid : S) × ServesConn old conn mid × ServesEach mid conns new
 
-  -- All connections that a listener gave are served and went back. Told says that the listener tells them.
-  pub record ServesAll (Told : Type 0) (old new : S) (to_come to_come' came_back came_back' : List (Conn I O)) (out out' : ℕ) : Type 0 where
+module _ {S L I O : Type 0} (takes : S → Ask → Outcome → S → Type 0) (listen : ListenGhosts L I O) (source : SourceGhosts I) (sink : SinkGhosts O) (accounts : Accounts) where
+  -- All connections that a listener gave are served and went back to it.
+  pub record ServesAll (old : S) (given : L) (new : S) (back : L) : Type 0 where
     pub conns : List (ServedConn I O)
-    pub serves : ServesEach old conns new
-    pub are_back : Told → AreBack conns to_come to_come' came_back came_back' out out'
+    pub serves : ServesEach takes source sink accounts old conns new
+    pub are_back : listen.tells back → AreBack conns (listen.to_come given) (listen.to_come back) (listen.came_back given) (listen.came_back back) (listen.out given) (listen.out back)
 
   -- They are served past a gate, which heard of all that was answered on them and of nothing else.
-  pub record ServesPast (Told : Type 0) (old new : S) (to_come to_come' came_back came_back' : List (Conn I O)) (out out' : ℕ) (heard heard' : Option (List Heard)) : Type 0 where
-    pub all : ServesAll Told old new to_come to_come' came_back came_back' out out'
-    pub hears : Hears heard heard' (heard_over all.conns)
-
--- the same, by what turns, listeners, sources, sinks and gates show
-module _ {S L I O G : Type 0} (turns : TurnsGhosts S) (listen : ListenGhosts L I O) (source : SourceGhosts I) (sink : SinkGhosts O) (gate : GateGhosts G) (accounts : Accounts) where
-  abbrev pub ServesListener : S → S → L → L → G → G → Type 0
-  ServesListener old new given back before after =
-      ServesPast turns.takes accounts source.state sink.state source.fails_no_more sink.fails_no_more (listen.tells back) old new
-      (listen.to_come given) (listen.to_come back) (listen.came_back given) (listen.came_back back) (listen.out given) (listen.out back) (gate.heard before) (gate.heard after)
+  pub record ServesPast {W : Type 0} (gate : GateGhosts W) (old : S) (given : L) (before : W) (new : S) (back : L) (after : W) : Type 0 where
+    pub all : ServesAll old given new back
+    pub hears : Hears (gate.heard before) (gate.heard after) (heard_over all.conns)

@@ -1,7 +1,8 @@
 -- What is answered is a run: the laws of answers over anyone who takes turns.
 use Rattle.std.proofs.Common.{◌≡◌, ℕ, ◌+◌, Bool, List, [], ◌∷◌, ◌++◌, Result, Ok, Err, refl, sym, ap, ◌∙◌, subst, append_assoc}
 use Rattle.std.specs.List.{flat_map}
-use Rattle.rv_base.specs.Outside.{InputState, OutputState}
+use Rattle.rv_base.specs.declared.outside.Source.{Ghosts as SourceGhosts}
+use Rattle.rv_base.specs.declared.outside.Sink.{Ghosts as SinkGhosts}
 use Rattle.rv_http.specs.declared.http_end.HttpEnd.{HttpEnd}
 use Rattle.rv_accounts.specs.File.{Served as Accounts}
 use Rattle.rv_answering.specs.declared.answer.Answer.{Answer}
@@ -50,8 +51,8 @@ module _ {S : Type 0} (takes : S → Ask → Outcome → S → Type 0) where
       subst (λ (ts : List (Parsed × Answer)). Runs old ts new) (sym (turns_of-append accounts talk.exchanges (last_of talk.last)))
       (run_after old talk.mid new (turns_of accounts talk.exchanges) (turns_of accounts (last_of talk.last)) (each_runs accounts 1 old talk.mid talk.read talk.rest talk.exchanges talk.answers) (last_runs accounts talk.mid new talk.last talk.answers_last))
 
-  module _ {I O : Type 0} (input : I → InputState) (output : O → OutputState) (input_steady : I → Type 0) (output_steady : O → Type 0) where
-    pub conns_run : ConnsAreRuns takes input output input_steady output_steady
+  module _ {I O : Type 0} (source : SourceGhosts I) (sink : SinkGhosts O) where
+    pub conns_run : ConnsAreRuns takes source sink
     conns_run accounts old new [] same = same
     conns_run accounts old new (conn ∷ conns) (mid, serves, each) =
         subst (λ (ts : List (Parsed × Answer)). Runs old ts new) (sym (turns_of-append accounts conn.answers (flat_map (λ c. c.answers) conns)))

@@ -7,8 +7,8 @@ use Rattle.rv_http.specs.declared.request.Request.{Request}
 use Rattle.rv_http.specs.declared.http_end.HttpEnd.{HttpEnd}
 use Rattle.rv_http.specs.declared.response.WriteFault.{WriteFault}
 use Rattle.rv_accounts.specs.File.{Served as Accounts}
-use Rattle.rv_crew.specs.declared.heard.Heard.{Heard}
-use Rattle.rv_crew.specs.Hearing.{Hears}
+use Rattle.rv_serve.specs.declared.heard.Heard.{Heard}
+use Rattle.rv_serve.specs.Hearing.{Hears}
 use Rattle.rv_serve.specs.declared.conn_end.ConnEnd.{ConnEnd}
 use Rattle.rv_serve.specs.Replies.{Replies}
 use Rattle.rv_serve.specs.Talk.{closes_at, exchange_text, heard_of, TellsLast, EndsUnread}

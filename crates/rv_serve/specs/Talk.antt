@@ -9,9 +9,9 @@ use Rattle.rv_http.specs.declared.http_end.HttpEnd.{HttpEnd}
 use Rattle.rv_http.specs.Requests.{Gives, EndsSo}
 use Rattle.rv_http.specs.Causes.{Counts, told_end, read_failed}
 use Rattle.rv_accounts.specs.File.{Served as Accounts}
-use Rattle.rv_crew.specs.declared.heard.Heard.{Heard}
-use Rattle.rv_crew.specs.declared.heard.Heard.TheVariants.{Before, After}
-use Rattle.rv_crew.specs.Hearing.{Hears}
+use Rattle.rv_serve.specs.declared.heard.Heard.{Heard}
+use Rattle.rv_serve.specs.declared.heard.Heard.TheVariants.{Before, After}
+use Rattle.rv_serve.specs.Hearing.{Hears}
 use Rattle.rv_serve.specs.declared.conn_end.ConnEnd.{ConnEnd}
 use Rattle.rv_serve.specs.declared.conn_end.ConnEnd.TheVariants.{Done, ReadFault, WriteFault, Memory}
 use Rattle.rv_serve.specs.Replies.{Replies}

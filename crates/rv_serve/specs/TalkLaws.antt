@@ -1,17 +1,19 @@
 -- Turns that are those of what a state shows, and by which a state goes on to the next: then so is what is served.
-use Rattle.std.proofs.Common.{ℕ, ◌+◌, Bool, List, [], ◌∷◌, Option, Result, Ok, Err, ap, sym, subst}
+use Rattle.std.proofs.Common.{ℕ, ◌+◌, Bool, List, [], ◌∷◌, Result, Ok, Err, ap, sym, subst}
 use Rattle.rv_base.specs.Outside.{InputState, OutputState}
+use Rattle.rv_base.specs.declared.outside.Source.{Ghosts as SourceGhosts}
+use Rattle.rv_base.specs.declared.outside.Sink.{Ghosts as SinkGhosts}
 use Rattle.rv_http.specs.declared.request.Request.{Request}
 use Rattle.rv_http.specs.declared.http_end.HttpEnd.{HttpEnd}
 use Rattle.rv_accounts.specs.File.{Served as Accounts}
 use Rattle.rv_answering.specs.Requests.{Parsed}
 use Rattle.rv_answering.specs.StepLaws.{acting_shown, shown_takes}
-use Rattle.rv_crew.specs.declared.heard.Heard.{Heard}
+use Rattle.rv_serve.specs.declared.gate.Gate.{Ghosts as GateGhosts}
 use Rattle.rv_serve.specs.declared.conn_end.ConnEnd.{ConnEnd}
 use Rattle.rv_serve.specs.Replies.{AnswersAsked, Replies, asked_of}
 use Rattle.rv_serve.specs.Talk.{AnswersEach, AnswersLast, Exchange, Talks}
 use Rattle.rv_serve.specs.Listening.{ServedConn, ServesAll, ServesConn, ServesEach, ServesPast}
-use Rattle.rv_net.specs.declared.conn.Conn.{Conn}
+use Rattle.rv_net.specs.declared.listen.Listen.{Ghosts as ListenGhosts}
 use Rattle.rv_turns.specs.Asks.{Ask}
 use Rattle.rv_turns.specs.declared.outcome.Outcome.{Outcome}
 use Rattle.rv_http.specs.declared.rejection.Rejection.{Rejection}
@@ -71,33 +73,32 @@ module _ {S V : Type 0} (shown : S → V) (Goes : S → S → Type 0) (goes_same
         goes_on old talk.mid new on further,
       )
 
-  module _ {I O : Type 0} (input : I → InputState) (output : O → OutputState) (input_steady : I → Type 0) (output_steady : O → Type 0) where
-    conn_shown : (old new : S) (conn : ServedConn I O) → ServesConn taking accounts input output input_steady output_steady old conn new
-        → ServesConn takes accounts input output input_steady output_steady (shown old) conn (shown new) × Goes old new
+  module _ {I O : Type 0} (source : SourceGhosts I) (sink : SinkGhosts O) where
+    conn_shown : (old new : S) (conn : ServedConn I O) → ServesConn taking source sink accounts old conn new
+        → ServesConn takes source sink accounts (shown old) conn (shown new) × Goes old new
     unfolding talks_shown
     conn_shown old new conn serves =
-        let (talks, on) = talks_shown old new (input conn.given.source) (input conn.back.source) (output conn.given.sink) (output conn.back.sink) conn.end serves.talks in
+        let (talks, on) = talks_shown old new (source.state conn.given.source) (source.state conn.back.source) (sink.state conn.given.sink) (sink.state conn.back.sink) conn.end serves.talks in
         (record { talks = talks; answers = serves.answers; cause = serves.cause; steady_input = serves.steady_input; steady_output = serves.steady_output }, on)
 
-    conns_shown : (old new : S) (conns : List (ServedConn I O)) → ServesEach taking accounts input output input_steady output_steady old conns new
-        → ServesEach takes accounts input output input_steady output_steady (shown old) conns (shown new) × Goes old new
+    conns_shown : (old new : S) (conns : List (ServedConn I O)) → ServesEach taking source sink accounts old conns new
+        → ServesEach takes source sink accounts (shown old) conns (shown new) × Goes old new
     conns_shown old new [] same = (ap shown same, subst (λ (s : S). Goes old s) (sym same) (goes_same old))
     conns_shown old new (conn ∷ conns) (mid, serves, others) =
         let (one, on) = conn_shown old mid conn serves in
         let (more, further) = conns_shown mid new conns others in
         ((shown mid, one, more), goes_on old mid new on further)
 
-    pub all_shown : (Told : Type 0) (old new : S) (to_come to_come' came_back came_back' : List (Conn I O)) (out out' : ℕ)
-        → ServesAll taking accounts input output input_steady output_steady Told old new to_come to_come' came_back came_back' out out'
-        → ServesAll takes accounts input output input_steady output_steady Told (shown old) (shown new) to_come to_come' came_back came_back' out out' × Goes old new
-    all_shown Told old new to_come to_come' came_back came_back' out out' all =
-        let (serves, on) = conns_shown old new all.conns all.serves in
-        (record { conns = all.conns; serves = serves; are_back = all.are_back }, on)
+    module _ {L : Type 0} (listen : ListenGhosts L I O) where
+      pub all_shown : (old : S) (given : L) (new : S) (back : L) → ServesAll taking listen source sink accounts old given new back
+          → ServesAll takes listen source sink accounts (shown old) given (shown new) back × Goes old new
+      all_shown old given new back all =
+          let (serves, on) = conns_shown old new all.conns all.serves in
+          (record { conns = all.conns; serves = serves; are_back = all.are_back }, on)
 
-    pub past_shown : (Told : Type 0) (old new : S) (to_come to_come' came_back came_back' : List (Conn I O)) (out out' : ℕ) (heard heard' : Option (List Heard))
-        → ServesPast taking accounts input output input_steady output_steady Told old new to_come to_come' came_back came_back' out out' heard heard'
-        → ServesPast takes accounts input output input_steady output_steady Told (shown old) (shown new) to_come to_come' came_back came_back' out out' heard heard' × Goes old new
-    unfolding all_shown
-    past_shown Told old new to_come to_come' came_back came_back' out out' heard heard' past =
-        let (all, on) = all_shown Told old new to_come to_come' came_back came_back' out out' past.all in
-        (record { all = all; hears = past.hears }, on)
+      pub past_shown : {W : Type 0} (gate : GateGhosts W) (old : S) (given : L) (before : W) (new : S) (back : L) (after : W) → ServesPast taking listen source sink accounts gate old given before new back after
+          → ServesPast takes listen source sink accounts gate (shown old) given before (shown new) back after × Goes old new
+      unfolding all_shown
+      past_shown gate old given before new back after past =
+          let (all, on) = all_shown old given new back past.all in
+          (record { all = all; hears = past.hears }, on)

@@ -11,5 +11,5 @@ pub fn talks_are_runs<T: Turns>()
 
 /// So is all that was answered on the connections of a listener, in the order in which they were served.
 pub fn conns_are_runs<T: Turns, L: Listen>()
-    ensures { ConnsAreRuns T.takes L.In.state L.Out.state L.In.fails_no_more L.Out.fails_no_more }
+    ensures { ConnsAreRuns T.takes L.In.Source L.Out.Sink }
 {}

@@ -2,20 +2,26 @@
 //!
 //! [`serve_connection`] serves one connection, and [`serve_listener`] those of a listener, one after the other. Turns are taken
 //! by anything that implements [`rv_turns::Turns`]: a server by itself, or one of several that share a book. A request passes a
-//! [`rv_crew::Gate`] before its turns. A connection ends after an answer that closes, at its 100th request, where it ends itself, or
+//! [`Gate`] before its turns. A connection ends after an answer that closes, at its 100th request, where it ends itself, or
 //! at a fault, which [`ConnEnd`] tells.
 #![tactic(auto)]
 
 mod conn_end;
+mod gate;
+mod heard;
 mod http_answer;
 pub mod laws;
 mod listening;
+mod memory_gate;
 mod replying;
 mod serving;
 mod telling;
 mod tools;
 
 pub use conn_end::ConnEnd;
+pub use gate::{Gate, OpenGate};
+pub use heard::Heard;
 pub use http_answer::{HttpAnswer, HttpAnswered};
 pub use listening::serve_listener;
+pub use memory_gate::MemoryGate;
 pub use serving::serve_connection;

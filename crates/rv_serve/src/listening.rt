@@ -1,11 +1,11 @@
 // The connections of a listener are served.
 ghost use Rattle.std.specs.Prelude.{◌≡◌};
 ghost use Rattle.rv_base.specs.Outside.{counted};
-ghost use Rattle.rv_serve.specs.Listening.{ServesListener};
+ghost use Rattle.rv_serve.specs.Listening.{ServesPast};
 
+use crate::gate::Gate;
 use crate::serving::serve_with;
 use rv_accounts::Accounts;
-use rv_crew::Gate;
 use rv_net::{Accepted, Listen};
 use rv_turns::Turns;
 use std::alloc::Global;
@@ -19,7 +19,7 @@ pub fn serve_listener<T: Turns, G: Gate, L: Listen>(
     gate: &mut G,
     listener: &mut L,
 )
-    ensures serves { ServesListener T.Turns L.Listen L.In.Source L.Out.Sink G.Gate accounts.now turns.old turns.new listener.old listener.new gate.old gate.new }
+    ensures serves { ServesPast T.takes L.Listen L.In.Source L.Out.Sink accounts.now G.Gate turns.old listener.old gate.old turns.new listener.new gate.new }
     ensures tells { L.tells listener.new → L.tells listener.old }
     ensures ends { L.ends listener.new ≡ counted (L.ends listener.old) }
 {

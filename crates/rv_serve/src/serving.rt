@@ -8,13 +8,13 @@ ghost use Rattle.rv_serve.specs.Causes.{ConnCause, InputIsSteady, OutputIsSteady
 ghost use Rattle.rv_serve.specs.Steps.{AnswersOne, EndsConn, WritesLast};
 
 use crate::conn_end::ConnEnd;
+use crate::gate::Gate;
 use crate::http_answer::HttpAnswered;
 use crate::replying::reply;
 use crate::telling::{write_answer, write_no_memory, write_rejection};
 use crate::tools::Tools;
 use rv_accounts::Accounts;
 use rv_base::{Sink, Source};
-use rv_crew::Gate;
 use rv_http::{Buffer, HttpEnd, Rejection, Request, Routes, WriteFault, read_request};
 use rv_net::Conn;
 use rv_turns::Turns;

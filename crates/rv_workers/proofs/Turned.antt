@@ -2,7 +2,7 @@
 use Rattle.std.proofs.Common.{◌≡◌, ℕ, zero, suc, List, [], ◌∷◌, ◌++◌, length, take, map, refl, sym, ap, ◌∙◌, append_assoc, length-append, arith}
 use mathlib.Core.List.{map-append}
 use Rattle.std.specs.List.{AllByRecursion}
-use Rattle.rv_crew.specs.Working.{EachWorked}
+use Rattle.rv_workers.specs.Jobs.{EachWorked}
 use Rattle.rv_workers.specs.Hiring.{turned}
 use Rattle.rv_workers.specs.Serving.{EachServes}
 

@@ -1,3 +1,4 @@
+pub mod Jobs
 pub mod Hiring
 pub mod Serving
 pub mod Working

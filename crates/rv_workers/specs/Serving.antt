@@ -1,12 +1,11 @@
 -- Listeners that are served side by side.
 use Rattle.std.specs.Prelude.{◌≡◌, ℕ, List, [], ◌∷◌}
-use Rattle.rv_base.specs.Outside.{InputState, OutputState, counted}
+use Rattle.rv_base.specs.Outside.{counted}
 use Rattle.rv_base.specs.declared.outside.Source.{Ghosts as SourceGhosts}
 use Rattle.rv_base.specs.declared.outside.Sink.{Ghosts as SinkGhosts}
 use Rattle.rv_accounts.specs.File.{Served as Accounts}
 use Rattle.rv_keeper.specs.declared.keeper.Keeper.{Ghosts}
 use Rattle.rv_desk.specs.Seated.{Seated}
-use Rattle.rv_net.specs.declared.conn.Conn.{Conn}
 use Rattle.rv_net.specs.declared.listen.Listen.{Ghosts as ListenGhosts}
 use Rattle.rv_room.specs.declared.view.SeatView.{SeatView}
 use Rattle.rv_room.specs.Closing.{Closes}
@@ -14,20 +13,13 @@ use Rattle.rv_room.specs.Views.{newcomer}
 use Rattle.rv_serve.specs.Listening.{ServesAll}
 use Rattle.rv_room.specs.SeatTurns.{IsSeatTurn}
 
-module _ {K L I O : Type 0} (G : Ghosts K) (accounts : Accounts) (input : I → InputState) (output : O → OutputState) (input_steady : I → Type 0) (output_steady : O → Type 0)
-    (tells : L → Type 0) (to_come came_back : L → List (Conn I O)) (out ends : L → ℕ) where
+module _ {K L I O : Type 0} (G : Ghosts K) (listen : ListenGhosts L I O) (source : SourceGhosts I) (sink : SinkGhosts O) (accounts : Accounts) where
   -- A listener was served by turns of a seat that knew this first and knows that last: its connections were, one after the other, and it
   -- said once that no more were to come.
   pub record IsServed (first : SeatView K) (given : L) (last : SeatView K) (back : L) : Type 0 where
-    pub told : tells back → tells given
-    pub ended : ends back ≡ counted (ends given)
-    pub serves : ServesAll (IsSeatTurn G) accounts input output input_steady output_steady (tells back) first last (to_come given) (to_come back) (came_back given) (came_back back) (out given) (out back)
-
--- the same, by what listeners, sources and sinks show
-module _ {K L I O : Type 0} (G : Ghosts K) (listen : ListenGhosts L I O) (source : SourceGhosts I) (sink : SinkGhosts O) (accounts : Accounts) where
-  abbrev pub ServesBy : SeatView K → L → SeatView K → L → Type 0
-  ServesBy first given last back =
-      IsServed G accounts source.state sink.state source.fails_no_more sink.fails_no_more listen.tells listen.to_come listen.came_back listen.out listen.ends first given last back
+    pub told : listen.tells back → listen.tells given
+    pub ended : listen.ends back ≡ counted (listen.ends given)
+    pub serves : ServesAll (IsSeatTurn G) listen source sink accounts first given last back
 
 -- each listener was served by a seat, and came back, in order
 abbrev pub EachServes : {V L : Type 0} → (V → L → V → L → Type 0) → V → List L → List V → List L → Type 0

@@ -7,10 +7,10 @@ ghost use Rattle.rv_workers.specs.Hiring.{turned};
 
 use crate::worker::Worker;
 use rv_accounts::Accounts;
-use rv_crew::Gate;
 use rv_keeper::Keeper;
 use rv_net::Listen;
 use rv_room::{Room, Seats};
+use rv_serve::Gate;
 use std::alloc::Global;
 use std::sync::Wait;
 

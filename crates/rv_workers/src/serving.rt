@@ -3,13 +3,14 @@ ghost use Rattle.std.specs.Prelude.{◌≡◌, ◌<◌, ◌≤◌, ◌^◌, [], 
 ghost use Rattle.rv_base.specs.Outside.{counted};
 ghost use Rattle.rv_room.specs.Seats.{id_of, opened_of, view_of, AllNew, AllOf};
 ghost use Rattle.rv_room.specs.Views.{newcomer};
-ghost use Rattle.rv_workers.specs.Serving.{EachServes, ServesBy, ServesTogether};
+ghost use Rattle.rv_workers.specs.Serving.{EachServes, IsServed, ServesTogether};
 
+use crate::crew::Crew;
 use crate::hiring::{dismiss_all, hire_all};
+use crate::running::run_all;
 use crate::worker::Worker;
 use rv_accounts::Accounts;
 use rv_base::Memory;
-use rv_crew::{Crew, run_all};
 use rv_desk::Desk;
 use rv_keeper::Keeper;
 use rv_net::Listen;
@@ -49,7 +50,7 @@ where
     requires fits { (workers.items ≡ []) × (vec_len listeners ≤ vec_capacity workers) }
     ensures seats { vec_len result.0.list ≡ vec_len seats.list }
     ensures of { AllOf (id_of room.now) result.0.list.items }
-    ensures serves { EachServes (ServesBy K.Keeper L.Listen L.In.Source L.Out.Sink accounts.now) (newcomer 1 (opened_of room.now)) listeners.items (map view_of result.0.list.items) result.1.items }
+    ensures serves { EachServes (IsServed K.Keeper L.Listen L.In.Source L.Out.Sink accounts.now) (newcomer 1 (opened_of room.now)) listeners.items (map view_of result.0.list.items) result.1.items }
 {
     hire_all(
         alloc,
@@ -82,7 +83,7 @@ where
     requires few { vec_len listeners < 2 ^ 32 }
     requires settled { desk.doubt ≡ None }
     ensures { MatchResult result.0
-        (λ done. ServesTogether K.Keeper (ServesBy K.Keeper L.Listen L.In.Source L.Out.Sink accounts.now) desk listeners.items result.1 result.2.items)
+        (λ done. ServesTogether K.Keeper (IsServed K.Keeper L.Listen L.In.Source L.Out.Sink accounts.now) desk listeners.items result.1 result.2.items)
         (λ refused. (result.1 ≡ desk) × (result.2.items ≡ listeners.items)) }
 {
     if listeners.is_empty() {

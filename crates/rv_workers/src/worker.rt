@@ -1,12 +1,12 @@
 ghost use Rattle.std.specs.Prelude.{◌≡◌};
 ghost use Rattle.rv_room.specs.Seats.{id_of, room_of};
 
+use crate::job::Job;
 use rv_accounts::Accounts;
-use rv_crew::{Gate, Job};
 use rv_keeper::Keeper;
 use rv_net::Listen;
 use rv_room::{Room, Seat, SeatTurns};
-use rv_serve::serve_listener;
+use rv_serve::{Gate, serve_listener};
 use std::alloc::Global;
 use std::sync::Wait;
 
@@ -72,7 +72,7 @@ where
 
     ghost needs = { λ worker. Unit {0} };
 
-    ghost worked = { λ old new. HasServed K.Keeper L.In.state L.Out.state L.In.fails_no_more L.Out.fails_no_more L.tells L.to_come L.came_back L.out L.ends G.heard old new };
+    ghost worked = { λ old new. HasServed K.Keeper L.Listen L.In.Source L.Out.Sink G.Gate old new };
 
     fn work(&mut self) {
         serve_listener(

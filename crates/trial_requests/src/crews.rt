@@ -1,6 +1,7 @@
 // Crews by threads and one after the other, as one type: so the program is built for one.
 use rv_base::Memory;
-use rv_crew::{Crew, OpenGate, Serial, Threaded};
+use rv_serve::OpenGate;
+use rv_workers::{Crew, Serial, Threaded};
 use std::thread::Threads;
 
 /// A crew by threads, or one after the other.

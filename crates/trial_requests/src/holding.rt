@@ -1,7 +1,7 @@
 // A job that waits for another.
 use crate::crews::EitherCrew;
 use rv_base::Memory;
-use rv_crew::{Job, run_all};
+use rv_workers::{Job, run_all};
 use std::alloc::Global;
 use std::sync::atomic::{AtomicU64, Ordering};
 use std::thread;

@@ -1,7 +1,8 @@
 // A crew by threads or one after the other, whose gates look at what they hear, and may hold the first worker's requests until the
 // second has answered one.
 use rv_base::Memory;
-use rv_crew::{Crew, Gate};
+use rv_serve::Gate;
+use rv_workers::Crew;
 use std::sync::atomic::{AtomicU64, Ordering};
 use std::thread;
 use std::thread::Threads;

@@ -2,4 +2,4 @@ use Rattle.rv_cli.proofs.ServedRuns.{troubles_have_causes}
 use Rattle.rv_cli.proofs.laws.served_troubles_have_causes.Goals as goal
 
 pub returns : goal.returns
-returns g c = λ accounts. troubles_have_causes g.K.Keeper accounts g.L.In.Source.state g.L.Out.Sink.state g.L.In.Source.fails_no_more g.L.Out.Sink.fails_no_more g.L.Listen.tells g.L.Listen.to_come g.L.Listen.came_back g.L.Listen.out g.L.Listen.ends
+returns g c = λ accounts. troubles_have_causes g.K.Keeper g.L.Listen g.L.In.Source g.L.Out.Sink accounts

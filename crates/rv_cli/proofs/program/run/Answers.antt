@@ -1,7 +1,7 @@
-use Rattle.std.proofs.Common.{ℕ, List, Ok, inl, subst, sym}
-use Rattle.rv_keeper.specs.Stores.{OpensAs, OthersStay}
-use Rattle.rv_answering.specs.declared.request.Request.TheVariants.{Retire}
-use Rattle.rv_cli.specs.Headline.{RunsFeed, RunsOne, RunsReport, TellsActivity, TellsLists, TellsSound}
+use Rattle.std.proofs.Common.{ℕ, List, inl, subst, sym}
+use Rattle.rv_keeper.specs.Stores.{OthersStay}
+use Rattle.rv_cli.specs.Promises.{WasFed, WasReported, WasRetired}
+use Rattle.rv_cli.specs.Headline.{TellsActivity, TellsLists, TellsSound}
 use Rattle.rv_cli.proofs.Named.{activity_same, checks_same, feeds_same, lists_same, names_activity, names_check, names_feed, names_lists, names_retire, names_serve, of_both, reports_activity, reports_check, reports_lists, retires_same}
 use Rattle.rv_cli.proofs.Sound.{activity_memory, check_memory, lists_memory, memory_sound, feeds_memory, retires_in_memory, serves_memory, serves_same}
 use Rattle.rv_cli.proofs.program.run.Goals as goal
@@ -111,34 +111,29 @@ returns-in-Ok-Some-Serve-clause-steady_net g c = λ store options asks steady en
 pub returns-in-Ok-Some-Feed-clause-feed : goal.returns-in-Ok-Some-Feed-clause-feed
 returns-in-Ok-Some-Feed-clause-feed g c = λ store asks.
     let is = rw (c.in-Ok-Some-Feed.field-0-is, c.in-Ok-Some-Feed.field-0-0-is) at c.in-Ok-Some-Feed.ensures in
-    inl (subst (λ (name : List ℕ). RunsFeed (g.P.Place.tells c.run_feed.new.place) (OpensAs name (g.P.Place.holds c.args.place.now name)) (g.P.Place.holds c.run_feed.new.place name) (g.P.Place.faults c.args.place.now) (g.P.Place.faults c.run_feed.new.place) (g.P.Place.holds c.args.place.now name)
-    (g.S.Source.state c.args.input.now) (g.S.Source.state c.run_feed.new.input) (g.O.Sink.state c.args.out.now) (g.O.Sink.state c.run_feed.new.out) c.run_feed.result)
+    inl (subst (λ (name : List ℕ). WasFed g.P.Place g.O.Sink name c.args.place.now c.run_feed.new.place g.S.Source c.args.input.now c.run_feed.new.input c.args.out.now c.run_feed.new.out c.run_feed.result)
     (feeds_same _ _ _ store is c.as_str.ensures asks) c.run_feed.ensures.feed)
 
 pub returns-in-Ok-Some-Retire-clause-retire : goal.returns-in-Ok-Some-Retire-clause-retire
 returns-in-Ok-Some-Retire-clause-retire g c = λ store group asks.
     let is = rw (c.in-Ok-Some-Retire.field-0-is, c.in-Ok-Some-Retire.field-0-0-is) at c.in-Ok-Some-Retire.ensures in
     let (named, grouped) = retires_same _ _ _ store _ group is c.as_str-in-Ok-Some-Retire.ensures asks in
-    inl (of_both (λ name got. RunsOne (g.P.Place.tells c.run_retire.new.place) (OpensAs name (g.P.Place.holds c.args.place.now name)) (g.P.Place.holds c.run_retire.new.place name) (g.P.Place.faults c.args.place.now) (g.P.Place.faults c.run_retire.new.place) (g.P.Place.holds c.args.place.now name)
-    (Ok (Retire got)) (g.O.Sink.state c.args.out.now) (g.O.Sink.state c.run_retire.new.out) c.run_retire.result) _ store _ group named grouped c.run_retire.ensures.retire)
+    inl (of_both (λ name got. WasRetired g.P.Place g.O.Sink name c.args.place.now c.run_retire.new.place got c.args.out.now c.run_retire.new.out c.run_retire.result) _ store _ group named grouped c.run_retire.ensures.retire)
 
 pub returns-in-Ok-Some-Lists-clause-lists : goal.returns-in-Ok-Some-Lists-clause-lists
 returns-in-Ok-Some-Lists-clause-lists g c = λ store asks.
     let is = rw (c.in-Ok-Some-Lists.field-0-is, c.in-Ok-Some-Lists.field-0-0-is) at c.in-Ok-Some-Lists.ensures in
-    inl (subst (λ (name : List ℕ). RunsReport (g.P.Place.tells c.run_lists.new.place) (OpensAs name (g.P.Place.holds c.args.place.now name)) (g.P.Place.holds c.run_lists.new.place name) (g.P.Place.faults c.args.place.now) (g.P.Place.faults c.run_lists.new.place) (g.P.Place.holds c.args.place.now name) TellsLists
-    (g.O.Sink.state c.args.out.now) (g.O.Sink.state c.run_lists.new.out) c.run_lists.result) (lists_same _ _ _ store is c.as_str-in-Ok-Some-Lists.ensures asks) c.run_lists.ensures.report)
+    inl (subst (λ (name : List ℕ). WasReported g.P.Place g.O.Sink name c.args.place.now c.run_lists.new.place TellsLists c.args.out.now c.run_lists.new.out c.run_lists.result) (lists_same _ _ _ store is c.as_str-in-Ok-Some-Lists.ensures asks) c.run_lists.ensures.report)
 
 pub returns-in-Ok-Some-Activity-clause-activity : goal.returns-in-Ok-Some-Activity-clause-activity
 returns-in-Ok-Some-Activity-clause-activity g c = λ store asks.
     let is = rw (c.in-Ok-Some-Activity.field-0-is, c.in-Ok-Some-Activity.field-0-0-is) at c.in-Ok-Some-Activity.ensures in
-    inl (subst (λ (name : List ℕ). RunsReport (g.P.Place.tells c.run_activity.new.place) (OpensAs name (g.P.Place.holds c.args.place.now name)) (g.P.Place.holds c.run_activity.new.place name) (g.P.Place.faults c.args.place.now) (g.P.Place.faults c.run_activity.new.place) (g.P.Place.holds c.args.place.now name) TellsActivity
-    (g.O.Sink.state c.args.out.now) (g.O.Sink.state c.run_activity.new.out) c.run_activity.result) (activity_same _ _ _ store is c.as_str-in-Ok-Some-Activity.ensures asks) c.run_activity.ensures.report)
+    inl (subst (λ (name : List ℕ). WasReported g.P.Place g.O.Sink name c.args.place.now c.run_activity.new.place TellsActivity c.args.out.now c.run_activity.new.out c.run_activity.result) (activity_same _ _ _ store is c.as_str-in-Ok-Some-Activity.ensures asks) c.run_activity.ensures.report)
 
 pub returns-in-Ok-Some-Check-clause-check : goal.returns-in-Ok-Some-Check-clause-check
 returns-in-Ok-Some-Check-clause-check g c = λ store asks.
     let is = rw (c.in-Ok-Some-Check.field-0-is, c.in-Ok-Some-Check.field-0-0-is) at c.in-Ok-Some-Check.ensures in
-    inl (subst (λ (name : List ℕ). RunsReport (g.P.Place.tells c.run_check.new.place) (OpensAs name (g.P.Place.holds c.args.place.now name)) (g.P.Place.holds c.run_check.new.place name) (g.P.Place.faults c.args.place.now) (g.P.Place.faults c.run_check.new.place) (g.P.Place.holds c.args.place.now name) TellsSound
-    (g.O.Sink.state c.args.out.now) (g.O.Sink.state c.run_check.new.out) c.run_check.result) (checks_same _ _ _ store is c.as_str-in-Ok-Some-Check.ensures asks) c.run_check.ensures.report)
+    inl (subst (λ (name : List ℕ). WasReported g.P.Place g.O.Sink name c.args.place.now c.run_check.new.place TellsSound c.args.out.now c.run_check.new.out c.run_check.result) (checks_same _ _ _ store is c.as_str-in-Ok-Some-Check.ensures asks) c.run_check.ensures.report)
 
 pub returns-in-Ok-Some-Lists-clause-none_made : goal.returns-in-Ok-Some-Lists-clause-none_made
 returns-in-Ok-Some-Lists-clause-none_made g c = λ store names told has.

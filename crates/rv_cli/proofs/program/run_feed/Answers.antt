@@ -1,3 +1,4 @@
+use Rattle.rv_cli.specs.Change.{change}
 use Rattle.rv_cli.proofs.Steady.{not_four, taken_up}
 use Rattle.rv_keeper.specs.StoreLaws.{others_on}
 use Rattle.std.proofs.Common.{inr, sym, ◌∙◌}
@@ -11,7 +12,7 @@ pub returns-in-Ok-clause-feed : goal.returns-in-Ok-clause-feed
 returns-in-Ok-clause-feed g c = (
   c.feed-ending.result.0,
   c.status.ensures,
-  inr (has_fed g.P.Place.tells g.P.Place.holds g.P.Place.is_out g.P.Place.faults g.P.Kept.Keeper.tells g.P.Kept.Keeper.fails_no_more g.P.Kept.Keeper.holds g.P.Kept.Keeper.faults c.args.store.now c.args.place.now c.open_desk.new.place c.close_keeper.new.self c.in-Ok.desk c.feed-ending.result
+  inr (has_fed g.P.Place g.P.Kept.Keeper c.args.store.now c.args.place.now c.open_desk.new.place c.close_keeper.new.self c.in-Ok.desk c.feed-ending.result
       (g.S.Source.state c.args.input.now) (g.S.Source.state c.feed-ending.new.input) (g.O.Sink.state c.args.out.now) (g.O.Sink.state c.feed-ending.new.out) (g.O.Sink.state c.write_ending.new.out) c.write_ending.result
       c.in-Ok.ensures.opens c.feed-ending.ensures.feeds (record { told = c.close_keeper.ensures.tells; held = c.close_keeper.ensures.kept; taken = c.close_keeper.ensures.faults }) c.write_ending.ensures.writes),
 )
@@ -22,10 +23,10 @@ returns-in-Ok-clause-complete g c =
     (g.O.Sink.state c.args.out.now) (g.O.Sink.state c.feed-ending.new.out) c.feed-ending.result.0 c.feed-ending.ensures.feeds.feeds.fed)
 
 pub returns-in-Ok-clause-sound : goal.returns-in-Ok-clause-sound
-returns-in-Ok-clause-sound g c = λ told kept. feed_sound _ _ _ _ _ told kept _ _ _ _ _ _ (returns-in-Ok-clause-feed g c)
+returns-in-Ok-clause-sound g c = λ told kept. feed_sound (change g.P.Place c.args.store.now c.args.place.now c.close_keeper.new.self) told kept _ _ _ _ _ (returns-in-Ok-clause-feed g c)
 
 pub returns-in-Err-clause-sound : goal.returns-in-Err-clause-sound
-returns-in-Err-clause-sound g c = λ told kept. refused_sound _ _ _ _ _ told kept c.in-Err.ending _ c.in-Err.ensures.opens.0 c.refuse_opening.ensures.status
+returns-in-Err-clause-sound g c = λ told kept. refused_sound (change g.P.Place c.args.store.now c.args.place.now c.open_desk.new.place) told kept c.in-Err.ending _ c.in-Err.ensures.opens.0 c.refuse_opening.ensures.status
 
 pub returns-in-Ok-clause-others : goal.returns-in-Ok-clause-others
 returns-in-Ok-clause-others g c = λ t.

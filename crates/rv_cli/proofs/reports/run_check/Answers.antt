@@ -1,3 +1,4 @@
+use Rattle.rv_cli.specs.Change.{change}
 use Rattle.rv_cli.proofs.Steady.{not_four, sound_is_none}
 use Rattle.std.proofs.Common.{inr, sym, ◌∙◌, refl}
 use Rattle.rv_cli.proofs.Reporting.{has_checked}
@@ -9,15 +10,15 @@ pub returns-in-Ok-clause-report : goal.returns-in-Ok-clause-report
 returns-in-Ok-clause-report g c = (
   c.report_sound.result,
   c.status.ensures,
-  inr (has_checked g.P.Place.tells g.P.Place.holds g.P.Place.faults c.args.store.now c.args.place.now c.check_store.new.place c.in-Ok.entries
+  inr (has_checked g.P.Place c.args.store.now c.args.place.now c.check_store.new.place c.in-Ok.entries
       (g.O.Sink.state c.args.out.now) (g.O.Sink.state c.report_sound.new.out) c.report_sound.result c.in-Ok.ensures.checks c.report_sound.ensures.writes),
 )
 
 pub returns-in-Err-clause-sound : goal.returns-in-Err-clause-sound
-returns-in-Err-clause-sound g c = λ told kept. refused_sound _ _ _ _ _ told kept c.in-Err.ending _ c.in-Err.ensures.checks.0 c.refuse_opening.ensures.status
+returns-in-Err-clause-sound g c = λ told kept. refused_sound (change g.P.Place c.args.store.now c.args.place.now c.check_store.new.place) told kept c.in-Err.ending _ c.in-Err.ensures.checks.0 c.refuse_opening.ensures.status
 
 pub returns-in-Err-clause-absent : goal.returns-in-Err-clause-absent
-returns-in-Err-clause-absent g c = λ told none. absurd (refused_fails _ _ _ _ _ c.in-Err.ending _ c.in-Err.ensures.checks.0 c.refuse_opening.ensures.status none)
+returns-in-Err-clause-absent g c = λ told none. absurd (refused_fails (change g.P.Place c.args.store.now c.args.place.now c.check_store.new.place) c.in-Err.ending _ c.in-Err.ensures.checks.0 c.refuse_opening.ensures.status none)
 
 pub returns-in-Ok-clause-steady_place : goal.returns-in-Ok-clause-steady_place
 returns-in-Ok-clause-steady_place g c = λ steady there.

@@ -3,4 +3,4 @@ use Rattle.rv_laws.proofs.FedLaws.{pushes_stand}
 use Rattle.rv_laws.proofs.feed.pushes_stand.Goals as goal
 
 pub returns : goal.returns
-returns g c = pushes_stand g.P.Place.tells g.P.Place.holds g.P.Place.faults c.books_are_lawful.ensures (c.pushes_stand.ensures pull_json)
+returns g c = pushes_stand g.P.Place c.books_are_lawful.ensures (c.pushes_stand.ensures pull_json)

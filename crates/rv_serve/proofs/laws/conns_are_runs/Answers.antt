@@ -2,4 +2,4 @@ use Rattle.rv_serve.specs.RunLaws.{conns_run}
 use Rattle.rv_serve.proofs.laws.conns_are_runs.Goals as goal
 
 pub returns : goal.returns
-returns g c = conns_run g.T.Turns.takes g.L.In.Source.state g.L.Out.Sink.state g.L.In.Source.fails_no_more g.L.Out.Sink.fails_no_more
+returns g c = conns_run g.T.Turns.takes g.L.In.Source g.L.Out.Sink

@@ -1,6 +1,6 @@
 use Rattle.std.proofs.Common.{◌≡◌, List, length, drop, map, arith, ap, sym, ◌∙◌, subst}
 use Rattle.std.specs.List.{AllByRecursion}
-use Rattle.rv_crew.specs.Working.{EachWorked}
+use Rattle.rv_workers.specs.Jobs.{EachWorked}
 use Rattle.rv_accounts.specs.File.{Served as Accounts}
 use Rattle.rv_room.specs.declared.view.SeatView.{SeatView}
 use Rattle.rv_room.specs.SeatTurns.{IsSeatTurn}
@@ -18,7 +18,7 @@ pub dismiss_all-requires-clause-room : goal.dismiss_all-requires-clause-room
 dismiss_all-requires-clause-room g c =
     let hired = c.hire_all.new.workers in
     let W : Type 0 = Worker g.row.R.Denot g.row.K.Denot g.row.L.Denot g.row.C-Gate.Denot g.row.L-In.Denot g.row.L-Out.Denot g.K.Keeper in
-    let done : W → W → Type 0 = HasServed g.K.Keeper g.L.In.Source.state g.L.Out.Sink.state g.L.In.Source.fails_no_more g.L.Out.Sink.fails_no_more g.L.Listen.tells g.L.Listen.to_come g.L.Listen.came_back g.L.Listen.out g.L.Listen.ends g.C.Gate.Gate.heard in
+    let done : W → W → Type 0 = HasServed g.K.Keeper g.L.Listen g.L.In.Source g.L.Out.Sink g.C.Gate.Gate in
     let worked : EachWorked done hired.items c.run_all.new.jobs = subst (λ l. EachWorked done l c.run_all.new.jobs) c.as_mut_slice.ensures.value c.run_all.ensures in
     let whole = front c.run_all.new.jobs (drop (length c.run_all.new.jobs) hired.items) hired.len (hired.ok.0 ∙ sym (worked-length done hired.items c.run_all.new.jobs worked)) in
     subst (AllByRecursion _) (sym whole) (all-worked done (λ worker. (worker.turns.room.now ≡ c.args.room.now) × (worker.accounts.now ≡ c.args.accounts.now) × (view_of worker.turns.seat ≡ newcomer 1 (opened_of c.args.room.now))) (λ worker. worker.turns.room.now ≡ c.args.room.now) (λ x y p w. w.0 ∙ p.0) hired.items c.run_all.new.jobs c.hire_all.ensures.each worked)
@@ -50,7 +50,7 @@ pub returns-clause-seats : goal.returns-clause-seats
 returns-clause-seats g c =
     let hired = c.hire_all.new.workers in
     let W : Type 0 = Worker g.row.R.Denot g.row.K.Denot g.row.L.Denot g.row.C-Gate.Denot g.row.L-In.Denot g.row.L-Out.Denot g.K.Keeper in
-    let done : W → W → Type 0 = HasServed g.K.Keeper g.L.In.Source.state g.L.Out.Sink.state g.L.In.Source.fails_no_more g.L.Out.Sink.fails_no_more g.L.Listen.tells g.L.Listen.to_come g.L.Listen.came_back g.L.Listen.out g.L.Listen.ends g.C.Gate.Gate.heard in
+    let done : W → W → Type 0 = HasServed g.K.Keeper g.L.Listen g.L.In.Source g.L.Out.Sink g.C.Gate.Gate in
     let worked : EachWorked done hired.items c.run_all.new.jobs = subst (λ l. EachWorked done l c.run_all.new.jobs) c.as_mut_slice.ensures.value c.run_all.ensures in
     let len = worked-length done hired.items c.run_all.new.jobs worked in
     let whole = front c.run_all.new.jobs (drop (length c.run_all.new.jobs) hired.items) hired.len (hired.ok.0 ∙ sym len) in
@@ -67,16 +67,16 @@ pub returns-clause-serves : goal.returns-clause-serves
 returns-clause-serves g c =
     let hired = c.hire_all.new.workers in
     let W : Type 0 = Worker g.row.R.Denot g.row.K.Denot g.row.L.Denot g.row.C-Gate.Denot g.row.L-In.Denot g.row.L-Out.Denot g.K.Keeper in
-    let done : W → W → Type 0 = HasServed g.K.Keeper g.L.In.Source.state g.L.Out.Sink.state g.L.In.Source.fails_no_more g.L.Out.Sink.fails_no_more g.L.Listen.tells g.L.Listen.to_come g.L.Listen.came_back g.L.Listen.out g.L.Listen.ends g.C.Gate.Gate.heard in
+    let done : W → W → Type 0 = HasServed g.K.Keeper g.L.Listen g.L.In.Source g.L.Out.Sink g.C.Gate.Gate in
     let worked : EachWorked done hired.items c.run_all.new.jobs = subst (λ l. EachWorked done l c.run_all.new.jobs) c.as_mut_slice.ensures.value c.run_all.ensures in
     let whole = front c.run_all.new.jobs (drop (length c.run_all.new.jobs) hired.items) hired.len (hired.ok.0 ∙ sym (worked-length done hired.items c.run_all.new.jobs worked)) in
-    let Serves : SeatView g.row.K.Denot → g.row.L.Denot → SeatView g.row.K.Denot → g.row.L.Denot → Type 0 = λ first given last back. IsServed g.K.Keeper c.args.accounts.now g.L.In.Source.state g.L.Out.Sink.state g.L.In.Source.fails_no_more g.L.Out.Sink.fails_no_more g.L.Listen.tells g.L.Listen.to_come g.L.Listen.came_back g.L.Listen.out g.L.Listen.ends first given last back in
+    let Serves : SeatView g.row.K.Denot → g.row.L.Denot → SeatView g.row.K.Denot → g.row.L.Denot → Type 0 = IsServed g.K.Keeper g.L.Listen g.L.In.Source g.L.Out.Sink c.args.accounts.now in
     let first : SeatView g.row.K.Denot = newcomer 1 (opened_of c.args.room.now) in
     let each = each-serves done Serves first (λ worker. worker.listener) (λ worker. view_of worker.turns.seat) (λ worker. (worker.turns.room.now ≡ c.args.room.now) × (worker.accounts.now ≡ c.args.accounts.now) × (view_of worker.turns.seat ≡ newcomer 1 (opened_of c.args.room.now)))
     (λ w w' h j. record {
       told = j.1;
       ended = j.2;
-      serves = subst (λ (x : Accounts × SeatView g.row.K.Denot). ServesAll (IsSeatTurn g.K.Keeper) x.0 g.L.In.Source.state g.L.Out.Sink.state g.L.In.Source.fails_no_more g.L.Out.Sink.fails_no_more (g.L.Listen.tells w'.listener) x.1 (view_of w'.turns.seat) (g.L.Listen.to_come w.listener) (g.L.Listen.to_come w'.listener) (g.L.Listen.came_back w.listener) (g.L.Listen.came_back w'.listener) (g.L.Listen.out w.listener) (g.L.Listen.out w'.listener)) (λ i. (h.1 i, h.2 i)) j.3.all;
+      serves = subst (λ (x : Accounts × SeatView g.row.K.Denot). ServesAll (IsSeatTurn g.K.Keeper) g.L.Listen g.L.In.Source g.L.Out.Sink x.0 x.1 w.listener (view_of w'.turns.seat) w'.listener) (λ i. (h.1 i, h.2 i)) j.3.all;
     })
     hired.items c.run_all.new.jobs c.hire_all.ensures.each worked in
     let views = ap (map view_of) (c.dismiss_all.ensures.seats ∙ ap (turned (λ worker. worker.turns.seat)) whole) ∙ map-turned view_of (λ worker. worker.turns.seat) c.run_all.new.jobs in

@@ -15,7 +15,7 @@ returns-then-is_empty g c = let whole = c.args.listeners.ok.0 in serves_none g.K
 pub returns : goal.returns
 returns g c =
     let is = c.in-Ok-open.ensures.about.1 in
-    let Serves : SeatView g.row.K.Denot → g.row.L.Denot → SeatView g.row.K.Denot → g.row.L.Denot → Type 0 = λ first given last back. IsServed g.K.Keeper c.args.accounts.now g.L.In.Source.state g.L.Out.Sink.state g.L.In.Source.fails_no_more g.L.Out.Sink.fails_no_more g.L.Listen.tells g.L.Listen.to_come g.L.Listen.came_back g.L.Listen.out g.L.Listen.ends first given last back in
+    let Serves : SeatView g.row.K.Denot → g.row.L.Denot → SeatView g.row.K.Denot → g.row.L.Denot → Type 0 = IsServed g.K.Keeper g.L.Listen g.L.In.Source g.L.Out.Sink c.args.accounts.now in
     let views = map view_of c.serve_in-seats.result.0.list.items in
     record {
       views = views;

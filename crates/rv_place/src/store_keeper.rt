@@ -2,12 +2,12 @@ ghost use Rattle.std.specs.Prelude.{◌≡◌, ◌<◌, ◌-◌, ◌^◌, IfOk, 
 ghost use Rattle.rv_keeper.specs.declared.loaded.Loaded.{Loaded};
 ghost use Rattle.rv_keeper.specs.Cells.{AreCells};
 ghost use Rattle.rv_keeper.specs.Keeping.{HasGenerationCause, HasKeepCause, KeepsSteady, Tells};
-ghost use Rattle.rv_sqlite.specs.Stored.{StoredFinds, StoredHolds, StoredLoads, StoredSteady, StoredTells, stored_connection, stored_faults};
-ghost use Rattle.rv_sqlite.specs.StoredLaws.{stored_one, stored_tells};
+ghost use Rattle.rv_place.specs.Stored.{StoredFinds, StoredHolds, StoredLoads, StoredSteady, StoredTells, stored_connection, stored_faults};
+ghost use Rattle.rv_place.specs.StoredLaws.{stored_one, stored_tells};
 
-use crate::sqlite_keeper::SqliteKeeper;
 use rv_base::Failed;
 use rv_keeper::{Change, KeepFault, Keeper, Loaded, MemoryKeeper};
+use rv_sqlite::SqliteKeeper;
 use sqlite::{Alter, Connection};
 
 /// What keeps one store: memory, which tells what it holds, or a SQLite database, which does not.

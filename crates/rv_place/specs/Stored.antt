@@ -6,8 +6,8 @@ use Rattle.sqlite.specs.Held.{Held, state}
 use Rattle.rv_keeper.specs.declared.loaded.Loaded.{Loaded}
 use Rattle.rv_keeper.specs.Keeping.{holding}
 use Rattle.rv_keeper.specs.Schedules.{FailsNoMore}
-use Rattle.rv_sqlite.specs.declared.store_keeper.StoreKeeper.{StoreKeeper}
-use Rattle.rv_sqlite.specs.declared.store_keeper.StoreKeeper.TheVariants.{Memory, Sqlite}
+use Rattle.rv_place.specs.declared.store_keeper.StoreKeeper.{StoreKeeper}
+use Rattle.rv_place.specs.declared.store_keeper.StoreKeeper.TheVariants.{Memory, Sqlite}
 use Rattle.rv_sqlite.specs.Asked.{FindsGeneration}
 use Rattle.rv_sqlite.specs.Loads.{LoadsTable}
 

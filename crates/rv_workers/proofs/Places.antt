@@ -1,6 +1,6 @@
 -- What holds place by place holds along the lists.
 use Rattle.std.proofs.Common.{suc, List, [], ◌∷◌, arith}
-use Rattle.rv_crew.specs.Working.{EachWorked, WorkedByPlace}
+use Rattle.rv_workers.specs.Jobs.{EachWorked, WorkedByPlace}
 
 pub each_worked : {J : Type 0} (worked : J → J → Type 0) (before after : List J) → WorkedByPlace worked before after → EachWorked worked before after
 each_worked worked [] [] by = tt

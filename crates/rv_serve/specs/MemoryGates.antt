@@ -1,7 +1,7 @@
 -- What a gate in memory tells.
 use Rattle.std.specs.Prelude.{List, Option, Some, None, if◌then◌else◌}
-use Rattle.rv_crew.specs.declared.heard.Heard.{Heard}
-use Rattle.rv_crew.specs.declared.memory_gate.MemoryGate.{MemoryGate}
+use Rattle.rv_serve.specs.declared.heard.Heard.{Heard}
+use Rattle.rv_serve.specs.declared.memory_gate.MemoryGate.{MemoryGate}
 
 abbrev pub told : MemoryGate → Option (List Heard)
 told gate = if gate.lost then None else Some gate.heard.items

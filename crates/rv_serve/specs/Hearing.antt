@@ -1,6 +1,6 @@
 -- What a gate has heard, where it tells.
 use Rattle.std.specs.Prelude.{◌≡◌, List, ◌++◌, Option, Some, None}
-use Rattle.rv_crew.specs.declared.heard.Heard.{Heard}
+use Rattle.rv_serve.specs.declared.heard.Heard.{Heard}
 
 -- Just this was heard: what was told before is told, and then this; or nothing is told any more.
 abbrev pub Hears : Option (List Heard) → Option (List Heard) → List Heard → Type 0

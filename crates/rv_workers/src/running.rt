@@ -1,6 +1,6 @@
 // Jobs are run.
 ghost use Rattle.std.specs.Prelude.{◌<◌, All};
-ghost use Rattle.rv_crew.specs.Working.{EachWorked, WorkedByPlace};
+ghost use Rattle.rv_workers.specs.Jobs.{EachWorked, WorkedByPlace};
 
 use crate::crew::Crew;
 use crate::job::Job;

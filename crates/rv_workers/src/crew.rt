@@ -1,5 +1,5 @@
-use crate::gate::Gate;
 use rv_base::Memory;
+use rv_serve::Gate;
 use std::thread::Threads;
 
 /// Who runs jobs, and the gates of those who serve requests.

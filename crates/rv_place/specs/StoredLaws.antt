@@ -1,9 +1,9 @@
 -- Laws of a keeper of either kind.
 use Rattle.std.proofs.Common.{◌≡◌, sym, ◌∙◌}
 use Rattle.rv_keeper.specs.declared.loaded.Loaded.{Loaded}
-use Rattle.rv_sqlite.specs.declared.store_keeper.StoreKeeper.{StoreKeeper}
-use Rattle.rv_sqlite.specs.declared.store_keeper.StoreKeeper.TheVariants.{Memory, Sqlite}
-use Rattle.rv_sqlite.specs.Stored.{StoredHolds, StoredSteady, StoredTells}
+use Rattle.rv_place.specs.declared.store_keeper.StoreKeeper.{StoreKeeper}
+use Rattle.rv_place.specs.declared.store_keeper.StoreKeeper.TheVariants.{Memory, Sqlite}
+use Rattle.rv_place.specs.Stored.{StoredHolds, StoredSteady, StoredTells}
 
 module _ {S : Type 0} where
   -- what fails no more tells

@@ -1,6 +1,6 @@
 use crate::crew::Crew;
-use crate::gate::OpenGate;
 use rv_base::Memory;
+use rv_serve::OpenGate;
 use std::thread::Threads;
 
 /// Runs jobs in threads. Its gates hold no request.

@@ -1,9 +1,9 @@
 /// Where the requests of one worker pass. It may hold a request, and hears of its answer.
 pub trait Gate: Drop {
     ghost use Rattle.std.specs.Prelude.{List, [], ◌∷◌, Option};
-    ghost use Rattle.rv_crew.specs.Hearing.{Hears};
-    ghost use Rattle.rv_crew.specs.declared.heard.Heard.{Heard};
-    ghost use Rattle.rv_crew.specs.declared.heard.Heard.TheVariants.{Before, After};
+    ghost use Rattle.rv_serve.specs.Hearing.{Hears};
+    ghost use Rattle.rv_serve.specs.declared.heard.Heard.{Heard};
+    ghost use Rattle.rv_serve.specs.declared.heard.Heard.TheVariants.{Before, After};
 
     /// What it has heard, in order, where it tells.
     ghost heard: { Self → Option (List Heard) };

@@ -1,7 +1,7 @@
 -- What is heard in turn.
 use Rattle.std.proofs.Common.{◌≡◌, List, [], ◌++◌, Option, Some, None, sym, ap, ◌∙◌, append_assoc, append-nil}
-use Rattle.rv_crew.specs.declared.heard.Heard.{Heard}
-use Rattle.rv_crew.specs.Hearing.{Hears}
+use Rattle.rv_serve.specs.declared.heard.Heard.{Heard}
+use Rattle.rv_serve.specs.Hearing.{Hears}
 
 pub hears_nothing : (heard : Option (List Heard)) → Hears heard heard []
 hears_nothing None = tt

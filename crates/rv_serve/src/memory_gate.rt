@@ -11,8 +11,8 @@ pub struct MemoryGate {
 
 impl MemoryGate {
     ghost use Rattle.std.specs.Prelude.{◌≡◌, [], ◌∷◌, Some, MatchOption};
-    ghost use Rattle.rv_crew.specs.Hearing.{Hears};
-    ghost use Rattle.rv_crew.specs.MemoryGates.{told};
+    ghost use Rattle.rv_serve.specs.Hearing.{Hears};
+    ghost use Rattle.rv_serve.specs.MemoryGates.{told};
 
     /// A gate that has heard nothing yet.
     pub fn new(alloc: Global) -> MemoryGate
@@ -47,7 +47,7 @@ impl MemoryGate {
 }
 
 impl Gate for MemoryGate {
-    ghost use Rattle.rv_crew.specs.MemoryGates.{told};
+    ghost use Rattle.rv_serve.specs.MemoryGates.{told};
 
     ghost heard = { told };
 

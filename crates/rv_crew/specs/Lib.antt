@@ -1,4 +1,0 @@
-pub mod Hearing
-pub mod HearingLaws
-pub mod MemoryGates
-pub mod Working
