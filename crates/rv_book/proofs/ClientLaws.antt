@@ -1,5 +1,5 @@
 -- Laws of the client index: the rows when one more entry follows.
-use Rattle.std.proofs.Common.{◌≡◌, ℕ, suc, ◌+◌, ◌<◌, ◌≤◌, Bool, true, false, cond, List, [], ◌∷◌, ◌++◌, length, get_or, set, Option, Some, None, Ok, Err, take, drop, refl, sym, ap, ◌∙◌, subst, arith}
+use Rattle.std.proofs.Common.{◌≡◌, ℕ, suc, ◌+◌, ◌<◌, ◌≤◌, Bool, true, false, cond, List, [], ◌∷◌, ◌++◌, get_or, set, Option, Some, None, Ok, Err, take, drop, refl, sym, ap, ◌∙◌, subst, arith}
 use Rattle.std.specs.List.{slice_get}
 use Rattle.std.specs.Option.{option_map, option_or, option_map_or, option_and_then}
 use Rattle.std.specs.Str.{bytes_eq}
@@ -10,15 +10,16 @@ use Rattle.rv_base.specs.Sorted.{Settles}
 use Rattle.rv_book.specs.declared.entry.Entry.{Entry}
 use Rattle.rv_book.specs.declared.entry.Entry.TheVariants.{Act, Look, Retire}
 use Rattle.rv_book.specs.declared.clients.ClientRow.{ClientRow}
-use Rattle.rv_book.specs.Book.{Book, is_act_of, last, group_of, size, with_entry}
-use Rattle.rv_book.specs.BookWords.{at_before, at_end, size-with_entry}
+use Rattle.rv_book.specs.Entries.{is_act_of, group_of_in}
+use Rattle.rv_book.specs.Book.{Book, last, group_of, size, with_entry, empty_book}
+use Rattle.rv_book.specs.BookWords.{count-push, at_before, at_end, size-with_entry}
 use Rattle.rv_book.specs.Indexes.{first_where, actor, client_of_row, row_from, client_row, AreClientRows, acted_in}
 use Rattle.rv_book.proofs.IndexLaws.{bytes_eq_back, index-same, index-again, index-first, Changes}
-use Rattle.rv_book.proofs.BookLaws.{read_later, count-push, first-push, none_counted}
+use Rattle.rv_book.proofs.BookLaws.{read_later, first-push, none_counted}
 
 pub client_of_row-before : (book : Book) (e : Entry) (row : ClientRow) → row.first < size book → client_of_row book row ≡ client_of_row (with_entry book e) row
 unfolding client_of_row
-client_of_row-before book e row lt = ap (λ (o : Option Entry). option_map_or actor o []) (sym (at_before book e row.first lt))
+client_of_row-before book e row lt = ap (λ (o : Option Entry). option_map_or actor o []) (sym (at_before book.entries e row.first lt))
 
 -- the row after one more act of its client
 abbrev pub one_more : ℕ → Option ClientRow → ClientRow
@@ -35,8 +36,8 @@ row_after None false index acts none = refl
 pub client_row-push : (book : Book) (e : Entry) (k : List ℕ) → client_row (with_entry book e) k ≡ cond (is_act_of k e) (Some (one_more (size book) (client_row book k))) (client_row book k)
 unfolding client_row
 client_row-push book e k =
-    (λ i. option_map (λ index. record { first = index; acts = count-push (is_act_of k) book e i }) (first-push (is_act_of k) book e i))
-    ∙ row_after (first_where (is_act_of k) book) (is_act_of k e) (size book) (last k book) (none_counted (is_act_of k) book)
+    (λ i. option_map (λ index. record { first = index; acts = count-push (is_act_of k) book.entries e i }) (first-push (is_act_of k) book.entries e i))
+    ∙ row_after (first_where (is_act_of k) book.entries) (is_act_of k e) (size book) (last k book) (none_counted (is_act_of k) book.entries)
 
 pub act_is : (c : List ℕ) (e : Entry) → is_act_of c e ≡ true → (actor e ≡ c) × ((k : List ℕ) → is_act_of k e ≡ bytes_eq k c)
 act_is c (Act user group client id call) is =
@@ -48,17 +49,17 @@ act_is c (Retire group) is = absurd (cc)
 -- an entry that is no act
 pub clients-same : (book : Book) (e : Entry) (rows : List ClientRow) → ((k : List ℕ) → is_act_of k e ≡ false) → AreClientRows book rows → AreClientRows (with_entry book e) rows
 clients-same book e rows other h =
-    index-same (client_of_row book) (client_of_row (with_entry book e)) (λ (row : ClientRow). row.first) (size book) (length (with_entry book e)) (client_row book) (client_row (with_entry book e)) rows
+    index-same (client_of_row book) (client_of_row (with_entry book e)) (λ (row : ClientRow). row.first) (size book) (size (with_entry book e)) (client_row book) (client_row (with_entry book e)) rows
     (client_of_row-before book e) (omega (arith, size-with_entry book e)) (λ k. client_row-push book e k ∙ ap (λ (b : Bool). cond b (Some (one_more (size book) (client_row book k))) (client_row book k)) (other k)) h
 
-act_changes : (book : Book) (e : Entry) (c : List ℕ) → is_act_of c e ≡ true → Changes (client_of_row book) (client_of_row (with_entry book e)) (λ (row : ClientRow). row.first) (size book) (length (with_entry book e)) (client_row book) (client_row (with_entry book e)) c (one_more (size book))
+act_changes : (book : Book) (e : Entry) (c : List ℕ) → is_act_of c e ≡ true → Changes (client_of_row book) (client_of_row (with_entry book e)) (λ (row : ClientRow). row.first) (size book) (size (with_entry book e)) (client_row book) (client_row (with_entry book e)) c (one_more (size book))
 unfolding client_of_row
 act_changes book e c is = record {
   same = client_of_row-before book e;
   grows = omega (arith, size-with_entry book e);
-  by_name = λ x y same. ap (λ (i : ℕ). option_map_or actor (slice_get (with_entry book e) i) []) same;
+  by_name = λ x y same. ap (λ (i : ℕ). option_map_or actor (slice_get (with_entry book e).entries i) []) same;
   keeps = λ row. refl;
-  fresh = λ none. ap (λ (o : Option Entry). option_map_or actor o []) (at_end book e) ∙ (act_is c e is).0;
+  fresh = λ none. ap (λ (o : Option Entry). option_map_or actor o []) (at_end book.entries e) ∙ (act_is c e is).0;
   fresh_within = omega (arith, size-with_entry book e);
   next = λ q. client_row-push book e q ∙ ap (λ (b : Bool). cond b (Some (one_more (size book) (client_row book q))) (client_row book q)) ((act_is c e is).1 q);
 }
@@ -76,9 +77,9 @@ act_first book e c rows seen at is h same there = index-first _ _ _ _ _ _ _ c (o
 pub row_acts : (book : Book) (c : List ℕ) (row : ClientRow) → client_row book c ≡ Some row → row.acts ≤ size book
 unfolding client_row
 row_acts book c row is =
-    elim (first_where (is_act_of c) book) as (λ o. option_map (row_from book c) o ≡ Some row → row.acts ≤ size book) [
+    elim (first_where (is_act_of c) book.entries) as (λ o. option_map (row_from book c) o ≡ Some row → row.acts ≤ size book) [
       | None ↦ λ h. absurd (cc)
-      | Some i ↦ λ h. let all : last c book ≡ row.acts = ap (λ (r : ClientRow). r.acts) (same_Some _ _ h) in omega (arith, count_by-le-length (is_act_of c) book, all)
+      | Some i ↦ λ h. let all : last c book ≡ row.acts = ap (λ (r : ClientRow). r.acts) (same_Some _ _ h) in omega (arith, count_by-le-length (is_act_of c) book.entries, all)
     ] is
 
 pub acts_bound : (book : Book) (c : List ℕ) (rows seen : List ClientRow) (at : ℕ) (row : ClientRow) → AreClientRows book rows → seen ≡ rows → Settles (client_of_row book) c seen (Ok at) → row ≡ get_or rows at row → row.acts ≤ size book
@@ -86,14 +87,14 @@ acts_bound book c rows seen at row h same found read =
     let settled = subst (λ (xs : List ClientRow). Settles (client_of_row book) c xs (Ok at)) same found in
     row_acts book c row (sym (h.found c) ∙ settled.found row ∙ ap Some (sym read))
 
-pub none_yet : AreClientRows [] []
+pub none_yet : AreClientRows empty_book []
 unfolding client_row
 none_yet = record { order = tt; within = tt; found = λ k. refl }
 
 -- what the look-ups read in a row
-pub first_of : (book : Book) (c : List ℕ) (o : Option ClientRow) → o ≡ client_row book c → option_map (λ row. row.first) o ≡ first_where (is_act_of c) book
+pub first_of : (book : Book) (c : List ℕ) (o : Option ClientRow) → o ≡ client_row book c → option_map (λ row. row.first) o ≡ first_where (is_act_of c) book.entries
 unfolding client_row
-first_of book c o is = ap (option_map (λ row. row.first)) is ∙ same (first_where (is_act_of c) book)
+first_of book c o is = ap (option_map (λ row. row.first)) is ∙ same (first_where (is_act_of c) book.entries)
   where
     same : (p : Option ℕ) → option_map (λ (row : ClientRow). row.first) (option_map (row_from book c) p) ≡ p
     same None = refl
@@ -101,55 +102,55 @@ first_of book c o is = ap (option_map (λ row. row.first)) is ∙ same (first_wh
 
 pub acts_of : (book : Book) (c : List ℕ) (o : Option ClientRow) → o ≡ client_row book c → option_map_or (λ row. row.acts) o 0 ≡ last c book
 unfolding client_row
-acts_of book c o is = ap (λ (p : Option ClientRow). option_map_or (λ row. row.acts) p 0) is ∙ same (first_where (is_act_of c) book) (none_counted (is_act_of c) book)
+acts_of book c o is = ap (λ (p : Option ClientRow). option_map_or (λ row. row.acts) p 0) is ∙ same (first_where (is_act_of c) book.entries) (none_counted (is_act_of c) book.entries)
   where
     same : (p : Option ℕ) → (p ≡ None → last c book ≡ 0) → option_map_or (λ (row : ClientRow). row.acts) (option_map (row_from book c) p) 0 ≡ last c book
     same None none = sym (none refl)
     same (Some i) none = refl
 
 -- the group of a client is that of its first act
-pub group_of-first : (c : List ℕ) (book : Book) → group_of c book ≡ option_and_then (λ i. option_and_then acted_in (slice_get book i)) (first_where (is_act_of c) book)
+pub group_of-first : (c : List ℕ) (entries : List Entry) → group_of_in c entries ≡ option_and_then (λ i. option_and_then acted_in (slice_get entries i)) (first_where (is_act_of c) entries)
 group_of-first c [] = refl
-group_of-first c (Act user group client id call ∷ book) =
-    elim (bytes_eq client c) as (λ b. cond b (Some group) (group_of c book) ≡ option_and_then (λ i. option_and_then acted_in (slice_get (Act user group client id call ∷ book) i)) (cond b (Some 0) (option_map suc (first_where (is_act_of c) book)))) [
+group_of-first c (Act user group client id call ∷ entries) =
+    elim (bytes_eq client c) as (λ b. cond b (Some group) (group_of_in c entries) ≡ option_and_then (λ i. option_and_then acted_in (slice_get (Act user group client id call ∷ entries) i)) (cond b (Some 0) (option_map suc (first_where (is_act_of c) entries)))) [
       | true ↦ refl
-      | false ↦ group_of-first c book ∙ sym (read_later acted_in (Act user group client id call) book (first_where (is_act_of c) book))
+      | false ↦ group_of-first c entries ∙ sym (read_later acted_in (Act user group client id call) entries (first_where (is_act_of c) entries))
     ]
-group_of-first c (Look user group order base ∷ book) = group_of-first c book ∙ sym (read_later acted_in (Look user group order base) book (first_where (is_act_of c) book))
-group_of-first c (Retire group ∷ book) = group_of-first c book ∙ sym (read_later acted_in (Retire group) book (first_where (is_act_of c) book))
+group_of-first c (Look user group order base ∷ entries) = group_of-first c entries ∙ sym (read_later acted_in (Look user group order base) entries (first_where (is_act_of c) entries))
+group_of-first c (Retire group ∷ entries) = group_of-first c entries ∙ sym (read_later acted_in (Retire group) entries (first_where (is_act_of c) entries))
 
-pub group_of-found : (c : List ℕ) (book : Book) (o : Option ℕ) → o ≡ first_where (is_act_of c) book → option_and_then (λ i. option_and_then acted_in (slice_get book i)) o ≡ group_of c book
-group_of-found c book o is = ap (option_and_then (λ i. option_and_then acted_in (slice_get book i))) is ∙ sym (group_of-first c book)
+pub group_of-found : (c : List ℕ) (book : Book) (o : Option ℕ) → o ≡ first_where (is_act_of c) book.entries → option_and_then (λ i. option_and_then acted_in (slice_get book.entries i)) o ≡ group_of c book
+group_of-found c book o is = ap (option_and_then (λ i. option_and_then acted_in (slice_get book.entries i))) is ∙ sym (group_of-first c book.entries)
 
 -- a client has a row exactly where it has a group
-no_act : (c : List ℕ) (book : Book) → group_of c book ≡ None → first_where (is_act_of c) book ≡ None
+no_act : (c : List ℕ) (entries : List Entry) → group_of_in c entries ≡ None → first_where (is_act_of c) entries ≡ None
 no_act c [] none = refl
-no_act c (Act user group client id call ∷ book) none =
-    elim (bytes_eq client c) as (λ b. cond b (Some group) (group_of c book) ≡ None → cond b (Some 0) (option_map suc (first_where (is_act_of c) book)) ≡ None) [
+no_act c (Act user group client id call ∷ entries) none =
+    elim (bytes_eq client c) as (λ b. cond b (Some group) (group_of_in c entries) ≡ None → cond b (Some 0) (option_map suc (first_where (is_act_of c) entries)) ≡ None) [
       | true ↦ λ h. absurd (cc)
-      | false ↦ λ h. ap (option_map suc) (no_act c book h)
+      | false ↦ λ h. ap (option_map suc) (no_act c entries h)
     ] none
-no_act c (Look user group order base ∷ book) none = ap (option_map suc) (no_act c book none)
-no_act c (Retire group ∷ book) none = ap (option_map suc) (no_act c book none)
+no_act c (Look user group order base ∷ entries) none = ap (option_map suc) (no_act c entries none)
+no_act c (Retire group ∷ entries) none = ap (option_map suc) (no_act c entries none)
 
 pub no_acts : (c : List ℕ) (book : Book) → group_of c book ≡ None → last c book ≡ 0
-no_acts c book none = none_counted (is_act_of c) book (no_act c book none)
+no_acts c book none = none_counted (is_act_of c) book.entries (no_act c book.entries none)
 
 pub no_row : (c : List ℕ) (book : Book) → group_of c book ≡ None → client_row book c ≡ None
 unfolding client_row
-no_row c book none = ap (option_map (row_from book c)) (no_act c book none)
+no_row c book none = ap (option_map (row_from book c)) (no_act c book.entries none)
 
 pub no_group : (c : List ℕ) (book : Book) → client_row book c ≡ None → group_of c book ≡ None
 unfolding client_row
 no_group c book none =
-    elim (first_where (is_act_of c) book) as (λ o. first_where (is_act_of c) book ≡ o → option_map (row_from book c) o ≡ None → group_of c book ≡ None) [
+    elim (first_where (is_act_of c) book.entries) as (λ o. first_where (is_act_of c) book.entries ≡ o → option_map (row_from book c) o ≡ None → group_of c book ≡ None) [
       | None ↦ λ e h. sym (group_of-found c book None (sym e))
       | Some i ↦ λ e h. absurd (cc)
     ] refl none
 
 -- what a row tells: the group of the act that it names, and the number of its acts
 pub record TellsClient (book : Book) (c : List ℕ) (row : ClientRow) : Type 0 where
-  pub group : option_and_then acted_in (slice_get book row.first) ≡ group_of c book
+  pub group : option_and_then acted_in (slice_get book.entries row.first) ≡ group_of c book
   pub acts : row.acts ≡ last c book
   pub bound : row.acts ≤ size book
 

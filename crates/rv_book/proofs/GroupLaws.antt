@@ -1,5 +1,5 @@
 -- Laws of the group index: the rows when one more entry follows.
-use Rattle.std.proofs.Common.{◌≡◌, ℕ, suc, ◌+◌, ◌<◌, ◌≤◌, ◌||◌, Bool, true, false, cond, List, [], ◌∷◌, ◌++◌, length, get_or, set, Option, Some, None, Ok, Err, take, drop, refl, sym, ap, ◌∙◌, subst, arith}
+use Rattle.std.proofs.Common.{◌≡◌, ℕ, suc, ◌+◌, ◌<◌, ◌≤◌, ◌||◌, Bool, true, false, cond, List, [], ◌∷◌, ◌++◌, get_or, set, Option, Some, None, Ok, Err, take, drop, refl, sym, ap, ◌∙◌, subst, arith}
 use Rattle.std.specs.List.{slice_get, count_by, fold, list_any, AllByRecursion}
 use Rattle.std.specs.Option.{option_map, option_or, option_map_or, option_and_then, unwrap_or}
 use Rattle.std.specs.Str.{bytes_eq}
@@ -10,21 +10,22 @@ use Rattle.rv_base.specs.Sorted.{Settles}
 use Rattle.rv_book.specs.declared.entry.Entry.{Entry}
 use Rattle.rv_book.specs.declared.entry.Entry.TheVariants.{Act, Look, Retire}
 use Rattle.rv_book.specs.declared.groups.GroupRow.{GroupRow}
-use Rattle.rv_book.specs.Book.{Book, bound, order_after, last_order, retires, retired, size, with_entry}
-use Rattle.rv_book.specs.BookWords.{at_before, at_end, size-with_entry}
+use Rattle.rv_book.specs.Entries.{order_after, retires, bound_in}
+use Rattle.rv_book.specs.Book.{Book, bound, last_order, retired, size, with_entry, empty_book}
+use Rattle.rv_book.specs.BookWords.{count-push, at_before, at_end, size-with_entry}
 use Rattle.rv_book.specs.Kept.{is_look_of, last_look}
 use Rattle.rv_book.specs.LookWalks.{last_look-with_entry, no_look}
 use Rattle.rv_book.specs.Indexes.{first_where, named_in, names_group, binds, user_of, group_of_row, group_row, new_row, row_after, AreGroupRows}
 use Rattle.rv_book.proofs.IndexLaws.{bytes_eq_back, index-again, index-first, Changes}
-use Rattle.rv_book.proofs.BookLaws.{read_later, count-push, first-push, none_counted, none_later}
+use Rattle.rv_book.proofs.BookLaws.{read_later, first-push, none_counted, none_later}
 
 pub group_of_row-before : (book : Book) (e : Entry) (row : GroupRow) → row.named < size book → group_of_row book row ≡ group_of_row (with_entry book e) row
 unfolding group_of_row
-group_of_row-before book e row lt = ap (λ (o : Option Entry). option_map_or named_in o []) (sym (at_before book e row.named lt))
+group_of_row-before book e row lt = ap (λ (o : Option Entry). option_map_or named_in o []) (sym (at_before book.entries e row.named lt))
 
 -- the row of a group, by the index of an entry that names it
 abbrev pub row_at : Book → List ℕ → ℕ → GroupRow
-row_at book k index = record { named = index; bound = first_where (binds k) book; order = last_order k book; looks = count_by (is_look_of k) book; last_look = last_look k book; retired = retired k book }
+row_at book k index = record { named = index; bound = first_where (binds k) book.entries; order = last_order k book; looks = count_by (is_look_of k) book.entries; last_look = last_look k book; retired = retired k book }
 
 -- what an entry leaves as it is where it names another group
 record Leaves (k : List ℕ) (e : Entry) : Type 0 where
@@ -38,39 +39,39 @@ leaves k (Act user group client id call) h = record { binds = h; order = λ befo
 leaves k (Look user group order base) h = record { binds = h; order = λ before. ap (λ (b : Bool). cond b order before) h; looks = h; retires = refl }
 leaves k (Retire group) h = record { binds = refl; order = λ before. refl; looks = refl; retires = h }
 
-none_names : (k : List ℕ) (book : Book) → first_where (names_group k) book ≡ None → AllByRecursion (λ e. names_group k e ≡ false) book
+none_names : (k : List ℕ) (entries : List Entry) → first_where (names_group k) entries ≡ None → AllByRecursion (λ e. names_group k e ≡ false) entries
 none_names k [] h = tt
-none_names k (e ∷ book) h =
-    elim (names_group k e) as (λ b. names_group k e ≡ b → cond b (Some 0) (option_map suc (first_where (names_group k) book)) ≡ None → AllByRecursion (λ e. names_group k e ≡ false) (e ∷ book)) [
+none_names k (e ∷ entries) h =
+    elim (names_group k e) as (λ b. names_group k e ≡ b → cond b (Some 0) (option_map suc (first_where (names_group k) entries)) ≡ None → AllByRecursion (λ e. names_group k e ≡ false) (e ∷ entries)) [
       | true ↦ λ f g. absurd (cc)
-      | false ↦ λ f g. (f, none_names k book (none_later (first_where (names_group k) book) g))
+      | false ↦ λ f g. (f, none_names k entries (none_later (first_where (names_group k) entries) g))
     ] refl h
 
-none_first : (p : Entry → Bool) (book : Book) → AllByRecursion (λ e. p e ≡ false) book → first_where p book ≡ None
+none_first : (p : Entry → Bool) (entries : List Entry) → AllByRecursion (λ e. p e ≡ false) entries → first_where p entries ≡ None
 none_first p [] h = refl
-none_first p (e ∷ book) h = rw h.0 (ap (option_map suc) (none_first p book h.1))
+none_first p (e ∷ entries) h = rw h.0 (ap (option_map suc) (none_first p entries h.1))
 
-none_any : (p : Entry → Bool) (book : Book) → AllByRecursion (λ e. p e ≡ false) book → list_any p book ≡ false
+none_any : (p : Entry → Bool) (entries : List Entry) → AllByRecursion (λ e. p e ≡ false) entries → list_any p entries ≡ false
 none_any p [] h = refl
-none_any p (e ∷ book) h = rw h.0 (none_any p book h.1)
+none_any p (e ∷ entries) h = rw h.0 (none_any p entries h.1)
 
-all_leave : (k : List ℕ) (P : Entry → Type 0) (book : Book) → ((e : Entry) → Leaves k e → P e) → AllByRecursion (λ e. names_group k e ≡ false) book → AllByRecursion P book
+all_leave : (k : List ℕ) (P : Entry → Type 0) (entries : List Entry) → ((e : Entry) → Leaves k e → P e) → AllByRecursion (λ e. names_group k e ≡ false) entries → AllByRecursion P entries
 all_leave k P [] each h = tt
-all_leave k P (e ∷ book) each h = (each e (leaves k e h.0), all_leave k P book each h.1)
+all_leave k P (e ∷ entries) each h = (each e (leaves k e h.0), all_leave k P entries each h.1)
 
-none_order : (k : List ℕ) (before : ℕ) (book : Book) → AllByRecursion (λ e. names_group k e ≡ false) book → fold (order_after k) before book ≡ before
+none_order : (k : List ℕ) (before : ℕ) (entries : List Entry) → AllByRecursion (λ e. names_group k e ≡ false) entries → fold (order_after k) before entries ≡ before
 none_order k before [] h = refl
-none_order k before (e ∷ book) h = ap (λ (n : ℕ). fold (order_after k) n book) ((leaves k e h.0).order before) ∙ none_order k before book h.1
+none_order k before (e ∷ entries) h = ap (λ (n : ℕ). fold (order_after k) n entries) ((leaves k e h.0).order before) ∙ none_order k before entries h.1
 
 -- the row of a group that no entry names
-unnamed : (book : Book) (k : List ℕ) (index : ℕ) → first_where (names_group k) book ≡ None → row_at book k index ≡ new_row index
+unnamed : (book : Book) (k : List ℕ) (index : ℕ) → first_where (names_group k) book.entries ≡ None → row_at book k index ≡ new_row index
 unnamed book k index h =
-    let all = none_names k book h in
-    let w = none_first (binds k) book (all_leave k (λ e. binds k e ≡ false) book (λ e l. l.binds) all) in
-    let order = none_order k 0 book all in
-    let looks = none_counted (is_look_of k) book (none_first (is_look_of k) book (all_leave k (λ e. is_look_of k e ≡ false) book (λ e l. l.looks) all)) in
+    let all = none_names k book.entries h in
+    let w = none_first (binds k) book.entries (all_leave k (λ e. binds k e ≡ false) book.entries (λ e l. l.binds) all) in
+    let order = none_order k 0 book.entries all in
+    let looks = none_counted (is_look_of k) book.entries (none_first (is_look_of k) book.entries (all_leave k (λ e. is_look_of k e ≡ false) book.entries (λ e l. l.looks) all)) in
     let last = no_look k book looks in
-    let gone = none_any (retires k) book (all_leave k (λ e. retires k e ≡ false) book (λ e l. l.retires) all) in
+    let gone = none_any (retires k) book.entries (all_leave k (λ e. retires k e ≡ false) book.entries (λ e l. l.retires) all) in
     (λ i. record { named = index; bound = w i; order = order i; looks = looks i; last_look = last i; retired = gone i })
 
 or_false : (b : Bool) → (b || false) ≡ b
@@ -87,40 +88,40 @@ or_none (Some i) = refl
 
 -- the fields after one more entry
 row_at-push : (book : Book) (e : Entry) (k : List ℕ) (index : ℕ) → row_at (with_entry book e) k index
-    ≡ record { named = index; bound = option_or (first_where (binds k) book) (cond (binds k e) (Some (size book)) None); order = order_after k (last_order k book) e; looks = count_by (is_look_of k) book + cond (is_look_of k e) 1 0; last_look = cond (is_look_of k e) (Some (size book + 1)) (last_look k book); retired = retired k book || (retires k e || false) }
+    ≡ record { named = index; bound = option_or (first_where (binds k) book.entries) (cond (binds k e) (Some (size book)) None); order = order_after k (last_order k book) e; looks = count_by (is_look_of k) book.entries + cond (is_look_of k e) 1 0; last_look = cond (is_look_of k e) (Some (size book + 1)) (last_look k book); retired = retired k book || (retires k e || false) }
 row_at-push book e k index =
-    let w = first-push (binds k) book e in
-    let order = fold_push (order_after k) 0 book e in
-    let looks = count-push (is_look_of k) book e in
+    let w = first-push (binds k) book.entries e in
+    let order = fold_push (order_after k) 0 book.entries e in
+    let looks = count-push (is_look_of k) book.entries e in
     let last = last_look-with_entry k book e in
-    let gone = list_any-append (retires k) book (e ∷ []) in
+    let gone = list_any-append (retires k) book.entries (e ∷ []) in
     (λ i. record { named = index; bound = w i; order = order i; looks = looks i; last_look = last i; retired = gone i })
 
 row_at-same : (book : Book) (e : Entry) (k : List ℕ) (index : ℕ) → names_group k e ≡ false → row_at (with_entry book e) k index ≡ row_at book k index
 row_at-same book e k index h =
     let l = leaves k e h in
-    let w : option_or (first_where (binds k) book) (cond (binds k e) (Some (size book)) None) ≡ first_where (binds k) book = rw l.binds (or_none (first_where (binds k) book)) in
-    let looks : count_by (is_look_of k) book + cond (is_look_of k e) 1 0 ≡ count_by (is_look_of k) book = rw l.looks (omega arith) in
+    let w : option_or (first_where (binds k) book.entries) (cond (binds k e) (Some (size book)) None) ≡ first_where (binds k) book.entries = rw l.binds (or_none (first_where (binds k) book.entries)) in
+    let looks : count_by (is_look_of k) book.entries + cond (is_look_of k e) 1 0 ≡ count_by (is_look_of k) book.entries = rw l.looks (omega arith) in
     let last : cond (is_look_of k e) (Some (size book + 1)) (last_look k book) ≡ last_look k book = rw l.looks refl in
     let gone : (retired k book || (retires k e || false)) ≡ retired k book = rw l.retires (or_false (retired k book)) in
     row_at-push book e k index ∙ (λ i. record { named = index; bound = w i; order = l.order (last_order k book) i; looks = looks i; last_look = last i; retired = gone i })
 
 row_at-more : (book : Book) (e : Entry) (k : List ℕ) (index : ℕ) → names_group k e ≡ true → row_at (with_entry book e) k index ≡ row_after (size book) e (row_at book k index)
 row_at-more book (Act user group client id call) k index h =
-    let w : option_or (first_where (binds k) book) (cond (bytes_eq group k) (Some (size book)) None) ≡ option_or (first_where (binds k) book) (Some (size book)) = rw h refl in
-    let looks : count_by (is_look_of k) book + 0 ≡ count_by (is_look_of k) book = omega arith in
+    let w : option_or (first_where (binds k) book.entries) (cond (bytes_eq group k) (Some (size book)) None) ≡ option_or (first_where (binds k) book.entries) (Some (size book)) = rw h refl in
+    let looks : count_by (is_look_of k) book.entries + 0 ≡ count_by (is_look_of k) book.entries = omega arith in
     let gone = or_false (retired k book) in
     row_at-push book (Act user group client id call) k index ∙ (λ i. record { named = index; bound = w i; order = last_order k book; looks = looks i; last_look = last_look k book; retired = gone i })
 row_at-more book (Look user group order base) k index h =
-    let w : option_or (first_where (binds k) book) (cond (bytes_eq group k) (Some (size book)) None) ≡ option_or (first_where (binds k) book) (Some (size book)) = rw h refl in
+    let w : option_or (first_where (binds k) book.entries) (cond (bytes_eq group k) (Some (size book)) None) ≡ option_or (first_where (binds k) book.entries) (Some (size book)) = rw h refl in
     let o : cond (bytes_eq group k) order (last_order k book) ≡ order = rw h refl in
-    let looks : count_by (is_look_of k) book + cond (bytes_eq group k) 1 0 ≡ count_by (is_look_of k) book + 1 = rw h refl in
+    let looks : count_by (is_look_of k) book.entries + cond (bytes_eq group k) 1 0 ≡ count_by (is_look_of k) book.entries + 1 = rw h refl in
     let last : cond (bytes_eq group k) (Some (size book + 1)) (last_look k book) ≡ Some (size book + 1) = rw h refl in
     let gone = or_false (retired k book) in
     row_at-push book (Look user group order base) k index ∙ (λ i. record { named = index; bound = w i; order = o i; looks = looks i; last_look = last i; retired = gone i })
 row_at-more book (Retire group) k index h =
-    let w = or_none (first_where (binds k) book) in
-    let looks : count_by (is_look_of k) book + 0 ≡ count_by (is_look_of k) book = omega arith in
+    let w = or_none (first_where (binds k) book.entries) in
+    let looks : count_by (is_look_of k) book.entries + 0 ≡ count_by (is_look_of k) book.entries = omega arith in
     let gone : (retired k book || (bytes_eq group k || false)) ≡ true = rw h (or_true (retired k book)) in
     row_at-push book (Retire group) k index ∙ (λ i. record { named = index; bound = w i; order = last_order k book; looks = looks i; last_look = last_look k book; retired = gone i })
 
@@ -140,8 +141,8 @@ left_row index e o = row_after index e (unwrap_or o (new_row index))
 group_row-push : (book : Book) (e : Entry) (k : List ℕ) → group_row (with_entry book e) k ≡ cond (names_group k e) (Some (left_row (size book) e (group_row book k))) (group_row book k)
 unfolding group_row
 group_row-push book e k =
-    ap (option_map (row_at (with_entry book e) k)) (first-push (names_group k) book e)
-    ∙ change (first_where (names_group k) book) (names_group k e) (size book) (row_at book k) (row_at (with_entry book e) k) (row_after (size book) e)
+    ap (option_map (row_at (with_entry book e) k)) (first-push (names_group k) book.entries e)
+    ∙ change (first_where (names_group k) book.entries) (names_group k e) (size book) (row_at book k) (row_at (with_entry book e) k) (row_after (size book) e)
     (λ h i. row_at-same book e k i h) (λ h i. row_at-more book e k i h) (λ h. unnamed book k (size book) h)
 
 left_row-named : (index : ℕ) (e : Entry) (row : GroupRow) → (row_after index e row).named ≡ row.named
@@ -149,16 +150,16 @@ left_row-named index (Act user group client id call) row = refl
 left_row-named index (Look user group order base) row = refl
 left_row-named index (Retire group) row = refl
 
-enter_changes : (book : Book) (e : Entry) → Changes (group_of_row book) (group_of_row (with_entry book e)) (λ (row : GroupRow). row.named) (size book) (length (with_entry book e)) (group_row book) (group_row (with_entry book e)) (named_in e) (left_row (size book) e)
+enter_changes : (book : Book) (e : Entry) → Changes (group_of_row book) (group_of_row (with_entry book e)) (λ (row : GroupRow). row.named) (size book) (size (with_entry book e)) (group_row book) (group_row (with_entry book e)) (named_in e) (left_row (size book) e)
 unfolding group_of_row
 enter_changes book e =
     let new = left_row-named (size book) e (new_row (size book)) in
     record {
       same = group_of_row-before book e;
       grows = omega (arith, size-with_entry book e);
-      by_name = λ x y same. ap (λ (i : ℕ). option_map_or named_in (slice_get (with_entry book e) i) []) same;
+      by_name = λ x y same. ap (λ (i : ℕ). option_map_or named_in (slice_get (with_entry book e).entries i) []) same;
       keeps = λ row. left_row-named (size book) e row;
-      fresh = λ none. ap (λ (i : ℕ). option_map_or named_in (slice_get (with_entry book e) i) []) new ∙ ap (λ (o : Option Entry). option_map_or named_in o []) (at_end book e);
+      fresh = λ none. ap (λ (i : ℕ). option_map_or named_in (slice_get (with_entry book e).entries i) []) new ∙ ap (λ (o : Option Entry). option_map_or named_in o []) (at_end book.entries e);
       fresh_within = omega (arith, new, size-with_entry book e);
       next = λ q. group_row-push book e q ∙ ap (λ (b : Bool). cond b (Some (left_row (size book) e (group_row book q))) (group_row book q)) (bytes_eq_back (named_in e) q);
     }
@@ -175,15 +176,15 @@ enter_first book e k rows seen at row left is h same there new after =
     let settled = subst (λ (t : List ℕ). Settles (group_of_row (with_entry book e)) t seen (Err at)) is there in
     subst (λ (r : GroupRow). AreGroupRows (with_entry book e) (take at rows ++ r ∷ drop at rows)) (sym (after ∙ ap (row_after (size book) e) new)) (index-first _ _ _ _ _ _ _ (named_in e) (left_row (size book) e) rows seen at (enter_changes book e) h same settled)
 
-pub none_named : AreGroupRows [] []
+pub none_named : AreGroupRows empty_book []
 unfolding group_row
 none_named = record { order = tt; within = tt; found = λ k. refl }
 
 -- what a row tells of its group, and what a new row tells of a group that no entry names
 pub record Tells (book : Book) (k : List ℕ) (row : GroupRow) : Type 0 where
-  pub bound : row.bound ≡ first_where (binds k) book
+  pub bound : row.bound ≡ first_where (binds k) book.entries
   pub order : row.order ≡ last_order k book
-  pub looks : row.looks ≡ count_by (is_look_of k) book
+  pub looks : row.looks ≡ count_by (is_look_of k) book.entries
   pub last_look : row.last_look ≡ last_look k book
   pub retired : row.retired ≡ retired k book
 
@@ -193,7 +194,7 @@ tells book k index row is = record { bound = sym (ap (λ (r : GroupRow). r.bound
 pub row_tells : (book : Book) (k : List ℕ) (row : GroupRow) → Some row ≡ group_row book k → Tells book k row
 unfolding group_row
 row_tells book k row is =
-    elim (first_where (names_group k) book) as (λ o. Some row ≡ option_map (row_at book k) o → Tells book k row) [
+    elim (first_where (names_group k) book.entries) as (λ o. Some row ≡ option_map (row_at book k) o → Tells book k row) [
       | None ↦ λ f. absurd (cc)
       | Some i ↦ λ f. tells book k i row (same_Some (row_at book k i) row (sym f))
     ] is
@@ -201,7 +202,7 @@ row_tells book k row is =
 pub none_tells : (book : Book) (k : List ℕ) (index : ℕ) → None ≡ group_row book k → Tells book k (new_row index)
 unfolding group_row
 none_tells book k index is =
-    elim (first_where (names_group k) book) as (λ o. first_where (names_group k) book ≡ o → None ≡ option_map (row_at book k) o → Tells book k (new_row index)) [
+    elim (first_where (names_group k) book.entries) as (λ o. first_where (names_group k) book.entries ≡ o → None ≡ option_map (row_at book k) o → Tells book k (new_row index)) [
       | None ↦ λ e f. tells book k index (new_row index) (unnamed book k index e)
       | Some i ↦ λ e f. absurd (cc)
     ] refl is
@@ -210,22 +211,22 @@ none_tells book k index is =
 pub looks_bound : (book : Book) (k : List ℕ) (rows seen : List GroupRow) (at : ℕ) (row : GroupRow) → AreGroupRows book rows → seen ≡ rows → Settles (group_of_row book) k seen (Ok at) → row ≡ get_or rows at row → row.looks ≤ size book
 looks_bound book k rows seen at row h same there read =
     let settled = subst (λ (xs : List GroupRow). Settles (group_of_row book) k xs (Ok at)) same there in
-    omega (arith, (row_tells book k row (ap Some read ∙ sym (settled.found row) ∙ h.found k)).looks, count_by-le-length (is_look_of k) book)
+    omega (arith, (row_tells book k row (ap Some read ∙ sym (settled.found row) ∙ h.found k)).looks, count_by-le-length (is_look_of k) book.entries)
 
 -- the user of a group is that of its first act or look
-bound-first : (k : List ℕ) (book : Book) → bound k book ≡ option_and_then (λ i. option_and_then user_of (slice_get book i)) (first_where (binds k) book)
+bound-first : (k : List ℕ) (entries : List Entry) → bound_in k entries ≡ option_and_then (λ i. option_and_then user_of (slice_get entries i)) (first_where (binds k) entries)
 bound-first k [] = refl
-bound-first k (Act user group client id call ∷ book) =
-    elim (bytes_eq group k) as (λ b. cond b (Some user) (bound k book) ≡ option_and_then (λ i. option_and_then user_of (slice_get (Act user group client id call ∷ book) i)) (cond b (Some 0) (option_map suc (first_where (binds k) book)))) [
+bound-first k (Act user group client id call ∷ entries) =
+    elim (bytes_eq group k) as (λ b. cond b (Some user) (bound_in k entries) ≡ option_and_then (λ i. option_and_then user_of (slice_get (Act user group client id call ∷ entries) i)) (cond b (Some 0) (option_map suc (first_where (binds k) entries)))) [
       | true ↦ refl
-      | false ↦ bound-first k book ∙ sym (read_later user_of (Act user group client id call) book (first_where (binds k) book))
+      | false ↦ bound-first k entries ∙ sym (read_later user_of (Act user group client id call) entries (first_where (binds k) entries))
     ]
-bound-first k (Look user group order base ∷ book) =
-    elim (bytes_eq group k) as (λ b. cond b (Some user) (bound k book) ≡ option_and_then (λ i. option_and_then user_of (slice_get (Look user group order base ∷ book) i)) (cond b (Some 0) (option_map suc (first_where (binds k) book)))) [
+bound-first k (Look user group order base ∷ entries) =
+    elim (bytes_eq group k) as (λ b. cond b (Some user) (bound_in k entries) ≡ option_and_then (λ i. option_and_then user_of (slice_get (Look user group order base ∷ entries) i)) (cond b (Some 0) (option_map suc (first_where (binds k) entries)))) [
       | true ↦ refl
-      | false ↦ bound-first k book ∙ sym (read_later user_of (Look user group order base) book (first_where (binds k) book))
+      | false ↦ bound-first k entries ∙ sym (read_later user_of (Look user group order base) entries (first_where (binds k) entries))
     ]
-bound-first k (Retire group ∷ book) = bound-first k book ∙ sym (read_later user_of (Retire group) book (first_where (binds k) book))
+bound-first k (Retire group ∷ entries) = bound-first k entries ∙ sym (read_later user_of (Retire group) entries (first_where (binds k) entries))
 
-pub bound-found : (k : List ℕ) (book : Book) (o : Option ℕ) → o ≡ first_where (binds k) book → option_and_then (λ i. option_and_then user_of (slice_get book i)) o ≡ bound k book
-bound-found k book o is = ap (option_and_then (λ i. option_and_then user_of (slice_get book i))) is ∙ sym (bound-first k book)
+pub bound-found : (k : List ℕ) (book : Book) (o : Option ℕ) → o ≡ first_where (binds k) book.entries → option_and_then (λ i. option_and_then user_of (slice_get book.entries i)) o ≡ bound k book
+bound-found k book o is = ap (option_and_then (λ i. option_and_then user_of (slice_get book.entries i))) is ∙ sym (bound-first k book.entries)

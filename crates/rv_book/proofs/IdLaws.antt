@@ -13,7 +13,8 @@ use Rattle.rv_base.specs.Arranged.{in_order-same, find-map}
 use Rattle.rv_book.specs.declared.entry.Entry.{Entry}
 use Rattle.rv_book.specs.declared.entry.Entry.TheVariants.{Act, Look, Retire}
 use Rattle.rv_book.specs.declared.clients.ClientRow.{ClientRow}
-use Rattle.rv_book.specs.Book.{Book, is_act_of, last, group_of, belongs, client_in, ids}
+use Rattle.rv_book.specs.Entries.{is_act_of, group_of_in}
+use Rattle.rv_book.specs.Book.{Book, last, group_of, belongs, client_in, ids}
 use Rattle.rv_book.specs.Indexes.{first_where, actor, client_of_row, row_from, client_row}
 use Rattle.rv_book.specs.Members.{member_key, client_of_key, acting_client, group_of_member, key_of_member, is_member, told_by, row_with_key, member_row, AreMemberRows}
 use Rattle.rv_book.proofs.IndexLaws.{bytes_eq_back, found_key, found_all}
@@ -30,7 +31,7 @@ first pair = pair.0
 abbrev Own : Book → Pair → Type 0
 Own book pair = pair.1 ≡ last pair.0 book
 
-own_client : (group : List ℕ) (book xs : Book) → AllByRecursion (Own book) (filter_map (client_in group book) xs)
+own_client : (group : List ℕ) (book : Book) (xs : List Entry) → AllByRecursion (Own book) (filter_map (client_in group book) xs)
 own_client group book [] = tt
 own_client group book (Act user other client id call ∷ xs) =
     elim (belongs client group book) as (λ b. AllByRecursion (Own book) (cons_option (cond b (Some (client, last client book)) None) (filter_map (client_in group book) xs))) [
@@ -56,11 +57,11 @@ found_own book k xs all =
     pair x is own = let all : x.1 ≡ last k book = own ∙ ap (λ (t : List ℕ). last t book) is in (λ i. Some (is i, all i))
 
 -- a client of the group has acts, and each of them is found
-has_act : (k : List ℕ) (book : Book) → is_some (group_of k book) ≡ list_any (is_act_of k) book
+has_act : (k : List ℕ) (entries : List Entry) → is_some (group_of_in k entries) ≡ list_any (is_act_of k) entries
 has_act k [] = refl
-has_act k (Act user group client id call ∷ book) = elim (bytes_eq client k) as (λ b. is_some (cond b (Some group) (group_of k book)) ≡ (b || list_any (is_act_of k) book)) [ true ↦ refl | false ↦ has_act k book ]
-has_act k (Look user group order base ∷ book) = has_act k book
-has_act k (Retire group ∷ book) = has_act k book
+has_act k (Act user group client id call ∷ entries) = elim (bytes_eq client k) as (λ b. is_some (cond b (Some group) (group_of_in k entries)) ≡ (b || list_any (is_act_of k) entries)) [ true ↦ refl | false ↦ has_act k entries ]
+has_act k (Look user group order base ∷ entries) = has_act k entries
+has_act k (Retire group ∷ entries) = has_act k entries
 
 one_act : (b c mine rest : Bool) (pair : Pair) (k : List ℕ) (pairs : List Pair) → list_any (λ p. bytes_eq k p.0) pairs ≡ (c && rest) → bytes_eq k pair.0 ≡ mine → (mine ≡ true → b ≡ c)
     → list_any (λ p. bytes_eq k p.0) (cons_option (cond b (Some pair) None) pairs) ≡ (c && (mine || rest))
@@ -71,7 +72,7 @@ one_act false true true rest pair k pairs h is same = absurd (let e : false ≡ 
 one_act false false true rest pair k pairs h is same = h
 one_act false c false rest pair k pairs h is same = h
 
-any_act : (k group : List ℕ) (book xs : Book) → list_any (λ p. bytes_eq k p.0) (filter_map (client_in group book) xs) ≡ (belongs k group book && list_any (is_act_of k) xs)
+any_act : (k group : List ℕ) (book : Book) (xs : List Entry) → list_any (λ p. bytes_eq k p.0) (filter_map (client_in group book) xs) ≡ (belongs k group book && list_any (is_act_of k) xs)
 any_act k group book [] = elim (belongs k group book) as (λ b. false ≡ (b && false)) [ true ↦ refl | false ↦ refl ]
 any_act k group book (Act user other client id call ∷ xs) =
     one_act (belongs client group book) (belongs k group book) (bytes_eq client k) (list_any (is_act_of k) xs) (client, last client book) k (filter_map (client_in group book) xs)
@@ -79,8 +80,8 @@ any_act k group book (Act user other client id call ∷ xs) =
 any_act k group book (Look user other order base ∷ xs) = any_act k group book xs
 any_act k group book (Retire other ∷ xs) = any_act k group book xs
 
-belongs_acts : (k group : List ℕ) (book : Book) → (belongs k group book && list_any (is_act_of k) book) ≡ belongs k group book
-belongs_acts k group book = ap (λ (b : Bool). belongs k group book && b) (sym (has_act k book)) ∙ both (group_of k book)
+belongs_acts : (k group : List ℕ) (book : Book) → (belongs k group book && list_any (is_act_of k) book.entries) ≡ belongs k group book
+belongs_acts k group book = ap (λ (b : Bool). belongs k group book && b) (sym (has_act k book.entries)) ∙ both (group_of k book)
   where
     both : (o : Option (List ℕ)) → (option_map_or (λ other. bytes_eq other group) o false && is_some o) ≡ option_map_or (λ other. bytes_eq other group) o false
     both None = refl
@@ -89,21 +90,21 @@ belongs_acts k group book = ap (λ (b : Bool). belongs k group book && b) (sym (
 -- what is found in the group's ids
 find_ids : (k group : List ℕ) (book : Book) → find_by first k (ids group book) ≡ cond (belongs k group book) (Some (k, last k book)) None
 find_ids k group book =
-    let pairs = filter_map (client_in group book) book in
-    found_own book k (ids group book) (all_after (Own book) pairs [] (own_client group book book) tt)
-    ∙ ap (λ (b : Bool). cond b (Some (k, last k book)) None) (found-sorted first k pairs ∙ any_act k group book book ∙ belongs_acts k group book)
+    let pairs = filter_map (client_in group book) book.entries in
+    found_own book k (ids group book) (all_after (Own book) pairs [] (own_client group book book.entries) tt)
+    ∙ ap (λ (b : Bool). cond b (Some (k, last k book)) None) (found-sorted first k pairs ∙ any_act k group book book.entries ∙ belongs_acts k group book)
 
 abbrev pair_of : Book → ClientRow → Pair
 pair_of book row = (client_of_row book row, row.acts)
 
-pub first_at : (p : Entry → Bool) (book : Book) (i : ℕ) → first_where p book ≡ Some i → (e : Entry) × (slice_get book i ≡ Some e) × (p e ≡ true)
+pub first_at : (p : Entry → Bool) (entries : List Entry) (i : ℕ) → first_where p entries ≡ Some i → (e : Entry) × (slice_get entries i ≡ Some e) × (p e ≡ true)
 first_at p [] i h = absurd (cc)
-first_at p (x ∷ book) i h =
-    elim (p x) as (λ b. p x ≡ b → cond b (Some 0) (option_map suc (first_where p book)) ≡ Some i → (e : Entry) × (slice_get (x ∷ book) i ≡ Some e) × (p e ≡ true)) [
-      | true ↦ λ e f. (x, ap (slice_get (x ∷ book)) (sym (same_Some 0 i f)), e)
-      | false ↦ λ e f. elim (first_where p book) as (λ o. first_where p book ≡ o → option_map suc o ≡ Some i → (e : Entry) × (slice_get (x ∷ book) i ≡ Some e) × (p e ≡ true)) [
+first_at p (x ∷ entries) i h =
+    elim (p x) as (λ b. p x ≡ b → cond b (Some 0) (option_map suc (first_where p entries)) ≡ Some i → (e : Entry) × (slice_get (x ∷ entries) i ≡ Some e) × (p e ≡ true)) [
+      | true ↦ λ e f. (x, ap (slice_get (x ∷ entries)) (sym (same_Some 0 i f)), e)
+      | false ↦ λ e f. elim (first_where p entries) as (λ o. first_where p entries ≡ o → option_map suc o ≡ Some i → (e : Entry) × (slice_get (x ∷ entries) i ≡ Some e) × (p e ≡ true)) [
         | None ↦ λ g q. absurd (cc)
-        | Some j ↦ λ g q. let there = first_at p book j g in (there.0, ap (slice_get (x ∷ book)) (sym (same_Some (suc j) i q)) ∙ there.1, there.2)
+        | Some j ↦ λ g q. let there = first_at p entries j g in (there.0, ap (slice_get (x ∷ entries)) (sym (same_Some (suc j) i q)) ∙ there.1, there.2)
       ] refl f
     ] refl h
 
@@ -116,15 +117,15 @@ act_told c acts (Retire group) is = absurd (cc)
 row_names : (c : List ℕ) (book : Book) (row : ClientRow) → client_row book c ≡ Some row → (told_by book row ≡ Some (pair_of book row)) × (pair_of book row ≡ (c, last c book))
 unfolding client_row client_of_row
 row_names c book row is =
-    elim (first_where (is_act_of c) book) as (λ o. first_where (is_act_of c) book ≡ o → option_map (row_from book c) o ≡ Some row → (told_by book row ≡ Some (pair_of book row)) × (pair_of book row ≡ (c, last c book))) [
+    elim (first_where (is_act_of c) book.entries) as (λ o. first_where (is_act_of c) book.entries ≡ o → option_map (row_from book c) o ≡ Some row → (told_by book row ≡ Some (pair_of book row)) × (pair_of book row ≡ (c, last c book))) [
       | None ↦ λ e h. absurd (cc)
-      | Some i ↦ λ e h. subst (λ (r : ClientRow). (told_by book r ≡ Some (pair_of book r)) × (pair_of book r ≡ (c, last c book))) (same_Some (row_from book c i) row h) (told i (first_at (is_act_of c) book i e))
+      | Some i ↦ λ e h. subst (λ (r : ClientRow). (told_by book r ≡ Some (pair_of book r)) × (pair_of book r ≡ (c, last c book))) (same_Some (row_from book c i) row h) (told i (first_at (is_act_of c) book.entries i e))
     ] refl is
   where
-    told : (i : ℕ) → (e : Entry) × (slice_get book i ≡ Some e) × (is_act_of c e ≡ true) → (told_by book (row_from book c i) ≡ Some (pair_of book (row_from book c i))) × (pair_of book (row_from book c i) ≡ (c, last c book))
+    told : (i : ℕ) → (e : Entry) × (slice_get book.entries i ≡ Some e) × (is_act_of c e ≡ true) → (told_by book (row_from book c i) ≡ Some (pair_of book (row_from book c i))) × (pair_of book (row_from book c i) ≡ (c, last c book))
     told i there =
         let acts = last c book in
-        let actor_is : option_map_or actor (slice_get book i) [] ≡ actor there.0 = ap (λ (o : Option Entry). option_map_or actor o []) there.1 in (
+        let actor_is : option_map_or actor (slice_get book.entries i) [] ≡ actor there.0 = ap (λ (o : Option Entry). option_map_or actor o []) there.1 in (
           ap (λ (o : Option Entry). option_map {U = Pair} (λ client. (client, acts)) (option_and_then acting_client o)) there.1 ∙ act_told c acts there.0 there.2 ∙ (λ j. Some (sym actor_is j, acts)),
           (λ j. ((actor_is ∙ (act_is c there.0 there.2).0) j, acts)),
         )
@@ -221,7 +222,7 @@ row_found k group book =
 pub ids-members : (group : List ℕ) (book : Book) (rows : List ClientRow) → AreMemberRows book rows → filter_map (told_by book) (filter (is_member group book) rows) ≡ ids group book
 ids-members group book rows h =
     filter_map-told (told_by book) (pair_of book) kept (all-filter _ (is_member group book) rows (member_told book rows h))
-    ∙ in_order-same first (map (pair_of book) kept) (ids group book) (in_order-view first (pair_of book) kept order) (in_order-sorted first (filter_map (client_in group book) book)) same
+    ∙ in_order-same first (map (pair_of book) kept) (ids group book) (in_order-view first (pair_of book) kept order) (in_order-sorted first (filter_map (client_in group book) book.entries)) same
   where
     kept : List ClientRow
     kept = filter (is_member group book) rows
@@ -239,7 +240,7 @@ ids-members group book rows h =
         ∙ sym (find_ids k group book)
 
 pub ids-in_order : (group : List ℕ) (book : Book) → InOrder first (ids group book)
-ids-in_order group book = in_order-sorted first (filter_map (client_in group book) book)
+ids-in_order group book = in_order-sorted first (filter_map (client_in group book) book.entries)
 
 -- one more row of a walk
 pub rows_more : {X Y : Type 0} (h : X → Option Y) (rows : List X) (i : ℕ) (row : X) → i < length rows → filter_map h (take (i + 1) rows) ≡ filter_map h (take i rows) ++ cons_option (h (get_or rows i row)) []

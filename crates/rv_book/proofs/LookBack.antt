@@ -37,19 +37,19 @@ is_back (suc steps) group book place is =
     ] refl is
 
 -- and where there is none so many steps back, there are no more looks than that
-few_looks : (steps : ℕ) (group : List ℕ) (book : Book) → looks_back steps group book ≡ None → count_by (is_look_of group) book ≤ steps
+few_looks : (steps : ℕ) (group : List ℕ) (book : Book) → looks_back steps group book ≡ None → count_by (is_look_of group) book.entries ≤ steps
 unfolding looks_back
 few_looks zero group book none = omega (arith, last_look-none group book none)
 few_looks (suc steps) group book none =
-    elim (looks_back steps group book) as (λ o. looks_back steps group book ≡ o → option_and_then (λ place. look_before place book) o ≡ None → count_by (is_look_of group) book ≤ suc steps) [
+    elim (looks_back steps group book) as (λ o. looks_back steps group book ≡ o → option_and_then (λ place. look_before place book) o ≡ None → count_by (is_look_of group) book.entries ≤ suc steps) [
       | None ↦ λ e h. omega (arith, few_looks steps group book e)
       | Some place ↦ λ e h. omega (arith, look_before-none group book place steps (is_back steps group book place e) h)
     ] refl none
 
 pub falls_nowhere : (steps : ℕ) (group : List ℕ) (book : Book) → steps ≤ 15 → None ≡ looks_back steps group book → falls_out group book ≡ None
 falls_nowhere steps group book le none = falls_out-none group book (λ place is.
-    let parts : count_by (is_look_of group) book ≡ count_by (is_look_of group) (up_to (place - 1) book) + count_by (is_look_of group) (since (place - 1) book) =
-    ap (count_by (is_look_of group)) (sym (up_to-since (place - 1) book)) ∙ sum_by-append (λ (e : Entry). cond (is_look_of group e) 1 0) (up_to (place - 1) book) (since (place - 1) book) in
+    let parts : count_by (is_look_of group) book.entries ≡ count_by (is_look_of group) (up_to (place - 1) book).entries + count_by (is_look_of group) (since (place - 1) book) =
+    ap (λ (b : Book). count_by (is_look_of group) b.entries) (sym (up_to-since (place - 1) book)) ∙ sum_by-append (λ (e : Entry). cond (is_look_of group e) 1 0) (up_to (place - 1) book).entries (since (place - 1) book) in
     omega (arith, le, few_looks steps group book (sym none), parts, count_from group book place 15 is))
 
 pub falls_back : (group : List ℕ) (book : Book) (found : Option ℕ) → retired group book ≡ false → found ≡ looks_back 15 group book → falls_out group book ≡ found

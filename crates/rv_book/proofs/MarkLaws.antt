@@ -12,8 +12,8 @@ use Rattle.rv_book.specs.declared.entry.Entry.TheVariants.{Look}
 use Rattle.rv_book.specs.declared.clients.ClientRow.{ClientRow}
 use Rattle.rv_book.specs.declared.groups.GroupRow.{GroupRow}
 use Rattle.rv_book.specs.declared.look.LookMark.{LookMark}
-use Rattle.rv_book.specs.Book.{Book, entry_at, retired, size, with_entry, up_to}
-use Rattle.rv_book.specs.BookWords.{count-with_entry, at_before, at_end, size-with_entry, up_to-with_entry, up_to-end, entry_at-index}
+use Rattle.rv_book.specs.Book.{Book, entry_at, retired, size, with_entry, up_to, book_of, empty_book}
+use Rattle.rv_book.specs.BookWords.{count-push, at_before, at_end, size-with_entry, up_to-with_entry, up_to-end, entry_at-index}
 use Rattle.rv_book.specs.Kept.{look_of, look_at, is_look_of, later_looks, kept, last_look, look_before}
 use Rattle.rv_book.specs.LookLaws.{look_at-within, kept-look}
 use Rattle.rv_book.specs.LookWalks.{look_before-with_entry, look_before-end}
@@ -25,30 +25,30 @@ number_at-before : (book : Book) (e : Entry) (index : ℕ) → index < size book
 unfolding number_at
 number_at-before book e index lt =
     let front : up_to (index + 1) (with_entry book e) ≡ up_to (index + 1) book = up_to-with_entry (index + 1) book e (omega arith) in
-    (λ i. option_map_or (λ look. count_by (is_look_of look.1) (front i)) (option_and_then look_of (at_before book e index lt i)) 0)
+    (λ i. option_map_or (λ look. count_by (is_look_of look.1) (front i).entries) (option_and_then look_of (at_before book.entries e index lt i)) 0)
 
 mark_at-before : (book : Book) (e : Entry) (index : ℕ) → index < size book → mark_at index (with_entry book e) ≡ mark_at index book
 unfolding mark_at
 mark_at-before book e index lt = (λ i. record { number = number_at-before book e index lt i; before = look_before-with_entry (index + 1) book e (omega (arith, lt)) i })
 
 -- the number of an entry that follows
-number_at-end : (book : Book) (e : Entry) → number_at (size book) (with_entry book e) ≡ option_map_or (λ look. count_by (is_look_of look.1) (with_entry book e)) (look_of e) 0
+number_at-end : (book : Book) (e : Entry) → number_at (size book) (with_entry book e) ≡ option_map_or (λ look. count_by (is_look_of look.1) (with_entry book e).entries) (look_of e) 0
 unfolding number_at
-number_at-end book e = (λ i. option_map_or (λ look. count_by (is_look_of look.1) (up_to-end book e i)) (option_and_then look_of (at_end book e i)) 0)
+number_at-end book e = (λ i. option_map_or (λ look. count_by (is_look_of look.1) (up_to-end book e i).entries) (option_and_then look_of (at_end book.entries e i)) 0)
 
 pub mark_of_other : (book : Book) (e : Entry) → look_of e ≡ None → record { number = 0; before = None } ≡ mark_at (size book) (with_entry book e)
 unfolding mark_at
 mark_of_other book e none =
-    let number : number_at (size book) (with_entry book e) ≡ 0 = number_at-end book e ∙ ap (λ o. option_map_or (λ look. count_by (is_look_of look.1) (with_entry book e)) o 0) none in
+    let number : number_at (size book) (with_entry book e) ≡ 0 = number_at-end book e ∙ ap (λ o. option_map_or (λ look. count_by (is_look_of look.1) (with_entry book e).entries) o 0) none in
     let before : look_before (size book + 1) (with_entry book e) ≡ None = look_before-end book e ∙ ap (option_and_then (λ look. last_look look.1 book)) none in
     (λ i. record { number = sym number i; before = sym before i })
 
-pub mark_of_look : (book : Book) (user group : List ℕ) (order : ℕ) (base : Option ℕ) → record { number = count_by (is_look_of group) book + 1; before = last_look group book } ≡ mark_at (size book) (with_entry book (Look user group order base))
+pub mark_of_look : (book : Book) (user group : List ℕ) (order : ℕ) (base : Option ℕ) → record { number = count_by (is_look_of group) book.entries + 1; before = last_look group book } ≡ mark_at (size book) (with_entry book (Look user group order base))
 unfolding mark_at
 mark_of_look book user group order base =
     let e = Look user group order base in
     let same : cond (bytes_eq group group) 1 0 ≡ 1 = rw (equals group) refl in
-    let number : number_at (size book) (with_entry book e) ≡ count_by (is_look_of group) book + 1 = number_at-end book e ∙ count-with_entry (is_look_of group) book e ∙ ap (λ (n : ℕ). count_by (is_look_of group) book + n) same in
+    let number : number_at (size book) (with_entry book e) ≡ count_by (is_look_of group) book.entries + 1 = number_at-end book e ∙ count-push (is_look_of group) book.entries e ∙ ap (λ (n : ℕ). count_by (is_look_of group) book.entries + n) same in
     (λ i. record { number = sym number i; before = sym (look_before-end book e) i })
 
 pub marks-push : (book : Book) (e : Entry) (marks : List LookMark) (mark : LookMark) → mark ≡ mark_at (size book) (with_entry book e) → AreMarks book marks → AreMarks (with_entry book e) (marks ++ mark ∷ [])
@@ -63,7 +63,7 @@ marks-push book e marks mark is h = record {
     here : slice_get (marks ++ mark ∷ []) (size book) ≡ Some (mark_at (size book) (with_entry book e))
     here = ap (slice_get (marks ++ mark ∷ [])) (sym h.one_each) ∙ at_end marks mark ∙ ap Some is
 
-pub no_marks : AreMarks [] []
+pub no_marks : AreMarks empty_book []
 no_marks = record { one_each = refl; each = λ index lt. absurd (omega (arith, lt)) }
 
 -- the mark that is read at an index
@@ -74,23 +74,23 @@ mark_read book marks index d lt h = get_or_from_slice_get marks index (mark_at i
 pub record Parts (book : Book) (marks : List LookMark) (place : ℕ) (group : List ℕ) : Type 0 where
   pub first : 0 < place
   pub within : place - 1 < length marks
-  pub parts : (d : LookMark) → (get_or marks (place - 1) d).number + later_looks group place book ≡ count_by (is_look_of group) book
+  pub parts : (d : LookMark) → (get_or marks (place - 1) d).number + later_looks group place book ≡ count_by (is_look_of group) book.entries
 
 pub parts_at : (book : Book) (marks : List LookMark) (place : ℕ) (look : List ℕ × List ℕ × ℕ) → look_at place book ≡ Some look → AreMarks book marks → Parts book marks place look.1
 unfolding number_at mark_at
 parts_at book marks place look there h =
     let stands = look_at-within place book look there in
-    let found : option_and_then look_of (slice_get book (place - 1)) ≡ Some look = ap (option_and_then look_of) (sym (entry_at-index place book stands.0)) ∙ there in
+    let found : option_and_then look_of (slice_get book.entries (place - 1)) ≡ Some look = ap (option_and_then look_of) (sym (entry_at-index place book stands.0)) ∙ there in
     let next : (place - 1) + 1 ≡ place = omega (arith, stands.0) in
-    let number : number_at (place - 1) book ≡ count_by (is_look_of look.1) (up_to place book) =
-    ap (λ o. option_map_or (λ look. count_by (is_look_of look.1) (up_to ((place - 1) + 1) book)) o 0) found ∙ ap (λ (n : ℕ). count_by (is_look_of look.1) (up_to n book)) next in
+    let number : number_at (place - 1) book ≡ count_by (is_look_of look.1) (up_to place book).entries =
+    ap (λ o. option_map_or (λ look. count_by (is_look_of look.1) (up_to ((place - 1) + 1) book).entries) o 0) found ∙ ap (λ (n : ℕ). count_by (is_look_of look.1) (up_to n book).entries) next in
     record {
       first = stands.0;
       within = omega (arith, stands.0, stands.1, h.one_each);
       parts = λ d.
           ap (λ (m : LookMark). m.number + later_looks look.1 place book) (mark_read book marks (place - 1) d (omega (arith, stands.0, stands.1)) h)
           ∙ ap (λ (n : ℕ). n + later_looks look.1 place book) number
-          ∙ sum_by-take-drop _ book place;
+          ∙ sum_by-take-drop _ book.entries place;
     }
 
 -- the look before that at a place, by the mark of the entry there
@@ -105,23 +105,23 @@ unfolding look_before
 none_before book place none = ap (λ (o : Option Entry). option_and_then (λ look. last_look look.1 (up_to (place - 1) book)) (option_and_then look_of o)) none
 
 -- whether a look is kept, by its group's looks and its number
-pub kept_is : (book : Book) (place : ℕ) (look : List ℕ × List ℕ × ℕ) (number looks : ℕ) (gone : Bool) → Some look ≡ look_at place book → number + later_looks look.1 place book ≡ count_by (is_look_of look.1) book → looks ≡ count_by (is_look_of look.1) book
+pub kept_is : (book : Book) (place : ℕ) (look : List ℕ × List ℕ × ℕ) (number looks : ℕ) (gone : Bool) → Some look ≡ look_at place book → number + later_looks look.1 place book ≡ count_by (is_look_of look.1) book.entries → looks ≡ count_by (is_look_of look.1) book.entries
     → gone ≡ retired look.1 book → (not gone && nat_lt (looks - number) 16) ≡ kept place book
 kept_is book place look number looks gone there parts all out =
     let later : looks - number ≡ later_looks look.1 place book = omega (arith, parts, all) in
     (λ i. not (out i) && nat_lt (later i) 16) ∙ sym (kept-look place book look (sym there))
 
--- the indexes when one more entry follows; the book as each of the calls saw it
-pub indexed-push : (book one two three four new : Book) (e : Entry) (limit : ℕ) (marks more : List LookMark) (mark : LookMark) (groups : List GroupRow) (clients members : List ClientRow) → size book < limit → limit < 2 ^ 32
-    → one ≡ book → two ≡ book → three ≡ book → four ≡ book → new ≡ with_entry book e → AreMarks book marks → mark ≡ mark_at (size one) (with_entry one e) → more ≡ marks ++ mark ∷ []
-    → AreGroupRows (with_entry two e) groups → AreMemberRows (with_entry three e) members → AreClientRows (with_entry four e) clients → IsIndexed new limit more groups clients members
-indexed-push book one two three four new e limit marks more mark groups clients members lt small first second third fourth is h own all in_groups in_members in_clients =
-    subst (λ (b : Book). IsIndexed b limit more groups clients members) (sym is)
+-- the indexes when one more entry follows; the entries as each of the calls saw them
+pub indexed-push : (entries one two three four new : List Entry) (e : Entry) (limit : ℕ) (marks more : List LookMark) (mark : LookMark) (groups : List GroupRow) (clients members : List ClientRow) → length entries < limit → limit < 2 ^ 32
+    → one ≡ entries → two ≡ entries → three ≡ entries → four ≡ entries → new ≡ entries ++ e ∷ [] → AreMarks (book_of entries) marks → mark ≡ mark_at (length one) (with_entry (book_of one) e) → more ≡ marks ++ mark ∷ []
+    → AreGroupRows (with_entry (book_of two) e) groups → AreMemberRows (with_entry (book_of three) e) members → AreClientRows (with_entry (book_of four) e) clients → IsIndexed (book_of new) limit more groups clients members
+indexed-push entries one two three four new e limit marks more mark groups clients members lt small first second third fourth is h own all in_groups in_members in_clients =
+    subst (λ (xs : List Entry). IsIndexed (book_of xs) limit more groups clients members) (sym is)
     (record {
-      within = omega (arith, size-with_entry book e);
+      within = omega (arith, length_push entries e);
       small = small;
-      marks = subst (AreMarks (with_entry book e)) (sym all) (marks-push book e marks mark (own ∙ ap (λ (b : Book). mark_at (size b) (with_entry b e)) first) h);
-      groups = subst (λ (b : Book). AreGroupRows (with_entry b e) groups) second in_groups;
-      clients = subst (λ (b : Book). AreClientRows (with_entry b e) clients) fourth in_clients;
-      members = subst (λ (b : Book). AreMemberRows (with_entry b e) members) third in_members;
+      marks = subst (AreMarks (book_of (entries ++ e ∷ []))) (sym all) (marks-push (book_of entries) e marks mark (own ∙ ap (λ (xs : List Entry). mark_at (length xs) (with_entry (book_of xs) e)) first) h);
+      groups = subst (λ (xs : List Entry). AreGroupRows (with_entry (book_of xs) e) groups) second in_groups;
+      clients = subst (λ (xs : List Entry). AreClientRows (with_entry (book_of xs) e) clients) fourth in_clients;
+      members = subst (λ (xs : List Entry). AreMemberRows (with_entry (book_of xs) e) members) third in_members;
     })

@@ -9,9 +9,10 @@ use Rattle.rv_base.specs.Sorted.{Settles}
 use Rattle.rv_base.specs.Places.{equals}
 use Rattle.rv_book.specs.declared.entry.Entry.{Entry}
 use Rattle.rv_book.specs.declared.clients.ClientRow.{ClientRow}
-use Rattle.rv_book.specs.Book.{Book, size, with_entry, is_act_of, group_of}
+use Rattle.rv_book.specs.Entries.{is_act_of}
+use Rattle.rv_book.specs.Book.{Book, size, with_entry, group_of, empty_book}
 use Rattle.rv_book.specs.BookWords.{at_before, at_end, size-with_entry}
-use Rattle.rv_book.specs.RegisterLaws.{group_of-with_entry}
+use Rattle.rv_book.specs.RegisterLaws.{group_of_in-push}
 use Rattle.rv_book.specs.Indexes.{actor, client_of_row, client_row}
 use Rattle.rv_book.specs.Members.{member_key, client_of_key, acting_group, group_of_member, key_of_member, row_with_key, member_row, AreMemberRows}
 use Rattle.rv_book.proofs.IndexLaws.{index-same, index-again, index-first, Changes}
@@ -21,9 +22,9 @@ use Rattle.rv_book.proofs.MemberKeys.{client-member_key}
 pub key-before : (book : Book) (e : Entry) (row : ClientRow) → row.first < size book → key_of_member book row ≡ key_of_member (with_entry book e) row
 unfolding group_of_member
 key-before book e row lt =
-    (λ i. member_key (ap (λ (o : Option Entry). option_map_or acting_group o []) (sym (at_before book e row.first lt)) i) (client_of_row-before book e row lt i))
+    (λ i. member_key (ap (λ (o : Option Entry). option_map_or acting_group o []) (sym (at_before book.entries e row.first lt)) i) (client_of_row-before book e row lt i))
 
-pub no_members : AreMemberRows [] []
+pub no_members : AreMemberRows empty_book []
 unfolding member_row
 no_members = record { order = tt; within = tt; found = λ k. refl }
 
@@ -34,7 +35,7 @@ or_none (Some x) = refl
 -- the row of a client without an act in the entry
 same_row : (book : Book) (e : Entry) (k c : List ℕ) → is_act_of c e ≡ false → row_with_key k (with_entry book e) c ≡ row_with_key k book c
 same_row book e k c other =
-    let group : group_of c (with_entry book e) ≡ group_of c book = group_of-with_entry c book e ∙ ap (λ (b : Bool). option_or (group_of c book) (cond b (Some (acting_group e)) None)) other ∙ or_none (group_of c book) in
+    let group : group_of c (with_entry book e) ≡ group_of c book = group_of_in-push c book.entries e ∙ ap (λ (b : Bool). option_or (group_of c book) (cond b (Some (acting_group e)) None)) other ∙ or_none (group_of c book) in
     let row : client_row (with_entry book e) c ≡ client_row book c = client_row-push book e c ∙ ap (λ (b : Bool). cond b (Some (one_more (size book) (client_row book c))) (client_row book c)) other in
     (λ i. option_and_then (λ g. cond (bytes_eq k (member_key g c)) (row i) None) (group i))
 
@@ -48,7 +49,7 @@ members-same book e rows other h =
 -- a client that had a group keeps it
 keeps_group : (c : List ℕ) (book : Book) (e : Entry) (was now : List ℕ) → group_of c book ≡ Some was → group_of c (with_entry book e) ≡ Some now → was ≡ now
 keeps_group c book e was now before after =
-    same_Some was now (ap (λ (o : Option (List ℕ)). option_or o (cond (is_act_of c e) (Some (acting_group e)) None)) (sym before) ∙ sym (group_of-with_entry c book e) ∙ after)
+    same_Some was now (ap (λ (o : Option (List ℕ)). option_or o (cond (is_act_of c e) (Some (acting_group e)) None)) (sym before) ∙ sym (group_of_in-push c book.entries e) ∙ after)
 
 -- the row of the client of an act
 more_row : (book : Book) (e : Entry) (k c g : List ℕ) → is_act_of c e ≡ true → group_of c (with_entry book e) ≡ Some g
@@ -81,7 +82,7 @@ row_at_key book c g is =
 own_group : (book : Book) (e : Entry) (c g : List ℕ) → is_act_of c e ≡ true → group_of c (with_entry book e) ≡ Some g → member_row book (member_key g c) ≡ None → acting_group e ≡ g
 own_group book e c g is now none =
     elim (group_of c book) as (λ o. group_of c book ≡ o → acting_group e ≡ g) [
-      | None ↦ λ f. same_Some (acting_group e) g ((λ i. option_or (sym f i) (cond (sym is i) (Some (acting_group e)) None)) ∙ sym (group_of-with_entry c book e) ∙ now)
+      | None ↦ λ f. same_Some (acting_group e) g ((λ i. option_or (sym f i) (cond (sym is i) (Some (acting_group e)) None)) ∙ sym (group_of_in-push c book.entries e) ∙ now)
       | Some was ↦ λ f. absurd (none-some was (sym (no_group c book (sym (row_at_key book c g (f ∙ ap Some (keeps_group c book e was g f now))) ∙ none)) ∙ f))
     ] refl
 
@@ -109,9 +110,9 @@ unfolding group_of_member client_of_row
 member_changes book e c g is now = record {
   same = key-before book e;
   grows = omega (arith, size-with_entry book e);
-  by_name = λ x y same. ap (λ (i : ℕ). let o = slice_get (with_entry book e) i in member_key (option_map_or acting_group o []) (option_map_or actor o [])) same;
+  by_name = λ x y same. ap (λ (i : ℕ). let o = slice_get (with_entry book e).entries i in member_key (option_map_or acting_group o []) (option_map_or actor o [])) same;
   keeps = λ row. refl;
-  fresh = λ none. ap (λ (o : Option Entry). member_key (option_map_or acting_group o []) (option_map_or actor o [])) (at_end book e) ∙ (λ i. member_key (own_group book e c g is now none i) ((act_is c e is).0 i));
+  fresh = λ none. ap (λ (o : Option Entry). member_key (option_map_or acting_group o []) (option_map_or actor o [])) (at_end book.entries e) ∙ (λ i. member_key (own_group book e c g is now none i) ((act_is c e is).0 i));
   fresh_within = omega (arith, size-with_entry book e);
   next = λ q. next_row book e c g q is now;
 }

@@ -10,7 +10,8 @@ use Rattle.rv_book.specs.declared.entry.Entry.{Entry}
 use Rattle.rv_book.specs.declared.entry.Entry.TheVariants.{Act, Look, Retire}
 use Rattle.rv_book.specs.declared.clients.ClientRow.{ClientRow}
 use Rattle.rv_book.specs.declared.groups.GroupRow.{GroupRow}
-use Rattle.rv_book.specs.Book.{Book, size, is_act_of, last, group_of, bound, last_order, retired}
+use Rattle.rv_book.specs.Entries.{is_act_of, bound_in, retired_in}
+use Rattle.rv_book.specs.Book.{Book, size, last, group_of, bound, last_order, retired}
 use Rattle.rv_book.specs.Indexes.{first_where, acted_in, acting_with, client_of_row, client_row, AreClientRows, told_by_client, named_in, names_group, group_of_row, group_row, AreGroupRows, user_of_row, told_by_group}
 use Rattle.rv_book.specs.Registers.{client_named, clients_of, group_named, groups_of, RetiresBound}
 use Rattle.rv_book.specs.RegisterLaws.{found_client, clients-in_order, found_group, groups-in_order}
@@ -33,9 +34,9 @@ acting_is client acts (Retire group) is = absurd (cc)
 
 -- the row of a client tells what is told of the client
 row_told : (client : List ℕ) (book : Book) (row : ClientRow) → client_row book client ≡ Some row → told_by_client book row ≡ client_named client book
-row_told client book row is = go (first_at (is_act_of client) book row.first (sym (first_of book client (Some row) (sym is))))
+row_told client book row is = go (first_at (is_act_of client) book.entries row.first (sym (first_of book client (Some row) (sym is))))
   where
-    go : (e : Entry) × (slice_get book row.first ≡ Some e) × (is_act_of client e ≡ true) → told_by_client book row ≡ client_named client book
+    go : (e : Entry) × (slice_get book.entries row.first ≡ Some e) × (is_act_of client e ≡ true) → told_by_client book row ≡ client_named client book
     go there =
         let tells = tells_client book client row (sym is) in
         let group : acted_in there.0 ≡ group_of client book = ap (option_and_then acted_in) (sym there.1) ∙ tells.group in
@@ -72,27 +73,27 @@ later None = refl
 later (Some index) = refl
 
 -- a group that an entry names is bound or retired
-named_as : (group : List ℕ) (book : Book) → is_some (first_where (names_group group) book) ≡ (is_some (bound group book) || retired group book)
+named_as : (group : List ℕ) (entries : List Entry) → is_some (first_where (names_group group) entries) ≡ (is_some (bound_in group entries) || retired_in group entries)
 named_as group [] = refl
-named_as group (Act user other client id call ∷ book) =
-    elim (bytes_eq other group) as (λ b. is_some (cond b (Some 0) (option_map suc (first_where (names_group group) book))) ≡ (is_some (cond b (Some user) (bound group book)) || retired group book)) [
+named_as group (Act user other client id call ∷ entries) =
+    elim (bytes_eq other group) as (λ b. is_some (cond b (Some 0) (option_map suc (first_where (names_group group) entries))) ≡ (is_some (cond b (Some user) (bound_in group entries)) || retired_in group entries)) [
       | true ↦ refl
-      | false ↦ later (first_where (names_group group) book) ∙ named_as group book
+      | false ↦ later (first_where (names_group group) entries) ∙ named_as group entries
     ]
-named_as group (Look user other order base ∷ book) =
-    elim (bytes_eq other group) as (λ b. is_some (cond b (Some 0) (option_map suc (first_where (names_group group) book))) ≡ (is_some (cond b (Some user) (bound group book)) || retired group book)) [
+named_as group (Look user other order base ∷ entries) =
+    elim (bytes_eq other group) as (λ b. is_some (cond b (Some 0) (option_map suc (first_where (names_group group) entries))) ≡ (is_some (cond b (Some user) (bound_in group entries)) || retired_in group entries)) [
       | true ↦ refl
-      | false ↦ later (first_where (names_group group) book) ∙ named_as group book
+      | false ↦ later (first_where (names_group group) entries) ∙ named_as group entries
     ]
-named_as group (Retire other ∷ book) =
-    elim (bytes_eq other group) as (λ b. is_some (cond b (Some 0) (option_map suc (first_where (names_group group) book))) ≡ (is_some (bound group book) || (b || retired group book))) [
-      | true ↦ sym (or-true (is_some (bound group book)))
-      | false ↦ later (first_where (names_group group) book) ∙ named_as group book
+named_as group (Retire other ∷ entries) =
+    elim (bytes_eq other group) as (λ b. is_some (cond b (Some 0) (option_map suc (first_where (names_group group) entries))) ≡ (is_some (bound_in group entries) || (b || retired_in group entries))) [
+      | true ↦ sym (or-true (is_some (bound_in group entries)))
+      | false ↦ later (first_where (names_group group) entries) ∙ named_as group entries
     ]
 
 -- where every group that is retired is bound, one has a row exactly where it is bound
-has_row : (group : List ℕ) (book : Book) → RetiresBound book → is_some (first_where (names_group group) book) ≡ is_some (bound group book)
-has_row group book h = named_as group book ∙ either (is_some (bound group book)) (retired group book) (h group)
+has_row : (group : List ℕ) (book : Book) → RetiresBound book → is_some (first_where (names_group group) book.entries) ≡ is_some (bound group book)
+has_row group book h = named_as group book.entries ∙ either (is_some (bound group book)) (retired group book) (h group)
   where
     either : (b c : Bool) → (c ≡ true → b ≡ true) → (b || c) ≡ b
     either true c is = refl
@@ -100,19 +101,19 @@ has_row group book h = named_as group book ∙ either (is_some (bound group book
     either false false is = refl
 
 -- the row of a group names an entry of the group
-names_it : (group : List ℕ) (book : Book) (row : GroupRow) → group_row book group ≡ Some row → first_where (names_group group) book ≡ Some row.named
+names_it : (group : List ℕ) (book : Book) (row : GroupRow) → group_row book group ≡ Some row → first_where (names_group group) book.entries ≡ Some row.named
 unfolding group_row
 names_it group book row is =
-    elim (first_where (names_group group) book) as (λ o. option_map (row_at book group) o ≡ Some row → o ≡ Some row.named) [
+    elim (first_where (names_group group) book.entries) as (λ o. option_map (row_at book group) o ≡ Some row → o ≡ Some row.named) [
       | None ↦ λ h. absurd (none-some row h)
       | Some index ↦ λ h. ap (λ (r : GroupRow). Some r.named) (same_Some (row_at book group index) row h)
     ] is
 
 -- the row of a group tells what is told of the group
 group_row_told : (group : List ℕ) (book : Book) (row : GroupRow) → group_row book group ≡ Some row → told_by_group book row ≡ group_named group book
-group_row_told group book row is = go (first_at (names_group group) book row.named (names_it group book row is))
+group_row_told group book row is = go (first_at (names_group group) book.entries row.named (names_it group book row is))
   where
-    go : (e : Entry) × (slice_get book row.named ≡ Some e) × (names_group group e ≡ true) → told_by_group book row ≡ group_named group book
+    go : (e : Entry) × (slice_get book.entries row.named ≡ Some e) × (names_group group e ≡ true) → told_by_group book row ≡ group_named group book
     go there =
         let tells = row_tells book group row (sym is) in
         let name : named_in there.0 ≡ group = (bytes_eq-Decides (named_in there.0) group).0 there.2 in
@@ -129,7 +130,7 @@ group_tells group book row h is =
 without_row : (group : List ℕ) (book : Book) → RetiresBound book → group_row book group ≡ None → bound group book ≡ None
 unfolding group_row
 without_row group book h none =
-    elim (first_where (names_group group) book) as (λ o. is_some o ≡ is_some (bound group book) → option_map (row_at book group) o ≡ None → bound group book ≡ None) [
+    elim (first_where (names_group group) book.entries) as (λ o. is_some o ≡ is_some (bound group book) → option_map (row_at book group) o ≡ None → bound group book ≡ None) [
       | None ↦ λ some is. unbound (bound group book) (sym some)
       | Some index ↦ λ some is. absurd (cc)
     ] (has_row group book h) none

@@ -9,7 +9,8 @@ use Rattle.rv_book.specs.declared.entry.Entry.TheVariants.{Act, Look, Retire}
 use Rattle.rv_book.specs.declared.clients.ClientRow.{ClientRow}
 use Rattle.rv_book.specs.declared.groups.GroupRow.{GroupRow}
 use Rattle.rv_book.specs.declared.look.LookMark.{LookMark}
-use Rattle.rv_book.specs.Book.{Book, is_act_of, last, last_order, retired, size, up_to}
+use Rattle.rv_book.specs.Entries.{is_act_of}
+use Rattle.rv_book.specs.Book.{Book, last, last_order, retired, size, up_to}
 use Rattle.rv_book.specs.Kept.{is_look_of, last_look, look_before, look_of}
 
 -- The rows of an index: in the order of their keys, each naming one of so many entries, and for each key the row that it
@@ -20,9 +21,9 @@ pub record IsIndex {X : Type 0} (key : X → List ℕ) (named : X → ℕ) (coun
   pub found : (k : List ℕ) → find_by key k rows ≡ row_of k
 
 -- the index of the first entry that passes the test
-abbrev pub first_where : (Entry → Bool) → Book → Option ℕ
+abbrev pub first_where : (Entry → Bool) → List Entry → Option ℕ
 first_where p [] = None
-first_where p (entry ∷ book) = if p entry then Some 0 else option_map suc (first_where p book)
+first_where p (entry ∷ entries) = if p entry then Some 0 else option_map suc (first_where p entries)
 
 -- the group of an act
 abbrev pub acted_in : Entry → Option (List ℕ)
@@ -38,7 +39,7 @@ actor (Retire group) = []
 
 -- the client of a row: that of the act that it names
 unfoldable pub client_of_row : Book → ClientRow → List ℕ
-client_of_row book row = option_map_or actor (slice_get book row.first) []
+client_of_row book row = option_map_or actor (slice_get book.entries row.first) []
 
 -- the row of a client whose first act has an index
 abbrev pub row_from : Book → List ℕ → ℕ → ClientRow
@@ -46,7 +47,7 @@ row_from book client index = record { first = index; acts = last client book }
 
 -- the row of a client, where it has an act
 unfoldable pub client_row : Book → List ℕ → Option ClientRow
-client_row book client = option_map (row_from book client) (first_where (is_act_of client) book)
+client_row book client = option_map (row_from book client) (first_where (is_act_of client) book.entries)
 
 -- the rows are those of the clients of the book's acts
 abbrev pub AreClientRows : Book → List ClientRow → Type 0
@@ -60,7 +61,7 @@ acting_with acts (Retire group) = None
 
 -- what a row tells of its client, by the act that it names
 abbrev pub told_by_client : Book → ClientRow → Option (List ℕ × List ℕ × ℕ)
-told_by_client book row = option_and_then (acting_with row.acts) (slice_get book row.first)
+told_by_client book row = option_and_then (acting_with row.acts) (slice_get book.entries row.first)
 
 -- the group that an entry names
 abbrev pub named_in : Entry → List ℕ
@@ -85,11 +86,11 @@ user_of (Retire group) = None
 
 -- the group of a row: that of the entry that it names
 unfoldable pub group_of_row : Book → GroupRow → List ℕ
-group_of_row book row = option_map_or named_in (slice_get book row.named) []
+group_of_row book row = option_map_or named_in (slice_get book.entries row.named) []
 
 -- the row of a group, where an entry names it
 unfoldable pub group_row : Book → List ℕ → Option GroupRow
-group_row book group = option_map (λ index. record { named = index; bound = first_where (binds group) book; order = last_order group book; looks = count_by (is_look_of group) book; last_look = last_look group book; retired = retired group book }) (first_where (names_group group) book)
+group_row book group = option_map (λ index. record { named = index; bound = first_where (binds group) book.entries; order = last_order group book; looks = count_by (is_look_of group) book.entries; last_look = last_look group book; retired = retired group book }) (first_where (names_group group) book.entries)
 
 -- the row of a group before the first entry that names it
 abbrev pub new_row : ℕ → GroupRow
@@ -107,15 +108,15 @@ AreGroupRows book rows = IsIndex (group_of_row book) (λ row. row.named) (size b
 
 -- the user of a row: that of the act or look that binds its group
 abbrev pub user_of_row : Book → GroupRow → Option (List ℕ)
-user_of_row book row = option_and_then (λ index. option_and_then user_of (slice_get book index)) row.bound
+user_of_row book row = option_and_then (λ index. option_and_then user_of (slice_get book.entries index)) row.bound
 
 -- what a row tells of its group, by the entry that it names, where the group is bound
 abbrev pub told_by_group : Book → GroupRow → Option (List ℕ × List ℕ × ℕ × Bool)
-told_by_group book row = option_and_then (λ entry. option_map (λ user. (named_in entry, user, row.order, row.retired)) (user_of_row book row)) (slice_get book row.named)
+told_by_group book row = option_and_then (λ entry. option_map (λ user. (named_in entry, user, row.order, row.retired)) (user_of_row book row)) (slice_get book.entries row.named)
 
 -- of a look at an index: its number among the looks of its group, from 1; and 0 of another entry
 unfoldable pub number_at : ℕ → Book → ℕ
-number_at index book = option_map_or (λ look. count_by (is_look_of look.1) (up_to (index + 1) book)) (option_and_then look_of (slice_get book index)) 0
+number_at index book = option_map_or (λ look. count_by (is_look_of look.1) (up_to (index + 1) book).entries) (option_and_then look_of (slice_get book.entries index)) 0
 
 -- of an entry at an index: its number, and where it is a look the place of its group's look before it
 unfoldable pub mark_at : ℕ → Book → LookMark

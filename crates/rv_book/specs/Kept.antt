@@ -35,13 +35,13 @@ unfoldable pub kept : ℕ → Book → Bool
 kept place book = option_map_or (λ look. not (retired look.1 book) && nat_lt (later_looks look.1 place book) 16) (look_at place book) false
 
 -- the index of the last entry that passes the test
-abbrev pub last_where : (Entry → Bool) → Book → Option ℕ
+abbrev pub last_where : (Entry → Bool) → List Entry → Option ℕ
 last_where p [] = None
-last_where p (entry ∷ book) = option_or (option_map suc (last_where p book)) (if p entry then Some 0 else None)
+last_where p (entry ∷ entries) = option_or (option_map suc (last_where p entries)) (if p entry then Some 0 else None)
 
 -- the place of the group's last look
 unfoldable pub last_look : List ℕ → Book → Option ℕ
-last_look group book = option_map suc (last_where (is_look_of group) book)
+last_look group book = option_map suc (last_where (is_look_of group) book.entries)
 
 -- of the look at a place: the place of its group's look before it
 unfoldable pub look_before : ℕ → Book → Option ℕ

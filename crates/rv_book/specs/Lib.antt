@@ -1,3 +1,4 @@
+pub mod Entries
 pub mod Book
 pub mod BookWords
 pub mod Kept

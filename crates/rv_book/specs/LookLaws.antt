@@ -1,20 +1,21 @@
 -- Laws of looks: which are kept when one more entry follows, which falls out, and the looks of a group from the last one back.
-use Rattle.std.proofs.Common.{◌≡◌, ◌≢◌, ℕ, zero, suc, ◌+◌, ◌-◌, ◌<◌, ◌≤◌, ◌==◌, ◌⊎◌, inl, inr, Bool, true, false, cond, not, ◌&&◌, ◌||◌, nat_lt, List, [], ◌∷◌, Option, Some, None, refl, sym, ap, ◌∙◌, subst, arith}
+use Rattle.std.proofs.Common.{◌≡◌, ◌≢◌, ℕ, zero, suc, ◌+◌, ◌-◌, ◌<◌, ◌≤◌, ◌==◌, ◌⊎◌, inl, inr, Bool, true, false, cond, not, ◌&&◌, ◌||◌, nat_lt, List, [], ◌∷◌, Option, Some, None, refl, sym, ap, ◌∙◌, subst, arith, take, drop}
 use Rattle.std.specs.Prelude.{find}
 use Rattle.std.specs.List.{count_by, range_with_len}
 use Rattle.std.specs.Option.{option_map_or, option_and_then}
 use Rattle.std.specs.Str.{bytes_eq}
 use Rattle.std.proofs.lemmas.Bool.{cases_order}
 use Rattle.std.proofs.lemmas.Bool.Decides.{Decides-eqb, nat_tests}
-use Rattle.std.proofs.lemmas.List.{drop-drop}
+use Rattle.std.proofs.lemmas.List.{drop-drop, take-append-drop}
 use Rattle.std.proofs.lemmas.List.Sums.{sum_by-append}
 use Rattle.std.proofs.lemmas.Option.{same_Some}
 use Rattle.std.proofs.lemmas.Slice.Eq.{bytes_eq-Decides}
 use Rattle.rv_base.specs.Places.{equals, not_same}
 use Rattle.rv_book.specs.declared.entry.Entry.{Entry}
 use Rattle.rv_book.specs.declared.entry.Entry.TheVariants.{Act, Look, Retire}
-use Rattle.rv_book.specs.Book.{Book, size, up_to, since, with_entry, entry_at, retires, retired}
-use Rattle.rv_book.specs.BookWords.{retired-with_entry, count-with_entry, up_to-since, since-with_entry, entry_at-within, entry_at-with_entry, entry_at-end, since-entry}
+use Rattle.rv_book.specs.Entries.{retires}
+use Rattle.rv_book.specs.Book.{Book, size, since, with_entry, entry_at, retired}
+use Rattle.rv_book.specs.BookWords.{retired-with_entry, count-push, since-with_entry, entry_at-within, entry_at-with_entry, entry_at-end, since-entry}
 use Rattle.rv_book.specs.Kept.{look_of, look_at, is_look_of, is_look_at, later_looks, kept, falls_at, falls_out}
 
 -- the entry of a look
@@ -49,7 +50,7 @@ or_false true = refl
 or_false false = refl
 
 pub later_looks-with_entry : (group : List ℕ) (place : ℕ) (book : Book) (entry : Entry) → place ≤ size book → later_looks group place (with_entry book entry) ≡ later_looks group place book + cond (is_look_of group entry) 1 0
-later_looks-with_entry group place book entry le = ap (count_by (is_look_of group)) (since-with_entry place book entry le) ∙ count-with_entry (is_look_of group) (since place book) entry
+later_looks-with_entry group place book entry le = ap (count_by (is_look_of group)) (since-with_entry place book entry le) ∙ count-push (is_look_of group) (since place book) entry
 
 -- whether a look is kept when one more entry follows
 pub kept-with_entry : (place : ℕ) (book : Book) (entry : Entry) (look : List ℕ × List ℕ × ℕ) → look_at place book ≡ Some look
@@ -103,9 +104,9 @@ count_from group book place later is =
 -- fewer stand since a later place
 since_falls : (group : List ℕ) (book : Book) (place more : ℕ) → later_looks group (place + more) book ≤ later_looks group place book
 since_falls group book place more =
-    let whole : count_by (is_look_of group) (up_to more (since place book)) + count_by (is_look_of group) (since more (since place book)) ≡ later_looks group place book =
-    sym (sum_by-append (λ (e : Entry). cond (is_look_of group e) 1 0) (up_to more (since place book)) (since more (since place book))) ∙ ap (count_by (is_look_of group)) (up_to-since more (since place book)) in
-    let rest : count_by (is_look_of group) (since more (since place book)) ≡ later_looks group (place + more) book = ap (count_by (is_look_of group)) (drop-drop more place book) in
+    let whole : count_by (is_look_of group) (take more (since place book)) + count_by (is_look_of group) (drop more (since place book)) ≡ later_looks group place book =
+    sym (sum_by-append (λ (e : Entry). cond (is_look_of group e) 1 0) (take more (since place book)) (drop more (since place book))) ∙ ap (count_by (is_look_of group)) (take-append-drop more (since place book)) in
+    let rest : count_by (is_look_of group) (drop more (since place book)) ≡ later_looks group (place + more) book = ap (count_by (is_look_of group)) (drop-drop more place book.entries) in
     omega (arith, whole, rest)
 
 -- two looks of a group with as many later ones are one

@@ -1,12 +1,12 @@
 -- Laws of the looks of a group from the last one back.
-use Rattle.std.proofs.Common.{◌≡◌, ℕ, suc, ◌+◌, ◌-◌, ◌≤◌, Bool, true, false, cond, List, [], ◌∷◌, Option, Some, None, refl, sym, ap, ◌∙◌, subst, arith}
+use Rattle.std.proofs.Common.{◌≡◌, ℕ, suc, ◌+◌, ◌-◌, ◌≤◌, Bool, true, false, cond, List, [], ◌∷◌, Option, Some, None, refl, sym, ap, ◌∙◌, subst, arith, length, drop, ◌++◌}
 use Rattle.std.specs.List.{slice_get, count_by}
 use Rattle.std.specs.Option.{option_map, option_or, option_and_then}
 use Rattle.std.proofs.lemmas.List.Sums.{sum_by-append}
 use Rattle.std.proofs.lemmas.Option.{same_Some, none-some}
 use Rattle.rv_book.specs.declared.entry.Entry.{Entry}
 use Rattle.rv_book.specs.Book.{Book, size, up_to, since, with_entry, entry_at}
-use Rattle.rv_book.specs.BookWords.{up_to-since, up_to-with_entry, up_to-before, since-append, entry_at-within, entry_at-next, entry_at-up_to}
+use Rattle.rv_book.specs.BookWords.{up_to-since, up_to-with_entry, up_to-before, entry_at-within, entry_at-next, entry_at-up_to, since-with_entries}
 use Rattle.rv_book.specs.Kept.{look_of, is_look_of, later_looks, last_where, last_look, look_before}
 use Rattle.rv_book.specs.LookLaws.{look_at-with_entry, look_at-end, count_from, look_is, IsLookOf}
 
@@ -15,9 +15,9 @@ push_suc : (o : Option ℕ) (b : Bool) (n : ℕ) (q : Bool) → option_or (optio
 push_suc o true n q = refl
 push_suc o false n q = refl
 
-last_where-push : (p : Entry → Bool) (book : Book) (entry : Entry) → last_where p (with_entry book entry) ≡ cond (p entry) (Some (size book)) (last_where p book)
+last_where-push : (p : Entry → Bool) (entries : List Entry) (entry : Entry) → last_where p (entries ++ entry ∷ []) ≡ cond (p entry) (Some (length entries)) (last_where p entries)
 last_where-push p [] entry = refl
-last_where-push p (e ∷ book) entry = ap (λ (o : Option ℕ). option_or (option_map suc o) (cond (p e) (Some 0) None)) (last_where-push p book entry) ∙ push_suc (last_where p book) (p entry) (size book) (p e)
+last_where-push p (e ∷ entries) entry = ap (λ (o : Option ℕ). option_or (option_map suc o) (cond (p e) (Some 0) None)) (last_where-push p entries entry) ∙ push_suc (last_where p entries) (p entry) (length entries) (p e)
 
 map_cond : (b : Bool) (n : ℕ) (o : Option ℕ) → option_map suc (cond b (Some n) o) ≡ cond b (Some (suc n)) (option_map suc o)
 map_cond true n o = refl
@@ -28,64 +28,64 @@ pub last_look-with_entry : (group : List ℕ) (book : Book) (entry : Entry) → 
 unfolding last_look
 last_look-with_entry group book entry =
     let n : suc (size book) ≡ size book + 1 = omega arith in
-    ap (option_map suc) (last_where-push (is_look_of group) book entry)
-    ∙ map_cond (is_look_of group entry) (size book) (last_where (is_look_of group) book)
-    ∙ ap (λ (m : ℕ). cond (is_look_of group entry) (Some m) (option_map suc (last_where (is_look_of group) book))) n
+    ap (option_map suc) (last_where-push (is_look_of group) book.entries entry)
+    ∙ map_cond (is_look_of group entry) (size book) (last_where (is_look_of group) book.entries)
+    ∙ ap (λ (m : ℕ). cond (is_look_of group entry) (Some m) (option_map suc (last_where (is_look_of group) book.entries))) n
 
 -- where no entry passes, none is counted
-none_last : (p : Entry → Bool) (book : Book) → last_where p book ≡ None → count_by p book ≡ 0
+none_last : (p : Entry → Bool) (entries : List Entry) → last_where p entries ≡ None → count_by p entries ≡ 0
 none_last p [] none = refl
-none_last p (x ∷ book) none =
-    sum_by-append (λ (e : Entry). cond (p e) 1 0) (x ∷ []) book
-    ∙ (elim (last_where p book) as (λ o. last_where p book ≡ o → option_or (option_map suc o) (cond (p x) (Some 0) None) ≡ None → (0 + cond (p x) 1 0) + count_by p book ≡ 0) [
-      | None ↦ λ f h. elim (p x) as (λ b. (let o : Option ℕ = cond b (Some 0) None in o ≡ None) → (0 + cond b 1 0) + count_by p book ≡ 0) [ true ↦ λ g. absurd (cc) | false ↦ λ g. omega (arith, none_last p book f) ] h
+none_last p (x ∷ entries) none =
+    sum_by-append (λ (e : Entry). cond (p e) 1 0) (x ∷ []) entries
+    ∙ (elim (last_where p entries) as (λ o. last_where p entries ≡ o → option_or (option_map suc o) (cond (p x) (Some 0) None) ≡ None → (0 + cond (p x) 1 0) + count_by p entries ≡ 0) [
+      | None ↦ λ f h. elim (p x) as (λ b. (let o : Option ℕ = cond b (Some 0) None in o ≡ None) → (0 + cond b 1 0) + count_by p entries ≡ 0) [ true ↦ λ g. absurd (cc) | false ↦ λ g. omega (arith, none_last p entries f) ] h
       | Some i ↦ λ f h. absurd (cc)
     ] refl none)
 
 -- it is the look with no later one
-last_found : (p : Entry → Bool) (book : Book) (i : ℕ) → last_where p book ≡ Some i → (e : Entry) × (slice_get book i ≡ Some e) × (p e ≡ true) × (count_by p (since (suc i) book) ≡ 0)
+last_found : (p : Entry → Bool) (entries : List Entry) (i : ℕ) → last_where p entries ≡ Some i → (e : Entry) × (slice_get entries i ≡ Some e) × (p e ≡ true) × (count_by p (drop (suc i) entries) ≡ 0)
 last_found p [] i is = absurd (none-some i is)
-last_found p (x ∷ book) i is =
-    elim (last_where p book) as (λ o. last_where p book ≡ o → option_or (option_map suc o) (cond (p x) (Some 0) None) ≡ Some i → (e : Entry) × (slice_get (x ∷ book) i ≡ Some e) × (p e ≡ true) × (count_by p (since (suc i) (x ∷ book)) ≡ 0)) [
-      | None ↦ λ f h. elim (p x) as (λ b. p x ≡ b → cond b (Some 0) None ≡ Some i → (e : Entry) × (slice_get (x ∷ book) i ≡ Some e) × (p e ≡ true) × (count_by p (since (suc i) (x ∷ book)) ≡ 0)) [
-        | true ↦ λ e g. subst (λ (n : ℕ). (e : Entry) × (slice_get (x ∷ book) n ≡ Some e) × (p e ≡ true) × (count_by p (since (suc n) (x ∷ book)) ≡ 0)) (same_Some 0 i g) (x, refl, e, none_last p book f)
+last_found p (x ∷ entries) i is =
+    elim (last_where p entries) as (λ o. last_where p entries ≡ o → option_or (option_map suc o) (cond (p x) (Some 0) None) ≡ Some i → (e : Entry) × (slice_get (x ∷ entries) i ≡ Some e) × (p e ≡ true) × (count_by p (drop (suc i) (x ∷ entries)) ≡ 0)) [
+      | None ↦ λ f h. elim (p x) as (λ b. p x ≡ b → cond b (Some 0) None ≡ Some i → (e : Entry) × (slice_get (x ∷ entries) i ≡ Some e) × (p e ≡ true) × (count_by p (drop (suc i) (x ∷ entries)) ≡ 0)) [
+        | true ↦ λ e g. subst (λ (n : ℕ). (e : Entry) × (slice_get (x ∷ entries) n ≡ Some e) × (p e ≡ true) × (count_by p (drop (suc n) (x ∷ entries)) ≡ 0)) (same_Some 0 i g) (x, refl, e, none_last p entries f)
         | false ↦ λ e g. absurd (none-some i g)
       ] refl h
       | Some j ↦ λ f h.
-          let found = last_found p book j f in
-          subst (λ (n : ℕ). (e : Entry) × (slice_get (x ∷ book) n ≡ Some e) × (p e ≡ true) × (count_by p (since (suc n) (x ∷ book)) ≡ 0)) (same_Some (suc j) i h) (found.0, found.1, found.2, found.3)
+          let found = last_found p entries j f in
+          subst (λ (n : ℕ). (e : Entry) × (slice_get (x ∷ entries) n ≡ Some e) × (p e ≡ true) × (count_by p (drop (suc n) (x ∷ entries)) ≡ 0)) (same_Some (suc j) i h) (found.0, found.1, found.2, found.3)
     ] refl is
 
 pub last_look-some : (group : List ℕ) (book : Book) (place : ℕ) → last_look group book ≡ Some place → IsLookOf group book place 0
 unfolding last_look
 last_look-some group book place is =
-    elim (last_where (is_look_of group) book) as (λ o. last_where (is_look_of group) book ≡ o → option_map suc o ≡ Some place → IsLookOf group book place 0) [
+    elim (last_where (is_look_of group) book.entries) as (λ o. last_where (is_look_of group) book.entries ≡ o → option_map suc o ≡ Some place → IsLookOf group book place 0) [
       | None ↦ λ f h. absurd (none-some place h)
-      | Some i ↦ λ f h. subst (λ (n : ℕ). IsLookOf group book n 0) (same_Some (suc i) place h) (found i (last_found (is_look_of group) book i f))
+      | Some i ↦ λ f h. subst (λ (n : ℕ). IsLookOf group book n 0) (same_Some (suc i) place h) (found i (last_found (is_look_of group) book.entries i f))
     ] refl is
   where
-    found : (i : ℕ) → (e : Entry) × (slice_get book i ≡ Some e) × (is_look_of group e ≡ true) × (count_by (is_look_of group) (since (suc i) book) ≡ 0) → IsLookOf group book (suc i) 0
+    found : (i : ℕ) → (e : Entry) × (slice_get book.entries i ≡ Some e) × (is_look_of group e ≡ true) × (count_by (is_look_of group) (since (suc i) book) ≡ 0) → IsLookOf group book (suc i) 0
     found i is =
         let n : suc i ≡ i + 1 = omega arith in
         record { entry = is.0; there = ap (λ (m : ℕ). entry_at m book) n ∙ entry_at-next i book ∙ is.1; of_group = is.2; count = is.3 }
 
-pub last_look-none : (group : List ℕ) (book : Book) → last_look group book ≡ None → count_by (is_look_of group) book ≡ 0
+pub last_look-none : (group : List ℕ) (book : Book) → last_look group book ≡ None → count_by (is_look_of group) book.entries ≡ 0
 unfolding last_look
 last_look-none group book none =
-    elim (last_where (is_look_of group) book) as (λ o. last_where (is_look_of group) book ≡ o → option_map suc o ≡ None → count_by (is_look_of group) book ≡ 0) [
-      | None ↦ λ f h. none_last (is_look_of group) book f
+    elim (last_where (is_look_of group) book.entries) as (λ o. last_where (is_look_of group) book.entries ≡ o → option_map suc o ≡ None → count_by (is_look_of group) book.entries ≡ 0) [
+      | None ↦ λ f h. none_last (is_look_of group) book.entries f
       | Some i ↦ λ f h. absurd (cc)
     ] refl none
 
 -- a group that has no look has no last one
-pub no_look : (group : List ℕ) (book : Book) → count_by (is_look_of group) book ≡ 0 → last_look group book ≡ None
+pub no_look : (group : List ℕ) (book : Book) → count_by (is_look_of group) book.entries ≡ 0 → last_look group book ≡ None
 no_look group book none =
     elim (last_look group book) as (λ o. last_look group book ≡ o → o ≡ None) [
       | None ↦ λ e. refl
       | Some place ↦ λ e.
           let is = last_look-some group book place e in
-          let parts : count_by (is_look_of group) book ≡ count_by (is_look_of group) (up_to (place - 1) book) + count_by (is_look_of group) (since (place - 1) book) =
-          ap (count_by (is_look_of group)) (sym (up_to-since (place - 1) book)) ∙ sum_by-append (λ (e : Entry). cond (is_look_of group e) 1 0) (up_to (place - 1) book) (since (place - 1) book) in
+          let parts : count_by (is_look_of group) book.entries ≡ count_by (is_look_of group) (up_to (place - 1) book).entries + count_by (is_look_of group) (since (place - 1) book) =
+          ap (λ (b : Book). count_by (is_look_of group) b.entries) (sym (up_to-since (place - 1) book)) ∙ sum_by-append (λ (e : Entry). cond (is_look_of group e) 1 0) (up_to (place - 1) book).entries (since (place - 1) book) in
           absurd (omega (arith, none, parts, count_from group book place 0 is))
     ] refl
 
@@ -104,7 +104,7 @@ look_before-some group book place before later is there =
     let within = entry_at-within before front last.entry last.there in
     let parts : later_looks group before book ≡ count_by (is_look_of group) (since before front) + count_by (is_look_of group) rest =
     ap (λ (b : Book). count_by (is_look_of group) (since before b)) (sym (up_to-since (place - 1) book))
-    ∙ ap (count_by (is_look_of group)) (since-append before front rest within.1)
+    ∙ ap (count_by (is_look_of group)) (since-with_entries before front rest within.1)
     ∙ sum_by-append (λ (e : Entry). cond (is_look_of group e) 1 0) (since before front) rest in
     record {
       entry = last.entry;
@@ -113,12 +113,12 @@ look_before-some group book place before later is there =
       count = omega (arith, parts, last.count, count_from group book place later is);
     }
 
-pub look_before-none : (group : List ℕ) (book : Book) (place later : ℕ) → IsLookOf group book place later → look_before place book ≡ None → count_by (is_look_of group) book ≡ later + 1
+pub look_before-none : (group : List ℕ) (book : Book) (place later : ℕ) → IsLookOf group book place later → look_before place book ≡ None → count_by (is_look_of group) book.entries ≡ later + 1
 look_before-none group book place later is none =
     let front = up_to (place - 1) book in
     let rest = since (place - 1) book in
-    let parts : count_by (is_look_of group) book ≡ count_by (is_look_of group) front + count_by (is_look_of group) rest =
-    ap (count_by (is_look_of group)) (sym (up_to-since (place - 1) book)) ∙ sum_by-append (λ (e : Entry). cond (is_look_of group e) 1 0) front rest in
+    let parts : count_by (is_look_of group) book.entries ≡ count_by (is_look_of group) front.entries + count_by (is_look_of group) rest =
+    ap (λ (b : Book). count_by (is_look_of group) b.entries) (sym (up_to-since (place - 1) book)) ∙ sum_by-append (λ (e : Entry). cond (is_look_of group e) 1 0) front.entries rest in
     omega (arith, parts, last_look-none group front (sym (before_is group book place later is) ∙ none), count_from group book place later is)
 
 -- the look before a look, when one more entry follows, and that before the entry

@@ -28,7 +28,7 @@ acting_group (Retire group) = []
 
 -- the group of a row: that of the act that it names
 unfoldable pub group_of_member : Book → ClientRow → List ℕ
-group_of_member book row = option_map_or acting_group (slice_get book row.first) []
+group_of_member book row = option_map_or acting_group (slice_get book.entries row.first) []
 
 abbrev pub key_of_member : Book → ClientRow → List ℕ
 key_of_member book row = member_key (group_of_member book row) (client_of_row book row)
@@ -44,7 +44,7 @@ acting_client (Retire group) = None
 
 -- of a row that names an act: its client, with its last mutation id
 abbrev pub told_by : Book → ClientRow → Option (List ℕ × ℕ)
-told_by book row = option_map (λ client. (client, row.acts)) (option_and_then acting_client (slice_get book row.first))
+told_by book row = option_map (λ client. (client, row.acts)) (option_and_then acting_client (slice_get book.entries row.first))
 
 -- the row of a client, where it has an act and the key is that of its group and the client
 abbrev pub row_with_key : List ℕ → Book → List ℕ → Option ClientRow

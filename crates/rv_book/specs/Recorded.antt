@@ -1,9 +1,14 @@
 -- A book, as contracts see it.
-use Rattle.std.specs.Prelude.{ℕ}
+use Rattle.std.specs.Prelude.{ℕ, ◌-◌, vec_len, vec_capacity}
+use Rattle.std.specs.declared.vec.Vec.{Vec}
 use Rattle.rv_book.specs.Book.{Book}
 
--- the entries, the most that there may be, and a lower bound of the entries that have room
+-- the book, the most entries that there may be, and a lower bound of the entries that have room
 pub record Recorded : Type 0 where
-  pub entries : Book
+  pub book : Book
   pub limit : ℕ
   pub room : ℕ
+
+-- how many more elements a list has room for
+abbrev pub free : {X Z : Type 0} → Vec X Z → ℕ
+free list = vec_capacity list - vec_len list

@@ -1,5 +1,5 @@
 -- Laws of the registers of a book: what is found in them, and what one more entry makes of them.
-use Rattle.std.proofs.Common.{◌≡◌, ℕ, ◌+◌, ◌⊎◌, inl, inr, ◌||◌, Bool, true, false, cond, not, List, [], ◌∷◌, Option, Some, None, refl, sym, ap, ◌∙◌, subst, arith}
+use Rattle.std.proofs.Common.{◌≡◌, ℕ, ◌+◌, ◌⊎◌, inl, inr, ◌||◌, Bool, true, false, cond, not, List, [], ◌∷◌, Option, Some, None, refl, sym, ap, ◌∙◌, subst, arith, ◌++◌}
 use Rattle.std.specs.List.{fold, filter_map, cons_option, list_any}
 use Rattle.std.specs.Option.{option_map, option_map_or, option_or, option_and_then, is_some, IsSome}
 use Rattle.std.specs.Str.{bytes_eq}
@@ -12,7 +12,8 @@ use Rattle.rv_base.specs.Arranged.{in_order-same}
 use Rattle.rv_rows.specs.declared.call.Call.{Call}
 use Rattle.rv_book.specs.declared.entry.Entry.{Entry}
 use Rattle.rv_book.specs.declared.entry.Entry.TheVariants.{Act, Look, Retire}
-use Rattle.rv_book.specs.Book.{Book, with_entry, bound, group_of, is_act_of, last, last_order, order_after, retired, retires}
+use Rattle.rv_book.specs.Entries.{is_act_of, order_after, retires, bound_in, group_of_in}
+use Rattle.rv_book.specs.Book.{Book, with_entry, bound, group_of, last, last_order, retired, empty_book}
 use Rattle.rv_book.specs.BookWords.{last-with_entry, last_order-with_entry, retired-with_entry}
 use Rattle.rv_book.specs.Indexes.{binds, named_in, names_group, user_of}
 use Rattle.rv_book.specs.Members.{acting_client, acting_group}
@@ -120,11 +121,11 @@ client_keyed book client x is =
     ] is
 
 -- a client has a group where an act names it
-has_group : (client : List ℕ) (book : Book) → list_any (names acting_client client) book ≡ is_some (group_of client book)
+has_group : (client : List ℕ) (entries : List Entry) → list_any (names acting_client client) entries ≡ is_some (group_of_in client entries)
 has_group client [] = refl
-has_group client (Act user group actor id call ∷ book) = elim (bytes_eq actor client) as (λ b. (b || list_any (names acting_client client) book) ≡ is_some (cond b (Some group) (group_of client book))) [ true ↦ refl | false ↦ has_group client book ]
-has_group client (Look user group order base ∷ book) = has_group client book
-has_group client (Retire group ∷ book) = has_group client book
+has_group client (Act user group actor id call ∷ entries) = elim (bytes_eq actor client) as (λ b. (b || list_any (names acting_client client) entries) ≡ is_some (cond b (Some group) (group_of_in client entries))) [ true ↦ refl | false ↦ has_group client entries ]
+has_group client (Look user group order base ∷ entries) = has_group client entries
+has_group client (Retire group ∷ entries) = has_group client entries
 
 where_some : {A X : Type 0} (f : A → X) (o : Option A) → cond (is_some o) (option_map f o) None ≡ option_map f o
 where_some f None = refl
@@ -133,25 +134,25 @@ where_some f (Some a) = refl
 -- what is found in the register of the clients
 pub found_client : (client : List ℕ) (book : Book) → find_by (λ (c : List ℕ × List ℕ × ℕ). c.0) client (clients_of book) ≡ client_named client book
 found_client client book =
-    find-told client_key acting_client (λ c. client_named c book) (client_told book) client book (act_told book) (client_keyed book)
-    ∙ ap (λ (b : Bool). cond b (client_named client book) None) (has_group client book)
+    find-told client_key acting_client (λ c. client_named c book) (client_told book) client book.entries (act_told book) (client_keyed book)
+    ∙ ap (λ (b : Bool). cond b (client_named client book) None) (has_group client book.entries)
     ∙ where_some (λ group. (client, group, last client book)) (group_of client book)
 
 pub clients-in_order : (book : Book) → InOrder (λ (c : List ℕ × List ℕ × ℕ). c.0) (clients_of book)
-clients-in_order book = in_order-sorted client_key (filter_map (client_told book) book)
+clients-in_order book = in_order-sorted client_key (filter_map (client_told book) book.entries)
 
 -- the group of a client, when one more entry follows
-pub group_of-with_entry : (client : List ℕ) (book : Book) (entry : Entry) → group_of client (with_entry book entry) ≡ option_or (group_of client book) (cond (is_act_of client entry) (Some (acting_group entry)) None)
-group_of-with_entry client [] (Act user group actor id call) = refl
-group_of-with_entry client [] (Look user group order base) = refl
-group_of-with_entry client [] (Retire group) = refl
-group_of-with_entry client (Act user group actor id call ∷ book) entry =
-    elim (bytes_eq actor client) as (λ b. cond b (Some group) (group_of client (with_entry book entry)) ≡ option_or (cond b (Some group) (group_of client book)) (cond (is_act_of client entry) (Some (acting_group entry)) None)) [
+pub group_of_in-push : (client : List ℕ) (entries : List Entry) (entry : Entry) → group_of_in client (entries ++ entry ∷ []) ≡ option_or (group_of_in client entries) (cond (is_act_of client entry) (Some (acting_group entry)) None)
+group_of_in-push client [] (Act user group actor id call) = refl
+group_of_in-push client [] (Look user group order base) = refl
+group_of_in-push client [] (Retire group) = refl
+group_of_in-push client (Act user group actor id call ∷ entries) entry =
+    elim (bytes_eq actor client) as (λ b. cond b (Some group) (group_of_in client (entries ++ entry ∷ [])) ≡ option_or (cond b (Some group) (group_of_in client entries)) (cond (is_act_of client entry) (Some (acting_group entry)) None)) [
       | true ↦ refl
-      | false ↦ group_of-with_entry client book entry
+      | false ↦ group_of_in-push client entries entry
     ]
-group_of-with_entry client (Look user group order base ∷ book) entry = group_of-with_entry client book entry
-group_of-with_entry client (Retire group ∷ book) entry = group_of-with_entry client book entry
+group_of_in-push client (Look user group order base ∷ entries) entry = group_of_in-push client entries entry
+group_of_in-push client (Retire group ∷ entries) entry = group_of_in-push client entries entry
 
 or_none : {X : Type 0} (o : Option X) → option_or o None ≡ o
 or_none None = refl
@@ -160,7 +161,7 @@ or_none (Some x) = refl
 -- what is told of a client, when an entry follows that is no act of it
 other_client : (client : List ℕ) (book : Book) (entry : Entry) → is_act_of client entry ≡ false → client_named client (with_entry book entry) ≡ client_named client book
 other_client client book entry other =
-    let group : group_of client (with_entry book entry) ≡ group_of client book = group_of-with_entry client book entry ∙ ap (λ (b : Bool). option_or (group_of client book) (cond b (Some (acting_group entry)) None)) other ∙ or_none (group_of client book) in
+    let group : group_of client (with_entry book entry) ≡ group_of client book = group_of_in-push client book.entries entry ∙ ap (λ (b : Bool). option_or (group_of client book) (cond b (Some (acting_group entry)) None)) other ∙ or_none (group_of client book) in
     let none : last client book + 0 ≡ last client book = omega arith in
     let count : last client (with_entry book entry) ≡ last client book = last-with_entry client book entry ∙ ap (λ (b : Bool). last client book + cond b 1 0) other ∙ none in
     (λ i. option_map (λ g. (client, g, count i)) (group i))
@@ -172,7 +173,7 @@ own_act client book entry home own group =
     (λ i. option_map (λ g. (client, g, count i)) (group i))
 
 -- one more act puts its client, with the group of the client's first act and the next mutation id
-pub clients_after_act : (book : Book) (user group client : List ℕ) (id : ℕ) (call : Call) (home : List ℕ) → group_of client (with_entry book (Act user group client id call)) ≡ Some home
+clients_after_act : (book : Book) (user group client : List ℕ) (id : ℕ) (call : Call) (home : List ℕ) → group_of client (with_entry book (Act user group client id call)) ≡ Some home
     → clients_of (with_entry book (Act user group client id call)) ≡ put_by (λ (c : List ℕ × List ℕ × ℕ). c.0) (client, home, last client book + 1) (clients_of book)
 clients_after_act book user group client id call home is =
     let act = Act user group client id call in
@@ -203,7 +204,7 @@ pub clients_after_home_act : (book : Book) (user group client : List ℕ) (id : 
 clients_after_home_act book user group client id call home =
     let act = Act user group client id call in
     clients_after_act book user group client id call group
-    (group_of-with_entry client book act ∙ ap (λ (b : Bool). option_or (group_of client book) (cond b (Some group) None)) (equals client) ∙ or_this group (group_of client book) home)
+    (group_of_in-push client book.entries act ∙ ap (λ (b : Bool). option_or (group_of client book) (cond b (Some group) None)) (equals client) ∙ or_this group (group_of client book) home)
 
 -- an entry that is no act leaves the clients
 clients_after_other : (book : Book) (entry : Entry) → ((client : List ℕ) → is_act_of client entry ≡ false) → clients_of (with_entry book entry) ≡ clients_of book
@@ -244,44 +245,44 @@ group_keyed book group x is =
     ] is
 
 -- a group is bound where an act or a look names it
-is_bound : (group : List ℕ) (book : Book) → list_any (names binding_group group) book ≡ is_some (bound group book)
+is_bound : (group : List ℕ) (entries : List Entry) → list_any (names binding_group group) entries ≡ is_some (bound_in group entries)
 is_bound group [] = refl
-is_bound group (Act user other client id call ∷ book) = elim (bytes_eq other group) as (λ b. (b || list_any (names binding_group group) book) ≡ is_some (cond b (Some user) (bound group book))) [ true ↦ refl | false ↦ is_bound group book ]
-is_bound group (Look user other order base ∷ book) = elim (bytes_eq other group) as (λ b. (b || list_any (names binding_group group) book) ≡ is_some (cond b (Some user) (bound group book))) [ true ↦ refl | false ↦ is_bound group book ]
-is_bound group (Retire other ∷ book) = is_bound group book
+is_bound group (Act user other client id call ∷ entries) = elim (bytes_eq other group) as (λ b. (b || list_any (names binding_group group) entries) ≡ is_some (cond b (Some user) (bound_in group entries))) [ true ↦ refl | false ↦ is_bound group entries ]
+is_bound group (Look user other order base ∷ entries) = elim (bytes_eq other group) as (λ b. (b || list_any (names binding_group group) entries) ≡ is_some (cond b (Some user) (bound_in group entries))) [ true ↦ refl | false ↦ is_bound group entries ]
+is_bound group (Retire other ∷ entries) = is_bound group entries
 
 -- what is found in the register of the groups
 pub found_group : (group : List ℕ) (book : Book) → find_by (λ (g : List ℕ × List ℕ × ℕ × Bool). g.0) group (groups_of book) ≡ group_named group book
 found_group group book =
-    find-told group_key binding_group (λ g. group_named g book) (group_told book) group book (binding_told book) (group_keyed book)
-    ∙ ap (λ (b : Bool). cond b (group_named group book) None) (is_bound group book)
+    find-told group_key binding_group (λ g. group_named g book) (group_told book) group book.entries (binding_told book) (group_keyed book)
+    ∙ ap (λ (b : Bool). cond b (group_named group book) None) (is_bound group book.entries)
     ∙ where_some (λ user. (group, user, last_order group book, retired group book)) (bound group book)
 
 pub groups-in_order : (book : Book) → InOrder (λ (g : List ℕ × List ℕ × ℕ × Bool). g.0) (groups_of book)
-groups-in_order book = in_order-sorted group_key (filter_map (group_told book) book)
+groups-in_order book = in_order-sorted group_key (filter_map (group_told book) book.entries)
 
 -- the user of a group, when one more entry follows
-pub bound-with_entry : (group : List ℕ) (book : Book) (entry : Entry) → bound group (with_entry book entry) ≡ option_or (bound group book) (cond (binds group entry) (user_of entry) None)
-bound-with_entry group [] (Act user other client id call) = refl
-bound-with_entry group [] (Look user other order base) = refl
-bound-with_entry group [] (Retire other) = refl
-bound-with_entry group (Act user other client id call ∷ book) entry =
-    elim (bytes_eq other group) as (λ b. cond b (Some user) (bound group (with_entry book entry)) ≡ option_or (cond b (Some user) (bound group book)) (cond (binds group entry) (user_of entry) None)) [
+pub bound_in-push : (group : List ℕ) (entries : List Entry) (entry : Entry) → bound_in group (entries ++ entry ∷ []) ≡ option_or (bound_in group entries) (cond (binds group entry) (user_of entry) None)
+bound_in-push group [] (Act user other client id call) = refl
+bound_in-push group [] (Look user other order base) = refl
+bound_in-push group [] (Retire other) = refl
+bound_in-push group (Act user other client id call ∷ entries) entry =
+    elim (bytes_eq other group) as (λ b. cond b (Some user) (bound_in group (entries ++ entry ∷ [])) ≡ option_or (cond b (Some user) (bound_in group entries)) (cond (binds group entry) (user_of entry) None)) [
       | true ↦ refl
-      | false ↦ bound-with_entry group book entry
+      | false ↦ bound_in-push group entries entry
     ]
-bound-with_entry group (Look user other order base ∷ book) entry =
-    elim (bytes_eq other group) as (λ b. cond b (Some user) (bound group (with_entry book entry)) ≡ option_or (cond b (Some user) (bound group book)) (cond (binds group entry) (user_of entry) None)) [
+bound_in-push group (Look user other order base ∷ entries) entry =
+    elim (bytes_eq other group) as (λ b. cond b (Some user) (bound_in group (entries ++ entry ∷ [])) ≡ option_or (cond b (Some user) (bound_in group entries)) (cond (binds group entry) (user_of entry) None)) [
       | true ↦ refl
-      | false ↦ bound-with_entry group book entry
+      | false ↦ bound_in-push group entries entry
     ]
-bound-with_entry group (Retire other ∷ book) entry = bound-with_entry group book entry
+bound_in-push group (Retire other ∷ entries) entry = bound_in-push group entries entry
 
 -- what is told of a group, when an entry follows that leaves what it is told by
 left_group : (group : List ℕ) (book : Book) (entry : Entry) → binds group entry ≡ false → order_after group (last_order group book) entry ≡ last_order group book → retires group entry ≡ false
     → group_named group (with_entry book entry) ≡ group_named group book
 left_group group book entry unbound same stands =
-    let user : bound group (with_entry book entry) ≡ bound group book = bound-with_entry group book entry ∙ ap (λ (b : Bool). option_or (bound group book) (cond b (user_of entry) None)) unbound ∙ or_none (bound group book) in
+    let user : bound group (with_entry book entry) ≡ bound group book = bound_in-push group book.entries entry ∙ ap (λ (b : Bool). option_or (bound group book) (cond b (user_of entry) None)) unbound ∙ or_none (bound group book) in
     let order : last_order group (with_entry book entry) ≡ last_order group book = last_order-with_entry group book entry ∙ same in
     let gone : retired group (with_entry book entry) ≡ retired group book = retired-with_entry group book entry ∙ ap (λ (b : Bool). retired group book || b) stands ∙ or-false (retired group book) in
     (λ i. option_map (λ u. (group, u, order i, gone i)) (user i))
@@ -304,7 +305,7 @@ groups_after book entry user order gone own last stands =
 -- the user of an act or a look, whose group is bound to no other
 bound_by : (book : Book) (entry : Entry) (user : List ℕ) → binds (named_in entry) entry ≡ true → user_of entry ≡ Some user → NoneBut user (bound (named_in entry) book) → bound (named_in entry) (with_entry book entry) ≡ Some user
 bound_by book entry user own is free =
-    bound-with_entry (named_in entry) book entry ∙ (λ i. option_or (bound (named_in entry) book) (cond (own i) (is i) None)) ∙ or_this user (bound (named_in entry) book) free
+    bound_in-push (named_in entry) book.entries entry ∙ (λ i. option_or (bound (named_in entry) book) (cond (own i) (is i) None)) ∙ or_this user (bound (named_in entry) book) free
 
 -- an act puts its group, bound to its user
 pub groups_after_act : (book : Book) (user group client : List ℕ) (id : ℕ) (call : Call) → NoneBut user (bound group book)
@@ -324,11 +325,11 @@ groups_after_look book user group order base free =
 pub groups_after_retire : (book : Book) (group user : List ℕ) → bound group book ≡ Some user
     → groups_of (with_entry book (Retire group)) ≡ put_by (λ (g : List ℕ × List ℕ × ℕ × Bool). g.0) (group, user, last_order group book, true) (groups_of book)
 groups_after_retire book group user is =
-    groups_after book (Retire group) user (last_order group book) true (bound-with_entry group book (Retire group) ∙ or_none (bound group book) ∙ is) refl
+    groups_after book (Retire group) user (last_order group book) true (bound_in-push group book.entries (Retire group) ∙ or_none (bound group book) ∙ is) refl
     (ap (λ (b : Bool). retired group book || b) (equals group) ∙ or-true (retired group book))
 
 -- Every group that is retired is bound: in the empty book, and after one more entry that keeps to it.
-pub retires_bound-empty : RetiresBound []
+pub retires_bound-empty : RetiresBound empty_book
 retires_bound-empty = λ group gone. absurd (cc)
 
 -- the entry retires no group, or one that is bound
@@ -339,7 +340,7 @@ BoundIfRetired book (Retire group) = IsSome (bound group book)
 
 -- a group that is bound stays so
 bound_stays : (group : List ℕ) (book : Book) (entry : Entry) → IsSome (bound group book) → IsSome (bound group (with_entry book entry))
-bound_stays group book entry is = ap is_some (bound-with_entry group book entry) ∙ either (bound group book) (cond (binds group entry) (user_of entry) None) is
+bound_stays group book entry is = ap is_some (bound_in-push group book.entries entry) ∙ either (bound group book) (cond (binds group entry) (user_of entry) None) is
   where
     either : (o p : Option (List ℕ)) → is_some o ≡ true → is_some (option_or o p) ≡ true
     either None p some = absurd (cc)

@@ -19,7 +19,7 @@ client_told book (Retire group) = None
 
 -- the clients that have an act, in the order of their bytes
 abbrev pub clients_of : Book → List (List ℕ × List ℕ × ℕ)
-clients_of book = sorted_by (λ client. client.0) (filter_map (client_told book) book)
+clients_of book = sorted_by (λ client. client.0) (filter_map (client_told book) book.entries)
 
 -- a group that an act or a look names: its name, the user whom it is bound to, the order of its last look (0 before the
 -- first), and whether it is retired
@@ -34,7 +34,7 @@ group_told book (Retire group) = None
 
 -- the groups that an act or a look names, in the order of their bytes
 abbrev pub groups_of : Book → List (List ℕ × List ℕ × ℕ × Bool)
-groups_of book = sorted_by (λ group. group.0) (filter_map (group_told book) book)
+groups_of book = sorted_by (λ group. group.0) (filter_map (group_told book) book.entries)
 
 -- each group that an entry retires is named by an act or a look, as it is in every lawful book
 abbrev pub RetiresBound : Book → Type 0

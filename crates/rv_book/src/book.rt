@@ -1,7 +1,7 @@
-ghost use Rattle.std.specs.Prelude.{◌≡◌, ◌≤◌, ◌<◌, ◌+◌, ◌^◌, [], ◌↔◌, IsTrue, option_map, IfOk, OnOk, Err, IfSome, slice_get};
+ghost use Rattle.std.specs.Prelude.{◌≡◌, ◌≤◌, ◌<◌, ◌+◌, ◌^◌, ◌↔◌, IsTrue, option_map, IfOk, OnOk, Err, IfSome, slice_get};
 ghost use Rattle.std.specs.Option.{option_map_or};
 ghost use Rattle.rv_base.specs.Sorted.{InOrder};
-ghost use Rattle.rv_book.specs.Book.{bound, entry_at, group_of, ids, last, last_order, retired, size, with_entry};
+ghost use Rattle.rv_book.specs.Book.{bound, empty_book, entry_at, group_of, ids, last, last_order, retired, size, with_entry};
 ghost use Rattle.rv_book.specs.Kept.{falls_out, kept, last_look, look_at, look_before};
 ghost use Rattle.rv_book.specs.Registers.{clients_of, groups_of, RetiresBound};
 ghost use Rattle.rv_book.specs.declared.fault.BookFault.TheVariants as BookFault;
@@ -32,21 +32,22 @@ pub struct Book {
 }
 
 impl Model for Book {
-    ghost use Rattle.std.specs.Prelude.{◌-◌, min, vec_len, vec_capacity};
-    ghost use Rattle.rv_book.specs.Recorded.{Recorded};
+    ghost use Rattle.std.specs.Prelude.{min};
+    ghost use Rattle.rv_book.specs.Book.{book_of};
+    ghost use Rattle.rv_book.specs.Recorded.{Recorded, free};
     ghost use Rattle.rv_book.specs.Indexed.{IsIndexed};
 
     ghost Value = { Recorded };
 
-    ghost view = { λ b. record { entries = b.entries.items; limit = b.limit; room = min (min (vec_capacity b.entries - vec_len b.entries) (vec_capacity b.marks - vec_len b.marks)) (min (vec_capacity b.groups - vec_len b.groups) (min (vec_capacity b.clients - vec_len b.clients) (vec_capacity b.members - vec_len b.members))) } };
+    ghost view = { λ b. record { book = book_of b.entries.items; limit = b.limit; room = min (min (free b.entries) (free b.marks)) (min (free b.groups) (min (free b.clients) (free b.members))) } };
 
-    ghost invariant = { λ b. IsIndexed b.entries.items b.limit b.marks.items b.groups.items b.clients.items b.members.items };
+    ghost invariant = { λ b. IsIndexed (book_of b.entries.items) b.limit b.marks.items b.groups.items b.clients.items b.members.items };
 }
 
 impl Book {
     /// The empty book, which takes at most so many entries.
     pub fn new(alloc: Global, limit: u32) -> Book
-        ensures entries { result.entries ≡ [] }
+        ensures book { result.book ≡ empty_book }
         ensures limit { result.limit ≡ limit }
     {
         Book {
@@ -62,8 +63,8 @@ impl Book {
 
     /// How many entries there are.
     pub fn len(&self) -> u32
-        ensures value { result ≡ size self.now.entries }
-        ensures bound { size self.now.entries ≤ self.now.limit }
+        ensures value { result ≡ size self.now.book }
+        ensures bound { size self.now.book ≤ self.now.limit }
         ensures range { self.now.limit < 2 ^ 32 }
     {
         // The limit is read so that its type's bound, which the length has by the invariant, is known here.
@@ -73,60 +74,60 @@ impl Book {
 
     /// Whether there are as many entries as there may be.
     pub fn is_full(&self) -> bool
-        ensures value { IsTrue result ↔ (size self.now.entries ≡ self.now.limit) }
-        ensures bound { size self.now.entries ≤ self.now.limit }
+        ensures value { IsTrue result ↔ (size self.now.book ≡ self.now.limit) }
+        ensures bound { size self.now.book ≤ self.now.limit }
     {
         self.len() == self.limit
     }
 
     /// The entry at a place, from 1.
     pub fn entry(&self, place: u32) -> Option<&Entry>
-        ensures { option_map (λ entry. entry.now) result ≡ entry_at place self.now.entries }
+        ensures { option_map (λ entry. entry.now) result ≡ entry_at place self.now.book }
     {
         entry_at(&self.entries, place)
     }
 
     /// The user whom a group is bound to: that of the first act or look that names it.
     pub fn bound(&self, group: &Id) -> Option<&User>
-        ensures { option_map (λ user. user.now) result ≡ bound group.now self.now.entries }
+        ensures { option_map (λ user. user.now) result ≡ bound group.now self.now.book }
     {
         groups::bound(&self.entries, &self.groups, group)
     }
 
     /// The group of a client's first act.
     pub fn group_of(&self, client: &Id) -> Option<&Id>
-        ensures { option_map (λ group. group.now) result ≡ group_of client.now self.now.entries }
+        ensures { option_map (λ group. group.now) result ≡ group_of client.now self.now.book }
     {
         clients::group_of(&self.entries, &self.clients, client)
     }
 
     /// The last mutation id of a client: the number of its acts.
     pub fn last(&self, client: &Id) -> Num
-        ensures value { result ≡ last client.now self.now.entries }
-        ensures bound { result ≤ size self.now.entries }
+        ensures value { result ≡ last client.now self.now.book }
+        ensures bound { result ≤ size self.now.book }
     {
         Num::from_u64(clients::acts(&self.entries, &self.clients, client) as u64)
     }
 
     /// The order of a group's last look, or 0.
     pub fn last_order(&self, group: &Id) -> Num
-        ensures { result ≡ last_order group.now self.now.entries }
+        ensures { result ≡ last_order group.now self.now.book }
     {
         groups::row(&self.entries, &self.groups, group).order
     }
 
     /// Whether a group is retired.
     pub fn retired(&self, group: &Id) -> bool
-        ensures { result ≡ retired group.now self.now.entries }
+        ensures { result ≡ retired group.now self.now.book }
     {
         groups::row(&self.entries, &self.groups, group).retired
     }
 
     /// All that the book tells of a group for a mutation, found by one search.
     pub fn group(&self, group: &Id) -> GroupRef<'_>
-        ensures user { option_map (λ user. user.now) result.user ≡ bound group.now self.now.entries }
-        ensures retired { result.retired ≡ retired group.now self.now.entries }
-        ensures last_order { result.last_order ≡ last_order group.now self.now.entries }
+        ensures user { option_map (λ user. user.now) result.user ≡ bound group.now self.now.book }
+        ensures retired { result.retired ≡ retired group.now self.now.book }
+        ensures last_order { result.last_order ≡ last_order group.now self.now.book }
     {
         groups::told(&self.entries, &self.groups, group)
     }
@@ -134,9 +135,9 @@ impl Book {
     /// All that the book tells of a client for a mutation, found by one search. Of a client without an act there is nothing to
     /// tell: it has no group, and its last mutation id is 0.
     pub fn client(&self, client: &Id) -> Option<ClientRef<'_>>
-        ensures group { option_map (λ told. told.group.now) result ≡ group_of client.now self.now.entries }
-        ensures last { option_map_or (λ told. told.last) result 0 ≡ last client.now self.now.entries }
-        ensures bound { IfSome result (λ told. told.last ≤ size self.now.entries) }
+        ensures group { option_map (λ told. told.group.now) result ≡ group_of client.now self.now.book }
+        ensures last { option_map_or (λ told. told.last) result 0 ≡ last client.now self.now.book }
+        ensures bound { IfSome result (λ told. told.last ≤ size self.now.book) }
     {
         clients::told(&self.entries, &self.clients, client)
     }
@@ -144,7 +145,7 @@ impl Book {
     /// The client at an index, from 0, of the clients that have an act, in the order of their bytes; `None` from their number
     /// on. It takes no memory, and the time of one look-up by index, however long the book is.
     pub fn client_at(&self, index: u32) -> Option<ClientTold<'_>>
-        ensures { option_map (λ told. (told.client.now, told.group.now, told.last)) result ≡ slice_get (clients_of self.now.entries) index }
+        ensures { option_map (λ told. (told.client.now, told.group.now, told.last)) result ≡ slice_get (clients_of self.now.book) index }
     {
         clients::told_at(&self.entries, &self.clients, index)
     }
@@ -153,15 +154,15 @@ impl Book {
     /// number on. It takes no memory, and the time of one look-up by index, however long the book is. Each group that is retired
     /// has to be named by an act or a look, as it is in every book that the machine makes.
     pub fn group_at(&self, index: u32) -> Option<GroupTold<'_>>
-        requires { RetiresBound self.now.entries }
-        ensures { option_map (λ told. (told.group.now, told.user.now, told.last_order, told.retired)) result ≡ slice_get (groups_of self.now.entries) index }
+        requires { RetiresBound self.now.book }
+        ensures { option_map (λ told. (told.group.now, told.user.now, told.last_order, told.retired)) result ≡ slice_get (groups_of self.now.book) index }
     {
         groups::told_at(&self.entries, &self.groups, index)
     }
 
     /// The clients of a group with their last mutation ids, in the order of the clients' bytes.
     pub fn clients(&self, group: &Id) -> Result<Clients, Memory>
-        ensures ids { IfOk result (λ v. v ≡ ids group.now self.now.entries) }
+        ensures ids { IfOk result (λ v. v ≡ ids group.now self.now.book) }
         ensures order { IfOk result (λ v. InOrder (λ pair. pair.0) v) }
     {
         members::of_group(self.alloc, &self.entries, &self.members, group)
@@ -169,7 +170,7 @@ impl Book {
 
     /// The look at a place.
     pub fn look(&self, place: u32) -> Option<LookRef<'_>>
-        ensures { option_map (λ look. (look.user.now, look.group.now, look.order)) result ≡ look_at place self.now.entries }
+        ensures { option_map (λ look. (look.user.now, look.group.now, look.order)) result ≡ look_at place self.now.book }
     {
         look_at(&self.entries, place)
     }
@@ -177,21 +178,21 @@ impl Book {
     /// Whether the look at a place is kept: its group is not retired, and fewer than [`KEPT_LOOKS`](crate::KEPT_LOOKS) later
     /// looks of its group stand in the book.
     pub fn kept(&self, place: u32) -> bool
-        ensures { result ≡ kept place self.now.entries }
+        ensures { result ≡ kept place self.now.book }
     {
         look::kept(&self.entries, &self.groups, &self.marks, place)
     }
 
     /// The place of a group's last look.
     pub fn last_look(&self, group: &Id) -> Option<u32>
-        ensures { result ≡ last_look group.now self.now.entries }
+        ensures { result ≡ last_look group.now self.now.book }
     {
         groups::row(&self.entries, &self.groups, group).last_look
     }
 
     /// Of the look at a place: the place of its group's look before it.
     pub fn look_before(&self, place: u32) -> Option<u32>
-        ensures { result ≡ look_before place self.now.entries }
+        ensures { result ≡ look_before place self.now.book }
     {
         look::before(&self.entries, &self.marks, place)
     }
@@ -199,18 +200,18 @@ impl Book {
     /// The place of the look that falls out with a group's next look: it is of the group and kept, and would not be kept any
     /// more if one more look of the group stood at the end of the book.
     pub fn falls_out(&self, group: &Id) -> Option<u32>
-        ensures { result ≡ falls_out group.now self.now.entries }
+        ensures { result ≡ falls_out group.now self.now.book }
     {
         look::falls_out(&self.entries, &self.groups, &self.marks, group)
     }
 
     /// Makes room for one more entry, and for what is looked up by it.
     pub fn reserve(&mut self, _entry: &Entry) -> Result<(), BookFault>
-        ensures entries { self.new.entries ≡ self.old.entries }
+        ensures book { self.new.book ≡ self.old.book }
         ensures limit { self.new.limit ≡ self.old.limit }
         ensures room { self.old.room ≤ self.new.room }
-        ensures ok { OnOk result ((1 ≤ self.new.room) × (size self.old.entries < self.old.limit)) }
-        ensures full { (result ≡ Err BookFault.Full) ↔ (size self.old.entries ≡ self.old.limit) }
+        ensures ok { OnOk result ((1 ≤ self.new.room) × (size self.old.book < self.old.limit)) }
+        ensures full { (result ≡ Err BookFault.Full) ↔ (size self.old.book ≡ self.old.limit) }
     {
         if self.is_full() {
             return Err(BookFault::Full);
@@ -226,8 +227,8 @@ impl Book {
     /// Enters an entry at the next place. It can't fail, and takes no memory.
     pub fn push_entry(&mut self, entry: Entry)
         requires room { 1 ≤ self.old.room }
-        requires limit { size self.old.entries < self.old.limit }
-        ensures entries { self.new.entries ≡ with_entry self.old.entries entry }
+        requires limit { size self.old.book < self.old.limit }
+        ensures book { self.new.book ≡ with_entry self.old.book entry }
         ensures limit { self.new.limit ≡ self.old.limit }
         ensures room { self.old.room ≤ self.new.room + 1 }
     {

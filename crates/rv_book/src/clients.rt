@@ -2,7 +2,8 @@ ghost use Rattle.std.specs.Prelude.{◌≡◌, true, ◌≤◌, ◌<◌, ◌+◌
 ghost use Rattle.std.specs.Option.{option_map_or};
 ghost use Rattle.rv_base.specs.Sorted.{Settles};
 ghost use Rattle.rv_book.specs.declared.entry.Entry.{Entry};
-ghost use Rattle.rv_book.specs.Book.{group_of, is_act_of, last, size, with_entry};
+ghost use Rattle.rv_book.specs.Entries.{is_act_of};
+ghost use Rattle.rv_book.specs.Book.{book_of, group_of, last, with_entry};
 ghost use Rattle.rv_book.specs.Indexes.{acted_in, AreClientRows, client_of_row, client_row, first_where, told_by_client};
 ghost use Rattle.rv_book.specs.Registers.{clients_of};
 
@@ -39,7 +40,7 @@ pub(crate) struct ClientRow {
 // The client of a row, and an empty text where the row names no act.
 #[tactic(auto, unfolding(crate::specs::Indexes::client_of_row))]
 pub(crate) fn key<'b>(entries: &'b [Entry], row: &ClientRow) -> &'b str
-    ensures { result.now ≡ client_of_row entries.now row.now }
+    ensures { result.now ≡ client_of_row (book_of entries.now) row.now }
 {
     match entries.get(row.first as usize) {
         Some(Entry::Act { client, .. }) => client.as_str(),
@@ -51,17 +52,17 @@ pub(crate) fn key<'b>(entries: &'b [Entry], row: &ClientRow) -> &'b str
 
 // Where the row of a client stands, or where it would go.
 fn place(entries: &[Entry], rows: &[ClientRow], client: &Id) -> Result<usize, usize>
-    requires { AreClientRows entries.now rows.now }
-    ensures now { Settles (client_of_row entries.now) client.now rows.now result }
-    ensures next { (entry : Entry) → Settles (client_of_row (with_entry entries.now entry)) client.now rows.now result }
+    requires { AreClientRows (book_of entries.now) rows.now }
+    ensures now { Settles (client_of_row (book_of entries.now)) client.now rows.now result }
+    ensures next { (entry : Entry) → Settles (client_of_row (with_entry (book_of entries.now) entry)) client.now rows.now result }
 {
     rows.binary_search_by(|row| key(entries, row).cmp(client.as_str()))
 }
 
 // The row of a client, where it has an act.
 fn find(entries: &[Entry], rows: &[ClientRow], client: &Id) -> Option<ClientRow>
-    requires { AreClientRows entries.now rows.now }
-    ensures { result ≡ client_row entries.now client.now }
+    requires { AreClientRows (book_of entries.now) rows.now }
+    ensures { result ≡ client_row (book_of entries.now) client.now }
 {
     match place(entries, rows, client) {
         Ok(at) => Some(rows[at]),
@@ -71,7 +72,7 @@ fn find(entries: &[Entry], rows: &[ClientRow], client: &Id) -> Option<ClientRow>
 
 // The index of a client's first act.
 fn first(entries: &[Entry], rows: &[ClientRow], client: &Id) -> Option<u32>
-    requires { AreClientRows entries.now rows.now }
+    requires { AreClientRows (book_of entries.now) rows.now }
     ensures { result ≡ first_where (is_act_of client.now) entries.now }
 {
     match find(entries, rows, client) {
@@ -93,8 +94,8 @@ fn group_at(entries: &[Entry], index: u32) -> Option<&Id>
 
 // The group of a client's first act.
 pub(crate) fn group_of<'b>(entries: &'b [Entry], rows: &[ClientRow], client: &Id) -> Option<&'b Id>
-    requires { AreClientRows entries.now rows.now }
-    ensures { option_map (λ group. group.now) result ≡ group_of client.now entries.now }
+    requires { AreClientRows (book_of entries.now) rows.now }
+    ensures { option_map (λ group. group.now) result ≡ group_of client.now (book_of entries.now) }
 {
     match first(entries, rows, client) {
         Some(index) => group_at(entries, index),
@@ -104,9 +105,9 @@ pub(crate) fn group_of<'b>(entries: &'b [Entry], rows: &[ClientRow], client: &Id
 
 // The number of a client's acts.
 pub(crate) fn acts(entries: &[Entry], rows: &[ClientRow], client: &Id) -> u32
-    requires { AreClientRows entries.now rows.now }
-    ensures value { result ≡ last client.now entries.now }
-    ensures bound { result ≤ size entries.now }
+    requires { AreClientRows (book_of entries.now) rows.now }
+    ensures value { result ≡ last client.now (book_of entries.now) }
+    ensures bound { result ≤ length entries.now }
 {
     match find(entries, rows, client) {
         Some(row) => row.acts,
@@ -120,10 +121,10 @@ pub(crate) fn told<'b>(
     rows: &[ClientRow],
     client: &Id,
 ) -> Option<ClientRef<'b>>
-    requires { AreClientRows entries.now rows.now }
-    ensures group { option_map (λ told. told.group.now) result ≡ group_of client.now entries.now }
-    ensures last { option_map_or (λ told. told.last) result 0 ≡ last client.now entries.now }
-    ensures bound { IfSome result (λ told. told.last ≤ size entries.now) }
+    requires { AreClientRows (book_of entries.now) rows.now }
+    ensures group { option_map (λ told. told.group.now) result ≡ group_of client.now (book_of entries.now) }
+    ensures last { option_map_or (λ told. told.last) result 0 ≡ last client.now (book_of entries.now) }
+    ensures bound { IfSome result (λ told. told.last ≤ length entries.now) }
 {
     match find(entries, rows, client) {
         Some(row) => match group_at(entries, row.first) {
@@ -139,7 +140,7 @@ pub(crate) fn told<'b>(
 
 // What a row tells of its client, by the act that it names.
 fn told_by<'b>(entries: &'b [Entry], row: &ClientRow) -> Option<ClientTold<'b>>
-    ensures { option_map (λ told. (told.client.now, told.group.now, told.last)) result ≡ told_by_client entries.now row.now }
+    ensures { option_map (λ told. (told.client.now, told.group.now, told.last)) result ≡ told_by_client (book_of entries.now) row.now }
 {
     match entries.get(row.first as usize)? {
         Entry::Act { client, group, .. } => Some(ClientTold {
@@ -158,18 +159,18 @@ pub(crate) fn told_at<'b>(
     rows: &[ClientRow],
     index: u32,
 ) -> Option<ClientTold<'b>>
-    requires { AreClientRows entries.now rows.now }
-    ensures { option_map (λ told. (told.client.now, told.group.now, told.last)) result ≡ slice_get (clients_of entries.now) index }
+    requires { AreClientRows (book_of entries.now) rows.now }
+    ensures { option_map (λ told. (told.client.now, told.group.now, told.last)) result ≡ slice_get (clients_of (book_of entries.now)) index }
 {
     told_by(entries, rows.get(index as usize)?)
 }
 
 // Enters an act of a client, which follows the entries.
 fn enter_act(entries: &[Entry], rows: &mut Vec<ClientRow>, client: &Id)
-    requires rows { AreClientRows entries.now rows.old.items }
+    requires rows { AreClientRows (book_of entries.now) rows.old.items }
     requires room { 1 ≤ vec_capacity rows.old - vec_len rows.old }
-    requires length { size entries.now + 1 < 2 ^ 32 }
-    ensures rows { (entry : Entry) → is_act_of client.now entry ≡ true → AreClientRows (with_entry entries.now entry) rows.new.items }
+    requires length { length entries.now + 1 < 2 ^ 32 }
+    ensures rows { (entry : Entry) → is_act_of client.now entry ≡ true → AreClientRows (with_entry (book_of entries.now) entry) rows.new.items }
     ensures room { vec_capacity rows.old - vec_len rows.old ≤ (vec_capacity rows.new - vec_len rows.new) + 1 }
 {
     match place(entries, rows, client) {
@@ -189,10 +190,10 @@ fn enter_act(entries: &[Entry], rows: &mut Vec<ClientRow>, client: &Id)
 
 // Enters an entry, which follows the others.
 pub(crate) fn enter(entries: &[Entry], rows: &mut Vec<ClientRow>, entry: &Entry)
-    requires rows { AreClientRows entries.now rows.old.items }
+    requires rows { AreClientRows (book_of entries.now) rows.old.items }
     requires room { 1 ≤ vec_capacity rows.old - vec_len rows.old }
-    requires length { size entries.now + 1 < 2 ^ 32 }
-    ensures rows { AreClientRows (with_entry entries.now entry.now) rows.new.items }
+    requires length { length entries.now + 1 < 2 ^ 32 }
+    ensures rows { AreClientRows (with_entry (book_of entries.now) entry.now) rows.new.items }
     ensures room { vec_capacity rows.old - vec_len rows.old ≤ (vec_capacity rows.new - vec_len rows.new) + 1 }
 {
     match entry {

@@ -1,5 +1,5 @@
 ghost use Rattle.std.specs.Prelude.{◌≡◌, IfOk, option_map};
-ghost use Rattle.rv_book.specs.Book.{entry_at};
+ghost use Rattle.rv_book.specs.Book.{book_of, entry_at};
 
 use rv_base::{Id, Memory, Num, User};
 use rv_rows::Call;
@@ -78,7 +78,7 @@ impl Entry {
 
 // The entry at a place, from 1.
 pub(crate) fn entry_at(entries: &[Entry], place: u32) -> Option<&Entry>
-    ensures { option_map (λ entry. entry.now) result ≡ entry_at place entries.now }
+    ensures { option_map (λ entry. entry.now) result ≡ entry_at place (book_of entries.now) }
 {
     if place == 0 {
         return None;

@@ -1,7 +1,7 @@
 ghost use Rattle.std.specs.Prelude.{◌≡◌, ◌≤◌, ◌<◌, ◌+◌, ◌-◌, ◌^◌, length, count_by, option_map, option_and_then, slice_get, vec_len, vec_capacity};
 ghost use Rattle.rv_base.specs.Sorted.{Settles};
 ghost use Rattle.rv_book.specs.declared.entry.Entry.{Entry};
-ghost use Rattle.rv_book.specs.Book.{bound, last_order, retired, size, with_entry};
+ghost use Rattle.rv_book.specs.Book.{book_of, bound, last_order, retired, with_entry};
 ghost use Rattle.rv_book.specs.Kept.{is_look_of, last_look};
 ghost use Rattle.rv_book.specs.Indexes.{AreGroupRows, binds, first_where, group_of_row, group_row, named_in, new_row, row_after, told_by_group, user_of, user_of_row};
 ghost use Rattle.rv_book.specs.Registers.{groups_of, RetiresBound};
@@ -98,7 +98,7 @@ fn named(entry: &Entry) -> &Id
 // The group of a row, and an empty text where the row names no entry.
 #[tactic(auto, unfolding(crate::specs::Indexes::group_of_row))]
 fn key<'b>(entries: &'b [Entry], row: &GroupRow) -> &'b str
-    ensures { result.now ≡ group_of_row entries.now row.now }
+    ensures { result.now ≡ group_of_row (book_of entries.now) row.now }
 {
     match entries.get(row.named as usize) {
         Some(entry) => named(entry).as_str(),
@@ -108,17 +108,17 @@ fn key<'b>(entries: &'b [Entry], row: &GroupRow) -> &'b str
 
 // Where the row of a group stands, or where it would go.
 fn place(entries: &[Entry], rows: &[GroupRow], group: &Id) -> Result<usize, usize>
-    requires { AreGroupRows entries.now rows.now }
-    ensures now { Settles (group_of_row entries.now) group.now rows.now result }
-    ensures next { (entry : Entry) → Settles (group_of_row (with_entry entries.now entry)) group.now rows.now result }
+    requires { AreGroupRows (book_of entries.now) rows.now }
+    ensures now { Settles (group_of_row (book_of entries.now)) group.now rows.now result }
+    ensures next { (entry : Entry) → Settles (group_of_row (with_entry (book_of entries.now) entry)) group.now rows.now result }
 {
     rows.binary_search_by(|row| key(entries, row).cmp(group.as_str()))
 }
 
 // The row of a group, where an entry names it.
 fn find(entries: &[Entry], rows: &[GroupRow], group: &Id) -> Option<GroupRow>
-    requires { AreGroupRows entries.now rows.now }
-    ensures { result ≡ group_row entries.now group.now }
+    requires { AreGroupRows (book_of entries.now) rows.now }
+    ensures { result ≡ group_row (book_of entries.now) group.now }
 {
     match place(entries, rows, group) {
         Ok(at) => Some(rows[at]),
@@ -128,13 +128,13 @@ fn find(entries: &[Entry], rows: &[GroupRow], group: &Id) -> Option<GroupRow>
 
 // The row of a group, and that of a group without an entry where none names it.
 pub(crate) fn row(entries: &[Entry], rows: &[GroupRow], group: &Id) -> GroupRow
-    requires { AreGroupRows entries.now rows.now }
+    requires { AreGroupRows (book_of entries.now) rows.now }
     ensures bound { result.bound ≡ first_where (binds group.now) entries.now }
-    ensures order { result.order ≡ last_order group.now entries.now }
+    ensures order { result.order ≡ last_order group.now (book_of entries.now) }
     ensures looks { result.looks ≡ count_by (is_look_of group.now) entries.now }
-    ensures last_look { result.last_look ≡ last_look group.now entries.now }
-    ensures retired { result.retired ≡ retired group.now entries.now }
-    ensures looks_bound { result.looks ≤ size entries.now }
+    ensures last_look { result.last_look ≡ last_look group.now (book_of entries.now) }
+    ensures retired { result.retired ≡ retired group.now (book_of entries.now) }
+    ensures looks_bound { result.looks ≤ length entries.now }
 {
     match find(entries, rows, group) {
         Some(row) => row,
@@ -155,7 +155,7 @@ fn user_at(entries: &[Entry], index: u32) -> Option<&User>
 
 // The user whom the group of a row is bound to.
 fn user_of<'b>(entries: &'b [Entry], row: &GroupRow) -> Option<&'b User>
-    ensures { option_map (λ user. user.now) result ≡ user_of_row entries.now row.now }
+    ensures { option_map (λ user. user.now) result ≡ user_of_row (book_of entries.now) row.now }
 {
     match row.bound {
         Some(index) => user_at(entries, index),
@@ -165,18 +165,18 @@ fn user_of<'b>(entries: &'b [Entry], row: &GroupRow) -> Option<&'b User>
 
 // The user whom a group is bound to.
 pub(crate) fn bound<'b>(entries: &'b [Entry], rows: &[GroupRow], group: &Id) -> Option<&'b User>
-    requires { AreGroupRows entries.now rows.now }
-    ensures { option_map (λ user. user.now) result ≡ bound group.now entries.now }
+    requires { AreGroupRows (book_of entries.now) rows.now }
+    ensures { option_map (λ user. user.now) result ≡ bound group.now (book_of entries.now) }
 {
     told(entries, rows, group).user
 }
 
 // What is told of a group.
 pub(crate) fn told<'b>(entries: &'b [Entry], rows: &[GroupRow], group: &Id) -> GroupRef<'b>
-    requires { AreGroupRows entries.now rows.now }
-    ensures user { option_map (λ user. user.now) result.user ≡ bound group.now entries.now }
-    ensures retired { result.retired ≡ retired group.now entries.now }
-    ensures last_order { result.last_order ≡ last_order group.now entries.now }
+    requires { AreGroupRows (book_of entries.now) rows.now }
+    ensures user { option_map (λ user. user.now) result.user ≡ bound group.now (book_of entries.now) }
+    ensures retired { result.retired ≡ retired group.now (book_of entries.now) }
+    ensures last_order { result.last_order ≡ last_order group.now (book_of entries.now) }
 {
     let row = row(entries, rows, group);
     GroupRef {
@@ -188,7 +188,7 @@ pub(crate) fn told<'b>(entries: &'b [Entry], rows: &[GroupRow], group: &Id) -> G
 
 // What a row tells of its group, by the entry that it names, where the group is bound.
 fn told_by<'b>(entries: &'b [Entry], row: &GroupRow) -> Option<GroupTold<'b>>
-    ensures { option_map (λ told. (told.group.now, told.user.now, told.last_order, told.retired)) result ≡ told_by_group entries.now row.now }
+    ensures { option_map (λ told. (told.group.now, told.user.now, told.last_order, told.retired)) result ≡ told_by_group (book_of entries.now) row.now }
 {
     let entry = entries.get(row.named as usize)?;
     let user = user_of(entries, row)?;
@@ -206,19 +206,19 @@ pub(crate) fn told_at<'b>(
     rows: &[GroupRow],
     index: u32,
 ) -> Option<GroupTold<'b>>
-    requires rows { AreGroupRows entries.now rows.now }
-    requires bound { RetiresBound entries.now }
-    ensures { option_map (λ told. (told.group.now, told.user.now, told.last_order, told.retired)) result ≡ slice_get (groups_of entries.now) index }
+    requires rows { AreGroupRows (book_of entries.now) rows.now }
+    requires bound { RetiresBound (book_of entries.now) }
+    ensures { option_map (λ told. (told.group.now, told.user.now, told.last_order, told.retired)) result ≡ slice_get (groups_of (book_of entries.now)) index }
 {
     told_by(entries, rows.get(index as usize)?)
 }
 
 // Enters an entry, which follows the others.
 pub(crate) fn enter(entries: &[Entry], rows: &mut Vec<GroupRow>, entry: &Entry)
-    requires rows { AreGroupRows entries.now rows.old.items }
+    requires rows { AreGroupRows (book_of entries.now) rows.old.items }
     requires room { 1 ≤ vec_capacity rows.old - vec_len rows.old }
-    requires length { size entries.now + 1 < 2 ^ 32 }
-    ensures rows { AreGroupRows (with_entry entries.now entry.now) rows.new.items }
+    requires length { length entries.now + 1 < 2 ^ 32 }
+    ensures rows { AreGroupRows (with_entry (book_of entries.now) entry.now) rows.new.items }
     ensures room { vec_capacity rows.old - vec_len rows.old ≤ (vec_capacity rows.new - vec_len rows.new) + 1 }
 {
     let index = entries.len() as u32;

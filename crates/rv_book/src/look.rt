@@ -1,5 +1,5 @@
 ghost use Rattle.std.specs.Prelude.{◌≡◌, ◌<◌, ◌+◌, ◌^◌, length, option_map};
-ghost use Rattle.rv_book.specs.Book.{size, with_entry};
+ghost use Rattle.rv_book.specs.Book.{book_of, with_entry};
 ghost use Rattle.rv_book.specs.Kept.{falls_out, kept, look_at, look_before};
 ghost use Rattle.rv_book.specs.Indexes.{AreGroupRows, AreMarks, mark_at};
 
@@ -24,7 +24,7 @@ pub struct LookRef<'a> {
 
 // The look at a place.
 pub(crate) fn look_at(entries: &[Entry], place: u32) -> Option<LookRef<'_>>
-    ensures { option_map (λ look. (look.user.now, look.group.now, look.order)) result ≡ look_at place entries.now }
+    ensures { option_map (λ look. (look.user.now, look.group.now, look.order)) result ≡ look_at place (book_of entries.now) }
 {
     match entry_at(entries, place)? {
         Entry::Act { .. } => None,
@@ -51,9 +51,9 @@ pub(crate) struct LookMark {
 
 // The mark of an entry that follows the entries.
 pub(crate) fn mark(entries: &[Entry], groups: &[GroupRow], entry: &Entry) -> LookMark
-    requires groups { AreGroupRows entries.now groups.now }
-    requires length { size entries.now + 1 < 2 ^ 32 }
-    ensures { result ≡ mark_at (size entries.now) (with_entry entries.now entry.now) }
+    requires groups { AreGroupRows (book_of entries.now) groups.now }
+    requires length { length entries.now + 1 < 2 ^ 32 }
+    ensures { result ≡ mark_at (length entries.now) (with_entry (book_of entries.now) entry.now) }
 {
     match entry {
         Entry::Act { .. } => LookMark {
@@ -76,9 +76,9 @@ pub(crate) fn mark(entries: &[Entry], groups: &[GroupRow], entry: &Entry) -> Loo
 
 // Whether the look at a place is kept.
 pub(crate) fn kept(entries: &[Entry], groups: &[GroupRow], marks: &[LookMark], place: u32) -> bool
-    requires groups { AreGroupRows entries.now groups.now }
-    requires marks { AreMarks entries.now marks.now }
-    ensures { result ≡ kept place entries.now }
+    requires groups { AreGroupRows (book_of entries.now) groups.now }
+    requires marks { AreMarks (book_of entries.now) marks.now }
+    ensures { result ≡ kept place (book_of entries.now) }
 {
     match look_at(entries, place) {
         Some(look) => {
@@ -92,8 +92,8 @@ pub(crate) fn kept(entries: &[Entry], groups: &[GroupRow], marks: &[LookMark], p
 
 // Of the look at a place: the place of its group's look before it.
 pub(crate) fn before(entries: &[Entry], marks: &[LookMark], place: u32) -> Option<u32>
-    requires { AreMarks entries.now marks.now }
-    ensures { result ≡ look_before place entries.now }
+    requires { AreMarks (book_of entries.now) marks.now }
+    ensures { result ≡ look_before place (book_of entries.now) }
 {
     if place == 0 || place as usize > entries.len() {
         return None;
@@ -108,9 +108,9 @@ pub(crate) fn falls_out(
     marks: &[LookMark],
     group: &Id,
 ) -> Option<u32>
-    requires groups { AreGroupRows entries.now groups.now }
-    requires marks { AreMarks entries.now marks.now }
-    ensures { result ≡ falls_out group.now entries.now }
+    requires groups { AreGroupRows (book_of entries.now) groups.now }
+    requires marks { AreMarks (book_of entries.now) marks.now }
+    ensures { result ≡ falls_out group.now (book_of entries.now) }
 {
     let row = groups::row(entries, groups, group);
     if row.retired {

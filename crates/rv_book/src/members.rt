@@ -1,12 +1,13 @@
 // The clients of each group: the rows of the clients in the order of the groups of their first acts, and then of the clients.
-ghost use Rattle.std.specs.Prelude.{◌≡◌, true, ◌≤◌, ◌<◌, ◌+◌, ◌-◌, ◌^◌, ◌++◌, Some, [], option_map, IfOk, OnOk, vec_len, vec_capacity};
+ghost use Rattle.std.specs.Prelude.{◌≡◌, true, ◌≤◌, ◌<◌, ◌+◌, ◌-◌, ◌^◌, ◌++◌, length, Some, [], option_map, IfOk, OnOk, vec_len, vec_capacity};
 ghost use Rattle.std.specs.List.{cons_option, filter};
 ghost use Rattle.std.specs.Option.{option_or};
 ghost use Rattle.std.specs.Cmp.Lexicographic.{slice_cmp};
 ghost use Rattle.std.specs.Ordering.{nat_cmp};
 ghost use Rattle.rv_base.specs.Sorted.{InOrder, Settles};
 ghost use Rattle.rv_book.specs.declared.entry.Entry.{Entry};
-ghost use Rattle.rv_book.specs.Book.{group_of, ids, is_act_of, size, with_entry};
+ghost use Rattle.rv_book.specs.Entries.{is_act_of};
+ghost use Rattle.rv_book.specs.Book.{book_of, group_of, ids, with_entry};
 ghost use Rattle.rv_book.specs.Indexes.{AreClientRows};
 ghost use Rattle.rv_book.specs.Members.{AreMemberRows, group_of_member, is_member, key_of_member, member_key, told_by};
 
@@ -21,7 +22,7 @@ use std::cmp::Ordering;
 // The group of a row: that of the act that it names, and an empty text where it names no act.
 #[tactic(auto, unfolding(crate::specs::Members::group_of_member))]
 fn group<'b>(entries: &'b [Entry], row: &ClientRow) -> &'b str
-    ensures { result.now ≡ group_of_member entries.now row.now }
+    ensures { result.now ≡ group_of_member (book_of entries.now) row.now }
 {
     match entries.get(row.first as usize) {
         Some(Entry::Act { group, .. }) => group.as_str(),
@@ -33,7 +34,7 @@ fn group<'b>(entries: &'b [Entry], row: &ClientRow) -> &'b str
 
 // How a row stands to a client of a group.
 fn compare(entries: &[Entry], row: &ClientRow, other: &Id, client: &Id) -> Ordering
-    ensures { result ≡ slice_cmp nat_cmp (key_of_member entries.now row.now) (member_key other.now client.now) }
+    ensures { result ≡ slice_cmp nat_cmp (key_of_member (book_of entries.now) row.now) (member_key other.now client.now) }
 {
     match group(entries, row).cmp(other.as_str()) {
         Ordering::Less => Ordering::Less,
@@ -44,17 +45,17 @@ fn compare(entries: &[Entry], row: &ClientRow, other: &Id, client: &Id) -> Order
 
 // Where the row of a client of a group stands, or where it would go.
 fn place(entries: &[Entry], rows: &[ClientRow], group: &Id, client: &Id) -> Result<usize, usize>
-    requires { AreMemberRows entries.now rows.now }
-    ensures now { Settles (key_of_member entries.now) (member_key group.now client.now) rows.now result }
-    ensures next { (entry : Entry) → Settles (key_of_member (with_entry entries.now entry)) (member_key group.now client.now) rows.now result }
+    requires { AreMemberRows (book_of entries.now) rows.now }
+    ensures now { Settles (key_of_member (book_of entries.now)) (member_key group.now client.now) rows.now result }
+    ensures next { (entry : Entry) → Settles (key_of_member (with_entry (book_of entries.now) entry)) (member_key group.now client.now) rows.now result }
 {
     rows.binary_search_by(|row| compare(entries, row, group, client))
 }
 
 // The rows of a group, found by two searches.
 fn of<'r>(entries: &[Entry], rows: &'r [ClientRow], other: &Id) -> &'r [ClientRow]
-    requires { AreMemberRows entries.now rows.now }
-    ensures { result.now ≡ filter (is_member other.now entries.now) rows.now }
+    requires { AreMemberRows (book_of entries.now) rows.now }
+    ensures { result.now ≡ filter (is_member other.now (book_of entries.now)) rows.now }
 {
     let from = rows.partition_point(|row| group(entries, row).cmp(other.as_str()).is_lt());
     let rest = &rows[from..];
@@ -64,7 +65,7 @@ fn of<'r>(entries: &[Entry], rows: &'r [ClientRow], other: &Id) -> &'r [ClientRo
 
 // The client of a row, with its last mutation id.
 fn told<'b>(entries: &'b [Entry], row: &ClientRow) -> Option<(&'b Id, Num)>
-    ensures { option_map (λ pair. (pair.0.now, pair.1)) result ≡ told_by entries.now row.now }
+    ensures { option_map (λ pair. (pair.0.now, pair.1)) result ≡ told_by (book_of entries.now) row.now }
 {
     match entries.get(row.first as usize)? {
         Entry::Act { client, .. } => Some((client, Num::from_u64(row.acts as u64))),
@@ -80,7 +81,7 @@ fn add(
     entries: &[Entry],
     row: &ClientRow,
 ) -> Result<(), Memory>
-    ensures { OnOk result (clients.new.items ≡ clients.old.items ++ cons_option (told_by entries.now row.now) []) }
+    ensures { OnOk result (clients.new.items ≡ clients.old.items ++ cons_option (told_by (book_of entries.now) row.now) []) }
 {
     match told(entries, row) {
         Some((client, last)) => {
@@ -98,8 +99,8 @@ pub(crate) fn of_group(
     rows: &[ClientRow],
     group: &Id,
 ) -> Result<Clients, Memory>
-    requires { AreMemberRows entries.now rows.now }
-    ensures ids { IfOk result (λ v. v ≡ ids group.now entries.now) }
+    requires { AreMemberRows (book_of entries.now) rows.now }
+    ensures ids { IfOk result (λ v. v ≡ ids group.now (book_of entries.now)) }
     ensures order { IfOk result (λ v. InOrder (λ pair. pair.0) v) }
 {
     let members = of(entries, rows, group);
@@ -112,8 +113,8 @@ pub(crate) fn of_group(
 
 // The group that a client is of, where it acts in one.
 fn group_with<'b>(entries: &'b [Entry], rows: &[ClientRow], group: &'b Id, client: &Id) -> &'b Id
-    requires { AreClientRows entries.now rows.now }
-    ensures { Some result.now ≡ option_or (group_of client.now entries.now) (Some group.now) }
+    requires { AreClientRows (book_of entries.now) rows.now }
+    ensures { Some result.now ≡ option_or (group_of client.now (book_of entries.now)) (Some group.now) }
 {
     match clients::group_of(entries, rows, client) {
         Some(first) => first,
@@ -123,10 +124,10 @@ fn group_with<'b>(entries: &'b [Entry], rows: &[ClientRow], group: &'b Id, clien
 
 // Enters an act of a client of a group, which follows the entries.
 fn enter_act(entries: &[Entry], rows: &mut Vec<ClientRow>, group: &Id, client: &Id)
-    requires rows { AreMemberRows entries.now rows.old.items }
+    requires rows { AreMemberRows (book_of entries.now) rows.old.items }
     requires room { 1 ≤ vec_capacity rows.old - vec_len rows.old }
-    requires length { size entries.now + 1 < 2 ^ 32 }
-    ensures rows { (entry : Entry) → is_act_of client.now entry ≡ true → group_of client.now (with_entry entries.now entry) ≡ Some group.now → AreMemberRows (with_entry entries.now entry) rows.new.items }
+    requires length { length entries.now + 1 < 2 ^ 32 }
+    ensures rows { (entry : Entry) → is_act_of client.now entry ≡ true → group_of client.now (with_entry (book_of entries.now) entry) ≡ Some group.now → AreMemberRows (with_entry (book_of entries.now) entry) rows.new.items }
     ensures room { vec_capacity rows.old - vec_len rows.old ≤ (vec_capacity rows.new - vec_len rows.new) + 1 }
 {
     match place(entries, rows, group, client) {
@@ -151,11 +152,11 @@ pub(crate) fn enter(
     rows: &mut Vec<ClientRow>,
     entry: &Entry,
 )
-    requires clients { AreClientRows entries.now clients.now }
-    requires rows { AreMemberRows entries.now rows.old.items }
+    requires clients { AreClientRows (book_of entries.now) clients.now }
+    requires rows { AreMemberRows (book_of entries.now) rows.old.items }
     requires room { 1 ≤ vec_capacity rows.old - vec_len rows.old }
-    requires length { size entries.now + 1 < 2 ^ 32 }
-    ensures rows { AreMemberRows (with_entry entries.now entry.now) rows.new.items }
+    requires length { length entries.now + 1 < 2 ^ 32 }
+    ensures rows { AreMemberRows (with_entry (book_of entries.now) entry.now) rows.new.items }
     ensures room { vec_capacity rows.old - vec_len rows.old ≤ (vec_capacity rows.new - vec_len rows.new) + 1 }
 {
     match entry {

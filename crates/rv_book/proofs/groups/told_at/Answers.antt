@@ -3,13 +3,14 @@ use Rattle.std.specs.List.{slice_get}
 use Rattle.std.specs.Option.{option_map, option_and_then}
 use Rattle.std.proofs.lemmas.Option.{slice_get-get_or, slice_get_past}
 use Rattle.rv_book.specs.declared.groups.GroupTold.{GroupTold}
+use Rattle.rv_book.specs.Book.{book_of}
 use Rattle.rv_book.specs.Indexes.{told_by_group}
 use Rattle.rv_book.proofs.ToldLaws.{group-at}
 use Rattle.rv_book.proofs.groups.told_at.Goals as goal
 
 pub returns-in_err-get : goal.returns-in_err-get
 returns-in_err-get c =
-    let book = c.args.entries.now in
+    let book = book_of c.args.entries.now in
     let rows = c.args.rows.now in
     let none : slice_get rows c.args.index ≡ None = slice_get_past rows c.args.index (omega (arith, c.in_err-get.ensures.lookup)) in
     ap (option_map (λ (told : GroupTold). (told.group.now, told.user.now, told.last_order, told.retired))) c.from_residual.ensures
@@ -18,7 +19,7 @@ returns-in_err-get c =
 
 pub returns : goal.returns
 returns c =
-    let book = c.args.entries.now in
+    let book = book_of c.args.entries.now in
     let rows = c.args.rows.now in
     let row = c.in_ok-get.field-0.now in
     let there : slice_get rows c.args.index ≡ Some row = slice_get-get_or rows c.args.index row (omega (arith, c.in_ok-get.ensures.lookup)) ∙ ap Some (sym c.in_ok-get.ensures.lookup.1) in

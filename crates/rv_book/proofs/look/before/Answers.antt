@@ -1,5 +1,5 @@
 use Rattle.std.proofs.Common.{ap, sym, ℕ, None, arith}
-use Rattle.rv_book.specs.Book.{entry_at}
+use Rattle.rv_book.specs.Book.{entry_at, book_of}
 use Rattle.rv_book.specs.BookWords.{entry_at-past}
 use Rattle.rv_book.proofs.MarkLaws.{before_read, none_before}
 use Rattle.rv_book.proofs.look.before.Goals as goal
@@ -7,11 +7,11 @@ use Rattle.rv_book.proofs.look.before.Goals.{then-place-eq0-via-then-place-eq0, 
 
 pub returns-then-place-eq0 : goal.returns-then-place-eq0
 returns-then-place-eq0 c =
-    let book = c.args.entries.now in
+    let book = book_of c.args.entries.now in
     elim c.then-place-eq0.branch [
       | then-place-eq0-via-then-place-eq0 w ↦ sym (none_before book c.args.place (ap (λ (n : ℕ). entry_at n book) w.if-place-eq0.true))
       | then-place-eq0-via-else-place-eq0+then-place-entries w ↦ sym (none_before book c.args.place (entry_at-past c.args.place book w.if-place-entries.true))
     ]
 
 pub returns : goal.returns
-returns c = before_read c.args.entries.now c.args.marks.now c.args.place (record { number = 0; before = None }) (omega arith) c.if-place-entries.false c.requires
+returns c = before_read (book_of c.args.entries.now) c.args.marks.now c.args.place (record { number = 0; before = None }) (omega arith) c.if-place-entries.false c.requires

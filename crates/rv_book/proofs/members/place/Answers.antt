@@ -3,7 +3,7 @@ use Rattle.std.specs.Ordering.{nat_cmp}
 use Rattle.std.specs.Cmp.Lexicographic.{slice_cmp}
 use Rattle.std.proofs.lemmas.Fn.{always_returns_same}
 use Rattle.rv_base.specs.Places.{settles}
-use Rattle.rv_book.specs.Book.{size, with_entry}
+use Rattle.rv_book.specs.Book.{size, with_entry, book_of}
 use Rattle.rv_book.specs.declared.clients.ClientRow.{ClientRow}
 use Rattle.rv_book.specs.Members.{member_key, key_of_member}
 use Rattle.rv_book.proofs.IndexLaws.{settles-alike, all_alike}
@@ -12,14 +12,14 @@ use Rattle.rv_book.proofs.members.place.Goals as goal
 
 pub returns-clause-now : goal.returns-clause-now
 returns-clause-now c =
-    let book = c.args.entries.now in
+    let book = book_of c.args.entries.now in
     let k = member_key c.args.group.now c.args.client.now in
     let facts = c.binary_search_by.ensures in
     settles (key_of_member book) k c.args.rows.now _ c.requires.order facts.bound (facts.position (λ y. slice_cmp nat_cmp (key_of_member book y) k) (always_returns_same _ _ _ (λ a r f called. search rules)))
 
 pub returns-clause-next : goal.returns-clause-next
 returns-clause-next c = λ entry.
-    let book = c.args.entries.now in
+    let book = book_of c.args.entries.now in
     let k = member_key c.args.group.now c.args.client.now in
     let rows = c.args.rows.now in
     let facts = c.binary_search_by.ensures in
