@@ -53,16 +53,13 @@ up_to-with_entries place book more le = ap book_of (take-append-le place book.en
 pub since-with_entries : (place : ℕ) (book : Book) (more : List Entry) → place ≤ size book → since place (with_entries book more) ≡ since place book ++ more
 since-with_entries place book more le = drop-append-le place book.entries more le
 
--- a book goes on from itself, from what that goes on from which it goes on from, and with one more entry
-pub extends_same : (book : Book) → Extends book book
-extends_same book = ([], sym (with_entries-none book))
+-- a book goes on from itself, and from what a book that it goes on from goes on from
+pub extends_same : (new old : Book) → new ≡ old → Extends new old
+extends_same new old same = ([], same ∙ sym (with_entries-none old))
 
 pub extends_on : (new middle old : Book) → Extends new middle → Extends middle old → Extends new old
 extends_on new middle old later before =
     (before.0 ++ later.0, later.1 ∙ ap (λ (book : Book). with_entries book later.0) before.1 ∙ with_entries-more old before.0 later.0)
-
-pub extends-with_entry : (new old : Book) (entry : Entry) → Extends new old → Extends (with_entry new entry) old
-extends-with_entry new old entry before = extends_on (with_entry new entry) new old (entry ∷ [], refl) before
 
 -- one more entry
 pub up_to-with_entry : (place : ℕ) (book : Book) (entry : Entry) → place ≤ size book → up_to place (with_entry book entry) ≡ up_to place book

@@ -1,5 +1,5 @@
 -- A client that applies what it is replied holds what its user sees.
-use Rattle.std.proofs.Common.{◌≡◌, ℕ, zero, suc, ◌+◌, ◌<◌, ◌≤◌, ◌^◌, ◌⊎◌, inl, inr, Bool, true, false, cond, List, [], ◌∷◌, ◌++◌, map, Option, Some, None, refl, sym, ap, ◌∙◌, subst, arith}
+use Rattle.std.proofs.Common.{◌≡◌, ℕ, zero, suc, ◌+◌, ◌<◌, ◌≤◌, ◌^◌, ◌⊎◌, inl, inr, Bool, true, false, cond, List, [], ◌∷◌, ◌++◌, map, Option, Some, None, refl, sym, ap, ◌∙◌, subst, arith, length}
 use Rattle.std.specs.Prelude.{decimal, option_and_then}
 use Rattle.std.specs.List.{AllByRecursion, Contains, filter_map}
 use Rattle.std.specs.Option.{option_map, option_map_or, option_or}
@@ -14,8 +14,8 @@ use Rattle.rv_views.specs.declared.cookie.Cookie.{Cookie}
 use Rattle.rv_views.specs.declared.cookie.Cookie.TheVariants.{Null, Named}
 use Rattle.rv_book.specs.declared.entry.Entry.{Entry}
 use Rattle.rv_book.specs.declared.entry.Entry.TheVariants.{Look}
-use Rattle.rv_book.specs.Book.{Book, client_in, entry_at, ids, size, up_to}
-use Rattle.rv_book.specs.BookWords.{entry_at-end, entry_at-up_to, entry_at-within, size-append, size-with_entry, up_to-all, up_to-append, with_entry-append}
+use Rattle.rv_book.specs.Book.{Book, client_in, entry_at, ids, size, up_to, with_entries, Extends}
+use Rattle.rv_book.specs.BookWords.{entry_at-end, entry_at-up_to, entry_at-within, size-with_entries, size-with_entry, up_to-all, up_to-with_entries, extends_same, extends_on}
 use Rattle.rv_book.specs.Kept.{look_of, look_at}
 use Rattle.rv_history.specs.Bases.{base_of, base_group}
 use Rattle.rv_history.specs.Based.{base_look, base_spelled}
@@ -76,7 +76,7 @@ find_both k (x ∷ xs) ys =
 -- each last mutation id is found by its client
 ids_found : (group : List ℕ) (book : Book) (pair : List ℕ × ℕ) → Contains (ids group book) pair → find_by key (key pair) (ids group book) ≡ Some pair
 ids_found group book pair there =
-    all_at (λ p. find_by key (key p) (ids group book) ≡ Some p) (ids group book) pair (each_found key (ids group book) (in_order-sorted key (filter_map (client_in group book) book))) there
+    all_at (λ p. find_by key (key p) (ids group book) ≡ Some p) (ids group book) pair (each_found key (ids group book) (in_order-sorted key (filter_map (client_in group book) book.entries))) there
 
 -- what is told and what is held, where each pair of the group is told or held and nothing else is told
 told_or_held : (group : List ℕ) (book : Book) (told held : Pairs) (pair : List ℕ × ℕ) → Contains (ids group book) pair → ((p : List ℕ × ℕ) → Contains told p → Contains (ids group book) p)
@@ -102,12 +102,12 @@ look_within place book look there =
     let (e, is) = some_entry (entry_at place book) look there in
     (entry_at-within place book e is).1
 
-look_front : (place : ℕ) (book more : Book) (look : List ℕ × List ℕ × ℕ) → look_at place book ≡ Some look → look_at place (book ++ more) ≡ Some look
+look_front : (place : ℕ) (book : Book) (more : List Entry) (look : List ℕ × List ℕ × ℕ) → look_at place book ≡ Some look → look_at place (with_entries book more) ≡ Some look
 look_front place book more look there =
     let (e, is) = some_entry (entry_at place book) look there in
-    let front : up_to (size book) (book ++ more) ≡ book = up_to-append (size book) book more (omega arith) ∙ up_to-all (size book) book (omega arith) in
-    let found : entry_at place (up_to (size book) (book ++ more)) ≡ Some e = ap (λ (b : Book). entry_at place b) front ∙ is in
-    ap (option_and_then look_of) (entry_at-up_to place (size book) (book ++ more) e found) ∙ sym (ap (option_and_then look_of) is) ∙ there
+    let front : up_to (size book) (with_entries book more) ≡ book = up_to-with_entries (size book) book more (omega arith) ∙ up_to-all (size book) book (omega arith) in
+    let found : entry_at place (up_to (size book) (with_entries book more)) ≡ Some e = ap (λ (b : Book). entry_at place b) front ∙ is in
+    ap (option_and_then look_of) (entry_at-up_to place (size book) (with_entries book more) e found) ∙ sym (ap (option_and_then look_of) is) ∙ there
 
 -- ---- What a client holds.
 
@@ -126,15 +126,12 @@ Stands user book held = (held.cookie ≡ Null) ⊎ IsAt user book held
 
 module _ (write : ReplyText) (user : List ℕ) (book : Book) (pull : ClientPull) (fits : size book < 2 ^ 64) (told : WasTold write user book pull) (asks : pull.request.cookie ≡ pull.base.cookie) (stands : Stands user book pull.base) where
   -- the point is a front of the book
-  since_point : (more : Book) × (book ≡ told.point ++ more)
-  since_point = go pull.reply.same refl
+  since_point : Extends book told.point
+  since_point = extends_on book told.new told.point told.within (go pull.reply.same refl)
     where
-      go : (same : Bool) → pull.reply.same ≡ same → (more : Book) × (book ≡ told.point ++ more)
-      go true is = (told.within.0, told.within.1 ∙ ap (λ (b : Book). b ++ told.within.0) (told.tells.same is).3)
-      go false is =
-          let looks = told.tells.looks is in
-          let e : Entry = Look user pull.request.group looks.0 (base_of user pull.request.cookie told.point) in
-          (e ∷ told.within.0, told.within.1 ∙ ap (λ (b : Book). b ++ told.within.0) looks.2 ∙ with_entry-append told.point told.within.0 e)
+      go : (same : Bool) → pull.reply.same ≡ same → Extends told.new told.point
+      go true is = extends_same told.new told.point (told.tells.same is).3
+      go false is = (_, (told.tells.looks is).2)
 
   -- the base is the place that the cookie names
   record IsThere (place : ℕ) : Type 0 where
@@ -153,7 +150,7 @@ module _ (write : ReplyText) (user : List ℕ) (book : Book) (pull : ClientPull)
           let (more, goes) = since_point in
           let (group, look, kept) = base_look user (Named (decimal at.place) at.order) told.point place named in
           let inside : place ≤ size told.point = look_within place told.point (user, group, at.order) look in
-          let length : size book ≡ size told.point + size more = ap (λ (b : Book). size b) goes ∙ size-append told.point more in
+          let whole : size book ≡ size told.point + length more = ap (λ (b : Book). size b) goes ∙ size-with_entries told.point more in
           let within = at.within in
           let same : place ≡ at.place = decimal_injective place at.place (omega arith) (omega arith) (base_spelled user (decimal at.place) at.order told.point place named) in
           let later : look_at place book ≡ Some (user, group, at.order) = ap (look_at place) goes ∙ look_front place told.point more (user, group, at.order) look in
@@ -162,7 +159,7 @@ module _ (write : ReplyText) (user : List ℕ) (book : Book) (pull : ClientPull)
             at = at;
             same = same;
             look = look ∙ sym later ∙ found;
-            front = sym (up_to-append place told.point more inside) ∙ ap (up_to place) (sym goes) ∙ ap (λ (p : ℕ). up_to p book) same;
+            front = sym (up_to-with_entries place told.point more inside) ∙ ap (up_to place) (sym goes) ∙ ap (λ (p : ℕ). up_to p book) same;
           }
 
   view_there : (base : Option ℕ) → base_of user pull.request.cookie told.point ≡ base → IsBaseView user told.point base pull.base.view
@@ -203,9 +200,9 @@ module _ (write : ReplyText) (user : List ℕ) (book : Book) (pull : ClientPull)
       let (more, goes) = told.within in
       let e : Entry = Look user pull.request.group order (base_of user pull.request.cookie told.point) in
       let size_new : size told.new ≡ size told.point + 1 = ap (λ (b : Book). size b) enters ∙ size-with_entry told.point e in
-      let size_book : size book ≡ size told.new + size more = ap (λ (b : Book). size b) goes ∙ size-append told.new more in
+      let size_book : size book ≡ size told.new + length more = ap (λ (b : Book). size b) goes ∙ size-with_entries told.new more in
       let place : ℕ = size told.point + 1 in
-      let front : up_to place book ≡ told.new = ap (up_to place) goes ∙ up_to-append place told.new more (omega arith) ∙ up_to-all place told.new (omega arith) in
+      let front : up_to place book ≡ told.new = ap (up_to place) goes ∙ up_to-with_entries place told.new more (omega arith) ∙ up_to-all place told.new (omega arith) in
       let entered : look_at place told.new ≡ Some (user, pull.request.group, order) = ap (look_at place) enters ∙ ap (option_and_then look_of) (entry_at-end told.point e) in
       let rows : client_view user told.new ≡ client_view user told.point = ap (client_view user) enters ∙ ap (λ (rows : List Row). map key_value (seen user rows)) (rows_of-with_entry told.point e) in
       let clients : ids pull.request.group told.new ≡ ids pull.request.group told.point = ap (ids pull.request.group) enters ∙ ids_look pull.request.group told.point user pull.request.group order _ in

@@ -1,11 +1,11 @@
 -- Each turn of a server keeps it sound, and only adds to its book.
-use Rattle.std.proofs.Common.{◌≡◌, ℕ, ◌+◌, ◌<◌, ◌≤◌, Bool, true, false, List, [], ◌∷◌, ◌++◌, Option, Some, None, refl, sym, ap, ◌∙◌, subst, arith, append_assoc, append-nil, inl, inr, ◌⊎◌}
+use Rattle.std.proofs.Common.{◌≡◌, ℕ, ◌+◌, ◌<◌, ◌≤◌, Bool, true, false, List, [], ◌∷◌, Option, Some, None, refl, sym, ap, ◌∙◌, subst, arith, inl, inr, ◌⊎◌}
 use Rattle.std.specs.Option.{MatchOption}
 use Rattle.std.proofs.lemmas.Option.{same_Some}
 use Rattle.rv_book.specs.declared.entry.Entry.{Entry}
 use Rattle.rv_book.specs.declared.entry.Entry.TheVariants.{Act, Look, Retire}
-use Rattle.rv_book.specs.Book.{Book, last_order, size, with_entry, entry_at}
-use Rattle.rv_book.specs.BookWords.{size-with_entry, entry_at-end}
+use Rattle.rv_book.specs.Book.{Book, last_order, size, with_entry, entry_at, Extends}
+use Rattle.rv_book.specs.BookWords.{size-with_entry, entry_at-end, extends_same, extends_on}
 use Rattle.rv_turns.specs.Asks.{Sender, Ask}
 use Rattle.rv_turns.specs.Outcomes.{refusal_of, trouble_of}
 use Rattle.rv_turns.specs.Pushing.{Pushes}
@@ -21,7 +21,7 @@ use Rattle.rv_history.specs.Groups.{Admits}
 use Rattle.rv_history.specs.Bases.{base_of}
 use Rattle.rv_history.specs.Lawful.{IsLawfulAfter, IsLawful}
 use Rattle.rv_history.specs.Machine.{ReplyText, Step, Replies, cookie_order, next_order}
-use Rattle.rv_history.specs.Served.{Served, Settles, StaysInDoubt, LeavesDoubt, TurnOf, TakesTurn, MayStand, IsSound, KeepsLaw}
+use Rattle.rv_history.specs.Served.{Served, Settles, StaysInDoubt, LeavesDoubt, TurnOf, TakesTurn, MayStand, IsSound, KeepsLaw, Doubt}
 use Rattle.rv_history.specs.Based.{base_lawful, next_above}
 use Rattle.rv_history.specs.LawfulBooks.{lawful_more}
 
@@ -62,10 +62,10 @@ Stands limit book = IsLawful book × (size book ≤ limit)
 
 -- the same, with more entries than a book
 abbrev Goes : ℕ → Book → Book → Type 0
-Goes limit book new = Stands limit new × ((more : Book) × (new ≡ book ++ more))
+Goes limit book new = Stands limit new × Extends new book
 
 goes_still : (limit : ℕ) (book new : Book) → new ≡ book → Stands limit book → Goes limit book new
-goes_still limit book new same stands = (subst (λ (b : Book). Stands limit b) (sym same) stands, ([], same ∙ sym (append-nil book)))
+goes_still limit book new same stands = (subst (λ (b : Book). Stands limit b) (sym same) stands, extends_same new book same)
 
 goes_more : (limit : ℕ) (book new : Book) (entry : Entry) → new ≡ with_entry book entry → IsLawfulAfter book entry → size book < limit → Stands limit book → Goes limit book new
 goes_more limit book new entry is next room (lawful, within) =
@@ -73,15 +73,15 @@ goes_more limit book new entry is next room (lawful, within) =
     (subst (λ (b : Book). Stands limit b) (sym is) more, (entry ∷ [], is))
 
 goes_on : (limit : ℕ) (book mid new : Book) → Goes limit book mid → Goes limit mid new → Goes limit book new
-goes_on limit book mid new (_, (some, p)) (stands, (more, q)) = (stands, (some ++ more, q ∙ ap (λ (b : Book). b ++ more) p ∙ append_assoc book some more))
+goes_on limit book mid new (_, before) (stands, later) = (stands, extends_on new mid book later before)
 
 advances : (limit : ℕ) (book new : Book) → Advances limit book new → Stands limit book → Goes limit book new
 advances limit book new (inl same) stands = goes_still limit book new same stands
 advances limit book new (inr (entry, is, next, room)) stands = goes_more limit book new entry is next room stands
 
-settles : (limit : ℕ) (book : Book) (doubt : Option Entry) (settled : Book) → Settles book doubt settled → Stands limit book → MayStand book limit doubt → Goes limit book settled
-settles limit book None settled same stands next = goes_still limit book settled same stands
-settles limit book (Some entry) settled (inl same) stands next = goes_still limit book settled same stands
+settles : (limit : ℕ) (book : Book) (doubt : Doubt) (settled : Book) → Settles book doubt settled → Stands limit book → MayStand book limit doubt → Goes limit book settled
+settles limit book doubt settled (inl same) stands next = goes_still limit book settled same stands
+settles limit book None settled (inr same) stands next = goes_still limit book settled same stands
 settles limit book (Some entry) settled (inr is) stands (next, room) = goes_more limit book settled entry is next room stands
 
 -- an entry that a step enters may stand next
@@ -109,7 +109,7 @@ law_of old new sound goes next limit later = record {
 law_through : (old mid new : Served) → KeepsLaw old mid → KeepsLaw mid new → KeepsLaw old new
 law_through old mid new before after = record {
   sound = after.sound;
-  more = (before.more.0 ++ after.more.0, after.more.1 ∙ ap (λ (b : Book). b ++ after.more.0) before.more.1 ∙ append_assoc old.book before.more.0 after.more.0);
+  more = extends_on new.book mid.book old.book after.more before.more;
   limit = after.limit ∙ before.limit;
   later = omega (arith, before.later, after.later);
 }
@@ -117,7 +117,7 @@ law_through old mid new before after = record {
 law_same : (old new : Served) → new ≡ old → IsSound old → KeepsLaw old new
 law_same old new same sound = record {
   sound = subst (λ (s : Served). IsSound s) (sym same) sound;
-  more = ([], ap (λ (s : Served). s.book) same ∙ sym (append-nil old.book));
+  more = extends_same new.book old.book (ap (λ (s : Served). s.book) same);
   limit = ap (λ (s : Served). s.limit) same;
   later = let n : new.faults ≡ old.faults = ap (λ (s : Served). s.faults) same in omega (arith, n);
 }
@@ -129,17 +129,17 @@ module _ (write : ReplyText) (old : Served) (sound : IsSound old) where
   law_stays : (trouble : Trouble) (new : Served) → StaysInDoubt old trouble new → new.limit ≡ old.limit → old.faults ≤ new.faults → KeepsLaw old new
   law_stays trouble new stays limit later = let (book, doubt) = stays.stays in
       law_of old new sound (goes_still old.limit old.book new.book book stood)
-      (subst (λ (b : Book). MayStand b old.limit new.doubt) (sym book) (subst (λ (d : Option Entry). MayStand old.book old.limit d) (sym doubt) sound.next)) limit later
+      (subst (λ (b : Book). MayStand b old.limit new.doubt) (sym book) (subst (λ (d : Doubt). MayStand old.book old.limit d) (sym doubt) sound.next)) limit later
 
   law_doubt : (settled : Book) (ask : Ask) (entry : Entry) (new : Served) → Settles old.book old.doubt settled → LeavesDoubt write old settled ask entry new → new.limit ≡ old.limit → old.faults ≤ new.faults → KeepsLaw old new
   law_doubt settled ask entry new settling left limit later = law_of old new sound (settles old.limit old.book old.doubt new.book (subst (λ (b : Book). Settles old.book old.doubt b) (sym left.book) settling) stood sound.next)
-      (subst (λ (d : Option Entry). MayStand new.book old.limit d) (sym left.doubt) (subst (λ (b : Book). MayStand b old.limit (Some entry)) (sym left.book) (entered old.limit settled entry (step_advances write old.limit settled ask left.outcome (with_entry settled entry) left.step)))) limit later
+      (subst (λ (d : Doubt). MayStand new.book old.limit d) (sym left.doubt) (subst (λ (b : Book). MayStand b old.limit (Some entry)) (sym left.book) (entered old.limit settled entry (step_advances write old.limit settled ask left.outcome (with_entry settled entry) left.step)))) limit later
 
-  law_turn : (settled : Book) (ask : Ask) (outcome : Outcome) (left : Option Entry) (told : Option Trouble) (new : Served) → Settles old.book old.doubt settled → TurnOf write old settled ask outcome left told new → new.limit ≡ old.limit → old.faults ≤ new.faults → KeepsLaw old new
+  law_turn : (settled : Book) (ask : Ask) (outcome : Outcome) (left : Doubt) (told : Option Trouble) (new : Served) → Settles old.book old.doubt settled → TurnOf write old settled ask outcome left told new → new.limit ≡ old.limit → old.faults ≤ new.faults → KeepsLaw old new
   law_turn settled ask outcome None None new settling (step, none, still) limit later =
       let before = settles old.limit old.book old.doubt settled settling stood sound.next in
       law_of old new sound (goes_on old.limit old.book settled new.book before (advances old.limit settled new.book (step_advances write old.limit settled ask outcome new.book step) before.0))
-      (subst (λ (d : Option Entry). MayStand new.book old.limit d) (sym none) tt) limit later
+      (subst (λ (d : Doubt). MayStand new.book old.limit d) (sym none) tt) limit later
   law_turn settled ask outcome None (Some trouble) new settling (same, stays) limit later = law_stays trouble new stays limit later
   law_turn settled ask outcome (Some entry) (Some Keeper) new settling left limit later = law_doubt settled ask entry new settling left limit later
   law_turn settled ask outcome (Some entry) (Some (Changed kept found)) new settling never limit later = absurd never

@@ -1,5 +1,5 @@
 -- What is run or skipped stands in the book.
-use Rattle.std.proofs.Common.{◌≡◌, ℕ, zero, suc, ◌+◌, ◌<◌, ◌≤◌, ◌⊎◌, inl, inr, Bool, true, false, not, cond, List, [], ◌∷◌, ◌++◌, Option, Some, None, refl, sym, ap, ◌∙◌, subst, arith}
+use Rattle.std.proofs.Common.{◌≡◌, ℕ, zero, suc, ◌+◌, ◌<◌, ◌≤◌, ◌⊎◌, inl, inr, Bool, true, false, not, cond, List, [], ◌∷◌, Option, Some, None, refl, sym, ap, ◌∙◌, subst, arith}
 use Rattle.std.specs.List.{AllByRecursion, Contains, cons_option, range_with_len}
 use Rattle.std.specs.Option.{MatchOption, option_map_or}
 use Rattle.std.specs.Str.{bytes_eq}
@@ -16,7 +16,7 @@ use Rattle.rv_turns.specs.declared.outcome.Outcome.TheVariants.{Acted, Skipped, 
 use Rattle.rv_turns.specs.declared.refusal.Refusal.{Refusal}
 use Rattle.rv_book.specs.declared.entry.Entry.{Entry}
 use Rattle.rv_book.specs.declared.entry.Entry.TheVariants.{Act, Look, Retire}
-use Rattle.rv_book.specs.Book.{Book, bound, group_of, last}
+use Rattle.rv_book.specs.Book.{Book, bound, group_of, last, Extends}
 use Rattle.rv_history.specs.GroupLaws.{groups_have_one_user, clients_have_one_group}
 use Rattle.rv_history.specs.Lawful.{IsLawful}
 use Rattle.rv_history.specs.LawfulBooks.{ids_count_up}
@@ -47,32 +47,32 @@ in_range from (suc count) n le lt =
     omega_split a b le = grind (arith, le)
 
 -- an act of a client, with its id
-abbrev HasAct : List ℕ → ℕ → Book → Type 0
-HasAct client id book = (user : List ℕ) × (group : List ℕ) × (call : Call) × Contains book (Act user group client id call)
+abbrev HasAct : List ℕ → ℕ → List Entry → Type 0
+HasAct client id entries = (user : List ℕ) × (group : List ℕ) × (call : Call) × Contains entries (Act user group client id call)
 
-act_later : (client : List ℕ) (id : ℕ) (entry : Entry) (book : Book) → HasAct client id book → HasAct client id (entry ∷ book)
-act_later client id entry book (user, group, call, there) = (user, group, call, later entry book (Act user group client id call) there)
+act_later : (client : List ℕ) (id : ℕ) (entry : Entry) (entries : List Entry) → HasAct client id entries → HasAct client id (entry ∷ entries)
+act_later client id entry entries (user, group, call, there) = (user, group, call, later entry entries (Act user group client id call) there)
 
-acted : (client : List ℕ) (n : ℕ) (book : Book) → Contains (act_ids client book) n → HasAct client n book
+acted : (client : List ℕ) (n : ℕ) (entries : List Entry) → Contains (act_ids client entries) n → HasAct client n entries
 acted client n [] (k, lt, is) = absurd (omega arith)
-acted client n (Act user group actor id call ∷ book) there =
-    elim (bytes_eq actor client) as (λ b. bytes_eq actor client ≡ b → Contains (cons_option (cond b (Some id) None) (act_ids client book)) n → HasAct client n (Act user group actor id call ∷ book)) [
-      | true ↦ λ same within. mine same (acted client n book) (first_or id (act_ids client book) n within)
-      | false ↦ λ other within. act_later client n (Act user group actor id call) book (acted client n book within)
+acted client n (Act user group actor id call ∷ entries) there =
+    elim (bytes_eq actor client) as (λ b. bytes_eq actor client ≡ b → Contains (cons_option (cond b (Some id) None) (act_ids client entries)) n → HasAct client n (Act user group actor id call ∷ entries)) [
+      | true ↦ λ same within. mine same (acted client n entries) (first_or id (act_ids client entries) n within)
+      | false ↦ λ other within. act_later client n (Act user group actor id call) entries (acted client n entries within)
     ] refl there
   where
-    mine : bytes_eq actor client ≡ true → (Contains (act_ids client book) n → HasAct client n book) → (id ≡ n) ⊎ Contains (act_ids client book) n → HasAct client n (Act user group actor id call ∷ book)
+    mine : bytes_eq actor client ≡ true → (Contains (act_ids client entries) n → HasAct client n entries) → (id ≡ n) ⊎ Contains (act_ids client entries) n → HasAct client n (Act user group actor id call ∷ entries)
     mine same rest (inl is) =
         let who : actor ≡ client = (bytes_eq-Decides actor client).0 same in
         (user, group, call, (0, omega arith, (λ i. Act user group (who i) (is i) call)))
-    mine same rest (inr within) = act_later client n (Act user group actor id call) book (rest within)
-acted client n (Look user group order base ∷ book) there = act_later client n (Look user group order base) book (acted client n book there)
-acted client n (Retire group ∷ book) there = act_later client n (Retire group) book (acted client n book there)
+    mine same rest (inr within) = act_later client n (Act user group actor id call) entries (rest within)
+acted client n (Look user group order base ∷ entries) there = act_later client n (Look user group order base) entries (acted client n entries there)
+acted client n (Retire group ∷ entries) there = act_later client n (Retire group) entries (acted client n entries there)
 
 -- in a lawful book each id up to the client's last stands
-has_act : (book : Book) (client : List ℕ) (n : ℕ) → IsLawful book → 1 ≤ n → n ≤ last client book → HasAct client n book
+has_act : (book : Book) (client : List ℕ) (n : ℕ) → IsLawful book → 1 ≤ n → n ≤ last client book → HasAct client n book.entries
 has_act book client n lawful first le =
-    acted client n book (subst (λ (ids : List ℕ). Contains ids n) (sym (ids_count_up book client lawful)) (in_range 1 (last client book) n first (omega arith)))
+    acted client n book.entries (subst (λ (ids : List ℕ). Contains ids n) (sym (ids_count_up book client lawful)) (in_range 1 (last client book) n first (omega arith)))
 
 is_not : (b : Bool) → not b ≡ false → b ≡ true
 is_not true h = refl
@@ -87,7 +87,7 @@ itself : (text : List ℕ) → bytes_eq text text ≡ true
 itself text = (bytes_eq-Decides text text).1 refl
 
 -- and it is an act of the sender
-entered : (from : Sender) (m : Mutation) (book : Book) → IsLawful book → Takes from m.client book → HasAct m.client m.id book → IsEntered from book m
+entered : (from : Sender) (m : Mutation) (book : Book) → IsLawful book → Takes from m.client book → HasAct m.client m.id book.entries → IsEntered from book m
 entered from m book lawful takes (user, group, call, there) =
     let e : Entry = Act user group m.client m.id call in
     let owner : bound group book ≡ Some user = groups_have_one_user book group user e lawful there (ap (λ (b : Bool). cond b (Some user) None) (itself group)) in
@@ -95,18 +95,18 @@ entered from m book lawful takes (user, group, call, there) =
     let which : group ≡ from.group = same_text (group_of m.client book) group from.group home takes.here in
     let bound_here : bound from.group book ≡ Some user = subst (λ (g : List ℕ). bound g book ≡ Some user) which owner in
     let who : user ≡ from.user = same_text (bound from.group book) user from.user bound_here takes.admits.own in
-    (call, subst (λ (x : Entry). Contains book x) (λ i. Act (who i) (which i) m.client m.id call) there)
+    (call, subst (λ (x : Entry). Contains book.entries x) (λ i. Act (who i) (which i) m.client m.id call) there)
 
-stands_on : (from : Sender) (m : Mutation) (book more new : Book) → new ≡ book ++ more → IsEntered from book m → IsEntered from new m
-stands_on from m book more new is (call, there) =
+stands_on : (from : Sender) (m : Mutation) (book new : Book) → Extends new book → IsEntered from book m → IsEntered from new m
+stands_on from m book new (more, is) (call, there) =
     let e : Entry = Act from.user from.group m.client m.id call in
-    (call, subst (λ (b : Book). Contains b e) (sym is) (Contains-append_left book more e there))
+    (call, subst (λ (b : Book). Contains b.entries e) (sym is) (Contains-append_left book.entries more e there))
 
 module _ (write : ReplyText) (from : Sender) where
   pub mutation_stands : (limit : ℕ) (m : Mutation) (book new : Book) (outcome : Outcome) → Step write limit book (Ask.mutation from m) outcome new → refusal_of outcome ≡ None → IsLawful book → 1 ≤ m.id → IsEntered from new m
   mutation_stands limit m book new (Acted place) (takes, next, room, at, is) none lawful first =
       let e : Entry = Act from.user from.group m.client m.id m.call in
-      (m.call, subst (λ (b : Book). Contains b e) (sym is) (Contains-append_right book (e ∷ []) e (0, omega arith, refl)))
+      (m.call, subst (λ (b : Book). Contains b.entries e) (sym is) (Contains-append_right book.entries (e ∷ []) e (0, omega arith, refl)))
   mutation_stands limit m book new (Skipped number) (takes, le, is, same) none lawful first =
       subst (λ (b : Book). IsEntered from b m) (sym same) (entered from m book lawful takes (has_act book m.client m.id lawful first le))
   mutation_stands limit m book new (Refused refusal) step some lawful first = absurd (cc)
@@ -130,4 +130,4 @@ module _ (write : ReplyText) (from : Sender) where
       let (none, goes) = went_on ms mid new later (refusal_of outcome) rest in
       let kept = turns_keep write (Ask.mutation from m) old mid outcome taken sound in
       let more = (pushes_keep write from ms mid new None later goes kept.sound).more in
-      (λ first. stands_on from m mid.book more.0 new.book more.1 (turn_stands m old mid outcome taken none sound first), pushes_stand ms mid new later goes kept.sound)
+      (λ first. stands_on from m mid.book new.book more (turn_stands m old mid outcome taken none sound first), pushes_stand ms mid new later goes kept.sound)

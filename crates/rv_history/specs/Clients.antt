@@ -5,7 +5,7 @@ use Rattle.rv_base.specs.Sorted.{find_by}
 use Rattle.rv_views.specs.declared.cookie.Cookie.{Cookie}
 use Rattle.rv_views.specs.declared.cookie.Cookie.TheVariants.{Null}
 use Rattle.rv_turns.specs.declared.pull.PullRequest.{PullRequest}
-use Rattle.rv_book.specs.Book.{Book, ids, size}
+use Rattle.rv_book.specs.Book.{Book, ids, size, Extends}
 use Rattle.rv_turns.specs.declared.pull.PullReply.{PullReply}
 use Rattle.rv_history.specs.Patches.{ClientView, client_view, apply}
 use Rattle.rv_history.specs.Machine.{ReplyText}
@@ -51,7 +51,7 @@ pub record WasTold (write : ReplyText) (user : List ℕ) (book : Book) (pull : C
   pub point : Book
   pub new : Book
   pub tells : Tells write user pull.request point new pull.reply
-  pub within : (more : Book) × (book ≡ new ++ more)
+  pub within : Extends book new
 
 -- each pull leaves the client with what its user sees at the point at which it was answered
 abbrev pub EachCurrent : (write : ReplyText) (user : List ℕ) (book : Book) (pulls : List ClientPull) → AllByRecursion (WasTold write user book) pulls → Type 0

@@ -1,5 +1,5 @@
 -- Groups and clients of lawful books, and why no entry stands twice.
-use Rattle.std.proofs.Common.{◌≡◌, ℕ, zero, suc, ◌+◌, ◌<◌, ◌≤◌, Bool, true, false, not, cond, List, [], ◌∷◌, ◌++◌, ◌||◌, Some, None, refl, sym, ap, ◌∙◌, subst, arith, append_assoc}
+use Rattle.std.proofs.Common.{◌≡◌, ℕ, zero, suc, ◌+◌, ◌<◌, ◌≤◌, Bool, true, false, not, cond, List, [], ◌∷◌, ◌++◌, ◌||◌, Some, None, refl, sym, ap, ◌∙◌, subst, arith, length}
 use Rattle.std.specs.Option.{option_map_or}
 use Rattle.std.specs.List.{Contains}
 use Rattle.std.specs.Str.{bytes_eq}
@@ -7,83 +7,88 @@ use Rattle.std.proofs.lemmas.List.Folds.{list_any-append}
 use Rattle.std.proofs.lemmas.Slice.Eq.{bytes_eq-Decides}
 use Rattle.rv_book.specs.declared.entry.Entry.{Entry}
 use Rattle.rv_book.specs.declared.entry.Entry.TheVariants.{Act, Look, Retire}
-use Rattle.rv_book.specs.Book.{Book, bound, retires, retired, group_of, last, order_after, last_order, size, with_entry}
-use Rattle.rv_book.specs.BookWords.{last_order-with_entry, with_entry-append}
+use Rattle.rv_book.specs.Entries.{retires, order_after, bound_in, retired_in, last_in, group_of_in}
+use Rattle.rv_book.specs.Book.{Book, bound, retired, group_of, last, last_order, with_entry, book_of, with_entries}
+use Rattle.rv_book.specs.BookWords.{last_order-with_entry, with_entries-more, with_entry-more}
 use Rattle.rv_history.specs.Groups.{is_of_other, is_elsewhere}
 use Rattle.rv_history.specs.Lawful.{IsLawfulAfter, IsLawful}
 use Rattle.rv_history.specs.Laws.{is_of_group, user_in, group_in}
 use Rattle.rv_history.specs.LawfulBooks.{lawful_front, here, onward, last_append, last_cons, orders_stay, one}
 
+-- where an entry of a list stands
+split_in : (entries : List Entry) (entry : Entry) → Contains entries entry → (before : List Entry) × (after : List Entry) × (entries ≡ before ++ entry ∷ after)
+split_in [] entry (k, lt, is) = absurd (omega arith)
+split_in (x ∷ entries) entry (zero, lt, is) = ([], entries, ap (λ (y : Entry). y ∷ entries) is)
+split_in (x ∷ entries) entry (suc k, lt, is) =
+    let less : k < length entries = omega arith in
+    let rest = split_in entries entry (k, less, is) in
+    (x ∷ rest.0, rest.1, ap (λ (b : List Entry). x ∷ b) rest.2)
+
 -- where an entry of a book stands
-pub split_at : (book : Book) (entry : Entry) → Contains book entry → (before : Book) × (after : Book) × (book ≡ before ++ entry ∷ after)
-split_at [] entry (k, lt, is) = absurd (omega arith)
-split_at (x ∷ book) entry (zero, lt, is) = ([], book, ap (λ (y : Entry). y ∷ book) is)
-split_at (x ∷ book) entry (suc k, lt, is) =
-    let less : k < size book = omega arith in
-    let rest = split_at book entry (k, less, is) in
-    (x ∷ rest.0, rest.1, ap (λ (b : Book). x ∷ b) rest.2)
+pub split_at : (book : Book) (entry : Entry) → Contains book.entries entry → (before : Book) × (after : List Entry) × (book ≡ with_entries before (entry ∷ after))
+split_at book entry there = let (before, after, is) = split_in book.entries entry there in (book_of before, after, ap book_of is)
 
 -- a group that is bound stays so
-pub bound_some : (group : List ℕ) (book more : Book) (user : List ℕ) → bound group book ≡ Some user → bound group (book ++ more) ≡ Some user
+pub bound_some : (group : List ℕ) (entries more : List Entry) (user : List ℕ) → bound_in group entries ≡ Some user → bound_in group (entries ++ more) ≡ Some user
 bound_some group [] more user h = absurd (cc)
-bound_some group (Act u other client id call ∷ book) more user h =
-    elim (bytes_eq other group) as (λ b. cond b (Some u) (bound group book) ≡ Some user → cond b (Some u) (bound group (book ++ more)) ≡ Some user) [
+bound_some group (Act u other client id call ∷ entries) more user h =
+    elim (bytes_eq other group) as (λ b. cond b (Some u) (bound_in group entries) ≡ Some user → cond b (Some u) (bound_in group (entries ++ more)) ≡ Some user) [
       | true ↦ λ is. is
-      | false ↦ λ is. bound_some group book more user is
+      | false ↦ λ is. bound_some group entries more user is
     ] h
-bound_some group (Look u other order base ∷ book) more user h =
-    elim (bytes_eq other group) as (λ b. cond b (Some u) (bound group book) ≡ Some user → cond b (Some u) (bound group (book ++ more)) ≡ Some user) [
+bound_some group (Look u other order base ∷ entries) more user h =
+    elim (bytes_eq other group) as (λ b. cond b (Some u) (bound_in group entries) ≡ Some user → cond b (Some u) (bound_in group (entries ++ more)) ≡ Some user) [
       | true ↦ λ is. is
-      | false ↦ λ is. bound_some group book more user is
+      | false ↦ λ is. bound_some group entries more user is
     ] h
-bound_some group (Retire other ∷ book) more user h = bound_some group book more user h
+bound_some group (Retire other ∷ entries) more user h = bound_some group entries more user h
 
 -- a group that is not bound yet is bound by what follows
-pub bound_none : (group : List ℕ) (book more : Book) → bound group book ≡ None → bound group (book ++ more) ≡ bound group more
+pub bound_none : (group : List ℕ) (entries more : List Entry) → bound_in group entries ≡ None → bound_in group (entries ++ more) ≡ bound_in group more
 bound_none group [] more h = refl
-bound_none group (Act u other client id call ∷ book) more h =
-    elim (bytes_eq other group) as (λ b. cond b (Some u) (bound group book) ≡ None → cond b (Some u) (bound group (book ++ more)) ≡ bound group more) [
+bound_none group (Act u other client id call ∷ entries) more h =
+    elim (bytes_eq other group) as (λ b. cond b (Some u) (bound_in group entries) ≡ None → cond b (Some u) (bound_in group (entries ++ more)) ≡ bound_in group more) [
       | true ↦ λ is. absurd (cc)
-      | false ↦ λ is. bound_none group book more is
+      | false ↦ λ is. bound_none group entries more is
     ] h
-bound_none group (Look u other order base ∷ book) more h =
-    elim (bytes_eq other group) as (λ b. cond b (Some u) (bound group book) ≡ None → cond b (Some u) (bound group (book ++ more)) ≡ bound group more) [
+bound_none group (Look u other order base ∷ entries) more h =
+    elim (bytes_eq other group) as (λ b. cond b (Some u) (bound_in group entries) ≡ None → cond b (Some u) (bound_in group (entries ++ more)) ≡ bound_in group more) [
       | true ↦ λ is. absurd (cc)
-      | false ↦ λ is. bound_none group book more is
+      | false ↦ λ is. bound_none group entries more is
     ] h
-bound_none group (Retire other ∷ book) more h = bound_none group book more h
+bound_none group (Retire other ∷ entries) more h = bound_none group entries more h
 
 -- a client that has a group keeps it
-pub group_some : (client : List ℕ) (book more : Book) (group : List ℕ) → group_of client book ≡ Some group → group_of client (book ++ more) ≡ Some group
+pub group_some : (client : List ℕ) (entries more : List Entry) (group : List ℕ) → group_of_in client entries ≡ Some group → group_of_in client (entries ++ more) ≡ Some group
 group_some client [] more group h = absurd (cc)
-group_some client (Act user g actor id call ∷ book) more group h =
-    elim (bytes_eq actor client) as (λ b. cond b (Some g) (group_of client book) ≡ Some group → cond b (Some g) (group_of client (book ++ more)) ≡ Some group) [
+group_some client (Act user g actor id call ∷ entries) more group h =
+    elim (bytes_eq actor client) as (λ b. cond b (Some g) (group_of_in client entries) ≡ Some group → cond b (Some g) (group_of_in client (entries ++ more)) ≡ Some group) [
       | true ↦ λ is. is
-      | false ↦ λ is. group_some client book more group is
+      | false ↦ λ is. group_some client entries more group is
     ] h
-group_some client (Look user g order base ∷ book) more group h = group_some client book more group h
-group_some client (Retire g ∷ book) more group h = group_some client book more group h
+group_some client (Look user g order base ∷ entries) more group h = group_some client entries more group h
+group_some client (Retire g ∷ entries) more group h = group_some client entries more group h
 
 -- a client that has no group yet has the one of its first act in what follows
-pub group_none : (client : List ℕ) (book more : Book) → group_of client book ≡ None → group_of client (book ++ more) ≡ group_of client more
+pub group_none : (client : List ℕ) (entries more : List Entry) → group_of_in client entries ≡ None → group_of_in client (entries ++ more) ≡ group_of_in client more
 group_none client [] more h = refl
-group_none client (Act user g actor id call ∷ book) more h =
-    elim (bytes_eq actor client) as (λ b. cond b (Some g) (group_of client book) ≡ None → cond b (Some g) (group_of client (book ++ more)) ≡ group_of client more) [
+group_none client (Act user g actor id call ∷ entries) more h =
+    elim (bytes_eq actor client) as (λ b. cond b (Some g) (group_of_in client entries) ≡ None → cond b (Some g) (group_of_in client (entries ++ more)) ≡ group_of_in client more) [
       | true ↦ λ is. absurd (cc)
-      | false ↦ λ is. group_none client book more is
+      | false ↦ λ is. group_none client entries more is
     ] h
-group_none client (Look user g order base ∷ book) more h = group_none client book more h
-group_none client (Retire g ∷ book) more h = group_none client book more h
+group_none client (Look user g order base ∷ entries) more h = group_none client entries more h
+group_none client (Retire g ∷ entries) more h = group_none client entries more h
 
 -- a group is retired by the first part of a book or by the second
-pub retired_append : (group : List ℕ) (book more : Book) → retired group (book ++ more) ≡ (retired group book || retired group more)
-retired_append group book more = list_any-append (retires group) book more
+pub retired_append : (group : List ℕ) (book : Book) (more : List Entry) → retired group (with_entries book more) ≡ (retired group book || retired_in group more)
+retired_append group book more = list_any-append (retires group) book.entries more
 
 -- after its retirement a group is retired
-pub retired_since : (group : List ℕ) (before after : Book) → retired group (before ++ Retire group ∷ after) ≡ true
+pub retired_since : (group : List ℕ) (before : Book) (after : List Entry) → retired group (with_entries before (Retire group ∷ after)) ≡ true
 retired_since group before after =
     let itself : bytes_eq group group ≡ true = (bytes_eq-Decides group group).1 refl in
-    let second : retired group (Retire group ∷ after) ≡ true = ap (λ (b : Bool). b || retired group after) itself in
+    let second : retired_in group (Retire group ∷ after) ≡ true = ap (λ (b : Bool). b || retired_in group after) itself in
     retired_append group before (Retire group ∷ after) ∙ ap (λ (b : Bool). retired group before || b) second ∙ either (retired group before)
   where
     either : (b : Bool) → (b || true) ≡ true
@@ -95,55 +100,55 @@ is_not true h = refl
 is_not false h = absurd (cc)
 
 -- a group that is of no other user before, and of this one in what follows, is of this one
-pub owner_is : (user group : List ℕ) (before rest : Book) → is_of_other user group before ≡ false → bound group rest ≡ Some user → bound group (before ++ rest) ≡ Some user
+pub owner_is : (user group : List ℕ) (before : Book) (rest : List Entry) → is_of_other user group before ≡ false → bound_in group rest ≡ Some user → bound group (with_entries before rest) ≡ Some user
 owner_is user group before rest own is =
-    elim (bound group before) as (λ o. bound group before ≡ o → option_map_or (λ owner. not (bytes_eq owner user)) o false ≡ false → bound group (before ++ rest) ≡ Some user) [
-      | None ↦ λ none f. bound_none group before rest none ∙ is
-      | Some owner ↦ λ some f. bound_some group before rest user (some ∙ ap (λ (u : List ℕ). Some u) ((bytes_eq-Decides owner user).0 (is_not (bytes_eq owner user) f)))
+    elim (bound group before) as (λ o. bound group before ≡ o → option_map_or (λ owner. not (bytes_eq owner user)) o false ≡ false → bound group (with_entries before rest) ≡ Some user) [
+      | None ↦ λ none f. bound_none group before.entries rest none ∙ is
+      | Some owner ↦ λ some f. bound_some group before.entries rest user (some ∙ ap (λ (u : List ℕ). Some u) ((bytes_eq-Decides owner user).0 (is_not (bytes_eq owner user) f)))
     ] refl own
 
-pub home_is : (client group : List ℕ) (before rest : Book) → is_elsewhere client group before ≡ false → group_of client rest ≡ Some group → group_of client (before ++ rest) ≡ Some group
+pub home_is : (client group : List ℕ) (before : Book) (rest : List Entry) → is_elsewhere client group before ≡ false → group_of_in client rest ≡ Some group → group_of client (with_entries before rest) ≡ Some group
 home_is client group before rest home is =
-    elim (group_of client before) as (λ o. group_of client before ≡ o → option_map_or (λ other. not (bytes_eq other group)) o false ≡ false → group_of client (before ++ rest) ≡ Some group) [
-      | None ↦ λ none f. group_none client before rest none ∙ is
-      | Some other ↦ λ some f. group_some client before rest group (some ∙ ap (λ (g : List ℕ). Some g) ((bytes_eq-Decides other group).0 (is_not (bytes_eq other group) f)))
+    elim (group_of client before) as (λ o. group_of client before ≡ o → option_map_or (λ other. not (bytes_eq other group)) o false ≡ false → group_of client (with_entries before rest) ≡ Some group) [
+      | None ↦ λ none f. group_none client before.entries rest none ∙ is
+      | Some other ↦ λ some f. group_some client before.entries rest group (some ∙ ap (λ (g : List ℕ). Some g) ((bytes_eq-Decides other group).0 (is_not (bytes_eq other group) f)))
     ] refl home
 
 -- the user of an act or a look, who may use its group, is the group's
-named : (before rest : Book) (u other group user : List ℕ) → is_of_other u other before ≡ false → cond (bytes_eq other group) (Some u) None ≡ Some user
-    → (bytes_eq other group ≡ true → bound group rest ≡ Some u) → bound group (before ++ rest) ≡ Some user
+named : (before : Book) (rest : List Entry) (u other group user : List ℕ) → is_of_other u other before ≡ false → cond (bytes_eq other group) (Some u) None ≡ Some user
+    → (bytes_eq other group ≡ true → bound_in group rest ≡ Some u) → bound group (with_entries before rest) ≡ Some user
 named before rest u other group user own h mine =
-    elim (bytes_eq other group) as (λ b. bytes_eq other group ≡ b → cond b (Some u) None ≡ Some user → bound group (before ++ rest) ≡ Some user) [
+    elim (bytes_eq other group) as (λ b. bytes_eq other group ≡ b → cond b (Some u) None ≡ Some user → bound group (with_entries before rest) ≡ Some user) [
       | true ↦ λ same is.
           let which : other ≡ group = (bytes_eq-Decides other group).0 same in
           owner_is u group before rest (subst (λ (g : List ℕ). is_of_other u g before ≡ false) which own) (mine same) ∙ is
       | false ↦ λ different is. absurd (cc)
     ] refl h
 
-one_user : (before after : Book) (entry : Entry) (group user : List ℕ) → IsLawfulAfter before entry → user_in group entry ≡ Some user → bound group (before ++ entry ∷ after) ≡ Some user
+one_user : (before : Book) (after : List Entry) (entry : Entry) (group user : List ℕ) → IsLawfulAfter before entry → user_in group entry ≡ Some user → bound group (with_entries before (entry ∷ after)) ≡ Some user
 one_user before after (Act u other client id call) group user next h =
-    named before (Act u other client id call ∷ after) u other group user next.0.own h (λ same. ap (λ (b : Bool). cond b (Some u) (bound group after)) same)
+    named before (Act u other client id call ∷ after) u other group user next.0.own h (λ same. ap (λ (b : Bool). cond b (Some u) (bound_in group after)) same)
 one_user before after (Look u other order base) group user next h =
-    named before (Look u other order base ∷ after) u other group user next.0.own h (λ same. ap (λ (b : Bool). cond b (Some u) (bound group after)) same)
+    named before (Look u other order base ∷ after) u other group user next.0.own h (λ same. ap (λ (b : Bool). cond b (Some u) (bound_in group after)) same)
 one_user before after (Retire other) group user next h = absurd (cc)
 
-pub groups_have_one_user : (book : Book) (group user : List ℕ) (entry : Entry) → IsLawful book → Contains book entry → user_in group entry ≡ Some user → bound group book ≡ Some user
+pub groups_have_one_user : (book : Book) (group user : List ℕ) (entry : Entry) → IsLawful book → Contains book.entries entry → user_in group entry ≡ Some user → bound group book ≡ Some user
 groups_have_one_user book group user entry lawful within h =
     let (before, after, is) = split_at book entry within in
     ap (bound group) is ∙ one_user before after entry group user (lawful before after entry is) h
 
-one_group : (before after : Book) (entry : Entry) (client group : List ℕ) → IsLawfulAfter before entry → group_in client entry ≡ Some group → group_of client (before ++ entry ∷ after) ≡ Some group
+one_group : (before : Book) (after : List Entry) (entry : Entry) (client group : List ℕ) → IsLawfulAfter before entry → group_in client entry ≡ Some group → group_of client (with_entries before (entry ∷ after)) ≡ Some group
 one_group before after (Act user g actor id call) client group next h =
-    elim (bytes_eq actor client) as (λ b. bytes_eq actor client ≡ b → cond b (Some g) None ≡ Some group → group_of client (before ++ Act user g actor id call ∷ after) ≡ Some group) [
+    elim (bytes_eq actor client) as (λ b. bytes_eq actor client ≡ b → cond b (Some g) None ≡ Some group → group_of client (with_entries before (Act user g actor id call ∷ after)) ≡ Some group) [
       | true ↦ λ same is.
           let which : actor ≡ client = (bytes_eq-Decides actor client).0 same in
-          home_is client g before (Act user g actor id call ∷ after) (subst (λ (c : List ℕ). is_elsewhere c g before ≡ false) which next.1) (ap (λ (b : Bool). cond b (Some g) (group_of client after)) same) ∙ is
+          home_is client g before (Act user g actor id call ∷ after) (subst (λ (c : List ℕ). is_elsewhere c g before ≡ false) which next.1) (ap (λ (b : Bool). cond b (Some g) (group_of_in client after)) same) ∙ is
       | false ↦ λ different is. absurd (cc)
     ] refl h
 one_group before after (Look user g order base) client group next h = absurd (cc)
 one_group before after (Retire g) client group next h = absurd (cc)
 
-pub clients_have_one_group : (book : Book) (client group : List ℕ) (entry : Entry) → IsLawful book → Contains book entry → group_in client entry ≡ Some group → group_of client book ≡ Some group
+pub clients_have_one_group : (book : Book) (client group : List ℕ) (entry : Entry) → IsLawful book → Contains book.entries entry → group_in client entry ≡ Some group → group_of client book ≡ Some group
 clients_have_one_group book client group entry lawful within h =
     let (before, after, is) = split_at book entry within in
     ap (group_of client) is ∙ one_group before after entry client group (lawful before after entry is) h
@@ -161,39 +166,39 @@ unnamed book (Act user other client id call) group next gone = rests other group
 unnamed book (Look user other order base) group next gone = rests other group book next.0.stands gone
 unnamed book (Retire other) group next gone = rests other group book next.1 gone
 
-pub retired_groups_rest : (book before after : Book) (group : List ℕ) (entry : Entry) → IsLawful book → book ≡ before ++ Retire group ∷ after → Contains after entry → is_of_group group entry ≡ false
+pub retired_groups_rest : (book before : Book) (after : List Entry) (group : List ℕ) (entry : Entry) → IsLawful book → book ≡ with_entries before (Retire group ∷ after) → Contains after entry → is_of_group group entry ≡ false
 retired_groups_rest book before after group entry lawful is within =
-    let (mid, rest, split) = split_at after entry within in
-    let whole : book ≡ (before ++ Retire group ∷ mid) ++ entry ∷ rest =
-    is ∙ ap (λ (b : Book). before ++ Retire group ∷ b) split ∙ sym (append_assoc before (Retire group ∷ mid) (entry ∷ rest)) in
-    unnamed (before ++ Retire group ∷ mid) entry group (lawful (before ++ Retire group ∷ mid) rest entry whole) (retired_since group before mid)
+    let (mid, rest, split) = split_in after entry within in
+    let front : Book = with_entries before (Retire group ∷ mid) in
+    let whole : book ≡ with_entries front (entry ∷ rest) = is ∙ ap (λ (xs : List Entry). with_entries before (Retire group ∷ xs)) split ∙ sym (with_entries-more before (Retire group ∷ mid) (entry ∷ rest)) in
+    unnamed front entry group (lawful front rest entry whole) (retired_since group before mid)
 
 -- what may stand after some entries may not stand again after itself
-once : (before between : Book) (entry : Entry) → IsLawful (before ++ entry ∷ between) → IsLawfulAfter before entry → IsLawfulAfter (before ++ entry ∷ between) entry → ⊥
+once : (before : Book) (between : List Entry) (entry : Entry) → IsLawful (with_entries before (entry ∷ between)) → IsLawfulAfter before entry → IsLawfulAfter (with_entries before (entry ∷ between)) entry → ⊥
 once before between (Act user group client id call) lawful first again =
     let e : Entry = Act user group client id call in
     let itself : one client e ≡ 1 = ap (λ (b : Bool). cond b 1 0) ((bytes_eq-Decides client client).1 refl) in
-    let grown : last client (before ++ e ∷ between) ≡ last client before + last client (e ∷ between) = last_append client before (e ∷ between) in
-    let more : last client (e ∷ between) ≡ one client e + last client between = last_cons client between e in
+    let grown : last client (with_entries before (e ∷ between)) ≡ last client before + last_in client (e ∷ between) = last_append client before (e ∷ between) in
+    let more : last_in client (e ∷ between) ≡ one client e + last_in client between = last_cons client between e in
     let was : id ≡ last client before + 1 = first.2 in
-    let is : id ≡ last client (before ++ e ∷ between) + 1 = again.2 in
+    let is : id ≡ last client (with_entries before (e ∷ between)) + 1 = again.2 in
     omega arith
 once before between (Look user group order base) lawful first again =
     let e : Entry = Look user group order base in
     let push : last_order group (with_entry before e) ≡ order_after group (last_order group before) e = last_order-with_entry group before e in
     let itself : order_after group (last_order group before) e ≡ order = ap (λ (b : Bool). cond b order (last_order group before)) ((bytes_eq-Decides group group).1 refl) in
-    let stays : last_order group (with_entry before e) ≤ last_order group (with_entry before e ++ between) = orders_stay group (with_entry before e) between (onward before between e lawful) in
-    let joined : last_order group (with_entry before e ++ between) ≡ last_order group (before ++ e ∷ between) = ap (last_order group) (with_entry-append before between e) in
-    let above : last_order group (before ++ e ∷ between) < order = again.1 in
+    let stays : last_order group (with_entry before e) ≤ last_order group (with_entries (with_entry before e) between) = orders_stay group (with_entry before e) between (onward before between e lawful) in
+    let joined : last_order group (with_entries (with_entry before e) between) ≡ last_order group (with_entries before (e ∷ between)) = ap (last_order group) (with_entry-more before e between) in
+    let above : last_order group (with_entries before (e ∷ between)) < order = again.1 in
     omega arith
 once before between (Retire group) lawful first again =
-    let gone : retired group (before ++ Retire group ∷ between) ≡ true = retired_since group before between in
-    let stands : retired group (before ++ Retire group ∷ between) ≡ false = again.1 in
+    let gone : retired group (with_entries before (Retire group ∷ between)) ≡ true = retired_since group before between in
+    let stands : retired group (with_entries before (Retire group ∷ between)) ≡ false = again.1 in
     let both : true ≡ false = sym gone ∙ stands in
     cc
 
-pub entries_stand_once : (book before between after : Book) (entry : Entry) → IsLawful book → book ≡ before ++ entry ∷ (between ++ entry ∷ after) → ⊥
+pub entries_stand_once : (book before : Book) (between after : List Entry) (entry : Entry) → IsLawful book → book ≡ with_entries before (entry ∷ (between ++ entry ∷ after)) → ⊥
 entries_stand_once book before between after entry lawful is =
-    let whole : book ≡ (before ++ entry ∷ between) ++ entry ∷ after = is ∙ sym (append_assoc before (entry ∷ between) (entry ∷ after)) in
-    let front : IsLawful (before ++ entry ∷ between) = lawful_front (before ++ entry ∷ between) (entry ∷ after) (subst (λ (b : Book). IsLawful b) whole lawful) in
-    once before between entry front (here before between entry front) (lawful (before ++ entry ∷ between) after entry whole)
+    let whole : book ≡ with_entries (with_entries before (entry ∷ between)) (entry ∷ after) = is ∙ sym (with_entries-more before (entry ∷ between) (entry ∷ after)) in
+    let front : IsLawful (with_entries before (entry ∷ between)) = lawful_front (with_entries before (entry ∷ between)) (entry ∷ after) (subst (λ (b : Book). IsLawful b) whole lawful) in
+    once before between entry front (here before between entry front) (lawful (with_entries before (entry ∷ between)) after entry whole)

@@ -10,6 +10,7 @@ use Rattle.rv_rows.specs.Changes.{same_row}
 use Rattle.rv_rows.specs.Sharing.{seen}
 use Rattle.rv_turns.specs.declared.op.Op.{Op}
 use Rattle.rv_turns.specs.declared.op.Op.TheVariants.{Clear, Del, Put}
+use Rattle.rv_book.specs.declared.entry.Entry.{Entry}
 use Rattle.rv_book.specs.Book.{Book, ids, since, up_to}
 use Rattle.rv_history.specs.Replay.{rows_after, rows_of}
 
@@ -18,16 +19,16 @@ abbrev pub is_written : List ℕ → List Row → List Row → Bool
 is_written key before after = option_map_or (λ row. option_map_or (λ was. not (same_row was row)) (row_at key before) true) (row_at key after) false
 
 -- some of the entries writes the key, from these rows on
-unfoldable pub is_touched : List ℕ → List Row → Book → Bool
+unfoldable pub is_touched : List ℕ → List Row → List Entry → Bool
 is_touched key rows [] = false
-is_touched key rows (entry ∷ book) = is_written key rows (rows_after rows entry) || is_touched key (rows_after rows entry) book
+is_touched key rows (entry ∷ entries) = is_written key rows (rows_after rows entry) || is_touched key (rows_after rows entry) entries
 
 -- the key is not among those of the rows
 unfoldable pub is_absent : List Row → Row → Bool
 is_absent rows row = not (has_row (row_text row) rows)
 
 -- the row was not seen at the base, or was written since
-unfoldable pub is_news : List Row → List Row → Book → Row → Bool
+unfoldable pub is_news : List Row → List Row → List Entry → Row → Bool
 is_news base rows since row = is_absent base row || is_touched (row_text row) rows since
 
 -- The patch since a base, at a place of the book: dels, in key order, of the rows that were seen then and are not now; then

@@ -1,8 +1,8 @@
 -- What holds of every book that the machine makes.
-use Rattle.std.specs.Prelude.{◌≡◌, ℕ, ◌+◌, ◌^◌, ◌<◌, ◌∷◌, ◌++◌, true, false, List, Option, Some, None, IsSome}
+use Rattle.std.specs.Prelude.{◌≡◌, ℕ, ◌+◌, ◌^◌, ◌<◌, ◌∷◌, true, false, List, Option, Some, None, IsSome}
 use Rattle.rv_book.specs.declared.entry.Entry.{Entry}
 use Rattle.rv_book.specs.declared.entry.Entry.TheVariants.{Act, Look, Retire}
-use Rattle.rv_book.specs.Book.{Book, bound, retired, last, last_order}
+use Rattle.rv_book.specs.Book.{Book, bound, retired, last, last_order, with_entries}
 use Rattle.rv_book.specs.Kept.{look_at, kept}
 use Rattle.rv_history.specs.Groups.{is_elsewhere, Admits}
 
@@ -21,4 +21,4 @@ IsLawfulAfter before (Retire group) = IsSome (bound group before) × (retired gr
 
 -- Each entry may stand after those before it.
 abbrev pub IsLawful : Book → Type 0
-IsLawful book = (before after : Book) (entry : Entry) → book ≡ before ++ entry ∷ after → IsLawfulAfter before entry
+IsLawful book = (before : Book) (after : List Entry) (entry : Entry) → book ≡ with_entries before (entry ∷ after) → IsLawfulAfter before entry

@@ -1,5 +1,5 @@
 -- Lawful books, entry by entry.
-use Rattle.std.proofs.Common.{◌≡◌, ℕ, zero, suc, ◌+◌, ◌<◌, ◌≤◌, Bool, true, false, cond, List, [], ◌∷◌, ◌++◌, length, get_or, Some, None, refl, sym, ap, ◌∙◌, subst, arith, append_assoc, append-nil, inl, inr, ◌⊎◌}
+use Rattle.std.proofs.Common.{◌≡◌, ℕ, zero, suc, ◌+◌, ◌<◌, ◌≤◌, Bool, true, false, cond, List, [], ◌∷◌, ◌++◌, length, get_or, Some, None, refl, sym, ap, ◌∙◌, subst, arith, inl, inr, ◌⊎◌, append-nil}
 use Rattle.std.specs.List.{cons_option, range_with_len}
 use Rattle.std.specs.List.Sorted.{IsStrictlyIncreasing}
 use Rattle.std.specs.Str.{bytes_eq}
@@ -7,96 +7,100 @@ use Rattle.std.proofs.lemmas.List.Sums.{sum_by-append, sum_by-cons}
 use Rattle.std.proofs.lemmas.Slice.Eq.{bytes_eq-Decides}
 use Rattle.rv_book.specs.declared.entry.Entry.{Entry}
 use Rattle.rv_book.specs.declared.entry.Entry.TheVariants.{Act, Look, Retire}
-use Rattle.rv_book.specs.Book.{Book, is_act_of, last, order_after, last_order, with_entry}
-use Rattle.rv_book.specs.BookWords.{last-with_entry, last_order-with_entry, with_entry-append}
+use Rattle.rv_book.specs.Entries.{is_act_of, order_after, last_in}
+use Rattle.rv_book.specs.Book.{Book, last, last_order, with_entry, book_of, empty_book, with_entries}
+use Rattle.rv_book.specs.BookWords.{last-with_entry, last_order-with_entry, with_entries-more, with_entry-more}
 use Rattle.rv_history.specs.Lawful.{IsLawfulAfter, IsLawful}
 use Rattle.rv_history.specs.Laws.{act_ids, look_orders}
 
-pub lawful_none : IsLawful []
-lawful_none [] after entry e = absurd (cc)
-lawful_none (b ∷ before) after entry e = absurd (cc)
+no_split : (before after : List Entry) (entry : Entry) → [] ≡ before ++ entry ∷ after → ⊥
+no_split [] after entry e = cc
+no_split (b ∷ before) after entry e = cc
 
--- where the one entry more stands in a split of the longer book
-last_split : (book before after : Book) (e entry : Entry) → with_entry book e ≡ before ++ entry ∷ after
-    → ((book ≡ before) × (e ≡ entry)) ⊎ ((more : Book) × (book ≡ before ++ entry ∷ more))
+pub lawful_none : IsLawful empty_book
+lawful_none before after entry e = absurd (no_split before.entries after entry (ap (λ (b : Book). b.entries) e))
+
+-- where the one entry more stands in a split of the longer list
+last_split : (entries before after : List Entry) (e entry : Entry) → entries ++ e ∷ [] ≡ before ++ entry ∷ after
+    → ((entries ≡ before) × (e ≡ entry)) ⊎ ((more : List Entry) × (entries ≡ before ++ entry ∷ more))
 last_split [] [] after e entry h = inl (refl, cc)
 last_split [] (b ∷ []) after e entry h = absurd (cc)
 last_split [] (b ∷ c ∷ before) after e entry h = absurd (cc)
-last_split (x ∷ book) [] after e entry h = let same : x ≡ entry = cc in inr (book, ap (λ (y : Entry). y ∷ book) same)
-last_split (x ∷ book) (b ∷ before) after e entry h =
+last_split (x ∷ entries) [] after e entry h = let same : x ≡ entry = cc in inr (entries, ap (λ (y : Entry). y ∷ entries) same)
+last_split (x ∷ entries) (b ∷ before) after e entry h =
     let same : x ≡ b = cc in
-    let rest : with_entry book e ≡ before ++ entry ∷ after = cc in
-    elim (last_split book before after e entry rest) as (λ _. ((x ∷ book ≡ b ∷ before) × (e ≡ entry)) ⊎ ((more : Book) × (x ∷ book ≡ b ∷ (before ++ entry ∷ more)))) [
+    let rest : entries ++ e ∷ [] ≡ before ++ entry ∷ after = cc in
+    elim (last_split entries before after e entry rest) as (λ _. ((x ∷ entries ≡ b ∷ before) × (e ≡ entry)) ⊎ ((more : List Entry) × (x ∷ entries ≡ b ∷ (before ++ entry ∷ more)))) [
       | inl here ↦ inl ((λ i. same i ∷ here.0 i), here.1)
       | inr there ↦ inr (there.0, (λ i. same i ∷ there.1 i))
     ]
 
 pub lawful_more : (book : Book) (e : Entry) → IsLawful book → IsLawfulAfter book e → IsLawful (with_entry book e)
 lawful_more book e lawful next before after entry h =
-    elim (last_split book before after e entry h) as (λ _. IsLawfulAfter before entry) [
-      | inl here ↦ (let b : IsLawfulAfter before e = subst (λ (x : Book). IsLawfulAfter x e) here.0 next in subst (λ (x : Entry). IsLawfulAfter before x) here.1 b)
-      | inr there ↦ lawful before there.0 entry there.1
+    elim (last_split book.entries before.entries after e entry (ap (λ (b : Book). b.entries) h)) as (λ _. IsLawfulAfter before entry) [
+      | inl here ↦ (let b : IsLawfulAfter before e = subst (λ (xs : List Entry). IsLawfulAfter (book_of xs) e) here.0 next in subst (λ (x : Entry). IsLawfulAfter before x) here.1 b)
+      | inr there ↦ lawful before there.0 entry (ap book_of there.1)
     ]
 
 -- the front of a lawful book is lawful
-pub lawful_front : (book more : Book) → IsLawful (book ++ more) → IsLawful book
+pub lawful_front : (book : Book) (more : List Entry) → IsLawful (with_entries book more) → IsLawful book
 lawful_front book more lawful = λ before after entry h.
-    lawful before (after ++ more) entry (ap (λ (b : Book). b ++ more) h ∙ append_assoc before (entry ∷ after) more)
+    lawful before (after ++ more) entry (ap (λ (b : Book). with_entries b more) h ∙ with_entries-more before (entry ∷ after) more)
 
 -- an entry, and what comes after it
-pub here : (before rest : Book) (e : Entry) → IsLawful (before ++ e ∷ rest) → IsLawfulAfter before e
+pub here : (before : Book) (rest : List Entry) (e : Entry) → IsLawful (with_entries before (e ∷ rest)) → IsLawfulAfter before e
 here before rest e lawful = lawful before rest e refl
 
-pub onward : (before rest : Book) (e : Entry) → IsLawful (before ++ e ∷ rest) → IsLawful (with_entry before e ++ rest)
-onward before rest e lawful = subst (λ (b : Book). IsLawful b) (sym (with_entry-append before rest e)) lawful
+pub onward : (before : Book) (rest : List Entry) (e : Entry) → IsLawful (with_entries before (e ∷ rest)) → IsLawful (with_entries (with_entry before e) rest)
+onward before rest e lawful = subst (λ (b : Book). IsLawful b) (sym (with_entry-more before e rest)) lawful
 
 abbrev pub one : (client : List ℕ) (e : Entry) → ℕ
 one client e = cond (is_act_of client e) 1 0
 
-pub last_cons : (client : List ℕ) (rest : Book) (e : Entry) → last client (e ∷ rest) ≡ one client e + last client rest
+pub last_cons : (client : List ℕ) (rest : List Entry) (e : Entry) → last_in client (e ∷ rest) ≡ one client e + last_in client rest
 last_cons client rest e = sum_by-cons (λ (x : Entry). cond (is_act_of client x) 1 0) e rest
 
 -- the ids of the acts that are still to come
-ids_from : (client : List ℕ) (before rest : Book) → IsLawful (before ++ rest) → act_ids client rest ≡ range_with_len (last client before + 1) (last client rest)
+ids_from : (client : List ℕ) (before : Book) (rest : List Entry) → IsLawful (with_entries before rest) → act_ids client rest ≡ range_with_len (last client before + 1) (last_in client rest)
 ids_from client before [] lawful = refl
 ids_from client before (Act user group actor id call ∷ rest) lawful =
     let e : Entry = Act user group actor id call in
     let next = ids_from client (with_entry before e) rest (onward before rest e lawful) in
     let mine : id ≡ last actor before + 1 = (here before rest e lawful).2 in
-    elim (bytes_eq actor client) as (λ b. bytes_eq actor client ≡ b → cons_option (cond b (Some id) None) (act_ids client rest) ≡ range_with_len (last client before + 1) (last client (e ∷ rest))) [
+    elim (bytes_eq actor client) as (λ b. bytes_eq actor client ≡ b → cons_option (cond b (Some id) None) (act_ids client rest) ≡ range_with_len (last client before + 1) (last_in client (e ∷ rest))) [
       | true ↦ λ same.
           let is : actor ≡ client = (bytes_eq-Decides actor client).0 same in
           let first : id ≡ last client before + 1 = mine ∙ ap (λ (c : List ℕ). last c before + 1) is in
-          let count : last client (e ∷ rest) ≡ suc (last client rest) = last_cons client rest e ∙ ap (λ (b : Bool). cond b 1 0 + last client rest) same ∙ omega arith in
+          let count : last_in client (e ∷ rest) ≡ suc (last_in client rest) = last_cons client rest e ∙ ap (λ (b : Bool). cond b 1 0 + last_in client rest) same ∙ omega arith in
           let grown : last client (with_entry before e) ≡ last client before + 1 = last-with_entry client before e ∙ ap (λ (b : Bool). last client before + cond b 1 0) same in
-          rw count ((λ i. first i ∷ next i) ∙ ap (λ (n : ℕ). (last client before + 1) ∷ range_with_len (n + 1) (last client rest)) grown)
+          rw count ((λ i. first i ∷ next i) ∙ ap (λ (n : ℕ). (last client before + 1) ∷ range_with_len (n + 1) (last_in client rest)) grown)
       | false ↦ λ other.
-          let count : last client (e ∷ rest) ≡ last client rest = last_cons client rest e ∙ ap (λ (b : Bool). cond b 1 0 + last client rest) other ∙ omega arith in
+          let count : last_in client (e ∷ rest) ≡ last_in client rest = last_cons client rest e ∙ ap (λ (b : Bool). cond b 1 0 + last_in client rest) other ∙ omega arith in
           let grown : last client (with_entry before e) ≡ last client before = last-with_entry client before e ∙ ap (λ (b : Bool). last client before + cond b 1 0) other ∙ omega arith in
-          rw count (next ∙ ap (λ (n : ℕ). range_with_len (n + 1) (last client rest)) grown)
+          rw count (next ∙ ap (λ (n : ℕ). range_with_len (n + 1) (last_in client rest)) grown)
     ] refl
 ids_from client before (Look user group order base ∷ rest) lawful =
     let e : Entry = Look user group order base in
     let next = ids_from client (with_entry before e) rest (onward before rest e lawful) in
-    let count : last client (e ∷ rest) ≡ last client rest = last_cons client rest e ∙ omega arith in
+    let count : last_in client (e ∷ rest) ≡ last_in client rest = last_cons client rest e ∙ omega arith in
     let grown : last client (with_entry before e) ≡ last client before = last-with_entry client before e ∙ omega arith in
-    rw count (next ∙ ap (λ (n : ℕ). range_with_len (n + 1) (last client rest)) grown)
+    rw count (next ∙ ap (λ (n : ℕ). range_with_len (n + 1) (last_in client rest)) grown)
 ids_from client before (Retire group ∷ rest) lawful =
     let e : Entry = Retire group in
     let next = ids_from client (with_entry before e) rest (onward before rest e lawful) in
-    let count : last client (e ∷ rest) ≡ last client rest = last_cons client rest e ∙ omega arith in
+    let count : last_in client (e ∷ rest) ≡ last_in client rest = last_cons client rest e ∙ omega arith in
     let grown : last client (with_entry before e) ≡ last client before = last-with_entry client before e ∙ omega arith in
-    rw count (next ∙ ap (λ (n : ℕ). range_with_len (n + 1) (last client rest)) grown)
+    rw count (next ∙ ap (λ (n : ℕ). range_with_len (n + 1) (last_in client rest)) grown)
 
-pub ids_count_up : (book : Book) (client : List ℕ) → IsLawful book → act_ids client book ≡ range_with_len 1 (last client book)
-ids_count_up book client lawful = ids_from client [] book lawful
+pub ids_count_up : (book : Book) (client : List ℕ) → IsLawful book → act_ids client book.entries ≡ range_with_len 1 (last client book)
+ids_count_up book client lawful = ids_from client empty_book book.entries lawful
 
 -- each number is above the one before it
 abbrev Climbs : ℕ → List ℕ → Type 0
 Climbs low [] = Unit {0}
 Climbs low (x ∷ xs) = (low < x) × Climbs x xs
 
-climbs : (group : List ℕ) (before rest : Book) → IsLawful (before ++ rest) → Climbs (last_order group before) (look_orders group rest)
+climbs : (group : List ℕ) (before : Book) (rest : List Entry) → IsLawful (with_entries before rest) → Climbs (last_order group before) (look_orders group rest)
 climbs group before [] lawful = tt
 climbs group before (Act user other client id call ∷ rest) lawful =
     let e : Entry = Act user other client id call in
@@ -120,11 +124,11 @@ step_up low (x ∷ []) c k lt = absurd (omega arith)
 step_up low (x ∷ y ∷ ys) c zero lt = c.1.0
 step_up low (x ∷ y ∷ ys) c (suc k) lt = step_up x (y ∷ ys) c.1 k (omega arith)
 
-pub orders_rise : (book : Book) (group : List ℕ) → IsLawful book → IsStrictlyIncreasing (look_orders group book)
+pub orders_rise : (book : Book) (group : List ℕ) → IsLawful book → IsStrictlyIncreasing (look_orders group book.entries)
 orders_rise book group lawful = λ k lt.
-    let orders : List ℕ = look_orders group book in
+    let orders : List ℕ = look_orders group book.entries in
     let n : suc k ≡ k + 1 = omega arith in
-    subst (λ (m : ℕ). get_or orders k 0 < get_or orders m 0) n (step_up 0 orders (climbs group [] book lawful) k (omega (arith, lt)))
+    subst (λ (m : ℕ). get_or orders k 0 < get_or orders m 0) n (step_up 0 orders (climbs group empty_book book.entries lawful) k (omega (arith, lt)))
 
 order_step : (group : List ℕ) (before : Book) (e : Entry) → IsLawfulAfter before e → last_order group before ≤ order_after group (last_order group before) e
 order_step group before (Act user other client id call) next = omega arith
@@ -137,15 +141,15 @@ order_step group before (Look user other order base) next =
 order_step group before (Retire other) next = omega arith
 
 -- a group's last order never falls
-pub orders_stay : (group : List ℕ) (before rest : Book) → IsLawful (before ++ rest) → last_order group before ≤ last_order group (before ++ rest)
-orders_stay group before [] lawful = rw append-nil (omega arith)
+pub orders_stay : (group : List ℕ) (before : Book) (rest : List Entry) → IsLawful (with_entries before rest) → last_order group before ≤ last_order group (with_entries before rest)
+orders_stay group before [] lawful = rw (append-nil before.entries) (omega arith)
 orders_stay group before (e ∷ rest) lawful =
     let next : last_order group before ≤ order_after group (last_order group before) e = order_step group before e (here before rest e lawful) in
     let push : last_order group (with_entry before e) ≡ order_after group (last_order group before) e = last_order-with_entry group before e in
-    let more : last_order group (with_entry before e) ≤ last_order group (with_entry before e ++ rest) = orders_stay group (with_entry before e) rest (onward before rest e lawful) in
-    let joined : last_order group (with_entry before e ++ rest) ≡ last_order group (before ++ e ∷ rest) = ap (last_order group) (with_entry-append before rest e) in
+    let more : last_order group (with_entry before e) ≤ last_order group (with_entries (with_entry before e) rest) = orders_stay group (with_entry before e) rest (onward before rest e lawful) in
+    let joined : last_order group (with_entries (with_entry before e) rest) ≡ last_order group (with_entries before (e ∷ rest)) = ap (last_order group) (with_entry-more before e rest) in
     omega arith
 
 -- a client's last id after more entries
-pub last_append : (client : List ℕ) (before more : Book) → last client (before ++ more) ≡ last client before + last client more
-last_append client before more = sum_by-append (λ (x : Entry). cond (is_act_of client x) 1 0) before more
+pub last_append : (client : List ℕ) (before : Book) (more : List Entry) → last client (with_entries before more) ≡ last client before + last_in client more
+last_append client before more = sum_by-append (λ (x : Entry). cond (is_act_of client x) 1 0) before.entries more

@@ -17,7 +17,7 @@ use Rattle.rv_turns.specs.declared.pull.PullRequest.{PullRequest}
 use Rattle.rv_turns.specs.declared.refusal.Refusal.{Refusal}
 use Rattle.rv_book.specs.declared.entry.Entry.{Entry}
 use Rattle.rv_book.specs.declared.entry.Entry.TheVariants.{Act, Look, Retire}
-use Rattle.rv_book.specs.Book.{Book, bound, group_of, last, last_order, ids, size, up_to, with_entry}
+use Rattle.rv_book.specs.Book.{Book, bound, group_of, last, last_order, ids, size, up_to, with_entry, with_entries}
 use Rattle.rv_rows.specs.declared.row.Row.{Row}
 use Rattle.rv_rows.specs.declared.call.Call.{Call}
 use Rattle.rv_rows.specs.Keys.{row_key}
@@ -37,26 +37,26 @@ act_id client (Act user group actor id call) = if bytes_eq actor client then Som
 act_id client (Look user group order base) = None
 act_id client (Retire group) = None
 
--- the ids of a client's acts, in the order of the book
-abbrev pub act_ids : List ℕ → Book → List ℕ
-act_ids client book = filter_map (act_id client) book
+-- the ids of a client's acts, in their order
+abbrev pub act_ids : List ℕ → List Entry → List ℕ
+act_ids client entries = filter_map (act_id client) entries
 
 abbrev pub look_order : List ℕ → Entry → Option ℕ
 look_order group (Act user other client id call) = None
 look_order group (Look user other order base) = if bytes_eq other group then Some order else None
 look_order group (Retire other) = None
 
--- the orders of a group's looks, in the order of the book
-abbrev pub look_orders : List ℕ → Book → List ℕ
-look_orders group book = filter_map (look_order group) book
+-- the orders of a group's looks, in their order
+abbrev pub look_orders : List ℕ → List Entry → List ℕ
+look_orders group entries = filter_map (look_order group) entries
 
 -- Each client's acts have the ids 1, 2, 3 and so on.
 abbrev pub IdsCountUp : Type 0
-IdsCountUp = (book : Book) (client : List ℕ) → IsLawful book → act_ids client book ≡ range_with_len 1 (last client book)
+IdsCountUp = (book : Book) (client : List ℕ) → IsLawful book → act_ids client book.entries ≡ range_with_len 1 (last client book)
 
 -- The orders of each group's looks rise.
 abbrev pub OrdersRise : Type 0
-OrdersRise = (book : Book) (group : List ℕ) → IsLawful book → IsStrictlyIncreasing (look_orders group book)
+OrdersRise = (book : Book) (group : List ℕ) → IsLawful book → IsStrictlyIncreasing (look_orders group book.entries)
 
 -- the entry names the group, as an act, a look or a retirement
 abbrev pub is_of_group : List ℕ → Entry → Bool
@@ -78,19 +78,19 @@ group_in client (Retire group) = None
 
 -- No group has two users: each act and each look of a group is by the user whom the group is bound to.
 abbrev pub GroupsHaveOneUser : Type 0
-GroupsHaveOneUser = (book : Book) (group user : List ℕ) (entry : Entry) → IsLawful book → Contains book entry → user_in group entry ≡ Some user → bound group book ≡ Some user
+GroupsHaveOneUser = (book : Book) (group user : List ℕ) (entry : Entry) → IsLawful book → Contains book.entries entry → user_in group entry ≡ Some user → bound group book ≡ Some user
 
 -- No client has two groups: each of its acts is of the group of its first.
 abbrev pub ClientsHaveOneGroup : Type 0
-ClientsHaveOneGroup = (book : Book) (client group : List ℕ) (entry : Entry) → IsLawful book → Contains book entry → group_in client entry ≡ Some group → group_of client book ≡ Some group
+ClientsHaveOneGroup = (book : Book) (client group : List ℕ) (entry : Entry) → IsLawful book → Contains book.entries entry → group_in client entry ≡ Some group → group_of client book ≡ Some group
 
 -- Nothing of a group follows its retirement.
 abbrev pub RetiredGroupsRest : Type 0
-RetiredGroupsRest = (book before after : Book) (group : List ℕ) (entry : Entry) → IsLawful book → book ≡ before ++ Retire group ∷ after → Contains after entry → is_of_group group entry ≡ false
+RetiredGroupsRest = (book before : Book) (after : List Entry) (group : List ℕ) (entry : Entry) → IsLawful book → book ≡ with_entries before (Retire group ∷ after) → Contains after entry → is_of_group group entry ≡ false
 
 -- No entry stands twice.
 abbrev pub EntriesStandOnce : Type 0
-EntriesStandOnce = (book before between after : Book) (entry : Entry) → IsLawful book → book ≡ before ++ entry ∷ (between ++ entry ∷ after) → ⊥
+EntriesStandOnce = (book before : Book) (between after : List Entry) (entry : Entry) → IsLawful book → book ≡ with_entries before (entry ∷ (between ++ entry ∷ after)) → ⊥
 
 -- A turn leaves a sound server sound, only adds to its book, and leaves its limit.
 abbrev pub TurnsKeepLaw : ReplyText → Type 0
@@ -103,7 +103,7 @@ PushesKeepLaw write = (from : Sender) (mutations : List Mutation) (old new : Ser
 -- The mutation stands in the book, as an act of its sender, of its client and with its id. If it was skipped, the call is that of the
 -- one that came first.
 abbrev pub IsEntered : Sender → Book → Mutation → Type 0
-IsEntered from book m = (call : Call) × Contains book (Act from.user from.group m.client m.id call)
+IsEntered from book m = (call : Call) × Contains book.entries (Act from.user from.group m.client m.id call)
 
 -- A mutation that is run or skipped at a lawful book stands in the book that is left; but for an id of 0, which is skipped and stands
 -- nowhere.

@@ -20,6 +20,7 @@ use Rattle.rv_rows.specs.Changes.{same_row}
 use Rattle.rv_rows.specs.EffectLaws.{same_row-Decides}
 use Rattle.rv_turns.specs.declared.op.Op.{Op}
 use Rattle.rv_turns.specs.declared.op.Op.TheVariants.{Clear, Del, Put}
+use Rattle.rv_book.specs.declared.entry.Entry.{Entry}
 use Rattle.rv_book.specs.Book.{Book, since, up_to}
 use Rattle.rv_book.specs.BookWords.{up_to-since}
 use Rattle.rv_history.specs.Replay.{rows_after, rows_of}
@@ -68,7 +69,7 @@ unwritten k before after row is e =
     unwritten_by (row_at k before) row (subst (λ (o : Option Row). option_map_or (λ (r : Row). option_map_or (λ (was : Row). not (same_row was r)) (row_at k before) true) o false ≡ false) is e)
 
 -- a row that stands after entries that do not touch its key stood before them
-pub untouched : (k : List ℕ) (rows : List Row) (since : Book) (row : Row) → row_at k (fold rows_after rows since) ≡ Some row → is_touched k rows since ≡ false → row_at k rows ≡ Some row
+pub untouched : (k : List ℕ) (rows : List Row) (since : List Entry) (row : Row) → row_at k (fold rows_after rows since) ≡ Some row → is_touched k rows since ≡ false → row_at k rows ≡ Some row
 unfolding is_touched
 untouched k rows [] row is e = is
 untouched k rows (entry ∷ since) row is e =
@@ -138,11 +139,11 @@ unfolding is_absent
 absent_is rows row k o is same =
     ap (λ (t : List ℕ). not (has_row t rows)) (sym same) ∙ ap not (sym (found-any row_text k rows)) ∙ ap (λ (p : Option Row). not (is_some p)) is
 
-pub news_absent : (base rows : List Row) (since : Book) (row : Row) → is_absent base row ≡ true → is_news base rows since row ≡ true
+pub news_absent : (base rows : List Row) (since : List Entry) (row : Row) → is_absent base row ≡ true → is_news base rows since row ≡ true
 unfolding is_news
 news_absent base rows since row e = rw e refl
 
-pub news_present : (base rows : List Row) (since : Book) (row : Row) → is_absent base row ≡ false → is_news base rows since row ≡ is_touched (row_text row) rows since
+pub news_present : (base rows : List Row) (since : List Entry) (row : Row) → is_absent base row ≡ false → is_news base rows since row ≡ is_touched (row_text row) rows since
 unfolding is_news
 news_present base rows since row e = rw e refl
 
@@ -163,7 +164,7 @@ chosen {X = X} f news absent (Some x) (Some y) new old same =
       | false ↦ λ e. ap (λ (z : X). Some (f z)) (both.1 e)
     ] refl)
 
-difference_finds : (k : List ℕ) (base now rows : List Row) (since : Book) → Distinct row_text base → Distinct row_text now
+difference_finds : (k : List ℕ) (base now rows : List Row) (since : List Entry) → Distinct row_text base → Distinct row_text now
     → ((row : Row) → row_at k base ≡ Some row → row_at k rows ≡ Some row)
     → ((row : Row) → row_at k now ≡ Some row → row_at k (fold rows_after rows since) ≡ Some row)
     → find_by key k (fold applied (fold applied (map key_value base) (map (λ row. Del (row_key row)) (filter (is_absent now) base))) (map (λ row. Put row) (filter (is_news base rows since) now))) ≡ find_by key k (map key_value now)
@@ -188,7 +189,7 @@ difference_finds k base now rows since h g was stands =
 
 -- the rows at a place, and the entries after it, make the rows of the book
 pub replayed : (book : Book) (place : ℕ) → fold rows_after (rows_of (up_to place book)) (since place book) ≡ rows_of book
-replayed book place = sym (fold-append rows_after [] (up_to place book) (since place book)) ∙ ap rows_of (up_to-since place book)
+replayed book place = sym (fold-append rows_after [] (up_to place book).entries (since place book)) ∙ ap rows_of (up_to-since place book)
 
 pub patch_applies : (user : List ℕ) (book : Book) (place : ℕ) → fold applied (client_view user (up_to place book)) (patch_since user book (Some place)) ≡ client_view user book
 patch_applies user book place =

@@ -16,7 +16,7 @@ rows_after rows (Look user group order base) = rows
 rows_after rows (Retire group) = rows
 
 abbrev pub rows_of : Book → List Row
-rows_of book = fold rows_after [] book
+rows_of book = fold rows_after [] book.entries
 
 -- The entry at the place wrote the key: the row stands after it, and was absent or another before it.
 pub record Wrote (book : Book) (key : List ℕ) (place : ℕ) : Type 0 where

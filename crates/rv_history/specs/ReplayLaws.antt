@@ -1,5 +1,5 @@
 -- A book goes on by one entry: what becomes of the last writes and of the stored rows.
-use Rattle.std.proofs.Common.{◌≡◌, ℕ, ◌+◌, ◌-◌, ◌≤◌, true, false, cond, List, [], ◌∷◌, ◌++◌, Option, Some, None, refl, sym, ap, ◌∙◌, subst, arith, map, inl, inr}
+use Rattle.std.proofs.Common.{◌≡◌, ℕ, ◌+◌, ◌-◌, ◌≤◌, true, false, cond, List, [], ◌∷◌, Option, Some, None, refl, sym, ap, ◌∙◌, subst, arith, map, inl, inr}
 use Rattle.std.specs.Option.{is_some, IsSome, option_map, option_map_or}
 use Rattle.std.specs.declared.cmp.Ordering.TheVariants.{Less}
 use Rattle.std.specs.Ordering.{nat_cmp}
@@ -22,8 +22,8 @@ use Rattle.rv_base.specs.Arranged.{find-map, find-sorted}
 use Rattle.rv_rows.specs.EffectLaws.{distinct-effect, effect-sorted, same_row-Decides}
 use Rattle.rv_book.specs.declared.entry.Entry.{Entry}
 use Rattle.rv_book.specs.declared.entry.Entry.TheVariants.{Act, Look, Retire}
-use Rattle.rv_book.specs.Book.{Book, size, with_entry}
-use Rattle.rv_book.specs.BookWords.{size-append, size-with_entry, up_to-append, up_to-before, up_to-end}
+use Rattle.rv_book.specs.Book.{Book, size, with_entry, empty_book, with_entries}
+use Rattle.rv_book.specs.BookWords.{size-with_entries, size-with_entry, up_to-with_entries, up_to-before, up_to-end}
 use Rattle.rv_history.specs.Replay.{rows_after, rows_of, Wrote, IsLastWrite, IsReplay}
 
 -- the row of a key at a book
@@ -32,23 +32,23 @@ At k book = row_at k (rows_of book)
 
 -- the rows after one more entry are the entry's step from those before
 pub rows_of-with_entry : (book : Book) (e : Entry) → rows_of (with_entry book e) ≡ rows_after (rows_of book) e
-rows_of-with_entry book e = fold_push _ _ book e
+rows_of-with_entry book e = fold_push _ _ book.entries e
 
 -- more entries leave what was written in the front
-pub wrote_more : (book more : Book) (k : List ℕ) (p : ℕ) → Wrote book k p → Wrote (book ++ more) k p
+pub wrote_more : (book : Book) (more : List Entry) (k : List ℕ) (p : ℕ) → Wrote book k p → Wrote (with_entries book more) k p
 wrote_more book more k p w = record {
   first = w.first;
-  within = omega (arith, w.within, size-append book more);
-  stands = subst (λ (b : Book). IsSome (At k b)) (sym (up_to-append p book more w.within)) w.stands;
-  differs = λ same. w.differs (ap (At k) (sym (up_to-append p book more w.within)) ∙ same ∙ ap (At k) (up_to-append (p - 1) book more (omega (arith, w.within))));
+  within = omega (arith, w.within, size-with_entries book more);
+  stands = subst (λ (b : Book). IsSome (At k b)) (sym (up_to-with_entries p book more w.within)) w.stands;
+  differs = λ same. w.differs (ap (At k) (sym (up_to-with_entries p book more w.within)) ∙ same ∙ ap (At k) (up_to-with_entries (p - 1) book more (omega (arith, w.within))));
 }
 
-pub wrote_less : (book more : Book) (k : List ℕ) (p : ℕ) → Wrote (book ++ more) k p → p ≤ size book → Wrote book k p
+pub wrote_less : (book : Book) (more : List Entry) (k : List ℕ) (p : ℕ) → Wrote (with_entries book more) k p → p ≤ size book → Wrote book k p
 wrote_less book more k p w le = record {
   first = w.first;
   within = le;
-  stands = subst (λ (b : Book). IsSome (At k b)) (up_to-append p book more le) w.stands;
-  differs = λ same. w.differs (ap (At k) (up_to-append p book more le) ∙ same ∙ ap (At k) (sym (up_to-append (p - 1) book more (omega (arith, le)))));
+  stands = subst (λ (b : Book). IsSome (At k b)) (up_to-with_entries p book more le) w.stands;
+  differs = λ same. w.differs (ap (At k) (up_to-with_entries p book more le) ∙ same ∙ ap (At k) (sym (up_to-with_entries (p - 1) book more (omega (arith, le)))));
 }
 
 at_end : (book : Book) (e : Entry) (k : List ℕ) → Wrote (with_entry book e) k (size book + 1) → At k (with_entry book e) ≡ At k book → ⊥
@@ -89,14 +89,14 @@ replay_same book e stored same r = record {
 }
 
 -- no two rows of a book have one key
-distinct_after : (rows : List Row) (book : Book) → Distinct row_text rows → Distinct row_text (fold rows_after rows book)
+distinct_after : (rows : List Row) (entries : List Entry) → Distinct row_text rows → Distinct row_text (fold rows_after rows entries)
 distinct_after rows [] h = h
-distinct_after rows (Act user group client id call ∷ book) h = distinct_after (effect rows user call) book (distinct-effect rows user call h)
-distinct_after rows (Look user group order base ∷ book) h = distinct_after rows book h
-distinct_after rows (Retire group ∷ book) h = distinct_after rows book h
+distinct_after rows (Act user group client id call ∷ entries) h = distinct_after (effect rows user call) entries (distinct-effect rows user call h)
+distinct_after rows (Look user group order base ∷ entries) h = distinct_after rows entries h
+distinct_after rows (Retire group ∷ entries) h = distinct_after rows entries h
 
 pub distinct-rows_of : (book : Book) → Distinct row_text (rows_of book)
-distinct-rows_of book = distinct_after [] book tt
+distinct-rows_of book = distinct_after [] book.entries tt
 
 -- what is stored under a key is the book's row
 pub stored_is : (book : Book) (stored : List Stored) (k : List ℕ) → IsReplay book stored → option_map (λ (s : Stored). s.0) (find k stored) ≡ row_at k (rows_of book)
@@ -193,5 +193,5 @@ replay_look book stored user group order base r = replay_same book (Look user gr
 pub replay_retire : (book : Book) (stored : List Stored) (group : List ℕ) → IsReplay book stored → IsReplay (with_entry book (Retire group)) stored
 replay_retire book stored group r = replay_same book (Retire group) stored (rows_of-with_entry book _) r
 
-pub replay_none : IsReplay [] []
+pub replay_none : IsReplay empty_book []
 replay_none = record { rows = refl; versions = tt }

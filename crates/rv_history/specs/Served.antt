@@ -1,8 +1,8 @@
 -- A server, as contracts see it, and its turns: each settles what is in doubt, and is then a step of the machine.
-use Rattle.std.specs.Prelude.{◌≡◌, ℕ, ◌+◌, ◌<◌, ◌≤◌, ◌⊎◌, ◌++◌, Option, Some, None, IsSome}
+use Rattle.std.specs.Prelude.{◌≡◌, ℕ, ◌+◌, ◌<◌, ◌≤◌, ◌⊎◌, Option, Some, None, IsSome}
 use Rattle.rv_base.specs.Causes.{Rose}
 use Rattle.rv_book.specs.declared.entry.Entry.{Entry}
-use Rattle.rv_book.specs.Book.{Book, size, with_entry}
+use Rattle.rv_book.specs.Book.{Book, size, with_entry, Extends}
 use Rattle.rv_turns.specs.Asks.{Ask}
 use Rattle.rv_turns.specs.Outcomes.{trouble_of, IsChanged}
 use Rattle.rv_turns.specs.declared.outcome.Outcome.{Outcome}
@@ -11,18 +11,25 @@ use Rattle.rv_turns.specs.declared.refusal.Trouble.TheVariants.{Keeper, Changed}
 use Rattle.rv_history.specs.Lawful.{IsLawful, IsLawfulAfter}
 use Rattle.rv_history.specs.Machine.{ReplyText, Step}
 
--- The book; the most entries that it may have; the entry in doubt, which may have been kept and was not entered yet; and how
--- often what keeps the book has failed.
+-- what is in doubt: nothing, or an entry that may have been kept and was not entered yet
+abbrev pub Doubt : Type 0
+Doubt = Option Entry
+
+-- the book with what is in doubt entered
+abbrev pub with_doubt : Book → Doubt → Book
+with_doubt book None = book
+with_doubt book (Some entry) = with_entry book entry
+
+-- The book; the most entries that it may have; what is in doubt; and how often what keeps the book has failed.
 pub record Served : Type 0 where
   pub book : Book
   pub limit : ℕ
-  pub doubt : Option Entry
+  pub doubt : Doubt
   pub faults : ℕ
 
--- The settled book: an entry in doubt is dropped or entered.
-abbrev pub Settles : Book → Option Entry → Book → Type 0
-Settles book None settled = settled ≡ book
-Settles book (Some entry) settled = (settled ≡ book) ⊎ (settled ≡ with_entry book entry)
+-- The settled book: what is in doubt is dropped or entered.
+abbrev pub Settles : Book → Doubt → Book → Type 0
+Settles book doubt settled = (settled ≡ book) ⊎ (settled ≡ with_doubt book doubt)
 
 -- book and doubt are as before
 abbrev pub Stays : Served → Served → Type 0
@@ -52,7 +59,7 @@ module _ (write : ReplyText) where
   -- The turn, by the book as it settled, the entry that it left in doubt, and the trouble that its outcome tells. Without a trouble the
   -- machine makes its step from the settled book, and nothing is in doubt and no fault came. With one, either what was in doubt still is; or
   -- the entry of the step is, and the trouble is that the keeper failed.
-  abbrev pub TurnOf : Served → Book → Ask → Outcome → Option Entry → Option Trouble → Served → Type 0
+  abbrev pub TurnOf : Served → Book → Ask → Outcome → Doubt → Option Trouble → Served → Type 0
   TurnOf old settled ask outcome None None new = Step write old.limit settled ask outcome new.book × (new.doubt ≡ None) × (new.faults ≡ old.faults)
   TurnOf old settled ask outcome None (Some trouble) new = (settled ≡ old.book) × StaysInDoubt old trouble new
   TurnOf old settled ask outcome (Some entry) (Some Keeper) new = LeavesDoubt old settled ask entry new
@@ -62,8 +69,8 @@ module _ (write : ReplyText) where
   pub record TakesTurn (old : Served) (ask : Ask) (outcome : Outcome) (new : Served) : Type 0 where
     -- the book once it was settled, or as it was, where it could not be
     pub settled : Book
-    -- the entry that this turn left in doubt
-    pub left : Option Entry
+    -- what this turn left in doubt
+    pub left : Doubt
     pub settles : Settles old.book old.doubt settled
     pub turn : TurnOf old settled ask outcome left (trouble_of outcome) new
     pub later : old.faults ≤ new.faults
@@ -78,7 +85,7 @@ pub record IsAssured (Told Tells Steady Steadies : Type 0) (trouble : Option Tro
   pub sure : Steady → trouble ≡ None
 
 -- an entry in doubt may stand next in the book, which is not full
-abbrev pub MayStand : Book → ℕ → Option Entry → Type 0
+abbrev pub MayStand : Book → ℕ → Doubt → Type 0
 MayStand book limit None = Unit {0}
 MayStand book limit (Some entry) = IsLawfulAfter book entry × (size book < limit)
 
@@ -91,6 +98,6 @@ pub record IsSound (served : Served) : Type 0 where
 -- the book is sound afterwards, entries were only added, the limit stays and the count of faults never falls
 pub record KeepsLaw (old new : Served) : Type 0 where
   pub sound : IsSound new
-  pub more : (more : Book) × (new.book ≡ old.book ++ more)
+  pub more : Extends new.book old.book
   pub limit : new.limit ≡ old.limit
   pub later : old.faults ≤ new.faults

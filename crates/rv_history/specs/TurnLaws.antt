@@ -1,8 +1,9 @@
 -- What follows from a turn: a step adds at most one entry to its book, and so does settling; a turn only adds to it; and one that tells no
 -- trouble is a step from the settled book, in which no fault came.
-use Rattle.std.proofs.Common.{◌≡◌, ℕ, ◌⊎◌, inl, inr, Bool, true, false, List, [], ◌∷◌, ◌++◌, Option, Some, None, refl, sym, ap, ◌∙◌, append_assoc, append-nil}
+use Rattle.std.proofs.Common.{◌≡◌, ℕ, ◌⊎◌, inl, inr, Bool, true, false, List, [], ◌∷◌, Option, Some, None, refl, sym, ◌∙◌}
 use Rattle.rv_book.specs.declared.entry.Entry.{Entry}
-use Rattle.rv_book.specs.Book.{Book, with_entry}
+use Rattle.rv_book.specs.Book.{Book, with_entry, Extends}
+use Rattle.rv_book.specs.BookWords.{extends_same, extends_on}
 use Rattle.rv_turns.specs.Asks.{Ask}
 use Rattle.rv_turns.specs.Outcomes.{refusal_of, trouble_of}
 use Rattle.rv_turns.specs.declared.outcome.Outcome.{Outcome}
@@ -12,24 +13,14 @@ use Rattle.rv_turns.specs.declared.pull.PullRequest.{PullRequest}
 use Rattle.rv_turns.specs.declared.refusal.Trouble.{Trouble}
 use Rattle.rv_turns.specs.declared.refusal.Trouble.TheVariants.{Keeper, Changed}
 use Rattle.rv_history.specs.Machine.{ReplyText, Replies, Step}
-use Rattle.rv_history.specs.Served.{Served, Settles, TurnOf, TakesTurn}
+use Rattle.rv_history.specs.Served.{Served, Settles, TurnOf, TakesTurn, Doubt}
 
 -- at most one entry is added
 abbrev pub Adds : Book → Book → Type 0
 Adds old new = (new ≡ old) ⊎ ((e : Entry) × (new ≡ with_entry old e))
 
--- the book goes on
-abbrev pub GoesOn : Book → Book → Type 0
-GoesOn old new = (more : Book) × (new ≡ old ++ more)
-
-goes_same : (old new : Book) → new ≡ old → GoesOn old new
-goes_same old new same = ([], same ∙ sym (append-nil old))
-
-goes_far : (old mid new : Book) → GoesOn old mid → GoesOn mid new → GoesOn old new
-goes_far old mid new (some, p) (more, q) = (some ++ more, q ∙ ap (λ (b : Book). b ++ more) p ∙ append_assoc old some more)
-
-adds_go : (old new : Book) → Adds old new → GoesOn old new
-adds_go old new (inl same) = goes_same old new same
+adds_go : (old new : Book) → Adds old new → Extends new old
+adds_go old new (inl same) = extends_same new old same
 adds_go old new (inr (e, is)) = (e ∷ [], is)
 
 module _ (write : ReplyText) (limit : ℕ) (book : Book) where
@@ -54,26 +45,26 @@ module _ (write : ReplyText) (limit : ℕ) (book : Book) where
   step_adds (Ask.retirement group) (Skipped number) new s = absurd s
   step_adds (Ask.retirement group) (Pulled reply) new s = absurd s
 
-pub settles_go : (book : Book) (doubt : Option Entry) (settled : Book) → Settles book doubt settled → GoesOn book settled
-settles_go book None settled same = goes_same book settled same
-settles_go book (Some entry) settled (inl same) = goes_same book settled same
+settles_go : (book : Book) (doubt : Doubt) (settled : Book) → Settles book doubt settled → Extends settled book
+settles_go book doubt settled (inl same) = extends_same settled book same
+settles_go book None settled (inr same) = extends_same settled book same
 settles_go book (Some entry) settled (inr is) = (entry ∷ [], is)
 
 module _ (write : ReplyText) (ask : Ask) (outcome : Outcome) (old new : Served) where
-  settled_goes : (settled : Book) (left : Option Entry) (trouble : Option Trouble) → TurnOf write old settled ask outcome left trouble new → GoesOn settled new.book
+  settled_goes : (settled : Book) (left : Doubt) (trouble : Option Trouble) → TurnOf write old settled ask outcome left trouble new → Extends new.book settled
   settled_goes settled None None (step, none, still) = adds_go settled new.book (step_adds write old.limit settled ask outcome new.book step)
-  settled_goes settled None (Some trouble) (same, stays) = goes_same settled new.book (stays.stays.0 ∙ sym same)
-  settled_goes settled (Some entry) (Some Keeper) left = goes_same settled new.book left.book
+  settled_goes settled None (Some trouble) (same, stays) = extends_same new.book settled (stays.stays.0 ∙ sym same)
+  settled_goes settled (Some entry) (Some Keeper) left = extends_same new.book settled left.book
   settled_goes settled (Some entry) (Some (Changed kept found)) never = absurd never
   settled_goes settled (Some entry) None never = absurd never
 
-  pub goes_from : (taken : TakesTurn write old ask outcome new) → GoesOn taken.settled new.book
+  pub goes_from : (taken : TakesTurn write old ask outcome new) → Extends new.book taken.settled
   goes_from taken = settled_goes taken.settled taken.left (trouble_of outcome) taken.turn
 
-  pub turn_goes : TakesTurn write old ask outcome new → GoesOn old.book new.book
-  turn_goes taken = goes_far old.book taken.settled new.book (settles_go old.book old.doubt taken.settled taken.settles) (settled_goes taken.settled taken.left (trouble_of outcome) taken.turn)
+  pub turn_goes : TakesTurn write old ask outcome new → Extends new.book old.book
+  turn_goes taken = extends_on new.book taken.settled old.book (settled_goes taken.settled taken.left (trouble_of outcome) taken.turn) (settles_go old.book old.doubt taken.settled taken.settles)
 
-  step_by : (settled : Book) (left : Option Entry) (trouble : Option Trouble) → trouble ≡ None → TurnOf write old settled ask outcome left trouble new → Step write old.limit settled ask outcome new.book × (new.faults ≡ old.faults)
+  step_by : (settled : Book) (left : Doubt) (trouble : Option Trouble) → trouble ≡ None → TurnOf write old settled ask outcome left trouble new → Step write old.limit settled ask outcome new.book × (new.faults ≡ old.faults)
   step_by settled None None none (step, doubt, still) = (step, still)
   step_by settled (Some entry) None none never = absurd never
   step_by settled left (Some trouble) none turn = absurd (cc)
