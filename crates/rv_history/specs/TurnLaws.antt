@@ -45,7 +45,7 @@ module _ (write : ReplyText) (limit : ℕ) (book : Book) where
   step_adds (Ask.retirement group) (Skipped number) new s = absurd s
   step_adds (Ask.retirement group) (Pulled reply) new s = absurd s
 
-settles_go : (book : Book) (doubt : Doubt) (settled : Book) → Settles book doubt settled → Extends settled book
+pub settles_go : (book : Book) (doubt : Doubt) (settled : Book) → Settles book doubt settled → Extends settled book
 settles_go book doubt settled (inl same) = extends_same settled book same
 settles_go book None settled (inr same) = extends_same settled book same
 settles_go book (Some entry) settled (inr is) = (entry ∷ [], is)
