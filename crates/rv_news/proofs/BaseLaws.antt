@@ -1,16 +1,14 @@
 -- A text spells at most one place, so the search for a base comes down to that place.
-use Rattle.std.proofs.Common.{◌≡◌, ℕ, zero, suc, ◌+◌, ◌-◌, ◌≤◌, ◌<◌, ◌^◌, ◌==◌, ◌&&◌, ◌≢◌, List, Bool, true, false, cond, Option, Some, None, refl, sym, ap, ◌∙◌, arith}
-use Rattle.std.specs.Prelude.{find, decimal, slice_get, option_and_then, Result, Ok, Err}
+use Rattle.std.proofs.Common.{◌≡◌, ℕ, zero, suc, ◌+◌, ◌-◌, ◌≤◌, ◌<◌, ◌^◌, ◌==◌, ◌&&◌, ◌≢◌, List, Bool, true, false, cond, Some, None, refl, sym, ap, ◌∙◌, arith}
+use Rattle.std.specs.Prelude.{find, decimal, Result, Ok, Err}
 use Rattle.std.specs.List.{range_with_len}
 use Rattle.std.specs.Str.{bytes_eq}
 use Rattle.std.specs.Str.Parse.{ParsesUnsigned}
-use Rattle.std.proofs.lemmas.Bool.Decides.{Decides-eqb}
 use Rattle.std.proofs.lemmas.Fmt.{decimal_injective, parse-decimal}
-use Rattle.std.proofs.lemmas.Option.{slice_get_within}
 use Rattle.std.proofs.lemmas.Slice.Eq.{bytes_eq-Decides}
-use Rattle.rv_book.specs.declared.entry.Entry.{Entry}
 use Rattle.rv_book.specs.Book.{Book, size}
-use Rattle.rv_book.specs.Kept.{kept, look_at, look_of}
+use Rattle.rv_book.specs.Kept.{kept, look_at}
+use Rattle.rv_book.specs.LookLaws.{look_at-within}
 use Rattle.rv_history.specs.Bases.{names_base}
 use Rattle.rv_history.specs.Based.{first_and, last_and, by_look, some_look}
 
@@ -39,21 +37,9 @@ spelled user text order book place is =
     let both : (bytes_eq (decimal place) text && kept place book) ≡ true = first_and (bytes_eq (decimal place) text && kept place book) (by_look user order book place) is in
     sym ((bytes_eq-Decides (decimal place) text).0 (first_and (bytes_eq (decimal place) text) (kept place book) both))
 
-some_entry : (o : Option Entry) (look : List ℕ × List ℕ × ℕ) → option_and_then look_of o ≡ Some look → (e : Entry) × (o ≡ Some e)
-some_entry None look h = absurd (cc)
-some_entry (Some e) look h = (e, refl)
-
 -- a look is within the book
 look_within : (place : ℕ) (book : Book) (look : List ℕ × List ℕ × ℕ) → look_at place book ≡ Some look → (1 ≤ place) × (place < 1 + size book)
-look_within place book look there =
-    elim (place == 0) as (λ b. place == 0 ≡ b → option_and_then look_of (cond b None (slice_get book (place - 1))) ≡ Some look → (1 ≤ place) × (place < 1 + size book)) [
-      | true ↦ λ e f. absurd (cc)
-      | false ↦ λ e f.
-          let other : place ≢ 0 = (λ same. let both : true ≡ false = sym ((Decides-eqb place 0).1 same) ∙ e in cc) in
-          let entry = some_entry (slice_get book (place - 1)) look f in
-          let lt : place - 1 < size book = slice_get_within book (place - 1) entry.0 entry.1 in
-          (omega arith, omega arith)
-    ] refl there
+look_within place book look there = let is = look_at-within place book look there in (omega (arith, is.0), omega (arith, is.1))
 
 -- a base is within the book
 within : (user text : List ℕ) (order : ℕ) (book : Book) (place : ℕ) → names_base user text order book place ≡ true → (1 ≤ place) × (place < 1 + size book)

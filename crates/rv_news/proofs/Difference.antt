@@ -16,6 +16,7 @@ use Rattle.rv_rows.specs.EffectLaws.{sees-sorted}
 use Rattle.rv_turns.specs.declared.op.Op.{Op}
 use Rattle.rv_turns.specs.declared.op.Op.TheVariants.{Clear, Del, Put}
 use Rattle.rv_sharing.specs.Visible.{visible}
+use Rattle.rv_book.specs.declared.entry.Entry.{Entry}
 use Rattle.rv_book.specs.Book.{Book, since, up_to}
 use Rattle.rv_history.specs.Replay.{rows_of, IsReplay}
 use Rattle.rv_news.specs.Shows.{put_of}
@@ -100,7 +101,7 @@ any_same k v (x ∷ xs) h =
     ∙ first_or (λ (s : Stored). s.1 == v) (bytes_eq k (row_text x.0)) x (find k xs) (λ e. subst (λ (t : List ℕ). find t xs ≡ None) (sym ((bytes_eq-Decides k (row_text x.0)).0 e)) h.0)
 
 -- a row is news exactly where its key does not stand at the base with its version
-news_tells : (rows : List Row) (since : Book) (base : List Stored) (s : Stored) → Distinct stored_key base
+news_tells : (rows : List Row) (since : List Entry) (base : List Stored) (s : Stored) → Distinct stored_key base
     → ((was : Stored) → find (row_text s.0) base ≡ Some was → is_touched (row_text s.0) rows since ≡ not (was.1 == s.1))
     → not (list_any (λ other. bytes_eq (key_text other.0) (row_text s.0) && (other.1 == s.1)) (map pair base)) ≡ is_news (rows_in base) rows since s.0
 news_tells rows since base s h told =
@@ -125,7 +126,7 @@ pub puts_tell : (user : List ℕ) (book : Book) (place : ℕ) (stored earlier : 
     → news_keys (visible user earlier) (visible user stored) ≡ map row_key (filter (is_news (seen user (rows_of (up_to place book))) (rows_of (up_to place book)) (since place book)) (seen user (rows_of book)))
 puts_tell user book place stored earlier r q =
     let rows : List Row = rows_of (up_to place book) in
-    let since : Book = since place book in
+    let since : List Entry = since place book in
     let base : List Stored = sighted user earlier in
     let apart : Distinct stored_key earlier = distinct-in_order stored_key earlier (stored_in_order (up_to place book) earlier q) in
     let sight : Stored → Bool = λ (s : Stored). sees_row user (rows_in earlier) s.0 in

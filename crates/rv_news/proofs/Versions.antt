@@ -1,6 +1,6 @@
 -- What the versions of stored rows tell of the entries since a place: a key was touched since exactly where its version is
 -- another.
-use Rattle.std.proofs.Common.{◌≡◌, ℕ, ◌+◌, ◌<◌, Bool, true, false, not, ◌||◌, ◌==◌, List, [], ◌∷◌, ◌++◌, length, Option, Some, None, refl, sym, ap, ◌∙◌, subst, arith, inl, inr}
+use Rattle.std.proofs.Common.{◌≡◌, ℕ, ◌+◌, ◌<◌, Bool, true, false, not, ◌||◌, ◌==◌, List, [], ◌∷◌, Option, Some, None, refl, sym, ap, ◌∙◌, subst, arith, inl, inr}
 use Rattle.std.specs.Option.{option_map_or, IsSome}
 use Rattle.std.proofs.lemmas.Bool.{cases_lt}
 use Rattle.std.proofs.lemmas.Bool.Decides.{nat_tests}
@@ -11,8 +11,8 @@ use Rattle.rv_rows.specs.Held.{Stored, stored_key, find}
 use Rattle.rv_rows.specs.Changes.{same_row}
 use Rattle.rv_rows.specs.EffectLaws.{same_row-Decides}
 use Rattle.rv_book.specs.declared.entry.Entry.{Entry}
-use Rattle.rv_book.specs.Book.{Book, since, size, up_to, with_entry}
-use Rattle.rv_book.specs.BookWords.{size-append, size-with_entry, up_to-before, up_to-end, up_to-since, with_entry-append}
+use Rattle.rv_book.specs.Book.{Book, since, size, up_to, with_entry, with_entries}
+use Rattle.rv_book.specs.BookWords.{size-with_entry, up_to-before, up_to-end, up_to-since, with_entry-more, size-with_entries}
 use Rattle.rv_history.specs.Replay.{rows_of, Wrote, IsLastWrite, IsReplay}
 use Rattle.rv_history.specs.History.{is_written, is_touched}
 use Rattle.rv_history.specs.ReplayLaws.{At, rows_of-with_entry, wrote_more, wrote_less, all_found}
@@ -60,7 +60,7 @@ record IsWrittenAfter (book : Book) (key : List ℕ) (floor : ℕ) : Type 0 wher
   wrote : Wrote book key place
 
 -- the test of one more entry, over the rows of the book with it
-next_touched : (front : Book) (e : Entry) (since : Book) (k : List ℕ) → is_touched k (rows_of front) (e ∷ since) ≡ (is_written k (rows_of front) (rows_of (with_entry front e)) || is_touched k (rows_of (with_entry front e)) since)
+next_touched : (front : Book) (e : Entry) (since : List Entry) (k : List ℕ) → is_touched k (rows_of front) (e ∷ since) ≡ (is_written k (rows_of front) (rows_of (with_entry front e)) || is_touched k (rows_of (with_entry front e)) since)
 unfolding is_touched
 next_touched front e since k = ap (λ (rows : List Row). is_written k (rows_of front) rows || is_touched k rows since) (sym (rows_of-with_entry front e))
 
@@ -68,36 +68,36 @@ none_touched : (rows : List Row) (k : List ℕ) → is_touched k rows [] ≡ fal
 unfolding is_touched
 none_touched rows k = refl
 
-touched_after : (front since : Book) (k : List ℕ) → is_touched k (rows_of front) since ≡ true → IsWrittenAfter (front ++ since) k (size front)
+touched_after : (front : Book) (since : List Entry) (k : List ℕ) → is_touched k (rows_of front) since ≡ true → IsWrittenAfter (with_entries front since) k (size front)
 touched_after front [] k h = absurd (let e : false ≡ true = sym (none_touched (rows_of front) k) ∙ h in cc)
 touched_after front (e ∷ since) k h =
     let longer : Book = with_entry front e in
-    let same : longer ++ since ≡ front ++ e ∷ since = with_entry-append front since e in
-    elim (is_written k (rows_of front) (rows_of longer)) as (λ b. is_written k (rows_of front) (rows_of longer) ≡ b → (b || is_touched k (rows_of longer) since) ≡ true → IsWrittenAfter (front ++ e ∷ since) k (size front)) [
+    let same : with_entries longer since ≡ with_entries front (e ∷ since) = with_entry-more front e since in
+    elim (is_written k (rows_of front) (rows_of longer)) as (λ b. is_written k (rows_of front) (rows_of longer) ≡ b → (b || is_touched k (rows_of longer) since) ≡ true → IsWrittenAfter (with_entries front (e ∷ since)) k (size front)) [
       | true ↦ λ f g. record {
         place = size front + 1;
         above = omega arith;
         wrote = subst (λ (b : Book). Wrote b k (size front + 1)) same (wrote_more longer since k (size front + 1) (step_wrote front e k f));
       }
-      | false ↦ λ f g. (let w : IsWrittenAfter (longer ++ since) k (length longer) = touched_after longer since k g in record {
+      | false ↦ λ f g. (let w : IsWrittenAfter (with_entries longer since) k (size longer) = touched_after longer since k g in record {
         place = w.place;
         above = omega (arith, w.above, size-with_entry front e);
         wrote = subst (λ (b : Book). Wrote b k w.place) same w.wrote;
       })
     ] refl (sym (next_touched front e since k) ∙ h)
 
-untouched_after : (front since : Book) (k : List ℕ) → is_touched k (rows_of front) since ≡ false → (p : ℕ) → size front < p → Wrote (front ++ since) k p → ⊥
-untouched_after front [] k h p lt w = absurd (omega (arith, lt, w.within, size-append front []))
+untouched_after : (front : Book) (since : List Entry) (k : List ℕ) → is_touched k (rows_of front) since ≡ false → (p : ℕ) → size front < p → Wrote (with_entries front since) k p → ⊥
+untouched_after front [] k h p lt w = absurd (omega (arith, lt, w.within, size-with_entries front []))
 untouched_after front (e ∷ since) k h p lt w =
     let longer : Book = with_entry front e in
-    let same : front ++ e ∷ since ≡ longer ++ since = sym (with_entry-append front since e) in
+    let same : with_entries front (e ∷ since) ≡ with_entries longer since = sym (with_entry-more front e since) in
     let both : (is_written k (rows_of front) (rows_of longer) || is_touched k (rows_of longer) since) ≡ false = sym (next_touched front e since k) ∙ h in
-    let further : Wrote (longer ++ since) k p = subst (λ (b : Book). Wrote b k p) same w in
+    let further : Wrote (with_entries longer since) k p = subst (λ (b : Book). Wrote b k p) same w in
     elim (cases_lt (size front + 1) p) as (λ _. ⊥) [
       | inl above ↦ untouched_after longer since k (second_false (is_written k (rows_of front) (rows_of longer)) (is_touched k (rows_of longer) since) both) p (omega (arith, above, size-with_entry front e)) further
       | inr le ↦ (
           let is : p ≡ size front + 1 = omega (arith, le, lt) in
-          let here : Wrote longer k (size front + 1) = wrote_less longer since k (size front + 1) (subst (λ (n : ℕ). Wrote (longer ++ since) k n) is further) (omega (arith, size-with_entry front e)) in
+          let here : Wrote longer k (size front + 1) = wrote_less longer since k (size front + 1) (subst (λ (n : ℕ). Wrote (with_entries longer since) k n) is further) (omega (arith, size-with_entry front e)) in
           let clash : true ≡ false = sym (wrote_step front e k here) ∙ first_false (is_written k (rows_of front) (rows_of longer)) (is_touched k (rows_of longer) since) both in
           absurd (cc)
           )
@@ -112,7 +112,7 @@ last_once book k v w a b =
     ]
 
 -- entries that do not touch a key leave its last write
-pub last_stays : (front since : Book) (k : List ℕ) (v : ℕ) → is_touched k (rows_of front) since ≡ false → IsLastWrite front k v → IsLastWrite (front ++ since) k v
+pub last_stays : (front : Book) (since : List Entry) (k : List ℕ) (v : ℕ) → is_touched k (rows_of front) since ≡ false → IsLastWrite front k v → IsLastWrite (with_entries front since) k v
 last_stays front since k v h a = record {
   wrote = wrote_more front since k v a.wrote;
   last = λ later lt w. elim (cases_lt (size front) later) as (λ _. ⊥) [
@@ -122,9 +122,9 @@ last_stays front since k v h a = record {
 }
 
 -- entries that touch it give it a later one
-pub last_rises : (front since : Book) (k : List ℕ) (v w : ℕ) → is_touched k (rows_of front) since ≡ true → IsLastWrite front k v → IsLastWrite (front ++ since) k w → v < w
+pub last_rises : (front : Book) (since : List Entry) (k : List ℕ) (v w : ℕ) → is_touched k (rows_of front) since ≡ true → IsLastWrite front k v → IsLastWrite (with_entries front since) k w → v < w
 last_rises front since k v w h a b =
-    let t : IsWrittenAfter (front ++ since) k (size front) = touched_after front since k h in
+    let t : IsWrittenAfter (with_entries front since) k (size front) = touched_after front since k h in
     elim (cases_lt w t.place) as (λ _. v < w) [
       | inl lt ↦ absurd (b.last t.place lt t.wrote)
       | inr le ↦ omega (arith, le, t.above, a.wrote.within)
@@ -136,11 +136,11 @@ apart v w lt = grind (arith, nat_tests)
 alike : (v w : ℕ) → v ≡ w → false ≡ not (v == w)
 alike v w same = grind (arith, nat_tests)
 
-pub touched_tells : (front since : Book) (k : List ℕ) (v w : ℕ) → IsLastWrite front k v → IsLastWrite (front ++ since) k w → is_touched k (rows_of front) since ≡ not (v == w)
+pub touched_tells : (front : Book) (since : List Entry) (k : List ℕ) (v w : ℕ) → IsLastWrite front k v → IsLastWrite (with_entries front since) k w → is_touched k (rows_of front) since ≡ not (v == w)
 touched_tells front since k v w a b =
     elim (is_touched k (rows_of front) since) as (λ t. is_touched k (rows_of front) since ≡ t → t ≡ not (v == w)) [
       | true ↦ λ h. apart v w (last_rises front since k v w h a b)
-      | false ↦ λ h. alike v w (last_once (front ++ since) k v w (last_stays front since k v h a) b)
+      | false ↦ λ h. alike v w (last_once (with_entries front since) k v w (last_stays front since k v h a) b)
     ] refl
 
 -- the last write of a key whose row is stored

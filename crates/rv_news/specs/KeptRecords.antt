@@ -9,7 +9,7 @@ use Rattle.rv_rows.specs.declared.call.Call.{Call}
 use Rattle.rv_views.specs.Viewed.{Viewed}
 use Rattle.rv_book.specs.declared.entry.Entry.{Entry}
 use Rattle.rv_book.specs.declared.entry.Entry.TheVariants.{Act, Look, Retire}
-use Rattle.rv_book.specs.Book.{Book, retired, size, with_entry}
+use Rattle.rv_book.specs.Book.{Book, retired, size, with_entry, empty_book}
 use Rattle.rv_book.specs.Kept.{look_of, look_at, is_look_of, later_looks, kept, falls_out}
 use Rattle.rv_book.specs.BookWords.{retired-with_entry, since-end, size-with_entry}
 use Rattle.rv_book.specs.LookLaws.{look_at-end, kept-look, kept-next_look, is_place}
@@ -95,15 +95,15 @@ found_all P place (x ∷ xs) all there =
     ] refl there
 
 -- the empty book has no look
-nowhere : (place : ℕ) → look_at place [] ≡ None
+nowhere : (place : ℕ) → look_at place empty_book ≡ None
 nowhere place = elim (place == 0) as (λ b. option_and_then look_of (cond b None None) ≡ None) [ true ↦ refl | false ↦ refl ]
 
 -- and so no record
-pub records_none : AreRecords [] []
+pub records_none : AreRecords empty_book []
 records_none = record {
   rise = tt;
   each = tt;
-  all = λ place stays. absurd (let both : true ≡ false = sym stays ∙ kept_nowhere place [] (nowhere place) in cc);
+  all = λ place stays. absurd (let both : true ≡ false = sym stays ∙ kept_nowhere place empty_book (nowhere place) in cc);
 }
 
 -- a look that is kept stands within the book
@@ -182,7 +182,7 @@ kept_new book user group order base stands =
     let e : Entry = Look user group order base in
     let new : Book = with_entry book e in
     let open_group : retired group new ≡ false = retired-with_entry group book e ∙ ap (λ b. b || false) stands in
-    let none : later_looks group (size book + 1) new ≡ 0 = ap (λ (rest : Book). count_by (is_look_of group) rest) (since-end book e) in
+    let none : later_looks group (size book + 1) new ≡ 0 = ap (count_by (is_look_of group)) (since-end book e) in
     kept-look (size book + 1) new (user, group, order) (look_at-end book e) ∙ (λ i. not (open_group i) && nat_lt (none i) 16)
 
 -- of the records that there are, just that of the look that falls out goes

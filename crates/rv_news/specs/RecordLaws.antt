@@ -8,9 +8,10 @@ use Rattle.rv_rows.specs.declared.call.Call.{Call}
 use Rattle.rv_views.specs.Viewed.{Viewed}
 use Rattle.rv_book.specs.declared.entry.Entry.{Entry}
 use Rattle.rv_book.specs.declared.entry.Entry.TheVariants.{Act, Look, Retire}
-use Rattle.rv_book.specs.Book.{Book, entry_at, retires, retired, since, size, with_entry}
+use Rattle.rv_book.specs.Entries.{retires}
+use Rattle.rv_book.specs.Book.{Book, entry_at, retired, since, size, with_entry}
 use Rattle.rv_book.specs.Kept.{look_of, look_at, is_look_of, kept}
-use Rattle.rv_book.specs.BookWords.{count-with_entry, entry_at-end, entry_at-with_entry, entry_at-within, retired-with_entry, since-with_entry, up_to-end, up_to-with_entry}
+use Rattle.rv_book.specs.BookWords.{count-push, entry_at-end, entry_at-with_entry, entry_at-within, retired-with_entry, since-with_entry, up_to-end, up_to-with_entry}
 use Rattle.rv_news.specs.Records.{IsViewAt, IsRecord}
 use Rattle.rv_history.specs.LookIds.{ids_look}
 use Rattle.rv_history.specs.ReplayLaws.{replay_look}
@@ -70,7 +71,7 @@ kept_next place book e look there =
     let le : place ≤ size book = look_within place book look there in
     let gone : retired look.1 (with_entry book e) ≡ (retired look.1 book || retires look.1 e) = retired-with_entry look.1 book e in
     let later : count_by (is_look_of look.1) (since place (with_entry book e)) ≡ count_by (is_look_of look.1) (since place book) + cond (is_look_of look.1 e) 1 0 =
-    ap (count_by (is_look_of look.1)) (since-with_entry place book e le) ∙ count-with_entry (is_look_of look.1) (since place book) e in
+    ap (count_by (is_look_of look.1)) (since-with_entry place book e le) ∙ count-push (is_look_of look.1) (since place book) e in
     kept_look place (with_entry book e) look (look_stays place book e le ∙ there)
     ∙ (λ i. not (gone i) && nat_lt (later i) 16)
 

@@ -37,7 +37,7 @@ fn place_of(text: &str) -> Option<u32>
 
 // Whether the look at a place is kept, by this user and of this order.
 fn is_kept(book: &Book, user: &User, order: Num, place: u32) -> bool
-    ensures { result ≡ (kept place book.now.entries && option_map_or (λ look. bytes_eq look.0 user.now && (look.2 == order)) (look_at place book.now.entries) false) }
+    ensures { result ≡ (kept place book.now.book && option_map_or (λ look. bytes_eq look.0 user.now && (look.2 == order)) (look_at place book.now.book) false) }
 {
     match book.look(place) {
         Some(look) => book.kept(place) && look.user == user && look.order == order,
@@ -47,7 +47,7 @@ fn is_kept(book: &Book, user: &User, order: Num, place: u32) -> bool
 
 // The base that a place's text and an order name.
 fn named(book: &Book, user: &User, text: &str, order: Num) -> Option<u32>
-    ensures { result ≡ find (names_base user.now text.now order book.now.entries) (range_with_len 1 (size book.now.entries)) }
+    ensures { result ≡ find (names_base user.now text.now order book.now.book) (range_with_len 1 (size book.now.book)) }
 {
     // so that the book's length is known to be below 2^32, as a place is
     let _length = book.len();
@@ -61,7 +61,7 @@ fn named(book: &Book, user: &User, text: &str, order: Num) -> Option<u32>
 
 /// The place of the kept look that a cookie names, where it names one.
 pub fn base_of(book: &Book, user: &User, cookie: &Cookie) -> Option<u32>
-    ensures { result ≡ base_of user.now cookie.now book.now.entries }
+    ensures { result ≡ base_of user.now cookie.now book.now.book }
 {
     match cookie {
         Cookie::Null => None,

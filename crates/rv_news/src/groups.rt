@@ -39,7 +39,7 @@ fn is_another(owner: Option<&User>, user: &User) -> bool
 
 /// Whether the user may use the group, by one search.
 pub fn admits(book: &Book, user: &User, group: &Id) -> Admission
-    ensures { IsAdmission user.now group.now book.now.entries result }
+    ensures { IsAdmission user.now group.now book.now.book result }
 {
     let told = book.group(group);
     if is_another(told.user, user) {
@@ -53,7 +53,7 @@ pub fn admits(book: &Book, user: &User, group: &Id) -> Admission
 
 /// Where the client stands in the group, by one search.
 pub fn last_of(book: &Book, client: &Id, group: &Id) -> Numbering
-    ensures { IsNumbering client.now group.now book.now.entries result }
+    ensures { IsNumbering client.now group.now book.now.book result }
 {
     match book.client(client) {
         Some(told) => {

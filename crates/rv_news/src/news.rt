@@ -43,7 +43,7 @@ pub fn view_now(
     group: &Id,
 ) -> Result<ViewRecord, Memory>
     ensures rows { IfOk result (λ view. view.rows ≡ visible user.now tables.now.rows) }
-    ensures clients { IfOk result (λ view. view.clients ≡ ids group.now book.now.entries) }
+    ensures clients { IfOk result (λ view. view.clients ≡ ids group.now book.now.book) }
 {
     let clients = book.clients(group)?;
     record_now(visible(alloc, tables, user)?, clients)

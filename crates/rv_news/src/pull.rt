@@ -27,9 +27,9 @@ pub fn news_for(
     user: &User,
     request: &PullRequest,
 ) -> Result<News, Memory>
-    requires replay { IsReplay book.now.entries tables.now.rows }
-    requires records { AreRecords book.now.entries records.now.records }
-    ensures { IfOk result (λ news. IsNews book.now.entries user.now request.now news) }
+    requires replay { IsReplay book.now.book tables.now.rows }
+    requires records { AreRecords book.now.book records.now.records }
+    ensures { IfOk result (λ news. IsNews book.now.book user.now request.now news) }
 {
     let base = base_of(book, user, &request.cookie);
     let view = view_now(alloc, book, tables, user, &request.group)?;
@@ -55,10 +55,10 @@ pub fn is_unchanged(
     user: &User,
     request: &PullRequest,
 ) -> Result<bool, Memory>
-    requires replay { IsReplay book.now.entries tables.now.rows }
-    requires records { AreRecords book.now.entries records.now.records }
-    ensures value { IfOk result (λ same. IsTrue same ↔ ShowsSame (found_for user.now request.now book.now.entries records.now.records) (visible user.now tables.now.rows) (ids request.now.group book.now.entries)) }
-    ensures unchanged { IfOk result (λ same. IsTrue same → IsUnchanged user.now request.now book.now.entries) }
+    requires replay { IsReplay book.now.book tables.now.rows }
+    requires records { AreRecords book.now.book records.now.records }
+    ensures value { IfOk result (λ same. IsTrue same ↔ ShowsSame (found_for user.now request.now book.now.book records.now.records) (visible user.now tables.now.rows) (ids request.now.group book.now.book)) }
+    ensures unchanged { IfOk result (λ same. IsTrue same → IsUnchanged user.now request.now book.now.book) }
 {
     let base = base_of(book, user, &request.cookie);
     match base_record(records, base) {
@@ -76,7 +76,7 @@ fn shows_same(
     user: &User,
     request: &PullRequest,
 ) -> Result<bool, Memory>
-    ensures { IfOk result (λ same. IsTrue same ↔ ShowsSame (Some found.now) (visible user.now tables.now.rows) (ids request.now.group book.now.entries)) }
+    ensures { IfOk result (λ same. IsTrue same ↔ ShowsSame (Some found.now) (visible user.now tables.now.rows) (ids request.now.group book.now.book)) }
 {
     if !sees_exactly(alloc, tables, user, found.rows())? {
         return Ok(false);

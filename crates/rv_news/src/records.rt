@@ -106,7 +106,7 @@ impl Records {
 
     /// Lets the records go whose looks the book does not keep. It can't fail, and takes no memory.
     pub fn let_go(&mut self, book: &Book)
-        ensures records { self.new.records ≡ filter (λ r. kept r.0 book.now.entries) self.old.records }
+        ensures records { self.new.records ≡ filter (λ r. kept r.0 book.now.book) self.old.records }
         ensures spare { self.old.spare ≤ self.new.spare }
     {
         self.records.retain(|record| book.kept(record.0));

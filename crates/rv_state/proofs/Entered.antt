@@ -4,7 +4,7 @@ use Rattle.std.specs.List.{filter, AllByRecursion}
 use Rattle.rv_rows.specs.Held.{Stored}
 use Rattle.rv_book.specs.declared.entry.Entry.{Entry}
 use Rattle.rv_book.specs.declared.entry.Entry.TheVariants.{Act, Look, Retire}
-use Rattle.rv_book.specs.Book.{Book, size, with_entry}
+use Rattle.rv_book.specs.Book.{Book, size, with_entry, empty_book}
 use Rattle.rv_book.specs.Kept.{kept}
 use Rattle.rv_book.specs.LookLaws.{is_place}
 use Rattle.rv_views.specs.Viewed.{Viewed}
@@ -26,15 +26,15 @@ use Rattle.rv_state.specs.Falling.{falling}
 
 -- the book is lawful, the rows and the records are its own, and its entries are of the form
 abbrev pub Stands : Book → List Stored → List Placed → Type 0
-Stands book rows records = IsLawful book × IsReplay book rows × AreRecords book records × AllByRecursion EntryFits book
+Stands book rows records = IsLawful book × IsReplay book rows × AreRecords book records × AllByRecursion EntryFits book.entries
 
-pub none_stands : Stands [] [] []
+pub none_stands : Stands empty_book [] []
 none_stands = (lawful_none, replay_none, records_none, tt)
 
 -- one more entry of the form
-more_fit : (book : Book) (entry : Entry) → AllByRecursion EntryFits book → EntryFits entry → AllByRecursion EntryFits (with_entry book entry)
+more_fit : (entries : List Entry) (entry : Entry) → AllByRecursion EntryFits entries → EntryFits entry → AllByRecursion EntryFits (entries ++ entry ∷ [])
 more_fit [] entry all fits = (fits, tt)
-more_fit (e ∷ book) entry all fits = (all.0, more_fit book entry all.1 fits)
+more_fit (e ∷ entries) entry all fits = (all.0, more_fit entries entry all.1 fits)
 
 -- the records after a look that is entered with its record: that of the look that falls out has gone
 abbrev pub with_record : Book → Entry → Viewed → List Placed → List Placed
@@ -50,7 +50,7 @@ after_rows s (Act user group client id call) staged (lawful, replay, records, al
   lawful_more s.book (Act user group client id call) lawful next,
   subst (λ (rows : List Stored). IsReplay (with_entry s.book (Act user group client id call)) rows) (sym (effect (size s.book + 1))) (replay_act s.book s.rows user group client id call replay),
   records_act s.book user group client id call s.records records,
-  more_fit s.book (Act user group client id call) all fits,
+  more_fit s.book.entries (Act user group client id call) all fits,
 )
 after_rows s (Look user group order base) staged stands next fits change = absurd change
 after_rows s (Retire group) staged stands next fits change = absurd change
@@ -62,7 +62,7 @@ after_record s (Look user group order base) viewed (lawful, replay, records, all
   lawful_more s.book (Look user group order base) lawful next,
   replay_look s.book s.rows user group order base replay,
   records_look_in_place s.book user group order base viewed s.records records shown next.0.stands,
-  more_fit s.book (Look user group order base) all fits,
+  more_fit s.book.entries (Look user group order base) all fits,
 )
 after_record s (Retire group) viewed stands next fits change = absurd change
 
@@ -73,7 +73,7 @@ after_nothing s (Retire group) (lawful, replay, records, all) next fits change =
   lawful_more s.book (Retire group) lawful next,
   replay_retire s.book s.rows group replay,
   records_retire s.book group s.records records,
-  more_fit s.book (Retire group) all fits,
+  more_fit s.book.entries (Retire group) all fits,
 )
 
 -- the same of what was prepared, where t is the state in other words

@@ -10,7 +10,7 @@ use rv_news::{Admission, Numbering, admits, last_of};
 
 // Whether the user may use the group.
 fn is_open(book: &Book, user: &User, group: &Id) -> bool
-    ensures { IsTrue result ↔ Admits user.now group.now book.now.entries }
+    ensures { IsTrue result ↔ Admits user.now group.now book.now.book }
 {
     match admits(book, user, group) {
         Admission::Open => true,
@@ -21,7 +21,7 @@ fn is_open(book: &Book, user: &User, group: &Id) -> bool
 
 // Whether the id is the next of a client that is of no other group.
 fn is_next(book: &Book, client: &Id, group: &Id, id: Num) -> bool
-    ensures { IsTrue result ↔ ((is_elsewhere client.now group.now book.now.entries ≡ false) × (id ≡ last client.now book.now.entries + 1)) }
+    ensures { IsTrue result ↔ ((is_elsewhere client.now group.now book.now.book ≡ false) × (id ≡ last client.now book.now.book + 1)) }
 {
     match last_of(book, client, group) {
         Numbering::Last(last) => id.get() == last.get() + 1,
@@ -31,7 +31,7 @@ fn is_next(book: &Book, client: &Id, group: &Id, id: Num) -> bool
 
 // Whether the place is that of a kept look by the user, with an order below this one.
 fn is_base_at(book: &Book, user: &User, order: Num, place: u32) -> bool
-    ensures { IsTrue result ↔ IsBase book.now.entries user.now order (Some place) }
+    ensures { IsTrue result ↔ IsBase book.now.book user.now order (Some place) }
 {
     if !book.kept(place) {
         return false;
@@ -43,7 +43,7 @@ fn is_base_at(book: &Book, user: &User, order: Num, place: u32) -> bool
 }
 
 fn is_base(book: &Book, user: &User, order: Num, base: Option<u32>) -> bool
-    ensures { IsTrue result ↔ IsBase book.now.entries user.now order base }
+    ensures { IsTrue result ↔ IsBase book.now.book user.now order base }
 {
     match base {
         Some(place) => is_base_at(book, user, order, place),
@@ -53,7 +53,7 @@ fn is_base(book: &Book, user: &User, order: Num, base: Option<u32>) -> bool
 
 // Whether the order is above the group's last. A number's type says that it is at most 2^53 - 1.
 fn is_above(book: &Book, group: &Id, order: Num) -> bool
-    ensures { IsTrue result ↔ ((last_order group.now book.now.entries < order) × (order < 2 ^ 53)) }
+    ensures { IsTrue result ↔ ((last_order group.now book.now.book < order) × (order < 2 ^ 53)) }
 {
     let _bound = order.get();
     book.last_order(group) < order
@@ -61,14 +61,14 @@ fn is_above(book: &Book, group: &Id, order: Num) -> bool
 
 // Whether an act or a look names the group, and it is not retired.
 fn may_retire(book: &Book, group: &Id) -> bool
-    ensures { IsTrue result ↔ (IsSome (bound group.now book.now.entries) × (retired group.now book.now.entries ≡ false)) }
+    ensures { IsTrue result ↔ (IsSome (bound group.now book.now.book) × (retired group.now book.now.book ≡ false)) }
 {
     book.bound(group).is_some() && !book.retired(group)
 }
 
 // Whether an act may come next.
 fn may_act(book: &Book, user: &User, group: &Id, client: &Id, id: Num) -> bool
-    ensures { IsTrue result ↔ (Admits user.now group.now book.now.entries × (is_elsewhere client.now group.now book.now.entries ≡ false) × (id ≡ last client.now book.now.entries + 1)) }
+    ensures { IsTrue result ↔ (Admits user.now group.now book.now.book × (is_elsewhere client.now group.now book.now.book ≡ false) × (id ≡ last client.now book.now.book + 1)) }
 {
     if !is_open(book, user, group) {
         return false;
@@ -78,7 +78,7 @@ fn may_act(book: &Book, user: &User, group: &Id, client: &Id, id: Num) -> bool
 
 // Whether the order may come next in the group, and the base be that of its look.
 fn may_follow(book: &Book, user: &User, group: &Id, order: Num, base: Option<u32>) -> bool
-    ensures { IsTrue result ↔ ((last_order group.now book.now.entries < order) × (order < 2 ^ 53) × IsBase book.now.entries user.now order base) }
+    ensures { IsTrue result ↔ ((last_order group.now book.now.book < order) × (order < 2 ^ 53) × IsBase book.now.book user.now order base) }
 {
     if !is_above(book, group, order) {
         return false;
@@ -88,7 +88,7 @@ fn may_follow(book: &Book, user: &User, group: &Id, order: Num, base: Option<u32
 
 // Whether a look may come next.
 fn may_look(book: &Book, user: &User, group: &Id, order: Num, base: Option<u32>) -> bool
-    ensures { IsTrue result ↔ (Admits user.now group.now book.now.entries × (last_order group.now book.now.entries < order) × (order < 2 ^ 53) × IsBase book.now.entries user.now order base) }
+    ensures { IsTrue result ↔ (Admits user.now group.now book.now.book × (last_order group.now book.now.book < order) × (order < 2 ^ 53) × IsBase book.now.book user.now order base) }
 {
     if !is_open(book, user, group) {
         return false;
@@ -98,7 +98,7 @@ fn may_look(book: &Book, user: &User, group: &Id, order: Num, base: Option<u32>)
 
 /// Whether the entry may stand after those of the book. Takes no memory.
 pub fn may_stand(book: &Book, entry: &Entry) -> bool
-    ensures { IsTrue result ↔ IsLawfulAfter book.now.entries entry.now }
+    ensures { IsTrue result ↔ IsLawfulAfter book.now.book entry.now }
 {
     match entry {
         Entry::Act {

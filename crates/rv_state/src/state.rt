@@ -1,6 +1,6 @@
-ghost use Rattle.std.specs.Prelude.{◌≡◌, ◌≤◌, ◌<◌, [], IsTrue, IfOk, OnOk};
+ghost use Rattle.std.specs.Prelude.{◌≡◌, ◌≤◌, ◌<◌, IsTrue, IfOk, OnOk};
 ghost use Rattle.rv_book.specs.declared.entry.Entry.TheVariants.{Act, Look, Retire};
-ghost use Rattle.rv_book.specs.Book.{size, with_entry};
+ghost use Rattle.rv_book.specs.Book.{empty_book, size, with_entry};
 ghost use Rattle.rv_news.specs.News.{IsNews};
 ghost use Rattle.rv_state.specs.Falling.{falling};
 
@@ -40,16 +40,16 @@ impl Model for State {
 
     ghost Value = { Standing };
 
-    ghost view = { λ s. record { book = s.book.entries; limit = s.book.limit; room = s.book.room; rows = s.tables.rows; row_room = s.tables.spare; records = s.records.records; record_room = s.records.spare } };
+    ghost view = { λ s. record { book = s.book.book; limit = s.book.limit; room = s.book.room; rows = s.tables.rows; row_room = s.tables.spare; records = s.records.records; record_room = s.records.spare } };
 
-    ghost invariant = { λ s. IsLawful s.book.entries × IsReplay s.book.entries s.tables.rows × AreRecords s.book.entries s.records.records × AllByRecursion EntryFits s.book.entries };
+    ghost invariant = { λ s. IsLawful s.book.book × IsReplay s.book.book s.tables.rows × AreRecords s.book.book s.records.records × AllByRecursion EntryFits s.book.book.entries };
 }
 
 // Makes room for an entry.
 fn reserve(book: &mut Book, entry: &Entry) -> Result<(), Memory>
-    requires { size book.old.entries < book.old.limit }
+    requires { size book.old.book < book.old.limit }
     ensures room { OnOk result (1 ≤ book.new.room) }
-    ensures entries { book.new.entries ≡ book.old.entries }
+    ensures book { book.new.book ≡ book.old.book }
     ensures limit { book.new.limit ≡ book.old.limit }
 {
     match book.reserve(entry) {
@@ -61,7 +61,7 @@ fn reserve(book: &mut Book, entry: &Entry) -> Result<(), Memory>
 
 // The look whose record goes where this entry comes.
 fn falls_out(book: &Book, entry: &Entry) -> Option<u32>
-    ensures { result ≡ falling entry.now book.now.entries }
+    ensures { result ≡ falling entry.now book.now.book }
 {
     match entry {
         Entry::Look { group, .. } => book.falls_out(group),
@@ -83,7 +83,7 @@ impl State {
 
     /// The state of the empty book, which takes at most so many entries.
     pub fn new(alloc: Global, limit: u32) -> State
-        ensures book { result.book ≡ [] }
+        ensures book { result.book ≡ empty_book }
         ensures limit { result.limit ≡ limit }
     {
         State {
@@ -99,7 +99,7 @@ impl State {
         ensures book { result.now.entries ≡ self.now.book }
         ensures limit { result.now.limit ≡ self.now.limit }
         ensures lawful { IsLawful self.now.book }
-        ensures fits { AllByRecursion EntryFits self.now.book }
+        ensures fits { AllByRecursion EntryFits self.now.book.entries }
         ensures rows { IsReplay self.now.book self.now.rows }
     {
         &self.book
