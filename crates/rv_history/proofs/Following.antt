@@ -15,8 +15,9 @@ use Rattle.rv_views.specs.declared.cookie.Cookie.TheVariants.{Null, Named}
 use Rattle.rv_book.specs.declared.entry.Entry.{Entry}
 use Rattle.rv_book.specs.declared.entry.Entry.TheVariants.{Look}
 use Rattle.rv_book.specs.Book.{Book, client_in, entry_at, ids, size, up_to, with_entries, Extends}
-use Rattle.rv_book.specs.BookWords.{entry_at-end, entry_at-up_to, entry_at-within, size-with_entries, size-with_entry, up_to-all, up_to-with_entries, extends_same, extends_on}
+use Rattle.rv_book.specs.BookWords.{entry_at-end, entry_at-up_to, size-with_entries, size-with_entry, up_to-all, up_to-with_entries, extends_same, extends_on}
 use Rattle.rv_book.specs.Kept.{look_of, look_at}
+use Rattle.rv_book.specs.LookLaws.{look_at-within}
 use Rattle.rv_history.specs.Bases.{base_of, base_group}
 use Rattle.rv_history.specs.Based.{base_look, base_spelled}
 use Rattle.rv_history.specs.Machine.{ReplyText}
@@ -97,11 +98,6 @@ some_entry : (o : Option Entry) (look : List ℕ × List ℕ × ℕ) → option_
 some_entry None look h = absurd (cc)
 some_entry (Some e) look h = (e, refl)
 
-look_within : (place : ℕ) (book : Book) (look : List ℕ × List ℕ × ℕ) → look_at place book ≡ Some look → place ≤ size book
-look_within place book look there =
-    let (e, is) = some_entry (entry_at place book) look there in
-    (entry_at-within place book e is).1
-
 look_front : (place : ℕ) (book : Book) (more : List Entry) (look : List ℕ × List ℕ × ℕ) → look_at place book ≡ Some look → look_at place (with_entries book more) ≡ Some look
 look_front place book more look there =
     let (e, is) = some_entry (entry_at place book) look there in
@@ -149,7 +145,7 @@ module _ (write : ReplyText) (user : List ℕ) (book : Book) (pull : ClientPull)
           let named : base_of user (Named (decimal at.place) at.order) told.point ≡ Some place = subst (λ (c : Cookie). base_of user c told.point ≡ Some place) (asks ∙ at.cookie) is in
           let (more, goes) = since_point in
           let (group, look, kept) = base_look user (Named (decimal at.place) at.order) told.point place named in
-          let inside : place ≤ size told.point = look_within place told.point (user, group, at.order) look in
+          let inside : place ≤ size told.point = (look_at-within place told.point (user, group, at.order) look).1 in
           let whole : size book ≡ size told.point + length more = ap (λ (b : Book). size b) goes ∙ size-with_entries told.point more in
           let within = at.within in
           let same : place ≡ at.place = decimal_injective place at.place (omega arith) (omega arith) (base_spelled user (decimal at.place) at.order told.point place named) in

@@ -12,9 +12,9 @@ use Rattle.rv_book.specs.declared.entry.Entry.TheVariants.{Act, Look, Retire}
 use Rattle.rv_book.specs.Book.{Book, retired, size, with_entry, empty_book}
 use Rattle.rv_book.specs.Kept.{look_of, look_at, is_look_of, later_looks, kept, falls_out}
 use Rattle.rv_book.specs.BookWords.{retired-with_entry, since-end, size-with_entry}
-use Rattle.rv_book.specs.LookLaws.{look_at-end, kept-look, kept-next_look, is_place}
+use Rattle.rv_book.specs.LookLaws.{look_at-end, kept-look, kept-next_look, is_place, look_at-within, kept-none}
 use Rattle.rv_news.specs.Records.{IsViewAt, IsRecord, Placed, Rise, record_at, AreRecords}
-use Rattle.rv_news.specs.RecordLaws.{look_within, look_last, record_more, record_new, kept_act, kept_nowhere, kept_after}
+use Rattle.rv_news.specs.RecordLaws.{record_more, record_new, kept_act, kept_after}
 
 -- lists of records, each with P
 abbrev All : (Placed → Type 0) → List Placed → Type 0
@@ -103,15 +103,15 @@ pub records_none : AreRecords empty_book []
 records_none = record {
   rise = tt;
   each = tt;
-  all = λ place stays. absurd (let both : true ≡ false = sym stays ∙ kept_nowhere place empty_book (nowhere place) in cc);
+  all = λ place stays. absurd (let both : true ≡ false = sym stays ∙ kept-none place empty_book (nowhere place) in cc);
 }
 
 -- a look that is kept stands within the book
 kept_within : (place : ℕ) (book : Book) → kept place book ≡ true → place ≤ size book
 kept_within place book stays =
     elim (look_at place book) as (λ o. look_at place book ≡ o → place ≤ size book) [
-      | None ↦ λ none. absurd (let both : true ≡ false = sym stays ∙ kept_nowhere place book none in cc)
-      | Some look ↦ λ there. look_within place book look there
+      | None ↦ λ none. absurd (let both : true ≡ false = sym stays ∙ kept-none place book none in cc)
+      | Some look ↦ λ there. (look_at-within place book look there).1
     ] refl
 
 -- a look that is kept after one more entry was kept before, or is that entry
@@ -131,7 +131,7 @@ module _ (book : Book) (e : Entry) (records : List Placed) (are : AreRecords boo
   still r = kept r.0 (with_entry book e)
 
   within : (r : Placed) → IsRecord book r.0 r.1 → r.0 ≤ size book
-  within r is = look_within r.0 book (is.user, is.group, is.order) is.looked
+  within r is = (look_at-within r.0 book (is.user, is.group, is.order) is.looked).1
 
   records_next : (added : List Placed) → Rise added → All (λ r. size book < r.0) added → All Stays added
       → (kept (size book + 1) (with_entry book e) ≡ true → IsSome (record_at (size book + 1) added))
@@ -151,14 +151,14 @@ module _ (book : Book) (e : Entry) (records : List Placed) (are : AreRecords boo
   pub records_stay : look_of e ≡ None → AreRecords (with_entry book e) (filter still records)
   records_stay none =
       subst (λ (rs : List Placed). AreRecords (with_entry book e) (filter still rs)) (append-nil records)
-      (records_next [] tt tt tt (λ stays. absurd (let both : true ≡ false = sym stays ∙ kept_nowhere (size book + 1) (with_entry book e) (look_last book e ∙ none) in cc)))
+      (records_next [] tt tt tt (λ stays. absurd (let both : true ≡ false = sym stays ∙ kept-none (size book + 1) (with_entry book e) (look_at-end book e ∙ none) in cc)))
 
 -- an act leaves the records
 pub records_act : (book : Book) (user group client : List ℕ) (id : ℕ) (call : Call) (records : List Placed) → AreRecords book records → AreRecords (with_entry book (Act user group client id call)) records
 records_act book user group client id call records are =
     let e : Entry = Act user group client id call in
     subst (λ (rs : List Placed). AreRecords (with_entry book e) rs)
-    (keeps_all (λ r. kept r.0 (with_entry book e)) records (all_weaker (λ r. IsRecord book r.0 r.1) (λ r. kept r.0 (with_entry book e) ≡ true) (λ r is. kept_act r.0 book user group client id call (look_within r.0 book (is.user, is.group, is.order) is.looked) ∙ is.kept) records are.each))
+    (keeps_all (λ r. kept r.0 (with_entry book e)) records (all_weaker (λ r. IsRecord book r.0 r.1) (λ r. kept r.0 (with_entry book e) ≡ true) (λ r is. kept_act r.0 book user group client id call ((look_at-within r.0 book (is.user, is.group, is.order) is.looked).1) ∙ is.kept) records are.each))
     (records_stay book e records are refl)
 
 -- a look adds its record, and those go that are not kept any more
@@ -191,7 +191,7 @@ one_goes : (book : Book) (user group : List ℕ) (order : ℕ) (base : Option �
 one_goes book user group order base [] all = refl
 one_goes book user group order base (x ∷ xs) all =
     let same : kept x.0 (with_entry book (Look user group order base)) ≡ not (is_place x.0 (falls_out group book)) =
-    kept-next_look x.0 book user group order base (look_within x.0 book (all.0.user, all.0.group, all.0.order) all.0.looked) ∙ ap (λ b. b && not (is_place x.0 (falls_out group book))) all.0.kept in
+    kept-next_look x.0 book user group order base ((look_at-within x.0 book (all.0.user, all.0.group, all.0.order) all.0.looked).1) ∙ ap (λ b. b && not (is_place x.0 (falls_out group book))) all.0.kept in
     let rest = one_goes book user group order base xs all.1 in
     (λ i. cond (same i) (x ∷ rest i) (rest i))
 

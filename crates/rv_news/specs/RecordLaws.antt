@@ -1,7 +1,5 @@
 -- What becomes of kept looks and of their records when the book goes on.
 use Rattle.std.proofs.Common.{◌≡◌, ℕ, ◌+◌, ◌≤◌, Bool, true, false, cond, not, ◌&&◌, ◌||◌, nat_lt, List, [], ◌∷◌, Option, Some, None, refl, sym, ap, ◌∙◌, subst, arith}
-use Rattle.std.specs.List.{count_by}
-use Rattle.std.specs.Option.{option_map_or, option_and_then}
 use Rattle.std.specs.Str.{bytes_eq}
 use Rattle.std.proofs.lemmas.Bool.Decides.{nat_tests}
 use Rattle.rv_rows.specs.declared.call.Call.{Call}
@@ -9,71 +7,30 @@ use Rattle.rv_views.specs.Viewed.{Viewed}
 use Rattle.rv_book.specs.declared.entry.Entry.{Entry}
 use Rattle.rv_book.specs.declared.entry.Entry.TheVariants.{Act, Look, Retire}
 use Rattle.rv_book.specs.Entries.{retires}
-use Rattle.rv_book.specs.Book.{Book, entry_at, retired, since, size, with_entry}
-use Rattle.rv_book.specs.Kept.{look_of, look_at, is_look_of, kept}
-use Rattle.rv_book.specs.BookWords.{count-push, entry_at-end, entry_at-with_entry, entry_at-within, retired-with_entry, since-with_entry, up_to-end, up_to-with_entry}
+use Rattle.rv_book.specs.Book.{Book, retired, size, with_entry}
+use Rattle.rv_book.specs.Kept.{look_at, is_look_of, later_looks, kept}
+use Rattle.rv_book.specs.BookWords.{up_to-end, up_to-with_entry}
+use Rattle.rv_book.specs.LookLaws.{look_at-within, look_at-with_entry, look_at-end, kept-look, kept-none, kept-with_entry}
 use Rattle.rv_news.specs.Records.{IsViewAt, IsRecord}
 use Rattle.rv_history.specs.LookIds.{ids_look}
 use Rattle.rv_history.specs.ReplayLaws.{replay_look}
 
-some_entry : (o : Option Entry) (look : List ℕ × List ℕ × ℕ) → option_and_then look_of o ≡ Some look → (e : Entry) × (o ≡ Some e)
-some_entry None look h = absurd (cc)
-some_entry (Some e) look h = (e, refl)
-
--- a look stands within the book
-pub look_within : (place : ℕ) (book : Book) (look : List ℕ × List ℕ × ℕ) → look_at place book ≡ Some look → place ≤ size book
-look_within place book look there =
-    let entry = some_entry (entry_at place book) look there in
-    (entry_at-within place book entry.0 entry.1).1
-
--- one more entry leaves the looks of the front
-pub look_stays : (place : ℕ) (book : Book) (e : Entry) → place ≤ size book → look_at place (with_entry book e) ≡ look_at place book
-look_stays place book e le = ap (option_and_then look_of) (entry_at-with_entry place book e le)
-
--- what stands at the end
-pub look_last : (book : Book) (e : Entry) → look_at (size book + 1) (with_entry book e) ≡ look_of e
-look_last book e = ap (option_and_then look_of) (entry_at-end book e)
-
 -- a record stays that of its look while the look is kept
 pub record_more : (book : Book) (e : Entry) (place : ℕ) (viewed : Viewed) → kept place (with_entry book e) ≡ true → IsRecord book place viewed → IsRecord (with_entry book e) place viewed
 record_more book e place viewed stays r =
-    let le : place ≤ size book = look_within place book (r.user, r.group, r.order) r.looked in
+    let le : place ≤ size book = (look_at-within place book (r.user, r.group, r.order) r.looked).1 in
     record {
       user = r.user;
       group = r.group;
       order = r.order;
-      looked = look_stays place book e le ∙ r.looked;
+      looked = look_at-with_entry place book e le ∙ r.looked;
       kept = stays;
       shown = subst (λ (b : Book). IsViewAt b r.user r.group viewed) (sym (up_to-with_entry place book e le)) r.shown;
     }
 
--- the look of a group at a place is kept
-abbrev stays : List ℕ → ℕ → Book → Bool
-stays group place book = not (retired group book) && nat_lt (count_by (is_look_of group) (since place book)) 16
-
-pub kept_look : (place : ℕ) (book : Book) (look : List ℕ × List ℕ × ℕ) → look_at place book ≡ Some look → kept place book ≡ (not (retired look.1 book) && nat_lt (count_by (is_look_of look.1) (since place book)) 16)
-unfolding kept
-kept_look place book look there = ap (λ o. option_map_or (λ look. stays look.1 place book) o false) there
-
--- where there is no look, none is kept
-pub kept_nowhere : (place : ℕ) (book : Book) → look_at place book ≡ None → kept place book ≡ false
-unfolding kept
-kept_nowhere place book none = ap (λ o. option_map_or (λ look. stays look.1 place book) o false) none
-
 or_false : (b : Bool) → (b || false) ≡ b
 or_false true = refl
 or_false false = refl
-
--- whether a look is kept after one more entry
-pub kept_next : (place : ℕ) (book : Book) (e : Entry) (look : List ℕ × List ℕ × ℕ) → look_at place book ≡ Some look
-    → kept place (with_entry book e) ≡ (not (retired look.1 book || retires look.1 e) && nat_lt (count_by (is_look_of look.1) (since place book) + cond (is_look_of look.1 e) 1 0) 16)
-kept_next place book e look there =
-    let le : place ≤ size book = look_within place book look there in
-    let gone : retired look.1 (with_entry book e) ≡ (retired look.1 book || retires look.1 e) = retired-with_entry look.1 book e in
-    let later : count_by (is_look_of look.1) (since place (with_entry book e)) ≡ count_by (is_look_of look.1) (since place book) + cond (is_look_of look.1 e) 1 0 =
-    ap (count_by (is_look_of look.1)) (since-with_entry place book e le) ∙ count-push (is_look_of look.1) (since place book) e in
-    kept_look place (with_entry book e) look (look_stays place book e le ∙ there)
-    ∙ (λ i. not (gone i) && nat_lt (later i) 16)
 
 -- an entry that neither retires a look's group nor is a look of it leaves whether the look is kept
 pub kept_same : (place : ℕ) (book : Book) (e : Entry) → place ≤ size book
@@ -81,13 +38,13 @@ pub kept_same : (place : ℕ) (book : Book) (e : Entry) → place ≤ size book
     → kept place (with_entry book e) ≡ kept place book
 kept_same place book e le apart =
     elim (look_at place book) as (λ o. look_at place book ≡ o → kept place (with_entry book e) ≡ kept place book) [
-      | None ↦ λ none. kept_nowhere place (with_entry book e) (look_stays place book e le ∙ none) ∙ sym (kept_nowhere place book none)
+      | None ↦ λ none. kept-none place (with_entry book e) (look_at-with_entry place book e le ∙ none) ∙ sym (kept-none place book none)
       | Some look ↦ λ there.
           let other = apart look there in
-          let count : ℕ = count_by (is_look_of look.1) (since place book) in
+          let count : ℕ = later_looks look.1 place book in
           let gone : (retired look.1 book || retires look.1 e) ≡ retired look.1 book = ap (λ (b : Bool). retired look.1 book || b) other.0 ∙ or_false (retired look.1 book) in
           let later : count + cond (is_look_of look.1 e) 1 0 ≡ count = ap (λ (b : Bool). count + cond b 1 0) other.1 ∙ omega arith in
-          kept_next place book e look there ∙ (λ i. not (gone i) && nat_lt (later i) 16) ∙ sym (kept_look place book look there)
+          kept-with_entry place book e look there ∙ (λ i. not (gone i) && nat_lt (later i) 16) ∙ sym (kept-look place book look there)
     ] refl
 
 -- an act leaves each look
@@ -106,10 +63,10 @@ both_before false false n one most h = fewer_before n one most h
 pub kept_after : (place : ℕ) (book : Book) (e : Entry) → place ≤ size book → kept place (with_entry book e) ≡ true → kept place book ≡ true
 kept_after place book e le h =
     elim (look_at place book) as (λ o. look_at place book ≡ o → kept place book ≡ true) [
-      | None ↦ λ none. absurd (let both : true ≡ false = sym h ∙ kept_nowhere place (with_entry book e) (look_stays place book e le ∙ none) in cc)
+      | None ↦ λ none. absurd (let both : true ≡ false = sym h ∙ kept-none place (with_entry book e) (look_at-with_entry place book e le ∙ none) in cc)
       | Some look ↦ λ there.
-          kept_look place book look there
-          ∙ both_before (retired look.1 book) (retires look.1 e) (count_by (is_look_of look.1) (since place book)) (cond (is_look_of look.1 e) 1 0) 16 (sym (kept_next place book e look there) ∙ h)
+          kept-look place book look there
+          ∙ both_before (retired look.1 book) (retires look.1 e) (later_looks look.1 place book) (cond (is_look_of look.1 e) 1 0) 16 (sym (kept-with_entry place book e look there) ∙ h)
     ] refl
 
 -- a look changes nothing of what is seen
@@ -131,7 +88,7 @@ record_new book user group order base viewed v stays =
       user = user;
       group = group;
       order = order;
-      looked = look_last book e;
+      looked = look_at-end book e;
       kept = stays;
       shown = subst (λ (b : Book). IsViewAt b user group viewed) (sym (up_to-end book e)) (view_look book user group viewed user group order base v);
     }

@@ -96,7 +96,7 @@ impl State {
 
     /// The book. Takes no memory.
     pub fn book(&self) -> &Book
-        ensures book { result.now.entries ≡ self.now.book }
+        ensures book { result.now.book ≡ self.now.book }
         ensures limit { result.now.limit ≡ self.now.limit }
         ensures lawful { IsLawful self.now.book }
         ensures fits { AllByRecursion EntryFits self.now.book.entries }

@@ -6,12 +6,12 @@ use Rattle.rv_base.specs.Sorted.{InOrder}
 use Rattle.rv_base.specs.Places.{Above}
 use Rattle.rv_rows.specs.Held.{Stored, stored_key, AreRows}
 use Rattle.rv_book.specs.Book.{Book, size}
+use Rattle.rv_book.specs.LookLaws.{look_at-within}
 use Rattle.rv_book.specs.Registers.{clients_of, groups_of}
 use Rattle.rv_book.specs.RegisterLaws.{clients-in_order, groups-in_order}
 use Rattle.rv_history.specs.Replay.{IsReplay}
 use Rattle.rv_history.specs.ReplayLaws.{stored_in_order}
 use Rattle.rv_news.specs.Records.{Placed, Rise, IsRecord, AreRecords}
-use Rattle.rv_news.specs.RecordLaws.{look_within}
 use Rattle.rv_keeper.specs.declared.cell.Cell.{Cell}
 use Rattle.rv_keeper.specs.Cells.{AreCells, cell_key}
 use Rattle.rv_record.specs.CellTexts.{ten_digits, row_cell, client_cell, group_cell, view_cell}
@@ -107,7 +107,7 @@ arranged book rows records within replay kept = record { within = within; sorted
   where
     each : (rs : List Placed) → AllByRecursion (λ r. IsRecord book r.0 r.1) rs → AllByRecursion (λ r. r.0 ≤ size book) rs
     each [] all = tt
-    each (r ∷ rs) all = (look_within r.0 book (all.0.user, all.0.group, all.0.order) all.0.looked, each rs all.1)
+    each (r ∷ rs) all = ((look_at-within r.0 book (all.0.user, all.0.group, all.0.order) all.0.looked).1, each rs all.1)
 
 module _ (book : Book) (rows : List Stored) (records : List Placed) (are : AreArranged book rows records) where
   pub places_fit : AllByRecursion (λ r. r.0 < 10 ^ 10) records
