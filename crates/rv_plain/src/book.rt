@@ -1,7 +1,8 @@
 ghost use Rattle.std.specs.Prelude.{◌≡◌, ◌≤◌, ◌<◌, ◌^◌, length, IfOk, OnOk, option_map};
 ghost use Rattle.std.specs.Option.{option_map_or};
 ghost use Rattle.rv_base.specs.Sorted.{InOrder, put_by, Settles};
-ghost use Rattle.rv_book.specs.Book.{bound, retires, retired, is_act_of, last, group_of, order_after, last_order, belongs, client_in, ids, size};
+ghost use Rattle.rv_book.specs.Entries.{is_act_of, order_after, retires};
+ghost use Rattle.rv_book.specs.Book.{belongs, book_of, bound, client_in, group_of, ids, last, last_order, retired};
 ghost use Rattle.rv_history.specs.Replay.{rows_after, rows_of};
 
 use rv_base::{Id, Memory, Num, Sequence, User};
@@ -11,7 +12,7 @@ use std::alloc::Global;
 
 /// The user whom a group is bound to: that of the first act or look that names it.
 pub(crate) fn bound<'b>(book: &'b [Entry], group: &Id) -> Option<&'b User>
-    ensures { option_map (λ user. user.now) result ≡ bound group.now book.now }
+    ensures { option_map (λ user. user.now) result ≡ bound group.now (book_of book.now) }
 {
     for entry in book {
         match entry {
@@ -51,7 +52,7 @@ fn retires(entry: &Entry, group: &Id) -> bool
 
 /// Whether an entry retires a group.
 pub(crate) fn retired(book: &[Entry], group: &Id) -> bool
-    ensures { result ≡ retired group.now book.now }
+    ensures { result ≡ retired group.now (book_of book.now) }
 {
     book.iter().any(|entry| retires(entry, group))
 }
@@ -68,15 +69,15 @@ fn is_act_of(entry: &Entry, actor: &Id) -> bool
 
 /// The last mutation id of a client: the number of its acts.
 pub fn last(book: &[Entry], client: &Id) -> u64
-    ensures value { result ≡ last client.now book.now }
-    ensures bound { result ≤ size book.now }
+    ensures value { result ≡ last client.now (book_of book.now) }
+    ensures bound { result ≤ length book.now }
 {
     book.iter().filter(|entry| is_act_of(entry, client)).count() as u64
 }
 
 /// The group of a client's first act.
 pub(crate) fn group_of<'b>(book: &'b [Entry], client: &Id) -> Option<&'b Id>
-    ensures { option_map (λ group. group.now) result ≡ group_of client.now book.now }
+    ensures { option_map (λ group. group.now) result ≡ group_of client.now (book_of book.now) }
 {
     for entry in book {
         if let Entry::Act {
@@ -110,7 +111,7 @@ fn order_after(entry: &Entry, group: &Id, before: Num) -> Num
 /// The order of a group's last look, or 0.
 #[tactic(auto, using(std::proofs::lemmas::List::Sums::fold_more))]
 pub(crate) fn last_order(book: &[Entry], group: &Id) -> Num
-    ensures { result ≡ last_order group.now book.now }
+    ensures { result ≡ last_order group.now (book_of book.now) }
 {
     let mut order = Num::from_u64(0);
     for entry in book {
@@ -120,7 +121,7 @@ pub(crate) fn last_order(book: &[Entry], group: &Id) -> Num
 }
 
 fn belongs(book: &[Entry], client: &Id, group: &Id) -> bool
-    ensures { result ≡ belongs client.now group.now book.now }
+    ensures { result ≡ belongs client.now group.now (book_of book.now) }
 {
     match group_of(book, client) {
         Some(other) => other == group,
@@ -130,8 +131,8 @@ fn belongs(book: &[Entry], client: &Id, group: &Id) -> bool
 
 // Of an act by a client of the group: the client, with its last mutation id.
 fn client_in<'b>(book: &'b [Entry], group: &Id, entry: &'b Entry) -> Option<(&'b Id, Num)>
-    requires { size book.now < 2 ^ 53 }
-    ensures { option_map (λ pair. (pair.0.now, pair.1)) result ≡ client_in group.now book.now entry.now }
+    requires { length book.now < 2 ^ 53 }
+    ensures { option_map (λ pair. (pair.0.now, pair.1)) result ≡ client_in group.now (book_of book.now) entry.now }
 {
     match entry {
         Entry::Act { client, .. } => {
@@ -181,8 +182,8 @@ fn enter(
     entry: &Entry,
 ) -> Result<(), Memory>
     requires order { InOrder (λ pair. pair.0) clients.old.items }
-    requires length { size book.now < 2 ^ 53 }
-    ensures clients { OnOk result (clients.new.items ≡ option_map_or (λ pair. put_by (λ p. p.0) pair clients.old.items) (client_in group.now book.now entry.now) clients.old.items) }
+    requires length { length book.now < 2 ^ 53 }
+    ensures clients { OnOk result (clients.new.items ≡ option_map_or (λ pair. put_by (λ p. p.0) pair clients.old.items) (client_in group.now (book_of book.now) entry.now) clients.old.items) }
     ensures order { OnOk result (InOrder (λ pair. pair.0) clients.new.items) }
 {
     match client_in(book, group, entry) {
@@ -193,8 +194,8 @@ fn enter(
 
 /// The clients of a group with their last mutation ids, in the order of the clients' bytes.
 pub(crate) fn ids(alloc: Global, book: &[Entry], group: &Id) -> Result<Clients, Memory>
-    requires { size book.now < 2 ^ 53 }
-    ensures ids { IfOk result (λ v. v ≡ ids group.now book.now) }
+    requires { length book.now < 2 ^ 53 }
+    ensures ids { IfOk result (λ v. v ≡ ids group.now (book_of book.now)) }
     ensures order { IfOk result (λ v. InOrder (λ pair. pair.0) v) }
 {
     let mut clients = Vec::new(alloc);
@@ -229,7 +230,7 @@ pub(crate) fn rows_after(alloc: Global, rows: Vec<Row>, entry: &Entry) -> Result
 /// The rows of a book: its acts replayed, one after another.
 #[tactic(auto, using(std::proofs::lemmas::List::Sums::fold_more))]
 pub fn rows_of(alloc: Global, book: &[Entry]) -> Result<Vec<Row>, Memory>
-    ensures { IfOk result (λ v. v.items ≡ rows_of book.now) }
+    ensures { IfOk result (λ v. v.items ≡ rows_of (book_of book.now)) }
 {
     let mut rows = Vec::new(alloc);
     for entry in book {

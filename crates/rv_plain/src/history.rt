@@ -1,4 +1,4 @@
-ghost use Rattle.std.specs.Prelude.{◌≡◌, ◌<◌, ◌^◌, ◌++◌, ◌∷◌, map, not, option_map, option_and_then, Some, IfOk, OnOk};
+ghost use Rattle.std.specs.Prelude.{◌≡◌, ◌<◌, ◌^◌, ◌++◌, ◌∷◌, length, map, not, option_map, option_and_then, Some, IfOk, OnOk};
 ghost use Rattle.std.specs.List.{filter};
 ghost use Rattle.std.specs.Str.{bytes_eq};
 ghost use Rattle.rv_base.specs.Sorted.{InOrder};
@@ -7,7 +7,7 @@ ghost use Rattle.rv_rows.specs.Keys.{key_text, row_at, row_key, row_text};
 ghost use Rattle.rv_rows.specs.Sharing.{seen};
 ghost use Rattle.rv_rows.specs.declared.row.Row.TheVariants.{Todo};
 ghost use Rattle.rv_turns.specs.declared.op.Op.TheVariants.{Clear, Del, Put};
-ghost use Rattle.rv_book.specs.Book.{since, size};
+ghost use Rattle.rv_book.specs.Book.{book_of};
 ghost use Rattle.rv_history.specs.Replay.{rows_after, rows_of};
 ghost use Rattle.rv_history.specs.Bases.{base_group};
 ghost use Rattle.rv_history.specs.History.{ids_since, is_absent, is_among, is_news, is_touched, is_written, patch_since};
@@ -197,7 +197,7 @@ fn all(alloc: Global, rows: &[Row]) -> Result<Ops, Memory>
 
 // The rows that a user sees at a book.
 fn seen_at(alloc: Global, book: &[Entry], user: &User) -> Result<Vec<Row>, Memory>
-    ensures { IfOk result (λ v. v.items ≡ seen user.now (rows_of book.now)) }
+    ensures { IfOk result (λ v. v.items ≡ seen user.now (rows_of (book_of book.now))) }
 {
     let rows = rows_of(alloc, book)?;
     seen(alloc, &rows, user)
@@ -205,7 +205,7 @@ fn seen_at(alloc: Global, book: &[Entry], user: &User) -> Result<Vec<Row>, Memor
 
 // The patch since a place.
 fn patch_after(alloc: Global, book: &[Entry], user: &User, place: u32) -> Result<Ops, Memory>
-    ensures { IfOk result (λ ops. ops ≡ patch_since user.now book.now (Some place)) }
+    ensures { IfOk result (λ ops. ops ≡ patch_since user.now (book_of book.now) (Some place)) }
 {
     let (before, since) = split(book, place);
     let rows = rows_of(alloc, before)?;
@@ -226,7 +226,7 @@ pub(crate) fn patch_since(
     user: &User,
     base: Option<u32>,
 ) -> Result<Ops, Memory>
-    ensures { IfOk result (λ ops. ops ≡ patch_since user.now book.now base) }
+    ensures { IfOk result (λ ops. ops ≡ patch_since user.now (book_of book.now) base) }
 {
     match base {
         Some(place) => patch_after(alloc, book, user, place),
@@ -268,8 +268,8 @@ fn ids_after(
     place: u32,
     other: &Id,
 ) -> Result<Clients, Memory>
-    requires { size book.now < 2 ^ 53 }
-    ensures ids { IfOk result (λ v. v ≡ ids_since group.now book.now (Some (place, other.now))) }
+    requires { length book.now < 2 ^ 53 }
+    ensures ids { IfOk result (λ v. v ≡ ids_since group.now (book_of book.now) (Some (place, other.now))) }
     ensures order { IfOk result (λ v. InOrder (λ pair. pair.0) v) }
 {
     let now = ids(alloc, book, group)?;
@@ -285,8 +285,8 @@ pub(crate) fn ids_since(
     group: &Id,
     base: Option<u32>,
 ) -> Result<Clients, Memory>
-    requires { size book.now < 2 ^ 53 }
-    ensures ids { IfOk result (λ v. v ≡ ids_since group.now book.now (option_and_then (base_group book.now) base)) }
+    requires { length book.now < 2 ^ 53 }
+    ensures ids { IfOk result (λ v. v ≡ ids_since group.now (book_of book.now) (option_and_then (base_group (book_of book.now)) base)) }
     ensures order { IfOk result (λ v. InOrder (λ pair. pair.0) v) }
 {
     match base {

@@ -1,7 +1,7 @@
 ghost use Rattle.std.specs.Prelude.{◌≡◌, ◌≤◌, ◌<◌, ◌+◌, ◌^◌, [], ◌↔◌, IsTrue, length, IfOk, OnOk, OnErr};
 ghost use Rattle.rv_base.specs.Sorted.{InOrder};
 ghost use Rattle.rv_book.specs.declared.entry.Entry.TheVariants.{Act, Look, Retire};
-ghost use Rattle.rv_book.specs.Book.{size, with_entry};
+ghost use Rattle.rv_book.specs.Book.{book_of, empty_book, size, with_entry};
 ghost use Rattle.rv_history.specs.Groups.{is_of_other, is_elsewhere, Admits};
 ghost use Rattle.rv_history.specs.Bases.{base_of};
 ghost use Rattle.rv_history.specs.Machine.{patch_for, ids_for};
@@ -21,7 +21,7 @@ use std::alloc::Global;
 use std::marker::Model;
 
 fn is_of_other(book: &[Entry], user: &User, group: &Id) -> bool
-    ensures { result ≡ is_of_other user.now group.now book.now }
+    ensures { result ≡ is_of_other user.now group.now (book_of book.now) }
 {
     match bound(book, group) {
         Some(owner) => owner != user,
@@ -30,7 +30,7 @@ fn is_of_other(book: &[Entry], user: &User, group: &Id) -> bool
 }
 
 fn is_elsewhere(book: &[Entry], client: &Id, group: &Id) -> bool
-    ensures { result ≡ is_elsewhere client.now group.now book.now }
+    ensures { result ≡ is_elsewhere client.now group.now (book_of book.now) }
 {
     match group_of(book, client) {
         Some(other) => other != group,
@@ -69,10 +69,10 @@ fn told_at(
     user: &User,
     request: &PullRequest,
 ) -> Result<Told, Memory>
-    requires { size book.now < 2 ^ 32 }
-    ensures base { IfOk result (λ told. told.base ≡ base_of user.now request.now.cookie book.now) }
-    ensures ops { IfOk result (λ told. told.ops ≡ patch_for user.now request.now book.now) }
-    ensures ids { IfOk result (λ told. told.ids ≡ ids_for user.now request.now book.now) }
+    requires { length book.now < 2 ^ 32 }
+    ensures base { IfOk result (λ told. told.base ≡ base_of user.now request.now.cookie (book_of book.now)) }
+    ensures ops { IfOk result (λ told. told.ops ≡ patch_for user.now request.now (book_of book.now)) }
+    ensures ids { IfOk result (λ told. told.ids ≡ ids_for user.now request.now (book_of book.now)) }
     ensures order { IfOk result (λ told. InOrder (λ pair. pair.0) told.ids) }
 {
     let base = base_of(book, user, &request.cookie);
@@ -91,11 +91,12 @@ pub struct PlainDesk {
 
 impl Model for PlainDesk {
     ghost use Rattle.std.specs.Prelude.{◌≤◌, length};
+    ghost use Rattle.rv_book.specs.Book.{book_of};
     ghost use Rattle.rv_plain.specs.Plain.{Plain};
 
     ghost Value = { Plain };
 
-    ghost view = { λ d. record { book = d.entries.items; limit = d.limit } };
+    ghost view = { λ d. record { book = book_of d.entries.items; limit = d.limit } };
 
     ghost invariant = { λ d. length d.entries.items ≤ d.limit };
 }
@@ -108,7 +109,7 @@ impl PlainDesk {
 
     /// A server with the empty book, which takes at most so many entries.
     pub fn new(alloc: Global, limit: u32) -> PlainDesk
-        ensures book { result.book ≡ [] }
+        ensures book { result.book ≡ empty_book }
         ensures limit { result.limit ≡ limit }
     {
         PlainDesk {
@@ -120,8 +121,8 @@ impl PlainDesk {
 
     /// A server with a copy of this book, which takes at most so many entries.
     pub fn with(alloc: Global, book: &[Entry], limit: u32) -> Result<PlainDesk, Memory>
-        requires { size book.now ≤ limit }
-        ensures book { IfOk result (λ desk. desk.book ≡ book.now) }
+        requires { length book.now ≤ limit }
+        ensures book { IfOk result (λ desk. desk.book ≡ book_of book.now) }
         ensures limit { IfOk result (λ desk. desk.limit ≡ limit) }
     {
         let entries = copies(alloc, book)?;
@@ -134,7 +135,7 @@ impl PlainDesk {
 
     /// The entries of the book, in order.
     pub fn book(&self) -> &[Entry]
-        ensures book { result.now ≡ self.now.book }
+        ensures book { result.now ≡ self.now.book.entries }
         ensures bound { length result.now < 2 ^ 32 }
     {
         // The limit is read so that its type's bound, which the length has by the invariant, is known here.

@@ -1,6 +1,6 @@
-use Rattle.std.proofs.Common.{◌≡◌}
-use Rattle.rv_book.specs.Book.{bound, since}
+use Rattle.std.proofs.Common.{◌≡◌, drop}
+use Rattle.rv_book.specs.Entries.{bound_in}
 use Rattle.rv_plain.proofs.book.bound.Given as goal
 
 abbrev pub invariant-loop-entry : goal.invariant-loop-entry
-invariant-loop-entry l = bound l.group (since l.entry-index l.book) ≡ bound l.group l.book
+invariant-loop-entry l = bound_in l.group (drop l.entry-index l.book) ≡ bound_in l.group l.book

@@ -4,12 +4,11 @@ use Rattle.std.proofs.lemmas.List.{at_drop_more, at_drop_all}
 use Rattle.rv_rows.specs.declared.row.Row.{Row}
 use Rattle.rv_rows.specs.Keys.{key_text}
 use Rattle.rv_book.specs.declared.entry.Entry.{Entry}
-use Rattle.rv_book.specs.Book.{Book, since}
 use Rattle.rv_history.specs.Replay.{rows_after}
 use Rattle.rv_history.specs.History.{is_written, is_touched}
 use Rattle.rv_plain.proofs.history.is_touched.Goals as goal
 
-touched_more : (key : List ℕ) (rows after : List Row) (since : Book) (i : ℕ) (e : Entry) → i < length since → e ≡ get_or since i e → after ≡ rows_after rows e
+touched_more : (key : List ℕ) (rows after : List Row) (since : List Entry) (i : ℕ) (e : Entry) → i < length since → e ≡ get_or since i e → after ≡ rows_after rows e
     → is_touched key rows (drop i since) ≡ (is_written key rows after || is_touched key after (drop (i + 1) since))
 unfolding is_touched
 touched_more key rows after since i e lt is next =
@@ -32,7 +31,7 @@ returns-then-is_written c =
     let next = c.in_ok-after.ensures ∙ ap (λ (r : List Row). rows_after r e) c.deref.ensures.value in
     let is = written_is key rows after c.deref-in-loop-entry.result.now c.deref-in-loop-entry-2.result.now c.is_written.result true c.deref-in-loop-entry.ensures.value c.deref-in-loop-entry-2.ensures.value c.is_written.ensures c.if-is_written.true in
     sym (sym c.loop-entry.invariant ∙ touched_more key rows after c.args.since.now c.loop-entry.entry-index e c.loop-entry-test.true c.entry-item.is next
-    ∙ ap (λ (b : Bool). b || is_touched key after (since (c.loop-entry.entry-index + 1) c.args.since.now)) is)
+    ∙ ap (λ (b : Bool). b || is_touched key after (drop (c.loop-entry.entry-index + 1) c.args.since.now)) is)
 
 pub loop-entry-preserved : goal.loop-entry-preserved
 loop-entry-preserved c =
@@ -43,7 +42,7 @@ loop-entry-preserved c =
     let next = c.in_ok-after.ensures ∙ ap (λ (r : List Row). rows_after r e) c.deref.ensures.value in
     let is = written_is key rows after c.deref-in-loop-entry.result.now c.deref-in-loop-entry-2.result.now c.is_written.result false c.deref-in-loop-entry.ensures.value c.deref-in-loop-entry-2.ensures.value c.is_written.ensures c.if-is_written.false in
     sym (touched_more key rows after c.args.since.now c.loop-entry.entry-index e c.loop-entry-test.true c.entry-item.is next
-    ∙ ap (λ (b : Bool). b || is_touched key after (since (c.loop-entry.entry-index + 1) c.args.since.now)) is) ∙ c.loop-entry.invariant
+    ∙ ap (λ (b : Bool). b || is_touched key after (drop (c.loop-entry.entry-index + 1) c.args.since.now)) is) ∙ c.loop-entry.invariant
 
 pub returns : goal.returns
 returns c =
