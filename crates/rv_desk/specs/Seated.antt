@@ -1,25 +1,24 @@
 -- A desk over a keeper, as contracts see it.
-use Rattle.std.specs.Prelude.{ℕ, ◌⊎◌, Option, None, Some, IfSome, option_map}
-use Rattle.rv_book.specs.declared.entry.Entry.{Entry}
-use Rattle.rv_book.specs.Book.{Book, with_entry}
+use Rattle.std.specs.Prelude.{ℕ, Option, IfSome, option_map}
+use Rattle.rv_book.specs.Book.{Book}
 use Rattle.rv_turns.specs.Asks.{Ask}
 use Rattle.rv_turns.specs.Outcomes.{trouble_of}
 use Rattle.rv_turns.specs.declared.outcome.Outcome.{Outcome}
 use Rattle.rv_turns.specs.declared.refusal.Trouble.{Trouble}
 use Rattle.rv_wire.specs.Answers.{pull_json}
-use Rattle.rv_history.specs.Served.{IsAssured, Served, TakesTurn}
+use Rattle.rv_history.specs.Served.{IsAssured, Served, TakesTurn, Doubt}
 use Rattle.rv_keeper.specs.declared.keeper.Keeper.{Ghosts}
 use Rattle.rv_keeper.specs.declared.loaded.Loaded.{Loaded}
 use Rattle.rv_state.specs.declared.prepared.Prepared.{Prepared}
 use Rattle.rv_state.specs.Ready.{IsPrepared}
 use Rattle.rv_state.specs.Standing.{Standing}
-use Rattle.rv_store.specs.StoreCells.{IsKeptAs}
+use Rattle.rv_store.specs.StoreCells.{IsKeptWith}
 
--- the book, the most entries that it may have, the entry in doubt, and the keeper
+-- the book, the most entries that it may have, what is in doubt, and the keeper
 pub record Seated (K : Type 0) : Type 0 where
   pub book : Book
   pub limit : ℕ
-  pub doubt : Option Entry
+  pub doubt : Doubt
   pub keeper : K
 
 -- the same with the keeper's count of faults
@@ -36,13 +35,8 @@ pub record DeskTakes {K : Type 0} (G : Ghosts K) (old : Seated K) (ask : Ask) (o
   pub turn : TakesTurn pull_json (served G.faults old) ask outcome (served G.faults new)
   pub assured : Assures G.tells G.fails_no_more old.keeper (trouble_of outcome) new.keeper
 
--- it is kept as the book, or with an entry in doubt as the book or as the book with it
-abbrev pub IsKeptWith : Book → Option Entry → Loaded → Type 0
-IsKeptWith book None held = IsKeptAs book held
-IsKeptWith book (Some entry) held = IsKeptAs book held ⊎ IsKeptAs (with_entry book entry) held
-
--- what the keeper holds, where it tells, are the cells of the book, or of the book with the entry in doubt
-abbrev pub HoldsBook : (Loaded → Type 0) → Book → Option Entry → Type 0
+-- what the keeper holds, where it tells, are the cells of the book, or of the book with what is in doubt
+abbrev pub HoldsBook : (Loaded → Type 0) → Book → Doubt → Type 0
 HoldsBook Holds book doubt = (held : Loaded) × Holds held × IsKeptWith book doubt held
 
 -- a server by its parts: the state, what is prepared and in doubt, and the count of faults

@@ -63,10 +63,10 @@ impl<K: Keeper> Desk<K> {
 
     /// The book, without an entry in doubt. Takes no memory.
     pub fn book(&self) -> &Book
-        ensures book { result.now.entries ≡ self.now.book }
+        ensures book { result.now.book ≡ self.now.book }
         ensures limit { result.now.limit ≡ self.now.limit }
         ensures lawful { IsLawful self.now.book }
-        ensures fits { AllByRecursion EntryFits self.now.book }
+        ensures fits { AllByRecursion EntryFits self.now.book.entries }
         ensures next { MayStand self.now.book self.now.limit self.now.doubt }
         ensures held { K.tells self.now.keeper → HoldsBook (K.holds self.now.keeper) self.now.book self.now.doubt }
     {
@@ -98,7 +98,7 @@ impl<K: Keeper> Desk<K> {
     pub fn close(self) -> K
         ensures keeper { result ≡ self.keeper }
         ensures lawful { IsLawful self.book }
-        ensures fits { AllByRecursion EntryFits self.book × IfSome self.doubt EntryFits }
+        ensures fits { AllByRecursion EntryFits self.book.entries × IfSome self.doubt EntryFits }
         ensures within { (size self.book ≤ self.limit) × (self.limit < 2 ^ 32) }
         ensures next { MayStand self.book self.limit self.doubt }
         ensures held { K.tells self.keeper → HoldsBook (K.holds self.keeper) self.book self.doubt }

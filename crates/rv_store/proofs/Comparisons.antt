@@ -52,10 +52,10 @@ length-register : {X Y : Type 0} (key : Y → List ℕ) (told : X → Option Y) 
 length-register key told xs = omega (arith, length-sorted_after key (filter_map told xs) [], length-told told xs)
 
 pub no_more_clients : (book : Book) (index : ℕ) → size book ≤ index → drop index (clients_of book) ≡ []
-no_more_clients book index all = drop_all index (clients_of book) (omega (arith, length-register (λ (c : List ℕ × List ℕ × ℕ). c.0) (client_told book) book))
+no_more_clients book index all = drop_all index (clients_of book) (omega (arith, length-register (λ (c : List ℕ × List ℕ × ℕ). c.0) (client_told book) book.entries))
 
 pub no_more_groups : (book : Book) (index : ℕ) → size book ≤ index → drop index (groups_of book) ≡ []
-no_more_groups book index all = drop_all index (groups_of book) (omega (arith, length-register (λ (g : List ℕ × List ℕ × ℕ × Bool). g.0) (group_told book) book))
+no_more_groups book index all = drop_all index (groups_of book) (omega (arith, length-register (λ (g : List ℕ × List ℕ × ℕ × Bool). g.0) (group_told book) book.entries))
 
 -- ---- one after another
 

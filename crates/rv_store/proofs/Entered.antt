@@ -10,7 +10,7 @@ use Rattle.std.proofs.lemmas.List.{take-append-drop, take_more, drop_more, drop_
 use Rattle.rv_base.specs.Sorted.{InOrder}
 use Rattle.rv_base.specs.Places.{Below, Above}
 use Rattle.rv_book.specs.declared.entry.Entry.{Entry}
-use Rattle.rv_book.specs.Book.{Book, size, with_entry}
+use Rattle.rv_book.specs.Book.{Book, size, with_entry, empty_book}
 use Rattle.rv_book.specs.BookWords.{size-with_entry}
 use Rattle.rv_history.specs.Lawful.{IsLawfulAfter}
 use Rattle.rv_history.specs.LawfulBooks.{lawful_none, lawful_more}
@@ -75,27 +75,27 @@ next_fails limit book cell damage (Err d) is breaks = subst (Breaks limit book c
 
 -- ---- the cells of entries
 
-pub length-entry_cells : (place : ℕ) (book : Book) → length (entry_cells place book) ≡ size book
+pub length-entry_cells : (place : ℕ) (entries : List Entry) → length (entry_cells place entries) ≡ length entries
 length-entry_cells place [] = refl
-length-entry_cells place (e ∷ book) = ap suc (length-entry_cells (place + 1) book)
+length-entry_cells place (e ∷ entries) = ap suc (length-entry_cells (place + 1) entries)
 
 -- the first so many cells are those of the entries of a sound book
 pub record Entered (limit : ℕ) (cells : List Cell) (index : ℕ) (book : Book) : Type 0 where
-  pub cells_are : take index cells ≡ entry_cells 1 book
+  pub cells_are : take index cells ≡ entry_cells 1 book.entries
   pub sound : IsSoundBook limit book
 
-pub none_entered : (limit : ℕ) (cells : List Cell) (book : Book) → book ≡ [] → Entered limit cells 0 book
+pub none_entered : (limit : ℕ) (cells : List Cell) (book : Book) → book ≡ empty_book → Entered limit cells 0 book
 none_entered limit cells book none = rw none (record { cells_are = refl; sound = record { lawful = lawful_none; within = omega arith; fits = tt } })
 
-all_fit : (book : Book) (entry : Entry) → AllByRecursion EntryFits book → EntryFits entry → AllByRecursion EntryFits (with_entry book entry)
+all_fit : (entries : List Entry) (entry : Entry) → AllByRecursion EntryFits entries → EntryFits entry → AllByRecursion EntryFits (entries ++ entry ∷ [])
 all_fit [] entry all fits = (fits, tt)
-all_fit (e ∷ book) entry all fits = (all.0, all_fit book entry all.1 fits)
+all_fit (e ∷ entries) entry all fits = (all.0, all_fit entries entry all.1 fits)
 
 sound_more : (limit : ℕ) (book : Book) (cell : Cell) (entry : Entry) → IsSoundBook limit book → IsNext limit book cell entry → IsSoundBook limit (with_entry book entry)
 sound_more limit book cell entry sound next = record {
   lawful = lawful_more book entry sound.lawful next.lawful;
   within = omega (arith, size-with_entry book entry, next.below);
-  fits = all_fit book entry sound.fits next.fits;
+  fits = all_fit book.entries entry sound.fits next.fits;
 }
 
 pub one_entered : (limit most : ℕ) (cells : List Cell) (index : ℕ) (cell : Cell) (book next : Book) → most ≡ limit → index < length cells → cell ≡ get_or cells index cell
@@ -105,13 +105,13 @@ one_entered limit most cells index cell book next same below is (entry, comes, a
     rw after (record {
       cells_are = take_more cells index cell below ∙ ap (λ (c : Cell). take index cells ++ c ∷ []) (sym is ∙ comes.made)
           ∙ ap (λ (t : List Cell). t ++ entry_cell (size book + 1) entry ∷ []) entered.cells_are
-          ∙ ap (λ (p : ℕ). entry_cells 1 book ++ entry_cell p entry ∷ []) (omega arith) ∙ sym (entry_cells-with_entry 1 book entry);
+          ∙ ap (λ (p : ℕ). entry_cells 1 book.entries ++ entry_cell p entry ∷ []) (omega arith) ∙ sym (entry_cells-with_entry 1 book entry);
       sound = sound_more limit book cell entry entered.sound comes;
     })
 
 -- as many entries as cells
 count_entered : (limit : ℕ) (cells : List Cell) (index : ℕ) (book : Book) → index ≤ length cells → Entered limit cells index book → size book ≡ index
-count_entered limit cells index book le entered = sym (length-entry_cells 1 book) ∙ ap length (sym entered.cells_are) ∙ length-take-le index cells le
+count_entered limit cells index book le entered = sym (length-entry_cells 1 book.entries) ∙ ap length (sym entered.cells_are) ∙ length-take-le index cells le
 
 -- ---- the cells beside those of entries
 

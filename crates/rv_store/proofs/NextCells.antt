@@ -1,5 +1,5 @@
 -- The changes that an entry makes of the cells of a book name each place once, and leave the cells of the book with the entry.
-use Rattle.std.proofs.Common.{◌≡◌, ℕ, ◌+◌, ◌^◌, ◌<◌, ◌≤◌, Bool, true, false, not, List, [], ◌∷◌, ◌++◌, Option, Some, None, refl, sym, ap, ◌∙◌, subst, arith, map}
+use Rattle.std.proofs.Common.{◌≡◌, ℕ, ◌+◌, ◌^◌, ◌<◌, ◌≤◌, Bool, true, false, not, List, [], ◌∷◌, ◌++◌, Option, Some, None, refl, sym, ap, ◌∙◌, subst, arith, map, length}
 use Rattle.std.specs.List.{AllByRecursion, filter}
 use Rattle.std.specs.Str.{bytes_eq}
 use Rattle.rv_base.specs.Sorted.{put_by, InOrder, Distinct}
@@ -80,11 +80,11 @@ module _ (entries rows clients groups views : List Change) (first : AreOnce 1 en
 
   -- and each shelf's change its cells alone
   five_leave : (book : Book) (stored : List Stored) (records : List Placed) → changed (cells_of book stored records) (entries ++ (rows ++ (clients ++ (groups ++ views))))
-      ≡ changed (entry_cells 1 book) entries ++ (changed (row_cells stored) rows ++ (changed (client_cells book) clients ++ (changed (group_cells book) groups ++ changed (view_cells records) views)))
+      ≡ changed (entry_cells 1 book.entries) entries ++ (changed (row_cells stored) rows ++ (changed (client_cells book) clients ++ (changed (group_cells book) groups ++ changed (view_cells records) views)))
   five_leave book stored records =
-      changed-parts 1 (entry_cells 1 book) (row_cells stored ++ (client_cells book ++ (group_cells book ++ view_cells records))) entries (rows ++ (clients ++ (groups ++ views)))
-      (entries-on 1 book) (derived-behind book stored records) first.own (after_first 1 (omega arith))
-      ∙ ap (λ (cells : List Cell). changed (entry_cells 1 book) entries ++ cells)
+      changed-parts 1 (entry_cells 1 book.entries) (row_cells stored ++ (client_cells book ++ (group_cells book ++ view_cells records))) entries (rows ++ (clients ++ (groups ++ views)))
+      (entries-on 1 book.entries) (derived-behind book stored records) first.own (after_first 1 (omega arith))
+      ∙ ap (λ (cells : List Cell). changed (entry_cells 1 book.entries) entries ++ cells)
       (changed-parts 2 (row_cells stored) (client_cells book ++ (group_cells book ++ view_cells records)) rows (clients ++ (groups ++ views))
       (rows-on stored) (clients-behind book records) second.own (after_second 2 (omega arith))
       ∙ ap (λ (cells : List Cell). changed (row_cells stored) rows ++ cells)
@@ -93,19 +93,19 @@ module _ (entries rows clients groups views : List Change) (first : AreOnce 1 en
       (changed-parts 4 (group_cells book) (view_cells records) groups views (groups-on book) (views-behind records) fourth.own (after_fourth 4 (omega arith)))))
 
 -- The cell of the entry is written after those of the others.
-below_end : (place end : ℕ) (book : Book) → place + size book ≤ end → end < 10 ^ 10 → AllByRecursion (λ y. Below (cell_key y) (1 ∷ ten_digits end)) (entry_cells place book)
+below_end : (place end : ℕ) (entries : List Entry) → place + length entries ≤ end → end < 10 ^ 10 → AllByRecursion (λ y. Below (cell_key y) (1 ∷ ten_digits end)) (entry_cells place entries)
 below_end place end [] low fits = tt
-below_end place end (entry ∷ book) low fits =
-    (same_shelf 1 (ten_digits place) (ten_digits end) ∙ ten_digits-order place end (omega (arith, low)) fits, below_end (place + 1) end book (omega (arith, low)) fits)
+below_end place end (entry ∷ entries) low fits =
+    (same_shelf 1 (ten_digits place) (ten_digits end) ∙ ten_digits-order place end (omega (arith, low)) fits, below_end (place + 1) end entries (omega (arith, low)) fits)
 
-entries-push : (place end : ℕ) (book : Book) (entry : Entry) → place + size book ≡ end → entry_cells place book ++ entry_cell end entry ∷ [] ≡ entry_cells place (with_entry book entry)
+entries-push : (place end : ℕ) (entries : List Entry) (entry : Entry) → place + length entries ≡ end → entry_cells place entries ++ entry_cell end entry ∷ [] ≡ entry_cells place (entries ++ entry ∷ [])
 entries-push place end [] entry is = let same : end ≡ place = omega (arith, is) in ap (λ (n : ℕ). entry_cell n entry ∷ []) same
-entries-push place end (e ∷ book) entry is = ap (λ (cells : List Cell). entry_cell place e ∷ cells) (entries-push (place + 1) end book entry (omega (arith, is)))
+entries-push place end (e ∷ entries) entry is = ap (λ (cells : List Cell). entry_cell place e ∷ cells) (entries-push (place + 1) end entries entry (omega (arith, is)))
 
-entries-leave : (book : Book) (entry : Entry) → size book + 1 < 2 ^ 32 → changed (entry_cells 1 book) (Put (entry_cell (size book + 1) entry) ∷ []) ≡ entry_cells 1 (with_entry book entry)
+entries-leave : (book : Book) (entry : Entry) → size book + 1 < 2 ^ 32 → changed (entry_cells 1 book.entries) (Put (entry_cell (size book + 1) entry) ∷ []) ≡ entry_cells 1 (with_entry book entry).entries
 entries-leave book entry fits =
-    put-end cell_key (entry_cell (size book + 1) entry) (entry_cells 1 book) (below_end 1 (size book + 1) book (omega arith) (omega (arith, fits)))
-    ∙ entries-push 1 (size book + 1) book entry (omega arith)
+    put-end cell_key (entry_cell (size book + 1) entry) (entry_cells 1 book.entries) (below_end 1 (size book + 1) book.entries (omega arith) (omega (arith, fits)))
+    ∙ entries-push 1 (size book + 1) book.entries entry (omega arith)
 
 -- a client's and a group's cell
 client-leaves : (book : Book) (client group : List ℕ) (id : ℕ) → changed (client_cells book) (Put (client_cell client group id) ∷ []) ≡ map (λ c. client_cell c.0 c.1 c.2) (put_by (λ (c : List ℕ × List ℕ × ℕ). c.0) (client, group, id) (clients_of book))

@@ -23,7 +23,7 @@ use Rattle.rv_store.specs.StoreCells.{AreDerived, IsKeptAs, entry_cells}
 pub record IsSoundBook (limit : ℕ) (book : Book) : Type 0 where
   pub lawful : IsLawful book
   pub within : size book ≤ limit
-  pub fits : AllByRecursion EntryFits book
+  pub fits : AllByRecursion EntryFits book.entries
 
 -- the book that opens: it is sound, and kept as just this
 pub record MayOpen (limit : ℕ) (book : Book) (loaded : Loaded) : Type 0 where
@@ -46,7 +46,7 @@ pub record BreaksAt (limit : ℕ) (loaded : Loaded) (shelf : ℕ) (key : List �
   pub book : Book
   pub cell : Cell
   pub others : List Cell
-  pub cells : loaded.cells ≡ entry_cells 1 book ++ cell ∷ others
+  pub cells : loaded.cells ≡ entry_cells 1 book.entries ++ cell ∷ others
   pub sound : IsSoundBook limit book
   pub broken : IsBrokenEntry limit book cell
   pub on_shelf : shelf ≡ cell.shelf
@@ -54,7 +54,7 @@ pub record BreaksAt (limit : ℕ) (loaded : Loaded) (shelf : ℕ) (key : List �
 
 -- The entries are those of a sound book, and what stands on the shelves from 2 on.
 pub record HasEntries (limit : ℕ) (book : Book) (loaded : Loaded) (others : List Cell) : Type 0 where
-  pub cells : loaded.cells ≡ entry_cells 1 book ++ others
+  pub cells : loaded.cells ≡ entry_cells 1 book.entries ++ others
   pub beside : AllByRecursion (λ cell. 2 ≤ cell.shelf) others
   pub sound : IsSoundBook limit book
 

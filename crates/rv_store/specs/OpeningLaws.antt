@@ -3,8 +3,8 @@ use Rattle.std.proofs.Common.{◌≡◌, ℕ, ◌+◌, ◌<◌, ◌≤◌, List,
 use Rattle.std.specs.List.{AllByRecursion}
 use Rattle.rv_base.specs.Sorted.{find_by}
 use Rattle.rv_book.specs.declared.entry.Entry.{Entry}
-use Rattle.rv_book.specs.Book.{Book, size}
-use Rattle.rv_book.specs.BookWords.{size-append}
+use Rattle.rv_book.specs.Book.{Book, size, book_of, with_entries}
+use Rattle.rv_book.specs.BookWords.{size-with_entries}
 use Rattle.rv_keeper.specs.declared.cell.Cell.{Cell}
 use Rattle.rv_keeper.specs.declared.loaded.Loaded.{Loaded}
 use Rattle.rv_keeper.specs.Cells.{cell_key}
@@ -27,19 +27,19 @@ all_behind P [] x more all = all.0
 all_behind P (y ∷ front) x more all = all_behind P front x more all.1
 
 -- an entry of a sound book may come after those before it, and so its cell is not broken
-not_broken : (limit : ℕ) (book front more : Book) (entry : Entry) (cell : Cell) → IsSoundBook limit book → book ≡ front ++ entry ∷ more → cell ≡ entry_cell (1 + size front) entry → IsBrokenEntry limit front cell → ⊥
+not_broken : (limit : ℕ) (book front : Book) (more : List Entry) (entry : Entry) (cell : Cell) → IsSoundBook limit book → book ≡ with_entries front (entry ∷ more) → cell ≡ entry_cell (1 + size front) entry → IsBrokenEntry limit front cell → ⊥
 not_broken limit book front more entry cell sound is made broken =
     let place : 1 + size front ≡ size front + 1 = omega arith in
-    let below : size front < limit = omega (arith, sound.within, ap size is, size-append front (entry ∷ more)) in
-    broken.none entry (all_behind EntryFits front entry more (subst (AllByRecursion EntryFits) is sound.fits)) (made ∙ ap (λ (p : ℕ). entry_cell p entry) place) below (sound.lawful front more entry is)
+    let below : size front < limit = omega (arith, sound.within, ap size is, size-with_entries front (entry ∷ more)) in
+    broken.none entry (all_behind EntryFits front.entries entry more (subst (λ (b : Book). AllByRecursion EntryFits b.entries) is sound.fits)) (made ∙ ap (λ (p : ℕ). entry_cell p entry) place) below (sound.lawful front more entry is)
 
 none_breaks : (limit : ℕ) (book : Book) (loaded : Loaded) (shelf : ℕ) (key : List ℕ) → MayOpen limit book loaded → ¬ BreaksAt limit loaded shelf key
 none_breaks limit book loaded shelf key opens b =
     let parts = kept_parts book loaded opens.kept in
-    let rest = books_front 1 book b.book parts.others (b.cell ∷ b.others) opens.sound.fits b.sound.fits parts.beside (sym parts.cells ∙ b.cells) in
-    by_rest parts.others rest.0 parts.beside rest.1 rest.2
+    let rest = books_front 1 book.entries b.book.entries parts.others (b.cell ∷ b.others) opens.sound.fits b.sound.fits parts.beside (sym parts.cells ∙ b.cells) in
+    by_rest parts.others rest.0 parts.beside (ap book_of rest.1) rest.2
   where
-    by_rest : (others : List Cell) (more : Book) → AllByRecursion (λ cell. 2 ≤ cell.shelf) others → book ≡ b.book ++ more → b.cell ∷ b.others ≡ entry_cells (1 + size b.book) more ++ others → ⊥
+    by_rest : (others : List Cell) (more : List Entry) → AllByRecursion (λ cell. 2 ≤ cell.shelf) others → book ≡ with_entries b.book more → b.cell ∷ b.others ≡ entry_cells (1 + size b.book) more ++ others → ⊥
     by_rest others [] beside is cells = let two : 2 ≤ b.cell.shelf = (subst (AllByRecursion (λ cell. 2 ≤ cell.shelf)) (sym cells) beside).0 in omega (arith, b.broken.shelf)
     by_rest others (entry ∷ more) beside is cells = let made : b.cell ≡ entry_cell (1 + size b.book) entry = cc in not_broken limit book b.book more entry b.cell opens.sound is made b.broken
 
@@ -51,8 +51,9 @@ pub record IsRead (book read : Book) (others : List Cell) : Type 0 where
 is_read : (limit : ℕ) (book read : Book) (loaded : Loaded) (others : List Cell) → MayOpen limit book loaded → HasEntries limit read loaded others → IsRead book read others
 is_read limit book read loaded others opens has =
     let parts = kept_parts book loaded opens.kept in
-    let both = books_beside 1 book read parts.others others opens.sound.fits has.sound.fits parts.beside has.beside (sym parts.cells ∙ has.cells) in
-    record { same = both.0; derived = subst (λ (b : Book). AreDerived b others) both.0 (subst (AreDerived book) both.1 parts.derived) }
+    let both = books_beside 1 book.entries read.entries parts.others others opens.sound.fits has.sound.fits parts.beside has.beside (sym parts.cells ∙ has.cells) in
+    let same : book ≡ read = ap book_of both.0 in
+    record { same = same; derived = subst (λ (b : Book). AreDerived b others) same (subst (AreDerived book) both.1 parts.derived) }
 
 none_differs : (limit : ℕ) (book : Book) (loaded : Loaded) (shelf : ℕ) (key : List ℕ) → MayOpen limit book loaded → ¬ DiffersAt limit loaded shelf key
 none_differs limit book loaded shelf key opens d =

@@ -1,19 +1,19 @@
 -- What is kept tells the book: cells are those of one book of entries of the form, and so an opened book is the book that was
 -- kept, or the book with the entry that was in doubt.
-use Rattle.std.proofs.Common.{◌≡◌, ℕ, ◌+◌, ◌≤◌, ◌⊎◌, List, [], ◌∷◌, ◌++◌, map, Option, Some, None, IfSome, refl, sym, ap, ◌∙◌, subst, arith, inl, inr, append_assoc, append-nil}
+use Rattle.std.proofs.Common.{◌≡◌, ℕ, ◌+◌, ◌≤◌, List, [], ◌∷◌, ◌++◌, map, Some, None, IfSome, refl, sym, ap, ◌∙◌, subst, arith, inl, inr, append_assoc, append-nil, length}
 use Rattle.std.specs.List.{AllByRecursion}
 use Rattle.rv_rows.specs.Held.{Stored}
 use Rattle.rv_book.specs.declared.entry.Entry.{Entry}
-use Rattle.rv_book.specs.Book.{Book, size, with_entry}
+use Rattle.rv_book.specs.Book.{Book, size, with_entry, book_of, Extends}
 use Rattle.rv_book.specs.Registers.{clients_of, groups_of}
-use Rattle.rv_history.specs.Served.{Settles}
+use Rattle.rv_history.specs.Served.{Settles, Doubt, with_doubt}
 use Rattle.rv_news.specs.Records.{Placed}
 use Rattle.rv_keeper.specs.declared.cell.Cell.{Cell}
 use Rattle.rv_keeper.specs.declared.loaded.Loaded.{Loaded}
 use Rattle.rv_record.specs.CellTexts.{entry_cell, row_cell, client_cell, group_cell, view_cell}
 use Rattle.rv_record.specs.EntryCells.{entry_cell_injective}
 use Rattle.rv_record.specs.EntryReading.{EntryFits}
-use Rattle.rv_store.specs.StoreCells.{AreDerived, IsKeptAs, client_cells, derived_cells, entry_cells, group_cells, row_cells}
+use Rattle.rv_store.specs.StoreCells.{AreDerived, IsKeptAs, IsKeptWith, client_cells, derived_cells, entry_cells, group_cells, row_cells}
 use Rattle.rv_store.specs.StoreUnique.{cells_unique}
 
 -- the cells stand beside the entries, on shelves from 2
@@ -37,15 +37,15 @@ derived-beside book rows records =
     (all_map (λ r. view_cell r.0 r.1) records (λ r. omega arith))))
 
 -- the cells of two lists of entries, of which the one stands behind the other
-pub entry_cells-append : (place : ℕ) (front more : Book) → entry_cells place (front ++ more) ≡ entry_cells place front ++ entry_cells (place + size front) more
+pub entry_cells-append : (place : ℕ) (front more : List Entry) → entry_cells place (front ++ more) ≡ entry_cells place front ++ entry_cells (place + length front) more
 entry_cells-append place [] more = ap (λ (p : ℕ). entry_cells p more) (omega arith)
 entry_cells-append place (entry ∷ front) more =
     ap (λ (cells : List Cell). entry_cell place entry ∷ cells)
     (entry_cells-append (place + 1) front more ∙ ap (λ (p : ℕ). entry_cells (place + 1) front ++ entry_cells p more) (omega arith))
 
 -- one more entry has its cell at the end
-pub entry_cells-with_entry : (place : ℕ) (book : Book) (entry : Entry) → entry_cells place (with_entry book entry) ≡ entry_cells place book ++ entry_cell (place + size book) entry ∷ []
-entry_cells-with_entry place book entry = entry_cells-append place book (entry ∷ [])
+pub entry_cells-with_entry : (place : ℕ) (book : Book) (entry : Entry) → entry_cells place (with_entry book entry).entries ≡ entry_cells place book.entries ++ entry_cell (place + size book) entry ∷ []
+entry_cells-with_entry place book entry = entry_cells-append place book.entries (entry ∷ [])
 
 cons_parts : {X : Type 0} (x y : X) (xs ys : List X) → x ∷ xs ≡ y ∷ ys → (x ≡ y) × (xs ≡ ys)
 cons_parts x y xs ys same = (cc, cc)
@@ -56,8 +56,8 @@ not_beside cell cells others first beside same = let above : 2 ≤ cell.shelf = 
 
 -- Of cells of entries and what stands behind them: where nothing behind the first entries is on shelf 1, others that are read
 -- from the same cells are a front of them.
-pub books_front : (place : ℕ) (a b : Book) (others left : List Cell) → AllByRecursion EntryFits a → AllByRecursion EntryFits b → AreBeside others
-    → entry_cells place a ++ others ≡ entry_cells place b ++ left → (more : Book) × (a ≡ b ++ more) × (left ≡ entry_cells (place + size b) more ++ others)
+pub books_front : (place : ℕ) (a b : List Entry) (others left : List Cell) → AllByRecursion EntryFits a → AllByRecursion EntryFits b → AreBeside others
+    → entry_cells place a ++ others ≡ entry_cells place b ++ left → (more : List Entry) × (a ≡ b ++ more) × (left ≡ entry_cells (place + length b) more ++ others)
 books_front place a [] others left one other beside same = (a, refl, sym same ∙ ap (λ (p : ℕ). entry_cells p a ++ others) (omega arith))
 books_front place [] (y ∷ ys) others left one other beside same = absurd (not_beside (entry_cell place y) (entry_cells (place + 1) ys ++ left) others refl beside same)
 books_front place (x ∷ xs) (y ∷ ys) others left one other beside same =
@@ -67,7 +67,7 @@ books_front place (x ∷ xs) (y ∷ ys) others left one other beside same =
     (rest.0, (λ i. entry i ∷ rest.1 i), rest.2 ∙ ap (λ (p : ℕ). entry_cells p rest.0 ++ others) (omega arith))
 
 -- entries and the cells beside them are found in what is kept
-pub books_beside : (place : ℕ) (a b : Book) (others left : List Cell) → AllByRecursion EntryFits a → AllByRecursion EntryFits b
+pub books_beside : (place : ℕ) (a b : List Entry) (others left : List Cell) → AllByRecursion EntryFits a → AllByRecursion EntryFits b
     → AreBeside others → AreBeside left → entry_cells place a ++ others ≡ entry_cells place b ++ left → (a ≡ b) × (others ≡ left)
 books_beside place [] [] others left one other beside also same = (refl, same)
 books_beside place [] (y ∷ ys) others left one other beside also same = absurd (not_beside (entry_cell place y) (entry_cells (place + 1) ys ++ left) others refl beside same)
@@ -79,13 +79,13 @@ books_beside place (x ∷ xs) (y ∷ ys) others left one other beside also same 
     ((λ i. entry i ∷ rest.0 i), rest.1)
 
 -- cells of entries are those of one book
-pub books_unique : (place : ℕ) (a b : Book) → AllByRecursion EntryFits a → AllByRecursion EntryFits b → entry_cells place a ≡ entry_cells place b → a ≡ b
+pub books_unique : (place : ℕ) (a b : List Entry) → AllByRecursion EntryFits a → AllByRecursion EntryFits b → entry_cells place a ≡ entry_cells place b → a ≡ b
 books_unique place a b one other same = (books_beside place a b [] [] one other tt tt (append-nil (entry_cells place a) ∙ same ∙ sym (append-nil (entry_cells place b)))).0
 
 -- what is held of a book: its entries, and beside them what follows from them
 pub record HasParts (book : Book) (held : Loaded) : Type 0 where
   pub others : List Cell
-  pub cells : held.cells ≡ entry_cells 1 book ++ others
+  pub cells : held.cells ≡ entry_cells 1 book.entries ++ others
   pub beside : AreBeside others
   pub derived : AreDerived book others
 
@@ -97,14 +97,14 @@ kept_parts book held kept = record {
   derived = record { rows = kept.cells.rows; records = kept.cells.records; replay = kept.cells.replay; kept = kept.cells.kept; made = refl };
 }
 
-pub parts_kept : (book : Book) (held : Loaded) (others : List Cell) → held.cells ≡ entry_cells 1 book ++ others → AreDerived book others → held.generation ≡ size book → IsKeptAs book held
+pub parts_kept : (book : Book) (held : Loaded) (others : List Cell) → held.cells ≡ entry_cells 1 book.entries ++ others → AreDerived book others → held.generation ≡ size book → IsKeptAs book held
 parts_kept book held others cells derived generation = record {
   cells = record {
     rows = derived.rows;
     records = derived.records;
     replay = derived.replay;
     kept = derived.kept;
-    made = cells ∙ ap (λ (beside : List Cell). entry_cells 1 book ++ beside) derived.made;
+    made = cells ∙ ap (λ (beside : List Cell). entry_cells 1 book.entries ++ beside) derived.made;
   };
   generation = generation;
 }
@@ -117,40 +117,39 @@ held_unique book a b one other =
     (λ i. record { cells = cells i; generation = generation i })
 
 -- what is kept is that of one book
-pub kept_unique : (a b : Book) (held : Loaded) → AllByRecursion EntryFits a → AllByRecursion EntryFits b → IsKeptAs a held → IsKeptAs b held → a ≡ b
+pub kept_unique : (a b : Book) (held : Loaded) → AllByRecursion EntryFits a.entries → AllByRecursion EntryFits b.entries → IsKeptAs a held → IsKeptAs b held → a ≡ b
 kept_unique a b held one other kept also =
     let first = kept_parts a held kept in
     let second = kept_parts b held also in
-    (books_beside 1 a b first.others second.others one other first.beside second.beside (sym first.cells ∙ second.cells)).0
+    ap book_of (books_beside 1 a.entries b.entries first.others second.others one other first.beside second.beside (sym first.cells ∙ second.cells)).0
 
 -- entries that are read from what is kept are a front of the book
-pub kept_front : (book front : Book) (held : Loaded) (left : List Cell) → AllByRecursion EntryFits book → AllByRecursion EntryFits front → IsKeptAs book held → held.cells ≡ entry_cells 1 front ++ left
-    → (more : Book) × (book ≡ front ++ more)
+pub kept_front : (book front : Book) (held : Loaded) (left : List Cell) → AllByRecursion EntryFits book.entries → AllByRecursion EntryFits front.entries → IsKeptAs book held → held.cells ≡ entry_cells 1 front.entries ++ left
+    → Extends book front
 kept_front book front held left one other kept cells =
     let parts = kept_parts book held kept in
-    let rest = books_front 1 book front parts.others left one other parts.beside (sym parts.cells ∙ cells) in
-    (rest.0, rest.1)
+    let rest = books_front 1 book.entries front.entries parts.others left one other parts.beside (sym parts.cells ∙ cells) in
+    (rest.0, ap book_of rest.1)
 
 -- the last entry's cell stands behind those of the entries before it
 pub kept_last : (book : Book) (entry : Entry) (held : Loaded) → IsKeptAs (with_entry book entry) held
-    → (others : List Cell) × (held.cells ≡ entry_cells 1 book ++ entry_cell (size book + 1) entry ∷ others) × AreBeside others
+    → (others : List Cell) × (held.cells ≡ entry_cells 1 book.entries ++ entry_cell (size book + 1) entry ∷ others) × AreBeside others
 kept_last book entry held kept =
     let parts = kept_parts (with_entry book entry) held kept in
     let place : 1 + size book ≡ size book + 1 = omega arith in (
       parts.others,
-      parts.cells ∙ ap (λ (cells : List Cell). cells ++ parts.others) (entry_cells-with_entry 1 book entry) ∙ append_assoc (entry_cells 1 book) _ parts.others
-          ∙ ap (λ (p : ℕ). entry_cells 1 book ++ entry_cell p entry ∷ parts.others) place,
+      parts.cells ∙ ap (λ (cells : List Cell). cells ++ parts.others) (entry_cells-with_entry 1 book entry) ∙ append_assoc (entry_cells 1 book.entries) _ parts.others
+          ∙ ap (λ (p : ℕ). entry_cells 1 book.entries ++ entry_cell p entry ∷ parts.others) place,
       parts.beside,
     )
 
--- what is kept are the cells of the book, or of the book with the entry in doubt
-abbrev pub IsKeptInDoubt : Book → Option Entry → Loaded → Type 0
-IsKeptInDoubt book None held = IsKeptAs book held
-IsKeptInDoubt book (Some entry) held = IsKeptAs book held ⊎ IsKeptAs (with_entry book entry) held
+-- the entries of a book and what is in doubt, all of the form
+pub doubt_fits : (book : Book) (doubt : Doubt) → AllByRecursion EntryFits book.entries → IfSome doubt EntryFits → AllByRecursion EntryFits (with_doubt book doubt).entries
+doubt_fits book None fits next = fits
+doubt_fits book (Some entry) fits next = all_append EntryFits book.entries (entry ∷ []) fits (next, tt)
 
--- A book that opens from what is kept is the settled book: the entry in doubt was dropped or entered.
-pub settled_unique : (book opened : Book) (doubt : Option Entry) (held : Loaded) → AllByRecursion EntryFits book → IfSome doubt EntryFits → AllByRecursion EntryFits opened → IsKeptAs opened held → IsKeptInDoubt book doubt held
+-- A book that opens from what is kept is the settled book: what is in doubt was dropped or entered.
+pub settled_unique : (book opened : Book) (doubt : Doubt) (held : Loaded) → AllByRecursion EntryFits book.entries → IfSome doubt EntryFits → AllByRecursion EntryFits opened.entries → IsKeptAs opened held → IsKeptWith book doubt held
     → Settles book doubt opened
-settled_unique book opened None held fits next own is kept = kept_unique opened book held own fits is kept
-settled_unique book opened (Some entry) held fits next own is (inl kept) = inl (kept_unique opened book held own fits is kept)
-settled_unique book opened (Some entry) held fits next own is (inr kept) = inr (kept_unique opened (with_entry book entry) held own (all_append EntryFits book (entry ∷ []) fits (next, tt)) is kept)
+settled_unique book opened doubt held fits next own is (inl kept) = inl (kept_unique opened book held own fits is kept)
+settled_unique book opened doubt held fits next own is (inr kept) = inr (kept_unique opened (with_doubt book doubt) held own (doubt_fits book doubt fits next) is kept)

@@ -1,20 +1,22 @@
 -- The cells that a book is kept as: one for each entry, for each row with its version, for each client with an act, for each
 -- group that an act or a look names, and for the view record of each kept look. Beside them stands the generation, which is
 -- the number of the book's entries.
-use Rattle.std.specs.Prelude.{◌≡◌, ℕ, ◌+◌, List, [], ◌∷◌, ◌++◌, map}
+use Rattle.std.specs.Prelude.{◌≡◌, ℕ, ◌+◌, ◌⊎◌, List, [], ◌∷◌, ◌++◌, map}
 use Rattle.rv_rows.specs.Held.{Stored}
+use Rattle.rv_book.specs.declared.entry.Entry.{Entry}
 use Rattle.rv_book.specs.Book.{Book, size}
 use Rattle.rv_book.specs.Registers.{clients_of, groups_of}
 use Rattle.rv_history.specs.Replay.{IsReplay}
+use Rattle.rv_history.specs.Served.{Doubt, with_doubt}
 use Rattle.rv_news.specs.Records.{Placed, AreRecords}
 use Rattle.rv_keeper.specs.declared.cell.Cell.{Cell}
 use Rattle.rv_keeper.specs.declared.loaded.Loaded.{Loaded}
 use Rattle.rv_record.specs.CellTexts.{entry_cell, row_cell, client_cell, group_cell, view_cell}
 
 -- the entries, each under its place, of which the first is this
-abbrev pub entry_cells : ℕ → Book → List Cell
+abbrev pub entry_cells : ℕ → List Entry → List Cell
 entry_cells place [] = []
-entry_cells place (entry ∷ book) = entry_cell place entry ∷ entry_cells (place + 1) book
+entry_cells place (entry ∷ entries) = entry_cell place entry ∷ entry_cells (place + 1) entries
 
 abbrev pub row_cells : List Stored → List Cell
 row_cells rows = map (λ s. row_cell s.0 s.1) rows
@@ -33,7 +35,7 @@ abbrev pub derived_cells : Book → List Stored → List Placed → List Cell
 derived_cells book rows records = row_cells rows ++ (client_cells book ++ (group_cells book ++ view_cells records))
 
 abbrev pub cells_of : Book → List Stored → List Placed → List Cell
-cells_of book rows records = entry_cells 1 book ++ derived_cells book rows records
+cells_of book rows records = entry_cells 1 book.entries ++ derived_cells book rows records
 
 -- these cells follow from the book: its rows and its records are those of its replay
 pub record AreDerived (book : Book) (cells : List Cell) : Type 0 where
@@ -55,3 +57,7 @@ pub record AreCellsOf (book : Book) (cells : List Cell) : Type 0 where
 pub record IsKeptAs (book : Book) (loaded : Loaded) : Type 0 where
   pub cells : AreCellsOf book loaded.cells
   pub generation : loaded.generation ≡ size book
+
+-- what is kept is the book, or the book with what is in doubt
+abbrev pub IsKeptWith : Book → Doubt → Loaded → Type 0
+IsKeptWith book doubt held = IsKeptAs book held ⊎ IsKeptAs (with_doubt book doubt) held

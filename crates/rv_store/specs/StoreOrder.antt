@@ -1,10 +1,11 @@
 -- The cells of a book stand in order, each place once, on shelves from 1; and what follows from the entries stands on the
 -- shelves from 2.
-use Rattle.std.proofs.Common.{ℕ, ◌+◌, ◌^◌, ◌<◌, ◌≤◌, List, [], ◌∷◌, ◌++◌, sym, ◌∙◌, subst, arith, refl, map, Bool}
+use Rattle.std.proofs.Common.{ℕ, ◌+◌, ◌^◌, ◌<◌, ◌≤◌, List, [], ◌∷◌, ◌++◌, sym, ◌∙◌, subst, arith, refl, map, Bool, length}
 use Rattle.std.specs.List.{AllByRecursion}
 use Rattle.rv_base.specs.Sorted.{InOrder}
 use Rattle.rv_base.specs.Places.{Above}
 use Rattle.rv_rows.specs.Held.{Stored, stored_key, AreRows}
+use Rattle.rv_book.specs.declared.entry.Entry.{Entry}
 use Rattle.rv_book.specs.Book.{Book, size}
 use Rattle.rv_book.specs.LookLaws.{look_at-within}
 use Rattle.rv_book.specs.Registers.{clients_of, groups_of}
@@ -20,9 +21,9 @@ use Rattle.rv_store.specs.StoreCells.{entry_cells, row_cells, client_cells, grou
 use Rattle.rv_store.specs.ShelfLaws.{OnShelf, Behind, behind-on, all-append, in_order-parts, in_order-cells, same_shelf}
 
 -- Each part stands on its shelf.
-pub entries-on : (place : ℕ) (book : Book) → OnShelf 1 (entry_cells place book)
+pub entries-on : (place : ℕ) (entries : List Entry) → OnShelf 1 (entry_cells place entries)
 entries-on place [] = tt
-entries-on place (entry ∷ book) = (refl, entries-on (place + 1) book)
+entries-on place (entry ∷ entries) = (refl, entries-on (place + 1) entries)
 
 pub rows-on : (rows : List Stored) → OnShelf 2 (row_cells rows)
 rows-on [] = tt
@@ -73,14 +74,14 @@ derived-behind book rows records =
     (behind-on 1 4 (group_cells book) (omega arith) (groups-on book)) (behind-on 1 5 (view_cells records) (omega arith) (views-on records))))
 
 -- Entries stand in the order of their places.
-above-entries : (low place : ℕ) (book : Book) → low < place → place + size book ≤ 10 ^ 10 → Above cell_key (1 ∷ ten_digits low) (entry_cells place book)
+above-entries : (low place : ℕ) (entries : List Entry) → low < place → place + length entries ≤ 10 ^ 10 → Above cell_key (1 ∷ ten_digits low) (entry_cells place entries)
 above-entries low place [] lower fits = tt
-above-entries low place (entry ∷ book) lower fits =
-    (same_shelf 1 (ten_digits low) (ten_digits place) ∙ ten_digits-order low place lower (omega (arith, fits)), above-entries low (place + 1) book (omega (arith, lower)) (omega (arith, fits)))
+above-entries low place (entry ∷ entries) lower fits =
+    (same_shelf 1 (ten_digits low) (ten_digits place) ∙ ten_digits-order low place lower (omega (arith, fits)), above-entries low (place + 1) entries (omega (arith, lower)) (omega (arith, fits)))
 
-in_order-entries : (place : ℕ) (book : Book) → place + size book ≤ 10 ^ 10 → InOrder cell_key (entry_cells place book)
+in_order-entries : (place : ℕ) (entries : List Entry) → place + length entries ≤ 10 ^ 10 → InOrder cell_key (entry_cells place entries)
 in_order-entries place [] fits = tt
-in_order-entries place (entry ∷ book) fits = (above-entries place (place + 1) book (omega arith) (omega (arith, fits)), in_order-entries (place + 1) book (omega (arith, fits)))
+in_order-entries place (entry ∷ entries) fits = (above-entries place (place + 1) entries (omega arith) (omega (arith, fits)), in_order-entries (place + 1) entries (omega (arith, fits)))
 
 -- and so do records, under the digits of their places
 abbrev pub record_key : Placed → List ℕ
@@ -139,8 +140,8 @@ module _ (book : Book) (rows : List Stored) (records : List Placed) (are : AreAr
 
   pub all-are_cells : AreCells (cells_of book rows records)
   all-are_cells = record {
-    order = in_order-parts 1 (entry_cells 1 book) (derived_cells book rows records) (entries-on 1 book) (derived-behind book rows records) (in_order-entries 1 book (omega (arith, are.within))) in_order-derived;
-    shelves = all-append (λ cell. 0 < cell.shelf) (entry_cells 1 book) (derived_cells book rows records) (behind-on 0 1 (entry_cells 1 book) (omega arith) (entries-on 1 book)) derived-are_cells.shelves;
+    order = in_order-parts 1 (entry_cells 1 book.entries) (derived_cells book rows records) (entries-on 1 book.entries) (derived-behind book rows records) (in_order-entries 1 book.entries (omega (arith, are.within))) in_order-derived;
+    shelves = all-append (λ cell. 0 < cell.shelf) (entry_cells 1 book.entries) (derived_cells book rows records) (behind-on 0 1 (entry_cells 1 book.entries) (omega arith) (entries-on 1 book.entries)) derived-are_cells.shelves;
   }
 
 -- the cells of a book of fewer than 2^32 entries are cells in order

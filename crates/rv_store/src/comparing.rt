@@ -68,7 +68,7 @@ fn meet_records<'a>(
 
 // The loaded cells after those of the clients, where they begin with them.
 fn meet_clients<'a>(alloc: Global, book: &Book, loaded: &'a [Cell]) -> Result<&'a [Cell], Damage>
-    ensures { MatchResult result (λ rest. loaded.now ≡ client_cells book.now.entries ++ rest.now) (λ damage. Departs (client_cells book.now.entries) loaded.now damage) }
+    ensures { MatchResult result (λ rest. loaded.now ≡ client_cells book.now.book ++ rest.now) (λ damage. Departs (client_cells book.now.book) loaded.now damage) }
 {
     let mut rest = loaded;
     for index in 0..book.len() {
@@ -83,8 +83,8 @@ fn meet_clients<'a>(alloc: Global, book: &Book, loaded: &'a [Cell]) -> Result<&'
 
 // The loaded cells after those of the groups, where they begin with them.
 fn meet_groups<'a>(alloc: Global, book: &Book, loaded: &'a [Cell]) -> Result<&'a [Cell], Damage>
-    requires { RetiresBound book.now.entries }
-    ensures { MatchResult result (λ rest. loaded.now ≡ group_cells book.now.entries ++ rest.now) (λ damage. Departs (group_cells book.now.entries) loaded.now damage) }
+    requires { RetiresBound book.now.book }
+    ensures { MatchResult result (λ rest. loaded.now ≡ group_cells book.now.book ++ rest.now) (λ damage. Departs (group_cells book.now.book) loaded.now damage) }
 {
     let mut rest = loaded;
     for index in 0..book.len() {

@@ -17,7 +17,7 @@ use std::alloc::Global;
 fn may_follow(book: &Book, place: u32, entry: &Entry) -> bool
     requires { 1 ≤ place }
     ensures range { place < 2 ^ 32 }
-    ensures value { IsTrue result ↔ ((size book.now.entries < book.now.limit) × (place ≡ size book.now.entries + 1) × IsLawfulAfter book.now.entries entry.now) }
+    ensures value { IsTrue result ↔ ((size book.now.book < book.now.limit) × (place ≡ size book.now.book + 1) × IsLawfulAfter book.now.book entry.now) }
 {
     !book.is_full() && place - 1 == book.len() && may_stand(book, entry)
 }
@@ -26,7 +26,7 @@ fn may_follow(book: &Book, place: u32, entry: &Entry) -> bool
 fn next_entry(alloc: Global, book: &Book, cell: &Cell) -> Result<Entry, Damage>
     requires shelf { cell.now.shelf ≡ 1 }
     requires limit { book.now.limit < 2 ^ 32 }
-    ensures { ReadsNext book.now.limit book.now.entries cell.now result }
+    ensures { ReadsNext book.now.limit book.now.book cell.now result }
 {
     let (place, entry) = entry_of_cell(alloc, cell)?;
     entry_fits(&entry);

@@ -41,7 +41,7 @@ pub(crate) fn add_gone_view(
 
 // Whether the look at a place is of the group.
 fn is_look_of(book: &Book, place: u32, group: &Id) -> bool
-    ensures { result ≡ is_look_at group.now book.now.entries place }
+    ensures { result ≡ is_look_at group.now book.now.book place }
 {
     match book.look(place) {
         Some(look) => *look.group == *group,
@@ -57,7 +57,7 @@ pub(crate) fn add_gone_views(
     records: &Records,
     group: &Id,
 ) -> Result<(), Memory>
-    ensures { OnOk result (changes.new.items ≡ changes.old.items ++ gone_views group.now book.now.entries records.now.records) }
+    ensures { OnOk result (changes.new.items ≡ changes.old.items ++ gone_views group.now book.now.book records.now.records) }
 {
     for (place, _) in records.as_slice() {
         if is_look_of(book, *place, group) {

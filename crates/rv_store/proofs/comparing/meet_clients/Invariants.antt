@@ -6,4 +6,4 @@ use Rattle.rv_store.proofs.FirstDifference.{Met}
 use Rattle.rv_store.proofs.comparing.meet_clients.Given as goal
 
 abbrev pub invariant-loop-index : goal.invariant-loop-index
-invariant-loop-index l = record { met : Met (client_cells l.book.entries) (map (λ c. client_cell c.0 c.1 c.2) (drop l.index (clients_of l.book.entries))) l.loaded l.rest }
+invariant-loop-index l = record { met : Met (client_cells l.book.book) (map (λ c. client_cell c.0 c.1 c.2) (drop l.index (clients_of l.book.book))) l.loaded l.rest }

@@ -6,4 +6,4 @@ use Rattle.rv_store.proofs.FirstDifference.{Met}
 use Rattle.rv_store.proofs.comparing.meet_groups.Given as goal
 
 abbrev pub invariant-loop-index : goal.invariant-loop-index
-invariant-loop-index l = record { met : Met (group_cells l.book.entries) (map (λ g. group_cell g.0 g.1 g.2 g.3) (drop l.index (groups_of l.book.entries))) l.loaded l.rest }
+invariant-loop-index l = record { met : Met (group_cells l.book.book) (map (λ g. group_cell g.0 g.1 g.2 g.3) (drop l.index (groups_of l.book.book))) l.loaded l.rest }
