@@ -10,7 +10,7 @@ use Rattle.std.proofs.lemmas.List.{take-append-drop, take_more, drop_more, drop_
 use Rattle.rv_base.specs.Sorted.{InOrder}
 use Rattle.rv_base.specs.Places.{Below, Above}
 use Rattle.rv_book.specs.declared.entry.Entry.{Entry}
-use Rattle.rv_book.specs.Book.{Book, size, with_entry, empty_book}
+use Rattle.rv_book.specs.Book.{Book, empty_book, size, with_entry}
 use Rattle.rv_book.specs.BookWords.{size-with_entry}
 use Rattle.rv_history.specs.Lawful.{IsLawfulAfter}
 use Rattle.rv_history.specs.LawfulBooks.{lawful_none, lawful_more}
@@ -27,6 +27,7 @@ use Rattle.rv_record.specs.EntryReading.{IsPlace, EntryFits, PlacedFits}
 use Rattle.rv_store.specs.declared.damage.Damage.{Damage}
 use Rattle.rv_store.specs.declared.damage.Damage.TheVariants.{Damaged, Memory}
 use Rattle.rv_store.specs.StoreCells.{entry_cells}
+use Rattle.rv_store.specs.ShelfLaws.{all-append}
 use Rattle.rv_store.specs.StoreBooks.{entry_cells-with_entry}
 use Rattle.rv_store.specs.DamageOf.{damage_of}
 use Rattle.rv_store.specs.Opening.{IsSoundBook, IsBrokenEntry, BreaksAt, HasEntries}
@@ -87,15 +88,11 @@ pub record Entered (limit : ℕ) (cells : List Cell) (index : ℕ) (book : Book)
 pub none_entered : (limit : ℕ) (cells : List Cell) (book : Book) → book ≡ empty_book → Entered limit cells 0 book
 none_entered limit cells book none = rw none (record { cells_are = refl; sound = record { lawful = lawful_none; within = omega arith; fits = tt } })
 
-all_fit : (entries : List Entry) (entry : Entry) → AllByRecursion EntryFits entries → EntryFits entry → AllByRecursion EntryFits (entries ++ entry ∷ [])
-all_fit [] entry all fits = (fits, tt)
-all_fit (e ∷ entries) entry all fits = (all.0, all_fit entries entry all.1 fits)
-
 sound_more : (limit : ℕ) (book : Book) (cell : Cell) (entry : Entry) → IsSoundBook limit book → IsNext limit book cell entry → IsSoundBook limit (with_entry book entry)
 sound_more limit book cell entry sound next = record {
   lawful = lawful_more book entry sound.lawful next.lawful;
   within = omega (arith, size-with_entry book entry, next.below);
-  fits = all_fit book.entries entry sound.fits next.fits;
+  fits = all-append EntryFits book.entries (entry ∷ []) sound.fits (next.fits, tt);
 }
 
 pub one_entered : (limit most : ℕ) (cells : List Cell) (index : ℕ) (cell : Cell) (book next : Book) → most ≡ limit → index < length cells → cell ≡ get_or cells index cell

@@ -1,5 +1,5 @@
 -- The changes that an entry makes of the cells of a book name each place once, and leave the cells of the book with the entry.
-use Rattle.std.proofs.Common.{◌≡◌, ℕ, ◌+◌, ◌^◌, ◌<◌, ◌≤◌, Bool, true, false, not, List, [], ◌∷◌, ◌++◌, Option, Some, None, refl, sym, ap, ◌∙◌, subst, arith, map, length}
+use Rattle.std.proofs.Common.{◌≡◌, ℕ, ◌+◌, ◌^◌, ◌<◌, ◌≤◌, Bool, true, false, not, List, [], ◌∷◌, ◌++◌, length, Option, Some, None, refl, sym, ap, ◌∙◌, subst, arith, map}
 use Rattle.std.specs.List.{AllByRecursion, filter}
 use Rattle.std.specs.Str.{bytes_eq}
 use Rattle.rv_base.specs.Sorted.{put_by, InOrder, Distinct}
@@ -33,6 +33,7 @@ use Rattle.rv_record.specs.PlaceOrder.{ten_digits-order}
 use Rattle.rv_store.specs.StoreCells.{entry_cells, row_cells, client_cells, group_cells, view_cells, cells_of, AreCellsOf}
 use Rattle.rv_store.specs.StoreOrder.{entries-on, rows-on, clients-on, groups-on, derived-behind, clients-behind, groups-behind, views-behind, record_key, in_order-records, arranged, places_fit}
 use Rattle.rv_store.specs.StoreUnique.{replay_unique, records_unique}
+use Rattle.rv_store.specs.StoreBooks.{entry_cells-with_entry}
 use Rattle.rv_store.specs.ShelfLaws.{AreOf, AreAfter, all-append, same_shelf, changed-parts, distinct-parts, put-cells, distinct-changes}
 use Rattle.rv_store.specs.EntryChanges.{row_changes, act_changes, gone_view, look_changes, gone_views, retire_changes}
 use Rattle.rv_store.proofs.RowChanges.{rows-leave, rows-of, rows-distinct}
@@ -98,14 +99,11 @@ below_end place end [] low fits = tt
 below_end place end (entry ∷ entries) low fits =
     (same_shelf 1 (ten_digits place) (ten_digits end) ∙ ten_digits-order place end (omega (arith, low)) fits, below_end (place + 1) end entries (omega (arith, low)) fits)
 
-entries-push : (place end : ℕ) (entries : List Entry) (entry : Entry) → place + length entries ≡ end → entry_cells place entries ++ entry_cell end entry ∷ [] ≡ entry_cells place (entries ++ entry ∷ [])
-entries-push place end [] entry is = let same : end ≡ place = omega (arith, is) in ap (λ (n : ℕ). entry_cell n entry ∷ []) same
-entries-push place end (e ∷ entries) entry is = ap (λ (cells : List Cell). entry_cell place e ∷ cells) (entries-push (place + 1) end entries entry (omega (arith, is)))
-
 entries-leave : (book : Book) (entry : Entry) → size book + 1 < 2 ^ 32 → changed (entry_cells 1 book.entries) (Put (entry_cell (size book + 1) entry) ∷ []) ≡ entry_cells 1 (with_entry book entry).entries
 entries-leave book entry fits =
     put-end cell_key (entry_cell (size book + 1) entry) (entry_cells 1 book.entries) (below_end 1 (size book + 1) book.entries (omega arith) (omega (arith, fits)))
-    ∙ entries-push 1 (size book + 1) book.entries entry (omega arith)
+    ∙ ap (λ (place : ℕ). entry_cells 1 book.entries ++ entry_cell place entry ∷ []) (omega arith)
+    ∙ sym (entry_cells-with_entry 1 book entry)
 
 -- a client's and a group's cell
 client-leaves : (book : Book) (client group : List ℕ) (id : ℕ) → changed (client_cells book) (Put (client_cell client group id) ∷ []) ≡ map (λ c. client_cell c.0 c.1 c.2) (put_by (λ (c : List ℕ × List ℕ × ℕ). c.0) (client, group, id) (clients_of book))

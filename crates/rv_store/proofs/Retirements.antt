@@ -2,8 +2,8 @@
 use Rattle.std.proofs.Common.{List, [], ◌∷◌, subst, sym}
 use Rattle.rv_book.specs.declared.entry.Entry.{Entry}
 use Rattle.rv_book.specs.declared.entry.Entry.TheVariants.{Act, Look, Retire}
-use Rattle.rv_book.specs.Book.{Book, with_entry, empty_book, with_entries}
-use Rattle.rv_book.specs.BookWords.{with_entry-more, with_entries-none}
+use Rattle.rv_book.specs.Book.{Book, empty_book, with_entries, with_entry}
+use Rattle.rv_book.specs.BookWords.{with_entries-none, with_entry-more}
 use Rattle.rv_book.specs.Registers.{RetiresBound}
 use Rattle.rv_book.specs.RegisterLaws.{BoundIfRetired, retires_bound-empty, retires_bound-with_entry}
 use Rattle.rv_history.specs.Lawful.{IsLawful, IsLawfulAfter}

@@ -3,7 +3,7 @@ use Rattle.std.proofs.Common.{◌≡◌, ℕ, ◌+◌, ◌<◌, ◌≤◌, List,
 use Rattle.std.specs.List.{AllByRecursion}
 use Rattle.rv_base.specs.Sorted.{find_by}
 use Rattle.rv_book.specs.declared.entry.Entry.{Entry}
-use Rattle.rv_book.specs.Book.{Book, size, book_of, with_entries}
+use Rattle.rv_book.specs.Book.{Book, book_of, size, with_entries}
 use Rattle.rv_book.specs.BookWords.{size-with_entries}
 use Rattle.rv_keeper.specs.declared.cell.Cell.{Cell}
 use Rattle.rv_keeper.specs.declared.loaded.Loaded.{Loaded}
@@ -15,7 +15,7 @@ use Rattle.rv_store.specs.declared.damage.Damage.{Damage}
 use Rattle.rv_store.specs.declared.damage.Damage.TheVariants.{Damaged, Memory}
 use Rattle.rv_store.specs.StoreCells.{AreDerived, entry_cells}
 use Rattle.rv_store.specs.StoreUnique.{derived_unique}
-use Rattle.rv_store.specs.StoreBooks.{books_front, books_beside, kept_parts, kept_unique}
+use Rattle.rv_store.specs.StoreBooks.{AreBeside, entries_front, entries_beside, kept_parts, kept_unique}
 use Rattle.rv_store.specs.Opening.{IsSoundBook, MayOpen, IsBrokenEntry, BreaksAt, DiffersAt, HasOtherGeneration, HasEntries, IsDamaged, breaks, differs, another, Restores}
 
 -- at most one book opens
@@ -36,11 +36,11 @@ not_broken limit book front more entry cell sound is made broken =
 none_breaks : (limit : ℕ) (book : Book) (loaded : Loaded) (shelf : ℕ) (key : List ℕ) → MayOpen limit book loaded → ¬ BreaksAt limit loaded shelf key
 none_breaks limit book loaded shelf key opens b =
     let parts = kept_parts book loaded opens.kept in
-    let rest = books_front 1 book.entries b.book.entries parts.others (b.cell ∷ b.others) opens.sound.fits b.sound.fits parts.beside (sym parts.cells ∙ b.cells) in
+    let rest = entries_front 1 book.entries b.book.entries parts.others (b.cell ∷ b.others) opens.sound.fits b.sound.fits parts.beside (sym parts.cells ∙ b.cells) in
     by_rest parts.others rest.0 parts.beside (ap book_of rest.1) rest.2
   where
-    by_rest : (others : List Cell) (more : List Entry) → AllByRecursion (λ cell. 2 ≤ cell.shelf) others → book ≡ with_entries b.book more → b.cell ∷ b.others ≡ entry_cells (1 + size b.book) more ++ others → ⊥
-    by_rest others [] beside is cells = let two : 2 ≤ b.cell.shelf = (subst (AllByRecursion (λ cell. 2 ≤ cell.shelf)) (sym cells) beside).0 in omega (arith, b.broken.shelf)
+    by_rest : (others : List Cell) (more : List Entry) → AreBeside others → book ≡ with_entries b.book more → b.cell ∷ b.others ≡ entry_cells (1 + size b.book) more ++ others → ⊥
+    by_rest others [] beside is cells = let two : 2 ≤ b.cell.shelf = (subst AreBeside (sym cells) beside).0 in omega (arith, b.broken.shelf)
     by_rest others (entry ∷ more) beside is cells = let made : b.cell ≡ entry_cell (1 + size b.book) entry = cc in not_broken limit book b.book more entry b.cell opens.sound is made b.broken
 
 -- entries that are read from what is kept, with nothing of shelf 1 beside them, are those of the book, and what follows from the book stands beside them
@@ -51,7 +51,7 @@ pub record IsRead (book read : Book) (others : List Cell) : Type 0 where
 is_read : (limit : ℕ) (book read : Book) (loaded : Loaded) (others : List Cell) → MayOpen limit book loaded → HasEntries limit read loaded others → IsRead book read others
 is_read limit book read loaded others opens has =
     let parts = kept_parts book loaded opens.kept in
-    let both = books_beside 1 book.entries read.entries parts.others others opens.sound.fits has.sound.fits parts.beside has.beside (sym parts.cells ∙ has.cells) in
+    let both = entries_beside 1 book.entries read.entries parts.others others opens.sound.fits has.sound.fits parts.beside has.beside (sym parts.cells ∙ has.cells) in
     let same : book ≡ read = ap book_of both.0 in
     record { same = same; derived = subst (λ (b : Book). AreDerived b others) same (subst (AreDerived book) both.1 parts.derived) }
 

@@ -1,43 +1,26 @@
 -- What is kept tells the book: cells are those of one book of entries of the form, and so an opened book is the book that was
--- kept, or the book with the entry that was in doubt.
-use Rattle.std.proofs.Common.{◌≡◌, ℕ, ◌+◌, ◌≤◌, List, [], ◌∷◌, ◌++◌, map, Some, None, IfSome, refl, sym, ap, ◌∙◌, subst, arith, inl, inr, append_assoc, append-nil, length}
+-- kept, or the book with what was in doubt.
+use Rattle.std.proofs.Common.{◌≡◌, ℕ, ◌+◌, ◌≤◌, ◌⊎◌, List, [], ◌∷◌, ◌++◌, length, Some, None, IfSome, refl, sym, ap, ◌∙◌, subst, arith, inl, inr, append_assoc, append-nil}
 use Rattle.std.specs.List.{AllByRecursion}
-use Rattle.rv_rows.specs.Held.{Stored}
 use Rattle.rv_book.specs.declared.entry.Entry.{Entry}
-use Rattle.rv_book.specs.Book.{Book, size, with_entry, book_of, Extends}
-use Rattle.rv_book.specs.Registers.{clients_of, groups_of}
-use Rattle.rv_history.specs.Served.{Settles, Doubt, with_doubt}
-use Rattle.rv_news.specs.Records.{Placed}
+use Rattle.rv_book.specs.Book.{Book, book_of, size, with_entry, Extends}
+use Rattle.rv_history.specs.Served.{Doubt, Settles, with_doubt}
 use Rattle.rv_keeper.specs.declared.cell.Cell.{Cell}
 use Rattle.rv_keeper.specs.declared.loaded.Loaded.{Loaded}
-use Rattle.rv_record.specs.CellTexts.{entry_cell, row_cell, client_cell, group_cell, view_cell}
+use Rattle.rv_record.specs.CellTexts.{entry_cell}
 use Rattle.rv_record.specs.EntryCells.{entry_cell_injective}
 use Rattle.rv_record.specs.EntryReading.{EntryFits}
-use Rattle.rv_store.specs.StoreCells.{AreDerived, IsKeptAs, IsKeptWith, client_cells, derived_cells, entry_cells, group_cells, row_cells}
+use Rattle.rv_store.specs.ShelfLaws.{all-append}
+use Rattle.rv_store.specs.StoreCells.{AreDerived, IsKeptAs, IsKeptWith, derived_cells, entry_cells}
+use Rattle.rv_store.specs.StoreOrder.{derived-behind}
 use Rattle.rv_store.specs.StoreUnique.{cells_unique}
 
 -- the cells stand beside the entries, on shelves from 2
 abbrev pub AreBeside : List Cell → Type 0
 AreBeside cells = AllByRecursion (λ cell. 2 ≤ cell.shelf) cells
 
-all_append : {X : Type 0} (P : X → Type 0) (xs ys : List X) → AllByRecursion P xs → AllByRecursion P ys → AllByRecursion P (xs ++ ys)
-all_append P [] ys before after = after
-all_append P (x ∷ xs) ys before after = (before.0, all_append P xs ys before.1 after)
-
-all_map : {X : Type 0} (cell_of : X → Cell) (xs : List X) → ((x : X) → 2 ≤ (cell_of x).shelf) → AreBeside (map cell_of xs)
-all_map cell_of [] above = tt
-all_map cell_of (x ∷ xs) above = (above x, all_map cell_of xs above)
-
--- what follows from the entries stands beside them
-pub derived-beside : (book : Book) (rows : List Stored) (records : List Placed) → AreBeside (derived_cells book rows records)
-derived-beside book rows records =
-    all_append _ (row_cells rows) _ (all_map (λ s. row_cell s.0 s.1) rows (λ s. omega arith))
-    (all_append _ (client_cells book) _ (all_map (λ c. client_cell c.0 c.1 c.2) (clients_of book) (λ c. omega arith))
-    (all_append _ (group_cells book) _ (all_map (λ g. group_cell g.0 g.1 g.2 g.3) (groups_of book) (λ g. omega arith))
-    (all_map (λ r. view_cell r.0 r.1) records (λ r. omega arith))))
-
 -- the cells of two lists of entries, of which the one stands behind the other
-pub entry_cells-append : (place : ℕ) (front more : List Entry) → entry_cells place (front ++ more) ≡ entry_cells place front ++ entry_cells (place + length front) more
+entry_cells-append : (place : ℕ) (front more : List Entry) → entry_cells place (front ++ more) ≡ entry_cells place front ++ entry_cells (place + length front) more
 entry_cells-append place [] more = ap (λ (p : ℕ). entry_cells p more) (omega arith)
 entry_cells-append place (entry ∷ front) more =
     ap (λ (cells : List Cell). entry_cell place entry ∷ cells)
@@ -56,31 +39,31 @@ not_beside cell cells others first beside same = let above : 2 ≤ cell.shelf = 
 
 -- Of cells of entries and what stands behind them: where nothing behind the first entries is on shelf 1, others that are read
 -- from the same cells are a front of them.
-pub books_front : (place : ℕ) (a b : List Entry) (others left : List Cell) → AllByRecursion EntryFits a → AllByRecursion EntryFits b → AreBeside others
+pub entries_front : (place : ℕ) (a b : List Entry) (others left : List Cell) → AllByRecursion EntryFits a → AllByRecursion EntryFits b → AreBeside others
     → entry_cells place a ++ others ≡ entry_cells place b ++ left → (more : List Entry) × (a ≡ b ++ more) × (left ≡ entry_cells (place + length b) more ++ others)
-books_front place a [] others left one other beside same = (a, refl, sym same ∙ ap (λ (p : ℕ). entry_cells p a ++ others) (omega arith))
-books_front place [] (y ∷ ys) others left one other beside same = absurd (not_beside (entry_cell place y) (entry_cells (place + 1) ys ++ left) others refl beside same)
-books_front place (x ∷ xs) (y ∷ ys) others left one other beside same =
+entries_front place a [] others left one other beside same = (a, refl, sym same ∙ ap (λ (p : ℕ). entry_cells p a ++ others) (omega arith))
+entries_front place [] (y ∷ ys) others left one other beside same = absurd (not_beside (entry_cell place y) (entry_cells (place + 1) ys ++ left) others refl beside same)
+entries_front place (x ∷ xs) (y ∷ ys) others left one other beside same =
     let parts = cons_parts (entry_cell place x) (entry_cell place y) (entry_cells (place + 1) xs ++ others) (entry_cells (place + 1) ys ++ left) same in
     let entry = entry_cell_injective place x y one.0 other.0 parts.0 in
-    let rest = books_front (place + 1) xs ys others left one.1 other.1 beside parts.1 in
+    let rest = entries_front (place + 1) xs ys others left one.1 other.1 beside parts.1 in
     (rest.0, (λ i. entry i ∷ rest.1 i), rest.2 ∙ ap (λ (p : ℕ). entry_cells p rest.0 ++ others) (omega arith))
 
 -- entries and the cells beside them are found in what is kept
-pub books_beside : (place : ℕ) (a b : List Entry) (others left : List Cell) → AllByRecursion EntryFits a → AllByRecursion EntryFits b
+pub entries_beside : (place : ℕ) (a b : List Entry) (others left : List Cell) → AllByRecursion EntryFits a → AllByRecursion EntryFits b
     → AreBeside others → AreBeside left → entry_cells place a ++ others ≡ entry_cells place b ++ left → (a ≡ b) × (others ≡ left)
-books_beside place [] [] others left one other beside also same = (refl, same)
-books_beside place [] (y ∷ ys) others left one other beside also same = absurd (not_beside (entry_cell place y) (entry_cells (place + 1) ys ++ left) others refl beside same)
-books_beside place (x ∷ xs) [] others left one other beside also same = absurd (not_beside (entry_cell place x) (entry_cells (place + 1) xs ++ others) left refl also (sym same))
-books_beside place (x ∷ xs) (y ∷ ys) others left one other beside also same =
+entries_beside place [] [] others left one other beside also same = (refl, same)
+entries_beside place [] (y ∷ ys) others left one other beside also same = absurd (not_beside (entry_cell place y) (entry_cells (place + 1) ys ++ left) others refl beside same)
+entries_beside place (x ∷ xs) [] others left one other beside also same = absurd (not_beside (entry_cell place x) (entry_cells (place + 1) xs ++ others) left refl also (sym same))
+entries_beside place (x ∷ xs) (y ∷ ys) others left one other beside also same =
     let parts = cons_parts (entry_cell place x) (entry_cell place y) (entry_cells (place + 1) xs ++ others) (entry_cells (place + 1) ys ++ left) same in
     let entry = entry_cell_injective place x y one.0 other.0 parts.0 in
-    let rest = books_beside (place + 1) xs ys others left one.1 other.1 beside also parts.1 in
+    let rest = entries_beside (place + 1) xs ys others left one.1 other.1 beside also parts.1 in
     ((λ i. entry i ∷ rest.0 i), rest.1)
 
--- cells of entries are those of one book
-pub books_unique : (place : ℕ) (a b : List Entry) → AllByRecursion EntryFits a → AllByRecursion EntryFits b → entry_cells place a ≡ entry_cells place b → a ≡ b
-books_unique place a b one other same = (books_beside place a b [] [] one other tt tt (append-nil (entry_cells place a) ∙ same ∙ sym (append-nil (entry_cells place b)))).0
+-- cells of entries are those of one list of entries
+pub entries_unique : (place : ℕ) (a b : List Entry) → AllByRecursion EntryFits a → AllByRecursion EntryFits b → entry_cells place a ≡ entry_cells place b → a ≡ b
+entries_unique place a b one other same = (entries_beside place a b [] [] one other tt tt (append-nil (entry_cells place a) ∙ same ∙ sym (append-nil (entry_cells place b)))).0
 
 -- what is held of a book: its entries, and beside them what follows from them
 pub record HasParts (book : Book) (held : Loaded) : Type 0 where
@@ -93,7 +76,7 @@ pub kept_parts : (book : Book) (held : Loaded) → IsKeptAs book held → HasPar
 kept_parts book held kept = record {
   others = derived_cells book kept.cells.rows kept.cells.records;
   cells = kept.cells.made;
-  beside = derived-beside book kept.cells.rows kept.cells.records;
+  beside = derived-behind book kept.cells.rows kept.cells.records;
   derived = record { rows = kept.cells.rows; records = kept.cells.records; replay = kept.cells.replay; kept = kept.cells.kept; made = refl };
 }
 
@@ -121,14 +104,13 @@ pub kept_unique : (a b : Book) (held : Loaded) → AllByRecursion EntryFits a.en
 kept_unique a b held one other kept also =
     let first = kept_parts a held kept in
     let second = kept_parts b held also in
-    ap book_of (books_beside 1 a.entries b.entries first.others second.others one other first.beside second.beside (sym first.cells ∙ second.cells)).0
+    ap book_of (entries_beside 1 a.entries b.entries first.others second.others one other first.beside second.beside (sym first.cells ∙ second.cells)).0
 
--- entries that are read from what is kept are a front of the book
-pub kept_front : (book front : Book) (held : Loaded) (left : List Cell) → AllByRecursion EntryFits book.entries → AllByRecursion EntryFits front.entries → IsKeptAs book held → held.cells ≡ entry_cells 1 front.entries ++ left
-    → Extends book front
+-- a book goes on from entries that are read from what it is kept as
+pub kept_front : (book front : Book) (held : Loaded) (left : List Cell) → AllByRecursion EntryFits book.entries → AllByRecursion EntryFits front.entries → IsKeptAs book held → held.cells ≡ entry_cells 1 front.entries ++ left → Extends book front
 kept_front book front held left one other kept cells =
     let parts = kept_parts book held kept in
-    let rest = books_front 1 book.entries front.entries parts.others left one other parts.beside (sym parts.cells ∙ cells) in
+    let rest = entries_front 1 book.entries front.entries parts.others left one other parts.beside (sym parts.cells ∙ cells) in
     (rest.0, ap book_of rest.1)
 
 -- the last entry's cell stands behind those of the entries before it
@@ -143,12 +125,12 @@ kept_last book entry held kept =
       parts.beside,
     )
 
--- the entries of a book and what is in doubt, all of the form
+-- the entries of the book with what is in doubt are of the form
 pub doubt_fits : (book : Book) (doubt : Doubt) → AllByRecursion EntryFits book.entries → IfSome doubt EntryFits → AllByRecursion EntryFits (with_doubt book doubt).entries
 doubt_fits book None fits next = fits
-doubt_fits book (Some entry) fits next = all_append EntryFits book.entries (entry ∷ []) fits (next, tt)
+doubt_fits book (Some entry) fits next = all-append EntryFits book.entries (entry ∷ []) fits (next, tt)
 
--- A book that opens from what is kept is the settled book: what is in doubt was dropped or entered.
+-- A book that opens from what is kept is the settled book: what was in doubt was dropped or entered.
 pub settled_unique : (book opened : Book) (doubt : Doubt) (held : Loaded) → AllByRecursion EntryFits book.entries → IfSome doubt EntryFits → AllByRecursion EntryFits opened.entries → IsKeptAs opened held → IsKeptWith book doubt held
     → Settles book doubt opened
 settled_unique book opened doubt held fits next own is (inl kept) = inl (kept_unique opened book held own fits is kept)
