@@ -1,5 +1,5 @@
 -- Turns where nothing is in doubt.
-use Rattle.std.proofs.Common.{◌≡◌, ◌≤◌, Option, Some, None, Ok, Err, sym, subst}
+use Rattle.std.proofs.Common.{Option, Some, None, Ok, Err, inl, refl, sym, subst}
 use Rattle.rv_book.specs.declared.entry.Entry.{Entry}
 use Rattle.rv_book.specs.Book.{with_entry}
 use Rattle.rv_keeper.specs.declared.fault.KeepFault.{KeepFault}
@@ -15,7 +15,6 @@ use Rattle.rv_history.specs.Machine.{Refuses, Step}
 use Rattle.rv_history.specs.Served.{Served, TurnOf, TakesTurn}
 use Rattle.rv_desk.specs.Keeping.{IsKept}
 use Rattle.rv_desk.specs.Stepping.{HasStepped}
-use Rattle.rv_desk.specs.TurnLaws.{settles_same}
 
 -- where the entry that a step would enter is not kept
 pub not_kept : {T : Type 0} (ask : Ask) (entered : Outcome) (entry : Entry) (old new : Served) (fault : KeepFault) → Step pull_json old.limit old.book ask entered (with_entry old.book entry) → Refuses old.limit old.book ask refusals.Memory
@@ -32,31 +31,31 @@ not_kept ask entered entry old new Memory step memory kept = record {
 }
 
 -- what is asked is a turn
-pub turn_stepped : (ask : Ask) (outcome : Outcome) (old new : Served) → old.doubt ≡ None → HasStepped old ask (Ok outcome) new → TakesTurn pull_json old ask outcome new
-turn_stepped ask outcome old new none has = let (step, own, still, same) = has.stepped in record {
+pub turn_stepped : (ask : Ask) (outcome : Outcome) (old new : Served) → HasStepped old ask (Ok outcome) new → TakesTurn pull_json old ask outcome new
+turn_stepped ask outcome old new has = let (step, own, still, same) = has.stepped in record {
   settled = old.book;
   left = None;
-  settles = settles_same old.book old.doubt none;
+  settles = inl refl;
   turn = subst (λ (trouble : Option Trouble). TurnOf pull_json old old.book ask outcome None trouble new) (sym own) (step, still, same);
   later = has.later;
   limit = has.limit;
 }
 
-pub turn_failed : (ask : Ask) (old new : Served) → old.doubt ≡ None → HasStepped old ask (Err Failed) new → TakesTurn pull_json old ask (Refused (refusals.Trouble Keeper)) new
-turn_failed ask old new none has = record {
+pub turn_failed : (ask : Ask) (old new : Served) → HasStepped old ask (Err Failed) new → TakesTurn pull_json old ask (Refused (refusals.Trouble Keeper)) new
+turn_failed ask old new has = record {
   settled = old.book;
   left = Some has.stepped.0;
-  settles = settles_same old.book old.doubt none;
+  settles = inl refl;
   turn = has.stepped.1;
   later = has.later;
   limit = has.limit;
 }
 
-pub turn_refused : (ask : Ask) (old new : Served) → old.doubt ≡ None → HasStepped old ask (Err Memory) new → TakesTurn pull_json old ask (Refused refusals.Memory) new
-turn_refused ask old new none has = let (memory, same, still, faults) = has.stepped in record {
+pub turn_refused : (ask : Ask) (old new : Served) → HasStepped old ask (Err Memory) new → TakesTurn pull_json old ask (Refused refusals.Memory) new
+turn_refused ask old new has = let (memory, same, still, faults) = has.stepped in record {
   settled = old.book;
   left = None;
-  settles = settles_same old.book old.doubt none;
+  settles = inl refl;
   turn = ((memory, same), still, faults);
   later = has.later;
   limit = has.limit;

@@ -6,7 +6,7 @@ use Rattle.rv_turns.specs.Outcomes.{trouble_of}
 use Rattle.rv_turns.specs.declared.outcome.Outcome.{Outcome}
 use Rattle.rv_turns.specs.declared.refusal.Trouble.{Trouble}
 use Rattle.rv_wire.specs.Answers.{pull_json}
-use Rattle.rv_history.specs.Served.{IsAssured, Served, TakesTurn, Doubt}
+use Rattle.rv_history.specs.Served.{Doubt, IsAssured, Served, TakesTurn}
 use Rattle.rv_keeper.specs.declared.keeper.Keeper.{Ghosts}
 use Rattle.rv_keeper.specs.declared.loaded.Loaded.{Loaded}
 use Rattle.rv_state.specs.declared.prepared.Prepared.{Prepared}
@@ -43,7 +43,7 @@ HoldsBook Holds book doubt = (held : Loaded) × Holds held × IsKeptWith book do
 abbrev pub parts_served : Standing → Option Prepared → ℕ → Served
 parts_served state doubt faults = record { book = state.book; limit = state.limit; doubt = option_map (λ p. p.entry) doubt; faults = faults }
 
--- what is in doubt may be entered at the state, and where the keeper tells, it holds the book's cells, or those with the entry
+-- what is in doubt may be entered at the state, and where the keeper tells, it holds the book's cells, or those with what is in doubt
 pub record AreInStep (state : Standing) (doubt : Option Prepared) (Tells : Type 0) (Holds : Loaded → Type 0) : Type 0 where
   pub ready : IfSome doubt (IsPrepared state)
   pub holds : Tells → HoldsBook Holds state.book (option_map (λ p. p.entry) doubt)

@@ -1,8 +1,7 @@
 -- A turn is what was settled, and then a step; or what could not be settled.
-use Rattle.std.proofs.Common.{◌≡◌, ℕ, ◌≤◌, Option, Some, None, Ok, Err, refl, ◌∙◌, subst, arith, inl}
+use Rattle.std.proofs.Common.{◌≡◌, ℕ, ◌≤◌, Option, Some, None, Ok, Err, refl, ap, ◌∙◌, subst, arith, inl, ⊎_elim}
 use Rattle.std.specs.Prelude.{IsSome}
 use Rattle.rv_base.specs.Causes.{rose_before}
-use Rattle.rv_book.specs.declared.entry.Entry.{Entry}
 use Rattle.rv_book.specs.Book.{Book, with_entry}
 use Rattle.rv_turns.specs.Asks.{Ask}
 use Rattle.rv_turns.specs.Outcomes.{trouble_of}
@@ -12,30 +11,21 @@ use Rattle.rv_turns.specs.declared.refusal.Refusal.TheVariants as refusals
 use Rattle.rv_turns.specs.declared.refusal.Trouble.{Trouble}
 use Rattle.rv_turns.specs.declared.refusal.Trouble.TheVariants.{Keeper, Changed}
 use Rattle.rv_history.specs.Machine.{ReplyText, Step}
-use Rattle.rv_history.specs.Served.{Served, Settles, TurnOf, TakesTurn}
+use Rattle.rv_history.specs.Served.{Doubt, with_doubt, Served, Settles, TurnOf, TakesTurn}
 use Rattle.rv_desk.specs.Settling.{IsSettled}
 
 -- nothing in doubt settles as the book that it is
-pub none_settles : (book : Book) (doubt : Option Entry) (settled : Book) → doubt ≡ None → Settles book doubt settled → settled ≡ book
-none_settles book None settled none same = same
-none_settles book (Some entry) settled none settling = absurd (cc)
+pub none_settles : (book : Book) (doubt : Doubt) (settled : Book) → doubt ≡ None → Settles book doubt settled → settled ≡ book
+none_settles book doubt settled none settles = ⊎_elim (λ same. same) (λ same. same ∙ ap (with_doubt book) none) settles
 
-pub settles_same : (book : Book) (doubt : Option Entry) → doubt ≡ None → Settles book doubt book
-settles_same book None none = refl
-settles_same book (Some entry) none = absurd (cc)
-
-no_doubt : {T : Type 0} (doubt : Option Entry) → doubt ≡ None → IsSome doubt → T
+-- what is in doubt is not nothing
+pub no_doubt : {T : Type 0} (doubt : Doubt) → doubt ≡ None → IsSome doubt → T
 no_doubt None none some = absurd (cc)
 no_doubt (Some entry) none some = absurd (cc)
 
--- what stays in doubt may be dropped
-pub drops : (book : Book) (doubt : Option Entry) → IsSome doubt → Settles book doubt book
-drops book None some = refl
-drops book (Some entry) some = inl refl
-
 module _ (write : ReplyText) (ask : Ask) (outcome : Outcome) where
   -- after what was in doubt is settled
-  pub turn_from : (old mid new : Served) (settled : Book) (left : Option Entry) (trouble : Option Trouble) → IsSettled old (Ok tt) mid → Settles mid.book mid.doubt settled → TurnOf write mid settled ask outcome left trouble new → TurnOf write old mid.book ask outcome left trouble new
+  pub turn_from : (old mid new : Served) (settled : Book) (left : Doubt) (trouble : Option Trouble) → IsSettled old (Ok tt) mid → Settles mid.book mid.doubt settled → TurnOf write mid settled ask outcome left trouble new → TurnOf write old mid.book ask outcome left trouble new
   turn_from old mid new settled None None is settling (step, none, still) = (
     subst (λ (book : Book). Step write old.limit book ask outcome new.book) (none_settles mid.book mid.doubt settled is.settled.1 settling) (subst (λ (limit : ℕ). Step write limit settled ask outcome new.book) is.limit step),
     none,
@@ -68,7 +58,7 @@ abbrev pub turn_unsettled : (write : ReplyText) (ask : Ask) (old new : Served) (
 turn_unsettled write ask old new trouble is = record {
   settled = old.book;
   left = None;
-  settles = drops old.book old.doubt is.settled.doubt;
+  settles = inl refl;
   turn = (refl, is.settled);
   later = is.later;
   limit = is.limit;
