@@ -1,5 +1,5 @@
 -- The tallies of a book, and its groups, entry by entry.
-use Rattle.std.proofs.Common.{◌≡◌, ℕ, ◌+◌, ◌-◌, ◌<◌, ◌^◌, ◌&&◌, ◌||◌, Bool, true, false, cond, List, [], ◌∷◌, ◌++◌, length, take, get_or, map, Option, Some, None, refl, sym, ap, ◌∙◌, subst, arith, count_by, add-zero, zero-add}
+use Rattle.std.proofs.Common.{◌≡◌, ℕ, ◌+◌, ◌-◌, ◌<◌, ◌^◌, ◌&&◌, ◌||◌, Bool, true, false, cond, List, [], ◌∷◌, ◌++◌, length, take, get_or, map, Option, Some, None, refl, sym, ap, ◌∙◌, subst, arith, count_by, add-zero}
 use Rattle.std.specs.declared.cmp.Ordering.TheVariants.{Less, Equal, Greater}
 use Rattle.std.specs.Ordering.{nat_cmp, match_ordering}
 use Rattle.std.specs.Cmp.Lexicographic.{slice_cmp}
@@ -8,7 +8,7 @@ use Rattle.std.specs.Option.{option_map, option_map_or, is_some}
 use Rattle.std.specs.Prelude.{slice_get}
 use Rattle.std.specs.Str.{bytes_eq}
 use Rattle.std.proofs.lemmas.List.{take_more, length-take-le}
-use Rattle.std.proofs.lemmas.List.Sums.{sum_by-append, sum_by-cons, count_by-le-length}
+use Rattle.std.proofs.lemmas.List.Sums.{sum_by-cons, count_by-le-length}
 use Rattle.std.proofs.lemmas.Option.{none-some, same_Some, slice_get-get_or, slice_get_within, get_or_from_slice_get}
 use Rattle.std.proofs.lemmas.Slice.Eq.{bytes_eq-Decides}
 use Rattle.rv_base.specs.Sorted.{find_by, put_by, InOrder}
@@ -18,22 +18,22 @@ use Rattle.rv_rows.specs.declared.call.Call.{Call}
 use Rattle.rv_rows.specs.declared.call.Call.TheVariants.{CreateList, DeleteList, CreateShare, DeleteShare, CreateTodo, UpdateTodo, DeleteTodo, Void}
 use Rattle.rv_book.specs.declared.entry.Entry.{Entry}
 use Rattle.rv_book.specs.declared.entry.Entry.TheVariants.{Act, Look, Retire}
-use Rattle.rv_book.specs.Book.{Book, entry_at}
-use Rattle.rv_book.specs.BookWords.{entry_at-next}
+use Rattle.rv_book.specs.Book.{Book, book_of, entry_at, size, up_to, with_entry}
+use Rattle.rv_book.specs.BookWords.{count-push, entry_at-next}
 use Rattle.rv_report.specs.declared.tally.Tally.{Tally}
 use Rattle.rv_report.specs.Activity.{groups_of, named_group, user_of, users_of, is_act_by, is_void_by, is_look_by}
 use Rattle.rv_report.specs.Tallies.{Tallied, tallied_key, no_entries, is_void, with_one, MayRise, tally_in, counted, tally_of, tallies_of}
 
 -- the entry that comes after so many
-pub entry_next : (book : Book) (before : ℕ) (entry : Entry) → Some entry ≡ entry_at (before + 1) book → (before < length book) × (entry ≡ get_or book before entry)
+pub entry_next : (book : Book) (before : ℕ) (entry : Entry) → Some entry ≡ entry_at (before + 1) book → (before < size book) × (entry ≡ get_or book.entries before entry)
 entry_next book before entry there =
     let at = sym (entry_at-next before book) ∙ sym there in
-    (slice_get_within book before entry at, sym (get_or_from_slice_get book before entry entry at))
+    (slice_get_within book.entries before entry at, sym (get_or_from_slice_get book.entries before entry entry at))
 
 -- there is one while so many are fewer than all
-pub none_next : (book : Book) (before : ℕ) → None ≡ entry_at (before + 1) book → before < length book → ⊥
+pub none_next : (book : Book) (before : ℕ) → None ≡ entry_at (before + 1) book → before < size book → ⊥
 none_next book before there lt =
-    elim book as (λ b. None ≡ slice_get b before → before < length b → ⊥) [
+    elim book.entries as (λ b. None ≡ slice_get b before → before < length b → ⊥) [
       | [] ↦ λ e f. omega (arith, f)
       | first ∷ others ↦ λ e f. none-some _ (e ∙ slice_get-get_or (first ∷ others) before first f)
     ] (there ∙ entry_at-next before book) lt
@@ -87,37 +87,34 @@ one_look : (by : Bool) (acts voids looks : ℕ) → numbers (acts + 0) (voids + 
 one_look true acts voids looks = (λ i. numbers (add-zero acts i) (add-zero voids i) (looks + 1))
 one_look false acts voids looks = (λ i. numbers (add-zero acts i) (add-zero voids i) (add-zero looks i))
 
-count_last : (p : Entry → Bool) (book : Book) (entry : Entry) → count_by p (book ++ entry ∷ []) ≡ count_by p book + cond (p entry) 1 0
-count_last p book entry = sum_by-append (λ e. cond (p e) 1 0) book (entry ∷ []) ∙ ap (λ (n : ℕ). count_by p book + n) (zero-add (cond (p entry) 1 0))
-
-each_last : (user : List ℕ) (book : Book) (entry : Entry) → tally_of user (book ++ entry ∷ []) ≡ numbers (count_by (is_act_by user) book + cond (is_act_by user entry) 1 0) (count_by (is_void_by user) book + cond (is_void_by user entry) 1 0) (count_by (is_look_by user) book + cond (is_look_by user entry) 1 0)
-each_last user book entry = (λ i. numbers (count_last (is_act_by user) book entry i) (count_last (is_void_by user) book entry i) (count_last (is_look_by user) book entry i))
+each_last : (user : List ℕ) (book : Book) (entry : Entry) → tally_of user (with_entry book entry) ≡ numbers (count_by (is_act_by user) book.entries + cond (is_act_by user entry) 1 0) (count_by (is_void_by user) book.entries + cond (is_void_by user entry) 1 0) (count_by (is_look_by user) book.entries + cond (is_look_by user entry) 1 0)
+each_last user book entry = (λ i. numbers (count-push (is_act_by user) book.entries entry i) (count-push (is_void_by user) book.entries entry i) (count-push (is_look_by user) book.entries entry i))
 
 -- a user's tally after one more entry
-tally_last : (user : List ℕ) (book : Book) (entry : Entry) → tally_of user (book ++ entry ∷ []) ≡ cond (is_by user entry) (with_one entry (tally_of user book)) (tally_of user book)
+tally_last : (user : List ℕ) (book : Book) (entry : Entry) → tally_of user (with_entry book entry) ≡ cond (is_by user entry) (with_one entry (tally_of user book)) (tally_of user book)
 tally_last user book (Act other group client id call) =
     each_last user book (Act other group client id call)
-    ∙ (λ i. numbers (count_by (is_act_by user) book + cond (bytes_eq other user) 1 0) (count_by (is_void_by user) book + cond (void_by user other group client id call i) 1 0) (count_by (is_look_by user) book + 0))
-    ∙ one_act (bytes_eq other user) (is_void call) (count_by (is_act_by user) book) (count_by (is_void_by user) book) (count_by (is_look_by user) book)
+    ∙ (λ i. numbers (count_by (is_act_by user) book.entries + cond (bytes_eq other user) 1 0) (count_by (is_void_by user) book.entries + cond (void_by user other group client id call i) 1 0) (count_by (is_look_by user) book.entries + 0))
+    ∙ one_act (bytes_eq other user) (is_void call) (count_by (is_act_by user) book.entries) (count_by (is_void_by user) book.entries) (count_by (is_look_by user) book.entries)
 tally_last user book (Look other group order base) =
     each_last user book (Look other group order base)
-    ∙ one_look (bytes_eq other user) (count_by (is_act_by user) book) (count_by (is_void_by user) book) (count_by (is_look_by user) book)
+    ∙ one_look (bytes_eq other user) (count_by (is_act_by user) book.entries) (count_by (is_void_by user) book.entries) (count_by (is_look_by user) book.entries)
 tally_last user book (Retire group) =
     each_last user book (Retire group)
-    ∙ one_look false (count_by (is_act_by user) book) (count_by (is_void_by user) book) (count_by (is_look_by user) book)
+    ∙ one_look false (count_by (is_act_by user) book.entries) (count_by (is_void_by user) book.entries) (count_by (is_look_by user) book.entries)
 
 -- a user of no entry has no entries
-none_counted : (user : List ℕ) (p : Entry → Bool) (book : Book) → ((entry : Entry) → is_by user entry ≡ false → p entry ≡ false) → list_any (bytes_eq user) (filter_map user_of book) ≡ false → count_by p book ≡ 0
+none_counted : (user : List ℕ) (p : Entry → Bool) (entries : List Entry) → ((entry : Entry) → is_by user entry ≡ false → p entry ≡ false) → list_any (bytes_eq user) (filter_map user_of entries) ≡ false → count_by p entries ≡ 0
 none_counted user p [] apart none = refl
-none_counted user p (entry ∷ book) apart none =
+none_counted user p (entry ∷ entries) apart none =
     let parts = later (user_of entry) none in
     let here : p entry ≡ false = apart entry parts.0 in
-    sum_by-cons (λ (e : Entry). cond (p e) 1 0) entry book ∙ (λ i. cond (here i) 1 0 + none_counted user p book apart parts.1 i)
+    sum_by-cons (λ (e : Entry). cond (p e) 1 0) entry entries ∙ (λ i. cond (here i) 1 0 + none_counted user p entries apart parts.1 i)
   where
-    later : (o : Option (List ℕ)) → list_any (bytes_eq user) (cons_option o (filter_map user_of book)) ≡ false → (option_map_or (λ other. bytes_eq other user) o false ≡ false) × (list_any (bytes_eq user) (filter_map user_of book) ≡ false)
+    later : (o : Option (List ℕ)) → list_any (bytes_eq user) (cons_option o (filter_map user_of entries)) ≡ false → (option_map_or (λ other. bytes_eq other user) o false ≡ false) × (list_any (bytes_eq user) (filter_map user_of entries) ≡ false)
     later None h = (refl, h)
     later (Some other) h =
-        elim (bytes_eq user other) as (λ b. bytes_eq user other ≡ b → (b || list_any (bytes_eq user) (filter_map user_of book)) ≡ false → (bytes_eq other user ≡ false) × (list_any (bytes_eq user) (filter_map user_of book) ≡ false)) [
+        elim (bytes_eq user other) as (λ b. bytes_eq user other ≡ b → (b || list_any (bytes_eq user) (filter_map user_of entries)) ≡ false → (bytes_eq other user ≡ false) × (list_any (bytes_eq user) (filter_map user_of entries) ≡ false)) [
           | true ↦ λ e f. absurd (cc)
           | false ↦ λ e f. (not_same user other e, f)
         ] refl h
@@ -141,9 +138,9 @@ no_look user (Act other group client id call) none = refl
 no_look user (Look other group order base) none = none
 no_look user (Retire group) none = refl
 
-no_tally : (user : List ℕ) (book : Book) → list_any (bytes_eq user) (filter_map user_of book) ≡ false → tally_of user book ≡ no_entries
+no_tally : (user : List ℕ) (book : Book) → list_any (bytes_eq user) (filter_map user_of book.entries) ≡ false → tally_of user book ≡ no_entries
 no_tally user book none =
-    (λ i. numbers (none_counted user (is_act_by user) book (no_act user) none i) (none_counted user (is_void_by user) book (no_void user) none i) (none_counted user (is_look_by user) book (no_look user) none i))
+    (λ i. numbers (none_counted user (is_act_by user) book.entries (no_act user) none i) (none_counted user (is_void_by user) book.entries (no_void user) none i) (none_counted user (is_look_by user) book.entries (no_look user) none i))
 
 found_text : (text found : List ℕ) (texts : List (List ℕ)) → find_by text_key text texts ≡ Some found → text ≡ found
 found_text text found [] there = absurd (cc)
@@ -158,33 +155,33 @@ pub tally_found : (user : List ℕ) (book : Book) → tally_in user (tallies_of 
 tally_found user book =
     ap (λ (o : Option Tallied). option_map_or (λ tallied. tallied.1) o no_entries) (sym (find-map tallied_key (told (λ u. tally_of u book)) user (users_of book)))
     ∙ elim (find_by text_key user (users_of book)) as (λ o. find_by text_key user (users_of book) ≡ o → option_map_or (λ tallied. tallied.1) (option_map (told (λ u. tally_of u book)) o) no_entries ≡ tally_of user book) [
-      | None ↦ λ e. sym (no_tally user book (sym (found-sorted text_key user (filter_map user_of book)) ∙ ap is_some e))
+      | None ↦ λ e. sym (no_tally user book (sym (found-sorted text_key user (filter_map user_of book.entries)) ∙ ap is_some e))
       | Some found ↦ λ e. ap (λ (u : List ℕ). tally_of u book) (sym (found_text user found (users_of book) e))
     ] refl
 
 -- each number of a tally may rise while the book may grow
-pub tally_rises : (user : List ℕ) (book : Book) → length book < 2 ^ 32 - 1 → MayRise (tally_in user (tallies_of book))
+pub tally_rises : (user : List ℕ) (book : Book) → size book < 2 ^ 32 - 1 → MayRise (tally_in user (tallies_of book))
 tally_rises user book short =
     subst MayRise (sym (tally_found user book))
-    (omega (arith, count_by-le-length (is_act_by user) book), omega (arith, count_by-le-length (is_void_by user) book), omega (arith, count_by-le-length (is_look_by user) book))
+    (omega (arith, count_by-le-length (is_act_by user) book.entries), omega (arith, count_by-le-length (is_void_by user) book.entries), omega (arith, count_by-le-length (is_look_by user) book.entries))
 
 -- the tallies after one more entry
 counted_users : (book : Book) (entry : Entry) (o : Option (List ℕ)) (users : List (List ℕ)) → user_of entry ≡ o → users ≡ option_map_or (λ user. put_by text_key user (users_of book)) o (users_of book)
-    → option_map_or (λ user. put_by tallied_key (user, with_one entry (tally_in user (tallies_of book))) (tallies_of book)) o (tallies_of book) ≡ map (told (λ user. tally_of user (book ++ entry ∷ []))) users
+    → option_map_or (λ user. put_by tallied_key (user, with_one entry (tally_in user (tallies_of book))) (tallies_of book)) o (tallies_of book) ≡ map (told (λ user. tally_of user (with_entry book entry))) users
 counted_users book entry None users by are =
-    ap (λ (f : List ℕ → Tally). map (told f) (users_of book)) (λ i user. same user i) ∙ ap (map (told (λ user. tally_of user (book ++ entry ∷ [])))) (sym are)
+    ap (λ (f : List ℕ → Tally). map (told f) (users_of book)) (λ i user. same user i) ∙ ap (map (told (λ user. tally_of user (with_entry book entry)))) (sym are)
   where
-    same : (user : List ℕ) → tally_of user book ≡ tally_of user (book ++ entry ∷ [])
+    same : (user : List ℕ) → tally_of user book ≡ tally_of user (with_entry book entry)
     same user = sym (tally_last user book entry ∙ ap (λ (o : Option (List ℕ)). cond (option_map_or (λ other. bytes_eq other user) o false) (with_one entry (tally_of user book)) (tally_of user book)) by)
 counted_users book entry (Some user) users by are =
     ap (λ (t : Tally). put_by tallied_key (user, with_one entry t) (tallies_of book)) (tally_found user book)
     ∙ ap (λ (t : Tally). put_by tallied_key (user, t) (tallies_of book)) (sym own)
-    ∙ sym (told_put user (after user) (λ u. tally_of u book) after other (users_of book) (in_order-sorted text_key (filter_map user_of book)))
+    ∙ sym (told_put user (after user) (λ u. tally_of u book) after other (users_of book) (in_order-sorted text_key (filter_map user_of book.entries)))
     ∙ sym (map-put tallied_key (told after) user (users_of book))
     ∙ ap (map (told after)) (sym are)
   where
     after : List ℕ → Tally
-    after u = tally_of u (book ++ entry ∷ [])
+    after u = tally_of u (with_entry book entry)
 
     own : after user ≡ with_one entry (tally_of user book)
     own = tally_last user book entry ∙ ap (λ (o : Option (List ℕ)). cond (option_map_or (λ name. bytes_eq name user) o false) (with_one entry (tally_of user book)) (tally_of user book)) by ∙ ap (λ (b : Bool). cond b (with_one entry (tally_of user book)) (tally_of user book)) (equals user)
@@ -192,24 +189,24 @@ counted_users book entry (Some user) users by are =
     other : (u : List ℕ) → bytes_eq user u ≡ false → after u ≡ tally_of u book
     other u apart = tally_last u book entry ∙ ap (λ (o : Option (List ℕ)). cond (option_map_or (λ name. bytes_eq name u) o false) (with_one entry (tally_of u book)) (tally_of u book)) by ∙ ap (λ (b : Bool). cond b (with_one entry (tally_of u book)) (tally_of u book)) apart
 
-last_taken : (book : Book) (before : ℕ) (entry : Entry) → before < length book → entry ≡ get_or book before entry → take (before + 1) book ≡ take before book ++ entry ∷ []
-last_taken book before entry lt is = take_more book before entry lt ∙ ap (λ (e : Entry). take before book ++ e ∷ []) (sym is)
+last_taken : (book : Book) (before : ℕ) (entry : Entry) → before < size book → entry ≡ get_or book.entries before entry → up_to (before + 1) book ≡ with_entry (up_to before book) entry
+last_taken book before entry lt is = ap book_of (take_more book.entries before entry lt ∙ ap (λ (e : Entry). take before book.entries ++ e ∷ []) (sym is))
 
-pub tallies_more : (book : Book) (before : ℕ) (entry : Entry) (tallies next : List Tallied) → Some entry ≡ entry_at (before + 1) book → tallies ≡ tallies_of (take before book) → next ≡ counted entry tallies → next ≡ tallies_of (take (before + 1) book)
+pub tallies_more : (book : Book) (before : ℕ) (entry : Entry) (tallies next : List Tallied) → Some entry ≡ entry_at (before + 1) book → tallies ≡ tallies_of (up_to before book) → next ≡ counted entry tallies → next ≡ tallies_of (up_to (before + 1) book)
 tallies_more book before entry tallies next there so_far counts =
     let at = entry_next book before entry there in
     counts
     ∙ ap (counted entry) so_far
-    ∙ counted_users (take before book) entry (user_of entry) (users_of (take (before + 1) book)) refl (sorted_more text_key user_of book before entry at.0 at.1)
-    ∙ ap (λ (b : Book). map (told (λ user. tally_of user b)) (users_of (take (before + 1) book))) (sym (last_taken book before entry at.0 at.1))
+    ∙ counted_users (up_to before book) entry (user_of entry) (users_of (up_to (before + 1) book)) refl (sorted_more text_key user_of book.entries before entry at.0 at.1)
+    ∙ ap (λ (b : Book). map (told (λ user. tally_of user b)) (users_of (up_to (before + 1) book))) (sym (last_taken book before entry at.0 at.1))
 
-pub groups_more : (book : Book) (before : ℕ) (entry : Entry) (groups next : List (List ℕ)) → Some entry ≡ entry_at (before + 1) book → groups ≡ groups_of (take before book) → next ≡ option_map_or (λ group. put_by (λ text. text) group groups) (named_group entry) groups → next ≡ groups_of (take (before + 1) book)
+pub groups_more : (book : Book) (before : ℕ) (entry : Entry) (groups next : List (List ℕ)) → Some entry ≡ entry_at (before + 1) book → groups ≡ groups_of (up_to before book) → next ≡ option_map_or (λ group. put_by (λ text. text) group groups) (named_group entry) groups → next ≡ groups_of (up_to (before + 1) book)
 groups_more book before entry groups next there so_far adds =
     let at = entry_next book before entry there in
     adds
     ∙ ap (λ (gs : List (List ℕ)). option_map_or (λ group. put_by text_key group gs) (named_group entry) gs) so_far
-    ∙ sym (sorted_more text_key named_group book before entry at.0 at.1)
+    ∙ sym (sorted_more text_key named_group book.entries before entry at.0 at.1)
 
-pub may_rise : (book : Book) (before : ℕ) (tallies : List Tallied) → before < length book → length book < 2 ^ 32 → tallies ≡ tallies_of (take before book) → (user : List ℕ) → MayRise (tally_in user tallies)
+pub may_rise : (book : Book) (before : ℕ) (tallies : List Tallied) → before < size book → size book < 2 ^ 32 → tallies ≡ tallies_of (up_to before book) → (user : List ℕ) → MayRise (tally_in user tallies)
 may_rise book before tallies lt short so_far user =
-    subst (λ (ts : List Tallied). MayRise (tally_in user ts)) (sym so_far) (tally_rises user (take before book) (omega (arith, length-take-le before book (omega arith))))
+    subst (λ (ts : List Tallied). MayRise (tally_in user ts)) (sym so_far) (tally_rises user (up_to before book) (omega (arith, length-take-le before book.entries (omega arith))))

@@ -26,10 +26,10 @@ abbrev pub in_order : List (List ℕ) → List (List ℕ)
 in_order texts = sorted_by (λ text. text) texts
 
 abbrev pub users_of : Book → List (List ℕ)
-users_of book = in_order (filter_map user_of book)
+users_of book = in_order (filter_map user_of book.entries)
 
 abbrev pub groups_of : Book → List (List ℕ)
-groups_of book = in_order (filter_map named_group book)
+groups_of book = in_order (filter_map named_group book.entries)
 
 abbrev pub is_act_by : List ℕ → Entry → Bool
 is_act_by user (Act other group client id call) = bytes_eq other user
@@ -49,7 +49,7 @@ is_look_by user (Retire group) = false
 -- ACTS VOIDS LOOKS USER
 abbrev pub user_text : Book → List ℕ → List ℕ
 user_text book user =
-    in_ten (count_by (is_act_by user) book) ++ (in_ten (count_by (is_void_by user) book) ++ (in_ten (count_by (is_look_by user) book) ++ (codes " " ++ (quoted user ++ codes "\n"))))
+    in_ten (count_by (is_act_by user) book.entries) ++ (in_ten (count_by (is_void_by user) book.entries) ++ (in_ten (count_by (is_look_by user) book.entries) ++ (codes " " ++ (quoted user ++ codes "\n"))))
 
 -- how many groups an act or a look names, and how many of them are retired
 abbrev pub groups_text : Book → List ℕ

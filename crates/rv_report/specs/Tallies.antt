@@ -46,7 +46,7 @@ counted entry tallies = option_map_or (λ user. put_by tallied_key (user, with_o
 
 -- the tally of a user in a book
 abbrev pub tally_of : List ℕ → Book → Tally
-tally_of user book = record { acts = count_by (is_act_by user) book; voids = count_by (is_void_by user) book; looks = count_by (is_look_by user) book }
+tally_of user book = record { acts = count_by (is_act_by user) book.entries; voids = count_by (is_void_by user) book.entries; looks = count_by (is_look_by user) book.entries }
 
 abbrev pub tallies_of : Book → List Tallied
 tallies_of book = map (λ user. (user, tally_of user book)) (users_of book)

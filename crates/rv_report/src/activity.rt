@@ -15,7 +15,7 @@ use std::alloc::Global;
 /// looks, each right in ten places, a space, and the user as a JSON string. Last `groups N retired N`: how many groups an act or a look
 /// names, and how many of these are retired. Each line ends with LF.
 pub fn activity_text(alloc: Global, book: &Book) -> Result<Bytes, Memory>
-    ensures { IfOk result (λ text. text ≡ activity_text book.now.entries) }
+    ensures { IfOk result (λ text. text ≡ activity_text book.now.book) }
 {
     let (tallies, groups) = walk(alloc, book)?;
     let mut out = Vec::new(alloc);
@@ -41,7 +41,7 @@ fn with_line(mut out: Vec<u8>, user: &User, tally: Tally) -> Result<Vec<u8>, Mem
 
 // How many of the groups are retired.
 fn retired(book: &Book, groups: &Groups<'_>) -> usize
-    ensures { result ≡ count_by (λ group. retired group.now book.now.entries) groups.now.keys }
+    ensures { result ≡ count_by (λ group. retired group.now book.now.book) groups.now.keys }
 {
     groups.iter().filter(|group| book.retired(**group)).count()
 }

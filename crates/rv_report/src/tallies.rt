@@ -89,7 +89,7 @@ fn add<'b>(groups: &mut Groups<'b>, entry: &'b Entry) -> Result<(), Memory>
 
 /// The users who have an act or a look, each with its tally, and the groups that one names: one walk of the book.
 pub(crate) fn walk(alloc: Global, book: &Book) -> Result<(Tallies<'_>, Groups<'_>), Memory>
-    ensures { IfOk result (λ told. (shown_users told.0.entries ≡ tallies_of book.now.entries) × (shown_groups told.1.keys ≡ groups_of book.now.entries)) }
+    ensures { IfOk result (λ told. (shown_users told.0.entries ≡ tallies_of book.now.book) × (shown_groups told.1.keys ≡ groups_of book.now.book)) }
 {
     let mut tallies = BTreeMap::new(alloc);
     let mut groups = BTreeSet::new(alloc);

@@ -13,8 +13,8 @@ loop-user-preserved c = lines_more lent_line _ _ _ _ _ _ c.in-Some.ensures.steps
 
 pub returns : goal.returns
 returns c =
-    let all = lines_all lent_line _ _ _ c.in-None.ensures.steps.0 c.loop-user.invariant ∙ ap (flat_map lent_line) c.into_iter-user-iterator.ensures.into_iter_gives.0 ∙ users_text c.args.book.now.entries c.in_ok-tallies.tallies.entries c.in_ok-tallies.ensures.0 in
+    let all = lines_all lent_line _ _ _ c.in-None.ensures.steps.0 c.loop-user.invariant ∙ ap (flat_map lent_line) c.into_iter-user-iterator.ensures.into_iter_gives.0 ∙ users_text c.args.book.now.book c.in_ok-tallies.tallies.entries c.in_ok-tallies.ensures.0 in
     c.from_vec.ensures
     ∙ c.in_ok-add_groups.ensures
     ∙ (λ i. c.loop-user.out.items ++ groups_line (c.len.ensures.len i) (c.retired.ensures i))
-    ∙ (λ i. all i ++ groups_are c.args.book.now.entries c.in_ok-tallies.groups.keys c.in_ok-tallies.ensures.1 i)
+    ∙ (λ i. all i ++ groups_are c.args.book.now.book c.in_ok-tallies.groups.keys c.in_ok-tallies.ensures.1 i)
