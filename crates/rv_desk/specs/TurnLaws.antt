@@ -1,5 +1,5 @@
 -- A turn is what was settled, and then a step; or what could not be settled.
-use Rattle.std.proofs.Common.{◌≡◌, ℕ, ◌≤◌, Option, Some, None, Ok, Err, refl, ap, ◌∙◌, subst, arith, inl, ⊎_elim}
+use Rattle.std.proofs.Common.{◌≡◌, ℕ, Option, Some, None, Ok, Err, refl, ap, ◌∙◌, subst, arith, inl, ⊎_elim}
 use Rattle.std.specs.Prelude.{IsSome}
 use Rattle.rv_base.specs.Causes.{rose_before}
 use Rattle.rv_book.specs.Book.{Book, with_entry}
@@ -12,6 +12,7 @@ use Rattle.rv_turns.specs.declared.refusal.Trouble.{Trouble}
 use Rattle.rv_turns.specs.declared.refusal.Trouble.TheVariants.{Keeper, Changed}
 use Rattle.rv_history.specs.Machine.{ReplyText, Step}
 use Rattle.rv_history.specs.Served.{Doubt, with_doubt, Served, Settles, TurnOf, TakesTurn}
+use Rattle.rv_desk.specs.Seated.{Assures}
 use Rattle.rv_desk.specs.Settling.{IsSettled}
 
 -- nothing in doubt settles as the book that it is
@@ -22,6 +23,15 @@ none_settles book doubt settled none settles = ⊎_elim (λ same. same) (λ same
 pub no_doubt : {T : Type 0} (doubt : Doubt) → doubt ≡ None → IsSome doubt → T
 no_doubt None none some = absurd (cc)
 no_doubt (Some entry) none some = absurd (cc)
+
+-- what is known of a call that settles, and of one that follows, is known of both
+pub assures_on : {K : Type 0} (tells fails_no_more : K → Type 0) (old mid new : K) (trouble : Option Trouble) → Assures tells fails_no_more old None mid → Assures tells fails_no_more mid trouble new → Assures tells fails_no_more old trouble new
+assures_on tells fails_no_more old mid new trouble first next = record {
+  told = λ t. first.told (next.told t);
+  near = next.near;
+  goes_on = λ steady. next.goes_on (first.goes_on steady);
+  sure = λ steady. next.sure (first.goes_on steady);
+}
 
 module _ (write : ReplyText) (ask : Ask) (outcome : Outcome) where
   -- after what was in doubt is settled

@@ -1,16 +1,15 @@
 use Rattle.rv_turns.specs.Asks.{ask_of}
+use Rattle.rv_turns.specs.Outcomes.{trouble_of}
 use Rattle.rv_wire.specs.Answers.{pull_json}
 use Rattle.rv_desk.specs.Seated.{served}
-use Rattle.rv_desk.specs.TurnLaws.{turn_after, turn_unsettled}
+use Rattle.rv_desk.specs.TurnLaws.{assures_on, turn_after, turn_unsettled}
 use Rattle.rv_desk.proofs.desk.DeskTurns.take.Goals as goal
 
 pub returns-in-Ok : goal.returns-in-Ok
-returns-in-Ok g c =
-    let settled = c.in-Ok.ensures.assured in
-    let taken = c.take_settled.ensures.assured in record {
-      turn = turn_after pull_json (ask_of c.args.asked) c.take_settled.result (served g.K.Keeper.faults c.args.self.now) (served g.K.Keeper.faults c.settle.new.self) (served g.K.Keeper.faults c.take_settled.new.self) c.in-Ok.ensures.settled c.take_settled.ensures.turn;
-      assured = record { told = λ t. settled.told (taken.told t); near = taken.near; goes_on = λ s. taken.goes_on (settled.goes_on s); sure = λ s. taken.sure (settled.goes_on s) };
-    }
+returns-in-Ok g c = record {
+  turn = turn_after pull_json (ask_of c.args.asked) c.take_settled.result (served g.K.Keeper.faults c.args.self.now) (served g.K.Keeper.faults c.settle.new.self) (served g.K.Keeper.faults c.take_settled.new.self) c.in-Ok.ensures.settled c.take_settled.ensures.turn;
+  assured = assures_on g.K.Keeper.tells g.K.Keeper.fails_no_more c.args.self.now.keeper c.settle.new.self.keeper c.take_settled.new.self.keeper (trouble_of c.take_settled.result) c.in-Ok.ensures.assured c.take_settled.ensures.assured;
+}
 
 pub returns-in-Err : goal.returns-in-Err
 returns-in-Err g c = record {
