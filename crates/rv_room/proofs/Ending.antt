@@ -1,8 +1,9 @@
 -- What a turn leaves in what its seat knows.
-use Rattle.std.proofs.Common.{◌≡◌, ◌≢◌, ◌⊎◌, ℕ, ◌+◌, ◌≤◌, Bool, true, false, List, [], ◌∷◌, ◌++◌, length, drop, Option, Some, None, refl, sym, ap, ◌∙◌, subst, ⊎_elim, inl, inr, arith, append-nil, length-append}
-use Rattle.std.specs.Prelude.{Result, Ok, Err, IfSome, IsSome}
+use Rattle.std.proofs.Common.{◌≡◌, ◌≢◌, ◌⊎◌, ℕ, ◌+◌, ◌≤◌, Bool, true, false, List, [], ◌∷◌, ◌++◌, Option, Some, None, refl, sym, ap, ◌∙◌, subst, ⊎_elim, inl, inr, arith, append-nil}
+use Rattle.std.specs.Prelude.{Result, Ok, Err, IfSome}
 use Rattle.rv_book.specs.declared.entry.Entry.{Entry}
-use Rattle.rv_book.specs.Book.{Book, size, since, with_entry}
+use Rattle.rv_book.specs.Book.{Book, size, since, with_entry, Extends}
+use Rattle.rv_book.specs.BookWords.{size-with_entry}
 use Rattle.rv_turns.specs.Asks.{Ask}
 use Rattle.rv_turns.specs.Outcomes.{trouble_of}
 use Rattle.rv_turns.specs.declared.outcome.Outcome.{Outcome}
@@ -12,43 +13,30 @@ use Rattle.rv_turns.specs.declared.refusal.Trouble.{Trouble}
 use Rattle.rv_turns.specs.declared.refusal.Trouble.TheVariants.{Keeper, Changed}
 use Rattle.rv_wire.specs.Answers.{pull_json}
 use Rattle.rv_history.specs.TurnLaws.{Adds, step_adds}
-use Rattle.rv_history.specs.Served.{Served, Settles, TurnOf, TakesTurn}
+use Rattle.rv_history.specs.Served.{Doubt, Served, Settles, TurnOf, TakesTurn}
 use Rattle.rv_keeper.specs.declared.keeper.Keeper.{Ghosts}
 use Rattle.rv_desk.specs.Seated.{Assures, DeskTakes, Seated, served}
 use Rattle.rv_desk.specs.Settling.{IsSettled, settle_trouble}
-use Rattle.rv_desk.specs.TurnLaws.{turn_after, turn_unsettled}
+use Rattle.rv_desk.specs.TurnLaws.{assures_on, no_doubt, none_settles, turn_after, turn_unsettled}
 use Rattle.rv_room.specs.declared.view.SeatView.{SeatView}
 use Rattle.rv_room.specs.Following.{KeeperFollows, FollowsAll, follows_on}
-use Rattle.rv_room.specs.Lists.{StartsWith, numbered}
+use Rattle.rv_room.specs.Lists.{numbered}
 use Rattle.rv_room.specs.Views.{waiting, on_turn, grown, entered, listed}
 use Rattle.rv_room.specs.Rule.{IsOf}
 use Rattle.rv_room.specs.Plays.{Knows}
 use Rattle.rv_room.specs.Ends.{end_view, held_view}
 use Rattle.rv_room.specs.SeatTurns.{IsSeatTurn}
-use Rattle.rv_room.proofs.Totals.{drop_front, drop_self}
+use Rattle.rv_room.proofs.Totals.{drop_self}
 
 -- ---- Which way a book settled, and whether a step made an entry.
 
-settled_ways : (book : Book) (doubt : Option Entry) (s : Book) → Settles book doubt s → (s ≡ book) ⊎ ((e : Entry) × (doubt ≡ Some e) × (s ≡ with_entry book e))
-settled_ways book None s is = inl is
-settled_ways book (Some e) s is = ⊎_elim (λ same. inl same) (λ more. inr (e, refl, more)) is
-
-pub settled_adds : (book : Book) (doubt : Option Entry) (s : Book) → Settles book doubt s → Adds book s
-settled_adds book doubt s is = ⊎_elim (λ same. inl same) (λ t. inr (t.0, t.2)) (settled_ways book doubt s is)
-
-none_not_some : (e : Entry) → None ≡ Some e → ⊥
-none_not_some e h = absurd (cc)
-
--- what is added behind a book
-pub behind : (old new : Book) → Adds old new → old ++ since (size old) new ≡ new
-behind old new adds =
-    ⊎_elim
-    (λ (same : new ≡ old). ap (λ (b : Book). old ++ drop (length old) b) same ∙ (ap (λ (l : Book). old ++ l) (drop_self old) ∙ (append-nil old ∙ sym same)))
-    (λ (t : (e : Entry) × (new ≡ with_entry old e)). ap (λ (b : Book). old ++ drop (length old) b) t.1 ∙ (ap (λ (l : Book). old ++ l) (drop_front old (t.0 ∷ [])) ∙ sym t.1))
-    adds
+settled_ways : (book : Book) (doubt : Doubt) (s : Book) → Settles book doubt s → (s ≡ book) ⊎ ((e : Entry) × (doubt ≡ Some e) × (s ≡ with_entry book e))
+settled_ways book doubt s (inl same) = inl same
+settled_ways book None s (inr same) = inl same
+settled_ways book (Some e) s (inr more) = inr (e, refl, more)
 
 longer_by_one : (old : Book) (e : Entry) (new : Book) → new ≡ with_entry old e → size new ≡ size old + 1
-longer_by_one old e new is = ap size is ∙ length-append old (e ∷ [])
+longer_by_one old e new is = ap size is ∙ size-with_entry old e
 
 -- an entry is counted only where one was made
 pub some_made : (s book : Book) (settled now : ℕ) → settled ≡ size s → now ≡ size book → Adds s book → now ≢ settled → (e : Entry) × (book ≡ with_entry s e)
@@ -58,25 +46,16 @@ some_made s book settled now s0 n0 adds apart =
     (λ t. t)
     adds
 
--- what was not in doubt
-sure_settles : (book : Book) (doubt : Option Entry) → doubt ≡ None → (s : Book) → Settles book doubt s → s ≡ book
-sure_settles book None e s is = is
-sure_settles book (Some x) e s is = absurd (none_not_some x (sym e))
-
-sure_is_none : (doubt : Option Entry) → doubt ≡ None → IsSome doubt → ⊥
-sure_is_none None e is = absurd (cc)
-sure_is_none (Some x) e is = none_not_some x (sym e)
-
 module _ {K : Type 0} where
   pub entered_none : (v : SeatView K) → entered v v.book ≡ v
   entered_none v =
-      let own : v.own ++ numbered (size v.book) (since (size v.book) v.book) ≡ v.own = ap (λ (l : List Entry). v.own ++ numbered (size v.book) l) (drop_self v.book) ∙ append-nil v.own in
-      let settled : v.settled ++ since (size v.book) v.book ≡ v.settled = ap (λ (l : List Entry). v.settled ++ l) (drop_self v.book) ∙ append-nil v.settled in
+      let own : v.own ++ numbered (size v.book) (since (size v.book) v.book) ≡ v.own = ap (λ (l : List Entry). v.own ++ numbered (size v.book) l) (drop_self v.book.entries) ∙ append-nil v.own in
+      let settled : v.settled ++ since (size v.book) v.book ≡ v.settled = ap (λ (l : List Entry). v.settled ++ l) (drop_self v.book.entries) ∙ append-nil v.settled in
       λ i. record v { own = own i; settled = settled i }
 
   pub grown_none : (v : SeatView K) → grown v v.book ≡ v
   grown_none v =
-      let own : v.own ++ numbered (size v.book) (since (size v.book) v.book) ≡ v.own = ap (λ (l : List Entry). v.own ++ numbered (size v.book) l) (drop_self v.book) ∙ append-nil v.own in
+      let own : v.own ++ numbered (size v.book) (since (size v.book) v.book) ≡ v.own = ap (λ (l : List Entry). v.own ++ numbered (size v.book) l) (drop_self v.book.entries) ∙ append-nil v.own in
       λ i. record v { own = own i }
 
   -- an entry is counted only where one came in
@@ -125,10 +104,10 @@ module _ {K : Type 0} (G : Ghosts K) where
 
 -- where nothing was in doubt, a turn adds at most one entry
 module _ (old : Served) (ask : Ask) (outcome : Outcome) (new : Served) (sure : old.doubt ≡ None) where
-  adds_by : (settled : Book) (left : Option Entry) (trouble : Option Trouble) → Settles old.book old.doubt settled → TurnOf pull_json old settled ask outcome left trouble new → Adds old.book new.book
-  adds_by settled None None is (step, none, still) = subst (λ (b : Book). Adds b new.book) (sure_settles old.book old.doubt sure settled is) (step_adds pull_json old.limit settled ask outcome new.book step)
-  adds_by settled None (Some trouble) is (same, stays) = absurd (sure_is_none old.doubt sure stays.doubt)
-  adds_by settled (Some entry) (Some Keeper) is left = inl (left.book ∙ sure_settles old.book old.doubt sure settled is)
+  adds_by : (settled : Book) (left : Doubt) (trouble : Option Trouble) → Settles old.book old.doubt settled → TurnOf pull_json old settled ask outcome left trouble new → Adds old.book new.book
+  adds_by settled None None is (step, none, still) = subst (λ (b : Book). Adds b new.book) (none_settles old.book old.doubt settled sure is) (step_adds pull_json old.limit settled ask outcome new.book step)
+  adds_by settled None (Some trouble) is (same, stays) = no_doubt old.doubt sure stays.doubt
+  adds_by settled (Some entry) (Some Keeper) is left = inl (left.book ∙ none_settles old.book old.doubt settled sure is)
   adds_by settled (Some entry) (Some (Changed kept found)) is never = absurd never
   adds_by settled (Some entry) None is never = absurd never
 
@@ -137,9 +116,9 @@ module _ (old : Served) (ask : Ask) (outcome : Outcome) (new : Served) (sure : o
 
 -- what a turn left in doubt is in doubt, and nothing else, where nothing was
 module _ (old : Served) (ask : Ask) (outcome : Outcome) (new : Served) (sure : old.doubt ≡ None) where
-  left_by : (settled : Book) (left : Option Entry) (trouble : Option Trouble) → TurnOf pull_json old settled ask outcome left trouble new → new.doubt ≡ left
+  left_by : (settled : Book) (left : Doubt) (trouble : Option Trouble) → TurnOf pull_json old settled ask outcome left trouble new → new.doubt ≡ left
   left_by settled None None (step, none, still) = none
-  left_by settled None (Some trouble) (same, stays) = absurd (sure_is_none old.doubt sure stays.doubt)
+  left_by settled None (Some trouble) (same, stays) = no_doubt old.doubt sure stays.doubt
   left_by settled (Some entry) (Some Keeper) left = left.doubt
   left_by settled (Some entry) (Some (Changed kept found)) never = absurd never
   left_by settled (Some entry) None never = absurd never
@@ -148,16 +127,7 @@ module _ (old : Served) (ask : Ask) (outcome : Outcome) (new : Served) (sure : o
   turn_left taken = left_by taken.settled taken.left (trouble_of outcome) taken.turn
 
 module _ {K : Type 0} (G : Ghosts K) where
-  -- what was settled, and then the step, are a turn of the desk
-  desk_turn : (desk mid after : Seated K) (ask : Ask) (outcome : Outcome) → IsSettled (served G.faults desk) (Ok tt) (served G.faults mid) → Assures G.tells G.fails_no_more desk.keeper None mid.keeper → DeskTakes G mid ask outcome after → Assures G.tells G.fails_no_more desk.keeper (trouble_of outcome) after.keeper
-  desk_turn desk mid after ask outcome settled assured takes = record {
-    told = λ tells. assured.told (takes.assured.told tells);
-    near = takes.assured.near;
-    goes_on = λ steady. takes.assured.goes_on (assured.goes_on steady);
-    sure = λ steady. takes.assured.sure (assured.goes_on steady);
-  }
-
-  pub seat_turn : (v : SeatView K) (t : ℕ) (d mid d' : Seated K) (ask : Ask) (outcome : Outcome) → IsOf G v d → StartsWith d.book v.seen → FollowsAll G v.after d.keeper
+  pub seat_turn : (v : SeatView K) (t : ℕ) (d mid d' : Seated K) (ask : Ask) (outcome : Outcome) → IsOf G v d → Extends d.book v.seen → FollowsAll G v.after d.keeper
       → IsSettled (served G.faults d) (Ok tt) (served G.faults mid) → Assures G.tells G.fails_no_more d.keeper None mid.keeper → DeskTakes G mid ask outcome d'
       → IsSeatTurn G v ask outcome (end_view (on_turn G.faults (waiting v t) d) mid.book d'.book d'.doubt d'.keeper)
   seat_turn v t d mid d' ask outcome of begins later settled assured takes = record {
@@ -168,23 +138,23 @@ module _ {K : Type 0} (G : Ghosts K) where
     keeps = of.2;
     begins = begins;
     follows = later;
-    takes = record { turn = turn_after pull_json ask outcome (served G.faults d) (served G.faults mid) (served G.faults d') settled takes.turn; assured = desk_turn d mid d' ask outcome settled assured takes };
+    takes = record { turn = turn_after pull_json ask outcome (served G.faults d) (served G.faults mid) (served G.faults d') settled takes.turn; assured = assures_on G.tells G.fails_no_more d.keeper mid.keeper d'.keeper (trouble_of outcome) assured takes.assured };
     stays = refl;
     seen = refl;
     ends = refl;
     own = refl;
     settled = refl;
-    left = ap (λ (doubt : Option Entry). v.left ++ listed doubt) (turn_left (served G.faults mid) ask outcome (served G.faults d') settled.settled.1 takes.turn);
+    left = ap (λ (doubt : Doubt). v.left ++ listed doubt) (turn_left (served G.faults mid) ask outcome (served G.faults d') settled.settled.1 takes.turn);
     before = refl;
     after = refl;
   }
 
-  pub seat_held : (v : SeatView K) (t : ℕ) (d d' : Seated K) (trouble : Trouble) (ask : Ask) → IsOf G v d → StartsWith d.book v.seen → FollowsAll G v.after d.keeper
+  pub seat_held : (v : SeatView K) (t : ℕ) (d d' : Seated K) (trouble : Trouble) (ask : Ask) → IsOf G v d → Extends d.book v.seen → FollowsAll G v.after d.keeper
       → IsSettled (served G.faults d) (Err trouble) (served G.faults d') → Assures G.tells G.fails_no_more d.keeper (Some trouble) d'.keeper
       → IsSeatTurn G v ask (Refused (refusals.Trouble trouble)) (held_view (on_turn G.faults (waiting v t) d) d'.keeper)
   seat_held v t d d' trouble ask of begins later settled assured =
       let same : d'.book ≡ d.book = settled.settled.stays.0 in
-      let none : since (size d.book) d.book ≡ [] = drop_self d.book in record {
+      let none : since (size d.book) d.book ≡ [] = drop_self d.book.entries in record {
         opened = of.0;
         desk = d;
         now = d';
@@ -220,7 +190,7 @@ module _ {K : Type 0} (G : Ghosts K) where
   taken_settles v d m s taken is = subst (λ (m : Knows K). Settles m.0.book m.0.doubt s) (sym taken.1) is
 
 module _ {K : Type 0} (G : Ghosts K) where
-  pub ended_turn : (v : SeatView K) (d mid d' : Seated K) (m : Knows K) (ask : Ask) (outcome : Outcome) (w : SeatView K) → HasTaken G v d m → IsOf G v d → StartsWith d.book v.seen → FollowsAll G v.after d.keeper
+  pub ended_turn : (v : SeatView K) (d mid d' : Seated K) (m : Knows K) (ask : Ask) (outcome : Outcome) (w : SeatView K) → HasTaken G v d m → IsOf G v d → Extends d.book v.seen → FollowsAll G v.after d.keeper
       → (settled : Result (Unit {0}) Trouble) → settled ≡ Ok tt → IsSettled (served G.faults d) settled (served G.faults mid) → Assures G.tells G.fails_no_more d.keeper (settle_trouble settled) mid.keeper → DeskTakes G mid ask outcome d'
       → w ≡ end_view m.0 mid.book d'.book d'.doubt d'.keeper
       → IsSeatTurn G v ask outcome w
@@ -229,7 +199,7 @@ module _ {K : Type 0} (G : Ghosts K) where
       (seat_turn G v taken.0 d mid d' ask outcome of begins later (subst (λ (r : Result (Unit {0}) Trouble). IsSettled (served G.faults d) r (served G.faults mid)) ok is)
       (subst (λ (r : Result (Unit {0}) Trouble). Assures G.tells G.fails_no_more d.keeper (settle_trouble r) mid.keeper) ok assured) takes)
 
-  pub held_turn : (v : SeatView K) (d d' : Seated K) (m : Knows K) (ask : Ask) (w : SeatView K) (why : Trouble) → HasTaken G v d m → IsOf G v d → StartsWith d.book v.seen → FollowsAll G v.after d.keeper
+  pub held_turn : (v : SeatView K) (d d' : Seated K) (m : Knows K) (ask : Ask) (w : SeatView K) (why : Trouble) → HasTaken G v d m → IsOf G v d → Extends d.book v.seen → FollowsAll G v.after d.keeper
       → (settled : Result (Unit {0}) Trouble) → settled ≡ Err why → IsSettled (served G.faults d) settled (served G.faults d') → Assures G.tells G.fails_no_more d.keeper (settle_trouble settled) d'.keeper
       → w ≡ held_view m.0 d'.keeper
       → IsSeatTurn G v ask (Refused (refusals.Trouble why)) w

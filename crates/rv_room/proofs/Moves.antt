@@ -1,5 +1,5 @@
 -- Each step keeps the rule.
-use Rattle.std.proofs.Common.{◌≡◌, ◌≢◌, ◌⊎◌, ℕ, zero, suc, ◌+◌, ◌-◌, ◌%◌, ◌^◌, ◌<◌, ◌≤◌, ◌==◌, List, [], ◌∷◌, ◌++◌, length, set, drop, refl, sym, ap, ◌∙◌, subst, inl, inr, ⊎_elim, arith, Some, None, Option, append-nil, length-append, mod-eq_of_lt}
+use Rattle.std.proofs.Common.{◌≡◌, ◌≢◌, ◌⊎◌, ℕ, zero, suc, ◌+◌, ◌-◌, ◌%◌, ◌^◌, ◌<◌, ◌≤◌, ◌==◌, List, [], ◌∷◌, ◌++◌, length, set, refl, sym, ap, ◌∙◌, subst, inl, inr, ⊎_elim, arith, Some, None, Option, append-nil, mod-eq_of_lt}
 use Rattle.std.proofs.Math.Nat.{mod-add-mod}
 use Rattle.std.specs.Prelude.{IfSome, slice_get, slice_index, slice_set}
 use Rattle.std.specs.List.{AllByRecursion}
@@ -12,16 +12,18 @@ use prog.Atomic.{either}
 use Rattle.atomic_table.specs.Table.{State, Me, Act, keeps, takes, gives, stepped, Allows, Valid, carried_after}
 use Rattle.atomic_table.proofs.Lists.{at_set, set_again, set_else, one_turn, exchanged}
 use Rattle.rv_book.specs.declared.entry.Entry.{Entry}
-use Rattle.rv_book.specs.Book.{Book, size, since, with_entry}
+use Rattle.rv_book.specs.Book.{Book, size, since, with_entry, Extends}
+use Rattle.rv_book.specs.BookWords.{size-with_entry, extends_same, extends_on}
+use Rattle.rv_history.specs.Served.{Doubt, with_doubt}
 use Rattle.rv_keeper.specs.declared.keeper.Keeper.{Ghosts}
 use Rattle.rv_desk.specs.Seated.{Seated}
 use Rattle.rv_room.specs.declared.view.SeatView.{SeatView}
 use Rattle.rv_room.specs.Following.{KeeperFollows, FollowsAll, follows_same, follows_on}
-use Rattle.rv_room.specs.Lists.{hit, StartsWith, total, once_below, count_at, numbered}
+use Rattle.rv_room.specs.Lists.{hit, total, once_below, count_at, numbered}
 use Rattle.rv_room.specs.Views.{IsIdle, waiting, on_turn, grown, entered, listed, noted, with_keeper, ended}
 use Rattle.rv_room.specs.Rule.{parts_of, waits_of, own_at, IsLeft, DoubtIsLeft, Fits, IsOut, Keeps, IsOf, AtHome, Kept, KeptIn}
 use Rattle.rv_room.specs.Plays.{TakesTicket, TakesIfNext, Looks, CountsSettled, CountsMade, NotesSettled, NotesKeeper, Passes, Signals}
-use Rattle.rv_room.proofs.Totals.{total_set, total_le, total_has, here, same_at, all_map, all_append, get_front, get_last, starts_more, count_at-append, below_next, drop_front}
+use Rattle.rv_room.proofs.Totals.{total_set, total_le, total_has, here, same_at, all_map, all_append, get_front, get_last, count_at-append, below_next, drop_front}
 
 value_or : {X : Type 0} → X → Option X → X
 value_or x None = x
@@ -31,12 +33,12 @@ pub some_same : {X : Type 0} (a b : X) → Some a ≡ Some b → a ≡ b
 unfolding value_or
 some_same a b e = ap (value_or a) e
 
--- what was a front of the history, and what stood in it, is and does once it is longer
-still : (log : Book) (e : Entry) (now : Book) → now ≡ log ++ e ∷ [] → (l : Book) → StartsWith log l → StartsWith now l
-still log e now longer l s = subst (λ (x : Book). StartsWith x l) (sym longer) (starts_more log (e ∷ []) l s)
+-- from what the history went on, and what stood in it, it does and stands once it is longer
+still : (log : Book) (e : Entry) (now : Book) → now ≡ with_entry log e → (l : Book) → Extends log l → Extends now l
+still log e now longer l s = extends_on now log l (e ∷ [], longer) s
 
-stands : (log : Book) (e : Entry) (now : Book) → now ≡ log ++ e ∷ [] → (x : ℕ × Entry) → slice_get log x.0 ≡ Some x.1 → slice_get now x.0 ≡ Some x.1
-stands log e now longer x s = ap (λ (l : Book). slice_get l x.0) longer ∙ get_front log (e ∷ []) x.0 x.1 s
+stands : (log : Book) (e : Entry) (now : Book) → now ≡ with_entry log e → (x : ℕ × Entry) → slice_get log.entries x.0 ≡ Some x.1 → slice_get now.entries x.0 ≡ Some x.1
+stands log e now longer x s = ap (λ (l : Book). slice_get l.entries x.0) longer ∙ get_front log.entries (e ∷ []) x.0 x.1 s
 
 module _ {K : Type 0} where
   abbrev pub At : List (SeatView K) → ℕ → SeatView K → Type 0
@@ -73,7 +75,7 @@ module _ {K : Type 0} where
       (λ same. (id, w, here views id v w at, (l.3.0, ap (λ xs. slice_get xs l.3.0) grows ∙ get_front v.left more l.3.0 e (ap (λ (u : SeatView K). slice_get u.left l.3.0) (sym (same_at views l.0 id l.1 v l.2 at same)) ∙ l.3.1))))
       (λ apart. (l.0, l.1, set_else views id l.0 w apart ∙ l.2, l.3))
 
-  pub doubt_set : (views : List (SeatView K)) (id : ℕ) (v w : SeatView K) → At views id v → (more : List Entry) → w.left ≡ v.left ++ more → (d : Option Entry) → DoubtIsLeft views d → DoubtIsLeft (set views id w) d
+  pub doubt_set : (views : List (SeatView K)) (id : ℕ) (v w : SeatView K) → At views id v → (more : List Entry) → w.left ≡ v.left ++ more → (d : Doubt) → DoubtIsLeft views d → DoubtIsLeft (set views id w) d
   doubt_set views id v w at more grows d l e is = left_set views id v w at more grows e (l e is)
 
 module _ {K : Type 0} (G : Ghosts K) where
@@ -132,11 +134,11 @@ module _ {K : Type 0} (G : Ghosts K) (opened : Seated K) (seats : ℕ) where
   changes : (words : List ℕ) (homes : Homes) (views : List (SeatView K)) (id : ℕ) (v w : SeatView K) (k : Rule words homes views) → At views id v
       → (words' : List ℕ) (homes' : Homes) (log' : Book) (front' n' : ℕ) (keeper' : K)
       → n' + v.waits ≡ total waits_of views + w.waits
-      → words' ≡ (front' + n') % 2 ^ 64 ∷ front' % 2 ^ 64 ∷ length log' ∷ k.signals
+      → words' ≡ (front' + n') % 2 ^ 64 ∷ front' % 2 ^ 64 ∷ size log' ∷ k.signals
       → Slot log' keeper' homes' (set views id w)
       → w.parts ≡ v.parts
-      → StartsWith log' opened.book
-      → ((p : ℕ) → own_at p w + once_below p (length k.log) ≡ own_at p v + once_below p (length log'))
+      → Extends log' opened.book
+      → ((p : ℕ) → own_at p w + once_below p (size k.log) ≡ own_at p v + once_below p (size log'))
       → ((i : ℕ) (u : SeatView K) → i ≢ id → At views i u → Fits G opened log' front' n' keeper' u)
       → Fits G opened log' front' n' keeper' w
       → ((i : ℕ) (u : SeatView K) → i ≢ id → At views i u → w.waits ≡ 1 → u.waits ≡ 1 → w.ticket ≡ u.ticket → ⊥)
@@ -149,7 +151,7 @@ module _ {K : Type 0} (G : Ghosts K) (opened : Seated K) (seats : ℕ) where
         front = front';
         keeper = keeper';
         signals = k.signals;
-        words_are = subst (λ (n : ℕ). words' ≡ (front' + n) % 2 ^ 64 ∷ front' % 2 ^ 64 ∷ length log' ∷ k.signals) now are;
+        words_are = subst (λ (n : ℕ). words' ≡ (front' + n) % 2 ^ 64 ∷ front' % 2 ^ 64 ∷ size log' ∷ k.signals) now are;
         slot = slot;
         few = k.few;
         parts = let t = total_set parts_of views id v w at in let q = k.parts in omega arith;
@@ -184,7 +186,7 @@ module _ {K : Type 0} (G : Ghosts K) (opened : Seated K) (seats : ℕ) where
         tt,
         changes s.words s.homes s.views id v w k at (slice_set s.words 0 ((slice_index s.words 0 + 1) % 2 ^ 64)) s.homes k.log k.front (n + 1) k.keeper
             (omega arith)
-            (ap (λ ws. slice_set ws 0 ((slice_index ws 0 + 1) % 2 ^ 64)) k.words_are ∙ ap (λ (m : ℕ). m ∷ k.front % 2 ^ 64 ∷ length k.log ∷ k.signals) more)
+            (ap (λ ws. slice_set ws 0 ((slice_index ws 0 + 1) % 2 ^ 64)) k.words_are ∙ ap (λ (m : ℕ). m ∷ k.front % 2 ^ 64 ∷ size k.log ∷ k.signals) more)
             (slot_set k.log k.keeper s.homes s.views id v w at idle.1 refl [] (sym (append-nil v.left)) k.slot)
             refl
             k.begun
@@ -334,7 +336,7 @@ module _ {K : Type 0} (G : Ghosts K) (opened : Seated K) (seats : ℕ) where
           zero_if zero le h = refl
           zero_if (suc n) le h = absurd (h (omega arith))
 
-  longer_fits : (log now : Book) (e : Entry) (front n : ℕ) (keeper : K) (u : SeatView K) → now ≡ log ++ e ∷ [] → Fits G opened log front n keeper u → u.turns ≡ 0 → Fits G opened now front n keeper u
+  longer_fits : (log now : Book) (e : Entry) (front n : ℕ) (keeper : K) (u : SeatView K) → now ≡ with_entry log e → Fits G opened log front n keeper u → u.turns ≡ 0 → Fits G opened now front n keeper u
   longer_fits log now e front n keeper u longer f off = record { once = f.once; part = f.part; waits = f.waits; line = f.line; turn = (λ o. absurd (omega arith)); knows = f.knows; seen = still log e now longer u.seen f.seen; joined = all_map _ _ u.joined (still log e now longer) f.joined; own = all_map _ _ u.own (stands log e now longer) f.own; after = f.after; spent = f.spent }
 
   -- the parts of a view that a longer history leaves as they are
@@ -351,7 +353,7 @@ module _ {K : Type 0} (G : Ghosts K) (opened : Seated K) (seats : ℕ) where
     left : w.left ≡ v.left
 
   -- the history is one entry longer, which becomes own of the view with the turn
-  grows : (s : S) (id : ℕ) (v w : SeatView K) (k : KeptIn G opened seats s) → At s.views id v → v.turns ≡ 1 → (e : Entry) (now : Book) → now ≡ v.book ++ e ∷ [] → length now < 2 ^ 63
+  grows : (s : S) (id : ℕ) (v w : SeatView K) (k : KeptIn G opened seats s) → At s.views id v → v.turns ≡ 1 → (e : Entry) (now : Book) → now ≡ with_entry v.book e → size now < 2 ^ 63
       → w.book ≡ now → w.own ≡ v.own ++ numbered (size v.book) (since (size v.book) now) → IsAsBefore v w
       → DoubtIsLeft (set s.views id w) w.doubt → AllByRecursion (IsLeft (set s.views id w)) w.settled
       → Rule (slice_set s.words 2 ((slice_index s.words 2 + 1) % 2 ^ 64)) s.homes (set s.views id w)
@@ -359,17 +361,17 @@ module _ {K : Type 0} (G : Ghosts K) (opened : Seated K) (seats : ℕ) where
       let o = on_turn_now s id v k at on in
       let n : ℕ = total waits_of s.views in
       let f = k.each id v at in
-      let longer : now ≡ k.log ++ e ∷ [] = is_longer ∙ ap (λ l. l ++ e ∷ []) o.named in
-      let size_is : length now ≡ length k.log + 1 = ap length longer ∙ length-append k.log (e ∷ []) in
-      let more : (length k.log + 1) % 2 ^ 64 ≡ length now = small (length k.log + 1) (length now) (sym size_is) short in
-      let one : w.own ≡ v.own ++ (size v.book, e) ∷ [] = own ∙ ap (λ (l : List Entry). v.own ++ numbered (size v.book) l) (ap (drop (size v.book)) is_longer ∙ drop_front v.book (e ∷ [])) in
+      let longer : now ≡ with_entry k.log e = is_longer ∙ ap (λ (l : Book). with_entry l e) o.named in
+      let size_is : size now ≡ size k.log + 1 = ap size longer ∙ size-with_entry k.log e in
+      let more : (size k.log + 1) % 2 ^ 64 ≡ size now = small (size k.log + 1) (size now) (sym size_is) short in
+      let one : w.own ≡ v.own ++ (size v.book, e) ∷ [] = own ∙ ap (λ (l : List Entry). v.own ++ numbered (size v.book) l) (ap (since (size v.book)) is_longer ∙ drop_front v.book.entries (e ∷ [])) in
       let w1 = same.waits in let t1 = same.turns in let p1 = same.parts in let k1 = same.ticket in let v1 = o.waits in
       changes s.words s.homes s.views id v w k at (slice_set s.words 2 ((slice_index s.words 2 + 1) % 2 ^ 64)) s.homes now k.front n k.keeper
       (omega arith)
       (ap (λ ws. slice_set ws 2 ((slice_index ws 2 + 1) % 2 ^ 64)) k.words_are ∙ ap (λ (m : ℕ). (k.front + n) % 2 ^ 64 ∷ k.front % 2 ^ 64 ∷ m ∷ k.signals) more)
       (inr (record { empty = o.out; who = id; view = w; at = here s.views id v w at; turn = t1 ∙ on; doubt = doubt }))
       p1
-      (subst (λ (l : Book). StartsWith l opened.book) (sym longer) (starts_more k.log (e ∷ []) opened.book k.begun))
+      (still k.log e now longer opened.book k.begun)
       (λ p. places p size_is o.named one)
       (λ i u ne there. longer_fits k.log now e k.front n k.keeper u longer (k.each i u there) (o.others i u ne there))
       (mine f o.ticket longer o.named o.keeper o.waits one)
@@ -381,15 +383,15 @@ module _ {K : Type 0} (G : Ghosts K) (opened : Seated K) (seats : ℕ) where
       small : (a b : ℕ) → a ≡ b → b < 2 ^ 63 → a % 2 ^ 64 ≡ b
       small a b e h = ap (λ (m : ℕ). m % 2 ^ 64) e ∙ mod-eq_of_lt (omega arith)
 
-      places : (p : ℕ) → length now ≡ length k.log + 1 → v.book ≡ k.log → w.own ≡ v.own ++ (size v.book, e) ∷ [] → own_at p w + once_below p (length k.log) ≡ own_at p v + once_below p (length now)
+      places : (p : ℕ) → size now ≡ size k.log + 1 → v.book ≡ k.log → w.own ≡ v.own ++ (size v.book, e) ∷ [] → own_at p w + once_below p (size k.log) ≡ own_at p v + once_below p (size now)
       places p size_is is one =
           let a = count_at-append p v.own ((size v.book, e) ∷ []) in
           let a' : count_at p w.own ≡ count_at p (v.own ++ (size v.book, e) ∷ []) = ap (count_at p) one in
-          let b : hit (length v.book) p ≡ hit (length k.log) p = ap (λ (l : Book). hit (length l) p) is in
-          let c : once_below p (length now) ≡ hit (length k.log) p + once_below p (length k.log) = ap (once_below p) size_is ∙ below_next p (length k.log) in
+          let b : hit (size v.book) p ≡ hit (size k.log) p = ap (λ (l : Book). hit (size l) p) is in
+          let c : once_below p (size now) ≡ hit (size k.log) p + once_below p (size k.log) = ap (once_below p) size_is ∙ below_next p (size k.log) in
           omega arith
 
-      mine : Fits G opened k.log k.front (total waits_of s.views) k.keeper v → v.ticket ≡ k.front → now ≡ k.log ++ e ∷ [] → v.book ≡ k.log → v.keeper ≡ Some k.keeper → v.waits ≡ 1 → w.own ≡ v.own ++ (size v.book, e) ∷ [] → Fits G opened now k.front (total waits_of s.views) k.keeper w
+      mine : Fits G opened k.log k.front (total waits_of s.views) k.keeper v → v.ticket ≡ k.front → now ≡ with_entry k.log e → v.book ≡ k.log → v.keeper ≡ Some k.keeper → v.waits ≡ 1 → w.own ≡ v.own ++ (size v.book, e) ∷ [] → Fits G opened now k.front (total waits_of s.views) k.keeper w
       mine f ticket longer is keeper wait one =
           let part = f.part in let once = f.once in let waits = f.waits in
           let w1 = same.waits in let t1 = same.turns in let p1 = same.parts in let k1 = same.ticket in
@@ -400,10 +402,10 @@ module _ {K : Type 0} (G : Ghosts K) (opened : Seated K) (seats : ℕ) where
             line = (λ _. (omega arith, omega arith));
             turn = (λ _. (k1 ∙ ticket, named, same.keeper ∙ keeper));
             knows = (λ some. same.room ∙ f.knows (omega arith));
-            seen = subst (λ (l : Book). StartsWith now l) (sym same.seen) (still k.log e now longer v.seen f.seen);
-            joined = subst (λ (l : List Book). AllByRecursion (StartsWith now) l) (sym same.joined) (all_map _ _ v.joined (still k.log e now longer) f.joined);
-            own = subst (λ (l : List (ℕ × Entry)). AllByRecursion (λ x. slice_get now x.0 ≡ Some x.1) l) (sym one)
-                (all_append _ v.own _ (all_map _ _ v.own (stands k.log e now longer) f.own) ((λ i. slice_get (longer i) (length (is i))) ∙ get_last k.log e, tt));
+            seen = subst (λ (l : Book). Extends now l) (sym same.seen) (still k.log e now longer v.seen f.seen);
+            joined = subst (λ (l : List Book). AllByRecursion (Extends now) l) (sym same.joined) (all_map _ _ v.joined (still k.log e now longer) f.joined);
+            own = subst (λ (l : List (ℕ × Entry)). AllByRecursion (λ x. slice_get now.entries x.0 ≡ Some x.1) l) (sym one)
+                (all_append _ v.own _ (all_map _ _ v.own (stands k.log e now longer) f.own) ((λ i. slice_get (longer i).entries (size (is i))) ∙ get_last k.log.entries e, tt));
             after = subst (λ (l : List K). FollowsAll G l k.keeper) (sym same.after) f.after;
             spent = λ none. absurd (omega arith);
           }
@@ -412,15 +414,15 @@ module _ {K : Type 0} (G : Ghosts K) (opened : Seated K) (seats : ℕ) where
   pub counts_settled : (slots id : ℕ) (v : SeatView K) (c : List (ℕ × Option (Seated K))) (e : Entry) → v.turns ≡ 1 → v.doubt ≡ Some e → size (with_entry v.book e) < 2 ^ 63 → Allows (KeptIn G opened seats) slots id (v, c) 2 (λ n. (n + 1) % 2 ^ 64) (CountsSettled (v, c))
   counts_settled slots id v c e on is short s k len at bound =
       let o = on_turn_now s id v k at on in
-      let now : Book = v.book ++ listed v.doubt in
+      let now : Book = with_doubt v.book v.doubt in
       let w = entered v now in
-      let longer : now ≡ v.book ++ e ∷ [] = ap (λ (d : Option Entry). v.book ++ listed d) is in
+      let longer : now ≡ with_entry v.book e = ap (λ (d : Doubt). with_doubt v.book d) is in
       let none_more = sym (append-nil v.left) in
-      let new : since (size v.book) now ≡ e ∷ [] = ap (drop (size v.book)) longer ∙ drop_front v.book (e ∷ []) in (
+      let new : since (size v.book) now ≡ e ∷ [] = ap (since (size v.book)) longer ∙ drop_front v.book.entries (e ∷ []) in (
         w,
         keeps,
         tt,
-        grows s id v w k at on e now longer (subst (λ (l : Book). length l < 2 ^ 63) (sym longer) short) refl refl
+        grows s id v w k at on e now longer (subst (λ (l : Book). size l < 2 ^ 63) (sym longer) short) refl refl
             (record { parts = refl; waits = refl; turns = refl; ticket = refl; room = refl; keeper = refl; seen = refl; joined = refl; after = refl; left = refl })
             (doubt_set s.views id v w at [] none_more v.doubt o.doubt)
             (all_append _ v.settled _ (settled_still s.words s.homes s.views k id v w at [] none_more)
@@ -469,7 +471,7 @@ module _ {K : Type 0} (G : Ghosts K) (opened : Seated K) (seats : ℕ) where
             (inr (record { empty = o.out; who = id; view = w; at = here s.views id v w at; turn = t1 ∙ on; doubt = doubt s.views at o.doubt }))
             p1
             k.begun
-            (λ p. ap (λ (l : List (ℕ × Entry)). count_at p l + once_below p (length k.log)) same.8)
+            (λ p. ap (λ (l : List (ℕ × Entry)). count_at p l + once_below p (size k.log)) same.8)
             (λ i u ne there. others u (k.each i u there) (o.others i u ne there) up)
             (record {
               once = omega arith;
@@ -478,9 +480,9 @@ module _ {K : Type 0} (G : Ghosts K) (opened : Seated K) (seats : ℕ) where
               line = (λ ww. let l = f.line v1 in let l0 = l.0 in let l1 = l.1 in (omega arith, omega arith));
               turn = (λ _. (k1 ∙ o.ticket, same.5 ∙ o.named, is_now));
               knows = (λ some. same.4 ∙ f.knows (omega arith));
-              seen = subst (λ (l : Book). StartsWith k.log l) (sym same.6) f.seen;
-              joined = subst (λ (l : List Book). AllByRecursion (StartsWith k.log) l) (sym same.7) f.joined;
-              own = subst (λ (l : List (ℕ × Entry)). AllByRecursion (λ x. slice_get k.log x.0 ≡ Some x.1) l) (sym same.8) f.own;
+              seen = subst (λ (l : Book). Extends k.log l) (sym same.6) f.seen;
+              joined = subst (λ (l : List Book). AllByRecursion (Extends k.log) l) (sym same.7) f.joined;
+              own = subst (λ (l : List (ℕ × Entry)). AllByRecursion (λ x. slice_get k.log.entries x.0 ≡ Some x.1) l) (sym same.8) f.own;
               after = subst (λ (l : List K). FollowsAll G l now) (sym same.9) (follows_later G k.keeper now up v.after f.after);
               spent = (λ none. absurd (omega arith));
             })
@@ -495,9 +497,9 @@ module _ {K : Type 0} (G : Ghosts K) (opened : Seated K) (seats : ℕ) where
       others u f off up = record { once = f.once; part = f.part; waits = f.waits; line = f.line; turn = (λ o. absurd (omega arith)); knows = f.knows; seen = f.seen; joined = f.joined; own = f.own; after = follows_later G k.keeper now up u.after f.after; spent = f.spent }
 
   -- what a view's turn has left in doubt is left
-  newly_left : (views : List (SeatView K)) (id : ℕ) (v w : SeatView K) → At views id v → (d : Option Entry) → w.left ≡ v.left ++ listed d → DoubtIsLeft (set views id w) d
+  newly_left : (views : List (SeatView K)) (id : ℕ) (v w : SeatView K) → At views id v → (d : Doubt) → w.left ≡ v.left ++ listed d → DoubtIsLeft (set views id w) d
   newly_left views id v w at d more e is =
-      (id, w, here views id v w at, (length v.left, ap (λ l. slice_get l (length v.left)) (more ∙ ap (λ (x : Option Entry). v.left ++ listed x) is) ∙ get_last v.left e))
+      (id, w, here views id v w at, (length v.left, ap (λ l. slice_get l (length v.left)) (more ∙ ap (λ (x : Doubt). v.left ++ listed x) is) ∙ get_last v.left e))
 
   -- the desk has settled and stepped
   pub notes_settled : (slots id : ℕ) (v : SeatView K) (d : Seated K) → v.turns ≡ 1 → IfSome v.keeper (λ keeper. KeeperFollows G keeper d.keeper) → Allows (KeptIn G opened seats) slots id (v, (0, Some d) ∷ []) 1 (λ n. n) (NotesSettled (v, (0, Some d) ∷ []))
@@ -542,7 +544,7 @@ module _ {K : Type 0} (G : Ghosts K) (opened : Seated K) (seats : ℕ) where
         tt,
         changes s.words s.homes s.views id v w k at (slice_set s.words 1 ((slice_index s.words 1 + 1) % 2 ^ 64)) (slice_set s.homes 0 (some (Some d))) k.log (k.front + 1) (n - 1) k.keeper
             (omega arith)
-            (ap (λ ws. slice_set ws 1 ((slice_index ws 1 + 1) % 2 ^ 64)) k.words_are ∙ (λ i. (all i) % 2 ^ 64 ∷ more i ∷ length k.log ∷ k.signals))
+            (ap (λ ws. slice_set ws 1 ((slice_index ws 1 + 1) % 2 ^ 64)) k.words_are ∙ (λ i. (all i) % 2 ^ 64 ∷ more i ∷ size k.log ∷ k.signals))
             (inl (record {
               desk = d;
               home = home;
@@ -556,7 +558,7 @@ module _ {K : Type 0} (G : Ghosts K) (opened : Seated K) (seats : ℕ) where
             k.begun
             (λ p. refl)
             (λ i u ne there. others i u (k.each i u there) (o.others i u ne there) (λ uw same. ne (k.apart i id u v there at uw wait same)) o.ticket some_wait wait)
-            (record { once = omega arith; part = omega arith; waits = omega arith; line = (λ o. absurd (omega arith)); turn = (λ o. absurd (omega arith)); knows = f.knows; seen = ([], sym o.named ∙ sym (append-nil v.book)); joined = f.joined; own = f.own; after = all_append _ v.after (listed v.keeper) f.after (subst (λ (x : Option K). FollowsAll G (listed x) k.keeper) (sym o.keeper) (follows_same G k.keeper, tt)); spent = f.spent })
+            (record { once = omega arith; part = omega arith; waits = omega arith; line = (λ o. absurd (omega arith)); turn = (λ o. absurd (omega arith)); knows = f.knows; seen = extends_same k.log v.book (sym o.named); joined = f.joined; own = f.own; after = all_append _ v.after (listed v.keeper) f.after (subst (λ (x : Option K). FollowsAll G (listed x) k.keeper) (sym o.keeper) (follows_same G k.keeper, tt)); spent = f.spent })
             (λ i u ne there ww uw same. omega arith)
             []
             none_more

@@ -1,10 +1,10 @@
 -- Lists of views, added up and changed at one place.
-use Rattle.std.proofs.Common.{◌≡◌, ◌⊎◌, ℕ, zero, suc, ◌+◌, ◌≤◌, List, [], ◌∷◌, ◌++◌, length, set, refl, sym, ap, ◌∙◌, inl, inr, ⊎_elim, arith, Some, append_assoc, drop}
+use Rattle.std.proofs.Common.{◌≡◌, ◌⊎◌, ℕ, zero, suc, ◌+◌, ◌≤◌, List, [], ◌∷◌, ◌++◌, length, set, refl, sym, ap, ◌∙◌, inl, inr, ⊎_elim, arith, Some, drop}
 use Rattle.std.specs.Prelude.{slice_get}
 use Rattle.std.specs.List.{AllByRecursion}
 use mathlib.Core.Option.{some, some-injective, some-ne-none}
 use lib.ListN.{get_elem?}
-use Rattle.rv_room.specs.Lists.{hit, StartsWith, total, once_below, count_at}
+use Rattle.rv_room.specs.Lists.{hit, total, once_below, count_at}
 
 module _ {X : Type 0} where
   pub total_set : (f : X → ℕ) (xs : List X) (j : ℕ) (v w : X) → get_elem? xs j ≡ some v → total f (set xs j w) + f v ≡ total f xs + f w
@@ -76,9 +76,6 @@ module _ {X : Type 0} where
   get_split [] ys k p e = inr (k, e)
   get_split (x ∷ xs) ys zero p e = inl (0, e)
   get_split (x ∷ xs) ys (suc k) p e = ⊎_elim (λ t. inl (suc t.0, t.1)) (λ t. inr t) (get_split xs ys k p e)
-
-  pub starts_more : (xs ys front : List X) → StartsWith xs front → StartsWith (xs ++ ys) front
-  starts_more xs ys front s = (s.0 ++ ys, ap (λ l. l ++ ys) s.1 ∙ append_assoc front s.0 ys)
 
   pub count_at-append : (p : ℕ) (xs ys : List (ℕ × X)) → count_at p (xs ++ ys) ≡ count_at p xs + count_at p ys
   count_at-append p [] ys = omega arith

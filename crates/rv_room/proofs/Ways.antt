@@ -1,5 +1,5 @@
 -- How a room is opened, how its seats are cut and joined, and how it is closed.
-use Rattle.std.proofs.Common.{◌≡◌, ◌≢◌, ◌⊎◌, ℕ, zero, suc, ◌+◌, ◌%◌, ◌^◌, ◌<◌, List, [], ◌∷◌, ◌++◌, length, set, refl, sym, ap, ◌∙◌, subst, inl, inr, ⊎_elim, arith, Some, None, Option, append-nil, Bool, true, false}
+use Rattle.std.proofs.Common.{◌≡◌, ◌≢◌, ◌⊎◌, ℕ, zero, suc, ◌+◌, ◌%◌, ◌^◌, ◌<◌, List, [], ◌∷◌, ◌++◌, set, refl, sym, ap, ◌∙◌, subst, inl, inr, ⊎_elim, arith, Some, None, Option, Bool, true, false}
 use Rattle.std.specs.Prelude.{slice_get, nat_le, if◌then◌else◌}
 use Rattle.std.specs.List.{AllByRecursion}
 use mathlib.Core.Option.{some, none, some-injective, some-ne-none}
@@ -10,12 +10,13 @@ use lib.ListN.{get_elem?}
 use Rattle.atomic_table.specs.Table.{State, Splits, Joins, opening, Seen, Final}
 use Rattle.atomic_table.proofs.Lists.{at_set, at_snoc, at_longer, set_else}
 use Rattle.rv_book.specs.declared.entry.Entry.{Entry}
-use Rattle.rv_book.specs.Book.{Book, size}
+use Rattle.rv_book.specs.Book.{Book, size, Extends}
+use Rattle.rv_book.specs.BookWords.{extends_same}
 use Rattle.rv_keeper.specs.declared.keeper.Keeper.{Ghosts}
 use Rattle.rv_desk.specs.Seated.{Seated}
 use Rattle.rv_room.specs.declared.view.SeatView.{SeatView}
 use Rattle.rv_room.specs.Following.{KeeperFollows, FollowsAll, follows_same}
-use Rattle.rv_room.specs.Lists.{StartsWith, total, once_below, count_at}
+use Rattle.rv_room.specs.Lists.{total, once_below, count_at}
 use Rattle.rv_room.specs.Views.{newcomer, spent, IsIdle, less_one, one_more, longer, both}
 use Rattle.rv_room.specs.Rule.{parts_of, waits_of, own_at, IsLeft, Fits, IsOut, Keeps, AtHome, KeptIn}
 use Rattle.rv_room.specs.Closing.{gather, SomeLeft, Closes}
@@ -50,11 +51,11 @@ module _ {K : Type 0} where
       (λ not_other. (l.0, l.1, set_else (set views id b) other l.0 gone not_other ∙ (set_else views id l.0 b not_id ∙ l.2), l.3)))
 
 module _ {K : Type 0} (G : Ghosts K) where
-  new_fits : (opened : Seated K) (log : Book) (front n parts : ℕ) (keeper : K) → StartsWith log opened.book → Fits G opened log front n keeper (newcomer parts opened)
+  new_fits : (opened : Seated K) (log : Book) (front n parts : ℕ) (keeper : K) → Extends log opened.book → Fits G opened log front n keeper (newcomer parts opened)
   new_fits opened log front n parts keeper begun = record { once = omega arith; part = omega arith; waits = omega arith; line = (λ w. absurd (omega arith)); turn = (λ t. absurd (omega arith)); knows = (λ _. refl); seen = begun; joined = tt; own = tt; after = tt; spent = (λ _. (refl, refl)) }
 
   spent_fits : (opened : Seated K) (log : Book) (front n : ℕ) (keeper : K) → Fits G opened log front n keeper spent
-  spent_fits opened log front n keeper = record { once = omega arith; part = omega arith; waits = omega arith; line = (λ w. absurd (omega arith)); turn = (λ t. absurd (omega arith)); knows = (λ some. absurd (omega arith)); seen = (log, refl); joined = tt; own = tt; after = tt; spent = (λ _. (refl, refl)) }
+  spent_fits opened log front n keeper = record { once = omega arith; part = omega arith; waits = omega arith; line = (λ w. absurd (omega arith)); turn = (λ t. absurd (omega arith)); knows = (λ some. absurd (omega arith)); seen = (log.entries, refl); joined = tt; own = tt; after = tt; spent = (λ _. (refl, refl)) }
 
 module _ {K : Type 0} (G : Ghosts K) (opened : Seated K) (seats : ℕ) where
   abbrev Homes : Type 0
@@ -115,9 +116,9 @@ module _ {K : Type 0} (G : Ghosts K) (opened : Seated K) (seats : ℕ) where
     });
     few = few;
     parts = omega arith;
-    begun = ([], sym (append-nil opened.book));
+    begun = extends_same opened.book opened.book refl;
     places = λ p. omega arith;
-    each = one (Fits G opened opened.book 0 0 opened.keeper) (new_fits G opened opened.book 0 0 seats opened.keeper ([], sym (append-nil opened.book)));
+    each = one (Fits G opened opened.book 0 0 opened.keeper) (new_fits G opened opened.book 0 0 seats opened.keeper (extends_same opened.book opened.book refl));
     apart = λ i j v w a b vw ww same. absurd (one (λ u. u.waits ≡ 1 → ⊥) (λ x. omega arith) i v a vw);
     left = one (λ u. AllByRecursion (IsLeft (newcomer seats opened ∷ [])) u.settled) tt;
   }
@@ -143,7 +144,7 @@ module _ {K : Type 0} (G : Ghosts K) (opened : Seated K) (seats : ℕ) where
         front = k.front;
         keeper = k.keeper;
         signals = k.signals;
-        words_are = subst (λ (n : ℕ). s.words ≡ (k.front + n) % 2 ^ 64 ∷ k.front % 2 ^ 64 ∷ length k.log ∷ k.signals) now k.words_are;
+        words_are = subst (λ (n : ℕ). s.words ≡ (k.front + n) % 2 ^ 64 ∷ k.front % 2 ^ 64 ∷ size k.log ∷ k.signals) now k.words_are;
         slot = slot_snoc k.log k.keeper s.homes views w refl (slot_set G opened seats k.log k.keeper s.homes s.views id v l at refl refl [] refl k.slot);
         left = snoc_all (λ _ u. AllByRecursion (IsLeft (views ++ w ∷ [])) u.settled) views w
             (each_set (λ _ u. AllByRecursion (IsLeft (views ++ w ∷ [])) u.settled) s.views id l
@@ -182,7 +183,7 @@ module _ {K : Type 0} (G : Ghosts K) (opened : Seated K) (seats : ℕ) where
         front = k.front;
         keeper = k.keeper;
         signals = k.signals;
-        words_are = subst (λ (n : ℕ). s.words ≡ (k.front + n) % 2 ^ 64 ∷ k.front % 2 ^ 64 ∷ length k.log ∷ k.signals) now k.words_are;
+        words_are = subst (λ (n : ℕ). s.words ≡ (k.front + n) % 2 ^ 64 ∷ k.front % 2 ^ 64 ∷ size k.log ∷ k.signals) now k.words_are;
         slot = slot_joined k.log k.keeper s.homes s.views id other v w b gone at was apart refl v1 w1 v1 refl k.slot;
         left = let still = left_joined s.views id other v w b gone at was apart refl in
             each_set (λ _ u. AllByRecursion (IsLeft (set one other gone)) u.settled) one other gone
@@ -203,7 +204,7 @@ module _ {K : Type 0} (G : Ghosts K) (opened : Seated K) (seats : ℕ) where
               line = (λ o. absurd (omega arith));
               turn = (λ o. absurd (omega arith));
               knows = (λ _. f.knows some_part);
-              seen = longer_is (StartsWith k.log) v.seen w.seen f.seen h.seen;
+              seen = longer_is (Extends k.log) v.seen w.seen f.seen h.seen;
               joined = (f.seen, (h.seen, all_append _ w.joined v.joined h.joined f.joined));
               own = all_append _ v.own w.own f.own h.own;
               after = all_append _ v.after w.after f.after h.after;
@@ -219,10 +220,10 @@ module _ {K : Type 0} (G : Ghosts K) (opened : Seated K) (seats : ℕ) where
     pub desk : Seated K
     pub home : get_elem? homes 0 ≡ some (Some desk)
     pub keeps : Keeps G opened desk
-    pub begun : StartsWith desk.book opened.book
-    pub seen : StartsWith desk.book v.seen
-    pub joined : AllByRecursion (StartsWith desk.book) v.joined
-    pub own : AllByRecursion (λ x. slice_get desk.book x.0 ≡ Some x.1) v.own
+    pub begun : Extends desk.book opened.book
+    pub seen : Extends desk.book v.seen
+    pub joined : AllByRecursion (Extends desk.book) v.joined
+    pub own : AllByRecursion (λ x. slice_get desk.book.entries x.0 ≡ Some x.1) v.own
     pub places : (p : ℕ) → count_at p v.own + once_below p (size opened.book) ≡ once_below p (size desk.book)
     pub left : AllByRecursion (λ (e : Entry). (k : ℕ) × (slice_get v.left k ≡ Some e)) v.settled
     pub doubt : (e : Entry) → desk.doubt ≡ Some e → (k : ℕ) × (slice_get v.left k ≡ Some e)
@@ -264,10 +265,10 @@ module _ {K : Type 0} (G : Ghosts K) (opened : Seated K) (seats : ℕ) where
         desk = d;
         home = gives 0 (Some d) (ap (λ hs. get_elem? hs 0) h.home);
         keeps = h.keeps;
-        begun = subst (λ (l : Book). StartsWith l opened.book) (sym is) k.begun;
-        seen = subst (λ (l : Book). StartsWith l v.seen) (sym is) f.seen;
-        joined = subst (λ (l : Book). AllByRecursion (StartsWith l) v.joined) (sym is) f.joined;
-        own = subst (λ (l : Book). AllByRecursion (λ x. slice_get l x.0 ≡ Some x.1) v.own) (sym is) f.own;
+        begun = subst (λ (l : Book). Extends l opened.book) (sym is) k.begun;
+        seen = subst (λ (l : Book). Extends l v.seen) (sym is) f.seen;
+        joined = subst (λ (l : Book). AllByRecursion (Extends l) v.joined) (sym is) f.joined;
+        own = subst (λ (l : Book). AllByRecursion (λ x. slice_get l.entries x.0 ≡ Some x.1) v.own) (sym is) f.own;
         places = λ p. let whole = total_alone (own_at p) parts_of s.views id v at (k.parts ∙ sym all) (λ i u e z. ap (count_at p) ((k.each i u e).spent z).0) in let q = k.places p in let e : once_below p (size d.book) ≡ once_below p (size k.log) = ap (λ (l : Book). once_below p (size l)) is in omega arith;
         left = all_map _ _ v.settled (λ e l. mine s k at e l) (k.left id v at);
         doubt = λ e is. mine s k at e (h.doubt e is);
@@ -304,9 +305,9 @@ module _ {K : Type 0} (G : Ghosts K) (opened : Seated K) where
   -- what is known of the book that was closed, from what the one view knows
   closes : (v : SeatView K) (ws : List (SeatView K)) (homes : List (Option (Seated K))) (c : Closing G opened (total parts_of (ws ++ v ∷ [])) (gather v ws) homes) → Closes G opened (ws ++ v ∷ []) c.desk
   closes v ws homes c =
-      let own = gather_all (λ v. v.own) (λ v w. refl) (λ x. slice_get c.desk.book x.0 ≡ Some x.1) v ws c.own in
+      let own = gather_all (λ v. v.own) (λ v w. refl) (λ x. slice_get c.desk.book.entries x.0 ≡ Some x.1) v ws c.own in
       let after = gather_all (λ v. v.after) (λ v w. refl) (λ keeper. KeeperFollows G keeper c.desk.keeper) v ws c.after in
-      let seen = gather_seen (StartsWith c.desk.book) v ws c.seen c.joined in record {
+      let seen = gather_seen (Extends c.desk.book) v ws c.seen c.joined in record {
         keeps = c.keeps;
         begun = c.begun;
         seen = all_append _ ws (v ∷ []) seen.1 (seen.0, tt);

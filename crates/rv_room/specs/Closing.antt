@@ -2,12 +2,12 @@
 use Rattle.std.specs.Prelude.{◌≡◌, ◌⊎◌, ℕ, ◌+◌, ◌≤◌, List, [], ◌∷◌, Some, slice_get}
 use Rattle.std.specs.List.{AllByRecursion}
 use Rattle.rv_book.specs.declared.entry.Entry.{Entry}
-use Rattle.rv_book.specs.Book.{size}
+use Rattle.rv_book.specs.Book.{size, Extends}
 use Rattle.rv_keeper.specs.declared.keeper.Keeper.{Ghosts}
 use Rattle.rv_desk.specs.Seated.{Seated}
 use Rattle.rv_room.specs.declared.view.SeatView.{SeatView}
 use Rattle.rv_room.specs.Following.{FollowsAll}
-use Rattle.rv_room.specs.Lists.{StartsWith, total, once_below}
+use Rattle.rv_room.specs.Lists.{total, once_below}
 use Rattle.rv_room.specs.Rule.{own_at, Keeps}
 use Rattle.rv_room.specs.Views.{both}
 
@@ -22,14 +22,14 @@ module _ {K : Type 0} where
   SomeLeft [] e = ⊥
   SomeLeft (v ∷ vs) e = ((k : ℕ) × (slice_get v.left k ≡ Some e)) ⊎ SomeLeft vs e
 
--- The seats of a room that was opened with a desk and closed with one. The book has become longer; what each seat had seen is a front
--- of it; what a seat made stands in it at its place; each place after the opened book is own of one seat, and once; what one settled,
+-- The seats of a room that was opened with a desk and closed with one. The book goes on from the opened one, and from what each seat had
+-- seen; what a seat made stands in it at its place; each place after the opened book is own of one seat, and once; what one settled,
 -- and what is in doubt, some seat had left; the keeper follows the one that the room was opened with, and each that a seat remembers.
 pub record Closes {K : Type 0} (G : Ghosts K) (opened : Seated K) (views : List (SeatView K)) (desk : Seated K) : Type 0 where
   pub keeps : Keeps G opened desk
-  pub begun : StartsWith desk.book opened.book
-  pub seen : AllByRecursion (λ v. StartsWith desk.book v.seen) views
-  pub own : AllByRecursion (λ v. AllByRecursion (λ x. slice_get desk.book x.0 ≡ Some x.1) v.own) views
+  pub begun : Extends desk.book opened.book
+  pub seen : AllByRecursion (λ v. Extends desk.book v.seen) views
+  pub own : AllByRecursion (λ v. AllByRecursion (λ x. slice_get desk.book.entries x.0 ≡ Some x.1) v.own) views
   pub places : (n : ℕ) → total (own_at n) views + once_below n (size opened.book) ≡ once_below n (size desk.book)
   pub left : AllByRecursion (λ v. AllByRecursion (SomeLeft views) v.settled) views
   pub doubt : (e : Entry) → desk.doubt ≡ Some e → SomeLeft views e

@@ -1,9 +1,5 @@
 -- Words about lists that the room's definitions use.
-use Rattle.std.specs.Prelude.{◌≡◌, ℕ, zero, suc, ◌+◌, List, [], ◌∷◌, ◌++◌, ◌==◌, if◌then◌else◌}
-
--- the list begins with these
-abbrev pub StartsWith : {X : Type 0} → List X → List X → Type 0
-StartsWith {X} xs front = (rest : List X) × (xs ≡ front ++ rest)
+use Rattle.std.specs.Prelude.{ℕ, zero, suc, ◌+◌, List, [], ◌∷◌, ◌==◌, if◌then◌else◌}
 
 -- f of each of them, added up
 abbrev pub total : {X : Type 0} → (X → ℕ) → List X → ℕ

@@ -1,13 +1,14 @@
 -- What each step at a room's table tells its seat.
-use Rattle.std.specs.Prelude.{◌≡◌, ◌≢◌, ℕ, ◌%◌, ◌^◌, List, [], ◌∷◌, ◌++◌, Option, Some, None}
+use Rattle.std.specs.Prelude.{◌≡◌, ◌≢◌, ℕ, ◌%◌, ◌^◌, List, [], ◌∷◌, Option, Some, None}
 use Rattle.atomic_table.specs.Table.{Me}
+use Rattle.rv_book.specs.Book.{empty_book, Extends}
+use Rattle.rv_history.specs.Served.{with_doubt}
 use Rattle.rv_keeper.specs.declared.keeper.Keeper.{Ghosts}
 use Rattle.rv_desk.specs.Seated.{Seated}
 use Rattle.rv_room.specs.declared.view.SeatView.{SeatView}
 use Rattle.rv_room.specs.Following.{FollowsAll}
-use Rattle.rv_room.specs.Lists.{StartsWith}
 use Rattle.rv_room.specs.Rule.{IsOf}
-use Rattle.rv_room.specs.Views.{waiting, on_turn, grown, entered, listed, noted, with_keeper, ended}
+use Rattle.rv_room.specs.Views.{waiting, on_turn, grown, entered, noted, with_keeper, ended}
 
 -- what a seat knows, and the slots that it holds
 abbrev pub Knows : Type 0 → Type 0
@@ -29,19 +30,19 @@ module _ {K : Type 0} where
   TakesIfNext ticket m n m' = (n ≡ ticket → TakesTicket m n m') × (n ≢ ticket → m' ≡ m)
 
   -- The number of turns that have ended is another than the seat's ticket, and all stays; or it is the ticket, and the seat has the
-  -- turn and the desk, whose book begins with what the seat had seen, and whose keeper follows those that it remembers.
+  -- turn and the desk, whose book goes on from what the seat had seen, and whose keeper follows those that it remembers.
   abbrev pub Looks : Ghosts K → Knows K → ℕ → Knows K → Type 0
   Looks G m n m' =
       (n ≢ m.0.ticket % 2 ^ 64 → m' ≡ m)
-      × (n ≡ m.0.ticket % 2 ^ 64 → (d : Seated K) × IsOf G m.0 d × StartsWith d.book m.0.seen × FollowsAll G m.0.after d.keeper × (m' ≡ (on_turn G.faults m.0 d, (0, Some d) ∷ m.1)))
+      × (n ≡ m.0.ticket % 2 ^ 64 → (d : Seated K) × IsOf G m.0 d × Extends d.book m.0.seen × FollowsAll G m.0.after d.keeper × (m' ≡ (on_turn G.faults m.0 d, (0, Some d) ∷ m.1)))
 
   -- the entry that was in doubt has entered the book
   abbrev pub CountsSettled : Knows K → ℕ → Knows K → Type 0
-  CountsSettled m n m' = m' ≡ (entered m.0 (m.0.book ++ listed m.0.doubt), m.1)
+  CountsSettled m n m' = m' ≡ (entered m.0 (with_doubt m.0.book m.0.doubt), m.1)
 
   -- the book has become that of the desk
   abbrev pub CountsMade : Knows K → ℕ → Knows K → Type 0
-  CountsMade m n m' = m' ≡ (grown m.0 (carried (λ d. d.book) [] m.1), m.1)
+  CountsMade m n m' = m' ≡ (grown m.0 (carried (λ d. d.book) empty_book m.1), m.1)
 
   -- this is in doubt now, and this is the keeper
   abbrev pub NotesSettled : Knows K → ℕ → Knows K → Type 0

@@ -1,18 +1,19 @@
 -- The rule of a room. The words of its table are how many tickets were taken and how many turns have ended, both modulo 2^64, the
 -- length of the history, and then those that only wake seats, which may be any.
-use Rattle.std.specs.Prelude.{◌≡◌, ◌⊎◌, ℕ, ◌+◌, ◌%◌, ◌^◌, ◌<◌, ◌≤◌, List, [], ◌∷◌, length, Option, Some, slice_get}
+use Rattle.std.specs.Prelude.{◌≡◌, ◌⊎◌, ℕ, ◌+◌, ◌%◌, ◌^◌, ◌<◌, ◌≤◌, List, [], ◌∷◌, Option, Some, slice_get}
 use Rattle.std.specs.List.{AllByRecursion}
 use mathlib.Core.Option.{some, none}
 use mathlib.Core.Option as maybe
 use lib.ListN.{get_elem?}
 use Rattle.atomic_table.specs.Table.{State}
 use Rattle.rv_book.specs.declared.entry.Entry.{Entry}
-use Rattle.rv_book.specs.Book.{Book, size}
+use Rattle.rv_book.specs.Book.{Book, size, Extends}
+use Rattle.rv_history.specs.Served.{Doubt}
 use Rattle.rv_keeper.specs.declared.keeper.Keeper.{Ghosts}
 use Rattle.rv_desk.specs.Seated.{Seated}
 use Rattle.rv_room.specs.declared.view.SeatView.{SeatView}
 use Rattle.rv_room.specs.Following.{KeeperFollows, FollowsAll}
-use Rattle.rv_room.specs.Lists.{StartsWith, total, once_below, count_at}
+use Rattle.rv_room.specs.Lists.{total, once_below, count_at}
 
 module _ {K : Type 0} where
   abbrev pub parts_of : SeatView K → ℕ
@@ -28,7 +29,7 @@ module _ {K : Type 0} where
   abbrev pub IsLeft : List (SeatView K) → Entry → Type 0
   IsLeft views e = (j : ℕ) × (v : SeatView K) × (get_elem? views j ≡ some v) × ((k : ℕ) × (slice_get v.left k ≡ Some e))
 
-  abbrev pub DoubtIsLeft : List (SeatView K) → Option Entry → Type 0
+  abbrev pub DoubtIsLeft : List (SeatView K) → Doubt → Type 0
   DoubtIsLeft views doubt = (e : Entry) → doubt ≡ Some e → IsLeft views e
 
   -- a seat has the turn, and the slot is empty
@@ -59,9 +60,9 @@ module _ {K : Type 0} (G : Ghosts K) where
     pub line : v.waits ≡ 1 → (front ≤ v.ticket) × (v.ticket < front + waiting)
     pub turn : v.turns ≡ 1 → (v.ticket ≡ front) × (v.book ≡ log) × (v.keeper ≡ Some keeper)
     pub knows : 0 < v.parts → v.opened ≡ Some opened
-    pub seen : StartsWith log v.seen
-    pub joined : AllByRecursion (StartsWith log) v.joined
-    pub own : AllByRecursion (λ x. slice_get log x.0 ≡ Some x.1) v.own
+    pub seen : Extends log v.seen
+    pub joined : AllByRecursion (Extends log) v.joined
+    pub own : AllByRecursion (λ x. slice_get log.entries x.0 ≡ Some x.1) v.own
     pub after : FollowsAll G v.after keeper
     pub spent : v.parts ≡ 0 → (v.own ≡ []) × (v.left ≡ [])
 
@@ -80,11 +81,11 @@ module _ {K : Type 0} (G : Ghosts K) where
     pub front : ℕ
     pub keeper : K
     pub signals : List ℕ
-    pub words_are : words ≡ (front + total waits_of views) % 2 ^ 64 ∷ front % 2 ^ 64 ∷ length log ∷ signals
+    pub words_are : words ≡ (front + total waits_of views) % 2 ^ 64 ∷ front % 2 ^ 64 ∷ size log ∷ signals
     pub slot : AtHome opened log keeper homes views ⊎ IsOut homes views
     pub few : seats < 2 ^ 32
     pub parts : total parts_of views ≡ seats
-    pub begun : StartsWith log opened.book
+    pub begun : Extends log opened.book
     -- each place after the opened book is own of one view, and once
     pub places : (n : ℕ) → total (own_at n) views + once_below n (size opened.book) ≡ once_below n (size log)
     pub each : (j : ℕ) (v : SeatView K) → get_elem? views j ≡ some v → Fits opened log front (total waits_of views) keeper v

@@ -1,18 +1,18 @@
 -- What a turn of a seat is.
 use Rattle.std.specs.Prelude.{◌≡◌, [], ◌∷◌, ◌++◌, Some}
-use Rattle.rv_book.specs.Book.{size, since}
+use Rattle.rv_book.specs.Book.{size, since, Extends}
 use Rattle.rv_turns.specs.Asks.{Ask}
 use Rattle.rv_turns.specs.declared.outcome.Outcome.{Outcome}
 use Rattle.rv_keeper.specs.declared.keeper.Keeper.{Ghosts}
 use Rattle.rv_desk.specs.Seated.{DeskTakes, Seated}
 use Rattle.rv_room.specs.declared.view.SeatView.{SeatView}
 use Rattle.rv_room.specs.Following.{FollowsAll}
-use Rattle.rv_room.specs.Lists.{StartsWith, numbered}
+use Rattle.rv_room.specs.Lists.{numbered}
 use Rattle.rv_room.specs.Rule.{Keeps}
 use Rattle.rv_room.specs.Views.{listed}
 
 -- A turn of a seat, by what it knows before and after: it is a turn of a desk, as the desk in the room stood. That desk keeps the limit of the
--- one that the room was opened with, and its keeper follows that one's, and each that the seat remembers; its book begins with all that the
+-- one that the room was opened with, and its keeper follows that one's, and each that the seat remembers; its book goes on from what the
 -- seat had seen. Then the seat has seen the book as the turn ended; has as its own what settling added and what the step added, each with the
 -- number of entries before it; and remembers what it left in doubt, the keeper as it was then, and the rest. That the desk is that of the
 -- room, the rule of its table says.
@@ -22,7 +22,7 @@ pub record IsSeatTurn {K : Type 0} (G : Ghosts K) (old : SeatView K) (ask : Ask)
   pub now : Seated K
   pub room : old.opened ≡ Some opened
   pub keeps : Keeps G opened desk
-  pub begins : StartsWith desk.book old.seen
+  pub begins : Extends desk.book old.seen
   pub follows : FollowsAll G old.after desk.keeper
   pub takes : DeskTakes G desk ask outcome now
   pub stays : new.opened ≡ old.opened

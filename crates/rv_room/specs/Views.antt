@@ -1,7 +1,7 @@
 -- What a seat knows, and how it changes.
 use Rattle.std.specs.Prelude.{◌≡◌, ℕ, ◌+◌, ◌-◌, nat_le, if◌then◌else◌, List, [], ◌∷◌, ◌++◌, Option, Some, None}
-use Rattle.rv_book.specs.declared.entry.Entry.{Entry}
-use Rattle.rv_book.specs.Book.{Book, size, since}
+use Rattle.rv_book.specs.Book.{Book, empty_book, size, since}
+use Rattle.rv_history.specs.Served.{Doubt}
 use Rattle.rv_desk.specs.Seated.{Seated}
 use Rattle.rv_room.specs.declared.view.SeatView.{SeatView}
 use Rattle.rv_room.specs.Lists.{numbered}
@@ -23,7 +23,7 @@ module _ {K : Type 0} where
     turns = 0;
     ticket = 0;
     opened = Some opened;
-    book = [];
+    book = empty_book;
     doubt = None;
     keeper = None;
     seen = opened.book;
@@ -44,10 +44,10 @@ module _ {K : Type 0} where
     turns = 0;
     ticket = 0;
     opened = None;
-    book = [];
+    book = empty_book;
     doubt = None;
     keeper = None;
-    seen = [];
+    seen = empty_book;
     own = [];
     settled = [];
     left = [];
@@ -63,7 +63,7 @@ module _ {K : Type 0} where
 
   -- it has a ticket
   abbrev pub waiting : SeatView K → ℕ → SeatView K
-  waiting v t = record v { waits = 1; turns = 0; ticket = t; book = []; doubt = None; keeper = None }
+  waiting v t = record v { waits = 1; turns = 0; ticket = t; book = empty_book; doubt = None; keeper = None }
 
   -- it has the turn, knows the desk that is at home, and remembers how often its keeper has failed
   abbrev pub on_turn : (K → ℕ) → SeatView K → Seated K → SeatView K
@@ -82,7 +82,7 @@ module _ {K : Type 0} where
   with_keeper v keeper = record v { keeper = keeper }
 
   -- the same, and this is in doubt, which the seat's turn left so
-  abbrev pub noted : SeatView K → Option Entry → Option K → SeatView K
+  abbrev pub noted : SeatView K → Doubt → Option K → SeatView K
   noted v doubt keeper = record v { doubt = doubt; keeper = keeper; left = v.left ++ listed doubt }
 
   -- its turn has ended
@@ -91,7 +91,7 @@ module _ {K : Type 0} where
     waits = 0;
     turns = 0;
     ticket = 0;
-    book = [];
+    book = empty_book;
     doubt = None;
     keeper = None;
     seen = v.book;

@@ -22,4 +22,4 @@ pub use rule::{About, OneHistory};
 pub use seat::{Seat, Token};
 pub use seat_turns::SeatTurns;
 pub use seats::Seats;
-pub use view::SeatView;
+pub use view::{History, SeatView};

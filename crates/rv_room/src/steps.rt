@@ -1,13 +1,12 @@
 // The steps of a seat at the table of its room.
 ghost use Rattle.std.specs.Prelude.{◌≡◌, ◌≢◌, ℕ, ◌^◌, ◌<◌, true, false, [], ◌∷◌, Some, None, IfSome};
-ghost use Rattle.rv_book.specs.Book.{Book, size, with_entry};
+ghost use Rattle.rv_book.specs.Book.{Book, size, with_entry, Extends};
 ghost use Rattle.rv_book.specs.declared.entry.Entry.{Entry};
 ghost use Rattle.rv_history.specs.TurnLaws.{Adds};
 ghost use Rattle.rv_history.specs.Served.{Settles};
 ghost use Rattle.rv_desk.specs.Seated.{Seated};
 ghost use Rattle.rv_room.specs.Following.{FollowsAll, KeeperFollows};
 ghost use Rattle.rv_room.specs.Ends.{end_view, held_view};
-ghost use Rattle.rv_room.specs.Lists.{StartsWith};
 ghost use Rattle.rv_room.specs.Rule.{IsOf};
 ghost use Rattle.rv_room.specs.Views.{IsIdle, entered, grown, noted, waiting, on_turn, with_keeper};
 
@@ -130,7 +129,7 @@ impl<K: Keeper> Room<K> {
         requires idle { IsIdle token.old.me.0 × (0 < token.old.me.0.parts) × (token.old.me.1 ≡ []) }
         ensures same { (token.new.table_id ≡ token.old.table_id) × (token.new.id ≡ token.old.id) }
         ensures of { IsOf K.Keeper token.old.me.0 result }
-        ensures begins { StartsWith result.book token.old.me.0.seen }
+        ensures begins { Extends result.book token.old.me.0.seen }
         ensures later { FollowsAll K.Keeper token.old.me.0.after result.keeper }
         ensures view { (t : ℕ) × (token.new.me ≡ (on_turn K.faults (waiting token.old.me.0 t) result, (0, None) ∷ [])) }
     {

@@ -2,6 +2,20 @@ use rv_book::Entry;
 use rv_desk::Desk;
 use rv_keeper::Keeper;
 use std::collections::LinkedList;
+use std::marker::Model;
+
+/// A book, as a seat knows it. It stands in proofs alone: no value of it is made.
+pub struct History {
+    entries: LinkedList<Entry>,
+}
+
+impl Model for History {
+    ghost use Rattle.rv_book.specs.Book.{Book, book_of};
+
+    ghost Value = { Book };
+
+    ghost view = { λ history. book_of history.entries };
+}
 
 /// What a seat knows. It stands in proofs alone: no value of it is made.
 pub struct SeatView<K: Keeper> {
@@ -16,13 +30,13 @@ pub struct SeatView<K: Keeper> {
     /// The desk as the room was opened. A view that stands for no seat has none.
     pub opened: Option<Desk<K>>,
     /// While it has the turn, the history.
-    pub book: LinkedList<Entry>,
+    pub book: History,
     /// While it has the turn, the entry in doubt.
     pub doubt: Option<Entry>,
     /// While it has the turn, the keeper.
     pub keeper: Option<K>,
     /// The history as its last turn ended.
-    pub seen: LinkedList<Entry>,
+    pub seen: History,
     /// The entries that its turns entered, each with the number of entries before it.
     pub own: LinkedList<(u64, Entry)>,
     /// Those of them that had been in doubt.
@@ -36,5 +50,5 @@ pub struct SeatView<K: Keeper> {
     /// The keeper as each of its turns ended.
     pub after: LinkedList<K>,
     /// What the seats that it was joined from had seen.
-    pub joined: LinkedList<LinkedList<Entry>>,
+    pub joined: LinkedList<History>,
 }

@@ -1,8 +1,8 @@
 // How a seat comes to its turn, and how it passes the turn on.
 ghost use Rattle.std.specs.Prelude.{◌≡◌, ℕ, ◌+◌, ◌%◌, ◌^◌, ◌<◌, [], ◌∷◌, None, Some, IfSome};
+ghost use Rattle.rv_book.specs.Book.{Extends};
 ghost use Rattle.rv_desk.specs.Seated.{Seated};
 ghost use Rattle.rv_room.specs.Following.{FollowsAll};
-ghost use Rattle.rv_room.specs.Lists.{StartsWith};
 ghost use Rattle.rv_room.specs.Plays.{TakesTicket};
 ghost use Rattle.rv_room.specs.Rule.{IsOf};
 ghost use Rattle.rv_room.specs.Views.{IsIdle, ended, on_turn};
@@ -132,7 +132,7 @@ impl<K: Keeper> Room<K> {
         requires table { token.old.table_id ≡ self.now.table.shared.table_id }
         requires waits { (token.old.me.0.waits ≡ 1) × (token.old.me.0.turns ≡ 0) × (token.old.me.0.ticket % 2 ^ 64 ≡ ticket) }
         ensures same { (token.new.table_id ≡ token.old.table_id) × (token.new.id ≡ token.old.id) }
-        ensures turn { (d : Seated K) × IsOf K.Keeper token.old.me.0 d × StartsWith d.book token.old.me.0.seen × FollowsAll K.Keeper token.old.me.0.after d.keeper × (token.new.me ≡ (on_turn K.faults token.old.me.0 d, (0, Some d) ∷ token.old.me.1)) }
+        ensures turn { (d : Seated K) × IsOf K.Keeper token.old.me.0 d × Extends d.book token.old.me.0.seen × FollowsAll K.Keeper token.old.me.0.after d.keeper × (token.new.me ≡ (on_turn K.faults token.old.me.0 d, (0, Some d) ∷ token.old.me.1)) }
     {
         let bell = bell_of(ticket);
         let mut looks = 0;

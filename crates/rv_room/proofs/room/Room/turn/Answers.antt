@@ -1,4 +1,4 @@
-use Rattle.std.proofs.Common.{◌≡◌, ℕ, [], None, ap, ◌∙◌}
+use Rattle.std.proofs.Common.{◌≡◌, [], None, ap, ◌∙◌}
 use Rattle.rv_book.specs.Book.{size}
 use Rattle.rv_desk.specs.Seated.{served}
 use Rattle.rv_history.specs.Served.{Settles}
