@@ -1,6 +1,7 @@
 -- A room of no seats.
-use Rattle.std.proofs.Common.{◌≡◌, List, [], ◌∷◌, length, Some, None, refl, sym, ◌∙◌, append-nil, arith}
+use Rattle.std.proofs.Common.{◌≡◌, List, [], ◌∷◌, length, Some, None, refl, sym, ◌∙◌, arith}
 use Rattle.rv_book.specs.declared.entry.Entry.{Entry}
+use Rattle.rv_book.specs.BookWords.{extends_same}
 use Rattle.rv_keeper.specs.declared.keeper.Keeper.{Ghosts}
 use Rattle.rv_desk.specs.Seated.{Seated}
 use Rattle.rv_room.specs.declared.view.SeatView.{SeatView}
@@ -14,7 +15,7 @@ none_some e is = absurd (cc)
 closes_none : {K : Type 0} (G : Ghosts K) (desk : Seated K) → desk.doubt ≡ None → Closes G desk [] desk
 closes_none G desk settled = record {
   keeps = record { limit = refl; keeper = follows_same G desk.keeper };
-  begun = ([], sym (append-nil desk.book));
+  begun = extends_same desk.book desk.book refl;
   seen = tt;
   own = tt;
   places = λ n. omega arith;
