@@ -1,12 +1,10 @@
 -- Runs keep the law, each pull is shown, and each trouble has its cause.
-use Rattle.std.proofs.Common.{◌≡◌, ℕ, List, [], ◌∷◌, ◌++◌, ◌≤◌, ◌-◌, ◌^◌, length, Bool, true, false, Option, Some, None, Ok, Err, refl, sym, ap, ◌∙◌, subst, append_assoc, append-nil, inl, inr, arith}
-use Rattle.rv_book.specs.declared.entry.Entry.{Entry}
-use Rattle.rv_book.specs.declared.entry.Entry.TheVariants.{Look}
-use Rattle.rv_book.specs.Book.{Book}
-use Rattle.rv_history.specs.Bases.{base_of}
-use Rattle.rv_history.specs.Machine.{Replies, Step, next_order}
+use Rattle.std.proofs.Common.{◌≡◌, ℕ, List, [], ◌∷◌, ◌++◌, ◌≤◌, ◌-◌, ◌^◌, length, Bool, Option, Some, None, Ok, Err, refl, sym, ◌∙◌, subst, inl, inr, arith}
+use Rattle.rv_book.specs.Book.{Book, Extends}
+use Rattle.rv_book.specs.BookWords.{extends_same, extends_on}
+use Rattle.rv_history.specs.Machine.{Step}
 use Rattle.rv_history.specs.Served.{Served, Settles, IsSound, KeepsLaw, TakesTurn}
-use Rattle.rv_history.specs.TurnLaws.{step_of}
+use Rattle.rv_history.specs.TurnLaws.{goes_from, settles_go, step_of}
 use Rattle.rv_history.specs.Laws.{IdsCountUp, OrdersRise, PushesKeepLaw, TurnsKeepLaw, PullsShow}
 use Rattle.rv_answering.specs.declared.answer.Answer.{Answer}
 use Rattle.rv_answering.specs.declared.answer.Answer.TheVariants.{Pulled}
@@ -26,26 +24,19 @@ use Rattle.rv_turns.specs.declared.outcome.Outcome.{Outcome}
 use Rattle.rv_turns.specs.declared.outcome.Outcome.TheVariants as outcomes
 
 law_same : (old new : Served) → new ≡ old → IsSound old → KeepsLaw old new
-law_same old new same sound = subst (λ (s : Served). KeepsLaw old s) (sym same) (record { sound = sound; more = ([], sym (append-nil old.book)); limit = refl; later = omega arith })
+law_same old new same sound = subst (λ (s : Served). KeepsLaw old s) (sym same) (record { sound = sound; more = extends_same old.book old.book refl; limit = refl; later = omega arith })
 
--- the book goes on
-abbrev Goes : Served → Served → Type 0
-Goes old new = (more : Book) × (new.book ≡ old.book ++ more)
-
-goes_on : (old mid new : Served) → Goes old mid → Goes mid new → Goes old new
-goes_on old mid new (some, p) (more, q) = (some ++ more, q ∙ ap (λ (b : Book). b ++ more) p ∙ append_assoc old.book some more)
-
--- the same over stops: the book goes on where what is kept is told
+-- the law over stops: the book goes on where what is kept is told
 record Kept (Told : Type 0) (old new : Served) : Type 0 where
   pub sound : IsSound new
-  pub more : Told → Goes old new
+  pub more : Told → Extends new.book old.book
   pub later : old.faults ≤ new.faults
   pub limit : old.limit ≡ 2 ^ 32 - 1 → new.limit ≡ 2 ^ 32 - 1
 
 kept_on : (Told : Type 0) (old mid new : Served) → Kept Told old mid → Kept Told mid new → Kept Told old new
 kept_on Told old mid new before after = record {
   sound = after.sound;
-  more = λ told. goes_on old mid new (before.more told) (after.more told);
+  more = λ told. extends_on new.book mid.book old.book (after.more told) (before.more told);
   later = let one = before.later in let two = after.later in omega (arith, one, two);
   limit = λ is. after.limit (before.limit is);
 }
@@ -53,13 +44,8 @@ kept_on Told old mid new before after = record {
 kept_law : (Told : Type 0) (old new : Served) → KeepsLaw old new → Kept Told old new
 kept_law Told old new law = record { sound = law.sound; more = λ told. law.more; later = law.later; limit = λ is. law.limit ∙ is }
 
-settles_go : (book settled : Book) (doubt : Option Entry) → Settles book doubt settled → (more : Book) × (settled ≡ book ++ more)
-settles_go book settled None same = ([], same ∙ sym (append-nil book))
-settles_go book settled (Some entry) (inl same) = ([], same ∙ sym (append-nil book))
-settles_go book settled (Some entry) (inr is) = (entry ∷ [], is)
-
 kept_reopened : (Told : Type 0) (old new : Served) → Reopens Told old new → Kept Told old new
-kept_reopened Told old new r = record { sound = r.sound; more = λ told. settles_go old.book new.book old.doubt (r.settled told); later = let n = r.faults in omega (arith, n); limit = λ is. r.limit }
+kept_reopened Told old new r = record { sound = r.sound; more = λ told. settles_go old.book old.doubt new.book (r.settled told); later = let n = r.faults in omega (arith, n); limit = λ is. r.limit }
 
 module _ (pushes : PushesKeepLaw pull_json) (turns : TurnsKeepLaw pull_json) where
   answers_keep : (old new : Served) (request : Request) (answer : Answer) (acted : Bool) → Answers (TakesTurn pull_json) old request answer acted new → IsSound old → KeepsLaw old new
@@ -105,21 +91,21 @@ record AnswersPull (point new : Served) (asked : Parsed) (reply : PullReply) : T
   pub settled : Book
   pub settles : Settles point.book point.doubt settled
   pub shows : ShowsAt asked reply settled new.book
-  pub here : (more : Book) × (new.book ≡ settled ++ more)
+  pub here : Extends new.book settled
 
-replied : (limit : ℕ) (user : List ℕ) (request : PullRequest) (book new : Book) (same : Bool) (reply : PullReply) → Replies pull_json limit book user request same reply new → (more : Book) × (new ≡ book ++ more)
-replied limit user request book new true reply (none, is, same) = ([], same ∙ sym (append-nil book))
-replied limit user request book new false reply (some, fits, room, is, more) = (Look user request.group (next_order request book) (base_of user request.cookie book) ∷ [], more)
-
--- what a reply shows, and how the book goes on
-pub pulled_shown : PullsShow pull_json → (limit : ℕ) (user : List ℕ) (pull : PullRequest) (reply : PullReply) (book new : Book) → Step pull_json limit book (Ask.pull user pull) (outcomes.Pulled reply) new → ShowsAt (Ok (Pull user pull)) reply book new × ((more : Book) × (new ≡ book ++ more))
-pulled_shown show limit user pull reply book new step = (record { user = user; request = pull; asks = refl; tells = show limit user pull book new reply step }, replied limit user pull book new reply.same reply step.1)
+-- what a reply shows
+pub pulled_shown : PullsShow pull_json → (limit : ℕ) (user : List ℕ) (pull : PullRequest) (reply : PullReply) (book new : Book) → Step pull_json limit book (Ask.pull user pull) (outcomes.Pulled reply) new → ShowsAt (Ok (Pull user pull)) reply book new
+pulled_shown show limit user pull reply book new step = record { user = user; request = pull; asks = refl; tells = show limit user pull book new reply step }
 
 pulled_at : PullsShow pull_json → (point new : Served) (user : List ℕ) (pull : PullRequest) (reply : PullReply) (outcome : Outcome) → outcome ≡ outcomes.Pulled reply → TakesTurn pull_json point (Ask.pull user pull) outcome new → AnswersPull point new (Ok (Pull user pull)) reply
 pulled_at show point new user pull reply outcome same taken =
     let here : TakesTurn pull_json point (Ask.pull user pull) (outcomes.Pulled reply) new = subst (λ (o : Outcome). TakesTurn pull_json point (Ask.pull user pull) o new) same taken in
-    let (shows, goes) = pulled_shown show point.limit user pull reply here.settled new.book (step_of pull_json (Ask.pull user pull) (outcomes.Pulled reply) point new here refl) in
-    record { settled = here.settled; settles = here.settles; shows = shows; here = goes }
+    record {
+      settled = here.settled;
+      settles = here.settles;
+      shows = pulled_shown show point.limit user pull reply here.settled new.book (step_of pull_json (Ask.pull user pull) (outcomes.Pulled reply) point new here refl);
+      here = goes_from pull_json (Ask.pull user pull) (outcomes.Pulled reply) point new here;
+    }
 
 shown_at : PullsShow pull_json → (point new : Served) (asked : Parsed) (reply : PullReply) → Handles point asked (Pulled reply) new → AnswersPull point new asked reply
 shown_at show point new (Ok (Push user push)) reply (acted, inl wants) = absurd (let no = wants.0 in cc)

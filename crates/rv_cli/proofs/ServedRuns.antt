@@ -5,8 +5,9 @@ use Rattle.rv_base.specs.Causes.{Rose}
 use Rattle.rv_base.specs.declared.outside.Source.{Ghosts as SourceGhosts}
 use Rattle.rv_base.specs.declared.outside.Sink.{Ghosts as SinkGhosts}
 use Rattle.rv_accounts.specs.File.{Served as AccountsServed}
-use Rattle.rv_book.specs.Book.{Book}
-use Rattle.rv_history.specs.TurnLaws.{step_of, turn_goes}
+use Rattle.rv_book.specs.Book.{Book, Extends}
+use Rattle.rv_book.specs.BookWords.{extends_same, extends_on}
+use Rattle.rv_history.specs.TurnLaws.{goes_from, step_of, turn_goes}
 use Rattle.rv_history.specs.Laws.{IdsCountUp, OrdersRise, PullsShow}
 use Rattle.std.specs.Option.{option_map_or}
 use Rattle.rv_keeper.specs.declared.keeper.Keeper.{Ghosts}
@@ -19,7 +20,6 @@ use Rattle.rv_answering.specs.Steps.{Handles}
 use Rattle.rv_net.specs.declared.listen.Listen.{Ghosts as ListenGhosts}
 use Rattle.rv_room.specs.declared.view.SeatView.{SeatView}
 use Rattle.rv_room.specs.Following.{FollowsAll, KeeperFollows}
-use Rattle.rv_room.specs.Lists.{StartsWith}
 use Rattle.rv_room.specs.Views.{newcomer}
 use Rattle.rv_serve.specs.Laws.{RunsTurns, turns_of}
 use Rattle.rv_serve.specs.RunLaws.{conns_run}
@@ -41,12 +41,6 @@ use Rattle.rv_room.specs.SeatTurns.{IsSeatTurn}
 
 -- ---- Fronts of lists.
 
-starts_same : {X : Type 0} (xs : List X) → StartsWith xs xs
-starts_same xs = ([], sym (append-nil xs))
-
-starts_on : {X : Type 0} (xs ys zs : List X) → StartsWith xs ys → StartsWith ys zs → StartsWith xs zs
-starts_on {X} xs ys zs (more, p) (some, q) = (some ++ more, p ∙ ap (λ (l : List X). l ++ more) q ∙ append_assoc zs some more)
-
 all_front : {X : Type 0} (Holds : X → Type 0) (xs more : List X) → AllByRecursion Holds (xs ++ more) → AllByRecursion Holds xs
 all_front Holds [] more all = tt
 all_front Holds (x ∷ xs) more (one, rest) = (one, all_front Holds xs more rest)
@@ -63,8 +57,8 @@ all_both Holds (x ∷ xs) ys (one, rest) all = (one, all_both Holds xs ys rest a
 
 -- what it has seen goes on, and it remembers all keepers that it remembered
 record SeatGoes {K : Type 0} (old new : SeatView K) : Type 0 where
-  pub seen : StartsWith new.seen old.seen
-  pub after : StartsWith new.after old.after
+  pub seen : Extends new.seen old.seen
+  pub after : (more : List K) × (new.after ≡ old.after ++ more)
   pub opened : new.opened ≡ old.opened
 
 -- no keeper is remembered that failed more often
@@ -76,10 +70,14 @@ some_desk a b e = ap (λ o. option_map_or (λ x. x) o a) e
 
 module _ {K : Type 0} where
   goes_same : (v : SeatView K) → SeatGoes v v
-  goes_same v = record { seen = starts_same v.seen; after = starts_same v.after; opened = refl }
+  goes_same v = record { seen = extends_same v.seen v.seen refl; after = ([], sym (append-nil v.after)); opened = refl }
 
   goes_on : (v w u : SeatView K) → SeatGoes v w → SeatGoes w u → SeatGoes v u
-  goes_on v w u before after = record { seen = starts_on u.seen w.seen v.seen after.seen before.seen; after = starts_on u.after w.after v.after after.after before.after; opened = after.opened ∙ before.opened }
+  goes_on v w u before after = let (some, is) = before.after in let (more, now) = after.after in record {
+    seen = extends_on u.seen w.seen v.seen after.seen before.seen;
+    after = (some ++ more, now ∙ ap (λ (keepers : List K). keepers ++ more) is ∙ append_assoc v.after some more);
+    opened = after.opened ∙ before.opened;
+  }
 
 module _ {K : Type 0} (G : Ghosts K) where
   quiet_before : (top : ℕ) (v w : SeatView K) → SeatGoes v w → Quiet G top w → Quiet G top v
@@ -113,7 +111,7 @@ module _ {K : Type 0} (G : Ghosts K) (ask : Ask) (old new : SeatView K) (outcome
   seat_goes : SeatGoes old new
   seat_goes =
       let (more, is) = turn_goes pull_json ask outcome (served G.faults turn.desk) (served G.faults turn.now) turn.takes.turn in
-      record { seen = starts_on new.seen turn.desk.book old.seen (more, turn.seen ∙ is) turn.begins; after = (turn.now.keeper ∷ [], turn.after); opened = turn.stays }
+      record { seen = extends_on new.seen turn.desk.book old.seen (more, turn.seen ∙ is) turn.begins; after = (turn.now.keeper ∷ [], turn.after); opened = turn.stays }
 
   -- where it tells a trouble, the keeper's count rose
   seat_rises : HasTrouble (λ trouble. Unit {0}) (trouble_of outcome) → Stirs G old new
@@ -160,20 +158,20 @@ module _ {K : Type 0} (G : Ghosts K) where
 
   -- ---- A pull.
 
-  shown_pull : PullsShow pull_json → (book : Book) (old new : SeatView K) (user : List ℕ) (request : PullRequest) (reply : PullReply) (outcome : Outcome) → StartsWith book new.seen → outcome ≡ outcomes.Pulled reply → IsSeatTurn G old (Ask.pull user request) outcome new
+  shown_pull : PullsShow pull_json → (book : Book) (old new : SeatView K) (user : List ℕ) (request : PullRequest) (reply : PullReply) (outcome : Outcome) → Extends book new.seen → outcome ≡ outcomes.Pulled reply → IsSeatTurn G old (Ask.pull user request) outcome new
       → IsShownIn book (Ok (Pull user request)) reply
   shown_pull show book old new user request reply outcome within is turn =
       let here : IsSeatTurn G old (Ask.pull user request) (outcomes.Pulled reply) new = subst (λ (o : Outcome). IsSeatTurn G old (Ask.pull user request) o new) is turn in
       let taken = here.takes.turn in
-      let (shows, goes) = pulled_shown show here.desk.limit user request reply taken.settled here.now.book (step_of pull_json (Ask.pull user request) (outcomes.Pulled reply) (served G.faults here.desk) (served G.faults here.now) taken refl) in record {
+      let step = step_of pull_json (Ask.pull user request) (outcomes.Pulled reply) (served G.faults here.desk) (served G.faults here.now) taken refl in record {
         point = taken.settled;
         new = here.now.book;
-        shows = shows;
-        here = goes;
-        within = subst (λ (b : Book). StartsWith book b) here.seen within;
+        shows = pulled_shown show here.desk.limit user request reply taken.settled here.now.book step;
+        here = goes_from pull_json (Ask.pull user request) (outcomes.Pulled reply) (served G.faults here.desk) (served G.faults here.now) taken;
+        within = subst (λ (b : Book). Extends book b) here.seen within;
       }
 
-  shown_step : PullsShow pull_json → (book : Book) (old new : SeatView K) (asked : Parsed) (reply : PullReply) → StartsWith book new.seen → Handles (IsSeatTurn G) old asked (Pulled reply) new → IsShownIn book asked reply
+  shown_step : PullsShow pull_json → (book : Book) (old new : SeatView K) (asked : Parsed) (reply : PullReply) → Extends book new.seen → Handles (IsSeatTurn G) old asked (Pulled reply) new → IsShownIn book asked reply
   shown_step show book old new (Ok (Push user push)) reply within (acted, inl wants) = absurd (let no = wants.0 in cc)
   shown_step show book old new (Ok (Push user push)) reply within (acted, inr (refused, h, is)) = absurd (no_push reply refused is)
   shown_step show book old new (Ok (Pull user pull)) reply within (acted, inl wants) = absurd (let no = wants.0 in cc)
@@ -182,7 +180,7 @@ module _ {K : Type 0} (G : Ghosts K) where
   shown_step show book old new (Err fault) reply within (acted, inl wants) = absurd (let no = wants.0 in cc)
   shown_step show book old new (Err fault) reply within (acted, inr told) = absurd (let no = told.0 in cc)
 
-  shows_in : PullsShow pull_json → (book : Book) (old new : SeatView K) (asked : Parsed) (answer : Answer) → StartsWith book new.seen → Handles (IsSeatTurn G) old asked answer new → ShowsIn book (asked, answer)
+  shows_in : PullsShow pull_json → (book : Book) (old new : SeatView K) (asked : Parsed) (answer : Answer) → Extends book new.seen → Handles (IsSeatTurn G) old asked answer new → ShowsIn book (asked, answer)
   shows_in show book old new asked (Pulled reply) within step = shown_step show book old new asked reply within step
   shows_in show book old new asked Pushed within step = tt
   shows_in show book old new asked (Retired place) within step = tt
@@ -213,20 +211,20 @@ module _ {K L I O : Type 0} (G : Ghosts K) (listen : ListenGhosts L I O) (source
 
   pub turns_stand : TurnsStand G listen source sink accounts
   turns_stand opened now givens backs together =
-      served_each (λ v. StartsWith now.book v.seen) (StandsIn G now.book) (newcomer 1 opened)
+      served_each (λ v. Extends now.book v.seen) (StandsIn G now.book) (newcomer 1 opened)
       (λ last old new turn within room step goes. record {
         old = old;
         new = new;
         step = step;
         grows = (seat_step G old new turn.0 turn.1 step).0.seen;
-        within = starts_on now.book last.seen new.seen within goes.seen;
+        within = extends_on now.book last.seen new.seen within goes.seen;
       })
       givens together.views backs together.serves together.closes.seen
 
   pub pulls_are_shown : PullsShow pull_json → ServedPullsAreShown G listen source sink accounts
   pulls_are_shown show opened now givens backs together =
-      served_each (λ v. StartsWith now.book v.seen) (ShowsIn now.book) (newcomer 1 opened)
-      (λ last old new turn within room step goes. shows_in G show now.book old new turn.0 turn.1 (starts_on now.book last.seen new.seen within goes.seen) step)
+      served_each (λ v. Extends now.book v.seen) (ShowsIn now.book) (newcomer 1 opened)
+      (λ last old new turn within room step goes. shows_in G show now.book old new turn.0 turn.1 (extends_on now.book last.seen new.seen within goes.seen) step)
       givens together.views backs together.serves together.closes.seen
 
   pub troubles_have_causes : ServedTroublesHaveCauses G listen source sink accounts

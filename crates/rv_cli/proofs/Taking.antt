@@ -1,22 +1,22 @@
 -- One line: what becomes of it by what it asks, and the desk that is opened again after a stop.
-use Rattle.std.proofs.Common.{◌≡◌, ℕ, ◌-◌, ◌^◌, ◌≤◌, ◌<◌, List, [], ◌∷◌, false, Option, Some, None, IfSome, Result, Ok, Err, refl, sym, ap, ◌∙◌, subst, arith, inl, inr}
+use Rattle.std.proofs.Common.{◌≡◌, ℕ, ◌-◌, ◌^◌, ◌≤◌, ◌<◌, List, false, Some, None, IfSome, Result, Ok, Err, refl, sym, ap, ◌∙◌, subst, arith, inl, inr}
 use Rattle.std.specs.List.{AllByRecursion}
 use Rattle.rv_base.specs.Causes.{Rose}
 use Rattle.rv_base.specs.Outside.{OutputState, Writes}
-use Rattle.rv_book.specs.declared.entry.Entry.{Entry}
 use Rattle.rv_book.specs.Book.{Book, size, with_entry}
 use Rattle.rv_book.specs.BookWords.{size-with_entry}
 use Rattle.rv_history.specs.Lawful.{IsLawful}
 use Rattle.rv_history.specs.LawfulBooks.{lawful_more}
-use Rattle.rv_history.specs.Served.{Settles, MayStand, TakesTurn}
+use Rattle.rv_history.specs.Served.{Doubt, Settles, MayStand, TakesTurn}
 use Rattle.rv_history.specs.TurnLaws.{still_of}
 use Rattle.rv_keeper.specs.declared.loaded.Loaded.{Loaded}
 use Rattle.rv_record.specs.EntryReading.{EntryFits}
 use Rattle.rv_store.specs.Opening.{MayOpen}
 use Rattle.rv_store.specs.OpeningLaws.{opens-not_damaged}
-use Rattle.rv_store.specs.StoreBooks.{IsKeptInDoubt, settled_unique}
+use Rattle.rv_store.specs.StoreBooks.{doubt_fits, settled_unique}
+use Rattle.rv_store.specs.StoreCells.{IsKeptWith}
 use Rattle.rv_keeper.specs.declared.keeper.Keeper.{Ghosts}
-use Rattle.rv_desk.specs.Seated.{Assures, DeskTakes, Seated, HoldsBook, IsKeptWith, served}
+use Rattle.rv_desk.specs.Seated.{Assures, DeskTakes, Seated, HoldsBook, served}
 use Rattle.rv_desk.specs.Opened.{Opens, IsDamagedIn, IsRefused, IsLeft}
 use Rattle.rv_desk.specs.declared.open_fault.OpenFault.{OpenFault}
 use Rattle.rv_answering.specs.declared.answer.Answer.{Answer}
@@ -41,21 +41,13 @@ use Rattle.rv_wire.specs.Answers.{pull_json}
 use Rattle.rv_desk.specs.declared.open_fault.OpenFault.TheVariants as faulting
 use Rattle.rv_answering.specs.Steps as steps
 
-in_doubt : (book : Book) (doubt : Option Entry) (held : Loaded) → IsKeptWith book doubt held → IsKeptInDoubt book doubt held
-in_doubt book None held kept = kept
-in_doubt book (Some entry) held kept = kept
-
-more_fit : (book : Book) (entry : Entry) → AllByRecursion EntryFits book → EntryFits entry → AllByRecursion EntryFits (with_entry book entry)
-more_fit [] entry all fit = (fit, tt)
-more_fit (e ∷ book) entry all fit = (all.0, more_fit book entry all.1 fit)
-
-none_next : (book : Book) (limit : ℕ) (doubt : Option Entry) → doubt ≡ None → MayStand book limit doubt
+none_next : (book : Book) (limit : ℕ) (doubt : Doubt) → doubt ≡ None → MayStand book limit doubt
 none_next book limit None none = tt
 none_next book limit (Some entry) none = absurd (cc)
 
 module _ {K : Type 0} (tells fails_no_more : K → Type 0) (holds : K → Loaded → Type 0) (faults : K → ℕ) where
   -- the desk that is opened from the keeper of a closed one
-  pub reopened : (old new : Seated K) (kept : K) → kept ≡ old.keeper → AllByRecursion EntryFits old.book × IfSome old.doubt EntryFits → (tells old.keeper → HoldsBook (holds old.keeper) old.book old.doubt)
+  pub reopened : (old new : Seated K) (kept : K) → kept ≡ old.keeper → AllByRecursion EntryFits old.book.entries × IfSome old.doubt EntryFits → (tells old.keeper → HoldsBook (holds old.keeper) old.book old.doubt)
       → Opens tells fails_no_more holds faults (2 ^ 32 - 1) kept new → Reopens (tells new.keeper) (served faults old) (served faults new) × (tells new.keeper → tells old.keeper)
   reopened old new kept is fits held opens =
       let told : tells new.keeper → tells old.keeper = λ now. subst (λ (k : K). tells k) is (opens.told now) in (
@@ -76,7 +68,7 @@ module _ {K : Type 0} (tells fails_no_more : K → Type 0) (holds : K → Loaded
       settle : tells new.keeper → HoldsBook (holds old.keeper) old.book old.doubt → Settles old.book old.doubt new.book
       settle now (h, was, with) =
           let same : h ≡ opens.loaded = opens.was.told now h (subst (λ (k : K). holds k h) (sym is) was) in
-          settled_unique old.book new.book old.doubt opens.loaded fits.0 fits.1 opens.opens.sound.fits opens.opens.kept (in_doubt old.book old.doubt opens.loaded (subst (λ (l : Loaded). IsKeptWith old.book old.doubt l) same with))
+          settled_unique old.book new.book old.doubt opens.loaded fits.0 fits.1 opens.opens.sound.fits opens.opens.kept (subst (λ (l : Loaded). IsKeptWith old.book old.doubt l) same with)
 
   -- the keeper of a desk that is not opened again
   left_closed : (old : Seated K) (kept now : K) → kept ≡ old.keeper → (tells old.keeper → HoldsBook (holds old.keeper) old.book old.doubt) → IsLeft tells fails_no_more holds faults kept now
@@ -91,26 +83,26 @@ module _ {K : Type 0} (tells fails_no_more : K → Type 0) (holds : K → Loaded
       )
 
   -- what a keeper that tells holds is not damaged
-  may_open : (old : Seated K) (h : Loaded) → IsLawful old.book → AllByRecursion EntryFits old.book × IfSome old.doubt EntryFits → (size old.book ≤ old.limit) × (old.limit < 2 ^ 32) → MayStand old.book old.limit old.doubt
+  may_open : (old : Seated K) (h : Loaded) → IsLawful old.book → AllByRecursion EntryFits old.book.entries × IfSome old.doubt EntryFits → (size old.book ≤ old.limit) × (old.limit < 2 ^ 32) → MayStand old.book old.limit old.doubt
       → IsKeptWith old.book old.doubt h → (book : Book) × MayOpen (2 ^ 32 - 1) book h
   may_open old h lawful fits within next with = by_doubt old.doubt fits.1 next with
     where
-      by_doubt : (doubt : Option Entry) → IfSome doubt EntryFits → MayStand old.book old.limit doubt → IsKeptWith old.book doubt h → (book : Book) × MayOpen (2 ^ 32 - 1) book h
-      by_doubt None fit next kept = (old.book, record { sound = record { lawful = lawful; within = omega (arith, within.0, within.1); fits = fits.0 }; kept = kept })
-      by_doubt (Some entry) fit next (inl kept) = (old.book, record { sound = record { lawful = lawful; within = omega (arith, within.0, within.1); fits = fits.0 }; kept = kept })
+      by_doubt : (doubt : Doubt) → IfSome doubt EntryFits → MayStand old.book old.limit doubt → IsKeptWith old.book doubt h → (book : Book) × MayOpen (2 ^ 32 - 1) book h
+      by_doubt doubt fit next (inl kept) = (old.book, record { sound = record { lawful = lawful; within = omega (arith, within.0, within.1); fits = fits.0 }; kept = kept })
+      by_doubt None fit next (inr kept) = (old.book, record { sound = record { lawful = lawful; within = omega (arith, within.0, within.1); fits = fits.0 }; kept = kept })
       by_doubt (Some entry) fit (stands, room) (inr kept) = (
         with_entry old.book entry,
         record {
           sound = record {
             lawful = lawful_more old.book entry lawful stands;
             within = omega (arith, size-with_entry old.book entry, room, within.1);
-            fits = more_fit old.book entry fits.0 fit;
+            fits = doubt_fits old.book (Some entry) fits.0 fit;
           };
           kept = kept;
         },
       )
 
-  untold : (old : Seated K) (kept now : K) (shelf : ℕ) (key : List ℕ) → kept ≡ old.keeper → IsLawful old.book → AllByRecursion EntryFits old.book × IfSome old.doubt EntryFits → (size old.book ≤ old.limit) × (old.limit < 2 ^ 32) → MayStand old.book old.limit old.doubt
+  untold : (old : Seated K) (kept now : K) (shelf : ℕ) (key : List ℕ) → kept ≡ old.keeper → IsLawful old.book → AllByRecursion EntryFits old.book.entries × IfSome old.doubt EntryFits → (size old.book ≤ old.limit) × (old.limit < 2 ^ 32) → MayStand old.book old.limit old.doubt
       → (tells old.keeper → HoldsBook (holds old.keeper) old.book old.doubt) → IsLeft tells fails_no_more holds faults kept now → IsDamagedIn tells fails_no_more holds faults (2 ^ 32 - 1) kept now shelf key → tells now → ⊥
   untold old kept now shelf key is lawful fits within next held left damaged t =
       let (h, was, with) = held (subst (λ (k : K). tells k) is (left.told t)) in
@@ -118,7 +110,7 @@ module _ {K : Type 0} (tells fails_no_more : K → Type 0) (holds : K → Loaded
       let (book, opens) = may_open old h lawful fits within next with in
       opens-not_damaged (2 ^ 32 - 1) book damaged.loaded shelf key (subst (λ (l : Loaded). MayOpen (2 ^ 32 - 1) book l) same opens) damaged.damaged
 
-  pub not_reopened : (old : Seated K) (kept now : K) (fault : OpenFault) → kept ≡ old.keeper → IsLawful old.book → AllByRecursion EntryFits old.book × IfSome old.doubt EntryFits → (size old.book ≤ old.limit) × (old.limit < 2 ^ 32) → MayStand old.book old.limit old.doubt
+  pub not_reopened : (old : Seated K) (kept now : K) (fault : OpenFault) → kept ≡ old.keeper → IsLawful old.book → AllByRecursion EntryFits old.book.entries × IfSome old.doubt EntryFits → (size old.book ≤ old.limit) × (old.limit < 2 ^ 32) → MayStand old.book old.limit old.doubt
       → (tells old.keeper → HoldsBook (holds old.keeper) old.book old.doubt)
       → IsRefused tells fails_no_more holds faults (2 ^ 32 - 1) kept fault now × IsLeft tells fails_no_more holds faults kept now → ReopensOrNot tells holds faults old (Err (fault_ending fault, now))
   not_reopened old kept now faulting.Keeper is lawful fits within next held ((rose, unsteady), left) =

@@ -5,10 +5,9 @@ use Rattle.std.specs.Option.{MatchOption}
 use Rattle.rv_base.specs.Causes.{Rose, rose_before}
 use Rattle.rv_wire.specs.declared.fault.WireFault.{WireFault}
 use Rattle.rv_wire.specs.Errors.{fault_error}
-use Rattle.rv_book.specs.declared.entry.Entry.{Entry}
 use Rattle.rv_book.specs.Book.{Book}
 use Rattle.rv_turns.specs.declared.refusal.Trouble.TheVariants.{Keeper, Changed}
-use Rattle.rv_history.specs.Served.{Served, TurnOf, TakesTurn}
+use Rattle.rv_history.specs.Served.{Doubt, Served, TurnOf, TakesTurn}
 use Rattle.rv_answering.specs.declared.answer.Answer.{Answer}
 use Rattle.rv_answering.specs.declared.answer.Answer.TheVariants.{Refused}
 use Rattle.rv_answering.specs.declared.request.Request.{Request}
@@ -141,7 +140,7 @@ module _ {S : Type 0} (Holds : Trouble → Type 0) (takes : S → Ask → Outcom
 -- ---- Of the server.
 
 -- a turn that tells a trouble is one in which the count rose
-turn_rises : (old new : Served) (ask : Ask) (outcome : Outcome) (settled : Book) (left : Option Entry) (trouble : Option Trouble) → TurnOf pull_json old settled ask outcome left trouble new → HasTrouble (λ trouble. Unit {0}) trouble → Rose old.faults new.faults
+turn_rises : (old new : Served) (ask : Ask) (outcome : Outcome) (settled : Book) (left : Doubt) (trouble : Option Trouble) → TurnOf pull_json old settled ask outcome left trouble new → HasTrouble (λ trouble. Unit {0}) trouble → Rose old.faults new.faults
 turn_rises old new ask outcome settled None None turn (tr, is, any) = absurd (cc)
 turn_rises old new ask outcome settled None (Some trouble) (same, stays) has = stays.rose
 turn_rises old new ask outcome settled (Some entry) (Some Keeper) left has = left.rose

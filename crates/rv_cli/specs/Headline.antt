@@ -12,14 +12,14 @@ use Rattle.rv_base.specs.Writes.{AppendsFront, IsFront}
 use Rattle.rv_lines.specs.Lines.{lines_of, ended_lines_of, longest_line}
 use Rattle.rv_lines.specs.Taken.{IsNeeded}
 use Rattle.rv_rows.specs.Held.{Stored as StoredRow}
-use Rattle.rv_book.specs.Book.{Book, last, size}
+use Rattle.rv_book.specs.Book.{Book, last, size, Extends}
 use Rattle.rv_history.specs.Served.{Served, Settles, IsSound, TakesTurn}
 use Rattle.rv_history.specs.Replay.{IsReplay}
 use Rattle.rv_history.specs.Laws.{act_ids, look_orders, Tells}
 use Rattle.rv_keeper.specs.declared.loaded.Loaded.{Loaded}
 use Rattle.rv_keeper.specs.Stores.{TakesUp}
 use Rattle.rv_store.specs.Opening.{MayOpen, IsDamaged}
-use Rattle.rv_desk.specs.Seated.{IsKeptWith}
+use Rattle.rv_store.specs.StoreCells.{IsKeptWith}
 use Rattle.rv_report.specs.Lists.{lists_text}
 use Rattle.rv_report.specs.Activity.{activity_text}
 use Rattle.rv_answering.specs.declared.request.Request.TheVariants.{Pull}
@@ -237,7 +237,7 @@ pub record Begins (c : StoreChange) (first : Served) : Type 0 where
   pub doubt : first.doubt ≡ None
   pub faults : first.faults ≡ 0
 
--- Where the place tells, the store holds the cells of the book, or with an entry in doubt of the book or of the book with it. The
+-- Where the place tells, the store holds the cells of the book, or of the book with what is in doubt. The
 -- place takes up the faults of the keeper, of which each trouble in the run was one.
 pub record Leaves (c : StoreChange) (now : Served) : Type 0 where
   pub held : c.told → (held : Loaded) × c.holds held × IsKeptWith now.book now.doubt held
@@ -364,10 +364,10 @@ module _ (c : StoreChange) where
 -- ---- What follows.
 
 -- A run from a sound state leaves a sound one: its book is lawful, each client's acts have the ids 1, 2, 3 and so on, and the
--- orders of each group's looks rise. Where what is kept is told, the book begins with the first.
+-- orders of each group's looks rise. Where what is kept is told, the book goes on from the first.
 pub record IsLawfulRun (Told : Type 0) (first now : Served) : Type 0 where
   pub sound : IsSound now
-  pub more : Told → (more : Book) × (now.book ≡ first.book ++ more)
+  pub more : Told → Extends now.book first.book
   pub ids : (client : List ℕ) → act_ids client now.book ≡ range_with_len 1 (last client now.book)
   pub orders : (group : List ℕ) → IsStrictlyIncreasing (look_orders group now.book)
   pub later : first.faults ≤ now.faults
@@ -394,8 +394,8 @@ pub record IsShown (Told : Type 0) (first now : Served) (before : List Line) (an
   pub step : Handles point asked (Pulled reply) new
   pub settles : Settles point.book point.doubt settled
   pub shows : ShowsAt asked reply settled new.book
-  pub here : (more : Book) × (new.book ≡ settled ++ more)
-  pub on : Told → (more : Book) × (now.book ≡ new.book ++ more)
+  pub here : Extends new.book settled
+  pub on : Told → Extends now.book new.book
 
 -- Each pull that a run from a sound state answers is answered at the settled book of the point that the run before it leaves, by
 -- a step of the server there, and the book goes on from the book after it.

@@ -12,7 +12,7 @@ use Rattle.rv_keeper.specs.declared.keeper.Keeper.{Ghosts}
 use Rattle.rv_keeper.specs.declared.loaded.Loaded.{Loaded}
 use Rattle.rv_accounts.specs.File.{Served as AccountsServed, file_in}
 use Rattle.rv_accounts.specs.declared.fault.AccountsFault.{AccountsFault}
-use Rattle.rv_book.specs.Book.{Book, size}
+use Rattle.rv_book.specs.Book.{Book, size, Extends}
 use Rattle.rv_history.specs.Served.{Served, IsSound}
 use Rattle.rv_desk.specs.Seated.{Seated, served}
 use Rattle.rv_answering.specs.declared.answer.Answer.{Answer}
@@ -21,7 +21,6 @@ use Rattle.rv_answering.specs.Requests.{Parsed}
 use Rattle.rv_answering.specs.Steps.{Handles}
 use Rattle.rv_net.specs.declared.listen.Listen.{Ghosts as ListenGhosts}
 use Rattle.rv_room.specs.declared.view.SeatView.{SeatView}
-use Rattle.rv_room.specs.Lists.{StartsWith}
 use Rattle.rv_room.specs.Views.{newcomer}
 use Rattle.rv_serve.specs.Laws.{turns_of}
 use Rattle.rv_workers.specs.Serving.{EachServes, IsServed, ServesTogether}
@@ -140,22 +139,22 @@ module _ {K : Type 0} (G : Ghosts K) (c : StoreChange) (HasFile : List ℕ → T
 
 -- ---- What follows.
 
--- A turn of a seat that is closed: what was asked, with its answer. The seat's book as the turn began is a front of its book as the turn
--- ended, and that one is a front of the book at the end.
+-- A turn of a seat that is closed: what was asked, with its answer. The seat's book as the turn ended goes on from its book as the turn
+-- began, and the book at the end goes on from that one.
 pub record StandsIn {K : Type 0} (G : Ghosts K) (book : Book) (turn : Parsed × Answer) : Type 0 where
   pub old : SeatView K
   pub new : SeatView K
   pub step : Handles (IsSeatTurn G) old turn.0 turn.1 new
-  pub grows : StartsWith new.seen old.seen
-  pub within : StartsWith book new.seen
+  pub grows : Extends new.seen old.seen
+  pub within : Extends book new.seen
 
 -- A pull that was answered shows what its user sees at a point of the book at the end.
 pub record IsShownIn (book : Book) (asked : Parsed) (reply : PullReply) : Type 0 where
   pub point : Book
   pub new : Book
   pub shows : ShowsAt asked reply point new
-  pub here : StartsWith new point
-  pub within : StartsWith book new
+  pub here : Extends new point
+  pub within : Extends book new
 
 -- where the answer is a pull's
 abbrev pub ShowsIn : Book → Parsed × Answer → Type 0
@@ -195,7 +194,7 @@ module _ {K L I O : Type 0} (G : Ghosts K) (listen : ListenGhosts L I O) (source
   abbrev pub ServedKeepersStay : Type 0
   ServedKeepersStay = OfAllServed (λ opened now turn. G.tells now.keeper → TellsChange (Some turn.1) → ⊥)
 
-  -- The book at the end begins with the first, each client's acts in it have the ids 1, 2, 3 and so on, and the orders of each group's
+  -- The book at the end goes on from the first, each client's acts in it have the ids 1, 2, 3 and so on, and the orders of each group's
   -- looks rise.
   abbrev pub ServedBooksAreLawful : Type 0
   ServedBooksAreLawful = (opened now : Seated K) (givens backs : List L) → ServesTogether G Serves opened givens now backs → IsSound (served G.faults now) → IsLawfulRun (Unit {0}) (served G.faults opened) (served G.faults now)
