@@ -3,12 +3,11 @@ use Rattle.std.proofs.Common.{◌≡◌, ℕ, zero, suc, ◌-◌, ◌^◌, ◌<�
 use Rattle.std.specs.List.{AllByRecursion}
 use Rattle.rv_keeper.specs.declared.place.Place.{Ghosts as PlaceGhosts}
 use Rattle.rv_keeper.specs.Stores.{TakesUp}
-use Rattle.rv_book.specs.declared.entry.Entry.{Entry}
 use Rattle.rv_book.specs.Book.{size}
 use Rattle.rv_history.specs.Clients.{ClientPull, EachCurrent, WasTold}
 use Rattle.rv_wire.specs.Answers.{pull_json}
 use Rattle.rv_history.specs.Laws.{PushesStand, Tells}
-use Rattle.rv_history.specs.Served.{Served, IsSound, MayStand}
+use Rattle.rv_history.specs.Served.{Doubt, Served, IsSound, MayStand}
 use Rattle.rv_answering.specs.declared.answer.Answer.{Answer}
 use Rattle.rv_answering.specs.declared.answer.Answer.TheVariants.{Pulled}
 use Rattle.rv_answering.specs.declared.line.Line.{Line}
@@ -29,7 +28,7 @@ begins_sound : (c : StoreChange) (first : Served) → Begins c first → IsSound
 begins_sound c first begins = record {
   lawful = begins.opens.sound.lawful;
   within = subst (λ (n : ℕ). size first.book ≤ n) (sym begins.limit) begins.opens.sound.within;
-  next = subst (λ (d : Option Entry). MayStand first.book first.limit d) (sym begins.doubt) tt;
+  next = subst (λ (d : Doubt). MayStand first.book first.limit d) (sym begins.doubt) tt;
 }
 
 -- a run in which what is kept is told, whatever tells it
@@ -115,7 +114,7 @@ module _ {P K : Type 0} (place : PlaceGhosts P K) where
       let sound = begins_sound (change place store old new) run.first run.begins in
       let at = turn_at law run.first run.now turn.before turn.after turn.answered turn.others _ _ sound turn.same
       (run_at (place.tells new) run.first run.now run.lines run.answers _ _ turn (told_run (place.tells new) run.first run.now run.lines run.answers run.told run.run)) in
-      all_later (record { user = user; group = push.group }) push.mutations at.new.book at.more.0 run.now.book at.more.1 (step_stands stand at.point at.new user push at.takes.step at.sound)
+      all_later (record { user = user; group = push.group }) push.mutations at.new.book run.now.book at.more (step_stands stand at.point at.new user push at.takes.step at.sound)
 
   pub clients_follow : BooksAreLawful → PullsAreShown → clients.ClientsFollow pull_json → FedClientsFollow place
   clients_follow law show follow old new store bytes output output' run user pulls client turns =

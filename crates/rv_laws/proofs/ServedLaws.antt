@@ -1,11 +1,12 @@
 -- What holds of listeners that are served side by side.
-use Rattle.std.proofs.Common.{◌≡◌, ℕ, zero, suc, ◌≤◌, inl, inr, Bool, false, List, [], ◌∷◌, ◌++◌, Option, Some, None, Ok, refl, sym, ap, ◌∙◌, subst, arith, append_assoc, append-nil}
+use Rattle.std.proofs.Common.{◌≡◌, ℕ, zero, suc, ◌≤◌, inl, inr, Bool, false, List, [], ◌∷◌, Option, Some, None, Ok, refl, sym, ap, ◌∙◌, subst, arith}
 use Rattle.std.specs.List.{AllByRecursion, Contains}
 use Rattle.std.specs.Option.{MatchOption}
 use Rattle.rv_base.specs.declared.outside.Source.{Ghosts as SourceGhosts}
 use Rattle.rv_base.specs.declared.outside.Sink.{Ghosts as SinkGhosts}
 use Rattle.rv_accounts.specs.File.{Served as AccountsServed}
-use Rattle.rv_book.specs.Book.{Book}
+use Rattle.rv_book.specs.Book.{Book, Extends}
+use Rattle.rv_book.specs.BookWords.{extends_same, extends_on}
 use Rattle.rv_history.specs.Clients.{ClientPull, ClientsFollow, EachCurrent, WasTold}
 use Rattle.rv_history.specs.TurnLaws.{goes_from, no_trouble, settles_go, step_of, turn_goes}
 use Rattle.rv_history.specs.Lawful.{IsLawful}
@@ -22,7 +23,6 @@ use Rattle.rv_net.specs.declared.listen.Listen.{Ghosts as ListenGhosts}
 use Rattle.rv_keeper.specs.declared.keeper.Keeper.{Ghosts}
 use Rattle.rv_desk.specs.Seated.{Seated, served}
 use Rattle.rv_room.specs.declared.view.SeatView.{SeatView}
-use Rattle.rv_room.specs.Lists.{StartsWith}
 use Rattle.rv_cli.specs.Serving.{StandsIn, TurnsStand}
 use Rattle.rv_laws.specs.Listeners.{FollowsIn, IsServedPull, ServedClientsFollow, ServedPushesStand, Together, turns_in}
 use Rattle.rv_laws.proofs.Turns.{AllStand, entered_later}
@@ -37,12 +37,6 @@ use Rattle.rv_room.specs.SeatTurns.{IsSeatTurn}
 use Rattle.rv_wire.specs.declared.push.Push as pushes
 
 -- ---- Lists.
-
-starts_same : {X : Type 0} (xs : List X) → StartsWith xs xs
-starts_same xs = ([], sym (append-nil xs))
-
-starts_on : {X : Type 0} (xs ys zs : List X) → StartsWith xs ys → StartsWith ys zs → StartsWith xs zs
-starts_on {X} xs ys zs (more, p) (some, q) = (some ++ more, p ∙ ap (λ (l : List X). l ++ more) q ∙ append_assoc zs some more)
 
 all_at : {X : Type 0} (Holds : X → Type 0) (xs : List X) (x : X) → AllByRecursion Holds xs → Contains xs x → Holds x
 all_at Holds [] x all (k, lt, is) = absurd (omega arith)
@@ -59,33 +53,32 @@ went_on takes from ms mid new later (Some why) (is, none, same) = absurd (cc)
 
 module _ {K : Type 0} (G : Ghosts K) (book : Book) (lawful : IsLawful book) (stand : MutationsStand pull_json) (from : Sender) where
   -- what a seat had seen is a front of what it has seen
-  turn_grows : (m : Mutation) (old new : SeatView K) (outcome : Outcome) → IsSeatTurn G old (Ask.mutation from m) outcome new → StartsWith new.seen old.seen
+  turn_grows : (m : Mutation) (old new : SeatView K) (outcome : Outcome) → IsSeatTurn G old (Ask.mutation from m) outcome new → Extends new.seen old.seen
   turn_grows m old new outcome turn =
       let (more, is) = turn_goes pull_json (Ask.mutation from m) outcome (served G.faults turn.desk) (served G.faults turn.now) turn.takes.turn in
-      starts_on new.seen turn.desk.book old.seen (more, turn.seen ∙ is) turn.begins
+      extends_on new.seen turn.desk.book old.seen (more, turn.seen ∙ is) turn.begins
 
-  turn_stands : (m : Mutation) (old new : SeatView K) (outcome : Outcome) → IsSeatTurn G old (Ask.mutation from m) outcome new → refusal_of outcome ≡ None → StartsWith book new.seen → 1 ≤ m.id → IsEntered from book m
-  turn_stands m old new outcome turn none (more, is) first =
+  turn_stands : (m : Mutation) (old new : SeatView K) (outcome : Outcome) → IsSeatTurn G old (Ask.mutation from m) outcome new → refusal_of outcome ≡ None → Extends book new.seen → 1 ≤ m.id → IsEntered from book m
+  turn_stands m old new outcome turn none within first =
       let ask : Ask = Ask.mutation from m in
       let taken = turn.takes.turn in
       let step = step_of pull_json ask outcome (served G.faults turn.desk) (served G.faults turn.now) taken (no_trouble outcome none) in
-      let (made, goes) = goes_from pull_json ask outcome (served G.faults turn.desk) (served G.faults turn.now) taken in
-      let whole : book ≡ turn.now.book ++ more = is ∙ ap (λ (b : Book). b ++ more) turn.seen in
-      let split : book ≡ taken.settled ++ (made ++ more) = whole ∙ ap (λ (b : Book). b ++ more) goes ∙ append_assoc taken.settled made more in
-      let front : IsLawful taken.settled = lawful_front taken.settled (made ++ more) (subst (λ (b : Book). IsLawful b) split lawful) in
-      entered_later from m turn.now.book more book whole (stand turn.desk.limit from m taken.settled turn.now.book outcome step none front first)
+      let later : Extends book turn.now.book = subst (λ (b : Book). Extends book b) turn.seen within in
+      let (more, is) = extends_on book turn.now.book taken.settled later (goes_from pull_json ask outcome (served G.faults turn.desk) (served G.faults turn.now) taken) in
+      let front : IsLawful taken.settled = lawful_front taken.settled more (subst (λ (b : Book). IsLawful b) is lawful) in
+      entered_later from m turn.now.book book later (stand turn.desk.limit from m taken.settled turn.now.book outcome step none front first)
 
-  pushes_stand : (ms : List Mutation) (old new : SeatView K) (acted : Bool) → Pushes (IsSeatTurn G) from ms old None acted new → StartsWith book new.seen
-      → StartsWith new.seen old.seen × AllByRecursion (λ m. 1 ≤ m.id → IsEntered from book m) ms
-  pushes_stand [] old new acted (is, none, same) within = (subst (λ (v : SeatView K). StartsWith v.seen old.seen) (sym same) (starts_same old.seen), tt)
+  pushes_stand : (ms : List Mutation) (old new : SeatView K) (acted : Bool) → Pushes (IsSeatTurn G) from ms old None acted new → Extends book new.seen
+      → Extends new.seen old.seen × AllByRecursion (λ m. 1 ≤ m.id → IsEntered from book m) ms
+  pushes_stand [] old new acted (is, none, same) within = (extends_same new.seen old.seen (ap (λ (v : SeatView K). v.seen) same), tt)
   pushes_stand (m ∷ ms) old new acted (outcome, mid, later, turn, acts, rest) within =
       let (none, goes) = went_on (IsSeatTurn G) from ms mid new later (refusal_of outcome) rest in
       let (grows, all) = pushes_stand ms mid new later goes within in
-      let here : StartsWith book mid.seen = starts_on book new.seen mid.seen within grows in
-      (starts_on new.seen mid.seen old.seen grows (turn_grows m old mid outcome turn), (λ first. turn_stands m old mid outcome turn none here first, all))
+      let here : Extends book mid.seen = extends_on book new.seen mid.seen within grows in
+      (extends_on new.seen mid.seen old.seen grows (turn_grows m old mid outcome turn), (λ first. turn_stands m old mid outcome turn none here first, all))
 
 step_stands : {K : Type 0} (G : Ghosts K) (book : Book) → IsLawful book → MutationsStand pull_json → (old new : SeatView K) (user : List ℕ) (push : pushes.Push)
-    → Handles (IsSeatTurn G) old (Ok (Push user push)) Pushed new → StartsWith book new.seen → AllStand user push book
+    → Handles (IsSeatTurn G) old (Ok (Push user push)) Pushed new → Extends book new.seen → AllStand user push book
 step_stands G book lawful stand old new user push (acted, inl wants) within = absurd (let no = wants.0 in cc)
 step_stands G book lawful stand old new user push (acted, inr (refused, pushed, is)) within =
     let from : Sender = record { user = user; group = push.group } in
@@ -94,7 +87,7 @@ step_stands G book lawful stand old new user push (acted, inr (refused, pushed, 
 -- ---- A pull by a turn of a seat.
 
 module _ {K : Type 0} (G : Ghosts K) (show : PullsShow pull_json) (book : Book) (user : List ℕ) where
-  step_served : (pull : ClientPull) (old new : SeatView K) → Handles (IsSeatTurn G) old (Ok (Pull user pull.request)) (Pulled pull.reply) new → StartsWith book new.seen
+  step_served : (pull : ClientPull) (old new : SeatView K) → Handles (IsSeatTurn G) old (Ok (Pull user pull.request)) (Pulled pull.reply) new → Extends book new.seen
       → IsServedPull G book user pull
   step_served pull old new (acted, inl wants) within = absurd (let no = wants.0 in cc)
   step_served pull old new (acted, inr (outcome, turn, is, none)) within =
@@ -107,7 +100,7 @@ module _ {K : Type 0} (G : Ghosts K) (show : PullsShow pull_json) (book : Book) 
         new = new;
         step = (acted, inr (outcome, turn, is, none));
         point = taken.settled;
-        since = starts_on taken.settled here.desk.book old.seen (settles_go here.desk.book here.desk.doubt taken.settled taken.settles) here.begins;
+        since = extends_on taken.settled here.desk.book old.seen (settles_go here.desk.book here.desk.doubt taken.settled taken.settles) here.begins;
         tells = subst (λ (b : Book). Tells pull_json user pull.request taken.settled b pull.reply) (sym here.seen) (show here.desk.limit user pull.request taken.settled here.now.book pull.reply step);
         within = within;
       }

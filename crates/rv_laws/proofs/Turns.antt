@@ -3,7 +3,7 @@ use Rattle.std.proofs.Common.{◌≡◌, ℕ, ◌≤◌, inl, inr, List, [], ◌
 use Rattle.std.specs.List.{AllByRecursion, Contains}
 use Rattle.std.proofs.lemmas.List.Elements.{Contains-append_left}
 use Rattle.rv_book.specs.declared.entry.Entry.TheVariants.{Act}
-use Rattle.rv_book.specs.Book.{Book}
+use Rattle.rv_book.specs.Book.{Book, Extends}
 use Rattle.rv_history.specs.Laws.{IsEntered, PushesStand}
 use Rattle.rv_history.specs.Served.{Served, IsSound, TakesTurn}
 use Rattle.rv_answering.specs.declared.answer.Answer.{Answer}
@@ -33,7 +33,7 @@ pub record At (first now : Served) (before : List Line) (answered : List (Option
   pub run : Run Yes first before answered point
   pub sound : IsSound point
   pub takes : Takes Yes point (Asks asked) (Some answer) new
-  pub more : (more : Book) × (now.book ≡ new.book ++ more)
+  pub more : Extends now.book new.book
 
 pub turn_at : BooksAreLawful → (first now : Served) (before after : List Line) (answered others : List (Option Answer)) (asked : Parsed) (answer : Answer) → IsSound first → length before ≡ length answered
     → Run Yes first (before ++ Asks asked ∷ after) (answered ++ Some answer ∷ others) now → At first now before answered asked answer
@@ -58,10 +58,10 @@ step_stands stand point new user push (acted, inr (refused, pushed, is)) sound =
     let from : Sender = record { user = user; group = push.group } in
     stand from push.mutations point new acted (subst (λ (r : Option Refusal). Pushes (TakesTurn pull_json) from push.mutations point r acted new) (went refused is) pushed) sound
 
-pub entered_later : (from : Sender) (m : Mutation) (book more new : Book) → new ≡ book ++ more → IsEntered from book m → IsEntered from new m
-entered_later from m book more new is (call, there) =
-    (call, subst (λ (b : Book). Contains b (Act from.user from.group m.client m.id call)) (sym is) (Contains-append_left book more (Act from.user from.group m.client m.id call) there))
+pub entered_later : (from : Sender) (m : Mutation) (book new : Book) → Extends new book → IsEntered from book m → IsEntered from new m
+entered_later from m book new (more, is) (call, there) =
+    (call, subst (λ (b : Book). Contains b.entries (Act from.user from.group m.client m.id call)) (sym is) (Contains-append_left book.entries more (Act from.user from.group m.client m.id call) there))
 
-pub all_later : (from : Sender) (ms : List Mutation) (book more new : Book) → new ≡ book ++ more → AllByRecursion (λ m. 1 ≤ m.id → IsEntered from book m) ms → AllByRecursion (λ m. 1 ≤ m.id → IsEntered from new m) ms
-all_later from [] book more new is all = tt
-all_later from (m ∷ ms) book more new is (one, all) = (λ first. entered_later from m book more new is (one first), all_later from ms book more new is all)
+pub all_later : (from : Sender) (ms : List Mutation) (book new : Book) → Extends new book → AllByRecursion (λ m. 1 ≤ m.id → IsEntered from book m) ms → AllByRecursion (λ m. 1 ≤ m.id → IsEntered from new m) ms
+all_later from [] book new goes all = tt
+all_later from (m ∷ ms) book new goes (one, all) = (λ first. entered_later from m book new goes (one first), all_later from ms book new goes all)

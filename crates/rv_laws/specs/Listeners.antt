@@ -4,7 +4,7 @@ use Rattle.std.specs.List.{AllByRecursion}
 use Rattle.rv_base.specs.declared.outside.Source.{Ghosts as SourceGhosts}
 use Rattle.rv_base.specs.declared.outside.Sink.{Ghosts as SinkGhosts}
 use Rattle.rv_accounts.specs.File.{Served as AccountsServed}
-use Rattle.rv_book.specs.Book.{Book, size}
+use Rattle.rv_book.specs.Book.{Book, size, Extends}
 use Rattle.rv_keeper.specs.declared.keeper.Keeper.{Ghosts}
 use Rattle.rv_history.specs.Clients.{ClientPull, IsClient, IsCurrent, held_then}
 use Rattle.rv_wire.specs.Answers.{pull_json}
@@ -18,22 +18,21 @@ use Rattle.rv_answering.specs.Requests.{Parsed}
 use Rattle.rv_answering.specs.Steps.{Handles}
 use Rattle.rv_net.specs.declared.listen.Listen.{Ghosts as ListenGhosts}
 use Rattle.rv_room.specs.declared.view.SeatView.{SeatView}
-use Rattle.rv_room.specs.Lists.{StartsWith}
 use Rattle.rv_room.specs.Views.{newcomer}
 use Rattle.rv_workers.specs.Serving.{ServesTogether}
 use Rattle.rv_cli.specs.Serving.{Serves, turns_served}
 use Rattle.rv_room.specs.SeatTurns.{IsSeatTurn}
 use Rattle.rv_wire.specs.declared.push.Push as pushes
 
--- A pull was answered by a turn of a seat, at a point of the book at the end that begins with all that the seat had seen.
+-- A pull was answered by a turn of a seat, at a point of the book at the end that goes on from what the seat had seen.
 pub record IsServedPull {K : Type 0} (G : Ghosts K) (book : Book) (user : List ℕ) (pull : ClientPull) : Type 0 where
   pub old : SeatView K
   pub new : SeatView K
   pub step : Handles (IsSeatTurn G) old (Ok (Pull user pull.request)) (Pulled pull.reply) new
   pub point : Book
-  pub since : StartsWith point old.seen
+  pub since : Extends point old.seen
   pub tells : Tells pull_json user pull.request point new.seen pull.reply
-  pub within : StartsWith book new.seen
+  pub within : Extends book new.seen
 
 -- and it left the client with what its user sees there
 pub record FollowsIn {K : Type 0} (G : Ghosts K) (book : Book) (user : List ℕ) (pull : ClientPull) : Type 0 where
