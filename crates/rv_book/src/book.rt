@@ -206,7 +206,7 @@ impl Book {
     }
 
     /// Makes room for one more entry, and for what is looked up by it.
-    pub fn reserve(&mut self, _entry: &Entry) -> Result<(), BookFault>
+    pub fn reserve(&mut self) -> Result<(), BookFault>
         ensures book { self.new.book ≡ self.old.book }
         ensures limit { self.new.limit ≡ self.old.limit }
         ensures room { self.old.room ≤ self.new.room }

@@ -13,7 +13,7 @@ use Rattle.rv_keeper.specs.Cells.{changed}
 use Rattle.rv_keeper.specs.Keeping.{Made, committed}
 use Rattle.rv_store.specs.StoreCells.{AreCellsOf, IsKeptAs, IsKeptWith}
 use Rattle.rv_state.specs.declared.prepared.Prepared.{Prepared}
-use Rattle.rv_state.specs.Ready.{IsPrepared}
+use Rattle.rv_state.specs.Ready.{IsPrepared, entry_of}
 use Rattle.rv_state.specs.Standing.{Standing}
 use Rattle.rv_desk.specs.Seated.{AreInStep, HoldsBook}
 
@@ -74,10 +74,10 @@ left_entered state next (Some other) prepared Tells Told Held Holds from changes
 
 -- and a failed one leaves its entry in doubt
 pub left_in_doubt : (state : Standing) (doubt was : Option Prepared) (prepared : Prepared) (Tells Told : Type 0) (Held Holds : Loaded → Type 0) (from : ℕ) (changes : List Change) → doubt ≡ Some prepared → was ≡ None → IsPrepared state prepared → (Told → Tells)
-    → AreInStep state was Tells Held → from ≡ size state.book → Leads state.book prepared.entry changes → (Told → (held : Loaded) → Held held → Made from changes (Err Failed) Holds held) → AreInStep state doubt Told Holds
+    → AreInStep state was Tells Held → from ≡ size state.book → Leads state.book (entry_of prepared) changes → (Told → (held : Loaded) → Held held → Made from changes (Err Failed) Holds held) → AreInStep state doubt Told Holds
 left_in_doubt state doubt was prepared Tells Told Held Holds from changes is none ready then step at leads made = subst (λ (d : Option Prepared). AreInStep state d Told Holds) (sym is) (record {
   ready = ready;
   holds = λ t.
-      let before : HoldsBook Held state.book None = subst (λ (d : Option Prepared). HoldsBook Held state.book (option_map (λ p. p.entry) d)) none (step.holds (then t)) in
-      holds_failed state.book prepared.entry changes Held Holds leads before (λ held was. subst (λ (n : ℕ). Made n changes (Err Failed) Holds held) at (made t held was));
+      let before : HoldsBook Held state.book None = subst (λ (d : Option Prepared). HoldsBook Held state.book (option_map entry_of d)) none (step.holds (then t)) in
+      holds_failed state.book (entry_of prepared) changes Held Holds leads before (λ held was. subst (λ (n : ℕ). Made n changes (Err Failed) Holds held) at (made t held was));
 })

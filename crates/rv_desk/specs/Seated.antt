@@ -10,7 +10,7 @@ use Rattle.rv_history.specs.Served.{Doubt, IsAssured, Served, TakesTurn}
 use Rattle.rv_keeper.specs.declared.keeper.Keeper.{Ghosts}
 use Rattle.rv_keeper.specs.declared.loaded.Loaded.{Loaded}
 use Rattle.rv_state.specs.declared.prepared.Prepared.{Prepared}
-use Rattle.rv_state.specs.Ready.{IsPrepared}
+use Rattle.rv_state.specs.Ready.{IsPrepared, entry_of}
 use Rattle.rv_state.specs.Standing.{Standing}
 use Rattle.rv_store.specs.StoreCells.{IsKeptWith}
 
@@ -41,9 +41,9 @@ HoldsBook Holds book doubt = (held : Loaded) × Holds held × IsKeptWith book do
 
 -- a server by its parts: the state, what is prepared and in doubt, and the count of faults
 abbrev pub parts_served : Standing → Option Prepared → ℕ → Served
-parts_served state doubt faults = record { book = state.book; limit = state.limit; doubt = option_map (λ p. p.entry) doubt; faults = faults }
+parts_served state doubt faults = record { book = state.book; limit = state.limit; doubt = option_map entry_of doubt; faults = faults }
 
 -- what is in doubt may be entered at the state, and where the keeper tells, it holds the book's cells, or those with what is in doubt
 pub record AreInStep (state : Standing) (doubt : Option Prepared) (Tells : Type 0) (Holds : Loaded → Type 0) : Type 0 where
   pub ready : IfSome doubt (IsPrepared state)
-  pub holds : Tells → HoldsBook Holds state.book (option_map (λ p. p.entry) doubt)
+  pub holds : Tells → HoldsBook Holds state.book (option_map entry_of doubt)

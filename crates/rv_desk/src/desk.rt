@@ -28,11 +28,12 @@ pub struct Desk<K: Keeper> {
 
 impl<K: Keeper> Model for Desk<K> {
     ghost use Rattle.std.specs.Prelude.{option_map};
+    ghost use Rattle.rv_state.specs.Ready.{entry_of};
     ghost use Rattle.rv_desk.specs.Seated.{Seated, AreInStep};
 
     ghost Value = { Seated K };
 
-    ghost view = { λ d. record { book = d.state.book; limit = d.state.limit; doubt = option_map (λ p. p.entry) d.doubt; keeper = d.keeper } };
+    ghost view = { λ d. record { book = d.state.book; limit = d.state.limit; doubt = option_map entry_of d.doubt; keeper = d.keeper } };
 
     ghost invariant = { λ d. AreInStep d.state d.doubt (K.tells d.keeper) (K.holds d.keeper) };
 }

@@ -1,11 +1,12 @@
 ghost use Rattle.std.specs.Prelude.{◌≡◌, IfOk};
 ghost use Rattle.serde_json.specs.Written.{compact_text};
 ghost use Rattle.rv_rows.specs.Keys.{row_text};
+ghost use Rattle.rv_book.specs.declared.entry.Entry.TheVariants.{Act, Look, Retire};
 ghost use Rattle.rv_record.specs.EntryTexts.{entry_data};
 ghost use Rattle.rv_record.specs.CellTexts.{row_body, client_body, group_body, view_body, entry_cell, row_cell, client_cell, group_cell, view_cell};
 
 use crate::body_writing::{write_group_body, write_row_body};
-use crate::entry_writing::write_entry;
+use crate::entry_writing::{write_act, write_look, write_retirement};
 use crate::places::ten_digits;
 use crate::value_writing::write_pair;
 use crate::view_writing::write_view;
@@ -13,15 +14,44 @@ use json::Writer;
 use rv_base::{Bytes, Id, Memory, Num, Sequence, User};
 use rv_book::Entry;
 use rv_keeper::Cell;
-use rv_rows::Row;
+use rv_rows::{Call, Row};
 use rv_views::ViewRecord;
 use std::alloc::Global;
 
-fn entry_text(alloc: Global, entry: &Entry) -> Result<Bytes, Memory>
-    ensures { IfOk result (λ text. text ≡ compact_text (entry_data entry.now)) }
+fn act_text(
+    alloc: Global,
+    user: &User,
+    group: &Id,
+    client: &Id,
+    id: Num,
+    call: &Call,
+) -> Result<Bytes, Memory>
+    ensures { IfOk result (λ text. text ≡ compact_text (entry_data (Act user.now group.now client.now id call.now))) }
 {
     let mut out = Writer::new(Vec::new(alloc));
-    write_entry(&mut out, entry)?;
+    write_act(&mut out, user, group, client, id, call)?;
+    Ok(Sequence::from_vec(out.into_inner()))
+}
+
+fn look_text(
+    alloc: Global,
+    user: &User,
+    group: &Id,
+    order: Num,
+    base: Option<u32>,
+) -> Result<Bytes, Memory>
+    ensures { IfOk result (λ text. text ≡ compact_text (entry_data (Look user.now group.now order base))) }
+{
+    let mut out = Writer::new(Vec::new(alloc));
+    write_look(&mut out, user, group, order, base)?;
+    Ok(Sequence::from_vec(out.into_inner()))
+}
+
+fn retirement_text(alloc: Global, group: &Id) -> Result<Bytes, Memory>
+    ensures { IfOk result (λ text. text ≡ compact_text (entry_data (Retire group.now))) }
+{
+    let mut out = Writer::new(Vec::new(alloc));
+    write_retirement(&mut out, group)?;
     Ok(Sequence::from_vec(out.into_inner()))
 }
 
@@ -73,16 +103,75 @@ fn row_key(alloc: Global, row: &Row) -> Result<Bytes, Memory>
     Ok(Sequence::from_vec(text.into_bytes()))
 }
 
-/// The cell of an entry at its place, from 1: on shelf 1, under the place in ten digits,
-/// `["act",USER,GROUP,CLIENT,ID,CALL]`, `["look",USER,GROUP,ORDER,BASE]` with null for no base, or `["retire",GROUP]`.
-pub fn cell_of_entry(alloc: Global, place: u32, entry: &Entry) -> Result<Cell, Memory>
-    ensures { IfOk result (λ cell. cell ≡ entry_cell place entry.now) }
+/// The cell of an act at its place, from 1: on shelf 1, under the place in ten digits, `["act",USER,GROUP,CLIENT,ID,CALL]`.
+pub fn cell_of_act(
+    alloc: Global,
+    place: u32,
+    user: &User,
+    group: &Id,
+    client: &Id,
+    id: Num,
+    call: &Call,
+) -> Result<Cell, Memory>
+    ensures { IfOk result (λ cell. cell ≡ entry_cell place (Act user.now group.now client.now id call.now)) }
 {
     Ok(Cell {
         shelf: 1,
         key: ten_digits(alloc, place)?,
-        body: entry_text(alloc, entry)?,
+        body: act_text(alloc, user, group, client, id, call)?,
     })
+}
+
+/// The cell of a look at its place, from 1: on shelf 1, under the place in ten digits, `["look",USER,GROUP,ORDER,BASE]` with
+/// null for no base.
+pub fn cell_of_look(
+    alloc: Global,
+    place: u32,
+    user: &User,
+    group: &Id,
+    order: Num,
+    base: Option<u32>,
+) -> Result<Cell, Memory>
+    ensures { IfOk result (λ cell. cell ≡ entry_cell place (Look user.now group.now order base)) }
+{
+    Ok(Cell {
+        shelf: 1,
+        key: ten_digits(alloc, place)?,
+        body: look_text(alloc, user, group, order, base)?,
+    })
+}
+
+/// The cell of a retirement at its place, from 1: on shelf 1, under the place in ten digits, `["retire",GROUP]`.
+pub fn cell_of_retirement(alloc: Global, place: u32, group: &Id) -> Result<Cell, Memory>
+    ensures { IfOk result (λ cell. cell ≡ entry_cell place (Retire group.now)) }
+{
+    Ok(Cell {
+        shelf: 1,
+        key: ten_digits(alloc, place)?,
+        body: retirement_text(alloc, group)?,
+    })
+}
+
+/// The cell of an entry at its place, from 1: that of an act, a look or a retirement.
+pub fn cell_of_entry(alloc: Global, place: u32, entry: &Entry) -> Result<Cell, Memory>
+    ensures { IfOk result (λ cell. cell ≡ entry_cell place entry.now) }
+{
+    match entry {
+        Entry::Act {
+            user,
+            group,
+            client,
+            id,
+            call,
+        } => cell_of_act(alloc, place, user, group, client, *id, call),
+        Entry::Look {
+            user,
+            group,
+            order,
+            base,
+        } => cell_of_look(alloc, place, user, group, *order, *base),
+        Entry::Retire { group } => cell_of_retirement(alloc, place, group),
+    }
 }
 
 /// The cell of a row with its version, the place of the entry that wrote it: on shelf 2, under the text of the row's key,

@@ -9,7 +9,6 @@ use crate::call_writing::write_call;
 use crate::value_writing::write_place_or_null;
 use json::Writer;
 use rv_base::{Id, Memory, Num, User};
-use rv_book::Entry;
 use rv_rows::Call;
 
 // Begins the array of an act or a look: its kind, who sent it, and the client group.
@@ -23,7 +22,8 @@ fn begin_entry(out: &mut Writer, kind: &str, user: &User, group: &Id) -> Result<
     Ok(())
 }
 
-fn write_act(
+// Writes an act.
+pub(crate) fn write_act(
     out: &mut Writer,
     user: &User,
     group: &Id,
@@ -41,7 +41,8 @@ fn write_act(
     Ok(())
 }
 
-fn write_look(
+// Writes a look.
+pub(crate) fn write_look(
     out: &mut Writer,
     user: &User,
     group: &Id,
@@ -57,7 +58,8 @@ fn write_look(
     Ok(())
 }
 
-fn write_retirement(out: &mut Writer, group: &Id) -> Result<(), Memory>
+// Writes a retirement.
+pub(crate) fn write_retirement(out: &mut Writer, group: &Id) -> Result<(), Memory>
     ensures { Adds result out.old out.new (entry_data (entries.Retire group.now)) }
 {
     out.begin_array()?;
@@ -65,26 +67,4 @@ fn write_retirement(out: &mut Writer, group: &Id) -> Result<(), Memory>
     out.string(group.as_str())?;
     out.end_array()?;
     Ok(())
-}
-
-// Writes an entry.
-pub(crate) fn write_entry(out: &mut Writer, entry: &Entry) -> Result<(), Memory>
-    ensures { Adds result out.old out.new (entry_data entry.now) }
-{
-    match entry {
-        Entry::Act {
-            user,
-            group,
-            client,
-            id,
-            call,
-        } => write_act(out, user, group, client, *id, call),
-        Entry::Look {
-            user,
-            group,
-            order,
-            base,
-        } => write_look(out, user, group, *order, *base),
-        Entry::Retire { group } => write_retirement(out, group),
-    }
 }

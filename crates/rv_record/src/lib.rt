@@ -24,7 +24,10 @@ mod value_writing;
 mod view_reading;
 mod view_writing;
 
-pub use cells::{cell_of_client, cell_of_entry, cell_of_group, cell_of_row, cell_of_view};
+pub use cells::{
+    cell_of_act, cell_of_client, cell_of_entry, cell_of_group, cell_of_look, cell_of_retirement,
+    cell_of_row, cell_of_view,
+};
 pub use client_reading::{client_of_cell, group_of_cell};
 pub use entry_reading::entry_of_cell;
 pub use fault::CellFault;

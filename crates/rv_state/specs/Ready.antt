@@ -3,32 +3,35 @@ use Rattle.std.specs.Prelude.{◌≡◌, ℕ, ◌<◌, ◌≤◌, length}
 use Rattle.rv_rows.specs.Changes.{after}
 use Rattle.rv_rows.specs.Held.{rows_in}
 use Rattle.rv_book.specs.declared.entry.Entry.{Entry}
-use Rattle.rv_book.specs.declared.entry.Entry.TheVariants.{Act, Look, Retire}
+use Rattle.rv_book.specs.declared.entry.Entry.TheVariants as entries
 use Rattle.rv_book.specs.Book.{size}
 use Rattle.rv_mutators.specs.Staging.{applied, staged}
 use Rattle.rv_history.specs.Lawful.{IsLawfulAfter}
 use Rattle.rv_news.specs.Records.{IsViewAt}
 use Rattle.rv_record.specs.EntryReading.{EntryFits}
-use Rattle.rv_state.specs.declared.prepared.SideEffect.{SideEffect}
-use Rattle.rv_state.specs.declared.prepared.SideEffect.TheVariants.{Rows, Record, Nothing}
 use Rattle.rv_state.specs.declared.prepared.Prepared.{Prepared}
+use Rattle.rv_state.specs.declared.prepared.Prepared.TheVariants.{Act, Look, Retirement}
 use Rattle.rv_state.specs.Standing.{Standing}
 
--- This is what the entry does beside the book, and has room. An act: what its call stages, with which the rows afterwards are
--- those that the call leaves, at any version. A look: a record of what its user and its group see. A retirement: nothing.
-abbrev pub IsEffectOf : Standing → Entry → SideEffect → Type 0
-IsEffectOf s (Act user group client id call) (Rows changed) =
-    (length changed.rows ≤ s.row_room) × (changed ≡ staged (rows_in s.rows) user call)
-    × ((version : ℕ) → applied version changed s.rows ≡ after s.rows user call version)
-IsEffectOf s (Look user group order base) (Record viewed) = (1 ≤ s.record_room) × IsViewAt s.book user group viewed
-IsEffectOf s (Retire group) Nothing = Unit {0}
--- no other entry has such an effect
-IsEffectOf s entry effect = ⊥
+-- the entry that is entered
+abbrev pub entry_of : Prepared → Entry
+entry_of (Act act) = entries.Act act.user act.group act.client act.id act.call
+entry_of (Look look) = entries.Look look.user look.group look.order look.base
+entry_of (Retirement group) = entries.Retire group
+
+-- What the entry does beside the book is ready, and has room. An act: what its call stages, with which the rows afterwards are
+-- those that the call leaves, at any version. A look: a record of what its user and its group see. A retirement does nothing.
+abbrev pub HasEffect : Standing → Prepared → Type 0
+HasEffect s (Act act) =
+    (length act.staged.rows ≤ s.row_room) × (act.staged ≡ staged (rows_in s.rows) act.user act.call)
+    × ((version : ℕ) → applied version act.staged s.rows ≡ after s.rows act.user act.call version)
+HasEffect s (Look look) = (1 ≤ s.record_room) × IsViewAt s.book look.user look.group look.view
+HasEffect s (Retirement group) = Unit {0}
 
 -- it may be entered at the state
 pub record IsPrepared (s : Standing) (p : Prepared) : Type 0 where
-  pub lawful : IsLawfulAfter s.book p.entry
-  pub fits : EntryFits p.entry
+  pub lawful : IsLawfulAfter s.book (entry_of p)
+  pub fits : EntryFits (entry_of p)
   pub below : size s.book < s.limit
   pub room : 1 ≤ s.room
-  pub effect : IsEffectOf s p.entry p.effect
+  pub effect : HasEffect s p

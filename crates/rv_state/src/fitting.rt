@@ -99,7 +99,8 @@ fn act_fits(user: &User, group: &Id, client: &Id, id: Num, call: &Call)
     call_fits(call);
 }
 
-fn look_fits(user: &User, group: &Id, order: Num, base: Option<u32>)
+// The texts and the numbers of a look are within their bounds, and its texts are UTF-8.
+pub(crate) fn look_fits(user: &User, group: &Id, order: Num, base: Option<u32>)
     ensures { IsText 1 64 user.now × IsText 1 128 group.now × (order < 2 ^ 53) × IfThere (λ n. n < 2 ^ 32) base }
 {
     user_fits(user);

@@ -11,5 +11,5 @@ mod state;
 
 pub use fitting::entry_fits;
 pub use lawful::may_stand;
-pub use prepared::{Prepared, SideEffect};
+pub use prepared::{Prepared, PreparedAct, PreparedLook};
 pub use state::State;

@@ -1,23 +1,47 @@
-use rv_book::Entry;
+use rv_base::{Id, Num, User};
 use rv_mutators::Staged;
+use rv_rows::Call;
 use rv_views::ViewRecord;
 
-/// What an entry does beside the book.
+/// An act that is ready to be entered.
 #[derive(Debug, Drop)]
-pub enum SideEffect {
-    /// An act writes and removes rows.
-    Rows(Staged),
-    /// A look has a view record.
-    Record(ViewRecord),
-    /// A retirement does nothing else.
-    Nothing,
+pub struct PreparedAct {
+    /// Who sent the mutation.
+    pub user: User,
+    /// The client group.
+    pub group: Id,
+    /// The client.
+    pub client: Id,
+    /// The mutation's id.
+    pub id: Num,
+    /// What it asked for.
+    pub call: Call,
+    /// The rows that it writes and removes.
+    pub staged: Staged,
+}
+
+/// A look that is ready to be entered.
+#[derive(Debug, Drop)]
+pub struct PreparedLook {
+    /// Who pulled.
+    pub user: User,
+    /// The client group.
+    pub group: Id,
+    /// The order of the answered cookie.
+    pub order: Num,
+    /// The place of the look that the patch was made from.
+    pub base: Option<u32>,
+    /// Its view record.
+    pub view: ViewRecord,
 }
 
 /// An entry that is ready to be entered, with all that this takes.
 #[derive(Debug, Drop)]
-pub struct Prepared {
-    /// The entry.
-    pub entry: Entry,
-    /// What it does beside the book.
-    pub effect: SideEffect,
+pub enum Prepared {
+    /// An act, which writes and removes rows.
+    Act(PreparedAct),
+    /// A look, which has a view record.
+    Look(PreparedLook),
+    /// The retirement of a client group.
+    Retirement(Id),
 }

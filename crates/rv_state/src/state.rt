@@ -2,10 +2,9 @@ ghost use Rattle.std.specs.Prelude.{◌≡◌, ◌≤◌, ◌<◌, IsTrue, IfOk,
 ghost use Rattle.rv_book.specs.declared.entry.Entry.TheVariants.{Act, Look, Retire};
 ghost use Rattle.rv_book.specs.Book.{empty_book, size, with_entry};
 ghost use Rattle.rv_news.specs.News.{IsNews};
-ghost use Rattle.rv_state.specs.Falling.{falling};
 
-use crate::fitting::entry_fits;
-use crate::prepared::{Prepared, SideEffect};
+use crate::fitting::{entry_fits, look_fits};
+use crate::prepared::{Prepared, PreparedAct, PreparedLook};
 use rv_base::{Id, Memory, Num, User};
 use rv_book::{Book, BookFault, Entry};
 use rv_history::entries;
@@ -46,27 +45,16 @@ impl Model for State {
 }
 
 // Makes room for an entry.
-fn reserve(book: &mut Book, entry: &Entry) -> Result<(), Memory>
+fn reserve(book: &mut Book) -> Result<(), Memory>
     requires { size book.old.book < book.old.limit }
     ensures room { OnOk result (1 ≤ book.new.room) }
     ensures book { book.new.book ≡ book.old.book }
     ensures limit { book.new.limit ≡ book.old.limit }
 {
-    match book.reserve(entry) {
+    match book.reserve() {
         Ok(()) => Ok(()),
         Err(BookFault::Memory) => Err(Memory),
         Err(BookFault::Full) => unreachable!(),
-    }
-}
-
-// The look whose record goes where this entry comes.
-fn falls_out(book: &Book, entry: &Entry) -> Option<u32>
-    ensures { result ≡ falling entry.now book.now.book }
-{
-    match entry {
-        Entry::Look { group, .. } => book.falls_out(group),
-        Entry::Act { .. } => None,
-        Entry::Retire { .. } => None,
     }
 }
 
@@ -79,7 +67,7 @@ impl State {
     ghost use Rattle.rv_history.specs.Machine.{IsUnchanged, next_order, reply_to};
     ghost use Rattle.rv_news.specs.Records.{AreRecords};
     ghost use Rattle.rv_wire.specs.Answers.{pull_json};
-    ghost use Rattle.rv_state.specs.Ready.{IsPrepared, IsEffectOf};
+    ghost use Rattle.rv_state.specs.Ready.{IsPrepared, entry_of};
 
     /// The state of the empty book, which takes at most so many entries.
     pub fn new(alloc: Global, limit: u32) -> State
@@ -160,18 +148,12 @@ impl State {
         requires room { size self.old.book < self.old.limit }
         requires lawful { IsLawfulAfter self.old.book (Act user.now group.now client.now id call) }
         ensures prepared { IfOk result (λ prepared. IsPrepared self.new prepared) }
-        ensures entry { IfOk result (λ prepared. prepared.entry ≡ Act user.now group.now client.now id call) }
+        ensures entry { IfOk result (λ prepared. entry_of prepared ≡ Act user.now group.now client.now id call) }
         ensures book { self.new.book ≡ self.old.book }
         ensures limit { self.new.limit ≡ self.old.limit }
     {
-        let staged = stage(self.alloc, &mut self.tables, user, &call)?;
         let entry = entries::act(self.alloc, user, group, client, id, call)?;
-        entry_fits(&entry);
-        reserve(&mut self.book, &entry)?;
-        Ok(Prepared {
-            entry,
-            effect: SideEffect::Rows(staged),
-        })
+        self.prepare(entry)
     }
 
     /// Prepares the look of a pull that is told this, and makes its reply.
@@ -187,7 +169,7 @@ impl State {
         requires news { IsNews self.old.book user.now request.now news }
         requires lawful { IsLawfulAfter self.old.book (Look user.now request.now.group order news.base) }
         ensures prepared { IfOk result (λ made. IsPrepared self.new made.1) }
-        ensures entry { IfOk result (λ made. made.1.entry ≡ Look user.now request.now.group order (base_of user.now request.now.cookie self.old.book)) }
+        ensures entry { IfOk result (λ made. entry_of made.1 ≡ Look user.now request.now.group order (base_of user.now request.now.cookie self.old.book)) }
         ensures reply { IfOk result (λ made. made.0 ≡ reply_to pull_json user.now request.now self.old.book) }
         ensures book { self.new.book ≡ self.old.book }
         ensures limit { self.new.limit ≡ self.old.limit }
@@ -200,12 +182,17 @@ impl State {
         } = news;
         let place = self.book.len() + 1;
         let reply = look_reply(self.alloc, place, order, ids, ops)?;
-        let entry = entries::look(self.alloc, user, &request.group, order, base)?;
-        entry_fits(&entry);
-        reserve(&mut self.book, &entry)?;
+        look_fits(user, &request.group, order, base);
+        reserve(&mut self.book)?;
         self.records.reserve()?;
-        let effect = SideEffect::Record(view);
-        Ok((reply, Prepared { entry, effect }))
+        let look = PreparedLook {
+            user: user.copy(self.alloc)?,
+            group: request.group.copy(self.alloc)?,
+            order,
+            base,
+            view,
+        };
+        Ok((reply, Prepared::Look(look)))
     }
 
     /// Prepares the retirement of a client group.
@@ -213,37 +200,12 @@ impl State {
         requires room { size self.old.book < self.old.limit }
         requires lawful { IsLawfulAfter self.old.book (Retire group.now) }
         ensures prepared { IfOk result (λ prepared. IsPrepared self.new prepared) }
-        ensures entry { IfOk result (λ prepared. prepared.entry ≡ Retire group.now) }
+        ensures entry { IfOk result (λ prepared. entry_of prepared ≡ Retire group.now) }
         ensures book { self.new.book ≡ self.old.book }
         ensures limit { self.new.limit ≡ self.old.limit }
     {
         let entry = entries::retirement(self.alloc, group)?;
-        entry_fits(&entry);
-        reserve(&mut self.book, &entry)?;
-        Ok(Prepared {
-            entry,
-            effect: SideEffect::Nothing,
-        })
-    }
-
-    // What an entry that may stand next does beside the book, with the room that it takes there.
-    fn effect_of(&mut self, entry: &Entry) -> Result<SideEffect, Memory>
-        ensures effect { IfOk result (λ effect. IsEffectOf self.new entry.now effect) }
-        ensures book { self.new.book ≡ self.old.book }
-        ensures limit { self.new.limit ≡ self.old.limit }
-        ensures room { self.new.room ≡ self.old.room }
-    {
-        match entry {
-            Entry::Act { user, call, .. } => {
-                Ok(SideEffect::Rows(stage(self.alloc, &mut self.tables, user, call)?))
-            }
-            Entry::Look { user, group, .. } => {
-                let view = view_now(self.alloc, &self.book, &self.tables, user, group)?;
-                self.records.reserve()?;
-                Ok(SideEffect::Record(view))
-            }
-            Entry::Retire { .. } => Ok(SideEffect::Nothing),
-        }
+        self.prepare(entry)
     }
 
     /// Prepares an entry that may stand next, as it was kept elsewhere.
@@ -251,34 +213,99 @@ impl State {
         requires room { size self.old.book < self.old.limit }
         requires lawful { IsLawfulAfter self.old.book entry }
         ensures prepared { IfOk result (λ prepared. IsPrepared self.new prepared) }
-        ensures entry { IfOk result (λ prepared. prepared.entry ≡ entry) }
+        ensures entry { IfOk result (λ prepared. entry_of prepared ≡ entry) }
         ensures book { self.new.book ≡ self.old.book }
         ensures limit { self.new.limit ≡ self.old.limit }
     {
         entry_fits(&entry);
-        reserve(&mut self.book, &entry)?;
-        let effect = self.effect_of(&entry)?;
-        Ok(Prepared { entry, effect })
+        reserve(&mut self.book)?;
+        match entry {
+            Entry::Act {
+                user,
+                group,
+                client,
+                id,
+                call,
+            } => {
+                let staged = stage(self.alloc, &mut self.tables, &user, &call)?;
+                Ok(Prepared::Act(PreparedAct {
+                    user,
+                    group,
+                    client,
+                    id,
+                    call,
+                    staged,
+                }))
+            }
+            Entry::Look {
+                user,
+                group,
+                order,
+                base,
+            } => {
+                let view = view_now(self.alloc, &self.book, &self.tables, &user, &group)?;
+                self.records.reserve()?;
+                Ok(Prepared::Look(PreparedLook {
+                    user,
+                    group,
+                    order,
+                    base,
+                    view,
+                }))
+            }
+            Entry::Retire { group } => Ok(Prepared::Retirement(group)),
+        }
     }
 
     /// Enters what was prepared at this state. It can't fail, and takes no memory. The records of looks that are not kept any
     /// more go.
     pub fn enter(&mut self, prepared: Prepared)
         requires { IsPrepared self.old prepared }
-        ensures book { self.new.book ≡ with_entry self.old.book prepared.entry }
+        ensures book { self.new.book ≡ with_entry self.old.book (entry_of prepared) }
         ensures limit { self.new.limit ≡ self.old.limit }
     {
-        let Prepared { entry, effect } = prepared;
         let place = self.book.len() + 1;
-        let gone = falls_out(&self.book, &entry);
-        self.book.push_entry(entry);
-        match effect {
-            SideEffect::Rows(staged) => staged.apply(&mut self.tables, place),
-            SideEffect::Record(view) => {
+        match prepared {
+            Prepared::Act(act) => {
+                let PreparedAct {
+                    user,
+                    group,
+                    client,
+                    id,
+                    call,
+                    staged,
+                } = act;
+                self.book.push_entry(Entry::Act {
+                    user,
+                    group,
+                    client,
+                    id,
+                    call,
+                });
+                staged.apply(&mut self.tables, place);
+            }
+            Prepared::Look(look) => {
+                let PreparedLook {
+                    user,
+                    group,
+                    order,
+                    base,
+                    view,
+                } = look;
+                let gone = self.book.falls_out(&group);
+                self.book.push_entry(Entry::Look {
+                    user,
+                    group,
+                    order,
+                    base,
+                });
                 self.records.let_one_go(gone);
                 self.records.push(place, view);
             }
-            SideEffect::Nothing => self.records.let_go(&self.book),
+            Prepared::Retirement(group) => {
+                self.book.push_entry(Entry::Retire { group });
+                self.records.let_go(&self.book);
+            }
         }
     }
 }

@@ -6,7 +6,5 @@ use Rattle.rv_store.proofs.changes.look_changes.Goals as goal
 
 pub returns : goal.returns
 returns c =
-    let made : c.push-3.new.self.items ≡ look_changes c.args.state.now.book c.in-Look.user c.in-Look.group c.in-Look.order c.in-Look.base c.args.view.now = grind (arith, common_steps) in
-    enters_look c.args.state.now c.requires.below (omega (arith, c.book-book.ensures.limit, c.len-place.ensures.range)) c.args.entry.now c.args.view.now c.push-3.new.self.items
-    c.in-Look.user c.in-Look.group c.in-Look.order c.in-Look.base c.in-Look.is
-    c.requires.lawful c.requires.effect made
+    let made : c.push-3.new.self.items ≡ look_changes c.args.state.now.book c.args.look.now.user c.args.look.now.group c.args.look.now.order c.args.look.now.base c.args.look.now.view = grind (arith, common_steps) in
+    enters_look c.args.state.now (omega (arith, c.book-book.ensures.limit, c.len-place.ensures.range)) c.args.look.now c.push-3.new.self.items c.requires made

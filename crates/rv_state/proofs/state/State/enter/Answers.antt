@@ -1,12 +1,12 @@
-use Rattle.rv_state.proofs.Entered.{rows_entered, record_entered, nothing_entered}
+use Rattle.rv_state.proofs.Entered.{act_entered, look_entered, retirement_entered}
 use Rattle.rv_state.proofs.state.State.enter.Goals as goal
 
 pub invariant_of-self : goal.invariant_of-self
-invariant_of-self c = rw (c.apply.ensures, c.push_entry.ensures.book, c.len-place.ensures.value) (rows_entered _ _ c.args.prepared c.self.view_is c.self.invariant c.requires c.in-Rows.staged c.in-Rows.is)
+invariant_of-self c = rw (c.apply.ensures, c.push_entry.ensures.book, c.len-place.ensures.value) (act_entered _ _ c.args.prepared c.self.view_is c.self.invariant c.requires c.in-Act.act c.in-Act.is)
 
-pub invariant_of-self-in-Record : goal.invariant_of-self-in-Record
-invariant_of-self-in-Record c =
-    rw (c.push.ensures.records, c.let_one_go.ensures.records, c.falls_out-gone.ensures, c.push_entry.ensures.book, c.len-place.ensures.value) (record_entered _ _ c.args.prepared c.self.view_is c.self.invariant c.requires c.in-Record.view c.in-Record.is)
+pub invariant_of-self-in-Look : goal.invariant_of-self-in-Look
+invariant_of-self-in-Look c =
+    rw (c.push.ensures.records, c.let_one_go.ensures.records, c.falls_out-gone.ensures, c.push_entry-in-Look.ensures.book, c.len-place.ensures.value) (look_entered _ _ c.args.prepared c.self.view_is c.self.invariant c.requires c.in-Look.look c.in-Look.is)
 
-pub invariant_of-self-in-Nothing : goal.invariant_of-self-in-Nothing
-invariant_of-self-in-Nothing c = rw (c.let_go.ensures.records, c.push_entry.ensures.book) (nothing_entered _ _ c.args.prepared c.self.view_is c.self.invariant c.requires c.in-Nothing.is)
+pub invariant_of-self-in-Retirement : goal.invariant_of-self-in-Retirement
+invariant_of-self-in-Retirement c = rw (c.let_go.ensures.records, c.push_entry-in-Retirement.ensures.book) (retirement_entered _ _ c.args.prepared c.self.view_is c.self.invariant c.requires c.in-Retirement.group c.in-Retirement.is)

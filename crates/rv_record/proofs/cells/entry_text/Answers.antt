@@ -1,7 +1,0 @@
-use Rattle.std.proofs.Common.{◌∙◌}
-use Rattle.rv_record.specs.EntryTexts.{entry_data}
-use Rattle.rv_record.proofs.Writing.{text_of}
-use Rattle.rv_record.proofs.cells.entry_text.Goals as goal
-
-pub returns : goal.returns
-returns c = text_of (entry_data c.args.entry.now) _ _ _ _ _ (c.from_vec.ensures ∙ c.into_inner.ensures.items) c.in_ok-write_entry.ensures.0 c.in_ok-write_entry.ensures.1 (c.new-out.ensures.before ∙ c.new.ensures.items) c.new-out.ensures.tokens
