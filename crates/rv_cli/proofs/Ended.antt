@@ -38,7 +38,7 @@ own_text : {T E : Type 0} (before : ℕ) (mid out : OutputState) (ending : Endin
 own_text before mid out Done result e w = let none = none_of mid out result w in ([], none.0, (refl, none.1 ∙ e), none.1 ∙ e)
 own_text before mid out Write result rose w = let none = none_of mid out result w in let later : Rose before out.faults = subst (λ (n : ℕ). Rose before n) (sym none.1) rose in ([], none.0, (refl, later), later)
 own_text before mid out Keeper result e w = let (own, a, part) = part_of before mid out (status_text Keeper) result e w in (own, a, part, part_faults before out.faults own (status_text Keeper) part)
-own_text before mid out (Damaged shelf key) result e w = let (own, a, part) = part_of before mid out (status_text (Damaged shelf key)) result e w in (own, a, part, part_faults before out.faults own (status_text (Damaged shelf key)) part)
+own_text before mid out (Damaged damage) result e w = let (own, a, part) = part_of before mid out (status_text (Damaged damage)) result e w in (own, a, part, part_faults before out.faults own (status_text (Damaged damage)) part)
 own_text before mid out Read result e w = let (own, a, part) = part_of before mid out (status_text Read) result e w in (own, a, part, part_faults before out.faults own (status_text Read) part)
 own_text before mid out Memory result e w = let (own, a, part) = part_of before mid out (status_text Memory) result e w in (own, a, part, part_faults before out.faults own (status_text Memory) part)
 own_text before mid out (Malformed number) result e w = let (own, a, part) = part_of before mid out (status_text (Malformed number)) result e w in (own, a, part, part_faults before out.faults own (status_text (Malformed number)) part)
@@ -85,7 +85,7 @@ pub completes : (Told : Type 0) (begun now : Served) (o : Option (List ℕ)) (in
 completes Told begun now None input first out ending f = tt
 completes Told begun now (Some bytes) input first out Done f = λ lines are. inl refl
 completes Told begun now (Some bytes) input first out Keeper f = λ lines are. inr (inl refl)
-completes Told begun now (Some bytes) input first out (Damaged shelf key) f = λ lines are. inr (inr (inl refl))
+completes Told begun now (Some bytes) input first out (Damaged damage) f = λ lines are. inr (inr (inl refl))
 completes Told begun now (Some bytes) input first out Read f = λ lines are. inr (inr (inr (inl refl)))
 completes Told begun now (Some bytes) input first out Write f = λ lines are. inr (inr (inr (inr (inl refl))))
 completes Told begun now (Some bytes) input first out Memory f = λ lines are. inr (inr (inr (inr (inr refl))))

@@ -25,7 +25,7 @@ module _ {K : Type 0} (tells : K → Type 0) (holds : K → Loaded → Type 0) (
   rose_since : (ending : Ending) (before mid : ℕ) (now : K) → before ≤ mid → RoseAt tells holds faults ending mid now → RoseAt tells holds faults ending before now
   rose_since Keeper before mid now le rose = rose_before before mid (faults now) le rose
   rose_since Done before mid now le rose = tt
-  rose_since (Damaged shelf key) before mid now le untold = untold
+  rose_since (Damaged damage) before mid now le untold = untold
   rose_since Read before mid now le rose = tt
   rose_since Write before mid now le rose = tt
   rose_since Memory before mid now le rose = tt

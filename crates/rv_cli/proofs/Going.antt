@@ -10,6 +10,7 @@ use Rattle.rv_lines.specs.Taken.{Taken, ReadOn}
 use Rattle.rv_lines.specs.TakenLaws.{taken_none, taken_line, read_on, read_to_end, read_to_fault, read_too_long, read_line, read_last}
 use Rattle.rv_history.specs.Served.{Served}
 use Rattle.rv_keeper.specs.declared.loaded.Loaded.{Loaded}
+use Rattle.rv_record.specs.declared.fault.Damage.{Damage}
 use Rattle.rv_answering.specs.declared.line.Line.{Line}
 use Rattle.rv_answering.specs.declared.line.Line.TheVariants.{Asks, Stop}
 use Rattle.rv_answering.specs.Requests.{line_of}
@@ -221,7 +222,7 @@ module _ (Told : Type 0) (begun : Served) where
   -- memory was refused, or the store did not open again after a stop
   line_memory_or_closed : (start old new : InputState) (first out : OutputState) (pending line : List ℕ) (number : ℕ) (now : Served) (w : Going Told begun start old first out pending number now)
       → Looked start old new line w.lines → new.faults ≡ old.faults → length line ≤ longest_line → number < 2 ^ 32 → line_of line ≡ Some Stop
-      → Feeds Told begun now start new first out Keeper × ((shelf : ℕ) (key : List ℕ) → Feeds Told begun now start new first out (Damaged shelf key))
+      → Feeds Told begun now start new first out Keeper × ((damage : Damage) → Feeds Told begun now start new first out (Damaged damage))
   line_memory_or_closed start old new first out pending line number now w l still le lt stop =
       let is : line_at (length w.lines + 1) line ≡ Some Stop = subst (λ (n : ℕ). line_at n line ≡ Some Stop) w.count (is_at number line (Some Stop) le lt stop) in (
         record {
@@ -231,10 +232,10 @@ module _ (Told : Type 0) (begun : Served) where
               let (read, others, more, on, within) = l.on bytes e in
               record { read = read; text = w.text; consumed = on.consumed; appended = w.appended; ends = record { lines = w.lines; line = line; others = others; are = on.are; stop = is; needed = on.needed; answered = w.answered } });
         },
-        λ shelf key. record {
+        λ damage. record {
           reads = (still ∙ w.faults, ends_as start old new w.ends l.ends);
           writes = w.stays.faults;
-          fed = known start.left (λ bytes. FedAnswers Told begun now bytes new first out (Damaged shelf key)) (λ bytes e.
+          fed = known start.left (λ bytes. FedAnswers Told begun now bytes new first out (Damaged damage)) (λ bytes e.
               let (read, others, more, on, within) = l.on bytes e in
               record { read = read; text = w.text; consumed = on.consumed; appended = w.appended; ends = record { lines = w.lines; line = line; others = others; are = on.are; stop = is; needed = on.needed; answered = w.answered } });
         },
@@ -254,8 +255,8 @@ module _ (Told : Type 0) (begun : Served) where
       (subst (λ (m : ℕ). Feeds Told begun now start new first out (Malformed m)) (sym is) (line_malformed start old new first out pending line number now w l still (is_at number line None le lt none))))
   ends_looked tells holds faults start old new first out out' pending line number now next Keeper w l still le lt (stop, same, kept) =
       subst (λ (s : Served). Feeds Told begun s start new first out' Keeper) (sym same) (subst (λ (o : OutputState). Feeds Told begun now start new first o Keeper) (sym kept) (line_memory_or_closed start old new first out pending line number now w l still le lt stop).0)
-  ends_looked tells holds faults start old new first out out' pending line number now next (Damaged shelf key) w l still le lt (stop, same, kept) =
-      subst (λ (s : Served). Feeds Told begun s start new first out' (Damaged shelf key)) (sym same) (subst (λ (o : OutputState). Feeds Told begun now start new first o (Damaged shelf key)) (sym kept) ((line_memory_or_closed start old new first out pending line number now w l still le lt stop).1 shelf key))
+  ends_looked tells holds faults start old new first out out' pending line number now next (Damaged damage) w l still le lt (stop, same, kept) =
+      subst (λ (s : Served). Feeds Told begun s start new first out' (Damaged damage)) (sym same) (subst (λ (o : OutputState). Feeds Told begun now start new first o (Damaged damage)) (sym kept) ((line_memory_or_closed start old new first out pending line number now w l still le lt stop).1 damage))
 
   -- the line ended at an LF
   pub ends_line : {K : Type 0} (tells : K → Type 0) (holds : K → Loaded → Type 0) (faults : K → ℕ) (start old new : InputState) (first out out' : OutputState) (pending pending' line : List ℕ) (number : ℕ) (now next : Served) (ending : Ending)

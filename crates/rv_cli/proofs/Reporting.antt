@@ -24,7 +24,7 @@ pub reports_text : (Tells : List ℕ → Type 0) (text : List ℕ) (old new : Ou
 reports_text Tells text old new Done is (appended, still) = (text, is, appended, still)
 reports_text Tells text old new Write is (front, rose) = (text, is, front, rose)
 reports_text Tells text old new Keeper is never = never
-reports_text Tells text old new (Damaged shelf key) is never = never
+reports_text Tells text old new (Damaged damage) is never = never
 reports_text Tells text old new Read is never = never
 reports_text Tells text old new Memory is never = absurd never
 reports_text Tells text old new (Malformed number) is never = never

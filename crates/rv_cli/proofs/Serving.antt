@@ -39,7 +39,7 @@ opens_as name Stored Also also held (inr (other, was)) = inr (other, also held w
 not_opened_before : (c d : StoreChange) (ending : Ending) → (d.told → c.told) → (d.told → (held : Loaded) → d.opens held → c.opens held) → (d.told → (held : Loaded) → c.holds held → d.holds held)
     → c.before ≡ d.before → d.after ≡ c.after → IsNotOpened c ending → IsNotOpened d ending
 not_opened_before c d endings.Keeper told also holds same after rose = omega (arith, rose, same, after)
-not_opened_before c d (endings.Damaged shelf key) told also holds same after (loaded, stored, damaged, left, still) =
+not_opened_before c d (endings.Damaged damage) told also holds same after (loaded, stored, damaged, left, still) =
     (loaded, λ t held was. stored (told t) held (also t held was), damaged, λ t held was. holds t held (left (told t) held (also t held was)), after ∙ still ∙ same)
 not_opened_before c d endings.Memory told also holds same after free = tt
 not_opened_before c d endings.Done told also holds same after never = never
@@ -218,7 +218,7 @@ accounts_undamaged Told HasFile before after (TwiceAccounts number) why is = ome
 accounts_undamaged Told HasFile before after (NotOpened endings.Keeper) why is = omega (arith, is)
 accounts_undamaged Told HasFile before after (NotOpened endings.Memory) why is = omega (arith, is)
 accounts_undamaged Told HasFile before after (NotOpened endings.Done) never is = never
-accounts_undamaged Told HasFile before after (NotOpened (endings.Damaged shelf key)) never is = never
+accounts_undamaged Told HasFile before after (NotOpened (endings.Damaged damage)) never is = never
 accounts_undamaged Told HasFile before after (NotOpened endings.Read) never is = never
 accounts_undamaged Told HasFile before after (NotOpened endings.Write) never is = never
 accounts_undamaged Told HasFile before after (NotOpened (endings.Malformed number)) never is = never
@@ -333,7 +333,7 @@ module _ (c : StoreChange) (net net' : ℕ) (out out' : OutputState) (status : �
   refused_facts HasFile (NotOpened endings.Keeper) is why only = keeper_facts is why (serve_text (NotOpened endings.Keeper)) only
   refused_facts HasFile (NotOpened endings.Memory) is why only = memory_facts is (serve_text (NotOpened endings.Memory)) only
   refused_facts HasFile (NotOpened endings.Done) is never only = absurd never
-  refused_facts HasFile (NotOpened (endings.Damaged shelf key)) is never only = absurd never
+  refused_facts HasFile (NotOpened (endings.Damaged damage)) is never only = absurd never
   refused_facts HasFile (NotOpened endings.Read) is never only = absurd never
   refused_facts HasFile (NotOpened endings.Write) is never only = absurd never
   refused_facts HasFile (NotOpened (endings.Malformed number)) is never only = absurd never
@@ -344,7 +344,7 @@ module _ (c : StoreChange) (net net' : ℕ) (out out' : OutputState) (status : �
 
   store_facts : (other : Ending) → status ≡ status_of other → IsNotOpened c other → (text : List ℕ) → WritesOnly out out' text → Facts
   store_facts endings.Keeper is why text only = keeper_facts is why text only
-  store_facts (endings.Damaged shelf key) is why text only = damage_facts is text only
+  store_facts (endings.Damaged damage) is why text only = damage_facts is text only
   store_facts endings.Memory is why text only = memory_facts is text only
   store_facts endings.Done is never text only = absurd never
   store_facts endings.Read is never text only = absurd never

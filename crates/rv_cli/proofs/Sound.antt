@@ -11,6 +11,7 @@ use Rattle.rv_news.specs.KeptRecords.{records_none}
 use Rattle.rv_keeper.specs.declared.loaded.Loaded.{Loaded}
 use Rattle.rv_keeper.specs.Keeping.{holding}
 use Rattle.rv_keeper.specs.Stores.{OpensAs}
+use Rattle.rv_record.specs.declared.fault.Damage.{Damage}
 use Rattle.rv_store.specs.Opening.{MayOpen}
 use Rattle.rv_store.specs.OpeningLaws.{opens-not_damaged}
 use Rattle.rv_answering.specs.Requests.{Parsed}
@@ -22,34 +23,34 @@ use Rattle.rv_cli.specs.Change.{StoreChange}
 use Rattle.rv_cli.specs.Headline.{IsLeftAs, IsNotOpened, NotFed, HasFed, RunsFeed, NotOpened, Replied, RunsOne, EndsOne, KeepsSo, KeptSound}
 
 -- an ending whose status is that of damage is damage
-no_damage : (ending : Ending) → ((shelf : ℕ) (key : List ℕ) → ending ≢ Damaged shelf key) → status_of ending ≢ 5
+no_damage : (ending : Ending) → ((damage : Damage) → ending ≢ Damaged damage) → status_of ending ≢ 5
 no_damage Done other is = omega (arith, is)
 no_damage Keeper other is = omega (arith, is)
-no_damage (Damaged shelf key) other is = other shelf key refl
+no_damage (Damaged damage) other is = other damage refl
 no_damage Read other is = omega (arith, is)
 no_damage Write other is = omega (arith, is)
 no_damage Memory other is = omega (arith, is)
 no_damage (Malformed number) other is = omega (arith, is)
 
 module _ (c : StoreChange) (told : c.told) (kept : KeptSound c.opens) where
-  opens_sound : (shelf : ℕ) (key : List ℕ) (ending : Ending) → ending ≡ Damaged shelf key → IsNotOpened c ending → ⊥
-  opens_sound shelf key ending is why =
+  opens_sound : (damage : Damage) (ending : Ending) → ending ≡ Damaged damage → IsNotOpened c ending → ⊥
+  opens_sound damage ending is why =
       let (book, held, was, opens) = kept in
       let (loaded, stored, damaged, left, same) = subst (λ (e : Ending). IsNotOpened c e) is why in
-      opens-not_damaged (2 ^ 32 - 1) book loaded shelf key (subst (λ (l : Loaded). MayOpen (2 ^ 32 - 1) book l) (stored told held was) opens) damaged
+      opens-not_damaged (2 ^ 32 - 1) book loaded damage (subst (λ (l : Loaded). MayOpen (2 ^ 32 - 1) book l) (stored told held was) opens) damaged
 
   pub refused_sound : (ending : Ending) (status : ℕ) → IsNotOpened c ending → status ≡ status_of ending → status ≢ 5
-  refused_sound ending status why is five = no_damage ending (λ shelf key e. opens_sound shelf key ending e why) (sym is ∙ five)
+  refused_sound ending status why is five = no_damage ending (λ damage e. opens_sound damage ending e why) (sym is ∙ five)
 
   fed_sound : (input input' : InputState) (output output' : OutputState) (ending : Ending) → (NotFed c input input' output output' ending × IsLeftAs c) ⊎ HasFed c input input' output output' ending
-      → (shelf : ℕ) (key : List ℕ) → ending ≢ Damaged shelf key
-  fed_sound input input' output output' ending (inl (none, left)) shelf key is = opens_sound shelf key ending is none.why
-  fed_sound input input' output output' ending (inr fed) shelf key is = untold ending is fed.keeps
+      → (damage : Damage) → ending ≢ Damaged damage
+  fed_sound input input' output output' ending (inl (none, left)) damage is = opens_sound damage ending is none.why
+  fed_sound input input' output output' ending (inr fed) damage is = untold ending is fed.keeps
     where
-      untold : (ending : Ending) → ending ≡ Damaged shelf key → KeepsSo c ending → ⊥
+      untold : (ending : Ending) → ending ≡ Damaged damage → KeepsSo c ending → ⊥
       untold Done is keeps = cc
       untold Keeper is keeps = cc
-      untold (Damaged s k) is keeps = keeps told
+      untold (Damaged damaged) is keeps = keeps told
       untold Read is keeps = cc
       untold Write is keeps = cc
       untold Memory is keeps = cc
@@ -59,9 +60,9 @@ module _ (c : StoreChange) (told : c.told) (kept : KeptSound c.opens) where
   feed_sound input input' output output' status (ending, is, runs) five = no_damage ending (fed_sound input input' output output' ending runs) (sym is ∙ five)
 
   replied_sound : (asked : Parsed) (output output' : OutputState) (ending : Ending) → (NotOpened c output output' ending × IsLeftAs c) ⊎ Replied c asked output output' ending
-      → (shelf : ℕ) (key : List ℕ) → ending ≢ Damaged shelf key
-  replied_sound asked output output' ending (inl (none, left)) shelf key is = opens_sound shelf key ending is none.why
-  replied_sound asked output output' ending (inr replied) shelf key is = subst (λ (e : Ending). EndsOne c.told replied.first asked replied.text replied.now e) is replied.ends
+      → (damage : Damage) → ending ≢ Damaged damage
+  replied_sound asked output output' ending (inl (none, left)) damage is = opens_sound damage ending is none.why
+  replied_sound asked output output' ending (inr replied) damage is = subst (λ (e : Ending). EndsOne c.told replied.first asked replied.text replied.now e) is replied.ends
 
   pub retire_sound : (asked : Parsed) (output output' : OutputState) (status : ℕ) → RunsOne c asked output output' status → status ≢ 5
   retire_sound asked output output' status (ending, is, runs) five = no_damage ending (replied_sound asked output output' ending runs) (sym is ∙ five)

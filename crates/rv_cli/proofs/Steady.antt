@@ -31,7 +31,7 @@ use Rattle.rv_cli.proofs.Storing.{none_taken}
 pub not_four : (ending : Ending) → (ending ≡ Keeper → ⊥) → status_of ending ≢ 4
 not_four Done never is = omega (arith, is)
 not_four Keeper never is = never refl
-not_four (Damaged shelf key) never is = omega (arith, is)
+not_four (Damaged damage) never is = omega (arith, is)
 not_four Read never is = omega (arith, is)
 not_four Write never is = omega (arith, is)
 not_four Memory never is = omega (arith, is)
@@ -74,7 +74,7 @@ module _ {K : Type 0} (tells steady : K → Type 0) (holds : K → Loaded → Ty
   -- opening over what fails never more is not refused for a fault, and never fault is counted
   pub refused_for : (kept now : K) (fault : OpenFault) → steady kept → IsRefused tells steady holds faults (2 ^ 32 - 1) kept fault now → (fault_ending fault ≡ Keeper → ⊥) × (faults now ≡ faults kept)
   refused_for kept now faulting.Keeper s (rose, unsteady) = absurd (unsteady s)
-  refused_for kept now (faulting.Damaged shelf key) s damaged = (λ e. absurd (cc), damaged.still)
+  refused_for kept now (faulting.Damaged damage) s damaged = (λ e. absurd (cc), damaged.still)
   refused_for kept now faulting.Memory s same = (λ e. absurd (cc), same)
 
 -- a keeper that has counted no fault is taken up without one
@@ -112,7 +112,7 @@ serve_not_nine (serves.BadAccounts number) never is = omega (arith, is)
 serve_not_nine (serves.TwiceAccounts number) never is = omega (arith, is)
 serve_not_nine (serves.NotOpened Done) never is = omega (arith, is)
 serve_not_nine (serves.NotOpened Keeper) never is = omega (arith, is)
-serve_not_nine (serves.NotOpened (Damaged shelf key)) never is = omega (arith, is)
+serve_not_nine (serves.NotOpened (Damaged damage)) never is = omega (arith, is)
 serve_not_nine (serves.NotOpened Read) never is = omega (arith, is)
 serve_not_nine (serves.NotOpened Write) never is = omega (arith, is)
 serve_not_nine (serves.NotOpened Memory) never is = omega (arith, is)

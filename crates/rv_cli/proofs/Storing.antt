@@ -55,7 +55,7 @@ module _ (Told Now : Type 0) (then : Now → Told) where
       record { lines = e.lines; line = e.line; others = e.others; are = e.are; count = e.count; asks = e.asks; needed = e.needed; answered = answered_later Told Now then first e.lines text now e.answered }
   ends_later first bytes read text now Keeper e =
       record { lines = e.lines; line = e.line; others = e.others; are = e.are; stop = e.stop; needed = e.needed; answered = answered_later Told Now then first e.lines text now e.answered }
-  ends_later first bytes read text now (Damaged shelf key) e =
+  ends_later first bytes read text now (Damaged damage) e =
       record { lines = e.lines; line = e.line; others = e.others; are = e.are; stop = e.stop; needed = e.needed; answered = answered_later Told Now then first e.lines text now e.answered }
 
   fed_later : (o : Option (List ℕ)) (first now : Served) (input' : InputState) (output output' : OutputState) (ending : Ending) → IfSome o (λ bytes. FedAnswers Told first now bytes input' output output' ending) → IfSome o (λ bytes. FedAnswers Now first now bytes input' output output' ending)
@@ -75,7 +75,7 @@ not_given c keeping.Memory ending cause is = subst (λ (e : Ending). IsNotOpened
 -- a store that did not open has no status 0
 pub refused_fails : (c : StoreChange) (ending : Ending) (status : ℕ) → IsNotOpened c ending → status ≡ status_of ending → status ≢ 0
 refused_fails c Keeper status why is none = omega (arith, is, none)
-refused_fails c (Damaged shelf key) status why is none = omega (arith, is, none)
+refused_fails c (Damaged damage) status why is none = omega (arith, is, none)
 refused_fails c Memory status why is none = omega (arith, is, none)
 refused_fails c Done status why is none = why
 refused_fails c Read status why is none = why
@@ -111,7 +111,7 @@ module _ {P K : Type 0} (place : PlaceGhosts P K) (G : Ghosts K) (store : List �
       → (place.tells new → place.tells old) × IsNotOpened (kept_change place G store kept old new) (fault_ending fault) × (place.tells new → (held : Loaded) → G.holds kept held → place.holds new store held)
   kept_refused kept now old new faulting.Keeper (rose, unsteady) left back none =
       (λ t. (back.told t).0, rises (G.faults now) (place.faults old) (place.faults new) (above_none (G.faults now) (subst (λ (n : ℕ). Rose n (G.faults now)) none rose)) back.taken, given_back kept now old new left back)
-  kept_refused kept now old new (faulting.Damaged shelf key) damaged left back none =
+  kept_refused kept now old new (faulting.Damaged damage) damaged left back none =
       (λ t. (back.told t).0, (damaged.loaded, λ t. damaged.was.told (back.told t).1, damaged.damaged, λ t held was. back.held t held (left.held (back.told t).1 held was), none_taken (G.faults now) (place.faults old) (place.faults new) (damaged.still ∙ none) back.taken), given_back kept now old new left back)
   kept_refused kept now old new faulting.Memory free left back none = (λ t. (back.told t).0, tt, given_back kept now old new left back)
 
@@ -135,7 +135,7 @@ module _ {P K : Type 0} (place : PlaceGhosts P K) (G : Ghosts K) (store : List �
       again : (ending : Ending) → (place.tells new → place.tells mid) → IsNotOpened (kept_change place G store kept mid new) ending
           → IsNotOpened (change place store old new) ending
       again Keeper told rose = subst (λ (n : ℕ). Rose n (place.faults new)) still rose
-      again (Damaged shelf key) told (loaded, stored, damaged, left, same) =
+      again (Damaged damage) told (loaded, stored, damaged, left, same) =
           (loaded, λ t held was. stored t held ((got (told t)).1 held was), damaged, λ t held was. left t held ((got (told t)).1 held was), same ∙ still)
       again Memory told free = tt
       again Done told never = never
@@ -159,7 +159,7 @@ module _ {P K : Type 0} (place : PlaceGhosts P K) (G : Ghosts K) (store : List �
   keeps_so old mid new desk keeper Keeper none same back rose =
       subst (λ (n : ℕ). Rose n (place.faults new)) same (rises (G.faults keeper) (place.faults mid) (place.faults new) (above_none (G.faults keeper) (subst (λ (n : ℕ). Rose n (G.faults keeper)) none rose)) back.taken)
   keeps_so old mid new desk keeper Done none same taken rose = tt
-  keeps_so old mid new desk keeper (Damaged shelf key) none same back untold = λ t. untold (back.told t).1
+  keeps_so old mid new desk keeper (Damaged damage) none same back untold = λ t. untold (back.told t).1
   keeps_so old mid new desk keeper Read none same taken rose = tt
   keeps_so old mid new desk keeper Write none same taken rose = tt
   keeps_so old mid new desk keeper Memory none same taken rose = tt
@@ -227,7 +227,7 @@ module _ {P K : Type 0} (place : PlaceGhosts P K) (G : Ghosts K) (store : List �
     leaves = leaves old mid new retired.new told.1 opened.same retired.left back;
   }
   has_replied old mid new desk group told first out Keeper opened retired back never = absurd never
-  has_replied old mid new desk group told first out (Damaged shelf key) opened retired back never = absurd never
+  has_replied old mid new desk group told first out (Damaged damage) opened retired back never = absurd never
   has_replied old mid new desk group told first out Read opened retired back never = absurd never
   has_replied old mid new desk group told first out Memory opened retired back never = absurd never
   has_replied old mid new desk group told first out (Malformed number) opened retired back never = absurd never

@@ -10,6 +10,7 @@ use Rattle.rv_history.specs.LawfulBooks.{lawful_more}
 use Rattle.rv_history.specs.Served.{Doubt, Settles, MayStand, TakesTurn}
 use Rattle.rv_history.specs.TurnLaws.{still_of}
 use Rattle.rv_keeper.specs.declared.loaded.Loaded.{Loaded}
+use Rattle.rv_record.specs.declared.fault.Damage.{Damage}
 use Rattle.rv_record.specs.EntryReading.{EntryFits}
 use Rattle.rv_store.specs.Opening.{MayOpen}
 use Rattle.rv_store.specs.OpeningLaws.{opens-not_damaged}
@@ -102,21 +103,21 @@ module _ {K : Type 0} (tells fails_no_more : K → Type 0) (holds : K → Loaded
         },
       )
 
-  untold : (old : Seated K) (kept now : K) (shelf : ℕ) (key : List ℕ) → kept ≡ old.keeper → IsLawful old.book → AllByRecursion EntryFits old.book.entries × IfSome old.doubt EntryFits → (size old.book ≤ old.limit) × (old.limit < 2 ^ 32) → MayStand old.book old.limit old.doubt
-      → (tells old.keeper → HoldsBook (holds old.keeper) old.book old.doubt) → IsLeft tells fails_no_more holds faults kept now → IsDamagedIn tells fails_no_more holds faults (2 ^ 32 - 1) kept now shelf key → tells now → ⊥
-  untold old kept now shelf key is lawful fits within next held left damaged t =
+  untold : (old : Seated K) (kept now : K) (damage : Damage) → kept ≡ old.keeper → IsLawful old.book → AllByRecursion EntryFits old.book.entries × IfSome old.doubt EntryFits → (size old.book ≤ old.limit) × (old.limit < 2 ^ 32) → MayStand old.book old.limit old.doubt
+      → (tells old.keeper → HoldsBook (holds old.keeper) old.book old.doubt) → IsLeft tells fails_no_more holds faults kept now → IsDamagedIn tells fails_no_more holds faults (2 ^ 32 - 1) kept now damage → tells now → ⊥
+  untold old kept now damage is lawful fits within next held left damaged t =
       let (h, was, with) = held (subst (λ (k : K). tells k) is (left.told t)) in
       let same : h ≡ damaged.loaded = damaged.was.told t h (subst (λ (k : K). holds k h) (sym is) was) in
       let (book, opens) = may_open old h lawful fits within next with in
-      opens-not_damaged (2 ^ 32 - 1) book damaged.loaded shelf key (subst (λ (l : Loaded). MayOpen (2 ^ 32 - 1) book l) same opens) damaged.damaged
+      opens-not_damaged (2 ^ 32 - 1) book damaged.loaded damage (subst (λ (l : Loaded). MayOpen (2 ^ 32 - 1) book l) same opens) damaged.damaged
 
   pub not_reopened : (old : Seated K) (kept now : K) (fault : OpenFault) → kept ≡ old.keeper → IsLawful old.book → AllByRecursion EntryFits old.book.entries × IfSome old.doubt EntryFits → (size old.book ≤ old.limit) × (old.limit < 2 ^ 32) → MayStand old.book old.limit old.doubt
       → (tells old.keeper → HoldsBook (holds old.keeper) old.book old.doubt)
       → IsRefused tells fails_no_more holds faults (2 ^ 32 - 1) kept fault now × IsLeft tells fails_no_more holds faults kept now → ReopensOrNot tells holds faults old (Err (fault_ending fault, now))
   not_reopened old kept now faulting.Keeper is lawful fits within next held ((rose, unsteady), left) =
       let (with, told) = left_closed old kept now is held left in (tt, with, told, subst (λ (k : K). Rose (faults k) (faults now)) is rose)
-  not_reopened old kept now (faulting.Damaged shelf key) is lawful fits within next held (damaged, left) =
-      let (with, told) = left_closed old kept now is held left in (tt, with, told, untold old kept now shelf key is lawful fits within next held left damaged)
+  not_reopened old kept now (faulting.Damaged damage) is lawful fits within next held (damaged, left) =
+      let (with, told) = left_closed old kept now is held left in (tt, with, told, untold old kept now damage is lawful fits within next held left damaged)
   not_reopened old kept now faulting.Memory is lawful fits within next held (free, left) =
       let (with, told) = left_closed old kept now is held left in (tt, with, told, tt)
 
@@ -222,7 +223,7 @@ module _ {K : Type 0} (tells fails_no_more : K → Type 0) (holds : K → Loaded
   }
   served_line old line number asked (Err (Done, keeper)) before now is never = absurd never
   served_line old line number asked (Err (Keeper, keeper)) before now is never = absurd never
-  served_line old line number asked (Err (Damaged shelf key, keeper)) before now is never = absurd never
+  served_line old line number asked (Err (Damaged damage, keeper)) before now is never = absurd never
   served_line old line number asked (Err (Read, keeper)) before now is never = absurd never
   served_line old line number asked (Err (Memory, keeper)) before now is never = absurd never
   served_line old line number asked (Err (Malformed n, keeper)) before now is never = absurd never
@@ -236,7 +237,7 @@ module _ {K : Type 0} (tells fails_no_more : K → Type 0) (holds : K → Loaded
   stopped_line : (old : Seated K) (line : List ℕ) (number : ℕ) (result : Result (Seated K) (Ending × K)) (out : OutputState) → line_of line ≡ Some Stop → ReopensOrNot tells holds faults old result → TakesLine tells holds faults old line number result out out
   stopped_line old line number (Ok new) out stop (reopens, told) = (GoesOn.stopped (record { stop = stop; reopens = reopens; kept = refl }), told, (let n = reopens.faults in omega (arith, n)))
   stopped_line old line number (Err (Keeper, keeper)) out stop (none, left, told, rose) = record { new = served faults old; ends = (stop, refl, refl); left = left; told = told; rose = rose }
-  stopped_line old line number (Err (Damaged shelf key, keeper)) out stop (none, left, told, rose) = record { new = served faults old; ends = (stop, refl, refl); left = left; told = told; rose = rose }
+  stopped_line old line number (Err (Damaged damage, keeper)) out stop (none, left, told, rose) = record { new = served faults old; ends = (stop, refl, refl); left = left; told = told; rose = rose }
   stopped_line old line number (Err (Memory, keeper)) out stop (none, left, told, rose) = record { new = served faults old; ends = (refl, refl); left = left; told = told; rose = rose }
   stopped_line old line number (Err (Done, keeper)) out stop (none, left, told, rose) = absurd none
   stopped_line old line number (Err (Read, keeper)) out stop (none, left, told, rose) = absurd none
@@ -267,7 +268,7 @@ module _ {K : Type 0} (tells fails_no_more : K → Type 0) (holds : K → Loaded
   pub refused_steady : (old : Seated K) (kept now : K) (fault : OpenFault) → kept ≡ old.keeper → IsRefused tells fails_no_more holds faults (2 ^ 32 - 1) kept fault now × IsLeft tells fails_no_more holds faults kept now → fails_no_more old.keeper
       → KeeperIsSteady fails_no_more faults old.keeper (fault_ending fault, now)
   refused_steady old kept now faulting.Keeper is ((rose, unsteady), left) f = absurd (unsteady (subst fails_no_more (sym is) f))
-  refused_steady old kept now (faulting.Damaged shelf key) is (damaged, left) f = record { goes_on = left.goes_on (subst fails_no_more (sym is) f); still = damaged.still ∙ ap faults is; no_fault = λ e. absurd (cc) }
+  refused_steady old kept now (faulting.Damaged damage) is (damaged, left) f = record { goes_on = left.goes_on (subst fails_no_more (sym is) f); still = damaged.still ∙ ap faults is; no_fault = λ e. absurd (cc) }
   refused_steady old kept now faulting.Memory is (same, left) f = record { goes_on = left.goes_on (subst fails_no_more (sym is) f); still = same ∙ ap faults is; no_fault = λ e. absurd (cc) }
 
   pub asked_steady : (before : K) (line : List ℕ) (read : Parsed) (result : Result (Seated K) (Ending × K)) → AreLines (line_of line) (Some (Asks read))

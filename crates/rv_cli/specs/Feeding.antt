@@ -49,7 +49,7 @@ pub record Stopped (Told : Type 0) (old : Served) (line : List ℕ) (new : Serve
 -- the ending is one of a desk that does not open
 abbrev pub IsNoStop : Ending → Type 0
 IsNoStop Keeper = Unit {0}
-IsNoStop (Damaged shelf key) = Unit {0}
+IsNoStop (Damaged damage) = Unit {0}
 IsNoStop Memory = Unit {0}
 IsNoStop ending = ⊥
 
@@ -72,7 +72,7 @@ module _ {K : Type 0} (tells : K → Type 0) (holds : K → Loaded → Type 0) (
   -- at the ending of that name the keeper failed, and a damage comes only of one that doesn't tell
   abbrev pub RoseAt : Ending → ℕ → K → Type 0
   RoseAt Keeper before keeper = Rose before (faults keeper)
-  RoseAt (Damaged shelf key) before keeper = tells keeper → ⊥
+  RoseAt (Damaged damage) before keeper = tells keeper → ⊥
   RoseAt ending before keeper = Unit {0}
 
   -- a stop: the desk is open again; or it is not, and the keeper is left as it was
@@ -92,7 +92,7 @@ module _ {K : Type 0} (tells : K → Type 0) (holds : K → Loaded → Type 0) (
   EndsLine Told old line number new before now Write = CutsAnswer Told old line new before now
   EndsLine Told old line number new before now Memory = (new ≡ old) × (now ≡ before)
   EndsLine Told old line number new before now Keeper = (line_of line ≡ Some Stop) × (new ≡ old) × (now ≡ before)
-  EndsLine Told old line number new before now (Damaged shelf key) = (line_of line ≡ Some Stop) × (new ≡ old) × (now ≡ before)
+  EndsLine Told old line number new before now (Damaged damage) = (line_of line ≡ Some Stop) × (new ≡ old) × (now ≡ before)
   EndsLine Told old line number new before now Done = ⊥
   EndsLine Told old line number new before now Read = ⊥
 
@@ -126,7 +126,7 @@ abbrev pub AnswerFaults : ℕ → ℕ → Ending → Type 0
 AnswerFaults before now Write = Rose before now
 AnswerFaults before now Done = now ≡ before
 AnswerFaults before now Keeper = now ≡ before
-AnswerFaults before now (Damaged shelf key) = now ≡ before
+AnswerFaults before now (Damaged damage) = now ≡ before
 AnswerFaults before now Read = now ≡ before
 AnswerFaults before now Memory = now ≡ before
 AnswerFaults before now (Malformed number) = now ≡ before

@@ -170,7 +170,7 @@ Ends Told first bytes read text now Write = IsCutOff Told first bytes read text 
 Ends Told first bytes read text now Memory = StopsAfter Told first bytes read text now
 Ends Told first bytes read text now (Malformed number) = StopsAt Told first number bytes read text now
 Ends Told first bytes read text now Keeper = StaysClosed Told first bytes read text now
-Ends Told first bytes read text now (Damaged shelf key) = StaysClosed Told first bytes read text now
+Ends Told first bytes read text now (Damaged damage) = StaysClosed Told first bytes read text now
 
 -- the text, and no write failed; or a front of it, and one did
 abbrev pub IsPart : ℕ → ℕ → List ℕ → List ℕ → Type 0
@@ -182,7 +182,7 @@ abbrev pub IsOwnText : ℕ → ℕ → List ℕ → Ending → Type 0
 IsOwnText before now own Write = (own ≡ []) × Rose before now
 IsOwnText before now own Done = (own ≡ []) × (now ≡ before)
 IsOwnText before now own Keeper = IsPart before now own (status_text Keeper)
-IsOwnText before now own (Damaged shelf key) = IsPart before now own (status_text (Damaged shelf key))
+IsOwnText before now own (Damaged damage) = IsPart before now own (status_text (Damaged damage))
 IsOwnText before now own Read = IsPart before now own (status_text Read)
 IsOwnText before now own Memory = IsPart before now own (status_text Memory)
 IsOwnText before now own (Malformed number) = IsPart before now own (status_text (Malformed number))
@@ -208,7 +208,7 @@ ReadsSo old new Done = (new.faults ≡ old.faults) × (new.ends ≡ counted old.
 ReadsSo old new Read = Rose old.faults new.faults × (new.ends ≡ old.ends)
 ReadsSo old new Write = (new.faults ≡ old.faults) × ((new.ends ≡ old.ends) ⊎ (new.ends ≡ counted old.ends))
 ReadsSo old new Keeper = (new.faults ≡ old.faults) × ((new.ends ≡ old.ends) ⊎ (new.ends ≡ counted old.ends))
-ReadsSo old new (Damaged shelf key) = (new.faults ≡ old.faults) × ((new.ends ≡ old.ends) ⊎ (new.ends ≡ counted old.ends))
+ReadsSo old new (Damaged damage) = (new.faults ≡ old.faults) × ((new.ends ≡ old.ends) ⊎ (new.ends ≡ counted old.ends))
 ReadsSo old new Memory = (new.faults ≡ old.faults) × ((new.ends ≡ old.ends) ⊎ (new.ends ≡ counted old.ends))
 ReadsSo old new (Malformed number) = (new.faults ≡ old.faults) × ((new.ends ≡ old.ends) ⊎ (new.ends ≡ counted old.ends))
 
@@ -217,7 +217,7 @@ abbrev pub WritesSo : ℕ → ℕ → Ending → Type 0
 WritesSo before now Done = now ≡ before
 WritesSo before now Write = Rose before now
 WritesSo before now Keeper = (now ≡ before) ⊎ Rose before now
-WritesSo before now (Damaged shelf key) = (now ≡ before) ⊎ Rose before now
+WritesSo before now (Damaged damage) = (now ≡ before) ⊎ Rose before now
 WritesSo before now Read = (now ≡ before) ⊎ Rose before now
 WritesSo before now Memory = (now ≡ before) ⊎ Rose before now
 WritesSo before now (Malformed number) = (now ≡ before) ⊎ Rose before now
@@ -249,8 +249,8 @@ pub record Leaves (c : StoreChange) (now : Served) : Type 0 where
 -- first at this place, and is left as it is; or memory was refused.
 abbrev pub IsNotOpened : StoreChange → Ending → Type 0
 IsNotOpened c Keeper = Rose c.before c.after
-IsNotOpened c (Damaged shelf key) =
-    (loaded : Loaded) × WasStored c loaded × IsDamaged (2 ^ 32 - 1) loaded shelf key × (c.told → (held : Loaded) → c.opens held → c.holds held) × (c.after ≡ c.before)
+IsNotOpened c (Damaged damage) =
+    (loaded : Loaded) × WasStored c loaded × IsDamaged (2 ^ 32 - 1) loaded damage × (c.told → (held : Loaded) → c.opens held → c.holds held) × (c.after ≡ c.before)
 IsNotOpened c Memory = Unit {0}
 IsNotOpened c ending = ⊥
 
@@ -262,7 +262,7 @@ IsLeftAs c = c.told → ((held : Loaded) → c.held held → c.holds held) ⊎ (
 -- place doesn't tell.
 abbrev pub KeepsSo : StoreChange → Ending → Type 0
 KeepsSo c Keeper = Rose c.before c.after
-KeepsSo c (Damaged shelf key) = c.told → ⊥
+KeepsSo c (Damaged damage) = c.told → ⊥
 KeepsSo c ending = Unit {0}
 
 -- ---- What `run` promises of `feed`: the status is that of an ending. The store did not open, and nothing was read; or the faults

@@ -4,6 +4,7 @@ use Rattle.std.specs.List.{flat_map}
 use Rattle.percent_encoding.specs.Percent.{percent_encode_byte}
 use Rattle.rv_keeper.specs.declared.fault.KeepFault.{KeepFault}
 use Rattle.rv_keeper.specs.declared.fault.KeepFault.TheVariants as keeping
+use Rattle.rv_record.specs.declared.fault.Damage.{Damage}
 use Rattle.rv_answering.specs.declared.answer.Answer.{Answer}
 use Rattle.rv_answering.specs.Texts.{answer_status, answer_body}
 use Rattle.rv_desk.specs.declared.open_fault.OpenFault.{OpenFault}
@@ -23,7 +24,7 @@ text_of answer = line_text (answer_status answer) (answer_body answer)
 -- how a run ends whose desk is not opened
 abbrev pub fault_ending : OpenFault → Ending
 fault_ending faults.Keeper = Keeper
-fault_ending (faults.Damaged shelf key) = Damaged shelf key
+fault_ending (faults.Damaged damage) = Damaged damage
 fault_ending faults.Memory = Memory
 
 -- and whose keeper the place does not give
@@ -34,7 +35,7 @@ keep_ending keeping.Memory = Memory
 abbrev pub status_of : Ending → ℕ
 status_of Done = 0
 status_of Keeper = 4
-status_of (Damaged shelf key) = 5
+status_of (Damaged damage) = 5
 status_of Read = 6
 status_of Write = 7
 status_of Memory = 8
@@ -46,14 +47,14 @@ abbrev pub shown_byte : ℕ → List ℕ
 shown_byte byte = if nat_le 33 byte && nat_le byte 126 && not (byte == 37) then byte ∷ [] else percent_encode_byte byte
 
 -- SHELF KEY
-abbrev pub place_text : ℕ → List ℕ → List ℕ
-place_text shelf key = decimal shelf ++ (codes " " ++ flat_map shown_byte key)
+abbrev pub place_text : Damage → List ℕ
+place_text damage = decimal damage.shelf ++ (codes " " ++ flat_map shown_byte damage.key)
 
 -- the status's own text
 abbrev pub status_text : Ending → List ℕ
 status_text Done = []
 status_text Keeper = codes "keeper\n"
-status_text (Damaged shelf key) = codes "damaged: " ++ (place_text shelf key ++ codes "\n")
+status_text (Damaged damage) = codes "damaged: " ++ (place_text damage ++ codes "\n")
 status_text Read = codes "read\n"
 status_text Write = []
 status_text Memory = codes "memory\n"

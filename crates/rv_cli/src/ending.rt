@@ -1,6 +1,6 @@
-use rv_base::Bytes;
 use rv_desk::OpenFault;
 use rv_keeper::KeepFault;
+use rv_record::Damage;
 
 /// How a run ends.
 #[derive(Debug, Drop)]
@@ -9,8 +9,8 @@ pub enum Ending {
     Done,
     /// The place or the keeper failed in opening.
     Keeper,
-    /// What the store holds is first wrong at this shelf and key. Shelf 0 and no key are the generation.
-    Damaged(u8, Bytes),
+    /// The store is damaged, first at this place.
+    Damaged(Damage),
     /// A read failed.
     Read,
     /// A write of an answer failed.
@@ -31,7 +31,7 @@ impl Ending {
     {
         match fault {
             OpenFault::Keeper => Ending::Keeper,
-            OpenFault::Damaged(shelf, key) => Ending::Damaged(shelf, key),
+            OpenFault::Damaged(damage) => Ending::Damaged(damage),
             OpenFault::Memory => Ending::Memory,
         }
     }
@@ -43,7 +43,7 @@ impl Ending {
         match self {
             Ending::Done => 0,
             Ending::Keeper => 4,
-            Ending::Damaged(_, _) => 5,
+            Ending::Damaged(_) => 5,
             Ending::Read => 6,
             Ending::Write => 7,
             Ending::Memory => 8,

@@ -86,7 +86,7 @@ fn check_kept<P: Place>(
     place.close_keeper(store, keeper);
     match answer {
         CheckAnswer::Sound(entries) => Ok(entries),
-        CheckAnswer::Damaged(shelf, key) => Err(Ending::Damaged(shelf, key)),
+        CheckAnswer::Damaged(damage) => Err(Ending::Damaged(damage)),
         CheckAnswer::Keeper => Err(Ending::Keeper),
         CheckAnswer::Memory => Err(Ending::Memory),
     }

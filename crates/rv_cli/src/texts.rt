@@ -10,7 +10,8 @@ use crate::serve_ending::ServeEnding;
 use itoa::Buffer;
 use percent_encoding::percent_encode_byte;
 use rv_answering::Answer;
-use rv_base::{Bytes, Failed, Sink, write_all};
+use rv_base::{Failed, Sink, write_all};
+use rv_record::Damage;
 use rv_wire::{ErrorBody, error_text, retired_text};
 
 fn write_number<O: Sink>(out: &mut O, number: u64) -> Result<(), Failed>
@@ -119,33 +120,33 @@ fn write_key<O: Sink>(out: &mut O, key: &[u8]) -> Result<(), Failed>
 }
 
 // A shelf, a space and a key.
-fn write_place<O: Sink>(out: &mut O, shelf: u8, key: &[u8]) -> Result<(), Failed>
-    ensures writes { Writes (O.state out.old) (O.state out.new) result (place_text shelf key.now) }
+fn write_place<O: Sink>(out: &mut O, damage: &Damage) -> Result<(), Failed>
+    ensures writes { Writes (O.state out.old) (O.state out.new) result (place_text damage.now) }
     ensures steady { O.fails_no_more out.old → IsSteady (O.fails_no_more out.new) (O.state out.old) (O.state out.new) result }
 {
-    write_number(out, u64::from(shelf))?;
+    write_number(out, u64::from(damage.shelf))?;
     match write_all(out, b" ") {
-        Ok(()) => write_key(out, key),
+        Ok(()) => write_key(out, damage.key.as_slice()),
         Err(Failed) => Err(Failed),
     }
 }
 
-fn write_damaged<O: Sink>(out: &mut O, shelf: u8, key: &Bytes) -> Result<(), Failed>
-    ensures writes { Writes (O.state out.old) (O.state out.new) result (codes "damaged: " ++ (place_text shelf key.now ++ codes "\n")) }
+fn write_damaged<O: Sink>(out: &mut O, damage: &Damage) -> Result<(), Failed>
+    ensures writes { Writes (O.state out.old) (O.state out.new) result (codes "damaged: " ++ (place_text damage.now ++ codes "\n")) }
     ensures steady { O.fails_no_more out.old → IsSteady (O.fails_no_more out.new) (O.state out.old) (O.state out.new) result }
 {
     match write_all(out, b"damaged: ") {
-        Ok(()) => write_place_ended(out, shelf, key.as_slice()),
+        Ok(()) => write_place_ended(out, damage),
         Err(Failed) => Err(Failed),
     }
 }
 
 // A shelf, a space and a key, and LF.
-fn write_place_ended<O: Sink>(out: &mut O, shelf: u8, key: &[u8]) -> Result<(), Failed>
-    ensures writes { Writes (O.state out.old) (O.state out.new) result (place_text shelf key.now ++ codes "\n") }
+fn write_place_ended<O: Sink>(out: &mut O, damage: &Damage) -> Result<(), Failed>
+    ensures writes { Writes (O.state out.old) (O.state out.new) result (place_text damage.now ++ codes "\n") }
     ensures steady { O.fails_no_more out.old → IsSteady (O.fails_no_more out.new) (O.state out.old) (O.state out.new) result }
 {
-    write_place(out, shelf, key)?;
+    write_place(out, damage)?;
     write_all(out, b"\n")
 }
 
@@ -157,7 +158,7 @@ pub(crate) fn write_ending<O: Sink>(out: &mut O, ending: &Ending) -> Result<(), 
     match ending {
         Ending::Done => Ok(()),
         Ending::Keeper => write_all(out, b"keeper\n"),
-        Ending::Damaged(shelf, key) => write_damaged(out, *shelf, key),
+        Ending::Damaged(damage) => write_damaged(out, damage),
         Ending::Write => Ok(()),
         Ending::Read => write_all(out, b"read\n"),
         Ending::Memory => write_all(out, b"memory\n"),

@@ -1,8 +1,9 @@
 -- What opening a desk over a keeper answers.
-use Rattle.std.specs.Prelude.{◌≡◌, ◌≤◌, ℕ, List, None, Result, Ok, Err}
+use Rattle.std.specs.Prelude.{◌≡◌, ◌≤◌, ℕ, None, Result, Ok, Err}
 use Rattle.rv_base.specs.Causes.{Rose}
 use Rattle.rv_keeper.specs.declared.loaded.Loaded.{Loaded}
 use Rattle.rv_keeper.specs.Cells.{AreCells}
+use Rattle.rv_record.specs.declared.fault.Damage.{Damage}
 use Rattle.rv_store.specs.Opening.{MayOpen, IsDamaged}
 use Rattle.rv_desk.specs.declared.open_fault.OpenFault.{OpenFault}
 use Rattle.rv_desk.specs.declared.open_fault.OpenFault.TheVariants.{Keeper, Damaged, Memory}
@@ -27,10 +28,10 @@ module _ {K : Type 0} (tells fails_no_more : K → Type 0) (holds : K → Loaded
     pub goes_on : fails_no_more before → fails_no_more desk.keeper
 
   -- what was loaded is damaged first at this place; the keeper's count of faults stays
-  pub record IsDamagedIn (limit : ℕ) (before now : K) (shelf : ℕ) (key : List ℕ) : Type 0 where
+  pub record IsDamagedIn (limit : ℕ) (before now : K) (damage : Damage) : Type 0 where
     pub loaded : Loaded
     pub was : WasLoaded (tells now) (holds before) loaded
-    pub damaged : IsDamaged limit loaded shelf key
+    pub damaged : IsDamaged limit loaded damage
     pub still : faults now ≡ faults before
 
   -- a keeper that tells has told before, and holds what it held; its count of faults has not fallen; one that fails no more goes on so
@@ -44,7 +45,7 @@ module _ {K : Type 0} (tells fails_no_more : K → Type 0) (holds : K → Loaded
   -- memory was refused, and the count stays.
   abbrev pub IsRefused : ℕ → K → OpenFault → K → Type 0
   IsRefused limit before Keeper now = Rose (faults before) (faults now) × ¬ fails_no_more before
-  IsRefused limit before (Damaged shelf key) now = IsDamagedIn limit before now shelf key
+  IsRefused limit before (Damaged damage) now = IsDamagedIn limit before now damage
   IsRefused limit before Memory now = faults now ≡ faults before
 
   abbrev pub OpensOrNot : ℕ → K → Result (Seated K) (OpenFault × K) → Type 0
@@ -55,5 +56,5 @@ module _ {K : Type 0} (tells fails_no_more : K → Type 0) (holds : K → Loaded
   abbrev pub OpensLoaded : ℕ → Loaded → K → Result (Seated K) (OpenFault × K) → Type 0
   OpensLoaded limit loaded keeper (Ok desk) = MayOpen limit desk.book loaded × (desk ≡ record { book = desk.book; limit = limit; doubt = None; keeper = keeper })
   OpensLoaded limit loaded keeper (Err (Keeper, now)) = ⊥
-  OpensLoaded limit loaded keeper (Err (Damaged shelf key, now)) = IsDamaged limit loaded shelf key × (now ≡ keeper)
+  OpensLoaded limit loaded keeper (Err (Damaged damage, now)) = IsDamaged limit loaded damage × (now ≡ keeper)
   OpensLoaded limit loaded keeper (Err (Memory, now)) = now ≡ keeper

@@ -8,9 +8,10 @@ use rv_base::{Id, Num, User};
 use rv_book::Book;
 use rv_keeper::{KeepFault, Keeper, Loaded};
 use rv_news::Records;
+use rv_record::CellFault;
 use rv_rows::{Call, Tables};
 use rv_state::{Prepared, State};
-use rv_store::{Damage, restore};
+use rv_store::restore;
 use rv_turns::{Asked, Outcome, PullRequest, Refusal, Turns};
 use std::alloc::Global;
 use std::marker::Model;
@@ -133,8 +134,8 @@ impl<K: Keeper> Desk<K> {
                 keeper,
                 alloc,
             }),
-            Err(Damage::Damaged(shelf, key)) => Err((OpenFault::Damaged(shelf, key), keeper)),
-            Err(Damage::Memory) => Err((OpenFault::Memory, keeper)),
+            Err(CellFault::Damaged(damage)) => Err((OpenFault::Damaged(damage), keeper)),
+            Err(CellFault::Memory) => Err((OpenFault::Memory, keeper)),
         }
     }
 }

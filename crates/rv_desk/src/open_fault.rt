@@ -1,8 +1,4 @@
-ghost use Rattle.std.specs.Prelude.{◌≡◌};
-ghost use Rattle.rv_desk.specs.declared.open_fault.OpenFault.TheVariants as OpenFault;
-
-use rv_base::{Bytes, Memory};
-use rv_store::Damage;
+use rv_record::Damage;
 use thiserror::Error;
 
 /// Why a desk was not opened.
@@ -11,9 +7,9 @@ pub enum OpenFault {
     /// The keeper failed.
     #[error("the keeper failed")]
     Keeper,
-    /// What is kept is first wrong at this shelf and key. Shelf 0 and no key are the generation.
-    #[error("the store is damaged on shelf {0}")]
-    Damaged(u8, Bytes),
+    /// The store is damaged, first at this place.
+    #[error("the store is damaged on shelf {}", .0.shelf)]
+    Damaged(Damage),
     /// Memory was refused.
     #[error("out of memory")]
     Memory,

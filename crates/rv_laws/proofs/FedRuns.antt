@@ -70,7 +70,7 @@ module _ (Told : Type 0) (first now : Served) (bytes read text : List ℕ) where
   run_of left Memory consumed stops = of_answered stops.lines stops.others stops.are stops.answered
   run_of left (Malformed number) consumed stops = of_answered stops.lines (stops.line ∷ stops.others) stops.are stops.answered
   run_of left Keeper consumed closed = of_answered closed.lines (closed.line ∷ closed.others) closed.are closed.answered
-  run_of left (Damaged shelf key) consumed closed = of_answered closed.lines (closed.line ∷ closed.others) closed.are closed.answered
+  run_of left (Damaged damage) consumed closed = of_answered closed.lines (closed.line ∷ closed.others) closed.are closed.answered
 
 -- ---- The run.
 

@@ -44,7 +44,7 @@ no_accounts Told HasFile before after ending why of = absurd why
 
 no_store : (c : StoreChange) (ending : Ending) → IsNotOpened c ending → IsOf (status_of ending) → ⊥
 no_store c endings.Keeper why of = neither 4 (omega arith) (λ is. omega (arith, is)) of
-no_store c (endings.Damaged shelf key) why of = neither 5 (omega arith) (λ is. omega (arith, is)) of
+no_store c (endings.Damaged damage) why of = neither 5 (omega arith) (λ is. omega (arith, is)) of
 no_store c endings.Memory why of = neither 8 (omega arith) (λ is. omega (arith, is)) of
 no_store c ending why of = absurd why
 

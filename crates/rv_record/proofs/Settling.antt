@@ -6,7 +6,7 @@ use Rattle.std.proofs.lemmas.Option.{none-some, same_Some}
 use Rattle.std.proofs.lemmas.Slice.Eq.{bytes_eq-Decides}
 use Rattle.rv_keeper.specs.declared.cell.Cell.{Cell}
 use Rattle.rv_record.specs.declared.fault.CellFault.{CellFault}
-use Rattle.rv_record.specs.declared.fault.CellFault.TheVariants.{BadCell, Memory}
+use Rattle.rv_record.specs.declared.fault.CellFault.TheVariants.{Damaged, Memory}
 use Rattle.rv_record.specs.CellReading.{Blames, IsOfNone, Reads, same_cell}
 
 cells_are : (a b : Cell) → ((a.shelf ≡ b.shelf) × (a.key ≡ b.key)) × (a.body ≡ b.body) → a ≡ b
@@ -23,7 +23,7 @@ differs cell remade r tests unlike is = let yes : true ≡ false = sym ((same_ce
 
 module _ {A : Type 0} (cell_of : A → Cell) (Fits : A → Type 0) where
   pub blamed : (cell : Cell) (fault : CellFault) → Blames cell fault → IsOfNone cell_of Fits cell → Reads cell_of Fits cell (Err fault)
-  blamed cell (BadCell shelf key) is none = (is.0, is.1, none)
+  blamed cell (Damaged damage) is none = (is, none)
   blamed cell Memory is none = tt
 
   -- what was found has another cell

@@ -6,12 +6,17 @@ use Rattle.rv_base.specs.Options.{◌>>=◌}
 use Rattle.rv_base.specs.Texts.{IsWithin}
 use Rattle.rv_keeper.specs.declared.cell.Cell.{Cell}
 use Rattle.rv_record.specs.declared.fault.CellFault.{CellFault}
-use Rattle.rv_record.specs.declared.fault.CellFault.TheVariants.{BadCell, Memory}
+use Rattle.rv_record.specs.declared.fault.CellFault.TheVariants.{Damaged, Memory}
+use Rattle.rv_record.specs.declared.fault.Damage.{Damage}
 use Rattle.rv_record.specs.ValueReading.{json_in, text_of, text_item, num_item, flag_item}
+
+-- the damage at the cell's own place
+abbrev pub damage_at : Cell → Damage
+damage_at cell = record { shelf = cell.shelf; key = cell.key }
 
 -- the fault names the cell's own place, or says that memory was refused
 abbrev pub Blames : Cell → CellFault → Type 0
-Blames cell (BadCell shelf key) = (shelf ≡ cell.shelf) × (key ≡ cell.key)
+Blames cell (Damaged damage) = damage ≡ damage_at cell
 Blames cell Memory = Unit {0}
 
 module _ {A : Type 0} (cell_of : A → Cell) (Fits : A → Type 0) where
@@ -23,7 +28,7 @@ module _ {A : Type 0} (cell_of : A → Cell) (Fits : A → Type 0) where
   -- refused, which may come at any cell.
   abbrev pub Reads : Cell → Result A CellFault → Type 0
   Reads cell (Ok made) = cell ≡ cell_of made
-  Reads cell (Err (BadCell shelf key)) = (shelf ≡ cell.shelf) × (key ≡ cell.key) × IsOfNone cell
+  Reads cell (Err (Damaged damage)) = (damage ≡ damage_at cell) × IsOfNone cell
   Reads cell (Err Memory) = Unit {0}
 
 -- the cells have the same shelf, key and body

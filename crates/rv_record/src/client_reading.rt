@@ -3,7 +3,7 @@ ghost use Rattle.rv_record.specs.CellTexts.{client_cell, group_cell};
 ghost use Rattle.rv_record.specs.CellReading.{Reads, ClientFits, GroupFits, client_in, group_in};
 
 use crate::cells::{cell_of_client, cell_of_group};
-use crate::fault::{CellFault, bad_cell};
+use crate::fault::{CellFault, damaged};
 use crate::json_reading::read_json;
 use crate::same_cell::is_same;
 use crate::value_reading::{flag_item, num_item, text_item, text_of_bytes};
@@ -31,18 +31,18 @@ fn client_in(alloc: Global, cell: &Cell) -> Result<Option<(Id, Id, Num)>, Memory
     Ok(Some((client, group, last)))
 }
 
-/// The client whose cell this is, its group, and the last mutation id. Any other cell is `BadCell`.
+/// The client whose cell this is, its group, and the last mutation id. Any other cell is `Damaged`.
 pub fn client_of_cell(alloc: Global, cell: &Cell) -> Result<(Id, Id, Num), CellFault>
     ensures { Reads (λ c. client_cell c.0 c.1 c.2) ClientFits cell.now result }
 {
     let Some(made) = client_in(alloc, cell)? else {
-        return Err(bad_cell(alloc, cell));
+        return Err(damaged(alloc, cell));
     };
     let again = cell_of_client(alloc, &made.0, &made.1, made.2)?;
     if is_same(cell, &again) {
         Ok(made)
     } else {
-        Err(bad_cell(alloc, cell))
+        Err(damaged(alloc, cell))
     }
 }
 
@@ -70,17 +70,17 @@ fn group_in(alloc: Global, cell: &Cell) -> Result<Option<(Id, User, Num, bool)>,
 }
 
 /// The group whose cell this is, its user, the order of its last look, and whether it is retired. Any other cell is
-/// `BadCell`.
+/// `Damaged`.
 pub fn group_of_cell(alloc: Global, cell: &Cell) -> Result<(Id, User, Num, bool), CellFault>
     ensures { Reads (λ g. group_cell g.0 g.1 g.2 g.3) GroupFits cell.now result }
 {
     let Some(made) = group_in(alloc, cell)? else {
-        return Err(bad_cell(alloc, cell));
+        return Err(damaged(alloc, cell));
     };
     let again = cell_of_group(alloc, &made.0, &made.1, made.2, made.3)?;
     if is_same(cell, &again) {
         Ok(made)
     } else {
-        Err(bad_cell(alloc, cell))
+        Err(damaged(alloc, cell))
     }
 }

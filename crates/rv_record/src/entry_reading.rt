@@ -8,7 +8,7 @@ ghost use Rattle.rv_record.specs.EntryReading.{PlacedFits, act_in, look_in, entr
 
 use crate::call_reading::call_of_value;
 use crate::cells::cell_of_entry;
-use crate::fault::{CellFault, bad_cell};
+use crate::fault::{CellFault, damaged};
 use crate::json_reading::read_json;
 use crate::place_reading::place_of_key;
 use crate::same_cell::is_same;
@@ -124,21 +124,21 @@ fn entry_of_body(alloc: Global, body: &[u8]) -> Result<Option<Entry>, Memory>
     }
 }
 
-/// The entry whose cell this is, at its place, from 1. Any other cell is `BadCell`.
+/// The entry whose cell this is, at its place, from 1. Any other cell is `Damaged`.
 pub fn entry_of_cell(alloc: Global, cell: &Cell) -> Result<(u32, Entry), CellFault>
     ensures reads { Reads (λ e. entry_cell e.0 e.1) PlacedFits cell.now result }
     ensures place { IfOk result (λ e. 1 ≤ e.0) }
 {
     let Some(place) = place_of_key(cell.key.as_slice()) else {
-        return Err(bad_cell(alloc, cell));
+        return Err(damaged(alloc, cell));
     };
     let Some(entry) = entry_of_body(alloc, cell.body.as_slice())? else {
-        return Err(bad_cell(alloc, cell));
+        return Err(damaged(alloc, cell));
     };
     let again = cell_of_entry(alloc, place, &entry)?;
     if is_same(cell, &again) {
         Ok((place, entry))
     } else {
-        Err(bad_cell(alloc, cell))
+        Err(damaged(alloc, cell))
     }
 }

@@ -7,12 +7,22 @@ use rv_keeper::Cell;
 use std::alloc::Global;
 use thiserror::Error;
 
-/// Why a cell was not read.
+/// Where a store is damaged: the shelf and the key at which it does not hold what a book's cells have there. Shelf 0 and no key
+/// are the generation.
+#[derive(Debug, Drop)]
+pub struct Damage {
+    /// The shelf.
+    pub shelf: u8,
+    /// The key among those of the shelf.
+    pub key: Bytes,
+}
+
+/// Why cells were not read.
 #[derive(Debug, Drop, Error)]
 pub enum CellFault {
-    /// The cell on this shelf with this key is no cell of a book.
-    #[error("a cell on shelf {0} is damaged")]
-    BadCell(u8, Bytes),
+    /// What stands there is not what a book's cells have there: it is missing, is too much, or is another.
+    #[error("the store is damaged on shelf {}", .0.shelf)]
+    Damaged(Damage),
     /// Memory was refused.
     #[error("out of memory")]
     Memory,
@@ -26,12 +36,15 @@ impl From<Memory> for CellFault {
     }
 }
 
-// The fault of a cell that is no cell of a book: its place, or that memory was refused.
-pub(crate) fn bad_cell(alloc: Global, cell: &Cell) -> CellFault
+/// The damage at a cell's place, or that memory was refused.
+pub fn damaged(alloc: Global, cell: &Cell) -> CellFault
     ensures { Blames cell.now result }
 {
     match cell.key.as_slice().to_vec(alloc) {
-        Ok(key) => CellFault::BadCell(cell.shelf, Bytes::from_vec(key)),
+        Ok(key) => CellFault::Damaged(Damage {
+            shelf: cell.shelf,
+            key: Bytes::from_vec(key),
+        }),
         Err(_) => CellFault::Memory,
     }
 }

@@ -30,7 +30,7 @@ pub use cells::{
 };
 pub use client_reading::{client_of_cell, group_of_cell};
 pub use entry_reading::entry_of_cell;
-pub use fault::CellFault;
+pub use fault::{CellFault, Damage, damaged};
 pub use places::ten_digits;
 pub use row_reading::row_of_cell;
 pub use view_reading::view_of_cell;

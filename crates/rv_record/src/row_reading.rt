@@ -6,7 +6,7 @@ ghost use Rattle.rv_record.specs.CellReading.{Reads};
 ghost use Rattle.rv_record.specs.RowReading.{RowFits, row_cell_in};
 
 use crate::cells::cell_of_row;
-use crate::fault::{CellFault, bad_cell};
+use crate::fault::{CellFault, damaged};
 use crate::json_reading::read_json;
 use crate::same_cell::is_same;
 use crate::value_reading::place_item;
@@ -43,17 +43,17 @@ fn row_in(alloc: Global, cell: &Cell) -> Result<Option<(Row, u32)>, Memory>
     Ok(Some((row, version)))
 }
 
-/// The row whose cell this is, with its version. Any other cell is `BadCell`.
+/// The row whose cell this is, with its version. Any other cell is `Damaged`.
 pub fn row_of_cell(alloc: Global, cell: &Cell) -> Result<(Row, u32), CellFault>
     ensures { Reads (λ r. row_cell r.0 r.1) RowFits cell.now result }
 {
     let Some(made) = row_in(alloc, cell)? else {
-        return Err(bad_cell(alloc, cell));
+        return Err(damaged(alloc, cell));
     };
     let again = cell_of_row(alloc, &made.0, made.1)?;
     if is_same(cell, &again) {
         Ok(made)
     } else {
-        Err(bad_cell(alloc, cell))
+        Err(damaged(alloc, cell))
     }
 }

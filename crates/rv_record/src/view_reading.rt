@@ -7,7 +7,7 @@ ghost use Rattle.rv_record.specs.CellReading.{Reads};
 ghost use Rattle.rv_record.specs.ViewReading.{ViewFits, seen_in, pair_in, each_item, each_of, is_in_order, viewed, view_in, body_view};
 
 use crate::cells::cell_of_view;
-use crate::fault::{CellFault, bad_cell};
+use crate::fault::{CellFault, damaged};
 use crate::json_reading::read_json;
 use crate::key_reading::key_of_text;
 use crate::place_reading::place_of_key;
@@ -171,21 +171,21 @@ fn view_of_body(alloc: Global, body: &[u8]) -> Result<Option<ViewRecord>, Memory
     }
 }
 
-/// The kept view record whose cell this is, at the place of its look, from 1. Any other cell is `BadCell`.
+/// The kept view record whose cell this is, at the place of its look, from 1. Any other cell is `Damaged`.
 pub fn view_of_cell(alloc: Global, cell: &Cell) -> Result<(u32, ViewRecord), CellFault>
     ensures reads { Reads (λ v. view_cell v.0 v.1) ViewFits cell.now result }
     ensures place { IfOk result (λ v. 1 ≤ v.0) }
 {
     let Some(place) = place_of_key(cell.key.as_slice()) else {
-        return Err(bad_cell(alloc, cell));
+        return Err(damaged(alloc, cell));
     };
     let Some(view) = view_of_body(alloc, cell.body.as_slice())? else {
-        return Err(bad_cell(alloc, cell));
+        return Err(damaged(alloc, cell));
     };
     let again = cell_of_view(alloc, place, &view)?;
     if is_same(cell, &again) {
         Ok((place, view))
     } else {
-        Err(bad_cell(alloc, cell))
+        Err(damaged(alloc, cell))
     }
 }

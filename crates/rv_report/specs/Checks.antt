@@ -23,7 +23,7 @@ module _ {K : Type 0} (tells fails_no_more : K → Type 0) (holds : K → Loaded
   -- as opening answers with the greatest limit
   abbrev pub Answers : CheckAnswer → K → K → Type 0
   Answers (Sound entries) before now = IsSoundIn entries before now
-  Answers (Damaged shelf key) before now = IsDamagedIn tells fails_no_more holds faults (2 ^ 32 - 1) before now shelf key
+  Answers (Damaged damage) before now = IsDamagedIn tells fails_no_more holds faults (2 ^ 32 - 1) before now damage
   Answers Keeper before now = Rose (faults before) (faults now) × ¬ fails_no_more before
   Answers Memory before now = faults now ≡ faults before
 

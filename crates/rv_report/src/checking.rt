@@ -17,7 +17,7 @@ pub fn check<K: Keeper>(alloc: Global, keeper: K) -> (CheckAnswer, K)
         }
         Err((fault, keeper)) => match fault {
             OpenFault::Keeper => (CheckAnswer::Keeper, keeper),
-            OpenFault::Damaged(shelf, key) => (CheckAnswer::Damaged(shelf, key), keeper),
+            OpenFault::Damaged(damage) => (CheckAnswer::Damaged(damage), keeper),
             OpenFault::Memory => (CheckAnswer::Memory, keeper),
         },
     }

@@ -7,22 +7,22 @@ use Rattle.rv_history.specs.Replay.{IsReplay}
 use Rattle.rv_news.specs.Records.{Placed, AreRecords}
 use Rattle.rv_keeper.specs.declared.cell.Cell.{Cell}
 use Rattle.rv_keeper.specs.Cells.{cell_key}
-use Rattle.rv_store.specs.declared.damage.Damage.{Damage}
+use Rattle.rv_record.specs.declared.fault.CellFault.{CellFault}
 use Rattle.rv_store.specs.StoreCells.{AreDerived, derived_cells, row_cells, client_cells, group_cells, view_cells}
 use Rattle.rv_store.specs.StoreOrder.{derived_of-are_cells}
 use Rattle.rv_store.specs.OpeningSteps.{ComparesOthers, Departs, Differs}
 use Rattle.rv_store.proofs.FirstDifference.{in_order_behind, differs_behind}
 
 -- These differ so, where both are in order.
-abbrev DiffersInOrder : List Cell → List Cell → Damage → Type 0
-DiffersInOrder own loaded damage = InOrder cell_key own → InOrder cell_key loaded → Differs own loaded damage
+abbrev DiffersInOrder : List Cell → List Cell → CellFault → Type 0
+DiffersInOrder own loaded fault = InOrder cell_key own → InOrder cell_key loaded → Differs own loaded fault
 
 -- the same part in front of both
-behind_part : (part own loaded rest : List Cell) (damage : Damage) → loaded ≡ part ++ rest → DiffersInOrder own rest damage → DiffersInOrder (part ++ own) loaded damage
-behind_part part own loaded rest damage begins differs order also =
+behind_part : (part own loaded rest : List Cell) (fault : CellFault) → loaded ≡ part ++ rest → DiffersInOrder own rest fault → DiffersInOrder (part ++ own) loaded fault
+behind_part part own loaded rest fault begins differs order also =
     let inner : InOrder cell_key (part ++ rest) = subst (InOrder cell_key) begins also in
-    subst (λ (t : List Cell). Differs (part ++ own) t damage) (sym begins)
-    (differs_behind part own rest damage order inner (differs (in_order_behind part own order) (in_order_behind part rest inner)))
+    subst (λ (t : List Cell). Differs (part ++ own) t fault) (sym begins)
+    (differs_behind part own rest fault order inner (differs (in_order_behind part own order) (in_order_behind part rest inner)))
 
 pub records_of : (book : Book) (slice records : List Placed) → slice ≡ records → AreRecords book records → AreRecords book slice
 records_of book slice records is kept = subst (AreRecords book) (sym is) kept
@@ -35,30 +35,30 @@ module _ (whole book : Book) (same : book ≡ whole) (rows : List Stored) (recor
   own_order : InOrder cell_key (derived_cells book rows records)
   own_order = (derived_of-are_cells whole (derived_cells book rows records) small derived).order
 
-  fails : (damage : Damage) (r : Result (Unit {0}) Damage) → IsErrAnd r (λ d. d ≡ damage) → DiffersInOrder (derived_cells book rows records) others damage → ComparesOthers whole others r
-  fails damage (Ok done) is differs = absurd is
-  fails damage (Err d) is differs = (derived_cells book rows records, derived, subst (Differs (derived_cells book rows records) others) (sym is) (differs own_order order))
+  fails : (fault : CellFault) (r : Result (Unit {0}) CellFault) → IsErrAnd r (λ d. d ≡ fault) → DiffersInOrder (derived_cells book rows records) others fault → ComparesOthers whole others r
+  fails fault (Ok done) is differs = absurd is
+  fails fault (Err d) is differs = (derived_cells book rows records, derived, subst (Differs (derived_cells book rows records) others) (sym is) (differs own_order order))
 
-  pub rows_fail : (damage : Damage) (r : Result (Unit {0}) Damage) → IsErrAnd r (λ d. d ≡ damage) → Departs (row_cells rows) others damage → ComparesOthers whole others r
-  rows_fail damage r is departs = fails damage r is (departs (client_cells book ++ (group_cells book ++ view_cells records)))
+  pub rows_fail : (fault : CellFault) (r : Result (Unit {0}) CellFault) → IsErrAnd r (λ d. d ≡ fault) → Departs (row_cells rows) others fault → ComparesOthers whole others r
+  rows_fail fault r is departs = fails fault r is (departs (client_cells book ++ (group_cells book ++ view_cells records)))
 
   module _ (after_rows : List Cell) (rows_are : others ≡ row_cells rows ++ after_rows) where
-    pub clients_fail : (damage : Damage) (r : Result (Unit {0}) Damage) → IsErrAnd r (λ d. d ≡ damage) → Departs (client_cells book) after_rows damage → ComparesOthers whole others r
-    clients_fail damage r is departs = fails damage r is (behind_part (row_cells rows) _ others after_rows damage rows_are (departs (group_cells book ++ view_cells records)))
+    pub clients_fail : (fault : CellFault) (r : Result (Unit {0}) CellFault) → IsErrAnd r (λ d. d ≡ fault) → Departs (client_cells book) after_rows fault → ComparesOthers whole others r
+    clients_fail fault r is departs = fails fault r is (behind_part (row_cells rows) _ others after_rows fault rows_are (departs (group_cells book ++ view_cells records)))
 
     module _ (after_clients : List Cell) (clients_are : after_rows ≡ client_cells book ++ after_clients) where
-      behind_clients : (damage : Damage) → DiffersInOrder (group_cells book ++ view_cells records) after_clients damage → DiffersInOrder (derived_cells book rows records) others damage
-      behind_clients damage differs = behind_part (row_cells rows) _ others after_rows damage rows_are (behind_part (client_cells book) _ after_rows after_clients damage clients_are differs)
+      behind_clients : (fault : CellFault) → DiffersInOrder (group_cells book ++ view_cells records) after_clients fault → DiffersInOrder (derived_cells book rows records) others fault
+      behind_clients fault differs = behind_part (row_cells rows) _ others after_rows fault rows_are (behind_part (client_cells book) _ after_rows after_clients fault clients_are differs)
 
-      pub groups_fail : (damage : Damage) (r : Result (Unit {0}) Damage) → IsErrAnd r (λ d. d ≡ damage) → Departs (group_cells book) after_clients damage → ComparesOthers whole others r
-      groups_fail damage r is departs = fails damage r is (behind_clients damage (departs (view_cells records)))
+      pub groups_fail : (fault : CellFault) (r : Result (Unit {0}) CellFault) → IsErrAnd r (λ d. d ≡ fault) → Departs (group_cells book) after_clients fault → ComparesOthers whole others r
+      groups_fail fault r is departs = fails fault r is (behind_clients fault (departs (view_cells records)))
 
       module _ (after_groups : List Cell) (groups_are : after_clients ≡ group_cells book ++ after_groups) where
-        behind_groups : (damage : Damage) → DiffersInOrder (view_cells records) after_groups damage → DiffersInOrder (derived_cells book rows records) others damage
-        behind_groups damage differs = behind_clients damage (behind_part (group_cells book) _ after_clients after_groups damage groups_are differs)
+        behind_groups : (fault : CellFault) → DiffersInOrder (view_cells records) after_groups fault → DiffersInOrder (derived_cells book rows records) others fault
+        behind_groups fault differs = behind_clients fault (behind_part (group_cells book) _ after_clients after_groups fault groups_are differs)
 
-        pub records_fail : (damage : Damage) (r : Result (Unit {0}) Damage) → IsErrAnd r (λ d. d ≡ damage) → Departs (view_cells records) after_groups damage → ComparesOthers whole others r
-        records_fail damage r is departs = fails damage r is (behind_groups damage (subst (λ (t : List Cell). DiffersInOrder t after_groups damage) (append-nil (view_cells records)) (departs [])))
+        pub records_fail : (fault : CellFault) (r : Result (Unit {0}) CellFault) → IsErrAnd r (λ d. d ≡ fault) → Departs (view_cells records) after_groups fault → ComparesOthers whole others r
+        records_fail fault r is departs = fails fault r is (behind_groups fault (subst (λ (t : List Cell). DiffersInOrder t after_groups fault) (append-nil (view_cells records)) (departs [])))
 
         module _ (left : List Cell) (records_are : after_groups ≡ view_cells records ++ left) where
           -- what was met, and what is left over
@@ -71,11 +71,11 @@ module _ (whole book : Book) (same : book ≡ whole) (rows : List Stored) (recor
           left_in_order =
               in_order_behind (view_cells records) left (in_order_behind (group_cells book) _ (in_order_behind (client_cells book) _ (in_order_behind (row_cells rows) _ (subst (InOrder cell_key) met_all order))))
 
-          left_over : (damage : Damage) → Differs [] left damage → DiffersInOrder (view_cells records) after_groups damage
-          left_over damage differs =
-              subst (λ (t : List Cell). DiffersInOrder t after_groups damage) (append-nil (view_cells records)) (behind_part (view_cells records) [] after_groups left damage records_are (λ order also. differs))
+          left_over : (fault : CellFault) → Differs [] left fault → DiffersInOrder (view_cells records) after_groups fault
+          left_over fault differs =
+              subst (λ (t : List Cell). DiffersInOrder t after_groups fault) (append-nil (view_cells records)) (behind_part (view_cells records) [] after_groups left fault records_are (λ order also. differs))
 
-          pub compared : (r : Result (Unit {0}) Damage) → MatchResult r (λ _. left ≡ []) (λ d. Differs [] left d) → ComparesOthers whole others r
+          pub compared : (r : Result (Unit {0}) CellFault) → MatchResult r (λ _. left ≡ []) (λ d. Differs [] left d) → ComparesOthers whole others r
           compared (Ok done) ends =
               subst (AreDerived whole) (sym (met_all ∙ ap (λ (t : List Cell). row_cells rows ++ (client_cells book ++ (group_cells book ++ t))) (ap (λ (t : List Cell). view_cells records ++ t) ends ∙ append-nil (view_cells records)))) derived
-          compared (Err damage) ends = fails damage (Err damage) refl (behind_groups damage (left_over damage ends))
+          compared (Err fault) ends = fails fault (Err fault) refl (behind_groups fault (left_over fault ends))

@@ -9,7 +9,7 @@ use Rattle.rv_base.specs.Sorted.{put_by, sorted_by}
 use Rattle.rv_book.specs.Book.{Book, size}
 use Rattle.rv_book.specs.Registers.{client_told, clients_of, group_told, groups_of}
 use Rattle.rv_keeper.specs.declared.cell.Cell.{Cell}
-use Rattle.rv_store.specs.declared.damage.Damage.{Damage}
+use Rattle.rv_record.specs.declared.fault.CellFault.{CellFault}
 use Rattle.rv_store.specs.OpeningSteps.{Departs}
 use Rattle.rv_store.proofs.FirstDifference.{Met, met_begins, met_more, met_ends, met_fails}
 
@@ -67,10 +67,10 @@ module _ {X : Type 0} (cell_of : X → Cell) (own loaded : List Cell) where
   each_more items later item made rest others next is same met =
       met_more own (map cell_of items) loaded rest (cell_of item) (map cell_of later) others (ap (map cell_of) next) (same ∙ ap (λ (c : Cell). c ∷ others) is) met
 
-  pub each_fails : {T : Type 0} (items later : List X) (item : X) (made : Cell) (rest : List Cell) (damage : Damage) (P : T → Type 0) (r : Result T Damage) → IsErrAnd r (λ d. d ≡ damage) → items ≡ item ∷ later → made ≡ cell_of item
-      → Departs (made ∷ []) rest damage → Met own (map cell_of items) loaded rest → MatchResult r P (λ d. Departs own loaded d)
-  each_fails items later item made rest damage P (Ok x) fails next is departs met = absurd fails
-  each_fails items later item made rest damage P (Err d) fails next is departs met =
+  pub each_fails : {T : Type 0} (items later : List X) (item : X) (made : Cell) (rest : List Cell) (fault : CellFault) (P : T → Type 0) (r : Result T CellFault) → IsErrAnd r (λ d. d ≡ fault) → items ≡ item ∷ later → made ≡ cell_of item
+      → Departs (made ∷ []) rest fault → Met own (map cell_of items) loaded rest → MatchResult r P (λ d. Departs own loaded d)
+  each_fails items later item made rest fault P (Ok x) fails next is departs met = absurd fails
+  each_fails items later item made rest fault P (Err d) fails next is departs met =
       met_fails own (map cell_of items) loaded rest (cell_of item) (map cell_of later) d (ap (map cell_of) next) (subst (λ (c : Cell). Departs (c ∷ []) rest d) is (subst (Departs (made ∷ []) rest) (sym fails) departs)) met
 
   pub each_ends : (items : List X) (rest : List Cell) → items ≡ [] → Met own (map cell_of items) loaded rest → loaded ≡ own ++ rest

@@ -18,21 +18,19 @@ use Rattle.rv_keeper.specs.declared.cell.Cell.{Cell}
 use Rattle.rv_keeper.specs.declared.loaded.Loaded.{Loaded}
 use Rattle.rv_keeper.specs.Cells.{AreCells, cell_key}
 use Rattle.rv_record.specs.declared.fault.CellFault.{CellFault}
-use Rattle.rv_record.specs.declared.fault.CellFault.TheVariants as faults
+use Rattle.rv_record.specs.declared.fault.CellFault.TheVariants.{Damaged, Memory}
+use Rattle.rv_record.specs.declared.fault.Damage.{Damage}
 use Rattle.rv_record.specs.CellTexts.{entry_cell}
 use Rattle.rv_record.specs.PlaceOrder.{ten_digits-injective}
 use Rattle.rv_record.specs.EntryCells.{entry_body_injective}
-use Rattle.rv_record.specs.CellReading.{Reads}
+use Rattle.rv_record.specs.CellReading.{Blames, Reads}
 use Rattle.rv_record.specs.EntryReading.{IsPlace, EntryFits, PlacedFits}
-use Rattle.rv_store.specs.declared.damage.Damage.{Damage}
-use Rattle.rv_store.specs.declared.damage.Damage.TheVariants.{Damaged, Memory}
 use Rattle.rv_store.specs.StoreCells.{entry_cells}
 use Rattle.rv_store.specs.ShelfLaws.{all-append}
 use Rattle.rv_store.specs.StoreBooks.{entry_cells-with_entry}
-use Rattle.rv_store.specs.DamageOf.{damage_of}
 use Rattle.rv_store.specs.Opening.{IsSoundBook, IsBrokenEntry, BreaksAt, HasEntries}
 use Rattle.rv_state.specs.Standing.{Standing}
-use Rattle.rv_store.specs.OpeningSteps.{IsAt, IsNext, Breaks, ReadsNext, EntersAll}
+use Rattle.rv_store.specs.OpeningSteps.{IsNext, Breaks, ReadsNext, EntersAll}
 
 -- a cell is that of one entry at one place
 entry_cell-same : (place other : ℕ) (e f : Entry) → place < 10 ^ 10 → other < 10 ^ 10 → EntryFits e → EntryFits f → entry_cell place e ≡ entry_cell other f → (place ≡ other) × (e ≡ f)
@@ -50,13 +48,13 @@ is_next limit book cell place entry b fits is decides holds =
     let follows : Follows limit book place entry = decides.0 holds in
     record { fits = fits; made = is ∙ ap (λ (p : ℕ). entry_cell p entry) follows.1; below = follows.0; lawful = follows.2 }
 
-breaks_at : (limit : ℕ) (book : Book) (cell : Cell) (damage : Damage) → IsBrokenEntry limit book cell → IsAt cell damage → Breaks limit book cell damage
-breaks_at limit book cell (Damaged shelf key) broken is = (broken, is.0, is.1)
+breaks_at : (limit : ℕ) (book : Book) (cell : Cell) (fault : CellFault) → IsBrokenEntry limit book cell → Blames cell fault → Breaks limit book cell fault
+breaks_at limit book cell (Damaged damage) broken is = (broken, is)
 breaks_at limit book cell Memory broken is = tt
 
-pub not_next : (limit : ℕ) (book : Book) (cell : Cell) (place : ℕ) (entry : Entry) (b : Bool) (damage : Damage) → cell.shelf ≡ 1 → limit < 2 ^ 32 → IsPlace place → EntryFits entry → cell ≡ entry_cell place entry
-    → (IsTrue b ↔ Follows limit book place entry) → b ≡ false → IsAt cell damage → Breaks limit book cell damage
-not_next limit book cell place entry b damage shelf bound at fits is decides fails there = breaks_at limit book cell damage (record { shelf = shelf; none = none }) there
+pub not_next : (limit : ℕ) (book : Book) (cell : Cell) (place : ℕ) (entry : Entry) (b : Bool) (fault : CellFault) → cell.shelf ≡ 1 → limit < 2 ^ 32 → IsPlace place → EntryFits entry → cell ≡ entry_cell place entry
+    → (IsTrue b ↔ Follows limit book place entry) → b ≡ false → Blames cell fault → Breaks limit book cell fault
+not_next limit book cell place entry b fault shelf bound at fits is decides fails there = breaks_at limit book cell fault (record { shelf = shelf; none = none }) there
   where
     none : (other : Entry) → EntryFits other → cell ≡ entry_cell (size book + 1) other → size book < limit → IsLawfulAfter book other → ⊥
     none other also same below lawful =
@@ -65,14 +63,14 @@ not_next limit book cell place entry b damage shelf bound at fits is decides fai
         let both : true ≡ false = sym holds ∙ fails in
         cc
 
-pub not_read : (limit : ℕ) (book : Book) (cell : Cell) (fault : CellFault) → cell.shelf ≡ 1 → limit < 2 ^ 32 → Reads (λ e. entry_cell e.0 e.1) PlacedFits cell (Err fault) → Breaks limit book cell (damage_of fault)
-not_read limit book cell (faults.BadCell shelf key) on bound reads =
-    (record { shelf = on; none = λ entry fits is below lawful. reads.2 (size book + 1, entry) ((omega arith, omega arith), fits) is }, reads.0, reads.1)
-not_read limit book cell faults.Memory on bound reads = tt
+pub not_read : (limit : ℕ) (book : Book) (cell : Cell) (fault : CellFault) → cell.shelf ≡ 1 → limit < 2 ^ 32 → Reads (λ e. entry_cell e.0 e.1) PlacedFits cell (Err fault) → Breaks limit book cell fault
+not_read limit book cell (Damaged damage) on bound reads =
+    (record { shelf = on; none = λ entry fits is below lawful. reads.1 (size book + 1, entry) ((omega arith, omega arith), fits) is }, reads.0)
+not_read limit book cell Memory on bound reads = tt
 
-pub next_fails : (limit : ℕ) (book : Book) (cell : Cell) (damage : Damage) (r : Result Entry Damage) → IsErrAnd r (λ d. d ≡ damage) → Breaks limit book cell damage → ReadsNext limit book cell r
-next_fails limit book cell damage (Ok entry) is breaks = absurd is
-next_fails limit book cell damage (Err d) is breaks = subst (Breaks limit book cell) (sym is) breaks
+pub next_fails : (limit : ℕ) (book : Book) (cell : Cell) (fault : CellFault) (r : Result Entry CellFault) → IsErrAnd r (λ d. d ≡ fault) → Breaks limit book cell fault → ReadsNext limit book cell r
+next_fails limit book cell fault (Ok entry) is breaks = absurd is
+next_fails limit book cell fault (Err d) is breaks = subst (Breaks limit book cell) (sym is) breaks
 
 -- ---- the cells of entries
 
@@ -156,9 +154,9 @@ entered_first limit loaded cells index cell book are order below is apart entere
     let within : index < length loaded.cells = omega (arith, ap length are) in
     has_entries limit loaded index book (omega arith) (subst (λ (t : List Cell). Entered limit t index book) are entered) (beside_from index loaded.cells cell order.order order.shelves within there apart)
 
-entered_broken : (limit most : ℕ) (loaded : Loaded) (cells : List Cell) (index : ℕ) (cell : Cell) (book : Book) (shelf : ℕ) (key : List ℕ) → cells ≡ loaded.cells → most ≡ limit → index < length cells → cell ≡ get_or cells index cell
-    → Breaks most book cell (Damaged shelf key) → Entered limit cells index book → BreaksAt limit loaded shelf key
-entered_broken limit most loaded cells index cell book shelf key are same below is breaks entered = record {
+entered_broken : (limit most : ℕ) (loaded : Loaded) (cells : List Cell) (index : ℕ) (cell : Cell) (book : Book) (damage : Damage) → cells ≡ loaded.cells → most ≡ limit → index < length cells → cell ≡ get_or cells index cell
+    → Breaks most book cell (Damaged damage) → Entered limit cells index book → BreaksAt limit loaded damage
+entered_broken limit most loaded cells index cell book damage are same below is breaks entered = record {
   book = book;
   cell = cell;
   others = drop (index + 1) cells;
@@ -166,13 +164,12 @@ entered_broken limit most loaded cells index cell book shelf key are same below 
       ∙ (λ i. entered.cells_are i ++ (drop_more cells index cell below ∙ ap (λ (c : Cell). c ∷ drop (index + 1) cells) (sym is)) i);
   sound = entered.sound;
   broken = subst (λ (n : ℕ). IsBrokenEntry n book cell) same breaks.0;
-  on_shelf = breaks.1;
-  under_key = breaks.2;
+  at = breaks.1;
 }
 
-pub entered_fails : (limit most : ℕ) (loaded : Loaded) (cells : List Cell) (index : ℕ) (cell : Cell) (book : Book) (damage : Damage) (r : Result Standing Damage) → IsErrAnd r (λ d. d ≡ damage) → cells ≡ loaded.cells → most ≡ limit → index < length cells
-    → cell ≡ get_or cells index cell → Breaks most book cell damage → Entered limit cells index book → EntersAll limit loaded r
-entered_fails limit most loaded cells index cell book damage (Ok state) fails are same below is breaks entered = absurd fails
-entered_fails limit most loaded cells index cell book damage (Err (Damaged shelf key)) fails are same below is breaks entered =
-    entered_broken limit most loaded cells index cell book shelf key are same below is (subst (Breaks most book cell) (sym fails) breaks) entered
-entered_fails limit most loaded cells index cell book damage (Err Memory) fails are same below is breaks entered = tt
+pub entered_fails : (limit most : ℕ) (loaded : Loaded) (cells : List Cell) (index : ℕ) (cell : Cell) (book : Book) (fault : CellFault) (r : Result Standing CellFault) → IsErrAnd r (λ d. d ≡ fault) → cells ≡ loaded.cells → most ≡ limit → index < length cells
+    → cell ≡ get_or cells index cell → Breaks most book cell fault → Entered limit cells index book → EntersAll limit loaded r
+entered_fails limit most loaded cells index cell book fault (Ok state) fails are same below is breaks entered = absurd fails
+entered_fails limit most loaded cells index cell book fault (Err (Damaged damage)) fails are same below is breaks entered =
+    entered_broken limit most loaded cells index cell book damage are same below is (subst (Breaks most book cell) (sym fails) breaks) entered
+entered_fails limit most loaded cells index cell book fault (Err Memory) fails are same below is breaks entered = tt

@@ -1,7 +1,6 @@
 pub mod StoreCells
 pub mod ShelfLaws
 pub mod StoreOrder
-pub mod DamageOf
 pub mod Opening
 pub mod OpeningSteps
 pub mod StoreUnique

@@ -12,11 +12,13 @@ use Rattle.rv_history.specs.Lawful.{IsLawful, IsLawfulAfter}
 use Rattle.rv_keeper.specs.declared.cell.Cell.{Cell}
 use Rattle.rv_keeper.specs.declared.loaded.Loaded.{Loaded}
 use Rattle.rv_keeper.specs.Cells.{cell_key}
+use Rattle.rv_record.specs.declared.fault.CellFault.{CellFault}
+use Rattle.rv_record.specs.declared.fault.CellFault.TheVariants.{Damaged, Memory}
+use Rattle.rv_record.specs.declared.fault.Damage.{Damage}
+use Rattle.rv_record.specs.CellReading.{damage_at}
 use Rattle.rv_record.specs.CellTexts.{entry_cell}
 use Rattle.rv_record.specs.EntryReading.{EntryFits}
 use Rattle.rv_state.specs.Standing.{Standing}
-use Rattle.rv_store.specs.declared.damage.Damage.{Damage}
-use Rattle.rv_store.specs.declared.damage.Damage.TheVariants.{Damaged, Memory}
 use Rattle.rv_store.specs.StoreCells.{AreDerived, IsKeptAs, entry_cells}
 
 -- A lawful book of at most so many entries, each of which is of the form.
@@ -37,20 +39,19 @@ pub record IsBrokenEntry (limit : ℕ) (book : Book) (cell : Cell) : Type 0 wher
   pub none : (entry : Entry) → EntryFits entry → cell ≡ entry_cell (size book + 1) entry → size book < limit → IsLawfulAfter book entry → ⊥
 
 -- The least shelf and key at which the two hold not the same: a cell is missing, is too much, or has another body.
-pub record IsFirstDifference (own loaded : List Cell) (shelf : ℕ) (key : List ℕ) : Type 0 where
-  pub differs : ¬ (find_by cell_key (shelf ∷ key) own ≡ find_by cell_key (shelf ∷ key) loaded)
-  pub first : (place : List ℕ) → slice_cmp nat_cmp place (shelf ∷ key) ≡ Less → find_by cell_key place own ≡ find_by cell_key place loaded
+pub record IsFirstDifference (own loaded : List Cell) (damage : Damage) : Type 0 where
+  pub differs : ¬ (find_by cell_key (damage.shelf ∷ damage.key) own ≡ find_by cell_key (damage.shelf ∷ damage.key) loaded)
+  pub first : (place : List ℕ) → slice_cmp nat_cmp place (damage.shelf ∷ damage.key) ≡ Less → find_by cell_key place own ≡ find_by cell_key place loaded
 
 -- the entries are those of a sound book up to a cell of shelf 1 that breaks off
-pub record BreaksAt (limit : ℕ) (loaded : Loaded) (shelf : ℕ) (key : List ℕ) : Type 0 where
+pub record BreaksAt (limit : ℕ) (loaded : Loaded) (damage : Damage) : Type 0 where
   pub book : Book
   pub cell : Cell
   pub others : List Cell
   pub cells : loaded.cells ≡ entry_cells 1 book.entries ++ cell ∷ others
   pub sound : IsSoundBook limit book
   pub broken : IsBrokenEntry limit book cell
-  pub on_shelf : shelf ≡ cell.shelf
-  pub under_key : key ≡ cell.key
+  pub at : damage ≡ damage_at cell
 
 -- The entries are those of a sound book, and what stands on the shelves from 2 on.
 pub record HasEntries (limit : ℕ) (book : Book) (loaded : Loaded) (others : List Cell) : Type 0 where
@@ -59,33 +60,32 @@ pub record HasEntries (limit : ℕ) (book : Book) (loaded : Loaded) (others : Li
   pub sound : IsSoundBook limit book
 
 -- the entries are those of a sound book, whose other cells are not just the loaded ones, first at this place
-pub record DiffersAt (limit : ℕ) (loaded : Loaded) (shelf : ℕ) (key : List ℕ) : Type 0 where
+pub record DiffersAt (limit : ℕ) (loaded : Loaded) (damage : Damage) : Type 0 where
   pub book : Book
   pub others : List Cell
   pub own : List Cell
   pub entries : HasEntries limit book loaded others
   pub derived : AreDerived book own
-  pub difference : IsFirstDifference own others shelf key
+  pub difference : IsFirstDifference own others damage
 
 -- the cells are those of a sound book, and the generation is not the number of its entries; then the place is shelf 0 and no key
-pub record HasOtherGeneration (limit : ℕ) (loaded : Loaded) (shelf : ℕ) (key : List ℕ) : Type 0 where
+pub record HasOtherGeneration (limit : ℕ) (loaded : Loaded) (damage : Damage) : Type 0 where
   pub book : Book
   pub others : List Cell
   pub entries : HasEntries limit book loaded others
   pub derived : AreDerived book others
   pub generation : ¬ (loaded.generation ≡ size book)
-  pub on_shelf : shelf ≡ 0
-  pub under_key : key ≡ []
+  pub at : damage ≡ record { shelf = 0; key = [] }
 
 -- The first place that is wrong: among the entries; else on the other shelves; else the generation.
-pub data IsDamaged (limit : ℕ) (loaded : Loaded) (shelf : ℕ) (key : List ℕ) : Type 0 where
-  breaks : BreaksAt limit loaded shelf key → IsDamaged limit loaded shelf key
-  differs : DiffersAt limit loaded shelf key → IsDamaged limit loaded shelf key
-  another : HasOtherGeneration limit loaded shelf key → IsDamaged limit loaded shelf key
+pub data IsDamaged (limit : ℕ) (loaded : Loaded) (damage : Damage) : Type 0 where
+  breaks : BreaksAt limit loaded damage → IsDamaged limit loaded damage
+  differs : DiffersAt limit loaded damage → IsDamaged limit loaded damage
+  another : HasOtherGeneration limit loaded damage → IsDamaged limit loaded damage
 
 -- What opening answers: the state of the book that is kept as what was loaded; the first place that is wrong; or that memory
 -- was refused, which may come at any store.
-abbrev pub Restores : ℕ → Loaded → Result Standing Damage → Type 0
+abbrev pub Restores : ℕ → Loaded → Result Standing CellFault → Type 0
 Restores limit loaded (Ok state) = MayOpen limit state.book loaded × (state.limit ≡ limit)
-Restores limit loaded (Err (Damaged shelf key)) = IsDamaged limit loaded shelf key
+Restores limit loaded (Err (Damaged damage)) = IsDamaged limit loaded damage
 Restores limit loaded (Err Memory) = Unit {0}

@@ -8,11 +8,12 @@ use Rattle.rv_book.specs.BookWords.{size-with_entries}
 use Rattle.rv_keeper.specs.declared.cell.Cell.{Cell}
 use Rattle.rv_keeper.specs.declared.loaded.Loaded.{Loaded}
 use Rattle.rv_keeper.specs.Cells.{cell_key}
+use Rattle.rv_record.specs.declared.fault.CellFault.{CellFault}
+use Rattle.rv_record.specs.declared.fault.CellFault.TheVariants.{Damaged, Memory}
+use Rattle.rv_record.specs.declared.fault.Damage.{Damage}
 use Rattle.rv_record.specs.CellTexts.{entry_cell}
 use Rattle.rv_record.specs.EntryReading.{EntryFits}
 use Rattle.rv_state.specs.Standing.{Standing}
-use Rattle.rv_store.specs.declared.damage.Damage.{Damage}
-use Rattle.rv_store.specs.declared.damage.Damage.TheVariants.{Damaged, Memory}
 use Rattle.rv_store.specs.StoreCells.{AreDerived, entry_cells}
 use Rattle.rv_store.specs.StoreUnique.{derived_unique}
 use Rattle.rv_store.specs.StoreBooks.{AreBeside, entries_front, entries_beside, kept_parts, kept_unique}
@@ -33,8 +34,8 @@ not_broken limit book front more entry cell sound is made broken =
     let below : size front < limit = omega (arith, sound.within, ap size is, size-with_entries front (entry ∷ more)) in
     broken.none entry (all_behind EntryFits front.entries entry more (subst (λ (b : Book). AllByRecursion EntryFits b.entries) is sound.fits)) (made ∙ ap (λ (p : ℕ). entry_cell p entry) place) below (sound.lawful front more entry is)
 
-none_breaks : (limit : ℕ) (book : Book) (loaded : Loaded) (shelf : ℕ) (key : List ℕ) → MayOpen limit book loaded → ¬ BreaksAt limit loaded shelf key
-none_breaks limit book loaded shelf key opens b =
+none_breaks : (limit : ℕ) (book : Book) (loaded : Loaded) (damage : Damage) → MayOpen limit book loaded → ¬ BreaksAt limit loaded damage
+none_breaks limit book loaded damage opens b =
     let parts = kept_parts book loaded opens.kept in
     let rest = entries_front 1 book.entries b.book.entries parts.others (b.cell ∷ b.others) opens.sound.fits b.sound.fits parts.beside (sym parts.cells ∙ b.cells) in
     by_rest parts.others rest.0 parts.beside (ap book_of rest.1) rest.2
@@ -55,24 +56,24 @@ is_read limit book read loaded others opens has =
     let same : book ≡ read = ap book_of both.0 in
     record { same = same; derived = subst (λ (b : Book). AreDerived b others) same (subst (AreDerived book) both.1 parts.derived) }
 
-none_differs : (limit : ℕ) (book : Book) (loaded : Loaded) (shelf : ℕ) (key : List ℕ) → MayOpen limit book loaded → ¬ DiffersAt limit loaded shelf key
-none_differs limit book loaded shelf key opens d =
+none_differs : (limit : ℕ) (book : Book) (loaded : Loaded) (damage : Damage) → MayOpen limit book loaded → ¬ DiffersAt limit loaded damage
+none_differs limit book loaded damage opens d =
     let read = is_read limit book d.book loaded d.others opens d.entries in
-    d.difference.differs (ap (find_by cell_key (shelf ∷ key)) (derived_unique d.book d.own d.others d.derived read.derived))
+    d.difference.differs (ap (find_by cell_key (damage.shelf ∷ damage.key)) (derived_unique d.book d.own d.others d.derived read.derived))
 
-none_of_another : (limit : ℕ) (book : Book) (loaded : Loaded) (shelf : ℕ) (key : List ℕ) → MayOpen limit book loaded → ¬ HasOtherGeneration limit loaded shelf key
-none_of_another limit book loaded shelf key opens other =
+none_of_another : (limit : ℕ) (book : Book) (loaded : Loaded) (damage : Damage) → MayOpen limit book loaded → ¬ HasOtherGeneration limit loaded damage
+none_of_another limit book loaded damage opens other =
     let read = is_read limit book other.book loaded other.others opens other.entries in
     other.generation (opens.kept.generation ∙ ap size read.same)
 
 -- where a book opens, no place is damaged
-pub opens-not_damaged : (limit : ℕ) (book : Book) (loaded : Loaded) (shelf : ℕ) (key : List ℕ) → MayOpen limit book loaded → ¬ IsDamaged limit loaded shelf key
-opens-not_damaged limit book loaded shelf key opens (breaks b) = none_breaks limit book loaded shelf key opens b
-opens-not_damaged limit book loaded shelf key opens (differs d) = none_differs limit book loaded shelf key opens d
-opens-not_damaged limit book loaded shelf key opens (another other) = none_of_another limit book loaded shelf key opens other
+pub opens-not_damaged : (limit : ℕ) (book : Book) (loaded : Loaded) (damage : Damage) → MayOpen limit book loaded → ¬ IsDamaged limit loaded damage
+opens-not_damaged limit book loaded damage opens (breaks b) = none_breaks limit book loaded damage opens b
+opens-not_damaged limit book loaded damage opens (differs d) = none_differs limit book loaded damage opens d
+opens-not_damaged limit book loaded damage opens (another other) = none_of_another limit book loaded damage opens other
 
 -- Where a book opens, opening answers its state, or that memory was refused.
-pub restores-opens : (limit : ℕ) (book : Book) (loaded : Loaded) (result : Result Standing Damage) → MayOpen limit book loaded → Restores limit loaded result → MatchResult result (λ state. state.book ≡ book) (λ damage. damage ≡ Memory)
+pub restores-opens : (limit : ℕ) (book : Book) (loaded : Loaded) (result : Result Standing CellFault) → MayOpen limit book loaded → Restores limit loaded result → MatchResult result (λ state. state.book ≡ book) (λ fault. fault ≡ Memory)
 restores-opens limit book loaded (Ok state) opens restores = opens_one limit state.book book loaded restores.0 opens
-restores-opens limit book loaded (Err (Damaged shelf key)) opens damaged = absurd (opens-not_damaged limit book loaded shelf key opens damaged)
+restores-opens limit book loaded (Err (Damaged damage)) opens damaged = absurd (opens-not_damaged limit book loaded damage opens damaged)
 restores-opens limit book loaded (Err Memory) opens memory = refl

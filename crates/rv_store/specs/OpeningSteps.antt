@@ -8,18 +8,14 @@ use Rattle.rv_history.specs.Lawful.{IsLawfulAfter}
 use Rattle.rv_keeper.specs.declared.cell.Cell.{Cell}
 use Rattle.rv_keeper.specs.declared.loaded.Loaded.{Loaded}
 use Rattle.rv_keeper.specs.Cells.{cell_key}
+use Rattle.rv_record.specs.declared.fault.CellFault.{CellFault}
+use Rattle.rv_record.specs.declared.fault.CellFault.TheVariants.{Damaged, Memory}
+use Rattle.rv_record.specs.CellReading.{damage_at}
 use Rattle.rv_record.specs.CellTexts.{entry_cell}
 use Rattle.rv_record.specs.EntryReading.{EntryFits}
 use Rattle.rv_state.specs.Standing.{Standing}
-use Rattle.rv_store.specs.declared.damage.Damage.{Damage}
-use Rattle.rv_store.specs.declared.damage.Damage.TheVariants.{Damaged, Memory}
 use Rattle.rv_store.specs.StoreCells.{AreDerived}
 use Rattle.rv_store.specs.Opening.{IsBrokenEntry, IsFirstDifference, BreaksAt, HasEntries}
-
--- the damage is at the cell's place, or memory was refused
-abbrev pub IsAt : Cell → Damage → Type 0
-IsAt cell (Damaged shelf key) = (shelf ≡ cell.shelf) × (key ≡ cell.key)
-IsAt cell Memory = Unit {0}
 
 -- the cell is that of an entry of the form which may come next
 pub record IsNext (limit : ℕ) (book : Book) (cell : Cell) (entry : Entry) : Type 0 where
@@ -29,38 +25,38 @@ pub record IsNext (limit : ℕ) (book : Book) (cell : Cell) (entry : Entry) : Ty
   pub lawful : IsLawfulAfter book entry
 
 -- the cell is that of no entry which may come next, and the damage is at its place; or memory was refused
-abbrev pub Breaks : ℕ → Book → Cell → Damage → Type 0
-Breaks limit book cell (Damaged shelf key) = IsBrokenEntry limit book cell × (shelf ≡ cell.shelf) × (key ≡ cell.key)
+abbrev pub Breaks : ℕ → Book → Cell → CellFault → Type 0
+Breaks limit book cell (Damaged damage) = IsBrokenEntry limit book cell × (damage ≡ damage_at cell)
 Breaks limit book cell Memory = Unit {0}
 
 -- what is answered of a cell of shelf 1: the entry which comes next, or why there is none
-abbrev pub ReadsNext : ℕ → Book → Cell → Result Entry Damage → Type 0
+abbrev pub ReadsNext : ℕ → Book → Cell → Result Entry CellFault → Type 0
 ReadsNext limit book cell (Ok entry) = IsNext limit book cell entry
-ReadsNext limit book cell (Err damage) = Breaks limit book cell damage
+ReadsNext limit book cell (Err fault) = Breaks limit book cell fault
 
 -- what is answered of a cell of shelf 1 whose entry is entered, and the book then
-abbrev pub EntersNext : ℕ → Book → Cell → Book → Result (Unit {0}) Damage → Type 0
+abbrev pub EntersNext : ℕ → Book → Cell → Book → Result (Unit {0}) CellFault → Type 0
 EntersNext limit book cell next (Ok done) = (entry : Entry) × IsNext limit book cell entry × (next ≡ with_entry book entry)
-EntersNext limit book cell next (Err damage) = Breaks limit book cell damage
+EntersNext limit book cell next (Err fault) = Breaks limit book cell fault
 
 -- What is answered when all entries are entered: the state of their book, beside which the loaded cells have what stands on
 -- the shelves from 2 on; or the cell that breaks off.
-abbrev pub EntersAll : ℕ → Loaded → Result Standing Damage → Type 0
+abbrev pub EntersAll : ℕ → Loaded → Result Standing CellFault → Type 0
 EntersAll limit loaded (Ok state) = HasEntries limit state.book loaded (drop (size state.book) loaded.cells) × (state.limit ≡ limit)
-EntersAll limit loaded (Err (Damaged shelf key)) = BreaksAt limit loaded shelf key
+EntersAll limit loaded (Err (Damaged damage)) = BreaksAt limit loaded damage
 EntersAll limit loaded (Err Memory) = Unit {0}
 
 -- the damage is at the first place where the two hold not the same, or memory was refused
-abbrev pub Differs : List Cell → List Cell → Damage → Type 0
-Differs own loaded (Damaged shelf key) = IsFirstDifference own loaded shelf key
+abbrev pub Differs : List Cell → List Cell → CellFault → Type 0
+Differs own loaded (Damaged damage) = IsFirstDifference own loaded damage
 Differs own loaded Memory = Unit {0}
 
 -- However a book's cells go on after these in their order, they differ from the loaded ones, first where the damage is.
-abbrev pub Departs : List Cell → List Cell → Damage → Type 0
-Departs own loaded damage = (more : List Cell) → InOrder cell_key (own ++ more) → InOrder cell_key loaded → Differs (own ++ more) loaded damage
+abbrev pub Departs : List Cell → List Cell → CellFault → Type 0
+Departs own loaded fault = (more : List Cell) → InOrder cell_key (own ++ more) → InOrder cell_key loaded → Differs (own ++ more) loaded fault
 
 -- What is answered of the loaded cells beside the entries: that they follow from the book; or where those that follow from
 -- it first differ from them.
-abbrev pub ComparesOthers : Book → List Cell → Result (Unit {0}) Damage → Type 0
+abbrev pub ComparesOthers : Book → List Cell → Result (Unit {0}) CellFault → Type 0
 ComparesOthers book others (Ok done) = AreDerived book others
-ComparesOthers book others (Err damage) = (own : List Cell) × AreDerived book own × Differs own others damage
+ComparesOthers book others (Err fault) = (own : List Cell) × AreDerived book own × Differs own others fault

@@ -7,11 +7,9 @@ ghost use Rattle.rv_keeper.specs.Cells.{cell_key};
 ghost use Rattle.rv_store.specs.StoreCells.{client_cells, group_cells, row_cells, view_cells};
 ghost use Rattle.rv_store.specs.OpeningSteps.{ComparesOthers, Departs, Differs};
 
-use crate::damage::Damage;
-use crate::damaged::damaged;
 use rv_book::Book;
 use rv_keeper::Cell;
-use rv_record::{cell_of_client, cell_of_group, cell_of_row, cell_of_view};
+use rv_record::{CellFault, cell_of_client, cell_of_group, cell_of_row, cell_of_view, damaged};
 use rv_rows::Tables;
 use rv_state::State;
 use rv_views::ViewRecord;
@@ -19,8 +17,8 @@ use std::alloc::Global;
 use std::cmp::Ordering;
 
 // The loaded cells after the first one, where that is the book's next cell.
-fn meet<'a>(alloc: Global, own: &Cell, loaded: &'a [Cell]) -> Result<&'a [Cell], Damage>
-    ensures { MatchResult result (λ rest. loaded.now ≡ own.now ∷ rest.now) (λ damage. Departs (own.now ∷ []) loaded.now damage) }
+fn meet<'a>(alloc: Global, own: &Cell, loaded: &'a [Cell]) -> Result<&'a [Cell], CellFault>
+    ensures { MatchResult result (λ rest. loaded.now ≡ own.now ∷ rest.now) (λ fault. Departs (own.now ∷ []) loaded.now fault) }
 {
     let Some((first, rest)) = loaded.split_first() else {
         return Err(damaged(alloc, own));
@@ -39,8 +37,12 @@ fn meet<'a>(alloc: Global, own: &Cell, loaded: &'a [Cell]) -> Result<&'a [Cell],
 }
 
 // The loaded cells after those of the rows, where they begin with them.
-fn meet_rows<'a>(alloc: Global, tables: &Tables, loaded: &'a [Cell]) -> Result<&'a [Cell], Damage>
-    ensures { MatchResult result (λ rest. loaded.now ≡ row_cells tables.now.rows ++ rest.now) (λ damage. Departs (row_cells tables.now.rows) loaded.now damage) }
+fn meet_rows<'a>(
+    alloc: Global,
+    tables: &Tables,
+    loaded: &'a [Cell],
+) -> Result<&'a [Cell], CellFault>
+    ensures { MatchResult result (λ rest. loaded.now ≡ row_cells tables.now.rows ++ rest.now) (λ fault. Departs (row_cells tables.now.rows) loaded.now fault) }
 {
     let mut rest = loaded;
     for (row, version) in tables.iter() {
@@ -55,8 +57,8 @@ fn meet_records<'a>(
     alloc: Global,
     records: &[(u32, ViewRecord)],
     loaded: &'a [Cell],
-) -> Result<&'a [Cell], Damage>
-    ensures { MatchResult result (λ rest. loaded.now ≡ view_cells records.now ++ rest.now) (λ damage. Departs (view_cells records.now) loaded.now damage) }
+) -> Result<&'a [Cell], CellFault>
+    ensures { MatchResult result (λ rest. loaded.now ≡ view_cells records.now ++ rest.now) (λ fault. Departs (view_cells records.now) loaded.now fault) }
 {
     let mut rest = loaded;
     for (place, view) in records {
@@ -67,8 +69,8 @@ fn meet_records<'a>(
 }
 
 // The loaded cells after those of the clients, where they begin with them.
-fn meet_clients<'a>(alloc: Global, book: &Book, loaded: &'a [Cell]) -> Result<&'a [Cell], Damage>
-    ensures { MatchResult result (λ rest. loaded.now ≡ client_cells book.now.book ++ rest.now) (λ damage. Departs (client_cells book.now.book) loaded.now damage) }
+fn meet_clients<'a>(alloc: Global, book: &Book, loaded: &'a [Cell]) -> Result<&'a [Cell], CellFault>
+    ensures { MatchResult result (λ rest. loaded.now ≡ client_cells book.now.book ++ rest.now) (λ fault. Departs (client_cells book.now.book) loaded.now fault) }
 {
     let mut rest = loaded;
     for index in 0..book.len() {
@@ -82,9 +84,9 @@ fn meet_clients<'a>(alloc: Global, book: &Book, loaded: &'a [Cell]) -> Result<&'
 }
 
 // The loaded cells after those of the groups, where they begin with them.
-fn meet_groups<'a>(alloc: Global, book: &Book, loaded: &'a [Cell]) -> Result<&'a [Cell], Damage>
+fn meet_groups<'a>(alloc: Global, book: &Book, loaded: &'a [Cell]) -> Result<&'a [Cell], CellFault>
     requires { RetiresBound book.now.book }
-    ensures { MatchResult result (λ rest. loaded.now ≡ group_cells book.now.book ++ rest.now) (λ damage. Departs (group_cells book.now.book) loaded.now damage) }
+    ensures { MatchResult result (λ rest. loaded.now ≡ group_cells book.now.book ++ rest.now) (λ fault. Departs (group_cells book.now.book) loaded.now fault) }
 {
     let mut rest = loaded;
     for index in 0..book.len() {
@@ -98,9 +100,9 @@ fn meet_groups<'a>(alloc: Global, book: &Book, loaded: &'a [Cell]) -> Result<&'a
 }
 
 // That no loaded cell is left.
-fn meet_end(alloc: Global, rest: &[Cell]) -> Result<(), Damage>
+fn meet_end(alloc: Global, rest: &[Cell]) -> Result<(), CellFault>
     requires { InOrder cell_key rest.now }
-    ensures { MatchResult result (λ _. rest.now ≡ []) (λ damage. Differs [] rest.now damage) }
+    ensures { MatchResult result (λ _. rest.now ≡ []) (λ fault. Differs [] rest.now fault) }
 {
     match rest.first() {
         Some(cell) => Err(damaged(alloc, cell)),
@@ -110,7 +112,7 @@ fn meet_end(alloc: Global, rest: &[Cell]) -> Result<(), Damage>
 
 // Whether the loaded cells beside those of the entries are the ones that follow from the book. Each of these is made anew and
 // compared before the next.
-pub(crate) fn compare_others(alloc: Global, state: &State, others: &[Cell]) -> Result<(), Damage>
+pub(crate) fn compare_others(alloc: Global, state: &State, others: &[Cell]) -> Result<(), CellFault>
     requires size { size state.now.book < 2 ^ 32 }
     requires order { InOrder cell_key others.now }
     ensures { ComparesOthers state.now.book others.now result }

@@ -5,11 +5,9 @@ ghost use Rattle.rv_history.specs.Lawful.{IsLawfulAfter};
 ghost use Rattle.rv_keeper.specs.Cells.{AreCells};
 ghost use Rattle.rv_store.specs.OpeningSteps.{EntersAll, EntersNext, ReadsNext};
 
-use crate::damage::Damage;
-use crate::damaged::damaged;
 use rv_book::{Book, Entry};
 use rv_keeper::{Cell, Loaded};
-use rv_record::entry_of_cell;
+use rv_record::{CellFault, damaged, entry_of_cell};
 use rv_state::{State, entry_fits, may_stand};
 use std::alloc::Global;
 
@@ -23,7 +21,7 @@ fn may_follow(book: &Book, place: u32, entry: &Entry) -> bool
 }
 
 // The entry whose cell this is, where it may come next.
-fn next_entry(alloc: Global, book: &Book, cell: &Cell) -> Result<Entry, Damage>
+fn next_entry(alloc: Global, book: &Book, cell: &Cell) -> Result<Entry, CellFault>
     requires shelf { cell.now.shelf ≡ 1 }
     requires limit { book.now.limit < 2 ^ 32 }
     ensures { ReadsNext book.now.limit book.now.book cell.now result }
@@ -38,7 +36,7 @@ fn next_entry(alloc: Global, book: &Book, cell: &Cell) -> Result<Entry, Damage>
 }
 
 // Enters the entry whose cell this is, where it may come next.
-fn enter_next(alloc: Global, state: &mut State, cell: &Cell) -> Result<(), Damage>
+fn enter_next(alloc: Global, state: &mut State, cell: &Cell) -> Result<(), CellFault>
     requires shelf { cell.now.shelf ≡ 1 }
     requires limit { state.old.limit < 2 ^ 32 }
     ensures next { EntersNext state.old.limit state.old.book cell.now state.new.book result }
@@ -51,7 +49,7 @@ fn enter_next(alloc: Global, state: &mut State, cell: &Cell) -> Result<(), Damag
 }
 
 // The state of the entries whose cells stand on shelf 1.
-pub(crate) fn enter_all(alloc: Global, loaded: &Loaded, limit: u32) -> Result<State, Damage>
+pub(crate) fn enter_all(alloc: Global, loaded: &Loaded, limit: u32) -> Result<State, CellFault>
     requires { AreCells loaded.now.cells }
     ensures { EntersAll limit loaded.now result }
 {

@@ -8,13 +8,10 @@
 
 mod changes;
 mod comparing;
-mod damage;
-mod damaged;
 mod entering;
 mod restoring;
 mod row_changes;
 mod view_changes;
 
 pub use changes::changes_for;
-pub use damage::Damage;
 pub use restoring::restore;

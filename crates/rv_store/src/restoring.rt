@@ -4,10 +4,10 @@ ghost use Rattle.rv_keeper.specs.Cells.{AreCells};
 ghost use Rattle.rv_store.specs.Opening.{Restores};
 
 use crate::comparing::compare_others;
-use crate::damage::Damage;
 use crate::entering::enter_all;
 use rv_base::Bytes;
 use rv_keeper::{Cell, Loaded};
+use rv_record::{CellFault, Damage};
 use rv_state::State;
 use std::alloc::Global;
 
@@ -23,7 +23,7 @@ fn cells_after(loaded: &Loaded, count: u32) -> &[Cell]
 /// entries; and else the first place that is wrong: the first cell of an entry that is not the next place's, that is no
 /// entry, that is above the limit or may not stand after those before it; then the first place of the other shelves at which
 /// the cells and those of the book differ; then the generation.
-pub fn restore(alloc: Global, loaded: &Loaded, limit: u32) -> Result<State, Damage>
+pub fn restore(alloc: Global, loaded: &Loaded, limit: u32) -> Result<State, CellFault>
     requires { AreCells loaded.now.cells }
     ensures { Restores limit loaded.now result }
 {
@@ -33,6 +33,9 @@ pub fn restore(alloc: Global, loaded: &Loaded, limit: u32) -> Result<State, Dama
     if loaded.generation == u64::from(count) {
         Ok(state)
     } else {
-        Err(Damage::Damaged(0, Bytes::new(alloc)))
+        Err(CellFault::Damaged(Damage {
+            shelf: 0,
+            key: Bytes::new(alloc),
+        }))
     }
 }

@@ -11,9 +11,9 @@ abbrev row_cells : Row × ℕ → Cell
 row_cells r = row_cell r.0 r.1
 
 pub returns-in_default : goal.returns-in_default
-returns-in_default c = not_found row_cells RowFits row_cell_in row_cell_again c.args.cell.now c.in_ok-made.field-0 c.bad_cell.result c.in_default.is c.in_ok-made.ensures c.bad_cell.ensures
+returns-in_default c = not_found row_cells RowFits row_cell_in row_cell_again c.args.cell.now c.in_ok-made.field-0 c.damaged.result c.in_default.is c.in_ok-made.ensures c.damaged.ensures
 
 pub returns-else-is_same : goal.returns-else-is_same
 returns-else-is_same c =
-    other_found row_cells RowFits row_cell_in row_cell_again c.args.cell.now c.in_ok-again.again c.in_ok-made.field-0 c.in-Some.made c.is_same.result c.bad_cell-else-is_same.result
-    c.in-Some.is c.in_ok-made.ensures c.in_ok-again.ensures c.is_same.ensures c.if-is_same.false c.bad_cell-else-is_same.ensures
+    other_found row_cells RowFits row_cell_in row_cell_again c.args.cell.now c.in_ok-again.again c.in_ok-made.field-0 c.in-Some.made c.is_same.result c.damaged-else-is_same.result
+    c.in-Some.is c.in_ok-made.ensures c.in_ok-again.ensures c.is_same.ensures c.if-is_same.false c.damaged-else-is_same.ensures
