@@ -59,8 +59,8 @@ def find(rows, kind, row_id):
     return next((row for other, row in rows if other == kind and row["id"] == row_id), None)
 
 
-def may(rows, user, list_id):
-    """Whether a user may see a list."""
+def sees(rows, user, list_id):
+    """Whether a user sees a list."""
     found = find(rows, "list", list_id)
     shared = any(k == "share" and r["listID"] == list_id and r["userID"] == user for k, r in rows)
     return found is not None and (found["ownerID"] == user or shared)
@@ -95,11 +95,11 @@ def effect(rows, user, name, args):
         return without(rows, "share", row_id) if fits else rows
     found = find(rows, "todo", row_id)
     if name == "createTodo":
-        if found is not None or not may(rows, user, args["listID"]):
+        if found is not None or not sees(rows, user, args["listID"]):
             return rows
         greatest = max((r["sort"] for k, r in rows if k == "todo" and r["listID"] == args["listID"]), default=0)
         return rows + [("todo", {**args, "sort": min(greatest + 1, GREATEST)})]
-    if found is None or not may(rows, user, found["listID"]):
+    if found is None or not sees(rows, user, found["listID"]):
         return rows
     if name == "deleteTodo":
         return without(rows, "todo", row_id)
@@ -150,9 +150,9 @@ class Server:
         acts = {client: self.acts(client, place) for client in clients}
         return {client: len(acts[client]) for client in clients if acts[client][0][2] == group}
 
-    def sees(self, user, place):
+    def seen(self, user, place):
         rows = self.states[place]
-        return by_key((k, r) for k, r in rows if may(rows, user, r["id"] if k == "list" else r["listID"]))
+        return by_key((k, r) for k, r in rows if sees(rows, user, r["id"] if k == "list" else r["listID"]))
 
     def is_written(self, key, place):
         after = by_key(self.states[place]).get(key)
@@ -192,12 +192,12 @@ class Server:
         return 200, {}
 
     def patch(self, user, base):
-        now = self.sees(user, len(self.book))
+        now = self.seen(user, len(self.book))
         puts = in_order(now)
         if base is None:
             ops = [{"op": "clear"}]
         else:
-            then = self.sees(user, base)
+            then = self.seen(user, base)
             since = range(base + 1, len(self.book) + 1)
             ops = [{"key": key, "op": "del"} for key in in_order(then) if key not in now]
             puts = [key for key in puts if key not in then or any(self.is_written(key, place) for place in since)]
@@ -264,7 +264,7 @@ def entry_value(entry, ids):
 def view_value(server, place, versions):
     """The view record of a look, with the versions of the rows there."""
     user, group = server.book[place - 1][1:3]
-    seen, ids = server.sees(user, place), server.ids(group, place)
+    seen, ids = server.seen(user, place), server.ids(group, place)
     return [[[key, versions[key]] for key in in_order(seen)], [[client, ids[client]] for client in in_order(ids)]]
 
 

@@ -138,12 +138,15 @@ fn give_up<O: Sink>(out: &mut O) -> u8
 /// Does what the words say, and answers the status of the process.
 ///
 /// The first word is the program's name and is not read. `feed STORE` answers the lines of the input, each as it was read, from the
-/// book that the store keeps; `serve STORE` answers the requests of connections so, which workers serve side by side; `retire STORE GROUP` retires a client group there; `lists STORE`, `activity STORE` and `check STORE` are reports of the store, which stays as it is. STORE is `memory`, which begins empty, or the
-/// name of a store of the place. Status 0: the input was read to its end, and all that was asked is answered. 2: the words are no
-/// line of the command set. 3: the accounts file is not of the form. 4: the place or the keeper failed in opening, the accounts file
-/// could not be read, or a report is asked of a store that isn't there. 5: the store is damaged, first at this shelf and key. 6: a
-/// read failed. 7: a write failed. 8: memory was refused outside a request. 9: the net failed. 10: the line that is named is not of the form. Each but
-/// 0 and 7 has a text of its own, which is written last.
+/// book that the store keeps; `serve STORE` answers the requests of connections so, which workers serve side by side;
+/// `retire STORE GROUP` retires a client group there; `lists STORE`, `activity STORE` and `check STORE` are reports of the store,
+/// which stays as it is. STORE is `memory`, which begins empty, or the name of a store of the place.
+///
+/// Status 0: the input was read to its end, and all that was asked is answered. 2: the words are no line of the command set. 3: the
+/// accounts file is not of the form. 4: the place or the keeper failed in opening, the accounts file could not be read, or a report
+/// is asked of a store that isn't there. 5: the store is damaged, first at this shelf and key. 6: a read failed. 7: a write failed.
+/// 8: memory was refused outside a request. 9: the net failed. 10: the line that is named is not of the form. Each but 0 and 7 has a
+/// text of its own, which is written last.
 pub fn run<R: Wait + Sync, P: Place, S: Source, O: Sink, N: Net, C: Crew>(
     alloc: Global,
     runtime: &R,

@@ -13,8 +13,8 @@ ghost use Rattle.rv_desk.specs.Stepping.{HasStepped};
 use crate::desk::Desk;
 use crate::keeping::keep;
 use rv_base::{Id, Num, User};
+use rv_history::{Admission, Numbering, admits, last_of};
 use rv_keeper::{KeepFault, Keeper};
-use rv_news::{Admission, Numbering, admits, last_of};
 use rv_rows::Call;
 use rv_turns::{Outcome, Refusal, Which};
 

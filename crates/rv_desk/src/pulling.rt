@@ -14,9 +14,9 @@ ghost use Rattle.rv_desk.specs.Stepping.{HasStepped};
 use crate::desk::Desk;
 use crate::keeping::keep;
 use rv_base::{Num, User};
-use rv_history::next_order;
+use rv_history::{Admission, admits, next_order};
 use rv_keeper::{KeepFault, Keeper};
-use rv_news::{Admission, News, admits};
+use rv_news::News;
 use rv_turns::{Outcome, PullRequest, Refusal, Which};
 use rv_wire::same_reply;
 

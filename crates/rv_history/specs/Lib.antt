@@ -1,4 +1,5 @@
 pub mod Groups
+pub mod Admission
 pub mod Replay
 pub mod ReplayLaws
 pub mod Lawful

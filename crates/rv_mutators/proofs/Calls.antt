@@ -14,7 +14,7 @@ use Rattle.rv_rows.specs.declared.row.Row.TheVariants as variants
 use Rattle.rv_rows.specs.declared.call.Call.TheVariants.{CreateList, DeleteList, CreateShare, DeleteShare, CreateTodo, UpdateTodo, DeleteTodo}
 use Rattle.rv_rows.specs.Keys.{key_text, row_key, row_text, has_row}
 use Rattle.rv_rows.specs.Held.{Stored, rows_in, find}
-use Rattle.rv_rows.specs.Sharing.{owns, shares, may, sees, list_of}
+use Rattle.rv_rows.specs.Sharing.{owns, shares, sees, list_of}
 use Rattle.rv_rows.specs.Effects.{is_outside, is_other, is_unchanged, may_change, ends, may_end, with_fields, after_update, next_sort}
 use Rattle.rv_rows.specs.Changes.{same_row}
 use Rattle.rv_rows.specs.EffectLaws.{same_row-Decides}
@@ -78,11 +78,11 @@ module _ (rows : List Row) (h : InOrder row_text rows) where
       (free_second (list_any (owns user list) rows) (has_row (key_text (record { kind = kinds.Share; id = id })) rows) (not (bytes_eq other user)) (not (list_any (shares other list) rows)))
 
   pub create_todo-is : (user id list text : List ℕ) (complete : Bool)
-      → written_if (not (has_row (key_text (record { kind = kinds.Todo; id = id })) rows) && may user list rows) (variants.Todo (record { id = id; list = list; text = text; complete = complete; sort = next_sort list rows }))
+      → written_if (not (has_row (key_text (record { kind = kinds.Todo; id = id })) rows) && sees user list rows) (variants.Todo (record { id = id; list = list; text = text; complete = complete; sort = next_sort list rows }))
       ≡ staged rows user (CreateTodo id list text complete)
   create_todo-is user id list text complete =
-      push_if (not (has_row (key_text (record { kind = kinds.Todo; id = id })) rows) && may user list rows) (variants.Todo (record { id = id; list = list; text = text; complete = complete; sort = next_sort list rows }))
-      (free_first (has_row (key_text (record { kind = kinds.Todo; id = id })) rows) (may user list rows))
+      push_if (not (has_row (key_text (record { kind = kinds.Todo; id = id })) rows) && sees user list rows) (variants.Todo (record { id = id; list = list; text = text; complete = complete; sort = next_sort list rows }))
+      (free_first (has_row (key_text (record { kind = kinds.Todo; id = id })) rows) (sees user list rows))
 
   -- rows that a test picks are removed
   twice : (b : Bool) → not (not b) ≡ b
@@ -136,17 +136,17 @@ module _ (rows : List Row) (h : InOrder row_text rows) where
   delete_share-absent user id e = sym (ap (λ (o : Option Row). option_map_or (λ x. removed_if (may_end user rows x) x) o (record { rows = []; keys = [] })) e) ∙ delete_share-is user id
 
   delete_todo-is : (user id : List ℕ)
-      → option_map_or (λ x. removed_if (may user (list_of x) rows) x) (find_by row_text (key_text (record { kind = kinds.Todo; id = id })) rows) (record { rows = []; keys = [] }) ≡ staged rows user (DeleteTodo id)
-  unfolding may_change sees
+      → option_map_or (λ x. removed_if (sees user (list_of x) rows) x) (find_by row_text (key_text (record { kind = kinds.Todo; id = id })) rows) (record { rows = []; keys = [] }) ≡ staged rows user (DeleteTodo id)
+  unfolding may_change
   delete_todo-is user id =
       let k = key_text (record { kind = kinds.Todo; id = id }) in
-      removed k (λ x. may user (list_of x) rows) (is_unchanged user rows id) (λ x. twice (bytes_eq k (row_text x) && may user (list_of x) rows))
+      removed k (λ x. sees user (list_of x) rows) (is_unchanged user rows id) (λ x. twice (bytes_eq k (row_text x) && sees user (list_of x) rows))
 
-  pub delete_todo-found : (user id : List ℕ) (row : Row) → find_by row_text (key_text (record { kind = kinds.Todo; id = id })) rows ≡ Some row → removed_if (may user (list_of row) rows) row ≡ staged rows user (DeleteTodo id)
-  delete_todo-found user id row e = sym (ap (λ (o : Option Row). option_map_or (λ x. removed_if (may user (list_of x) rows) x) o (record { rows = []; keys = [] })) e) ∙ delete_todo-is user id
+  pub delete_todo-found : (user id : List ℕ) (row : Row) → find_by row_text (key_text (record { kind = kinds.Todo; id = id })) rows ≡ Some row → removed_if (sees user (list_of row) rows) row ≡ staged rows user (DeleteTodo id)
+  delete_todo-found user id row e = sym (ap (λ (o : Option Row). option_map_or (λ x. removed_if (sees user (list_of x) rows) x) o (record { rows = []; keys = [] })) e) ∙ delete_todo-is user id
 
   pub delete_todo-absent : (user id : List ℕ) → find_by row_text (key_text (record { kind = kinds.Todo; id = id })) rows ≡ None → ◌≡◌ {A = Staged} (record { rows = []; keys = [] }) (staged rows user (DeleteTodo id))
-  delete_todo-absent user id e = sym (ap (λ (o : Option Row). option_map_or (λ x. removed_if (may user (list_of x) rows) x) o (record { rows = []; keys = [] })) e) ∙ delete_todo-is user id
+  delete_todo-absent user id e = sym (ap (λ (o : Option Row). option_map_or (λ x. removed_if (sees user (list_of x) rows) x) o (record { rows = []; keys = [] })) e) ∙ delete_todo-is user id
 
   -- a todo's fields are set where one of them differs
   module _ (user id : List ℕ) (text : Option (List ℕ)) (complete : Option Bool) (sort : Option ℕ) where
@@ -159,11 +159,11 @@ module _ (rows : List Row) (h : InOrder row_text rows) where
     keeps x = elim (may_change user rows id x) as (λ b. row_text (cond b (with_fields text complete sort x) x) ≡ row_text x) [ true ↦ keeps_fields x | false ↦ refl ]
 
     abbrev pub set_if : Row → Bool
-    set_if x = may user (list_of x) rows && not (same_row (with_fields text complete sort x) x)
+    set_if x = sees user (list_of x) rows && not (same_row (with_fields text complete sort x) x)
 
     differs : (x : Row) → not (same_row (after_update user rows id text complete sort x) x) ≡ (bytes_eq (key_text (record { kind = kinds.Todo; id = id })) (row_text x) && set_if x)
-    unfolding may_change sees
-    differs x = each (bytes_eq (key_text (record { kind = kinds.Todo; id = id })) (row_text x)) (may user (list_of x) rows)
+    unfolding may_change
+    differs x = each (bytes_eq (key_text (record { kind = kinds.Todo; id = id })) (row_text x)) (sees user (list_of x) rows)
       where
         each : (a b : Bool) → not (same_row (cond (a && b) (with_fields text complete sort x) x) x) ≡ (a && (b && not (same_row (with_fields text complete sort x) x)))
         each true true = refl
@@ -171,13 +171,13 @@ module _ (rows : List Row) (h : InOrder row_text rows) where
         each false b = ap not ((same_row-Decides x x).1 refl)
 
     pub update_todo-is : option_map_or (λ x. written_if (set_if x) (with_fields text complete sort x)) (find_by row_text (key_text (record { kind = kinds.Todo; id = id })) rows) (record { rows = []; keys = [] }) ≡ staged rows user (UpdateTodo id text complete sort)
-    unfolding may_change sees
+    unfolding may_change
     update_todo-is =
         let k = key_text (record { kind = kinds.Todo; id = id }) in
         let f = after_update user rows id text complete sort in
         by_found (λ o. option_map_or (λ x. written_if (set_if x) (with_fields text complete sort x)) o (record { rows = []; keys = [] }) ≡ record { rows = map f (option_map_or (λ x. cond (set_if x) (x ∷ []) []) o []); keys = [] }) (find_by row_text k rows)
         (λ e. refl)
-        (λ x e. one f x (with_fields text complete sort x) (may user (list_of x) rows) (not (same_row (with_fields text complete sort x) x))
+        (λ x e. one f x (with_fields text complete sort x) (sees user (list_of x) rows) (not (same_row (with_fields text complete sort x) x))
         (λ seen. let at : bytes_eq k (row_text x) ≡ true = subst (λ (t : List ℕ). bytes_eq t (row_text x) ≡ true) (sym (find-key row_text k rows x e)) (equals (row_text x)) in rw (at, seen) refl))
         ∙ both _ _ [] [] (ap (map f) (sym (filter_agree (λ x. not (same_row (f x) x)) (λ x. bytes_eq k (row_text x) && set_if x) differs rows ∙ filter-at row_text k set_if rows h))) refl
         ∙ sym (changes-map rows f keeps h)
@@ -190,11 +190,11 @@ module _ (rows : List Row) (h : InOrder row_text rows) where
     update_todo-found : (row : Row) → find_by row_text (key_text (record { kind = kinds.Todo; id = id })) rows ≡ Some row → written_if (set_if row) (with_fields text complete sort row) ≡ staged rows user (UpdateTodo id text complete sort)
     update_todo-found row e = sym (ap (λ (o : Option Row). option_map_or (λ x. written_if (set_if x) (with_fields text complete sort x)) o (record { rows = []; keys = [] })) e) ∙ update_todo-is
 
-    pub update_todo-seen : (row : Row) → find_by row_text (key_text (record { kind = kinds.Todo; id = id })) rows ≡ Some row → may user (list_of row) rows ≡ true
+    pub update_todo-seen : (row : Row) → find_by row_text (key_text (record { kind = kinds.Todo; id = id })) rows ≡ Some row → sees user (list_of row) rows ≡ true
         → written_if (not (same_row (with_fields text complete sort row) row)) (with_fields text complete sort row) ≡ staged rows user (UpdateTodo id text complete sort)
     update_todo-seen row e seen = ap (λ (b : Bool). written_if (b && not (same_row (with_fields text complete sort row) row)) (with_fields text complete sort row)) (sym seen) ∙ update_todo-found row e
 
-    pub update_todo-unseen : (row : Row) → find_by row_text (key_text (record { kind = kinds.Todo; id = id })) rows ≡ Some row → may user (list_of row) rows ≡ false
+    pub update_todo-unseen : (row : Row) → find_by row_text (key_text (record { kind = kinds.Todo; id = id })) rows ≡ Some row → sees user (list_of row) rows ≡ false
         → ◌≡◌ {A = Staged} (record { rows = []; keys = [] }) (staged rows user (UpdateTodo id text complete sort))
     update_todo-unseen row e unseen = ap (λ (b : Bool). written_if (b && not (same_row (with_fields text complete sort row) row)) (with_fields text complete sort row)) (sym unseen) ∙ update_todo-found row e
 

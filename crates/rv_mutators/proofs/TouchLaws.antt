@@ -15,10 +15,10 @@ use Rattle.rv_rows.specs.declared.call.Call.{Call}
 use Rattle.rv_rows.specs.declared.call.Call.TheVariants.{CreateList, DeleteList, CreateShare, DeleteShare, CreateTodo, UpdateTodo, DeleteTodo, Void}
 use Rattle.rv_rows.specs.Keys.{key_text, row_key, row_text, row_at, has_row, in_key_order}
 use Rattle.rv_rows.specs.Held.{Stored, rows_in, AreRows}
-use Rattle.rv_rows.specs.Sharing.{is_list, owns, shares, may, sees, list_of}
+use Rattle.rv_rows.specs.Sharing.{is_list, owns, shares, sees, list_of}
 use Rattle.rv_rows.specs.Effects.{is_outside, is_other, is_unchanged, may_change, ends, with_fields, after_update, next_sort, effect}
 use Rattle.rv_rows.specs.Changes.{same_row, is_gone, written, lost, version_after}
-use Rattle.rv_rows.specs.EffectLaws.{same_row-Decides, may-sorted}
+use Rattle.rv_rows.specs.EffectLaws.{same_row-Decides, sees-sorted}
 use Rattle.rv_sharing.specs.Affected.{sees_key, AreAffected}
 use Rattle.rv_mutators.specs.declared.staged.Staged.{Staged}
 use Rattle.rv_mutators.specs.Staging.{staged, applied, IsStagedOn, written_if}
@@ -58,9 +58,8 @@ told-removed user before after keys e =
     rw (append-nil keys) (ap (λ (b : Bool). list_any (sees_key before user) keys || b) (subst (λ (t : List Key). list_any (sees_key (in_key_order after) user) t ≡ false) e (lost-unseen user before after)))
 
 -- one row is written, and nothing removed
-told-written : (user : List ℕ) (before after : List Row) (row : Row) → row_at (row_text row) after ≡ Some row → may user (list_of row) after ≡ sees_with before user row
+told-written : (user : List ℕ) (before after : List Row) (row : Row) → row_at (row_text row) after ≡ Some row → sees user (list_of row) after ≡ sees_with before user row
     → (sees_key before user (row_key row) ≡ true → sees_with before user row ≡ true) → IsTold before after user (record { rows = row ∷ []; keys = [] })
-unfolding sees
 told-written user before after row stands same earlier = rw (stands, same) (each (sees_key before user (row_key row)) (sees_with before user row) earlier)
   where
     each : (a b : Bool) → (a ≡ true → b ≡ true) → ((a || false) || (b || false)) ≡ (b || false)
@@ -70,10 +69,11 @@ told-written user before after row stands same earlier = rw (stands, same) (each
 -- one more row
 told-push : (user : List ℕ) (before : List Row) (row : Row) → InOrder row_text before → find_by row_text (row_text row) before ≡ None
     → IsTold before (in_key_order (before ++ row ∷ [])) user (record { rows = row ∷ []; keys = [] })
+unfolding sees
 told-push user before row h none =
     told-written user before (in_key_order (before ++ row ∷ [])) row
     (rw (sorted-push row_text row before, sorted-in_order row_text before h, find_put row_text (row_text row) row before, equals (row_text row)) refl)
-    (may-sorted user (list_of row) (before ++ row ∷ []) (distinct-push row_text row before none (distinct-in_order row_text before h)) ∙ rw (list_any-push (owns user (list_of row)) before row, list_any-push (is_list (list_of row)) before row, list_any-push (shares user (list_of row)) before row) refl)
+    (sees-sorted user (list_of row) (before ++ row ∷ []) (distinct-push row_text row before none (distinct-in_order row_text before h)) ∙ rw (list_any-push (owns user (list_of row)) before row, list_any-push (is_list (list_of row)) before row, list_any-push (shares user (list_of row)) before row) refl)
     (λ e. absurd (let never : sees_key before user (row_key row) ≡ false = rw none refl in let both : false ≡ true = sym never ∙ e in cc))
 
 -- only keys are removed
@@ -122,8 +122,9 @@ module _ (before : List Row) (h : InOrder row_text before) (user caller : List �
     same_by : (p : Row → Bool) → ((x : Row) → p (with_fields text complete sort x) ≡ p x) → (x : Row) → p (set x) ≡ p x
     same_by p same x = elim (may_change caller before id x) as (λ b. p (cond b (with_fields text complete sort x) x) ≡ p x) [ true ↦ same x | false ↦ refl ]
 
-    may-set : (list : List ℕ) → may user list (map set before) ≡ may user list before
-    may-set list = rw (any-map (owns user list) set before (same_by (owns user list) owns_same), any-map (is_list list) set before (same_by (is_list list) is_list_same), any-map (shares user list) set before (same_by (shares user list) shares_same)) refl
+    sees-set : (list : List ℕ) → sees user list (map set before) ≡ sees user list before
+    unfolding sees
+    sees-set list = rw (any-map (owns user list) set before (same_by (owns user list) owns_same), any-map (is_list list) set before (same_by (is_list list) is_list_same), any-map (shares user list) set before (same_by (shares user list) shares_same)) refl
       where
         owns_same : (x : Row) → owns user list (with_fields text complete sort x) ≡ owns user list x
         owns_same (variants.List x) = refl
@@ -140,16 +141,16 @@ module _ (before : List Row) (h : InOrder row_text before) (user caller : List �
         shares_same (variants.Share x) = refl
         shares_same (variants.Todo x) = refl
 
-    told-set : (x : TodoRow) → find_by row_text (key_text (record { kind = kinds.Todo; id = id })) before ≡ Some (variants.Todo x) → may caller x.list before ≡ true
+    told-set : (x : TodoRow) → find_by row_text (key_text (record { kind = kinds.Todo; id = id })) before ≡ Some (variants.Todo x) → sees caller x.list before ≡ true
         → IsTold before (in_key_order (map set before)) user (record { rows = with_fields text complete sort (variants.Todo x) ∷ []; keys = [] })
-    unfolding may_change sees
+    unfolding may_change
     told-set x e seen =
         let k = key_text (record { kind = kinds.Todo; id = id }) in
         let own = at_own k before (variants.Todo x) e in
         let at : bytes_eq k (row_text (variants.Todo x)) ≡ true = subst (λ (t : List ℕ). bytes_eq t (row_text (variants.Todo x)) ≡ true) (sym (find-key row_text k before (variants.Todo x) e)) (equals (row_text (variants.Todo x))) in
         told-written user before (in_key_order (map set before)) (with_fields text complete sort (variants.Todo x))
         (rw (sorted, find-changed row_text set (row_text (variants.Todo x)) before (keeps before h caller id text complete sort), own, at, seen) refl)
-        (rw sorted (may-set x.list))
+        (rw sorted (sees-set x.list))
         (λ t. rw own at t)
 
     told-still : IsTold before (in_key_order (map set before)) user (record { rows = []; keys = [] })
@@ -161,7 +162,7 @@ module _ (before : List Row) (h : InOrder row_text before) (user caller : List �
 
     told-other : (x : Row) → with_fields text complete sort x ≡ x → IsTold before (in_key_order (map set before)) user (written_if (set_if before h caller id text complete sort x) (with_fields text complete sort x))
     told-other x same =
-        let never : set_if before h caller id text complete sort x ≡ false = rw ((same_row-Decides (with_fields text complete sort x) x).1 same) (and-false (may caller (list_of x) before)) in
+        let never : set_if before h caller id text complete sort x ≡ false = rw ((same_row-Decides (with_fields text complete sort x) x).1 same) (and-false (sees caller (list_of x) before)) in
         subst (λ (b : Bool). IsTold before (in_key_order (map set before)) user (written_if b (with_fields text complete sort x))) (sym never) told-still
 
     told-found : (x : Row) → find_by row_text (key_text (record { kind = kinds.Todo; id = id })) before ≡ Some x
@@ -170,7 +171,7 @@ module _ (before : List Row) (h : InOrder row_text before) (user caller : List �
     told-found (variants.Share x) e = told-other (variants.Share x) refl
     told-found (variants.Todo x) e =
         by_flag (λ b. IsTold before (in_key_order (map set before)) user (written_if b (with_fields text complete sort (variants.Todo x)))) (set_if before h caller id text complete sort (variants.Todo x))
-        (λ t. told-set x e (both_true (may caller x.list before) (not (same_row (with_fields text complete sort (variants.Todo x)) (variants.Todo x))) t))
+        (λ t. told-set x e (both_true (sees caller x.list before) (not (same_row (with_fields text complete sort (variants.Todo x)) (variants.Todo x))) t))
         (λ t. told-still)
 
     told-update : IsTold before (in_key_order (map set before)) user (staged before caller (UpdateTodo id text complete sort))
@@ -192,8 +193,8 @@ module _ (before : List Row) (h : InOrder row_text before) (user caller : List �
       (free_second before h (list_any (owns caller list) before) (has_row (key_text (record { kind = kinds.Share; id = id })) before) (not (bytes_eq other caller)) (not (list_any (shares other list) before)))
   told (DeleteShare id) = told-filter_if (list_any (ends caller before id) before) (is_other kinds.Share id)
   told (CreateTodo id list text complete) =
-      told-push_if (not (has_row (key_text (record { kind = kinds.Todo; id = id })) before) && may caller list before) (variants.Todo (record { id = id; list = list; text = text; complete = complete; sort = next_sort list before }))
-      (free_first before h (has_row (key_text (record { kind = kinds.Todo; id = id })) before) (may caller list before))
+      told-push_if (not (has_row (key_text (record { kind = kinds.Todo; id = id })) before) && sees caller list before) (variants.Todo (record { id = id; list = list; text = text; complete = complete; sort = next_sort list before }))
+      (free_first before h (has_row (key_text (record { kind = kinds.Todo; id = id })) before) (sees caller list before))
   told (UpdateTodo id text complete sort) = told-update id text complete sort
   told (DeleteTodo id) = told-filter_if true (is_unchanged caller before id)
   told (Void reason) = told-none

@@ -1,13 +1,8 @@
 // The calls that make and remove a share.
-ghost use Rattle.std.specs.Prelude.{◌≡◌, ◌&&◌, not, IfOk};
-ghost use Rattle.std.specs.List.{list_any};
+ghost use Rattle.std.specs.Prelude.{◌≡◌, IfOk};
 ghost use Rattle.rv_rows.specs.Held.{rows_in, AreRows};
-ghost use Rattle.std.specs.Str.{bytes_eq};
-ghost use Rattle.rv_rows.specs.Keys.{key_text, has_row};
-ghost use Rattle.rv_rows.specs.Sharing.{owns, shares};
-ghost use Rattle.rv_rows.specs.Effects.{may_end};
+ghost use Rattle.rv_rows.specs.Effects.{may_end, may_share};
 ghost use Rattle.rv_rows.specs.declared.call.Call.TheVariants.{CreateShare, DeleteShare};
-ghost use Rattle.rv_rows.specs.declared.key.Kind.TheVariants.{Share as ShareKind};
 ghost use Rattle.rv_mutators.specs.Staging.{staged, removed_if};
 
 use crate::lookups::has_row;
@@ -29,7 +24,7 @@ pub(crate) fn create_share(
     requires { AreRows tables.now.rows }
     ensures { IfOk result (λ s. s ≡ staged (rows_in tables.now.rows) user.now (CreateShare id.now list.now other.now)) }
 {
-    if may_create(tables, user, id, list, other) {
+    if may_share(tables, user, id, list, other) {
         let row = ShareRow {
             id: id.copy(alloc)?,
             list: list.copy(alloc)?,
@@ -41,9 +36,10 @@ pub(crate) fn create_share(
     }
 }
 
-// Whether the user owns the list, no share has the id, and the other is not the owner and has no share of the list.
-fn may_create(tables: &Tables, user: &User, id: &Id, list: &Id, other: &User) -> bool
-    ensures { result ≡ (list_any (owns user.now list.now) (rows_in tables.now.rows) && not (has_row (key_text (record { kind = ShareKind; id = id.now })) (rows_in tables.now.rows)) && not (bytes_eq other.now user.now) && not (list_any (shares other.now list.now) (rows_in tables.now.rows))) }
+// Whether the user may share the list with the other: the user owns it, no share has the id, and the other is not the owner
+// and has no share of the list.
+fn may_share(tables: &Tables, user: &User, id: &Id, list: &Id, other: &User) -> bool
+    ensures { result ≡ may_share user.now (rows_in tables.now.rows) id.now list.now other.now }
 {
     owns(tables, user, list)
         && !has_row(tables, Kind::Share, id)

@@ -2,7 +2,7 @@
 ghost use Rattle.std.specs.Prelude.{◌≡◌, IfOk, ◌&&◌, not};
 ghost use Rattle.rv_rows.specs.Held.{rows_in, AreRows};
 ghost use Rattle.rv_rows.specs.Keys.{key_text, has_row};
-ghost use Rattle.rv_rows.specs.Sharing.{may};
+ghost use Rattle.rv_rows.specs.Sharing.{sees};
 ghost use Rattle.rv_rows.specs.Effects.{greatest_sort, with_fields};
 ghost use Rattle.rv_rows.specs.Changes.{same_row};
 ghost use Rattle.rv_rows.specs.declared.call.Call.TheVariants.{CreateTodo, UpdateTodo, DeleteTodo};
@@ -14,10 +14,10 @@ use crate::lookups::has_row;
 use crate::staged::Staged;
 use rv_base::{Id, Memory, Num, Text, User};
 use rv_rows::{Kind, Row, Tables, TodoRow};
-use rv_sharing::may;
+use rv_sharing::sees;
 use std::alloc::Global;
 
-// A todo that is not there, at the end of a list that the user may see.
+// A todo that is not there, at the end of a list that the user sees.
 pub(crate) fn create_todo(
     alloc: Global,
     tables: &Tables,
@@ -44,11 +44,11 @@ pub(crate) fn create_todo(
     }
 }
 
-// Whether no todo has the id, and the user may see the list.
+// Whether no todo has the id, and the user sees the list.
 fn may_create(tables: &Tables, user: &User, id: &Id, list: &Id) -> bool
-    ensures { result ≡ (not (has_row (key_text (record { kind = TodoKind; id = id.now })) (rows_in tables.now.rows)) && may user.now list.now (rows_in tables.now.rows)) }
+    ensures { result ≡ (not (has_row (key_text (record { kind = TodoKind; id = id.now })) (rows_in tables.now.rows)) && sees user.now list.now (rows_in tables.now.rows)) }
 {
-    !has_row(tables, Kind::Todo, id) && may(tables, user, list)
+    !has_row(tables, Kind::Todo, id) && sees(tables, user, list)
 }
 
 // The greatest sort in a list, and 0 where it has no todo.
@@ -65,7 +65,7 @@ fn greatest_sort(tables: &Tables, list: &Id) -> u64
     most
 }
 
-// The fields that are named, of a todo whose list the user may see.
+// The fields that are named, of a todo whose list the user sees.
 pub(crate) fn update_todo(
     alloc: Global,
     tables: &Tables,
@@ -80,7 +80,7 @@ pub(crate) fn update_todo(
 {
     match tables.row(Kind::Todo, id) {
         Some((row, _version)) => {
-            if may(tables, user, row.list()) {
+            if sees(tables, user, row.list()) {
                 set_fields(alloc, row, text, complete, sort)
             } else {
                 Ok(Staged::nothing(alloc))
@@ -125,7 +125,7 @@ fn has_fields(row: &TodoRow, text: &Option<Text>, complete: Option<bool>, sort: 
         && sort.unwrap_or(row.sort) == row.sort
 }
 
-// A todo goes, whose list the user may see.
+// A todo goes, whose list the user sees.
 pub(crate) fn delete_todo(
     alloc: Global,
     tables: &Tables,
@@ -137,7 +137,7 @@ pub(crate) fn delete_todo(
 {
     match tables.row(Kind::Todo, id) {
         Some((row, _version)) => {
-            if may(tables, user, row.list()) {
+            if sees(tables, user, row.list()) {
                 Staged::removes(alloc, row.key(alloc)?)
             } else {
                 Ok(Staged::nothing(alloc))

@@ -3,4 +3,3 @@ pub mod RecordLaws
 pub mod KeptRecords
 pub mod Shows
 pub mod News
-pub mod Admission

@@ -3,13 +3,11 @@
 #![tactic(auto)]
 
 mod base;
-mod groups;
 mod news;
 mod pull;
 mod records;
 
 pub use base::base_of;
-pub use groups::{Admission, Numbering, admits, last_of};
 pub use news::{News, news_since, view_now};
 pub use pull::{is_unchanged, news_for};
 pub use records::Records;

@@ -2,7 +2,7 @@
 ghost use Rattle.std.specs.Prelude.{◌≡◌, IfOk, OnOk, map};
 ghost use Rattle.rv_base.specs.Sorted.{InOrder, put_by, Settles};
 ghost use Rattle.rv_rows.specs.Keys.{key_text, row_text, has_row, in_key_order};
-ghost use Rattle.rv_rows.specs.Sharing.{is_list, owns, shares, may, sees, seen};
+ghost use Rattle.rv_rows.specs.Sharing.{is_list, owns, shares, sees, seen};
 ghost use Rattle.rv_rows.specs.Effects.{is_at, is_other, is_outside, may_change, is_unchanged, may_end, ends, sort_in, greatest_sort, next_sort, with_fields, after_update, effect};
 ghost use Rattle.rv_rows.specs.declared.call.Call.TheVariants.{CreateList, CreateShare, CreateTodo};
 ghost use Rattle.std.specs.List.{filter, list_any};
@@ -65,19 +65,12 @@ fn has_list(list: &Id, rows: &[Row]) -> bool
     rows.iter().any(|row| is_list(list, row))
 }
 
-// Whether the user may see the list: it is there, and the user owns it or a share of it names the user.
-fn may(user: &User, list: &Id, rows: &[Row]) -> bool
-    ensures { result ≡ may user.now list.now rows.now }
+// Whether the user sees the list: it is there, and the user owns it or a share of it names the user.
+#[tactic(auto, unfolding(rv_rows::specs::Sharing::sees))]
+fn sees(user: &User, list: &Id, rows: &[Row]) -> bool
+    ensures { result ≡ sees user.now list.now rows.now }
 {
     owns_list(user, list, rows) || (has_list(list, rows) && has_share(user, list, rows))
-}
-
-// Whether the user sees the row, as one of these: the user may see the list that it is or belongs to.
-#[tactic(auto, unfolding(rv_rows::specs::Sharing::sees))]
-fn sees(user: &User, rows: &[Row], row: &Row) -> bool
-    ensures { result ≡ sees user.now rows.now row.now }
-{
-    may(user, row.list(), rows)
 }
 
 // The rows that neither are the list nor belong to it.
@@ -108,15 +101,15 @@ fn without_row(alloc: Global, rows: &[Row], kind: Kind, id: &Id) -> Result<Vec<R
     Ok(kept)
 }
 
-// Whether the row is this todo, and the user may see its list.
+// Whether the row is this todo, and the user sees its list.
 #[tactic(auto, unfolding(rv_rows::specs::Effects::may_change))]
 fn may_change(user: &User, rows: &[Row], id: &Id, row: &Row) -> bool
     ensures { result ≡ may_change user.now rows.now id.now row.now }
 {
-    is_at(Kind::Todo, id, row) && sees(user, rows, row)
+    is_at(Kind::Todo, id, row) && sees(user, row.list(), rows)
 }
 
-// The rows but for this todo, where the user may see its list.
+// The rows but for this todo, where the user sees its list.
 #[tactic(auto, using(std::proofs::lemmas::List::Elements::filter_more))]
 fn without_todo(alloc: Global, rows: &[Row], user: &User, id: &Id) -> Result<Vec<Row>, Memory>
     ensures { IfOk result (λ v. v.items ≡ filter (is_unchanged user.now rows.now id.now) rows.now) }
@@ -244,7 +237,7 @@ fn create_todo(
 ) -> Result<Vec<Row>, Memory>
     ensures { IfOk result (λ new. new.items ≡ effect rows.items user.now (CreateTodo id.now list.now text.now complete)) }
 {
-    if !has_row(&rows, Kind::Todo, id) && may(user, list, &rows) {
+    if !has_row(&rows, Kind::Todo, id) && sees(user, list, &rows) {
         let sort = TodoRow::sort_after(greatest_sort(list, &rows));
         rows.push(Row::Todo(TodoRow {
             id: id.copy(alloc)?,
@@ -375,7 +368,7 @@ pub(crate) fn seen(alloc: Global, rows: &[Row], user: &User) -> Result<Vec<Row>,
     let sorted = in_key_order(alloc, rows)?;
     let mut seen = Vec::new(alloc);
     for row in &sorted {
-        if sees(user, rows, row) {
+        if sees(user, row.list(), rows) {
             seen.push(row.copy(alloc)?)?;
         }
     }

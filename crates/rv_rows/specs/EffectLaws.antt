@@ -14,7 +14,7 @@ use Rattle.rv_rows.specs.declared.row.Row.TheVariants as variants
 use Rattle.rv_rows.specs.declared.call.Call.{Call}
 use Rattle.rv_rows.specs.declared.call.Call.TheVariants.{CreateList, DeleteList, CreateShare, DeleteShare, CreateTodo, UpdateTodo, DeleteTodo, Void}
 use Rattle.rv_rows.specs.Keys.{key_text, row_text, has_row, in_key_order}
-use Rattle.rv_rows.specs.Sharing.{owns, shares, is_list, list_of, may, sees}
+use Rattle.rv_rows.specs.Sharing.{owns, shares, is_list, list_of, sees}
 use Rattle.rv_rows.specs.Effects.{effect, is_at, may_change, may_end, ends, is_unchanged, is_outside, is_other, greater_sort, greatest_sort, next_sort, sort_after, sort_in, with_fields, after_update}
 use Rattle.rv_rows.specs.Changes.{same_row, same_flag}
 
@@ -22,20 +22,17 @@ use Rattle.rv_rows.specs.Changes.{same_row, same_flag}
 has_row-sorted : (key : List ℕ) (rows : List Row) → Distinct row_text rows → has_row key (in_key_order rows) ≡ has_row key rows
 has_row-sorted key rows h = list_any-sorted row_text (λ row. bytes_eq key (row_text row)) rows h
 
-pub may-sorted : (user list : List ℕ) (rows : List Row) → Distinct row_text rows → may user list (in_key_order rows) ≡ may user list rows
-may-sorted user list rows h =
+pub sees-sorted : (user list : List ℕ) (rows : List Row) → Distinct row_text rows → sees user list (in_key_order rows) ≡ sees user list rows
+unfolding sees
+sees-sorted user list rows h =
     let owned = list_any-sorted row_text (owns user list) rows h in
     let there = list_any-sorted row_text (is_list list) rows h in
     let shared = list_any-sorted row_text (shares user list) rows h in
     (λ i. owned i || (there i && shared i))
 
-pub sees-sorted : (user : List ℕ) (rows : List Row) (row : Row) → Distinct row_text rows → sees user (in_key_order rows) row ≡ sees user rows row
-unfolding sees
-sees-sorted user rows row h = may-sorted user (list_of row) rows h
-
 may_change-sorted : (user : List ℕ) (rows : List Row) (id : List ℕ) → Distinct row_text rows → may_change user (in_key_order rows) id ≡ may_change user rows id
 unfolding may_change
-may_change-sorted user rows id h = λ i row. is_at kinds.Todo id row && sees-sorted user rows row h i
+may_change-sorted user rows id h = λ i row. is_at kinds.Todo id row && sees-sorted user (list_of row) rows h i
 
 may_end-sorted : (user : List ℕ) (rows : List Row) (row : Row) → Distinct row_text rows → may_end user (in_key_order rows) row ≡ may_end user rows row
 may_end-sorted user rows (variants.Share row) h = ap (λ (b : Bool). b || bytes_eq row.user user) (list_any-sorted row_text (owns user row.list) rows h)
@@ -149,7 +146,7 @@ effect-sorted rows user (DeleteShare id) h =
     ∙ fewer-sorted rows (is_other kinds.Share id) (list_any (ends user rows id) rows) h
 effect-sorted rows user (CreateTodo id list text complete) h =
     let new = has_row-sorted (key_text (record { kind = kinds.Todo; id = id })) rows h in
-    let seen = may-sorted user list rows h in
+    let seen = sees-sorted user list rows h in
     let last = next_sort-sorted list rows h in
     (λ i. in_key_order (cond (not (new i) && seen i) (in_key_order rows ++ variants.Todo (record { id = id; list = list; text = text; complete = complete; sort = last i }) ∷ []) (in_key_order rows)))
     ∙ more-sorted rows (variants.Todo (record { id = id; list = list; text = text; complete = complete; sort = next_sort list rows })) _

@@ -10,7 +10,7 @@ use Rattle.rv_rows.specs.declared.row.Row.TheVariants as variants
 use Rattle.rv_rows.specs.declared.call.Call.{Call}
 use Rattle.rv_rows.specs.declared.call.Call.TheVariants.{CreateList, DeleteList, CreateShare, DeleteShare, CreateTodo, UpdateTodo, DeleteTodo, Void}
 use Rattle.rv_rows.specs.Keys.{key_text, row_text, has_row}
-use Rattle.rv_rows.specs.Sharing.{owns, shares, may, sees, list_of}
+use Rattle.rv_rows.specs.Sharing.{owns, shares, sees, list_of}
 
 -- the row has the key of this kind and this id
 abbrev pub is_at : Kind → List ℕ → Row → Bool
@@ -24,9 +24,9 @@ is_other kind id row = not (is_at kind id row)
 abbrev pub is_outside : List ℕ → Row → Bool
 is_outside list row = not (bytes_eq (list_of row) list)
 
--- the row is this todo, and the user may see its list
+-- the row is this todo, and the user sees its list
 unfoldable pub may_change : List ℕ → List Row → List ℕ → Row → Bool
-may_change user rows id row = is_at kinds.Todo id row && sees user rows row
+may_change user rows id row = is_at kinds.Todo id row && sees user (list_of row) rows
 
 abbrev pub is_unchanged : List ℕ → List Row → List ℕ → Row → Bool
 is_unchanged user rows id row = not (may_change user rows id row)
@@ -69,7 +69,13 @@ with_fields text complete sort (variants.Todo row) = variants.Todo (record { id 
 with_fields text complete sort (variants.List row) = variants.List row
 with_fields text complete sort (variants.Share row) = variants.Share row
 
--- the rows with this todo's fields set, where the user may see its list
+-- the user may share the list with the other under this id: the user owns it, no share has the id, and the other is not the
+-- owner and has no share of the list
+abbrev pub may_share : List ℕ → List Row → List ℕ → List ℕ → List ℕ → Bool
+may_share user rows id list other =
+    list_any (owns user list) rows && not (has_row (key_text (record { kind = kinds.Share; id = id })) rows) && not (bytes_eq other user) && not (list_any (shares other list) rows)
+
+-- the rows with this todo's fields set, where the user sees its list
 abbrev pub after_update : List ℕ → List Row → List ℕ → Option (List ℕ) → Option Bool → Option ℕ → Row → Row
 after_update user rows id text complete sort row = if may_change user rows id row then with_fields text complete sort row else row
 
@@ -84,9 +90,9 @@ effect rows user (DeleteList id) =
     if list_any (owns user id) rows
     then filter (is_outside id) rows
     else rows
--- the caller owns the list, no share has the id, the other is not the owner, and has no share of the list: it is added
+-- the caller may share the list with the other: the share is added
 effect rows user (CreateShare id list other) =
-    if list_any (owns user list) rows && not (has_row (key_text (record { kind = kinds.Share; id = id })) rows) && not (bytes_eq other user) && not (list_any (shares other list) rows)
+    if may_share user rows id list other
     then rows ++ variants.Share (record { id = id; list = list; user = other }) ∷ []
     else rows
 -- the share is there, and the caller may end it: it goes
@@ -94,15 +100,15 @@ effect rows user (DeleteShare id) =
     if list_any (ends user rows id) rows
     then filter (is_other kinds.Share id) rows
     else rows
--- no todo has the id, and the caller may see the list: the todo is added at the list's end
+-- no todo has the id, and the caller sees the list: the todo is added at the list's end
 effect rows user (CreateTodo id list text complete) =
-    if not (has_row (key_text (record { kind = kinds.Todo; id = id })) rows) && may user list rows
+    if not (has_row (key_text (record { kind = kinds.Todo; id = id })) rows) && sees user list rows
     then rows ++ variants.Todo (record { id = id; list = list; text = text; complete = complete; sort = next_sort list rows }) ∷ []
     else rows
--- the todo is there, and the caller may see its list: the fields that are named are set
+-- the todo is there, and the caller sees its list: the fields that are named are set
 effect rows user (UpdateTodo id text complete sort) =
     map (after_update user rows id text complete sort) rows
--- the todo is there, and the caller may see its list: it goes
+-- the todo is there, and the caller sees its list: it goes
 effect rows user (DeleteTodo id) = filter (is_unchanged user rows id) rows
 -- a call that is none has no effect
 effect rows user (Void reason) = rows

@@ -1,5 +1,5 @@
--- Who sees what. A user may see a list exactly where the list is there and the user owns it or a share of that list names
--- the user. A user sees each such list, with its shares and its todos.
+-- Who sees what. A user sees a list exactly where the list is there and the user owns it or a share of that list names the
+-- user. A user sees each such list with its shares and its todos, and may add, change and remove todos of it.
 use Rattle.std.specs.Prelude.{ℕ, Bool, false, List, ◌&&◌, ◌||◌}
 use Rattle.std.specs.List.{filter, list_any}
 use Rattle.std.specs.Str.{bytes_eq}
@@ -25,9 +25,9 @@ shares user list (variants.List row) = false
 shares user list (variants.Share row) = bytes_eq row.list list && bytes_eq row.user user
 shares user list (variants.Todo row) = false
 
--- the user may see the list
-abbrev pub may : List ℕ → List ℕ → List Row → Bool
-may user list rows = list_any (owns user list) rows || (list_any (is_list list) rows && list_any (shares user list) rows)
+-- The user sees the list, as one of these rows: it is there, and the user owns it or a share of it names the user.
+unfoldable pub sees : List ℕ → List ℕ → List Row → Bool
+sees user list rows = list_any (owns user list) rows || (list_any (is_list list) rows && list_any (shares user list) rows)
 
 -- the list that a row is or belongs to
 abbrev pub list_of : Row → List ℕ
@@ -35,10 +35,6 @@ list_of (variants.List row) = row.id
 list_of (variants.Share row) = row.list
 list_of (variants.Todo row) = row.list
 
--- the user sees the row, as one of these
-unfoldable pub sees : List ℕ → List Row → Row → Bool
-sees user rows row = may user (list_of row) rows
-
--- the rows that the user sees, in the order of their keys
+-- the rows that the user sees, those of the lists that the user sees, in the order of their keys
 abbrev pub seen : List ℕ → List Row → List Row
-seen user rows = filter (sees user rows) (in_key_order rows)
+seen user rows = filter (λ row. sees user (list_of row) rows) (in_key_order rows)

@@ -1,5 +1,5 @@
 -- Rows with their versions in slots, and orders of slots: lists of slots' numbers.
-use Rattle.std.specs.Prelude.{◌≡◌, ◌≢◌, ℕ, ◌+◌, ◌-◌, ◌<◌, ◌==◌, nat_lt, Bool, List, [], map, length, slice_index_or, slice_index, slice_set, Result, Ok, Err, if◌then◌else◌}
+use Rattle.std.specs.Prelude.{◌≡◌, ◌≢◌, ℕ, ◌+◌, ◌-◌, ◌≤◌, ◌<◌, ◌==◌, nat_lt, Bool, List, Vec, [], map, length, slice_index_or, slice_index, slice_set, Result, Ok, Err, if◌then◌else◌, vec_len, vec_capacity}
 use Rattle.std.specs.List.{AllByRecursion, list_any}
 use Rattle.std.specs.declared.cmp.Ordering.{Ordering}
 use Rattle.std.specs.declared.cmp.Ordering.TheVariants.{Less}
@@ -39,6 +39,10 @@ pub record IsIndexed (slots : List Stored) (by_key by_list : List ℕ) : Type 0 
   pub key_order : AreRows (standing slots by_key)
   pub list_order : InOrder list_key (standing slots by_list)
   pub same : AreSame by_key by_list
+
+-- the vector has room for so many more items
+abbrev pub HasSpare : {X Z : Type 0} → Vec X Z → ℕ → Type 0
+HasSpare items more = vec_len items + more ≤ vec_capacity items
 
 -- how the row in the slot stands to the key k; a slot that is not there stands below
 abbrev pub by_slot : (Stored → List ℕ) → List ℕ → List Stored → ℕ → Ordering

@@ -33,15 +33,15 @@ pub struct Tables {
 }
 
 impl Model for Tables {
-    ghost use Rattle.std.specs.Prelude.{◌≤◌, ◌<◌, ◌+◌, ◌^◌, vec_len, vec_capacity};
+    ghost use Rattle.std.specs.Prelude.{◌<◌, ◌+◌, ◌^◌, vec_len};
     ghost use Rattle.rv_rows.specs.Held.{Held};
-    ghost use Rattle.rv_rows.specs.Slots.{standing, IsIndexed};
+    ghost use Rattle.rv_rows.specs.Slots.{standing, HasSpare, IsIndexed};
 
     ghost Value = { Held };
 
     ghost view = { λ t. record { rows = standing t.slots.items t.by_key.items; spare = t.spare } };
 
-    ghost invariant = { λ t. IsIndexed t.slots.items t.by_key.items t.by_list.items × (vec_len t.slots + t.spare ≤ vec_capacity t.slots) × (vec_len t.by_key + t.spare ≤ vec_capacity t.by_key) × (vec_len t.by_list + t.spare ≤ vec_capacity t.by_list) × (vec_len t.slots + t.spare < 2 ^ 32) };
+    ghost invariant = { λ t. IsIndexed t.slots.items t.by_key.items t.by_list.items × HasSpare t.slots t.spare × HasSpare t.by_key t.spare × HasSpare t.by_list t.spare × (vec_len t.slots + t.spare < 2 ^ 32) };
 }
 
 impl Tables {

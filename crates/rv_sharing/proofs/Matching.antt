@@ -20,10 +20,10 @@ pub record Matching (user : List ℕ) (stored : List Stored) (lists : List (List
 shown_more : (user : List ℕ) (rows : List Row) (lists : List (List ℕ)) (row : Row) (version : ℕ) (next : List Stored) (b : Bool) → AreOpened user rows lists → b ≡ list_any (bytes_eq (list_of row)) lists
     → shown user rows ((row, version) ∷ next) ≡ cond b ((row_key row, version) ∷ shown user rows next) (shown user rows next)
 shown_more user rows lists row version next b are is =
-    ap (λ (c : Bool). map (λ (s : Stored). (row_key s.0, s.1)) (cond c ((row, version) ∷ filter (λ s. sees user rows s.0) next) (filter (λ s. sees user rows s.0) next))) (seen_so user rows lists row are ∙ sym is)
+    ap (λ (c : Bool). map (λ (s : Stored). (row_key s.0, s.1)) (cond c ((row, version) ∷ filter (λ s. sees user (list_of s.0) rows) next) (filter (λ s. sees user (list_of s.0) rows) next))) (seen_so user rows lists row are ∙ sym is)
     ∙ by_case b
   where
-    by_case : (c : Bool) → map (λ (s : Stored). (row_key s.0, s.1)) (cond c ((row, version) ∷ filter (λ s. sees user rows s.0) next) (filter (λ s. sees user rows s.0) next)) ≡ cond c ((row_key row, version) ∷ shown user rows next) (shown user rows next)
+    by_case : (c : Bool) → map (λ (s : Stored). (row_key s.0, s.1)) (cond c ((row, version) ∷ filter (λ s. sees user (list_of s.0) rows) next) (filter (λ s. sees user (list_of s.0) rows) next)) ≡ cond c ((row_key row, version) ∷ shown user rows next) (shown user rows next)
     by_case true = refl
     by_case false = refl
 

@@ -7,7 +7,7 @@ use Rattle.std.proofs.lemmas.Slice.Eq.{bytes_eq-Decides}
 use Rattle.rv_rows.specs.declared.row.Row.{Row}
 use Rattle.rv_rows.specs.declared.row.Row.TheVariants as variants
 use Rattle.rv_rows.specs.Held.{Stored, rows_in}
-use Rattle.rv_rows.specs.Sharing.{is_list, owns, shares, may}
+use Rattle.rv_rows.specs.Sharing.{is_list, owns, shares, sees}
 use Rattle.rv_sharing.proofs.OwnerLaws.{same_either_way}
 use Rattle.rv_sharing.specs.Texts.{AreInOrder, Adds}
 use Rattle.rv_sharing.proofs.TextLaws.{or_moved, or_false}
@@ -54,9 +54,10 @@ opens_is user rows list (variants.Share row) = shared (bytes_eq row.user user)
         absent false false e = refl
 opens_is user rows list (variants.Todo row) = nothing (list_any (is_list list) rows)
 
--- some row lets the user see a list exactly where the user may see it
-pub opens-may : (user : List ℕ) (list : List ℕ) (rows : List Row) → list_any (opens user rows list) rows ≡ may user list rows
-opens-may user list rows = each rows
+-- some row lets the user see a list exactly where the user sees it
+pub opens-sees : (user : List ℕ) (list : List ℕ) (rows : List Row) → list_any (opens user rows list) rows ≡ sees user list rows
+unfolding sees
+opens-sees user list rows = each rows
   where
     joined : (a b s c d : Bool) → ((a || (b && s)) || (c || (b && d))) ≡ ((a || c) || (b && (s || d)))
     joined true b s c d = refl
@@ -72,13 +73,13 @@ opens-may user list rows = each rows
         ∙ ap (λ (b : Bool). (owns user list row || (list_any (is_list list) rows && shares user list row)) || b) (each xs)
         ∙ joined (owns user list row) (list_any (is_list list) rows) (shares user list row) (list_any (owns user list) xs) (list_any (shares user list) xs)
 
--- the lists that the rows so far let the user see, with what the rest lets the user see, are all that the user may see
+-- the lists that the rows so far let the user see, with what the rest lets the user see, are all that the user sees
 pub record Opening (user : List ℕ) (rows : List Row) (lists : List (List ℕ)) (rest : List Stored) : Type 0 where
   pub order : AreInOrder lists
-  pub each : (list : List ℕ) → (list_any (bytes_eq list) lists || list_any (opens user rows list) (rows_in rest)) ≡ may user list rows
+  pub each : (list : List ℕ) → (list_any (bytes_eq list) lists || list_any (opens user rows list) (rows_in rest)) ≡ sees user list rows
 
 pub opening_begins : (user : List ℕ) (stored rest : List Stored) (lists : List (List ℕ)) → lists ≡ [] → rest ≡ stored → Opening user (rows_in stored) lists rest
-opening_begins user stored rest lists none all = rw (none, all) (record { order = tt; each = λ list. opens-may user list (rows_in stored) })
+opening_begins user stored rest lists none all = rw (none, all) (record { order = tt; each = λ list. opens-sees user list (rows_in stored) })
 
 pub opening_more : (user : List ℕ) (rows : List Row) (rest next : List Stored) (s : Stored) (id : List ℕ) (before after : List (List ℕ)) → rest ≡ s ∷ next → Some id ≡ opened user rows s.0 → Adds id before after
     → Opening user rows before rest → Opening user rows after next

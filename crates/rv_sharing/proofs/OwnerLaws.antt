@@ -1,5 +1,5 @@
 -- Laws of owners: among rows of which no two have one key, the owner of a list decides whether the list is there, who owns
--- it, and who may see it.
+-- it, and who sees it.
 use Rattle.std.proofs.Common.{◌≡◌, ℕ, Bool, true, false, cond, List, [], ◌∷◌, Option, Some, None, refl, sym, ap, ◌∙◌, subst, ◌||◌, ◌&&◌}
 use Rattle.std.specs.List.{list_any}
 use Rattle.std.specs.Option.{is_some, option_map, option_map_or, option_and_then}
@@ -14,7 +14,7 @@ use Rattle.rv_rows.specs.declared.row.Row.TheVariants as variants
 use Rattle.rv_rows.specs.Keys.{key_text, row_text, row_at}
 use Rattle.rv_rows.specs.Held.{Stored, rows_in, find, AreRows}
 use Rattle.rv_rows.specs.HeldLaws.{distinct-rows}
-use Rattle.rv_rows.specs.Sharing.{is_list, owns, shares, may}
+use Rattle.rv_rows.specs.Sharing.{is_list, owns, shares, sees}
 use Rattle.rv_sharing.specs.Owners.{row_owner, owner_of}
 
 -- the text of a list's key
@@ -75,9 +75,10 @@ owns-owner user list (variants.List row ∷ rows) apart =
 owns-owner user list (variants.Share row ∷ rows) apart = owns-owner user list rows apart.1
 owns-owner user list (variants.Todo row ∷ rows) apart = owns-owner user list rows apart.1
 
--- who may see a list, by its owner
-pub may-owner : (user list : List ℕ) (rows : List Row) → Distinct row_text rows → may user list rows ≡ option_map_or (λ owner. bytes_eq owner user || list_any (shares user list) rows) (owner_of list rows) false
-may-owner user list rows apart =
+-- who sees a list, by its owner
+pub sees-owner : (user list : List ℕ) (rows : List Row) → Distinct row_text rows → sees user list rows ≡ option_map_or (λ owner. bytes_eq owner user || list_any (shares user list) rows) (owner_of list rows) false
+unfolding sees
+sees-owner user list rows apart =
     ap (λ (b : Bool). b || (list_any (is_list list) rows && list_any (shares user list) rows)) (owns-owner user list rows apart)
     ∙ ap (λ (b : Bool). option_map_or (λ owner. bytes_eq owner user) (owner_of list rows) false || (b && list_any (shares user list) rows)) (is_list-owner list rows)
     ∙ joined (owner_of list rows)
@@ -94,12 +95,12 @@ owner-found list stored = joined (find (list_key list) stored) ∙ ap (λ (o : O
     joined None = refl
     joined (Some s) = refl
 
--- who may see a list of a table, by what is known of its owner
-pub may-owned : (user list owner : List ℕ) (stored : List Stored) → AreRows stored → Some owner ≡ owner_of list (rows_in stored) → may user list (rows_in stored) ≡ (bytes_eq owner user || list_any (shares user list) (rows_in stored))
-may-owned user list owner stored order is = may-owner user list (rows_in stored) (distinct-rows stored order) ∙ ap (λ (o : Option (List ℕ)). option_map_or (λ owner. bytes_eq owner user || list_any (shares user list) (rows_in stored)) o false) (sym is)
+-- who sees a list of a table, by what is known of its owner
+pub sees-owned : (user list owner : List ℕ) (stored : List Stored) → AreRows stored → Some owner ≡ owner_of list (rows_in stored) → sees user list (rows_in stored) ≡ (bytes_eq owner user || list_any (shares user list) (rows_in stored))
+sees-owned user list owner stored order is = sees-owner user list (rows_in stored) (distinct-rows stored order) ∙ ap (λ (o : Option (List ℕ)). option_map_or (λ owner. bytes_eq owner user || list_any (shares user list) (rows_in stored)) o false) (sym is)
 
-pub may-absent : (user list : List ℕ) (stored : List Stored) → AreRows stored → None ≡ owner_of list (rows_in stored) → may user list (rows_in stored) ≡ false
-may-absent user list stored order is = may-owner user list (rows_in stored) (distinct-rows stored order) ∙ ap (λ (o : Option (List ℕ)). option_map_or (λ owner. bytes_eq owner user || list_any (shares user list) (rows_in stored)) o false) (sym is)
+pub sees-absent : (user list : List ℕ) (stored : List Stored) → AreRows stored → None ≡ owner_of list (rows_in stored) → sees user list (rows_in stored) ≡ false
+sees-absent user list stored order is = sees-owner user list (rows_in stored) (distinct-rows stored order) ∙ ap (λ (o : Option (List ℕ)). option_map_or (λ owner. bytes_eq owner user || list_any (shares user list) (rows_in stored)) o false) (sym is)
 
 -- who owns a list of a table, by what is known of its owner
 pub owns-found : (user list : List ℕ) (stored : List Stored) (owner : Option (List ℕ)) → AreRows stored → owner ≡ owner_of list (rows_in stored)

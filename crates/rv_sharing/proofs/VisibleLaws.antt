@@ -14,7 +14,7 @@ use Rattle.rv_sharing.specs.Visible.{visible}
 
 -- the keys that the user sees among the rest of the rows
 abbrev pub shown : List ℕ → List Row → List Stored → List (Key × ℕ)
-shown user rows rest = map (λ s. (row_key s.0, s.1)) (filter (λ s. sees user rows s.0) rest)
+shown user rows rest = map (λ s. (row_key s.0, s.1)) (filter (λ s. sees user (list_of s.0) rows) rest)
 
 -- the keys so far, with those of the rest, are all that the user sees
 pub record Showing (user : List ℕ) (stored : List Stored) (lists : List (List ℕ)) (keys : List (Key × ℕ)) (rest : List Stored) : Type 0 where
@@ -22,8 +22,7 @@ pub record Showing (user : List ℕ) (stored : List Stored) (lists : List (List 
   pub keys_are : keys ++ shown user (rows_in stored) rest ≡ visible user stored
 
 -- among the lists that the user sees is a row's exactly where the user sees the row
-pub seen_so : (user : List ℕ) (rows : List Row) (lists : List (List ℕ)) (row : Row) → AreOpened user rows lists → sees user rows row ≡ list_any (bytes_eq (list_of row)) lists
-unfolding sees
+pub seen_so : (user : List ℕ) (rows : List Row) (lists : List (List ℕ)) (row : Row) → AreOpened user rows lists → sees user (list_of row) rows ≡ list_any (bytes_eq (list_of row)) lists
 seen_so user rows lists row are = sym (are.each (list_of row))
 
 -- what the look-up says of the row's list
@@ -42,7 +41,7 @@ showing_more user stored rest next lists keys new row version key first holds is
       keys_are =
           ap (λ (ks : List (Key × ℕ)). ks ++ shown user (rows_in stored) next) (pushed ∙ ap (λ (k : Key). keys ++ (k, version) ∷ []) is)
           ∙ append_assoc keys ((row_key row, version) ∷ []) (shown user (rows_in stored) next)
-          ∙ ap (λ (b : Bool). keys ++ map (λ (s : Stored). (row_key s.0, s.1)) (cond b ((row, version) ∷ filter (λ s. sees user (rows_in stored) s.0) next) (filter (λ s. sees user (rows_in stored) s.0) next))) (holds ∙ sym (seen_so user (rows_in stored) lists row showing.lists_are))
+          ∙ ap (λ (b : Bool). keys ++ map (λ (s : Stored). (row_key s.0, s.1)) (cond b ((row, version) ∷ filter (λ s. sees user (list_of s.0) (rows_in stored)) next) (filter (λ s. sees user (list_of s.0) (rows_in stored)) next))) (holds ∙ sym (seen_so user (rows_in stored) lists row showing.lists_are))
           ∙ showing.keys_are;
     }
 
@@ -53,7 +52,7 @@ showing_same user stored rest next lists keys row version first holds showing =
     record {
       lists_are = showing.lists_are;
       keys_are =
-          ap (λ (b : Bool). keys ++ map (λ (s : Stored). (row_key s.0, s.1)) (cond b ((row, version) ∷ filter (λ s. sees user (rows_in stored) s.0) next) (filter (λ s. sees user (rows_in stored) s.0) next))) (holds ∙ sym (seen_so user (rows_in stored) lists row showing.lists_are))
+          ap (λ (b : Bool). keys ++ map (λ (s : Stored). (row_key s.0, s.1)) (cond b ((row, version) ∷ filter (λ s. sees user (list_of s.0) (rows_in stored)) next) (filter (λ s. sees user (list_of s.0) (rows_in stored)) next))) (holds ∙ sym (seen_so user (rows_in stored) lists row showing.lists_are))
           ∙ showing.keys_are;
     }
 
@@ -73,4 +72,4 @@ in_order-pairs [] h = tt
 in_order-pairs (x ∷ xs) h = (above-pairs (stored_key x) xs h.0, in_order-pairs xs h.1)
 
 pub visible_in_order : (user : List ℕ) (stored : List Stored) (keys : List (Key × ℕ)) → keys ≡ visible user stored → AreRows stored → InOrder (λ (p : Key × ℕ). key_text p.0) keys
-visible_in_order user stored keys is h = rw is (in_order-pairs _ (in_order-filter stored_key (λ s. sees user (rows_in stored) s.0) stored h))
+visible_in_order user stored keys is h = rw is (in_order-pairs _ (in_order-filter stored_key (λ s. sees user (list_of s.0) (rows_in stored)) stored h))

@@ -7,7 +7,7 @@ use Rattle.rv_rows.specs.declared.key.Key.{Key}
 use Rattle.rv_rows.specs.declared.row.Row.{Row}
 use Rattle.rv_rows.specs.declared.row.Row.TheVariants as variants
 use Rattle.rv_rows.specs.Keys.{key_text, row_at}
-use Rattle.rv_rows.specs.Sharing.{is_list, may, list_of}
+use Rattle.rv_rows.specs.Sharing.{is_list, sees, list_of}
 use Rattle.rv_sharing.specs.Texts.{AreInOrder}
 
 -- the list that the row lets the user see: one that the user owns, or one that is there and shared with the user
@@ -19,7 +19,7 @@ opened user rows (variants.Todo row) = None
 -- these are the lists that the user sees
 pub record AreOpened (user : List ℕ) (rows : List Row) (lists : List (List ℕ)) : Type 0 where
   pub order : AreInOrder lists
-  pub each : (list : List ℕ) → list_any (bytes_eq list) lists ≡ may user list rows
+  pub each : (list : List ℕ) → list_any (bytes_eq list) lists ≡ sees user list rows
 
 -- the key's row is there, and the list that it is or belongs to passes the test
 abbrev pub list_passes : (List ℕ → Bool) → List Row → Key → Bool

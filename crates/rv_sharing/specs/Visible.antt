@@ -4,10 +4,10 @@ use Rattle.std.specs.List.{filter}
 use Rattle.rv_rows.specs.declared.key.Key.{Key}
 use Rattle.rv_rows.specs.Keys.{row_key}
 use Rattle.rv_rows.specs.Held.{Stored, rows_in}
-use Rattle.rv_rows.specs.Sharing.{sees}
+use Rattle.rv_rows.specs.Sharing.{sees, list_of}
 
 abbrev pub visible : List ℕ → List Stored → List (Key × ℕ)
-visible user stored = map (λ s. (row_key s.0, s.1)) (filter (λ s. sees user (rows_in stored) s.0) stored)
+visible user stored = map (λ s. (row_key s.0, s.1)) (filter (λ s. sees user (list_of s.0) (rows_in stored)) stored)
 
 -- the list does not begin with this
 abbrev pub BeginsOtherwise : {X : Type 0} → X → List X → Type 0

@@ -1,6 +1,6 @@
 //! Who sees which rows.
 //!
-//! A user may see a list exactly where the list is there and the user owns it or a share of that list names the user. A
+//! A user sees a list exactly where the list is there and the user owns it or a share of that list names the user. A
 //! user sees each such list, with its shares and its todos. The calls here are that rule over [`Tables`](rv_rows::Tables).
 #![tactic(auto)]
 
@@ -9,6 +9,6 @@ mod texts;
 mod viewers;
 mod views;
 
-pub use lists::{has_list, has_share, may, owner_of, owns};
+pub use lists::{has_list, has_share, owner_of, owns, sees};
 pub use viewers::{add_sharers, add_user, add_viewers, affected};
 pub use views::{sees_exactly, visible};

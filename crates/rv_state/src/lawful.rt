@@ -6,7 +6,7 @@ ghost use Rattle.rv_history.specs.Lawful.{IsBase, IsLawfulAfter};
 
 use rv_base::{Id, Num, User};
 use rv_book::{Book, Entry};
-use rv_news::{Admission, Numbering, admits, last_of};
+use rv_history::{Admission, Numbering, admits, last_of};
 
 // Whether the user may use the group.
 fn is_open(book: &Book, user: &User, group: &Id) -> bool

@@ -2,10 +2,10 @@
 use Rattle.std.specs.Prelude.{ℕ, ◌≡◌, ◌≤◌, List, true, false}
 use Rattle.rv_book.specs.Book.{Book, last, retired, size}
 use Rattle.rv_history.specs.Groups.{is_of_other, is_elsewhere, Admits}
-use Rattle.rv_news.specs.declared.groups.Admission.{Admission}
-use Rattle.rv_news.specs.declared.groups.Admission.TheVariants.{OfOther, Retired, Open}
-use Rattle.rv_news.specs.declared.groups.Numbering.{Numbering}
-use Rattle.rv_news.specs.declared.groups.Numbering.TheVariants.{Elsewhere, Last}
+use Rattle.rv_history.specs.declared.groups.Admission.{Admission}
+use Rattle.rv_history.specs.declared.groups.Admission.TheVariants.{OfOther, Retired, Open}
+use Rattle.rv_history.specs.declared.groups.Numbering.{Numbering}
+use Rattle.rv_history.specs.declared.groups.Numbering.TheVariants.{Elsewhere, Last}
 
 -- the first case that holds
 abbrev pub IsAdmission : List ℕ → List ℕ → Book → Admission → Type 0

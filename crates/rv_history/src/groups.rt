@@ -1,8 +1,9 @@
-// Whose a group is, and which group a client is of. Nothing here takes memory.
+// Who may use a client group, and where a client of it stands in its numbering: what the machine asks of the book before each
+// step. Nothing here takes memory.
 ghost use Rattle.std.specs.Prelude.{◌≡◌, not, false, option_map};
 ghost use Rattle.std.specs.Option.{option_map_or};
 ghost use Rattle.std.specs.Str.{bytes_eq};
-ghost use Rattle.rv_news.specs.Admission.{IsAdmission, IsNumbering};
+ghost use Rattle.rv_history.specs.Admission.{IsAdmission, IsNumbering};
 
 use rv_base::{Id, Num, User};
 use rv_book::Book;
