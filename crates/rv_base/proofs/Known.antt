@@ -1,10 +1,9 @@
 -- Steps over known bytes.
-use Rattle.std.proofs.Common.{◌≡◌, ℕ, ◌+◌, ◌-◌, ◌<◌, min, List, [], ◌++◌, length, take, drop, sym, ap, ◌∙◌, arith, append_assoc, append-nil}
+use Rattle.std.proofs.Common.{◌≡◌, ℕ, ◌+◌, ◌-◌, ◌<◌, min, List, [], ◌++◌, length, take, drop, sym, ap, ◌∙◌, arith, append_assoc}
 use Rattle.std.specs.declared.option.Option.{Option}
 use Rattle.std.proofs.lemmas.List.{drop_min, drop-drop, take-append-drop, nil_from_length, length-drop, take_rest}
-use Rattle.std.specs.Io.KnownBytes.{Appends, Keeps}
+use Rattle.std.specs.Io.KnownBytes.{Appends}
 use Rattle.std.proofs.KnownBytes.{Appends-trans}
-use Rattle.rv_base.specs.Writes.{AppendsFront, appends_keeps}
 use Rattle.rv_base.specs.Outside.{OutputState}
 
 -- what a read of n bytes at a place gives, and what it leaves
@@ -30,10 +29,3 @@ pub record Goes (old now : OutputState) (steady : Type 0) (text rest : List ℕ)
   pub faults : now.faults ≡ old.faults
   pub refusals : now.refusals ≡ old.refusals
   pub goes_on : steady
-
--- nothing is left of the text
-pub write_done : (text done rest : List ℕ) (old new : Option (List ℕ)) → text ≡ done ++ rest → length rest ≡ 0 → Appends old new done → Appends old new text
-write_done text done rest old new e none f = rw (e, nil_from_length rest none, append-nil done) f
-
-pub write_stopped : (text done rest : List ℕ) (old mid new : Option (List ℕ)) → text ≡ done ++ rest → 0 < length rest → Appends old mid done → Keeps mid new → AppendsFront old new text
-write_stopped text done rest old mid new e lt f g = (done, (rest, e, lt), appends_keeps old mid new done f g)

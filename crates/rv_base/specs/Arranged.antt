@@ -78,10 +78,6 @@ module _ {X : Type 0} (key : X → List ℕ) where
   pub find-sorted : (k : List ℕ) (xs : List X) → Distinct key xs → find_by key k (sorted_by key xs) ≡ find_by key k xs
   find-sorted k xs h = found_after k xs [] h ∙ or_none (find_by key k xs)
 
-  -- lists with distinct keys in which every key finds the same are the same in order
-  pub sorted-same : (xs ys : List X) → Distinct key xs → Distinct key ys → ((k : List ℕ) → find_by key k xs ≡ find_by key k ys) → sorted_by key xs ≡ sorted_by key ys
-  sorted-same xs ys h g same = in_order-same (sorted_by key xs) (sorted_by key ys) (in_order-sorted key xs) (in_order-sorted key ys) (λ k. find-sorted k xs h ∙ same k ∙ sym (find-sorted k ys g))
-
   -- items that are in order stay as they are
   pub sorted-in_order : (xs : List X) → InOrder key xs → sorted_by key xs ≡ xs
   sorted-in_order xs h = in_order-same (sorted_by key xs) xs (in_order-sorted key xs) h (λ k. find-sorted k xs (distinct-in_order xs h))

@@ -17,9 +17,6 @@ pub record HasCause {T E : Type 0} (before now : ℕ) (result : Result T E) : Ty
   pub failed : OnErr result (Rose before now)
   pub still : OnOk result (now ≡ before)
 
--- a count that rose stands as risen later
-pub rose_later : (before mid now : ℕ) → Rose before mid → mid ≤ now → Rose before now
-rose_later before mid now r le = omega (arith, r)
-
+-- a count that rose later has risen since before
 pub rose_before : (before mid now : ℕ) → before ≤ mid → Rose mid now → Rose before now
 rose_before before mid now le r = omega (arith, r)

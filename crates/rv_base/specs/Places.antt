@@ -299,14 +299,6 @@ module _ {X : Type 0} (key : X → List ℕ) where
   find-push_other k x [] h = rw h refl
   find-push_other k x (y ∷ ys) h = ap (λ (o : Option X). cond (bytes_eq k (key y)) (Some y) o) (find-push_other k x ys h)
 
-  pub find-push_new : (x : X) (xs : List X) → find_by key (key x) xs ≡ None → find_by key (key x) (xs ++ x ∷ []) ≡ Some x
-  find-push_new x [] h = rw (equals (key x)) refl
-  find-push_new x (y ∷ ys) h =
-      elim (bytes_eq (key x) (key y)) as (λ b. cond b (Some y) (find_by key (key x) ys) ≡ None → cond b (Some y) (find_by key (key x) (ys ++ x ∷ [])) ≡ Some x) [
-        | true ↦ λ e. absurd (cc)
-        | false ↦ λ e. find-push_new x ys e
-      ] h
-
   -- no item has a key that is not found
   pub others : (k : List ℕ) (xs : List X) → find_by key k xs ≡ None → AllByRecursion (λ x. bytes_eq k (key x) ≡ false) xs
   others k [] h = tt

@@ -1,7 +1,7 @@
 -- What a write of a whole text leaves.
-use Rattle.std.specs.Prelude.{◌≡◌, ℕ, ◌<◌, List, ◌++◌, length, Result, Ok, Err, Some, None, MatchResult}
+use Rattle.std.specs.Prelude.{◌≡◌, ℕ, ◌<◌, List, ◌++◌, length, Result, Ok, Err, MatchResult}
 use Rattle.std.specs.declared.option.Option.{Option}
-use Rattle.std.specs.Io.KnownBytes.{Appends, Keeps}
+use Rattle.std.specs.Io.KnownBytes.{Appends}
 use Rattle.std.proofs.Common.{ap, sym, ◌∙◌, append_assoc, arith, length-append}
 use Rattle.std.proofs.KnownBytes.{Appends-trans}
 
@@ -32,10 +32,3 @@ front_after old mid new text more a (part, (rest, e, lt), b) =
 pub writes_after : {T E : Type 0} (old mid new : Option (List ℕ)) (result : Result T E) (text more : List ℕ) → Appends old mid text → WritesText mid new result more → WritesText old new result (text ++ more)
 writes_after old mid new (Ok x) text more a w = Appends-trans old mid new text more a w
 writes_after old mid new (Err e) text more a w = front_after old mid new text more a w
-
--- nothing more was written
-pub appends_keeps : (old mid new : Option (List ℕ)) (bs : List ℕ) → Appends old mid bs → Keeps mid new → Appends old new bs
-appends_keeps None mid new bs f g = tt
-appends_keeps (Some x) None new bs f g = absurd f
-appends_keeps (Some x) (Some y) None bs f g = absurd g
-appends_keeps (Some x) (Some y) (Some z) bs f g = g ∙ f

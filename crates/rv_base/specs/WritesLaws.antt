@@ -2,7 +2,7 @@
 use Rattle.std.proofs.Common.{List, ℕ, ◌++◌, Result, Ok, Err, ◌∙◌, arith}
 use Rattle.rv_base.specs.Causes.{HasCause, Counts, rose_before}
 use Rattle.rv_base.specs.Writes.{writes_after, front_longer}
-use Rattle.rv_base.specs.Outside.{OutputState, Writes, IsSteady}
+use Rattle.rv_base.specs.Outside.{OutputState, Writes}
 
 -- a call that succeeded
 abbrev done : {T E : Type 0} → T → Result T E
@@ -23,11 +23,6 @@ writes_then old mid new first result text more a b = record {
   cause = cause_then old.faults mid.faults new.faults first result a.cause b.cause;
   memory = counts_then old.refusals mid.refusals new.refusals first result a.memory b.memory;
 }
-
--- the first text is of a sink that fails no more: refusals of memory are counted from there
-pub steady_then : {T U E : Type 0} (steady steady' : Type 0) (old mid new : OutputState) (first : T) (result : Result U E) → Counts old.refusals mid.refusals (done {E = E} first) → IsSteady steady' mid new result → IsSteady steady' old new result
-steady_then steady steady' old mid new first (Ok x) a b = record { goes_on = b.goes_on; only_memory = tt }
-steady_then steady steady' old mid new first (Err e) a b = record { goes_on = b.goes_on; only_memory = rose_before old.refusals mid.refusals new.refusals a.later b.only_memory }
 
 -- of a text that was cut, and what would have followed, a front was written
 pub writes_cut : {T U E : Type 0} (old new : OutputState) (fault : E) (text more : List ℕ) → Writes {T = T} old new (Err fault) text → Writes {T = U} old new (Err fault) (text ++ more)

@@ -63,10 +63,6 @@ ended Told begun now start input first mid out ending result f w =
     let (own, a, h, so) = own_text first.faults mid out ending result f.writes w in
     (f.reads, so, with_own Told begun now start.left input first mid out ending own f.fed a h)
 
--- a status's text alone
-pub only_text : {T E : Type 0} (first out : OutputState) (text : List ℕ) (result : Result T E) → Writes first out result text → (own : List ℕ) × Appends first.written out.written own × IsPart first.faults out.faults own text
-only_text first out text result w = part_of first.faults first out text result refl w
-
 -- where all lines are of the form, so is each
 line_among : (n : ℕ) (rest others : List (List ℕ)) (bytes : List ℕ) (lines : List Line) (number : ℕ) → number ≡ n + length rest → Are n (rest ++ bytes ∷ others) lines → (line : Line) × (line_at number bytes ≡ Some line)
 line_among n [] others bytes [] number e h = absurd h

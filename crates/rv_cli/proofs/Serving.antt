@@ -22,7 +22,7 @@ use Rattle.rv_cli.specs.declared.serve_ending.ServeEnding.TheVariants.{Done, Bad
 use Rattle.rv_cli.specs.Texts.{serve_status, serve_text, status_of}
 use Rattle.rv_cli.specs.Change.{StoreChange, change}
 use Rattle.rv_cli.specs.Headline.{Begins, IsLeftAs, IsNotOpened, Leaves, WritesOnly, KeptSound}
-use Rattle.rv_cli.specs.Serving.{FileSays, HasNoAccounts, HasNoNet, HasNoStore, HasRefused, HasServed, IsNoNet, NetServes, RunsServe, TellsEntries}
+use Rattle.rv_cli.specs.Serving.{FileSays, HasNoAccounts, HasNoNet, HasNoStore, HasServed, IsNoNet, NetServes, RunsServe, TellsEntries}
 use Rattle.rv_cli.specs.ServingSteps.{AccountsRead, NetServed, TellsCount, TellsServed, count_text}
 use Rattle.rv_cli.specs.Storing.{HasOpened}
 use Rattle.rv_cli.proofs.Sound.{refused_sound}
@@ -64,11 +64,6 @@ module _ {P K : Type 0} (place : PlaceGhosts P K) (G : Ghosts K) (store name : L
   -- the file was read before the place told what it tells later
   says_later : (Now : Type 0) (old mid : P) (said : Result AccountsServed _) → (Now → place.tells mid) → FileSays (place.tells mid) (place.accounts old name) said → FileSays Now (place.accounts old name) said
   says_later Now old mid said before says = record { bytes = says.bytes; read = λ t. says.read (before t); says = says.says }
-
-  -- there are no accounts
-  pub has_refused : (old new : P) (ending : ServeEnding) (out out' : OutputState) → Read old (Err ending) new → WritesOnly out out' (serve_text ending)
-      → HasRefused G (change place store old new) (place.accounts old name) out out' ending
-  has_refused old new ending out out' read text = record { why = read.tells_so; stays = λ t held was. read.stays t store held was; text = text }
 
   -- the store did not open
   pub has_no_store : (old mid new : P) (said : AccountsServed) (other : Ending) (out out' : OutputState) → Read old (Ok said) mid → (place.tells new → place.tells mid)

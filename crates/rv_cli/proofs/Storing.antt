@@ -1,5 +1,5 @@
 -- From the desk of a store, what was fed to it, and the keeper that went back, to what a run promises.
-use Rattle.std.proofs.Common.{◌≡◌, ◌≢◌, ℕ, zero, suc, ◌-◌, ◌^◌, ◌<◌, List, Option, Some, None, IfSome, Result, Ok, Err, IsOk, IsErr, IsErrAnd, refl, sym, ap, ◌∙◌, subst, arith, inl, inr}
+use Rattle.std.proofs.Common.{◌≡◌, ◌≢◌, ℕ, zero, suc, ◌<◌, List, Option, Some, None, IfSome, Result, Ok, Err, IsOk, IsErr, IsErrAnd, refl, sym, ap, ◌∙◌, subst, arith, inl, inr}
 use Rattle.rv_base.specs.Causes.{Rose}
 use Rattle.rv_base.specs.Outside.{InputState, OutputState, Writes}
 use Rattle.rv_history.specs.Served.{Served}
@@ -10,22 +10,19 @@ use Rattle.rv_keeper.specs.declared.place.Place.{Ghosts as PlaceGhosts}
 use Rattle.rv_keeper.specs.Keeping.{HasKeepCause}
 use Rattle.rv_keeper.specs.Stores.{OpensWith, TakesUp}
 use Rattle.rv_desk.specs.Seated.{Seated, served}
-use Rattle.rv_desk.specs.Opened.{Opens, IsRefused, IsLeft}
-use Rattle.rv_desk.specs.declared.open_fault.OpenFault.{OpenFault}
 use Rattle.rv_answering.specs.declared.answer.Answer.{Answer}
 use Rattle.rv_answering.specs.declared.request.Request.TheVariants.{Retire}
 use Rattle.rv_cli.specs.declared.ending.Ending.{Ending}
 use Rattle.rv_cli.specs.declared.ending.Ending.TheVariants.{Done, Keeper, Damaged, Read, Write, Memory, Malformed}
-use Rattle.rv_cli.specs.Texts.{fault_ending, keep_ending, status_of, status_text}
+use Rattle.rv_cli.specs.Texts.{keep_ending, status_of, status_text}
 use Rattle.rv_cli.specs.Change.{StoreChange, change, kept_change}
 use Rattle.rv_cli.specs.Headline.{Ends, Begins, Leaves, IsNotOpened, KeepsSo, HasFed, Replied}
 use Rattle.rv_cli.specs.Feeding.{IsLeftWith, RoseAt, FedAnswers, Feeds, FeedsWith}
 use Rattle.rv_cli.specs.Replying.{Retired, WritesReply}
-use Rattle.rv_cli.specs.Storing.{HasOpened, OpensStore, KeptOpened, OpensKept}
+use Rattle.rv_cli.specs.Storing.{HasOpened, OpensStore, OpensKept}
 use Rattle.rv_cli.specs.RunLaws.{answered_later, step_later}
 use Rattle.rv_cli.proofs.Ended.{ended}
 use Rattle.rv_keeper.specs.declared.fault.KeepFault.TheVariants as keeping
-use Rattle.rv_desk.specs.declared.open_fault.OpenFault.TheVariants as faulting
 
 -- what is told later was told before
 module _ (Told Now : Type 0) (then : Now → Told) where

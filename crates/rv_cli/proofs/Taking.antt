@@ -204,12 +204,6 @@ module _ {K : Type 0} (tells fails_no_more : K → Type 0) (holds : K → Loaded
       stop_of (Asks asked) e h = absurd h
       stop_of Stop e h = e
 
-  pub lines_none : (line : List ℕ) → AreLines (line_of line) None → line_of line ≡ None
-  lines_none line lines = elim (line_of line) as (λ o. line_of line ≡ o → AreLines o None → line_of line ≡ None) [
-    | None ↦ λ e h. e
-    | Some l ↦ λ e h. absurd h
-  ] refl lines
-
   served_line : (old : Seated K) (line : List ℕ) (number : ℕ) (asked : Parsed) (result : Result (Seated K) (Ending × K)) (before now : OutputState) → line_of line ≡ Some (Asks asked)
       → ServesOrNot tells holds faults old asked result before now → TakesLine tells holds faults old line number result before now
   served_line old line number asked (Ok new) before now is ((answer, step, appended), counts, told) =

@@ -7,7 +7,7 @@ use Rattle.rv_book.specs.BookWords.{size-with_entry}
 use Rattle.rv_history.specs.Served.{Doubt}
 use Rattle.rv_keeper.specs.declared.cell.Cell.{Cell}
 use Rattle.rv_keeper.specs.declared.change.Change.{Change}
-use Rattle.rv_keeper.specs.declared.fault.KeepFault.TheVariants.{Failed, Memory}
+use Rattle.rv_keeper.specs.declared.fault.KeepFault.TheVariants.{Failed}
 use Rattle.rv_keeper.specs.declared.loaded.Loaded.{Loaded}
 use Rattle.rv_keeper.specs.Cells.{changed}
 use Rattle.rv_keeper.specs.Keeping.{Made, committed}

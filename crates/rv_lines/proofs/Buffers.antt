@@ -1,21 +1,19 @@
 -- Steps of a buffer of lines.
-use Rattle.std.proofs.Common.{◌≡◌, ℕ, suc, zero, ◌+◌, ◌-◌, ◌<◌, ◌≤◌, List, [], ◌∷◌, ◌++◌, length, take, drop, get_or, Some, None, refl, sym, ap, ◌∙◌, subst, append_assoc, Bool, true, false, ◌||◌, ◌==◌, nat_lt, Ok, Err, inl, inr, arith, length-append, append-nil}
+use Rattle.std.proofs.Common.{◌≡◌, ℕ, suc, zero, ◌+◌, ◌-◌, ◌<◌, ◌≤◌, List, [], ◌∷◌, ◌++◌, length, take, drop, get_or, Some, None, refl, sym, ap, ◌∙◌, subst, append_assoc, Bool, true, false, ◌||◌, ◌==◌, Ok, arith}
 use Rattle.std.specs.declared.option.Option.{Option}
 use Rattle.std.proofs.lemmas.List.{take-take, take-append-drop, drop_more, drop_all, drop-take, drop-drop, length-take-le, take_all, length-drop, get_or-drop, take_rest}
 use Rattle.std.specs.Io.KnownBytes.{Keeps, Consumes, IsAtEnd, prepend_known}
-use Rattle.std.proofs.KnownBytes.{Consumes-nil, Consumes-trans, Consumes-kept, Keeps-refl}
+use Rattle.std.proofs.KnownBytes.{Keeps-refl}
 use Rattle.std.proofs.lemmas.List.Folds.{list_any-append}
-use Rattle.std.proofs.lemmas.Grind.{common_steps}
 use Rattle.std.specs.Option.{MatchOption}
 use Rattle.std.proofs.Math.Seq.{take-add}
 use Rattle.std.proofs.lemmas.Bool.Decides.{Decides-eqb}
 use Rattle.memchr.specs.Find.{Nowhere, Passes, IsFirstByte, is_byte}
 use Rattle.rv_base.specs.Outside.{InputState}
-use Rattle.rv_lines.specs.Lines.{HasNoLf, has_lf, holds_line, longest_line}
-use Rattle.rv_lines.specs.Found.{Adds, KeepsUnread, Finds}
+use Rattle.rv_lines.specs.Lines.{HasNoLf, has_lf, longest_line}
+use Rattle.rv_lines.specs.Found.{Finds}
 use Rattle.rv_lines.specs.declared.buffer.Found.TheVariants.{At}
 use Rattle.rv_lines.specs.Reading.{ReadsAhead}
-use Rattle.rv_lines.specs.declared.line_fault.LineFault.{LineFault}
 
 or_left : (a b : Bool) → (a || b) ≡ false → a ≡ false
 or_left true b e = e
@@ -76,89 +74,6 @@ pub record Fills (first : List ℕ) (start : InputState) (buffer : List ℕ) (no
   pub faults : now.faults ≡ start.faults
   pub ends : now.ends ≡ start.ends
   pub ahead : ReadsAhead first start now
-
-pub fills_first : (first : List ℕ) (start : InputState) → Fills first start first start
-fills_first first start = record {
-  more = [];
-  grown = sym (append-nil first);
-  taken = Consumes-nil start.left;
-  faults = refl;
-  ends = refl;
-  ahead = inl (Keeps-refl start.left);
-}
-
--- what follows has no LF where the whole has none
-pub no_lf_before : (first more : List ℕ) → HasNoLf (first ++ more) → HasNoLf first
-no_lf_before first more h = or_left (has_lf first) (has_lf more) (sym (list_any-append (λ byte. byte == 10) first more) ∙ h)
-
-not_longer : (n : ℕ) → n ≤ longest_line → nat_lt longest_line n ≡ false
-not_longer n le = grind (arith, common_steps)
-
--- a buffer that has no whole line began with none
-pub not_held : (first start' : List ℕ) (more : List ℕ) → start' ≡ first ++ more → HasNoLf start' → length start' ≤ longest_line → holds_line first ≡ false
-not_held first start' more e h le =
-    let P : List ℕ → Type 0 = λ l. HasNoLf l in
-    let none = no_lf_before first more (subst P e h) in
-    let short : length first ≤ longest_line = omega (arith, length-append first more, ap length e, le) in
-    or_both (has_lf first) (nat_lt longest_line (length first)) none (not_longer (length first) short)
-
-ahead_more : (first more piece : List ℕ) (start now next : InputState) (buffer : List ℕ) → buffer ≡ first ++ more → Consumes start.left now.left more → Consumes now.left next.left piece → length piece ≤ 4096 → HasNoLf buffer → length buffer ≤ longest_line → ReadsAhead first start next
-ahead_more first more piece start now next buffer e c d le h short =
-    let P : List ℕ → Type 0 = λ l. HasNoLf l in
-    let Q : List ℕ → Type 0 = λ l. length l ≤ longest_line in
-    inr (more, piece, Consumes-trans _ _ _ _ _ c d, le, subst P e h, subst Q e short)
-
--- one more piece
-pub fills_more : (first : List ℕ) (start : InputState) (buffer : List ℕ) (now : InputState) (buffer' : List ℕ) (next : InputState) (count : ℕ)
-    → Fills first start buffer now → HasNoLf buffer → length buffer ≤ longest_line → Adds buffer now buffer' next (Ok count) → next.faults ≡ now.faults → next.ends ≡ now.ends → Fills first start buffer' next
-fills_more first start buffer now buffer' next count f h le (piece, e, size, most, c, at_end) faults ends = record {
-  more = f.more ++ piece;
-  grown = e ∙ ap (λ l. l ++ piece) f.grown ∙ append_assoc first f.more piece;
-  taken = Consumes-trans _ _ _ _ _ f.taken c;
-  faults = faults ∙ f.faults;
-  ends = ends ∙ f.ends;
-  ahead = ahead_more first f.more piece start now next buffer f.grown f.taken c (omega (arith, size, most)) h le;
-}
-
--- a read that told the end
-pub ahead_at_end : (first : List ℕ) (start : InputState) (buffer : List ℕ) (now : InputState) (buffer' : List ℕ) (next : InputState) (count : ℕ)
-    → Fills first start buffer now → HasNoLf buffer → length buffer ≤ longest_line → Adds buffer now buffer' next (Ok count) → ReadsAhead first start next
-ahead_at_end first start buffer now buffer' next count f h le (piece, e, size, most, c, at_end) =
-    ahead_more first f.more piece start now next buffer f.grown f.taken c (omega (arith, size, most)) h le
-
--- a read that added nothing
-keeps_ahead : (first : List ℕ) (start now next : InputState) → ReadsAhead first start now → Keeps now.left next.left → ReadsAhead first start next
-keeps_ahead first start now next (inl k) g = inl (keeps_both start.left now.left next.left k g)
-  where
-    keeps_both : (a b c : Option (List ℕ)) → Keeps a b → Keeps b c → Keeps a c
-    keeps_both None b c p q = tt
-    keeps_both (Some x) None c p q = absurd p
-    keeps_both (Some x) (Some y) None p q = absurd q
-    keeps_both (Some x) (Some y) (Some z) p q = q ∙ p
-keeps_ahead first start now next (inr (more, piece, c, le, h, short)) g = inr (more, piece, Consumes-kept _ _ _ _ c g, le, h, short)
-
-pub ahead_at_fault : (first : List ℕ) (start : InputState) (buffer : List ℕ) (now : InputState) (buffer' : List ℕ) (next : InputState) (fault : LineFault)
-    → Fills first start buffer now → Adds buffer now buffer' next (Err fault) → ReadsAhead first start next
-ahead_at_fault first start buffer now buffer' next fault f a = keeps_ahead first start now next f.ahead a.1
-
-keeps_unread : (first more buffer : List ℕ) (start now : Option (List ℕ)) → buffer ≡ first ++ more → Consumes start now more → Keeps (prepend_known first start) (prepend_known buffer now)
-keeps_unread first more buffer None now e c = tt
-keeps_unread first more buffer (Some xs) None e c = absurd c
-keeps_unread first more buffer (Some xs) (Some ys) e c = ap (λ l. l ++ ys) e ∙ append_assoc first more ys ∙ ap (λ l. first ++ l) (sym c)
-
--- nothing is lost of what was taken
-pub fills_unread : (first : List ℕ) (start : InputState) (buffer : List ℕ) (now : InputState) → Fills first start buffer now → KeepsUnread first start.left buffer now.left
-fills_unread first start buffer now f = keeps_unread first f.more buffer start.left now.left f.grown f.taken
-
-pub unread_at_end : (first : List ℕ) (start : InputState) (buffer : List ℕ) (now : InputState) (buffer' : List ℕ) (next : InputState) (count : ℕ)
-    → Fills first start buffer now → Adds buffer now buffer' next (Ok count) → KeepsUnread first start.left buffer' next.left
-unread_at_end first start buffer now buffer' next count f (piece, e, size, most, c, at_end) =
-    keeps_unread first (f.more ++ piece) buffer' start.left next.left (e ∙ ap (λ l. l ++ piece) f.grown ∙ append_assoc first f.more piece) (Consumes-trans _ _ _ _ _ f.taken c)
-
-pub unread_at_fault : (first : List ℕ) (start : InputState) (buffer : List ℕ) (now : InputState) (buffer' : List ℕ) (next : InputState) (fault : LineFault)
-    → Fills first start buffer now → Adds buffer now buffer' next (Err fault) → KeepsUnread first start.left buffer' next.left
-unread_at_fault first start buffer now buffer' next fault f (same, k) =
-    keeps_unread first f.more buffer' start.left next.left (same ∙ f.grown) (Consumes-kept _ _ _ _ f.taken k)
 
 -- a whole line that is held, from an index on: it is given, and what comes after its LF waits
 pub held : (pending buffer : List ℕ) (left : Option (List ℕ)) (next n after : ℕ) (line : List ℕ) → pending ≡ drop next buffer → Finds (drop next buffer) None (Ok (At n)) → line ≡ drop next (take (next + n) buffer) → after ≡ next + n + 1

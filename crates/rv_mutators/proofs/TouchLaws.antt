@@ -35,10 +35,6 @@ use Rattle.rv_mutators.proofs.ReaderLaws.{list_any-push}
 abbrev pub IsTold : List Row → List Row → List ℕ → Staged → Type 0
 IsTold before after user s = (list_any (sees_key before user) (touched s) || list_any (sees_key after user) (touched s)) ≡ (list_any (sees_key before user) s.keys || list_any (sees_with before user) s.rows)
 
-or_false : (b : Bool) → (b || false) ≡ b
-or_false true = refl
-or_false false = refl
-
 append-nil : {X : Type 0} (xs : List X) → xs ++ [] ≡ xs
 append-nil [] = refl
 append-nil (x ∷ xs) = ap (λ t. x ∷ t) (append-nil xs)
@@ -84,10 +80,6 @@ told-rest user before after e =
 any-map : (p : Row → Bool) (f : Row → Row) (rows : List Row) → ((x : Row) → p (f x) ≡ p x) → list_any p (map f rows) ≡ list_any p rows
 any-map p f [] same = refl
 any-map p f (x ∷ rows) same = rw (same x, any-map p f rows same) refl
-
-and_false : (b : Bool) → (b && false) ≡ true → ⊥
-and_false true e = cc
-and_false false e = cc
 
 both_true : (b c : Bool) → (b && c) ≡ true → b ≡ true
 both_true true c e = refl

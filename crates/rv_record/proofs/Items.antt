@@ -1,53 +1,17 @@
 -- Reading an array item by item, as a loop does, and neighbours in order.
-use Rattle.std.proofs.Common.{◌≡◌, ℕ, zero, suc, ◌+◌, ◌-◌, ◌<◌, ◌≤◌, ◌&&◌, List, [], ◌∷◌, ◌++◌, length, get_or, drop, Bool, true, false, Option, Some, None, option_map, Ordering, refl, sym, ap, ◌∙◌, subst, arith, append_assoc, append-nil}
+use Rattle.std.proofs.Common.{◌≡◌, ℕ, zero, suc, ◌+◌, ◌-◌, ◌<◌, ◌≤◌, ◌&&◌, List, [], ◌∷◌, ◌++◌, length, get_or, drop, Bool, true, false, Option, option_map, Ordering, refl, sym, ap, ◌∙◌, subst, arith}
 use Rattle.std.specs.declared.cmp.Ordering.TheVariants.{Less}
 use Rattle.std.specs.Cmp.Lexicographic.{slice_cmp}
 use Rattle.std.specs.Ordering.{nat_cmp, match_ordering}
-use Rattle.std.proofs.lemmas.List.{drop_more, drop_all}
 use Rattle.serde_json.specs.Data.{Data}
-use Rattle.serde_json.specs.View.{view, items_view}
+use Rattle.serde_json.specs.View.{items_view}
 use Rattle.serde_json.specs.declared.value.Value.{Value}
-use Rattle.rv_base.specs.Options.{◌>>=◌}
 use Rattle.rv_record.specs.ViewReading.{each_item, is_below, is_in_order}
 
 module _ {X : Type 0} (read : Data → Option X) where
   -- what is read is what was read, and then what the values that are left are read as
   abbrev pub Goes : List X → List Value → Option (List X) → Type 0
   Goes out left whole = whole ≡ option_map (λ (rest : List X). out ++ rest) (each_item read (items_view left))
-
-  one_more : (out : List X) (x : X) (rest : Option (List X)) → option_map (λ (ys : List X). out ++ ys) (rest >>= λ ys. Some (x ∷ ys)) ≡ option_map (λ (ys : List X). (out ++ x ∷ []) ++ ys) rest
-  one_more out x None = refl
-  one_more out x (Some ys) = ap (λ (zs : List X). Some zs) (sym (append_assoc out (x ∷ []) ys))
-
-  next_left : (values : List Value) (i : ℕ) (v : Value) → i < length values → v ≡ get_or values i v → drop i values ≡ v ∷ drop (i + 1) values
-  next_left values i v lt is = drop_more values i v lt ∙ ap (λ (w : Value). w ∷ drop (i + 1) values) (sym is)
-
-  pub goes_on : (values : List Value) (i : ℕ) (v : Value) (out : List X) (x : X) (whole : Option (List X)) → i < length values → v ≡ get_or values i v → Goes out (drop i values) whole → Some x ≡ read (view v) → Goes (out ++ x ∷ []) (drop (i + 1) values) whole
-  goes_on values i v out x whole lt is so_far e =
-      so_far ∙ ap (λ (left : List Value). option_map (λ (rest : List X). out ++ rest) (each_item read (items_view left))) (next_left values i v lt is)
-      ∙ ap (λ (o : Option X). option_map (λ (rest : List X). out ++ rest) (o >>= λ x. each_item read (items_view (drop (i + 1) values)) >>= λ xs. Some (x ∷ xs))) (sym e)
-      ∙ one_more out x (each_item read (items_view (drop (i + 1) values)))
-
-  pub goes_wrong : (values : List Value) (i : ℕ) (v : Value) (out : List X) (whole : Option (List X)) → i < length values → v ≡ get_or values i v → Goes out (drop i values) whole → None ≡ read (view v) → None ≡ whole
-  goes_wrong values i v out whole lt is so_far e =
-      sym (
-      so_far ∙ ap (λ (left : List Value). option_map (λ (rest : List X). out ++ rest) (each_item read (items_view left))) (next_left values i v lt is)
-      ∙ ap (λ (o : Option X). option_map (λ (rest : List X). out ++ rest) (o >>= λ x. each_item read (items_view (drop (i + 1) values)) >>= λ xs. Some (x ∷ xs))) (sym e)
-      )
-
-  pub has_gone : (values : List Value) (i : ℕ) (out : List X) (whole : Option (List X)) → length values ≤ i → Goes out (drop i values) whole → Some out ≡ whole
-  has_gone values i out whole le so_far =
-      sym (
-      so_far ∙ ap (λ (left : List Value). option_map (λ (rest : List X). out ++ rest) (each_item read (items_view left))) (drop_all i values le)
-      ∙ ap (λ (zs : List X). Some zs) (append-nil out)
-      )
-
-  pub begins : (values : List Value) → Goes [] values (each_item read (items_view values))
-  begins values = sym (unchanged (each_item read (items_view values)))
-    where
-      unchanged : (o : Option (List X)) → option_map (λ (rest : List X). [] ++ rest) o ≡ o
-      unchanged None = refl
-      unchanged (Some xs) = refl
 
 -- whether the neighbours from a place on are in order
 module _ {X : Type 0} (key : X → List ℕ) where

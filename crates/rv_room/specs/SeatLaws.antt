@@ -16,11 +16,6 @@ module _ {K : Type 0} {G : Ghosts K} where
       go [] e = (tt, e.0)
       go (seat ∷ seats) e = let r = go seats e.1 in ((e.0, r.0), r.1)
 
-  -- new seats are seats
-  pub new_of : (id : TableId) (opened : Seated K) (seats : List (Seat K G)) → AllNew id opened seats → AllOf id seats
-  new_of id opened [] e = tt
-  new_of id opened (seat ∷ seats) e = (e.0.0, new_of id opened seats e.1)
-
   -- one more seat
   pub more_of : (id : TableId) (seats : List (Seat K G)) (seat : Seat K G) → AllOf id seats → room_of seat ≡ id → AllOf id (seats ++ seat ∷ [])
   more_of id [] seat e is = (is, tt)

@@ -10,7 +10,6 @@ use Rattle.std.specs.Str.{bytes_eq}
 use Rattle.std.proofs.lemmas.Slice.Eq.{bytes_eq-Decides}
 use Rattle.std.proofs.Math.ListN.{length-set}
 use Rattle.std.proofs.lemmas.List.{get_or_append_left, length-append, length-map, get_or-map}
-use Rattle.std.proofs.lemmas.List.Folds.{list_any_at}
 use Rattle.std.proofs.lemmas.Option.{none-some}
 use Rattle.std.proofs.Math.Seq.{get_or-append_seam}
 use Rattle.rv_base.specs.Sorted.{find_by, InOrder, Settles}
@@ -40,10 +39,6 @@ in_slots key k slots os all j lt = ap (λ b. cond b (slice_cmp nat_cmp (key (row
 pub slot_held : (n s : ℕ) (os : List ℕ) → AreSlots n os → list_any (eqb s) os ≡ true → s < n
 slot_held n s [] all e = absurd (let f : false ≡ true = e in cc)
 slot_held n s (o ∷ os) all e = by_flag (λ b. (b || list_any (eqb s) os) ≡ true → s < n) (eqb s o) (λ t f. subst (λ (i : ℕ). i < n) (sym ((Decides-eqb s o).0 t)) all.0) (λ t f. slot_held n s os all.1 f) e
-
--- the slot at a place of one order is in the other
-pub held_too : (by_key by_list : List ℕ) (i s : ℕ) → AreSame by_key by_list → i < length by_key → get_or by_key i 0 ≡ s → list_any (eqb s) by_list ≡ true
-held_too by_key by_list i s same lt is = sym (same (eqb s)) ∙ list_any_at (eqb s) by_key i 0 lt ((Decides-eqb s (get_or by_key i 0)).1 (sym is))
 
 -- a key that no row has is not among the rows by their lists either
 pub absent_too : (slots : List Stored) (by_key by_list : List ℕ) (list key : List ℕ) → IsIndexed slots by_key by_list → find_by stored_key key (standing slots by_key) ≡ None → find_by list_key (listed list key) (standing slots by_list) ≡ None

@@ -1,5 +1,5 @@
 -- Laws of keys that are compared, row by row, with those that a user sees.
-use Rattle.std.proofs.Common.{◌≡◌, ◌↔◌, ℕ, Bool, true, false, cond, List, [], ◌∷◌, map, refl, sym, ap, ◌∙◌}
+use Rattle.std.proofs.Common.{◌≡◌, ◌↔◌, ℕ, Bool, true, false, cond, List, ◌∷◌, map, refl, sym, ap, ◌∙◌}
 use Rattle.std.specs.List.{filter, list_any}
 use Rattle.std.specs.Str.{bytes_eq}
 use Rattle.rv_rows.specs.declared.key.Key.{Key}
@@ -27,9 +27,6 @@ shown_more user rows lists row version next b are is =
     by_case true = refl
     by_case false = refl
 
-pub matching_begins : (user : List ℕ) (stored left : List Stored) (lists : List (List ℕ)) (keys : List (Key × ℕ)) → AreOpened user (rows_in stored) lists → left ≡ stored → Matching user stored lists keys keys left
-matching_begins user stored left lists keys are all = rw all (record { lists_are = are; exactly = ((λ is. is), (λ is. is)) })
-
 pub matching_more : (user : List ℕ) (stored left next : List Stored) (lists : List (List ℕ)) (keys rest others : List (Key × ℕ)) (row : Row) (version : ℕ) → left ≡ (row, version) ∷ next
     → true ≡ list_any (bytes_eq (list_of row)) lists → rest ≡ (row_key row, version) ∷ others → Matching user stored lists keys rest left → Matching user stored lists keys others next
 matching_more user stored left next lists keys rest others row version first holds begins m =
@@ -53,6 +50,3 @@ pub matching_fails : (user : List ℕ) (stored left next : List Stored) (lists :
     → true ≡ list_any (bytes_eq (list_of row)) lists → BeginsOtherwise (row_key row, version) rest → Matching user stored lists keys rest left → ¬ (keys ≡ visible user stored)
 matching_fails user stored left next lists keys rest row version first holds otherwise m = λ is.
     otherwise (shown user (rows_in stored) next) (m.exactly.1 is ∙ ap (shown user (rows_in stored)) first ∙ shown_more user (rows_in stored) lists row version next true m.lists_are holds)
-
-pub matching_ends : (user : List ℕ) (stored left : List Stored) (lists : List (List ℕ)) (keys rest : List (Key × ℕ)) → left ≡ [] → Matching user stored lists keys rest left → (rest ≡ []) ↔ (keys ≡ visible user stored)
-matching_ends user stored left lists keys rest none m = let m = rw none at m in m.exactly

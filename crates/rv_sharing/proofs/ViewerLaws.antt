@@ -109,9 +109,6 @@ swapped true false = refl
 swapped false true = refl
 swapped false false = refl
 
-pub lists_begin : (rows : List Row) (keys : List Key) (lists : List (List ℕ)) → lists ≡ [] → AreListsOf rows (take 0 keys) lists
-lists_begin rows keys lists none = rw none (record { order = tt; each = λ p. refl })
-
 pub lists_more : (stored : List Stored) (keys : List Key) (i : ℕ) (key : Key) (s : Stored) (list : List ℕ) (before after : List (List ℕ)) → i < length keys → key ≡ get_or keys i key
     → Some s ≡ find (key_text key) stored → list ≡ list_of s.0 → Adds list before after → AreListsOf (rows_in stored) (take i keys) before → AreListsOf (rows_in stored) (take (i + 1) keys) after
 lists_more stored keys i key s list before after lt at is of adds lists = record {

@@ -32,9 +32,6 @@ pub record HasGathered (rows : List Row) (cells : List Cell) (generation : Optio
   pub cells_are : cells ≡ cells_among reads
   pub generation_is : option_to_list generation ≡ generations_among reads
 
-pub none_gathered : HasGathered [] [] None
-none_gathered = record { reads = []; shown = tt; cells_are = refl; generation_is = refl }
-
 pub more_gathered : (rows : List Row) (cells now : List Cell) (generation after : Option ℕ) (row : Row) (read : RowRead) → HasGathered rows cells generation → Shows row read
     → now ≡ cells ++ cells_among (read ∷ []) → option_to_list after ≡ option_to_list generation ++ generations_among (read ∷ []) → HasGathered (rows ++ row ∷ []) now after
 more_gathered rows cells now generation after row read so_far shows taken told = record {

@@ -11,7 +11,7 @@ use Rattle.sqlite.specs.Listing.{understood, reads_listing, IsSourceOf}
 use Rattle.sqlite.specs.State.{State, HasCleanDisk, IsUnchanged, Writes, ShowsRows, Shown, mode_of}
 use Rattle.sqlite.specs.Stream.{HasEnded, returned}
 use Rattle.sqlite.specs.Held.{Held, state}
-use Rattle.sqlite.specs.Given.{HasGiven, HasBegun}
+use Rattle.sqlite.specs.Given.{HasGiven}
 use Rattle.sqlite.proofs.Callers.{unchanged_then}
 use Rattle.sqlite.proofs.StreamLemmas.{given_plain}
 use Rattle.rv_keeper.specs.declared.cell.Cell.{Cell}
@@ -74,10 +74,6 @@ module _ {S : Type 0} (g : Ghosts S) (sql : List ℕ) (params : Row) where
   HasGivenSince old now given =
       (HasGiven g sql params now given × IsUnchanged (state g old) (state g now))
       ⊎ (HasEnded now.reading × Shown sql params (state g old) (state g now) (given ++ returned now.reading))
-
-  pub none_given : (old new : Held S) → HasBegun g sql params old new → HasGivenSince old new []
-  none_given old new (inl query) = inl query
-  none_given old new (inr write) = inr (write.2, write.1)
 
   pub more_given : (old mid new : Held S) (given : List Row) (row : Row) → HasGivenSince old mid given → Moves g mid new (Some row) → HasGivenSince old new (given ++ row ∷ [])
   more_given old mid new given row (inl query) moved =

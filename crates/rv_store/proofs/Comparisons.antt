@@ -11,7 +11,7 @@ use Rattle.rv_book.specs.Registers.{client_told, clients_of, group_told, groups_
 use Rattle.rv_keeper.specs.declared.cell.Cell.{Cell}
 use Rattle.rv_record.specs.declared.fault.CellFault.{CellFault}
 use Rattle.rv_store.specs.OpeningSteps.{Departs}
-use Rattle.rv_store.proofs.FirstDifference.{Met, met_begins, met_more, met_ends, met_fails}
+use Rattle.rv_store.proofs.FirstDifference.{Met, met_more, met_ends, met_fails}
 
 -- ---- what is left at an index
 
@@ -60,9 +60,6 @@ no_more_groups book index all = drop_all index (groups_of book) (omega (arith, l
 -- ---- one after another
 
 module _ {X : Type 0} (cell_of : X → Cell) (own loaded : List Cell) where
-  pub each_begins : (items : List X) → map cell_of items ≡ own → Met own (map cell_of items) loaded loaded
-  each_begins items all = met_begins own (map cell_of items) loaded all
-
   pub each_more : (items later : List X) (item : X) (made : Cell) (rest others : List Cell) → items ≡ item ∷ later → made ≡ cell_of item → rest ≡ made ∷ others → Met own (map cell_of items) loaded rest → Met own (map cell_of later) loaded others
   each_more items later item made rest others next is same met =
       met_more own (map cell_of items) loaded rest (cell_of item) (map cell_of later) others (ap (map cell_of) next) (same ∙ ap (λ (c : Cell). c ∷ others) is) met

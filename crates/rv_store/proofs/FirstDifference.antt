@@ -96,9 +96,6 @@ pub record Met (own left loaded rest : List Cell) : Type 0 where
   pub of_own : own ≡ front ++ left
   pub of_loaded : loaded ≡ front ++ rest
 
-pub met_begins : (own left loaded : List Cell) → left ≡ own → Met own left loaded loaded
-met_begins own left loaded all = record { front = []; of_own = sym all; of_loaded = refl }
-
 pub met_more : (own left loaded rest : List Cell) (x : Cell) (later others : List Cell) → left ≡ x ∷ later → rest ≡ x ∷ others → Met own left loaded rest → Met own later loaded others
 met_more own left loaded rest x later others next same m = record {
   front = m.front ++ x ∷ [];

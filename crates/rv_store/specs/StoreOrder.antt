@@ -17,8 +17,8 @@ use Rattle.rv_keeper.specs.declared.cell.Cell.{Cell}
 use Rattle.rv_keeper.specs.Cells.{AreCells, cell_key}
 use Rattle.rv_record.specs.CellTexts.{ten_digits, row_cell, client_cell, group_cell, view_cell}
 use Rattle.rv_record.specs.PlaceOrder.{ten_digits-order}
-use Rattle.rv_store.specs.StoreCells.{entry_cells, row_cells, client_cells, group_cells, view_cells, derived_cells, cells_of, AreDerived, AreCellsOf}
-use Rattle.rv_store.specs.ShelfLaws.{OnShelf, Behind, behind-on, all-append, in_order-parts, in_order-cells, same_shelf}
+use Rattle.rv_store.specs.StoreCells.{entry_cells, row_cells, client_cells, group_cells, view_cells, derived_cells, AreDerived}
+use Rattle.rv_store.specs.ShelfLaws.{OnShelf, Behind, behind-on, all-append, in_order-parts, in_order-cells}
 
 -- Each part stands on its shelf.
 pub entries-on : (place : ℕ) (entries : List Entry) → OnShelf 1 (entry_cells place entries)
@@ -130,7 +130,7 @@ module _ (book : Book) (rows : List Stored) (records : List Placed) (are : AreAr
       (in_order-parts 4 (group_cells book) (view_cells records) (groups-on book) (views-behind records)
       (in_order-cells (λ g. g.0) 4 (λ g. group_cell g.0 g.1 g.2 g.3) (λ g. refl) (groups_of book) (groups-in_order book)) in_order-views))
 
-  -- the cells that follow from the entries, and all cells
+  -- the cells that follow from the entries
   pub derived-are_cells : AreCells (derived_cells book rows records)
   derived-are_cells = record { order = in_order-derived; shelves = from_first (derived_cells book rows records) (derived-behind book rows records) }
     where
@@ -151,6 +151,3 @@ cells_of-are_cells book cells within are = subst AreCells (sym are.made) (all-ar
 -- and so are those that follow from its entries, all on shelves from 2
 pub derived_of-are_cells : (book : Book) (cells : List Cell) → size book < 2 ^ 32 → AreDerived book cells → AreCells cells
 derived_of-are_cells book cells within are = subst AreCells (sym are.made) (derived-are_cells book are.rows are.records (arranged book are.rows are.records within are.replay are.kept))
-
-pub derived_of-behind : (book : Book) (cells : List Cell) → AreDerived book cells → AllByRecursion (λ cell. 2 ≤ cell.shelf) cells
-derived_of-behind book cells are = subst (λ (others : List Cell). AllByRecursion (λ cell. 2 ≤ cell.shelf) others) (sym are.made) (derived-behind book are.rows are.records)

@@ -15,7 +15,7 @@ use Rattle.rv_history.specs.Replay.{IsLastWrite, IsReplay}
 use Rattle.rv_news.specs.Records.{AreRecords, IsRecord, IsViewAt, Placed, Rise, record_at}
 use Rattle.rv_news.specs.KeptRecords.{record_found}
 use Rattle.rv_keeper.specs.declared.cell.Cell.{Cell}
-use Rattle.rv_store.specs.StoreCells.{AreCellsOf, AreDerived, cells_of, derived_cells}
+use Rattle.rv_store.specs.StoreCells.{AreDerived, derived_cells}
 
 both_ways : (a b : ℕ) → a ≤ b → b ≤ a → a ≡ b
 both_ways a b le ge = omega arith
@@ -129,13 +129,6 @@ same_at book a b one other place =
 -- a book has one list of records
 pub records_unique : (book : Book) (a b : List Placed) → AreRecords book a → AreRecords book b → a ≡ b
 records_unique book a b one other = rise_same a b one.rise other.rise (same_at book a b one other)
-
--- a book has one list of cells
-pub cells_unique : (book : Book) (a b : List Cell) → AreCellsOf book a → AreCellsOf book b → a ≡ b
-cells_unique book a b one other =
-    let rows = replay_unique book one.rows other.rows one.replay other.replay in
-    let records = records_unique book one.records other.records one.kept other.kept in
-    one.made ∙ (λ i. cells_of book (rows i) (records i)) ∙ sym other.made
 
 -- and one list of those that follow from its entries
 pub derived_unique : (book : Book) (a b : List Cell) → AreDerived book a → AreDerived book b → a ≡ b
