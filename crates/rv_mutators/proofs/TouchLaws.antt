@@ -135,7 +135,7 @@ module _ (before : List Row) (h : InOrder row_text before) (user caller : List �
 
     told-set : (x : TodoRow) → find_by row_text (key_text (record { kind = kinds.Todo; id = id })) before ≡ Some (variants.Todo x) → sees caller x.list before ≡ true
         → IsTold before (in_key_order (map set before)) user (record { rows = with_fields text complete sort (variants.Todo x) ∷ []; keys = [] })
-    unfolding may_change
+    unfolding may_change sees
     told-set x e seen =
         let k = key_text (record { kind = kinds.Todo; id = id }) in
         let own = at_own k before (variants.Todo x) e in
