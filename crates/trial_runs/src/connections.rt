@@ -1,6 +1,6 @@
 // Connections that `serve` serves, in threads. The bytes of a connection are in the file NAME.in of the folder, and what must come is
 // in NAME.out.
-use crate::crew::{Counts, TrialCrew};
+use crate::crew::TrialCrew;
 use crate::machine::Machine;
 use crate::nets::{answers_in, conn, net_of, written};
 use crate::running::run_line;
@@ -46,8 +46,7 @@ fn run_by_threads<R: Threads + Wait + Sync, P: Place>(
     line: &str,
     net: &mut MemoryNet,
 ) -> Result<String, Memory> {
-    let counts = Counts::new();
-    let mut crew = TrialCrew::new(Some(stage.threads), false, &counts);
+    let mut crew = TrialCrew::threaded(stage.threads);
     run_line(stage, line, &mut machine.place, net, &mut crew)
 }
 

@@ -1,8 +1,8 @@
-// A crew by threads or one after the other, whose gates look at what they hear, and may hold the first worker's requests until the
-// second has answered one.
+// The program's own crews, by threads and one after the other; and one whose gates look at what they hear, and may hold the first
+// worker's requests until the second has answered one. They are one type, so the program is built for one.
 use rv_base::Memory;
-use rv_serve::Gate;
-use rv_workers::Crew;
+use rv_serve::{Gate, OpenGate};
+use rv_workers::{Crew, Serial, Threaded};
 use std::sync::atomic::{AtomicU64, Ordering};
 use std::thread;
 use std::thread::Threads;
@@ -34,7 +34,7 @@ impl Counts {
 
 /// The gate of a worker. It must hear the requests of each connection by their numbers, from 1 on, and after each of them its end.
 #[derive(Drop)]
-pub struct TrialGate<'x> {
+pub struct WatchingGate<'x> {
     holds: bool,
     is_second: bool,
     last: u32,
@@ -42,7 +42,7 @@ pub struct TrialGate<'x> {
     counts: &'x Counts,
 }
 
-impl TrialGate<'_> {
+impl WatchingGate<'_> {
     // Counts a call that should not come now.
     fn hear(&self, is_right: bool) {
         if !is_right {
@@ -62,7 +62,7 @@ impl TrialGate<'_> {
     }
 }
 
-impl Gate for TrialGate<'_> {
+impl Gate for WatchingGate<'_> {
     ghost use Rattle.std.specs.Prelude.{None};
 
     ghost heard = { λ gate. None };
@@ -87,20 +87,90 @@ impl Gate for TrialGate<'_> {
 
 /// A crew with such gates, and with threads or without.
 #[derive(Drop)]
-pub struct TrialCrew<'x, R: Threads + Sync> {
+pub struct WatchingCrew<'x, R: Threads + Sync> {
     runtime: Option<&'x R>,
     holds: bool,
     counts: &'x Counts,
 }
 
+impl<'x, R: Threads + Sync> Crew for WatchingCrew<'x, R> {
+    type Runtime = R;
+
+    type Gate = WatchingGate<'x>;
+
+    fn runtime(&self) -> Option<&R> {
+        self.runtime
+    }
+
+    fn gate(&mut self, worker: u32) -> Result<WatchingGate<'x>, Memory> {
+        Ok(WatchingGate {
+            holds: self.holds && worker == 1,
+            is_second: worker == 2,
+            last: 0,
+            is_open: false,
+            counts: self.counts,
+        })
+    }
+}
+
+/// The gate of a worker of any of these crews.
+#[derive(Drop)]
+pub enum TrialGate<'x> {
+    /// It is always open.
+    Open(OpenGate),
+    /// It looks at what it hears.
+    Watching(WatchingGate<'x>),
+}
+
+impl Gate for TrialGate<'_> {
+    ghost use Rattle.std.specs.Prelude.{None};
+
+    ghost heard = { λ gate. None };
+
+    fn before(&mut self, number: u32) {
+        match self {
+            TrialGate::Open(gate) => gate.before(number),
+            TrialGate::Watching(gate) => gate.before(number),
+        }
+    }
+
+    fn after(&mut self, status: u16, acted: bool) {
+        match self {
+            TrialGate::Open(gate) => gate.after(status, acted),
+            TrialGate::Watching(gate) => gate.after(status, acted),
+        }
+    }
+}
+
+/// Any of these crews.
+#[derive(Drop)]
+pub enum TrialCrew<'x, R: Threads + Sync> {
+    /// By threads.
+    Threaded(Threaded<'x, R>),
+    /// One after the other.
+    Serial(Serial<R>),
+    /// With gates that look at what they hear.
+    Watching(WatchingCrew<'x, R>),
+}
+
 impl<'x, R: Threads + Sync> TrialCrew<'x, R> {
-    /// The crew of what starts its threads, if any, and of where its gates count. The first worker's gate may hold its requests.
-    pub fn new(runtime: Option<&'x R>, holds: bool, counts: &'x Counts) -> TrialCrew<'x, R> {
-        TrialCrew {
+    /// The program's crew by the threads of a runtime.
+    pub fn threaded(runtime: &'x R) -> TrialCrew<'x, R> {
+        TrialCrew::Threaded(Threaded::new(runtime))
+    }
+
+    /// The program's crew without threads.
+    pub fn serial() -> TrialCrew<'x, R> {
+        TrialCrew::Serial(Serial::new())
+    }
+
+    /// A crew with gates that look at what they hear, and with threads or without. The first worker's gate may hold its requests.
+    pub fn watching(runtime: Option<&'x R>, holds: bool, counts: &'x Counts) -> TrialCrew<'x, R> {
+        TrialCrew::Watching(WatchingCrew {
             runtime,
             holds,
             counts,
-        }
+        })
     }
 }
 
@@ -110,16 +180,18 @@ impl<'x, R: Threads + Sync> Crew for TrialCrew<'x, R> {
     type Gate = TrialGate<'x>;
 
     fn runtime(&self) -> Option<&R> {
-        self.runtime
+        match self {
+            TrialCrew::Threaded(crew) => crew.runtime(),
+            TrialCrew::Serial(crew) => crew.runtime(),
+            TrialCrew::Watching(crew) => crew.runtime(),
+        }
     }
 
     fn gate(&mut self, worker: u32) -> Result<TrialGate<'x>, Memory> {
-        Ok(TrialGate {
-            holds: self.holds && worker == 1,
-            is_second: worker == 2,
-            last: 0,
-            is_open: false,
-            counts: self.counts,
-        })
+        match self {
+            TrialCrew::Threaded(crew) => Ok(TrialGate::Open(crew.gate(worker)?)),
+            TrialCrew::Serial(crew) => Ok(TrialGate::Open(crew.gate(worker)?)),
+            TrialCrew::Watching(crew) => Ok(TrialGate::Watching(crew.gate(worker)?)),
+        }
     }
 }

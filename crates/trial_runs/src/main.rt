@@ -3,7 +3,8 @@
 //! The subject `scripts` feeds and reports over an input, an output and a place in memory, and over a SQLite file: a case begins with
 //! the words `rv feed memory`, no input, and a keeper that fails at no call. Once what a store holds is stated or kept, that store is
 //! `kept`, and the words are `rv feed kept`. `files` runs words over the files of the folder, `connections` serves connections in
-//! memory, and `workers` serves them by several workers. A line that begins with `{` is a line of the input.
+//! memory, and `workers` serves them by several workers. `requests` compares answers with those of a plain slow server. A line that
+//! begins with `{` is a line of the input.
 #![tactic(auto)]
 
 mod case;
@@ -14,6 +15,7 @@ mod faults;
 mod files;
 mod machine;
 mod nets;
+mod requests;
 mod running;
 mod scripts;
 mod stores;
@@ -28,7 +30,7 @@ use std::alloc::Global;
 use std::io;
 use std::sync::Wait;
 use std::thread::Threads;
-use trial_stage::{Line, Stage, echoed, kind_of, named, print_answer, silent};
+use trial_stage::{Line, Stage, echoed, kind_of, named, print_answer, silent, text_of};
 
 // What the commands are of.
 #[derive(Clone, Copy)]
@@ -37,13 +39,15 @@ enum Subject {
     Files,
     Connections,
     Workers,
+    Requests,
 }
 
-static SUBJECTS: [(&str, Subject); 4] = [
+static SUBJECTS: [(&str, Subject); 5] = [
     ("scripts", Subject::Scripts),
     ("files", Subject::Files),
     ("connections", Subject::Connections),
     ("workers", Subject::Workers),
+    ("requests", Subject::Requests),
 ];
 
 // The case that is played, and the stores of the machine.
@@ -78,6 +82,7 @@ impl<P: Place> Runs<P> {
             Subject::Files => files::answer(stage, &mut self.case, &mut self.machine, line),
             Subject::Connections => connections::answer(stage, &mut self.machine, line),
             Subject::Workers => workers::answer(stage, &mut self.machine, line),
+            Subject::Requests => requests::answer(stage, text_of(&self.case.input), line),
         }
     }
 

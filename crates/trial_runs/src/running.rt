@@ -1,5 +1,5 @@
 // Runs of the program over a place, and an input and an output in memory.
-use crate::crew::{Counts, TrialCrew};
+use crate::crew::TrialCrew;
 use rv_base::{Memory, MemorySink, MemorySource};
 use rv_cli::run;
 use rv_keeper::Place;
@@ -50,7 +50,7 @@ impl Finished {
         told(
             alloc,
             &[
-                Text(text_of(&self.written)),
+                Text(self.text()),
                 Text("status "),
                 Number(status),
                 Text("\n"),
@@ -58,9 +58,19 @@ impl Finished {
         )
     }
 
+    /// What was written.
+    pub fn text(&self) -> &str {
+        text_of(&self.written)
+    }
+
+    /// The status is 0, and this was written.
+    pub fn tells(&self, text: &str) -> bool {
+        self.status == 0 && self.text() == text
+    }
+
     /// The same in one line.
     pub fn line(&self, alloc: Global) -> Result<String, Memory> {
-        let text = text_of(&self.written).trim_end();
+        let text = self.text().trim_end();
         let status = u64::from(self.status);
         told(alloc, &[Text(text), Text(", status "), Number(status)])
     }
@@ -93,8 +103,8 @@ fn sink(alloc: Global, pieces: Pieces) -> Result<MemorySink, Memory> {
     Ok(MemorySink::new(alloc, pieces.most, fails))
 }
 
-// Runs words over a place, these bytes as the input, a net, and a crew.
-fn run_over<R: Threads + Wait + Sync, P: Place>(
+/// Runs words over a place, these bytes as the input, a net, and a crew.
+pub fn run_over<R: Threads + Wait + Sync, P: Place>(
     stage: &Stage<'_, R>,
     words: &[String],
     place: &mut P,
@@ -146,7 +156,6 @@ pub fn run_alone<R: Threads + Wait + Sync, P: Place>(
 ) -> Result<Finished, Memory> {
     let alloc = stage.host.alloc();
     let mut net = MemoryNet::new(alloc, Vec::new(alloc), Vec::new(alloc))?;
-    let counts = Counts::new();
-    let mut crew = TrialCrew::new(None, false, &counts);
+    let mut crew = TrialCrew::serial();
     run_over(stage, words, place, bytes, pieces, &mut net, &mut crew)
 }

@@ -206,7 +206,7 @@ fn played_by<R: Threads + Wait + Sync, P: Place>(
     } else {
         None
     };
-    let mut crew = TrialCrew::new(runtime, holds, &counts);
+    let mut crew = TrialCrew::watching(runtime, holds, &counts);
     let text = played(stage, machine, &mut crew, plan)?;
     counted(stage.host.alloc(), text.as_str(), holds, &counts)
 }

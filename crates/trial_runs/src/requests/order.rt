@@ -1,5 +1,5 @@
 // The one order of the requests of connections that the entries of a book tell.
-use crate::connections::Connection;
+use super::connections::Connection;
 use rv_base::{Id, Memory};
 use rv_book::Entry;
 use rv_keeper::{Cell, Store};

@@ -1,5 +1,5 @@
 // A job that waits for another.
-use crate::crews::EitherCrew;
+use crate::crew::TrialCrew;
 use rv_base::Memory;
 use rv_workers::{Job, run_all};
 use std::alloc::Global;
@@ -49,7 +49,7 @@ fn made<'x>(done: &'x AtomicU64, is_first: bool) -> Hand<'x> {
 }
 
 // Whether the first job waited in vain.
-fn gives_up<R: Threads + Sync>(crew: &EitherCrew<'_, R>) -> bool {
+fn gives_up<R: Threads + Sync>(crew: &TrialCrew<'_, R>) -> bool {
     let done = AtomicU64::new(0);
     let mut hands = [made(&done, true), made(&done, false)];
     run_all(crew, &mut hands);
@@ -57,7 +57,7 @@ fn gives_up<R: Threads + Sync>(crew: &EitherCrew<'_, R>) -> bool {
 }
 
 /// Tells whether the first job waited in vain.
-pub fn met<R: Threads + Sync>(crew: &EitherCrew<'_, R>, alloc: Global) -> Result<String, Memory> {
+pub fn met<R: Threads + Sync>(crew: &TrialCrew<'_, R>, alloc: Global) -> Result<String, Memory> {
     let text = if gives_up(crew) { "gave up\n" } else { "met\n" };
     told(alloc, &[Text(text)])
 }

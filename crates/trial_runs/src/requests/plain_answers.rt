@@ -1,5 +1,5 @@
 // What the plain server answers to lines.
-use crate::plain_server::PlainServer;
+use super::plain_server::PlainServer;
 use rv_answering::{Answer, Line, line_of, serve_asked};
 use rv_base::{Memory, Sequence};
 use rv_wire::{ErrorBody, error_text};

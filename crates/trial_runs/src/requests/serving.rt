@@ -1,12 +1,12 @@
 // Drawn requests of connections, served by workers side by side, beside one run over them in one order.
-use crate::calls;
-use crate::cells::hold_the_same;
-use crate::connections::{Connection, Plan, connections_of, plan_of};
-use crate::crews::EitherCrew;
-use crate::feeding::fed_beside;
-use crate::order::{Turn, turns_of};
-use crate::runs::{run_alone, run_with};
-use crate::sending::{add_response, are_answered, net};
+use super::calls;
+use super::cells::hold_the_same;
+use super::connections::{Connection, Plan, connections_of, plan_of};
+use super::feeding::fed_beside;
+use super::order::{Turn, turns_of};
+use super::runs::{run_whole, run_with};
+use super::sending::{add_response, are_answered, net};
+use crate::crew::TrialCrew;
 use rv_base::{Bytes, Memory};
 use rv_keeper::MemoryPlace;
 use rv_net::MemoryNet;
@@ -43,15 +43,15 @@ fn words_of(alloc: Global, workers: usize) -> Result<String, Memory> {
 // Serves the connections of a net into the store S. Gives what was told at the end.
 fn served<R: Threads + Wait + Sync>(
     stage: &Stage<'_, R>,
-    crew: &mut EitherCrew<'_, R>,
+    crew: &mut TrialCrew<'_, R>,
     workers: usize,
     place: &mut MemoryPlace,
     net: &mut MemoryNet,
 ) -> Result<String, Memory> {
     let alloc = stage.host.alloc();
     let line = words_of(alloc, workers)?;
-    let run = run_with(stage, crew, line.as_str(), place, Vec::new(alloc), net)?;
-    let check = run_alone(stage, "rv check S", place, Vec::new(alloc))?;
+    let run = run_with(stage, crew, line.as_str(), place, b"", net)?;
+    let check = run_whole(stage, "rv check S", place, b"")?;
     told(
         alloc,
         &[
@@ -180,7 +180,7 @@ fn history_told<'x>(
 // What comes of these connections, of a net.
 fn played_over<R: Threads + Wait + Sync>(
     stage: &Stage<'_, R>,
-    crew: &mut EitherCrew<'_, R>,
+    crew: &mut TrialCrew<'_, R>,
     workers: usize,
     connections: &[Connection],
     net: &mut MemoryNet,
@@ -196,7 +196,7 @@ fn played_over<R: Threads + Wait + Sync>(
 // What comes of a plan.
 fn played<R: Threads + Wait + Sync>(
     stage: &Stage<'_, R>,
-    crew: &mut EitherCrew<'_, R>,
+    crew: &mut TrialCrew<'_, R>,
     plan: &Plan,
 ) -> Result<String, Memory> {
     let alloc = stage.host.alloc();
@@ -210,7 +210,7 @@ fn played<R: Threads + Wait + Sync>(
 /// the answers must be those that the connections got, and the stores hold the same.
 pub fn one_history<R: Threads + Wait + Sync>(
     stage: &Stage<'_, R>,
-    crew: &mut EitherCrew<'_, R>,
+    crew: &mut TrialCrew<'_, R>,
     words: &str,
 ) -> Result<Option<String>, Memory> {
     match plan_of(words) {

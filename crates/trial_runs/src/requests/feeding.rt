@@ -1,11 +1,12 @@
 // Lines that are fed, beside a plain server that answers the same.
-use crate::drawing::add_line;
-use crate::numbers::four_numbers;
-use crate::plain_answers::{add_answer, answers};
-use crate::plain_server::PlainServer;
-use crate::runs::{Finished, run_alone};
-use crate::schedules::schedule;
-use crate::story::Story;
+use super::drawing::add_line;
+use super::numbers::four_numbers;
+use super::plain_answers::{add_answer, answers};
+use super::plain_server::PlainServer;
+use super::runs::run_whole;
+use super::schedules::schedule;
+use super::story::Story;
+use crate::running::Finished;
 use rv_base::Memory;
 use rv_keeper::MemoryPlace;
 use std::alloc::Global;
@@ -20,8 +21,7 @@ fn fed<R: Threads + Wait + Sync>(
     place: &mut MemoryPlace,
     lines: &str,
 ) -> Result<Finished, Memory> {
-    let input = Vec::from_slice(stage.host.alloc(), lines.as_bytes())?;
-    run_alone(stage, "rv feed F", place, input)
+    run_whole(stage, "rv feed F", place, lines.as_bytes())
 }
 
 // What a run wrote, or how it differs from what the plain server answers.
@@ -182,7 +182,7 @@ fn checked<R: Threads + Wait + Sync>(
     drawn: &Drawn,
 ) -> Result<String, Memory> {
     let alloc = stage.host.alloc();
-    let check = run_alone(stage, "rv check F", place, Vec::new(alloc))?;
+    let check = run_whole(stage, "rv check F", place, b"")?;
     summary(alloc, drawn, check.text())
 }
 

@@ -1,6 +1,6 @@
 // Who sees what a call writes.
-use crate::plain_answers::add_answers;
-use crate::plain_server::PlainServer;
+use super::plain_answers::add_answers;
+use super::plain_server::PlainServer;
 use rv_base::{Id, Memory, Sequence, TextRefusal, User};
 use rv_mutators::stage;
 use rv_rows::{Call, Row, Tables, Users};

@@ -1,7 +1,7 @@
 // Lines that look like chance, each drawn by what a plain server has answered to those before it.
-use crate::calls::{self, USERS, name};
-use crate::plain_server::PlainServer;
-use crate::story::{CLIENTS, GROUPS, Story};
+use super::calls::{self, USERS, name};
+use super::plain_server::PlainServer;
+use super::story::{CLIENTS, GROUPS, Story};
 use rv_base::{Id, Memory, TextRefusal};
 use rv_book::Entry;
 use std::alloc::Global;

@@ -1,6 +1,6 @@
 // Connections, and the requests that each sends, drawn by a seed.
-use crate::calls::{self, USERS, name};
-use crate::numbers::four_numbers;
+use super::calls::{self, USERS, name};
+use super::numbers::four_numbers;
 use rv_base::Memory;
 use std::alloc::Global;
 use trial_stage::Part::{Number, Text};

@@ -1,5 +1,5 @@
 // What connections send and get over HTTP, and listeners that have them.
-use crate::connections::{Connection, Plan};
+use super::connections::{Connection, Plan};
 use rv_base::{Memory, MemorySink, MemorySource};
 use rv_net::{Conn, MemoryConn, MemoryListen, MemoryNet};
 use std::alloc::Global;
