@@ -98,20 +98,6 @@ module _ {P K : Type 0} (place : PlaceGhosts P K) (G : Ghosts K) (store : List �
     pub held : place.tells after → (held : Loaded) → G.holds keeper held → place.holds after store held
     pub taken : TakesUp (G.faults keeper) (place.faults before) (place.faults after)
 
-  pub kept_opened : (kept : K) (old : P) (desk : Seated K) → Opens G.tells G.fails_no_more G.holds G.faults (2 ^ 32 - 1) kept desk → KeptOpened place G kept old desk old
-  kept_opened kept old desk opens = record { loaded = opens.loaded; stored = λ now. opens.was.told now; opens = opens.opens; limit = opens.most; doubt = opens.doubt; still = opens.still; same = refl }
-
-  given_back : (kept now : K) (old new : P) → IsLeft G.tells G.fails_no_more G.holds G.faults kept now → WentBack old new now → place.tells new → (held : Loaded) → G.holds kept held → place.holds new store held
-  given_back kept now old new left back t held was = back.held t held (left.held (back.told t).1 held was)
-
-  pub kept_refused : (kept now : K) (old new : P) (fault : OpenFault) → IsRefused G.tells G.fails_no_more G.holds G.faults (2 ^ 32 - 1) kept fault now → IsLeft G.tells G.fails_no_more G.holds G.faults kept now → WentBack old new now → G.faults kept ≡ 0
-      → (place.tells new → place.tells old) × IsNotOpened (kept_change place G store kept old new) (fault_ending fault) × (place.tells new → (held : Loaded) → G.holds kept held → place.holds new store held)
-  kept_refused kept now old new faulting.Keeper (rose, unsteady) left back none =
-      (λ t. (back.told t).0, rises (G.faults now) (place.faults old) (place.faults new) (above_none (G.faults now) (subst (λ (n : ℕ). Rose n (G.faults now)) none rose)) back.taken, given_back kept now old new left back)
-  kept_refused kept now old new (faulting.Damaged damage) damaged left back none =
-      (λ t. (back.told t).0, (damaged.loaded, λ t. damaged.was.told (back.told t).1, damaged.damaged, λ t held was. back.held t held (left.held (back.told t).1 held was), none_taken (G.faults now) (place.faults old) (place.faults new) (damaged.still ∙ none) back.taken), given_back kept now old new left back)
-  kept_refused kept now old new faulting.Memory free left back none = (λ t. (back.told t).0, tt, given_back kept now old new left back)
-
   -- the store's keeper was fetched, and its desk opened or not
   pub store_opened : (kept : K) (old mid new : P) (result : Result (Seated K) Ending) → (place.tells mid → place.is_out mid store × OpensWith store (place.holds old store) (G.holds kept)) → G.faults kept ≡ 0 → place.faults mid ≡ place.faults old
       → OpensKept place G store kept mid result new → OpensStore place G store old result new

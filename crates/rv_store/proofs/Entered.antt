@@ -43,11 +43,6 @@ entry_cell-same place other e f small also fits fit same = (
 abbrev pub Follows : ℕ → Book → ℕ → Entry → Type 0
 Follows limit book place entry = (size book < limit) × (place ≡ size book + 1) × IsLawfulAfter book entry
 
-pub is_next : (limit : ℕ) (book : Book) (cell : Cell) (place : ℕ) (entry : Entry) (b : Bool) → EntryFits entry → cell ≡ entry_cell place entry → (IsTrue b ↔ Follows limit book place entry) → b ≡ true → IsNext limit book cell entry
-is_next limit book cell place entry b fits is decides holds =
-    let follows : Follows limit book place entry = decides.0 holds in
-    record { fits = fits; made = is ∙ ap (λ (p : ℕ). entry_cell p entry) follows.1; below = follows.0; lawful = follows.2 }
-
 breaks_at : (limit : ℕ) (book : Book) (cell : Cell) (fault : CellFault) → IsBrokenEntry limit book cell → Blames cell fault → Breaks limit book cell fault
 breaks_at limit book cell (Damaged damage) broken is = (broken, is)
 breaks_at limit book cell Memory broken is = tt

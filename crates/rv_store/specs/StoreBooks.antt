@@ -1,6 +1,6 @@
 -- What is kept tells the book: cells are those of one book of entries of the form, and so an opened book is the book that was
 -- kept, or the book with what was in doubt.
-use Rattle.std.proofs.Common.{◌≡◌, ℕ, ◌+◌, ◌≤◌, List, [], ◌∷◌, ◌++◌, length, Some, None, IfSome, refl, sym, ap, ◌∙◌, subst, arith, inl, inr, append_assoc, append-nil}
+use Rattle.std.proofs.Common.{◌≡◌, ℕ, ◌+◌, ◌≤◌, List, [], ◌∷◌, ◌++◌, length, Some, None, IfSome, refl, sym, ap, ◌∙◌, subst, arith, inl, inr}
 use Rattle.std.specs.List.{AllByRecursion}
 use Rattle.rv_book.specs.declared.entry.Entry.{Entry}
 use Rattle.rv_book.specs.Book.{Book, book_of, size, with_entry, Extends}
@@ -13,7 +13,6 @@ use Rattle.rv_record.specs.EntryReading.{EntryFits}
 use Rattle.rv_store.specs.ShelfLaws.{all-append}
 use Rattle.rv_store.specs.StoreCells.{AreDerived, IsKeptAs, IsKeptWith, derived_cells, entry_cells}
 use Rattle.rv_store.specs.StoreOrder.{derived-behind}
-use Rattle.rv_store.specs.StoreUnique.{cells_unique}
 
 -- the cells stand beside the entries, on shelves from 2
 abbrev pub AreBeside : List Cell → Type 0
@@ -61,10 +60,6 @@ entries_beside place (x ∷ xs) (y ∷ ys) others left one other beside also sam
     let rest = entries_beside (place + 1) xs ys others left one.1 other.1 beside also parts.1 in
     ((λ i. entry i ∷ rest.0 i), rest.1)
 
--- cells of entries are those of one list of entries
-pub entries_unique : (place : ℕ) (a b : List Entry) → AllByRecursion EntryFits a → AllByRecursion EntryFits b → entry_cells place a ≡ entry_cells place b → a ≡ b
-entries_unique place a b one other same = (entries_beside place a b [] [] one other tt tt (append-nil (entry_cells place a) ∙ same ∙ sym (append-nil (entry_cells place b)))).0
-
 -- what is held of a book: its entries, and beside them what follows from them
 pub record HasParts (book : Book) (held : Loaded) : Type 0 where
   pub others : List Cell
@@ -80,50 +75,12 @@ kept_parts book held kept = record {
   derived = record { rows = kept.cells.rows; records = kept.cells.records; replay = kept.cells.replay; kept = kept.cells.kept; made = refl };
 }
 
-pub parts_kept : (book : Book) (held : Loaded) (others : List Cell) → held.cells ≡ entry_cells 1 book.entries ++ others → AreDerived book others → held.generation ≡ size book → IsKeptAs book held
-parts_kept book held others cells derived generation = record {
-  cells = record {
-    rows = derived.rows;
-    records = derived.records;
-    replay = derived.replay;
-    kept = derived.kept;
-    made = cells ∙ ap (λ (beside : List Cell). entry_cells 1 book.entries ++ beside) derived.made;
-  };
-  generation = generation;
-}
-
--- a book is kept as one thing
-pub held_unique : (book : Book) (a b : Loaded) → IsKeptAs book a → IsKeptAs book b → a ≡ b
-held_unique book a b one other =
-    let cells = cells_unique book a.cells b.cells one.cells other.cells in
-    let generation = one.generation ∙ sym other.generation in
-    (λ i. record { cells = cells i; generation = generation i })
-
 -- what is kept is that of one book
 pub kept_unique : (a b : Book) (held : Loaded) → AllByRecursion EntryFits a.entries → AllByRecursion EntryFits b.entries → IsKeptAs a held → IsKeptAs b held → a ≡ b
 kept_unique a b held one other kept also =
     let first = kept_parts a held kept in
     let second = kept_parts b held also in
     ap book_of (entries_beside 1 a.entries b.entries first.others second.others one other first.beside second.beside (sym first.cells ∙ second.cells)).0
-
--- a book goes on from entries that are read from what it is kept as
-pub kept_front : (book front : Book) (held : Loaded) (left : List Cell) → AllByRecursion EntryFits book.entries → AllByRecursion EntryFits front.entries → IsKeptAs book held → held.cells ≡ entry_cells 1 front.entries ++ left → Extends book front
-kept_front book front held left one other kept cells =
-    let parts = kept_parts book held kept in
-    let rest = entries_front 1 book.entries front.entries parts.others left one other parts.beside (sym parts.cells ∙ cells) in
-    (rest.0, ap book_of rest.1)
-
--- the last entry's cell stands behind those of the entries before it
-pub kept_last : (book : Book) (entry : Entry) (held : Loaded) → IsKeptAs (with_entry book entry) held
-    → (others : List Cell) × (held.cells ≡ entry_cells 1 book.entries ++ entry_cell (size book + 1) entry ∷ others) × AreBeside others
-kept_last book entry held kept =
-    let parts = kept_parts (with_entry book entry) held kept in
-    let place : 1 + size book ≡ size book + 1 = omega arith in (
-      parts.others,
-      parts.cells ∙ ap (λ (cells : List Cell). cells ++ parts.others) (entry_cells-with_entry 1 book entry) ∙ append_assoc (entry_cells 1 book.entries) _ parts.others
-          ∙ ap (λ (p : ℕ). entry_cells 1 book.entries ++ entry_cell p entry ∷ parts.others) place,
-      parts.beside,
-    )
 
 -- the entries of the book with what is in doubt are of the form
 pub doubt_fits : (book : Book) (doubt : Doubt) → AllByRecursion EntryFits book.entries → IfSome doubt EntryFits → AllByRecursion EntryFits (with_doubt book doubt).entries

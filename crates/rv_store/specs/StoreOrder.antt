@@ -1,6 +1,6 @@
 -- The cells of a book stand in order, each place once, on shelves from 1; and what follows from the entries stands on the
 -- shelves from 2.
-use Rattle.std.proofs.Common.{ℕ, ◌+◌, ◌^◌, ◌<◌, ◌≤◌, List, [], ◌∷◌, ◌++◌, length, sym, ◌∙◌, subst, arith, refl, map, Bool}
+use Rattle.std.proofs.Common.{ℕ, ◌+◌, ◌^◌, ◌<◌, ◌≤◌, List, [], ◌∷◌, ◌++◌, length, sym, subst, arith, refl, map, Bool}
 use Rattle.std.specs.List.{AllByRecursion}
 use Rattle.rv_base.specs.Sorted.{InOrder}
 use Rattle.rv_base.specs.Places.{Above}
@@ -74,14 +74,6 @@ derived-behind book rows records =
     (behind-on 1 4 (group_cells book) (omega arith) (groups-on book)) (behind-on 1 5 (view_cells records) (omega arith) (views-on records))))
 
 -- Entries stand in the order of their places.
-above-entries : (low place : ℕ) (entries : List Entry) → low < place → place + length entries ≤ 10 ^ 10 → Above cell_key (1 ∷ ten_digits low) (entry_cells place entries)
-above-entries low place [] lower fits = tt
-above-entries low place (entry ∷ entries) lower fits =
-    (same_shelf 1 (ten_digits low) (ten_digits place) ∙ ten_digits-order low place lower (omega (arith, fits)), above-entries low (place + 1) entries (omega (arith, lower)) (omega (arith, fits)))
-
-in_order-entries : (place : ℕ) (entries : List Entry) → place + length entries ≤ 10 ^ 10 → InOrder cell_key (entry_cells place entries)
-in_order-entries place [] fits = tt
-in_order-entries place (entry ∷ entries) fits = (above-entries place (place + 1) entries (omega arith) (omega (arith, fits)), in_order-entries (place + 1) entries (omega (arith, fits)))
 
 -- and so do records, under the digits of their places
 abbrev pub record_key : Placed → List ℕ
@@ -137,16 +129,6 @@ module _ (book : Book) (rows : List Stored) (records : List Placed) (are : AreAr
       from_first : (cells : List Cell) → Behind 1 cells → AllByRecursion (λ cell. 0 < cell.shelf) cells
       from_first [] all = tt
       from_first (cell ∷ cells) all = (omega (arith, all.0), from_first cells all.1)
-
-  pub all-are_cells : AreCells (cells_of book rows records)
-  all-are_cells = record {
-    order = in_order-parts 1 (entry_cells 1 book.entries) (derived_cells book rows records) (entries-on 1 book.entries) (derived-behind book rows records) (in_order-entries 1 book.entries (omega (arith, are.within))) in_order-derived;
-    shelves = all-append (λ cell. 0 < cell.shelf) (entry_cells 1 book.entries) (derived_cells book rows records) (behind-on 0 1 (entry_cells 1 book.entries) (omega arith) (entries-on 1 book.entries)) derived-are_cells.shelves;
-  }
-
--- the cells of a book of fewer than 2^32 entries are cells in order
-pub cells_of-are_cells : (book : Book) (cells : List Cell) → size book < 2 ^ 32 → AreCellsOf book cells → AreCells cells
-cells_of-are_cells book cells within are = subst AreCells (sym are.made) (all-are_cells book are.rows are.records (arranged book are.rows are.records within are.replay are.kept))
 
 -- and so are those that follow from its entries, all on shelves from 2
 pub derived_of-are_cells : (book : Book) (cells : List Cell) → size book < 2 ^ 32 → AreDerived book cells → AreCells cells
