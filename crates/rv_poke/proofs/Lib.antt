@@ -1,0 +1,2 @@
+pub mod Pokes
+pub mod Watching

@@ -1,0 +1,20 @@
+-- What is seen of a bell, and what a wait counts.
+use Rattle.std.specs.Prelude.{◌≡◌, ℕ, zero, suc}
+use Rattle.rv_base.specs.Outside.{counted}
+use Rattle.rv_poke.specs.declared.waited.Waited.{Waited}
+use Rattle.rv_poke.specs.declared.waited.Waited.TheVariants.{Rung, Over}
+
+-- How often a wait ended as the bell was rung, and how often as all was over.
+pub record BellState : Type 0 where
+  pub rungs : ℕ
+  pub overs : ℕ
+
+-- a count of so many more, which stands still at its type's end
+abbrev pub counted_by : ℕ → ℕ → ℕ
+counted_by zero n = n
+counted_by (suc more) n = counted (counted_by more n)
+
+-- The end of the wait is counted, and nothing else.
+abbrev pub HasWaited : BellState → BellState → Waited → Type 0
+HasWaited old new Rung = (new.rungs ≡ counted old.rungs) × (new.overs ≡ old.overs)
+HasWaited old new Over = (new.rungs ≡ old.rungs) × (new.overs ≡ counted old.overs)

@@ -1,0 +1,26 @@
+ghost use Rattle.rv_poke.specs.declared.sent.Sent.TheVariants.{Close, Poke};
+ghost use Rattle.rv_poke.specs.Links.{LinkState, Says, Takes};
+
+use crate::first::First;
+use crate::link_fault::LinkFault;
+use rv_base::Failed;
+use std::alloc::Global;
+
+/// A link to one client.
+pub trait PokeLink {
+    /// The first message, until it is taken, where the link tells; what was sent, in order, where the link tells; how often a
+    /// call has failed. The count stands still at 2^64 - 1.
+    ghost state: { Self → LinkState };
+
+    /// Takes the first message. It may wait for it.
+    fn first(&mut self, alloc: Global) -> Result<First, LinkFault>
+        ensures { Takes (state self.old) (state self.new) result };
+
+    /// Sends a poke. Where it fails nothing was sent.
+    fn send_poke(&mut self) -> Result<(), Failed>
+        ensures { Says Poke (state self.old) (state self.new) result };
+
+    /// Closes the link with a status code. Where it fails nothing was sent.
+    fn close(&mut self, code: u16) -> Result<(), Failed>
+        ensures { Says (Close code) (state self.old) (state self.new) result };
+}
