@@ -1,0 +1,115 @@
+// A stream, as far as WebSocket has come on it.
+use rv_base::{Bytes, Failed};
+use rv_poke::{First, LinkFault};
+use std::alloc::Global;
+use std::io::{Read, Write};
+use std::mem;
+use tungstenite::handshake::server;
+use tungstenite::{
+    CloseFrame, Error, HandshakeError, Message, NoCallback, NoMask, Utf8Bytes, WebSocket,
+    WebSocketConfig,
+};
+
+// The most bytes of a client's message.
+const MOST_BYTES: usize = 4096;
+
+// How many bytes one read asks for, and at how many the output is written.
+const BUFFER_BYTES: usize = 512;
+
+/// A stream, as far as WebSocket has come on it.
+#[derive(Drop)]
+pub(crate) enum Line<S> {
+    /// Its handshake is still to come.
+    Fresh(S),
+    /// Its handshake is done.
+    Open(WebSocket<S, NoMask>),
+    /// It is lost: its handshake failed.
+    Lost,
+}
+
+// What is asked of a socket of this server.
+fn config() -> WebSocketConfig {
+    WebSocketConfig::default()
+        .read_buffer_size(BUFFER_BYTES)
+        .write_buffer_size(BUFFER_BYTES)
+        .max_message_size(Some(MOST_BYTES))
+        .max_frame_size(Some(MOST_BYTES))
+}
+
+// The handshake of a server.
+fn shake<S: Read + Write + Drop>(
+    alloc: Global,
+    stream: S,
+) -> Result<WebSocket<S, NoMask>, LinkFault> {
+    match server::start(alloc, stream, NoCallback, Some(config())).handshake() {
+        Ok(socket) => Ok(socket),
+        Err(HandshakeError::Failure(Error::OutOfMemory)) => Err(LinkFault::Memory),
+        Err(HandshakeError::Failure(_)) => Err(LinkFault::Failed),
+        Err(HandshakeError::Interrupted(_)) => Err(LinkFault::Failed),
+    }
+}
+
+// A text as a first message.
+fn text_of(alloc: Global, text: &Utf8Bytes) -> Result<First, LinkFault> {
+    match Vec::from_slice(alloc, text.as_str().as_bytes()) {
+        Ok(bytes) => Ok(First::Text(Bytes::from_vec(bytes))),
+        Err(_) => Err(LinkFault::Memory),
+    }
+}
+
+// The next message. One that is too long and a text that is no UTF-8 are no texts.
+fn read<S: Read + Write + Drop>(
+    alloc: Global,
+    socket: &mut WebSocket<S, NoMask>,
+) -> Result<First, LinkFault> {
+    match socket.read() {
+        Ok(Message::Text(text)) => text_of(alloc, &text),
+        Ok(Message::Binary(_)) => Ok(First::Other),
+        Ok(Message::Ping(_)) => Ok(First::Other),
+        Ok(Message::Pong(_)) => Ok(First::Other),
+        Ok(Message::Close(_)) => Ok(First::Other),
+        Err(Error::Capacity(_)) => Ok(First::Other),
+        Err(Error::Utf8) => Ok(First::Other),
+        Err(Error::OutOfMemory) => Err(LinkFault::Memory),
+        Err(_) => Err(LinkFault::Failed),
+    }
+}
+
+impl<S: Read + Write + Drop> Line<S> {
+    /// Does the handshake of a stream that is fresh, and gives its first message.
+    pub(crate) fn first(&mut self, alloc: Global) -> Result<First, LinkFault> {
+        let Line::Fresh(stream) = mem::replace(self, Line::Lost) else {
+            return Err(LinkFault::Failed);
+        };
+        let mut socket = shake(alloc, stream)?;
+        let first = read(alloc, &mut socket);
+        *self = Line::Open(socket);
+        first
+    }
+
+    /// Sends the text `poke`.
+    pub(crate) fn send_poke(&mut self) -> Result<(), Failed> {
+        let Line::Open(socket) = self else {
+            return Err(Failed);
+        };
+        match socket.send(Message::Text(Utf8Bytes::from_static("poke"))) {
+            Ok(()) => Ok(()),
+            Err(_) => Err(Failed),
+        }
+    }
+
+    /// Sends a close with a status code and no reason.
+    pub(crate) fn close(&mut self, code: u16) -> Result<(), Failed> {
+        let Line::Open(socket) = self else {
+            return Err(Failed);
+        };
+        let frame = CloseFrame {
+            code: code.into(),
+            reason: Utf8Bytes::from_static(""),
+        };
+        match socket.close(Some(frame)) {
+            Ok(()) => Ok(()),
+            Err(_) => Err(Failed),
+        }
+    }
+}

@@ -1,0 +1,78 @@
+// A link that speaks WebSocket.
+ghost use Rattle.std.specs.Prelude.{◌≡◌};
+ghost use Rattle.rv_base.specs.Causes.{HasCause};
+
+use crate::line::Line;
+use rv_base::Failed;
+use rv_poke::{First, LinkFault, PokeLink};
+use std::alloc::Global;
+use std::io::{Read, Write};
+
+/// One client over WebSocket. It tells nothing of what comes and of what was sent.
+///
+/// [`first`](PokeLink::first) does the handshake, in which the stream is to give a request head of at most 65,536 bytes and nothing
+/// after it, and reads one message. A text of at most 4,096 bytes is [`First::Text`]; a longer message, a text that is no UTF-8, a
+/// binary message, a ping, a pong and a close are [`First::Other`], so a client that pings before it sends its key is denied. Any
+/// other breach of the protocol is [`LinkFault::Failed`], and so are a handshake that fails, to which nothing is answered, the end of the
+/// stream, a read that fails or would block, and a second call. From then on nothing is read: a ping has no answer, and that
+/// the client has gone is told where a poke can't be sent.
+///
+/// A poke that can't be sent for want of memory is a fault. A close goes out after the pong that a first ping asks for; where the client
+/// has closed the link first, the answer to its close goes out in its place. What has failed once may be tried again, and fails where a
+/// close was sent or the handshake failed.
+#[derive(Drop)]
+pub struct SocketLink<S> {
+    line: Line<S>,
+    /// How often a call has failed. It stands still at 2^64 - 1.
+    pub faults: u64,
+}
+
+impl<S> SocketLink<S> {
+    /// A link over a stream whose handshake is still to come.
+    pub fn new(stream: S) -> SocketLink<S>
+        ensures { result.faults ≡ 0 }
+    {
+        SocketLink {
+            line: Line::Fresh(stream),
+            faults: 0,
+        }
+    }
+
+    // Counts a fault where a call has failed.
+    fn told(&mut self, told: Result<(), Failed>) -> Result<(), Failed>
+        ensures cause { HasCause self.old.faults self.new.faults result }
+        ensures same { result ≡ told }
+    {
+        if told.is_err() {
+            self.faults = self.faults.saturating_add(1);
+        }
+        told
+    }
+}
+
+impl<S: Read + Write + Drop> PokeLink for SocketLink<S> {
+    ghost use Rattle.std.specs.Prelude.{None};
+
+    ghost state = { λ link. record { coming = None; sent = None; faults = link.faults } };
+
+    fn first(&mut self, alloc: Global) -> Result<First, LinkFault> {
+        match self.line.first(alloc) {
+            Ok(first) => Ok(first),
+            Err(LinkFault::Memory) => Err(LinkFault::Memory),
+            Err(LinkFault::Failed) => {
+                self.faults = self.faults.saturating_add(1);
+                Err(LinkFault::Failed)
+            }
+        }
+    }
+
+    fn send_poke(&mut self) -> Result<(), Failed> {
+        let sent = self.line.send_poke();
+        self.told(sent)
+    }
+
+    fn close(&mut self, code: u16) -> Result<(), Failed> {
+        let closed = self.line.close(code);
+        self.told(closed)
+    }
+}
