@@ -1,9 +1,14 @@
 //! Connections over TCP, of this program to itself: each is accepted after a client has connected. What happens is printed, and
-//! no port. Then a reader and a writer of std fail behind the adapters.
+//! no port. Then a reader and a writer of std fail behind the adapters, and poke sessions are played, over links in memory and over
+//! WebSocket on streams in memory.
 #![tactic(auto)]
 
 mod client;
 mod failing;
+mod linking;
+mod pieces;
+mod poking;
+mod script;
 mod server;
 
 use rv_net::{Listeners, Net, TcpListen, TcpNet};
@@ -90,5 +95,7 @@ fn main(rt: HostRuntime) -> anyhow::Result<()> {
     let played = play(&rt, &mut net, port, &mut listeners);
     net.done(Listeners::from_vec(listeners));
     played?;
-    failing::call(&rt)
+    failing::call(&rt)?;
+    poking::play_all(&rt, &rt)?;
+    linking::play_all(&rt, &rt)
 }
