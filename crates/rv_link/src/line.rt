@@ -1,4 +1,11 @@
 // A stream, as far as WebSocket has come on it.
+ghost use Rattle.std.specs.Prelude.{◌≡◌, [], codes, IfOk, OnOk, Some};
+ghost use Rattle.rv_poke.specs.declared.first.First.TheVariants.{Text};
+ghost use Rattle.tungstenite.specs.Connection.{close_step, write_step};
+ghost use Rattle.tungstenite.specs.Content.{text};
+ghost use Rattle.websocket.specs.CloseCode.{close_code_of};
+ghost use Rattle.rv_link.specs.Sockets.{IsGreeted, OpensWith, ReadsFirst, WritesStep};
+
 use rv_base::{Bytes, Failed};
 use rv_poke::{First, LinkFault};
 use std::alloc::Global;
@@ -28,7 +35,9 @@ pub(crate) enum Line<S> {
 }
 
 // What is asked of a socket of this server.
-fn config() -> WebSocketConfig {
+fn config() -> WebSocketConfig
+    ensures { result.max_message_size ≡ Some 4096 }
+{
     WebSocketConfig::default()
         .read_buffer_size(BUFFER_BYTES)
         .write_buffer_size(BUFFER_BYTES)
@@ -40,7 +49,9 @@ fn config() -> WebSocketConfig {
 fn shake<S: Read + Write + Drop>(
     alloc: Global,
     stream: S,
-) -> Result<WebSocket<S, NoMask>, LinkFault> {
+) -> Result<WebSocket<S, NoMask>, LinkFault>
+    ensures { IfOk result IsGreeted }
+{
     match server::start(alloc, stream, NoCallback, Some(config())).handshake() {
         Ok(socket) => Ok(socket),
         Err(HandshakeError::Failure(Error::OutOfMemory)) => Err(LinkFault::Memory),
@@ -50,8 +61,10 @@ fn shake<S: Read + Write + Drop>(
 }
 
 // A text as a first message.
-fn text_of(alloc: Global, text: &Utf8Bytes) -> Result<First, LinkFault> {
-    match Vec::from_slice(alloc, text.as_str().as_bytes()) {
+fn text_of(alloc: Global, words: &Utf8Bytes) -> Result<First, LinkFault>
+    ensures { IfOk result (λ first. first ≡ Text words.now) }
+{
+    match Vec::from_slice(alloc, words.as_str().as_bytes()) {
         Ok(bytes) => Ok(First::Text(Bytes::from_vec(bytes))),
         Err(_) => Err(LinkFault::Memory),
     }
@@ -61,9 +74,11 @@ fn text_of(alloc: Global, text: &Utf8Bytes) -> Result<First, LinkFault> {
 fn read<S: Read + Write + Drop>(
     alloc: Global,
     socket: &mut WebSocket<S, NoMask>,
-) -> Result<First, LinkFault> {
+) -> Result<First, LinkFault>
+    ensures { IfOk result (ReadsFirst S.remaining socket.old socket.new) }
+{
     match socket.read() {
-        Ok(Message::Text(text)) => text_of(alloc, &text),
+        Ok(Message::Text(words)) => text_of(alloc, &words),
         Ok(Message::Binary(_)) => Ok(First::Other),
         Ok(Message::Ping(_)) => Ok(First::Other),
         Ok(Message::Pong(_)) => Ok(First::Other),
@@ -77,7 +92,9 @@ fn read<S: Read + Write + Drop>(
 
 impl<S: Read + Write + Drop> Line<S> {
     /// Does the handshake of a stream that is fresh, and gives its first message.
-    pub(crate) fn first(&mut self, alloc: Global) -> Result<First, LinkFault> {
+    pub(crate) fn first(&mut self, alloc: Global) -> Result<First, LinkFault>
+        ensures { IfOk result (OpensWith S.remaining self.old self.new) }
+    {
         let Line::Fresh(stream) = mem::replace(self, Line::Lost) else {
             return Err(LinkFault::Failed);
         };
@@ -88,7 +105,9 @@ impl<S: Read + Write + Drop> Line<S> {
     }
 
     /// Sends the text `poke`.
-    pub(crate) fn send_poke(&mut self) -> Result<(), Failed> {
+    pub(crate) fn send_poke(&mut self) -> Result<(), Failed>
+        ensures { OnOk result (WritesStep S.contents (λ conn. write_step conn (text (codes "poke"))) self.old self.new) }
+    {
         let Line::Open(socket) = self else {
             return Err(Failed);
         };
@@ -99,7 +118,9 @@ impl<S: Read + Write + Drop> Line<S> {
     }
 
     /// Sends a close with a status code and no reason.
-    pub(crate) fn close(&mut self, code: u16) -> Result<(), Failed> {
+    pub(crate) fn close(&mut self, code: u16) -> Result<(), Failed>
+        ensures { OnOk result (WritesStep S.contents (λ conn. close_step conn (Some (close_code_of code, []))) self.old self.new) }
+    {
         let Line::Open(socket) = self else {
             return Err(Failed);
         };

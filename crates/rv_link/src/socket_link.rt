@@ -42,6 +42,7 @@ impl<S> SocketLink<S> {
     fn told(&mut self, told: Result<(), Failed>) -> Result<(), Failed>
         ensures cause { HasCause self.old.faults self.new.faults result }
         ensures same { result ≡ told }
+        ensures line { self.new.line ≡ self.old.line }
     {
         if told.is_err() {
             self.faults = self.faults.saturating_add(1);
@@ -51,12 +52,24 @@ impl<S> SocketLink<S> {
 }
 
 impl<S: Read + Write + Drop> PokeLink for SocketLink<S> {
-    ghost use Rattle.std.specs.Prelude.{None};
+    ghost use Rattle.std.specs.Prelude.{[], Some, codes, IfOk, OnOk};
+    ghost use Rattle.rv_poke.specs.declared.sent.Sent.TheVariants.{Close, Poke};
+    ghost use Rattle.rv_poke.specs.Links.{Says, Takes};
+    ghost use Rattle.tungstenite.specs.Connection.{close_step, write_step};
+    ghost use Rattle.tungstenite.specs.Content.{text};
+    ghost use Rattle.websocket.specs.CloseCode.{close_code_of};
+    ghost use Rattle.rv_link.specs.Sockets.{OpensWith, WritesStep, link_state};
 
-    ghost state = { λ link. record { coming = None; sent = None; faults = link.faults } };
+    ghost state = { link_state };
 
-    fn first(&mut self, alloc: Global) -> Result<First, LinkFault> {
-        match self.line.first(alloc) {
+    fn first(&mut self, alloc: Global) -> Result<First, LinkFault>
+        ensures takes { Takes (link_state self.old) (link_state self.new) result }
+
+        // The handshake of the stream was done, and what was read is this message.
+        ensures opens { IfOk result (OpensWith S.remaining self.old.line self.new.line) }
+    {
+        let taken = self.line.first(alloc);
+        match taken {
             Ok(first) => Ok(first),
             Err(LinkFault::Memory) => Err(LinkFault::Memory),
             Err(LinkFault::Failed) => {
@@ -66,12 +79,22 @@ impl<S: Read + Write + Drop> PokeLink for SocketLink<S> {
         }
     }
 
-    fn send_poke(&mut self) -> Result<(), Failed> {
+    fn send_poke(&mut self) -> Result<(), Failed>
+        ensures says { Says Poke (link_state self.old) (link_state self.new) result }
+
+        // The protocol's step of a text `poke` was made and written.
+        ensures writes { OnOk result (WritesStep S.contents (λ conn. write_step conn (text (codes "poke"))) self.old.line self.new.line) }
+    {
         let sent = self.line.send_poke();
         self.told(sent)
     }
 
-    fn close(&mut self, code: u16) -> Result<(), Failed> {
+    fn close(&mut self, code: u16) -> Result<(), Failed>
+        ensures says { Says (Close code) (link_state self.old) (link_state self.new) result }
+
+        // The protocol's step of a close with this code was made and written.
+        ensures writes { OnOk result (WritesStep S.contents (λ conn. close_step conn (Some (close_code_of code, []))) self.old.line self.new.line) }
+    {
         let closed = self.line.close(code);
         self.told(closed)
     }
