@@ -1,6 +1,7 @@
 // A link that speaks WebSocket.
 ghost use Rattle.std.specs.Prelude.{◌≡◌};
 ghost use Rattle.rv_base.specs.Causes.{HasCause};
+ghost use Rattle.rv_link.specs.declared.line.Line.TheVariants.{Fresh};
 
 use crate::line::Line;
 use rv_base::Failed;
@@ -13,13 +14,14 @@ use std::io::{Read, Write};
 /// [`first`](PokeLink::first) does the handshake, in which the stream is to give a request head of at most 65,536 bytes and nothing
 /// after it, and reads one message. A text of at most 4,096 bytes is [`First::Text`]; a longer message, a text that is no UTF-8, a
 /// binary message, a ping, a pong and a close are [`First::Other`], so a client that pings before it sends its key is denied. Any
-/// other breach of the protocol is [`LinkFault::Failed`], and so are a handshake that fails, to which nothing is answered, the end of the
-/// stream, a read that fails or would block, and a second call. From then on nothing is read: a ping has no answer, and that
-/// the client has gone is told where a poke can't be sent.
+/// other breach of the protocol is [`LinkFault::Failed`], and so are a handshake that fails, the end of the stream, a read that
+/// fails or would block, and a second call. A head that asks for no upgrade is not answered. From then on nothing is read: a ping has
+/// no answer, and that the client has gone is told where a poke can't be sent.
 ///
-/// A poke that can't be sent for want of memory is a fault. A close goes out after the pong that a first ping asks for; where the client
-/// has closed the link first, the answer to its close goes out in its place. What has failed once may be tried again, and fails where a
-/// close was sent or the handshake failed.
+/// A poke or a close that can't be sent for want of memory is a fault, and so is one that was written and could not be flushed. A close
+/// goes out after the pong that a first ping asks for; where the client has closed the link first, the answer to its close goes
+/// out in its place. After a close no poke can be sent, and another close sends nothing. A client that still sends a message that is too
+/// long may lose the close, since what it sends is not read.
 #[derive(Drop)]
 pub struct SocketLink<S> {
     line: Line<S>,
@@ -30,7 +32,7 @@ pub struct SocketLink<S> {
 impl<S> SocketLink<S> {
     /// A link over a stream whose handshake is still to come.
     pub fn new(stream: S) -> SocketLink<S>
-        ensures { result.faults ≡ 0 }
+        ensures { result ≡ record { line = Fresh stream; faults = 0 } }
     {
         SocketLink {
             line: Line::Fresh(stream),
