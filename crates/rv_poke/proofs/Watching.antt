@@ -7,7 +7,7 @@ use Rattle.rv_poke.specs.declared.waited.Waited.TheVariants.{Over, Rung}
 use Rattle.rv_poke.specs.Bells.{BellState, HasWaited, counted_by}
 use Rattle.rv_poke.specs.Links.{LinkState, Sends}
 use Rattle.rv_poke.specs.Looking.{Told, Unsent}
-use Rattle.rv_poke.specs.Sessions.{told_after, poke_at, pokes_of, Stage, stage, Looks, Watched, Watches}
+use Rattle.rv_poke.specs.Sessions.{told_after, poke_at, pokes_of, SessionState, session_state, Looks, Watched, Watches}
 use Rattle.rv_poke.proofs.Pokes.{told_more, pokes_more, at_most_one, poke_at-max, sends_more, sends_silent, sends_none}
 
 -- one look more is one poke more at the most
@@ -24,7 +24,7 @@ module _ {S : Type 0} (marks : S → List ℕ → ℕ → S → Type 0) where
   looks_more user old mid new (m ∷ ms) mark chain one = (chain.0, chain.1, looks_more user chain.0 mid new ms mark chain.2 one)
 
   -- A session of a user has come so far: the looks that were made, what is told now, the pokes that were sent, the waits.
-  pub record Going (user : List ℕ) (old new : Stage S) (told pokes waits : ℕ) : Type 0 where
+  pub record Going (user : List ℕ) (old new : SessionState S) (told pokes waits : ℕ) : Type 0 where
     pub before : List ℕ
     pub mark : ℕ
     pub watched : Watched marks user old new before mark pokes
@@ -37,7 +37,7 @@ module _ {S : Type 0} (marks : S → List ℕ → ℕ → S → Type 0) where
 
   -- after the first look
   pub begins : (user : List ℕ) (teller teller' : S) (link link' : LinkState) (bell : BellState) (now pokes : ℕ) → Told marks user 0 teller teller' link link' now → pokes ≡ poke_at 0 now
-      → Going user (stage teller link bell) (stage teller' link' bell) now pokes 0
+      → Going user (session_state teller link bell) (session_state teller' link' bell) now pokes 0
   begins user teller teller' link link' bell now pokes look is =
       let same : pokes ≡ poke_at 0 look.mark = is ∙ ap (poke_at 0) look.next ∙ poke_at-max 0 look.mark in record {
         before = [];
@@ -59,7 +59,7 @@ module _ {S : Type 0} (marks : S → List ℕ → ℕ → S → Type 0) where
 
   -- no poke could be sent at the first look
   pub fails_at_once : (user : List ℕ) (teller teller' : S) (link link' : LinkState) (bell : BellState) → Unsent marks user 0 teller teller' link link'
-      → Watches marks user (stage teller link bell) (stage teller' link' bell) LinkFault
+      → Watches marks user (session_state teller link bell) (session_state teller' link' bell) LinkFault
   fails_at_once user teller teller' link link' bell look = (
     [],
     look.mark,
@@ -68,7 +68,7 @@ module _ {S : Type 0} (marks : S → List ℕ → ℕ → S → Type 0) where
     refl,
   )
 
-  module _ (user : List ℕ) (old mid : Stage S) (told pokes waits : ℕ) (going : Going user old mid told pokes waits) where
+  module _ (user : List ℕ) (old mid : SessionState S) (told pokes waits : ℕ) (going : Going user old mid told pokes waits) where
     -- the marks of all looks so far
     abbrev all : List ℕ
     all = going.before ++ going.mark ∷ []
@@ -82,7 +82,7 @@ module _ {S : Type 0} (marks : S → List ℕ → ℕ → S → Type 0) where
 
     -- all is over
     pub stops : (bell : BellState) → (pokes ≡ 10000 → ⊥) → waits < 1000000 → HasWaited mid.bell bell Over
-        → Watches marks user old (stage mid.teller mid.link bell) (Done pokes)
+        → Watches marks user old (session_state mid.teller mid.link bell) (Done pokes)
     stops bell others below waited =
         let w = going.watched in (
           going.before,
@@ -93,7 +93,7 @@ module _ {S : Type 0} (marks : S → List ℕ → ℕ → S → Type 0) where
         )
 
     module _ (teller : S) (link : LinkState) (bell : BellState) (others : pokes ≡ 10000 → ⊥) (below : waits < 1000000) (waited : HasWaited mid.bell bell Rung) where
-      after_ring : (mark : ℕ) (sent : ℕ) → marks mid.teller user mark teller → Sends old.link.sent (replicate sent Poke) link.sent → Watched marks user old (stage teller link bell) all mark sent
+      after_ring : (mark : ℕ) (sent : ℕ) → marks mid.teller user mark teller → Sends old.link.sent (replicate sent Poke) link.sent → Watched marks user old (session_state teller link bell) all mark sent
       after_ring mark sent look said = record {
         looks = looks_more user old.teller mid.teller teller all mark going.watched.looks look;
         rung = rung_more going.before going.mark old.bell.rungs mid.bell.rungs bell.rungs going.watched.rung waited.0;
@@ -103,7 +103,7 @@ module _ {S : Type 0} (marks : S → List ℕ → ℕ → S → Type 0) where
       }
 
       -- one look more
-      pub goes_on : (now more : ℕ) → Told marks user told mid.teller teller mid.link link now → more ≡ poke_at told now → Going user old (stage teller link bell) now (pokes + more) (waits + 1)
+      pub goes_on : (now more : ℕ) → Told marks user told mid.teller teller mid.link link now → more ≡ poke_at told now → Going user old (session_state teller link bell) now (pokes + more) (waits + 1)
       goes_on now more look is =
           let same : more ≡ poke_at told look.mark = is ∙ ap (poke_at told) look.next ∙ poke_at-max told look.mark in record {
             before = all;
@@ -119,7 +119,7 @@ module _ {S : Type 0} (marks : S → List ℕ → ℕ → S → Type 0) where
           }
 
       -- no poke could be sent
-      pub fails : Unsent marks user told mid.teller teller mid.link link → Watches marks user old (stage teller link bell) LinkFault
+      pub fails : Unsent marks user told mid.teller teller mid.link link → Watches marks user old (session_state teller link bell) LinkFault
       fails look = (
         all,
         look.mark,

@@ -31,14 +31,15 @@ abbrev pub pokes_of : ℕ → List ℕ → ℕ
 pokes_of told [] = 0
 pokes_of told (mark ∷ marks) = poke_at told mark + pokes_of (max told mark) marks
 
--- What a session works with: who tells marks, its link and its bell.
-pub record Stage (S : Type 0) : Type 0 where
+-- What a session works with, as it is seen: who tells marks, its link and its bell.
+pub record SessionState (S : Type 0) : Type 0 where
   pub teller : S
   pub link : LinkState
   pub bell : BellState
 
-abbrev pub stage : {S : Type 0} → S → LinkState → BellState → Stage S
-stage teller link bell = record { teller = teller; link = link; bell = bell }
+-- these three together
+abbrev pub session_state : {S : Type 0} → S → LinkState → BellState → SessionState S
+session_state teller link bell = record { teller = teller; link = link; bell = bell }
 
 -- The first message was taken, and is this one.
 abbrev pub WasFirst : LinkState → LinkState → First → Type 0
@@ -68,18 +69,19 @@ module _ {S : Type 0} (marks : S → List ℕ → ℕ → S → Type 0) where
   Looks user old [] new = new ≡ old
   Looks user old (mark ∷ more) new = (mid : S) × marks old user mark mid × Looks user mid more new
 
-  -- A session of a user has made looks with the marks `before` and one with `mark`: one at the start, and one after each ring. Those before
-  -- the last one sent fewer than 10,000 pokes, and there were at most 1,000,000 waits. So many pokes were sent, and nothing else.
-  pub record Watched (user : List ℕ) (old new : Stage S) (before : List ℕ) (mark pokes : ℕ) : Type 0 where
+  -- A session of a user has made looks with the marks `before` and then one with `mark`: the first at the start, each other one after
+  -- a ring. Those before the last one sent fewer than 10,000 pokes, and there were at most 1,000,000 rings. So many pokes were sent,
+  -- and nothing else.
+  pub record Watched (user : List ℕ) (old new : SessionState S) (before : List ℕ) (mark pokes : ℕ) : Type 0 where
     pub looks : Looks user old.teller (before ++ mark ∷ []) new.teller
     pub rung : new.bell.rungs ≡ counted_by (length before) old.bell.rungs
     pub few : pokes_of 0 before < 10000
     pub waits : length before ≤ 1000000
     pub said : Sends old.link.sent (replicate pokes Poke) new.link.sent
 
-  -- How a session of a user ends. Done: its looks have sent their pokes, so many, and it was over or at a limit. LinkFault: the mark
-  -- of the last look is above what was told, and only the looks before it have sent their pokes, and nothing said that all is over.
-  abbrev pub Watches : List ℕ → Stage S → Stage S → PokeEnd → Type 0
+  -- How a session of a user ends. `Done`: its looks have sent their pokes, so many, and all is over or a limit is reached. `LinkFault`:
+  -- the mark of the last look is above what was told, just the pokes of the looks before it were sent, and nothing said that all is over.
+  abbrev pub Watches : List ℕ → SessionState S → SessionState S → PokeEnd → Type 0
   Watches user old new (Done pokes) =
       (before : List ℕ) × (mark : ℕ) × (pokes ≡ pokes_of 0 (before ++ mark ∷ [])) × Watched user old new before mark pokes
       × Stops pokes (length before) old.bell new.bell
@@ -90,21 +92,21 @@ module _ {S : Type 0} (marks : S → List ℕ → ℕ → S → Type 0) where
   Watches user old new Memory = ⊥
 
   -- No look was made and the bell was not asked.
-  abbrev pub IsUnwatched : Stage S → Stage S → Type 0
+  abbrev pub IsUnwatched : SessionState S → SessionState S → Type 0
   IsUnwatched old new = (new.teller ≡ old.teller) × (new.bell ≡ old.bell)
 
   -- Nothing was done.
-  abbrev pub IsUnbegun : Stage S → Stage S → Type 0
+  abbrev pub IsUnbegun : SessionState S → SessionState S → Type 0
   IsUnbegun old new = IsUnwatched old new × IsIdle old.link new.link
 
   -- the first message was taken and names this user, whose session ends so
-  abbrev pub WatchesNamed : List Account → Stage S → Stage S → PokeEnd → Type 0
+  abbrev pub WatchesNamed : List Account → SessionState S → SessionState S → PokeEnd → Type 0
   WatchesNamed accounts old new end =
       (first : First) × (user : List ℕ) × WasFirst old.link new.link first × (user_named accounts first ≡ Some user) × Watches user old new end
 
   -- How a session ends. Its first message names a user, who is watched; or it names none, and the link is closed with 1008. Where no
   -- message could be taken nothing was done.
-  abbrev pub Session : List Account → Stage S → Stage S → PokeEnd → Type 0
+  abbrev pub Session : List Account → SessionState S → SessionState S → PokeEnd → Type 0
   Session accounts old new (Done pokes) = WatchesNamed accounts old new (Done pokes)
   Session accounts old new LinkFault = IsUnbegun old new ⊎ WatchesNamed accounts old new LinkFault
   Session accounts old new Denied =

@@ -1,7 +1,7 @@
 // A poke session.
 ghost use Rattle.std.specs.Prelude.{◌≡◌, option_map};
 ghost use Rattle.rv_poke.specs.Looking.{Looked};
-ghost use Rattle.rv_poke.specs.Sessions.{EndCause, Session, Watches, poke_at, stage, user_named};
+ghost use Rattle.rv_poke.specs.Sessions.{EndCause, Session, Watches, poke_at, session_state, user_named};
 
 use crate::bell::Bell;
 use crate::first::First;
@@ -66,7 +66,7 @@ fn watch<M: Marks, L: PokeLink, B: Bell, R: Wait>(
     link: &mut L,
     bell: &mut B,
 ) -> PokeEnd
-    ensures watches { Watches M.marks user.now (stage marks.old (L.state link.old) (B.state bell.old)) (stage marks.new (L.state link.new) (B.state bell.new)) result }
+    ensures watches { Watches M.marks user.now (session_state marks.old (L.state link.old) (B.state bell.old)) (session_state marks.new (L.state link.new) (B.state bell.new)) result }
     ensures cause { EndCause (L.state link.old) (L.state link.new) result }
     ensures taken { (L.state link.new).coming ≡ (L.state link.old).coming }
 {
@@ -106,7 +106,7 @@ pub fn poke_session<M: Marks, L: PokeLink, B: Bell, R: Wait>(
     link: &mut L,
     bell: &mut B,
 ) -> PokeEnd
-    ensures session { Session M.marks accounts.now.accounts (stage marks.old (L.state link.old) (B.state bell.old)) (stage marks.new (L.state link.new) (B.state bell.new)) result }
+    ensures session { Session M.marks accounts.now.accounts (session_state marks.old (L.state link.old) (B.state bell.old)) (session_state marks.new (L.state link.new) (B.state bell.new)) result }
     ensures cause { EndCause (L.state link.old) (L.state link.new) result }
 {
     let first = match link.first(alloc) {
