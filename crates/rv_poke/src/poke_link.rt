@@ -12,15 +12,16 @@ pub trait PokeLink {
     /// call has failed. The count stands still at 2^64 - 1.
     ghost state: { Self → LinkState };
 
-    /// Takes the first message. It may wait for it.
+    /// Takes the first message. It may wait for it. At `Failed` the count of faults rose, and at both errors the message is still to
+    /// come; at a second call it is not told what comes.
     fn first(&mut self, alloc: Global) -> Result<First, LinkFault>
         ensures { Takes (state self.old) (state self.new) result };
 
-    /// Sends a poke. Where it fails nothing was sent.
+    /// Sends a poke. It fails only where the count of faults rises, and then nothing was sent.
     fn send_poke(&mut self) -> Result<(), Failed>
         ensures { Says Poke (state self.old) (state self.new) result };
 
-    /// Closes the link with a status code. Where it fails nothing was sent.
+    /// Closes the link with a status code. It fails only where the count of faults rises, and then nothing was sent.
     fn close(&mut self, code: u16) -> Result<(), Failed>
         ensures { Says (Close code) (state self.old) (state self.new) result };
 }
