@@ -29,7 +29,7 @@ impl MemoryBell {
 }
 
 impl Bell for MemoryBell {
-    ghost use Rattle.std.specs.Prelude.{◌≡◌, ◌-◌, ◌==◌};
+    ghost use Rattle.std.specs.Prelude.{◌≡◌, ◌<◌, ◌-◌};
     ghost use Rattle.rv_poke.specs.Bells.{HasWaited};
     ghost use Rattle.rv_poke.specs.InMemory.{bell_state};
     ghost use Rattle.rv_poke.specs.declared.waited.Waited.TheVariants.{Rung, Over};
@@ -40,6 +40,7 @@ impl Bell for MemoryBell {
         ensures waited { HasWaited (bell_state self.old) (bell_state self.new) result }
 
         // It is rung exactly while rings are left, and each time one less is.
+        ensures rung { result ≡ Rung → 0 < self.old.left }
         ensures over { result ≡ Over → self.old.left ≡ 0 }
         ensures left { self.new.left ≡ self.old.left - 1 }
     {

@@ -1,6 +1,3 @@
-// A link in memory, which fails at the calls of a list.
-ghost use Rattle.std.specs.Prelude.{◌≡◌, []};
-
 use crate::first::First;
 use crate::link_fault::LinkFault;
 use crate::poke_link::PokeLink;
@@ -70,7 +67,7 @@ impl MemoryLink {
 }
 
 impl PokeLink for MemoryLink {
-    ghost use Rattle.std.specs.Prelude.{◌≡◌, ◌+◌, ◌<◌, ◌⊎◌, ◌||◌, true, None, not, is_some, vec_len, vec_capacity, is_err};
+    ghost use Rattle.std.specs.Prelude.{◌≡◌, ◌+◌, ◌<◌, ◌⊎◌, ◌||◌, true, not, is_some, vec_len, vec_capacity, is_err};
     ghost use Rattle.rv_base.specs.InMemory.{fails_next};
     ghost use Rattle.rv_base.specs.Outside.{counted, counted_if};
     ghost use Rattle.rv_poke.specs.declared.sent.Sent.TheVariants.{Close, Poke};
