@@ -4,7 +4,7 @@ use Rattle.std.specs.Str.{bytes_eq}
 use Rattle.std.specs.Option.{option_map}
 use Rattle.toml.specs.Data.{Data}
 use Rattle.rv_base.specs.Sorted.{Distinct}
-use Rattle.rv_base.specs.Places.{not_same, find-push_other}
+use Rattle.rv_base.specs.Positions.{not_same, find-push_other}
 use Rattle.rv_base.specs.Arranged.{find-sorted}
 use Rattle.rv_accounts.specs.declared.account.Account.{Account}
 use Rattle.rv_accounts.specs.Members.{account_in}

@@ -8,10 +8,10 @@ use Rattle.toml.specs.declared.value.Value.{Value}
 use Rattle.toml.specs.Data.{Members}
 use Rattle.toml.specs.Parse.{parse_document}
 use Rattle.rv_accounts.specs.declared.fault.AccountsFault.TheVariants.{BadFile}
-use Rattle.rv_accounts.specs.File.{document_in, list_of}
+use Rattle.rv_accounts.specs.File.{document_in, array_values}
 
 -- a list of data as it was
-pub list_again : (values : List Value) → list_of (items_view values) ≡ map view values
+pub list_again : (values : List Value) → array_values (items_view values) ≡ map view values
 list_again [] = refl
 list_again (v ∷ values) = ap (λ l. view v ∷ l) (list_again values)
 

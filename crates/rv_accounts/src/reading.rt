@@ -1,10 +1,10 @@
 ghost use Rattle.std.specs.Prelude.{◌≡◌, ◌<◌, ◌^◌, ◌∷◌, [], length, map, option_map, string_bytes, codes, IfOk};
 ghost use Rattle.toml.specs.View.{view};
 ghost use Rattle.rv_base.specs.Sorted.{InOrder};
-ghost use Rattle.rv_accounts.specs.File.{Reads, account_key, accounts_in, ordered_accounts, schemas_in, file_in, are_tables};
+ghost use Rattle.rv_accounts.specs.File.{ReadsFile, account_key, accounts_in, ordered_accounts, schemas_in, file_in, are_tables};
 
 use crate::account::Account;
-use crate::accounts::{Accounts, Schemas, place_of};
+use crate::accounts::{Accounts, Schemas, position_of};
 use crate::document::{account_of, array_of, document_of, texts_of};
 use crate::fault::AccountsFault;
 use rv_base::{Memory, Sequence};
@@ -23,7 +23,7 @@ fn first_schemas(alloc: Global) -> Result<Schemas, Memory>
 
 // The schema versions that are served, by the array that names them, if there is one.
 fn schemas_of(alloc: Global, named: Option<&[Value]>) -> Result<Schemas, AccountsFault>
-    ensures { Reads (map string_bytes) result (schemas_in (option_map (λ values. map view values.now) named.entry)) }
+    ensures { ReadsFile (map string_bytes) result (schemas_in (option_map (λ values. map view values.now) named.entry)) }
 {
     match named {
         Some(values) => texts_of(alloc, values),
@@ -46,7 +46,7 @@ fn are_all_tables(values: &[Value]) -> bool
 fn accounts_of(alloc: Global, tables: &[Value]) -> Result<Vec<Account>, AccountsFault>
     requires { length tables.now < 2 ^ 32 }
     ensures order { IfOk result (λ accounts. InOrder account_key accounts.items) }
-    ensures accounts { Reads (λ accounts. accounts.items) result (ordered_accounts (map view tables.now)) }
+    ensures accounts { ReadsFile (λ accounts. accounts.items) result (ordered_accounts (map view tables.now)) }
 {
     let mut accounts: Vec<Account> = Vec::new(alloc);
     let mut number = 0u32;
@@ -55,10 +55,10 @@ fn accounts_of(alloc: Global, tables: &[Value]) -> Result<Vec<Account>, Accounts
         let Some(account) = account_of(alloc, table)? else {
             return Err(AccountsFault::BadFile(number));
         };
-        let Err(place) = place_of(&accounts, account.key.as_str().as_bytes()) else {
+        let Err(position) = position_of(&accounts, account.key.as_str().as_bytes()) else {
             return Err(AccountsFault::Twice(number));
         };
-        let Ok(()) = accounts.insert(place, account) else {
+        let Ok(()) = accounts.insert(position, account) else {
             return Err(AccountsFault::Memory);
         };
     }
@@ -68,7 +68,7 @@ fn accounts_of(alloc: Global, tables: &[Value]) -> Result<Vec<Account>, Accounts
 // The accounts of the array that has them, if there is one.
 fn accounts_at(alloc: Global, array: Option<&[Value]>) -> Result<Vec<Account>, AccountsFault>
     ensures order { IfOk result (λ accounts. InOrder account_key accounts.items) }
-    ensures accounts { Reads (λ accounts. accounts.items) result (accounts_in (option_map (λ values. map view values.now) array.entry)) }
+    ensures accounts { ReadsFile (λ accounts. accounts.items) result (accounts_in (option_map (λ values. map view values.now) array.entry)) }
 {
     let Some(values) = array else {
         return Ok(Vec::new(alloc));
@@ -87,7 +87,7 @@ fn accounts_at(alloc: Global, array: Option<&[Value]>) -> Result<Vec<Account>, A
 /// and then the accounts one after another, of each its form before its key. `Memory` may come at any file.
 #[tactic(auto, unfolding(crate::specs::File::file_in))]
 pub fn read_accounts(alloc: Global, bytes: &[u8]) -> Result<Accounts, AccountsFault>
-    ensures { Reads (λ accounts. accounts) result (file_in bytes.now) }
+    ensures { ReadsFile (λ accounts. accounts) result (file_in bytes.now) }
 {
     let table = document_of(alloc, bytes)?;
     let schemas = schemas_of(alloc, array_of(&table, "schemas")?)?;

@@ -13,12 +13,12 @@ no_push reply None e = cc
 no_push reply (Some refusal) e = cc
 
 -- a reply is that of the turn
-pub same_reply : (reply : PullReply) (outcome : Outcome) → Pulled reply ≡ answer_of outcome → outcome ≡ outcomes.Pulled reply
-same_reply reply (outcomes.Pulled other) e = let same : other ≡ reply = cc in ap (λ (r : PullReply). outcomes.Pulled r) same
-same_reply reply (outcomes.Acted place) e = absurd (cc)
-same_reply reply (outcomes.Skipped number) e = absurd (cc)
-same_reply reply (outcomes.Retired place) e = absurd (cc)
-same_reply reply (outcomes.Refused refusal) e = absurd (cc)
+pub pulled_same : (reply : PullReply) (outcome : Outcome) → Pulled reply ≡ answer_of outcome → outcome ≡ outcomes.Pulled reply
+pulled_same reply (outcomes.Pulled other) e = let same : other ≡ reply = cc in ap (λ (r : PullReply). outcomes.Pulled r) same
+pulled_same reply (outcomes.Acted place) e = absurd (cc)
+pulled_same reply (outcomes.Skipped number) e = absurd (cc)
+pulled_same reply (outcomes.Retired place) e = absurd (cc)
+pulled_same reply (outcomes.Refused refusal) e = absurd (cc)
 
 -- a push that is answered as one was not refused
 pub went : (refused : Option Refusal) → Pushed ≡ push_answer refused → refused ≡ None

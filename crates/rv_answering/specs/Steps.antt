@@ -57,8 +57,8 @@ module _ {S : Type 0} (takes : S → Ask → Outcome → S → Type 0) where
   Handles old parsed answer new = (acted : Bool) × HandlesActing old parsed answer acted new
 
   -- what was parsed is answered so, one after another
-  abbrev pub Run : S → List Parsed → List Answer → S → Type 0
-  Run old [] [] new = new ≡ old
-  Run old (parsed ∷ more) (answer ∷ answers) new = (mid : S) × Handles old parsed answer mid × Run mid more answers new
-  Run old [] (answer ∷ answers) new = ⊥
-  Run old (parsed ∷ more) [] new = ⊥
+  abbrev pub HandlesAll : S → List Parsed → List Answer → S → Type 0
+  HandlesAll old [] [] new = new ≡ old
+  HandlesAll old (parsed ∷ more) (answer ∷ answers) new = (mid : S) × Handles old parsed answer mid × HandlesAll mid more answers new
+  HandlesAll old [] (answer ∷ answers) new = ⊥
+  HandlesAll old (parsed ∷ more) [] new = ⊥

@@ -6,7 +6,7 @@ use Rattle.std.specs.Io.KnownBytes.{Appends}
 use Rattle.std.proofs.KnownBytes.{Appends-trans}
 use Rattle.rv_base.specs.Outside.{OutputState}
 
--- what a read of n bytes at a place gives, and what it leaves
+-- what a read of n bytes at a position gives, and what it leaves
 pub read_front : (items piece : List ℕ) (old at n : ℕ) → at ≡ min old (length items) → take n piece ≡ take n (take (length items - at) (drop at items)) → drop old items ≡ take n piece ++ drop (at + n) items
 read_front items piece old at n e f =
     sym (drop_min old items) ∙ ap (λ k. drop k items) (sym e) ∙ sym (take-append-drop n (drop at items)) ∙ ap (λ l. l ++ drop n (drop at items)) (sym (f ∙ ap (take n) (take_rest items at))) ∙ ap (λ l. take n piece ++ l) (drop-drop n at items)

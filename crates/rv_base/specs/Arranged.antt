@@ -13,7 +13,7 @@ use Rattle.std.proofs.lemmas.Map.Entries.{option_filter}
 use Rattle.std.proofs.lemmas.List.Sums.{fold_push}
 use Rattle.std.proofs.lemmas.List.Sorted.{IsPermutation-refl, IsPermutation-sym, IsPermutation-trans, IsPermutation-cons, IsPermutation-middle, IsPermutation-append_right, list_any-IsPermutation}
 use Rattle.rv_base.specs.Sorted.{find_by, put_by, InOrder, sorted_by, Distinct}
-use Rattle.rv_base.specs.Places.{Below, Above, below_is, same_from, equals, above_chain, find_above, in_order-sorted, in_order-filter, not_same, others, find_put, find-push_other}
+use Rattle.rv_base.specs.Positions.{Below, Above, below_is, same_from, equals, above_chain, find_above, in_order-sorted, in_order-filter, not_same, others, find_put, find-push_other}
 
 -- what is found in one list or else in another, after an item that shadows
 shadows : {X : Type 0} (b : Bool) (x : X) (o p : Option X) → (b ≡ true → o ≡ None) → option_or o (cond b (Some x) p) ≡ option_or (cond b (Some x) o) p

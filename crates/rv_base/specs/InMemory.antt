@@ -5,7 +5,7 @@ use Rattle.rv_base.specs.declared.in_memory.MemorySource.{MemorySource}
 use Rattle.rv_base.specs.declared.in_memory.MemorySink.{MemorySink}
 use Rattle.rv_base.specs.Outside.{InputState, OutputState, counted, counted_if}
 
--- a source in memory tells its bytes from its place on
+-- a source in memory tells its bytes from its position on
 abbrev pub source_state : MemorySource → InputState
 source_state s = record { left = Some (drop s.at s.bytes.items); faults = s.faults; ends = s.ends }
 

@@ -6,7 +6,7 @@ pub mod Writes
 pub mod WritesLaws
 pub mod Texts
 pub mod Sorted
-pub mod Places
+pub mod Positions
 pub mod Chains
 pub mod Options
 pub mod Arranged

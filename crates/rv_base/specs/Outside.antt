@@ -25,21 +25,21 @@ counted n = min (n + 1) (2 ^ 64 - 1)
 abbrev pub counted_if : Bool → ℕ → ℕ
 counted_if test n = if test then counted n else n
 
--- no byte came into a piece that has room
+-- no byte came into a piece that has space
 abbrev pub is_end : ℕ → List ℕ → Bool
 is_end count piece = count == 0 && nat_lt 0 (length piece)
 
--- a read tells the end by giving no byte into a piece that has room
-abbrev pub tells_end : {E : Type 0} → Result ℕ E → List ℕ → Bool
-tells_end (Ok count) piece = is_end count piece
-tells_end (Err e) piece = false
+-- a read tells the end by giving no byte into a piece that has space
+abbrev pub read_is_end : {E : Type 0} → Result ℕ E → List ℕ → Bool
+read_is_end (Ok count) piece = is_end count piece
+read_is_end (Err e) piece = false
 
 -- A read takes what it gives from the front of what is left, and nothing where it fails; it fails only where the count of
 -- faults rises, and else that count stays; an end that is told is counted.
 pub record Reads {E : Type 0} (old new : InputState) (result : Result ℕ E) (piece : List ℕ) : Type 0 where
   pub bytes : ReadConsumes old.left new.left result piece
   pub cause : HasCause old.faults new.faults result
-  pub ends : new.ends ≡ counted_if (tells_end result piece) old.ends
+  pub ends : new.ends ≡ counted_if (read_is_end result piece) old.ends
 
 -- A write adds the bytes that it takes, and none where it fails; it fails only where the count of faults rises, and else
 -- that count stays, and so does the count of refusals of memory.

@@ -27,8 +27,8 @@ module _ {X : Type 0} (key : X → List ℕ) where
   InOrder (x ∷ xs) = AllByRecursion (λ y. slice_cmp nat_cmp (key x) (key y) ≡ Less) xs × InOrder xs
 
   -- where the item of the key k stands, or where it would go, and what an edit there leaves
-  abbrev pub Settles : List ℕ → List X → Result ℕ ℕ → Type 0
-  Settles k xs (Ok i) = record {
+  abbrev pub IsPositionOf : List ℕ → List X → Result ℕ ℕ → Type 0
+  IsPositionOf k xs (Ok i) = record {
     in_range : i < length xs;
     found : (d : X) → find_by k xs ≡ Some (slice_index_or xs i d);
     removed : without k xs ≡ take i xs ++ drop (suc i) xs;
@@ -36,7 +36,7 @@ module _ {X : Type 0} (key : X → List ℕ) where
     written : (new : X) → key new ≡ k → put_by new xs ≡ slice_set xs i new;
     written_order : (new : X) → key new ≡ k → InOrder (slice_set xs i new);
   }
-  Settles k xs (Err i) = record {
+  IsPositionOf k xs (Err i) = record {
     in_range : i ≤ length xs;
     absent : find_by k xs ≡ None;
     unmoved : without k xs ≡ xs;

@@ -56,7 +56,7 @@ fn copy_front(from: &[u8], to: &mut [u8], most: usize) -> usize
 impl Source for MemorySource {
     ghost use Rattle.std.specs.Prelude.{◌≡◌, ◌-◌, ◌≤◌, min, length, IfOk, IsOk, is_err};
     ghost use Rattle.std.specs.Io.{ReadsAtMost};
-    ghost use Rattle.rv_base.specs.Outside.{Reads, counted, counted_if, tells_end};
+    ghost use Rattle.rv_base.specs.Outside.{Reads, counted, counted_if, read_is_end};
     ghost use Rattle.rv_base.specs.InMemory.{source_state, fails_next, FailsNoMore, moved, stands_after};
 
     ghost state = { source_state };
@@ -70,12 +70,12 @@ impl Source for MemorySource {
         ensures reads { Reads (source_state self.old) (source_state self.new) result piece.new }
         ensures steady { FailsNoMore self.old.calls self.old.failing.items → IsOk result × FailsNoMore self.new.calls self.new.failing.items }
 
-        // It fails exactly at the calls of its list, and else gives as much as it may and there is room for.
+        // It fails exactly at the calls of its list, and else gives as much as it may and there is space for.
         ensures fails { is_err result ≡ fails_next self.old.calls self.old.failing.items }
         ensures count { IfOk result (λ n. n ≡ min (moved self.old.most (length self.old.bytes.items - self.old.at)) (length piece.new)) }
 
         // Nothing else changes.
-        ensures after { self.new ≡ record self.old { at = stands_after self.old result; calls = counted self.old.calls; faults = counted_if (is_err result) self.old.faults; ends = counted_if (tells_end result piece.new) self.old.ends } }
+        ensures after { self.new ≡ record self.old { at = stands_after self.old result; calls = counted self.old.calls; faults = counted_if (is_err result) self.old.faults; ends = counted_if (read_is_end result piece.new) self.old.ends } }
     {
         self.calls = self.calls.saturating_add(1);
         if self.failing.contains(&self.calls) {

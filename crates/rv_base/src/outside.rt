@@ -18,7 +18,7 @@ pub trait Source {
     /// No read fails any more.
     ghost fails_no_more: { Self → Type 0 };
 
-    /// Reads some bytes into the front of the piece, and answers how many: none only at the end, or into no room. A read
+    /// Reads some bytes into the front of the piece, and answers how many: none only at the end, or into no space. A read
     /// that fails takes no byte.
     fn read(&mut self, piece: &mut [u8]) -> Result<usize, Failed>
         ensures bound { ReadsAtMost result piece.new }

@@ -4,7 +4,7 @@ use crate::memory::Memory;
 use std::alloc::Global;
 use std::marker::Model;
 
-/// Items one after another. A contract sees the list of them, and nothing of the room that they take.
+/// Items one after another. A contract sees the list of them, and nothing of the space that they take.
 #[derive(Debug, Drop)]
 pub struct Sequence<T> {
     items: Vec<T>,

@@ -6,7 +6,7 @@ use Rattle.std.specs.Str.{bytes_eq}
 use Rattle.std.proofs.lemmas.Slice.Eq.{bytes_eq-Decides}
 use Rattle.std.proofs.lemmas.List.Sums.{count_by-le-length}
 use Rattle.std.proofs.lemmas.Option.{same_Some}
-use Rattle.rv_base.specs.Sorted.{Settles}
+use Rattle.rv_base.specs.Sorted.{IsPositionOf}
 use Rattle.rv_book.specs.declared.entry.Entry.{Entry}
 use Rattle.rv_book.specs.declared.entry.Entry.TheVariants.{Act, Look, Retire}
 use Rattle.rv_book.specs.declared.clients.ClientRow.{ClientRow}
@@ -22,18 +22,18 @@ unfolding client_of_row
 client_of_row-before book e row lt = ap (λ (o : Option Entry). option_map_or actor o []) (sym (at_before book.entries e row.first lt))
 
 -- the row after one more act of its client
-abbrev pub one_more : ℕ → Option ClientRow → ClientRow
-one_more index None = record { first = index; acts = 1 }
-one_more index (Some row) = record { first = row.first; acts = row.acts + 1 }
+abbrev pub one_more_act : ℕ → Option ClientRow → ClientRow
+one_more_act index None = record { first = index; acts = 1 }
+one_more_act index (Some row) = record { first = row.first; acts = row.acts + 1 }
 
 row_after : (o : Option ℕ) (b : Bool) (index acts : ℕ) → (o ≡ None → acts ≡ 0)
-    → option_map (λ i. record { first = i; acts = acts + cond b 1 0 }) (option_or o (cond b (Some index) None)) ≡ cond b (Some (one_more index (option_map (λ i. record { first = i; acts = acts }) o))) (option_map (λ i. record { first = i; acts = acts }) o)
+    → option_map (λ i. record { first = i; acts = acts + cond b 1 0 }) (option_or o (cond b (Some index) None)) ≡ cond b (Some (one_more_act index (option_map (λ i. record { first = i; acts = acts }) o))) (option_map (λ i. record { first = i; acts = acts }) o)
 row_after (Some i) true index acts none = refl
 row_after (Some i) false index acts none = let same : acts + 0 ≡ acts = omega arith in ap (λ (n : ℕ). Some (record { first = i; acts = n })) same
 row_after None true index acts none = let same : acts + 1 ≡ 1 = omega (arith, none refl) in ap (λ (n : ℕ). Some (record { first = index; acts = n })) same
 row_after None false index acts none = refl
 
-pub client_row-push : (book : Book) (e : Entry) (k : List ℕ) → client_row (with_entry book e) k ≡ cond (is_act_of k e) (Some (one_more (size book) (client_row book k))) (client_row book k)
+pub client_row-push : (book : Book) (e : Entry) (k : List ℕ) → client_row (with_entry book e) k ≡ cond (is_act_of k e) (Some (one_more_act (size book) (client_row book k))) (client_row book k)
 unfolding client_row
 client_row-push book e k =
     (λ i. option_map (λ index. record { first = index; acts = count-push (is_act_of k) book.entries e i }) (first-push (is_act_of k) book.entries e i))
@@ -50,9 +50,9 @@ act_is c (Retire group) is = absurd (cc)
 pub clients-same : (book : Book) (e : Entry) (rows : List ClientRow) → ((k : List ℕ) → is_act_of k e ≡ false) → AreClientRows book rows → AreClientRows (with_entry book e) rows
 clients-same book e rows other h =
     index-same (client_of_row book) (client_of_row (with_entry book e)) (λ (row : ClientRow). row.first) (size book) (size (with_entry book e)) (client_row book) (client_row (with_entry book e)) rows
-    (client_of_row-before book e) (omega (arith, size-with_entry book e)) (λ k. client_row-push book e k ∙ ap (λ (b : Bool). cond b (Some (one_more (size book) (client_row book k))) (client_row book k)) (other k)) h
+    (client_of_row-before book e) (omega (arith, size-with_entry book e)) (λ k. client_row-push book e k ∙ ap (λ (b : Bool). cond b (Some (one_more_act (size book) (client_row book k))) (client_row book k)) (other k)) h
 
-act_changes : (book : Book) (e : Entry) (c : List ℕ) → is_act_of c e ≡ true → Changes (client_of_row book) (client_of_row (with_entry book e)) (λ (row : ClientRow). row.first) (size book) (size (with_entry book e)) (client_row book) (client_row (with_entry book e)) c (one_more (size book))
+act_changes : (book : Book) (e : Entry) (c : List ℕ) → is_act_of c e ≡ true → Changes (client_of_row book) (client_of_row (with_entry book e)) (λ (row : ClientRow). row.first) (size book) (size (with_entry book e)) (client_row book) (client_row (with_entry book e)) c (one_more_act (size book))
 unfolding client_of_row
 act_changes book e c is = record {
   same = client_of_row-before book e;
@@ -61,17 +61,17 @@ act_changes book e c is = record {
   keeps = λ row. refl;
   fresh = λ none. ap (λ (o : Option Entry). option_map_or actor o []) (at_end book.entries e) ∙ (act_is c e is).0;
   fresh_within = omega (arith, size-with_entry book e);
-  next = λ q. client_row-push book e q ∙ ap (λ (b : Bool). cond b (Some (one_more (size book) (client_row book q))) (client_row book q)) ((act_is c e is).1 q);
+  next = λ q. client_row-push book e q ∙ ap (λ (b : Bool). cond b (Some (one_more_act (size book) (client_row book q))) (client_row book q)) ((act_is c e is).1 q);
 }
 
 -- an act
-pub act_again : (book : Book) (e : Entry) (c : List ℕ) (rows seen : List ClientRow) (at : ℕ) (row : ClientRow) → is_act_of c e ≡ true → AreClientRows book rows → seen ≡ rows → Settles (client_of_row (with_entry book e)) c seen (Ok at) → row ≡ get_or rows at row
+pub act_again : (book : Book) (e : Entry) (c : List ℕ) (rows seen : List ClientRow) (at : ℕ) (row : ClientRow) → is_act_of c e ≡ true → AreClientRows book rows → seen ≡ rows → IsPositionOf (client_of_row (with_entry book e)) c seen (Ok at) → row ≡ get_or rows at row
     → AreClientRows (with_entry book e) (set rows at (record { first = row.first; acts = row.acts + 1 }))
-act_again book e c rows seen at row is h same there read = index-again _ _ _ _ _ _ _ c (one_more (size book)) rows seen at row (act_changes book e c is) h same there read
+act_again book e c rows seen at row is h same there read = index-again _ _ _ _ _ _ _ c (one_more_act (size book)) rows seen at row (act_changes book e c is) h same there read
 
-pub act_first : (book : Book) (e : Entry) (c : List ℕ) (rows seen : List ClientRow) (at : ℕ) → is_act_of c e ≡ true → AreClientRows book rows → seen ≡ rows → Settles (client_of_row (with_entry book e)) c seen (Err at)
+pub act_first : (book : Book) (e : Entry) (c : List ℕ) (rows seen : List ClientRow) (at : ℕ) → is_act_of c e ≡ true → AreClientRows book rows → seen ≡ rows → IsPositionOf (client_of_row (with_entry book e)) c seen (Err at)
     → AreClientRows (with_entry book e) (take at rows ++ record { first = size book; acts = 1 } ∷ drop at rows)
-act_first book e c rows seen at is h same there = index-first _ _ _ _ _ _ _ c (one_more (size book)) rows seen at (act_changes book e c is) h same there
+act_first book e c rows seen at is h same there = index-first _ _ _ _ _ _ _ c (one_more_act (size book)) rows seen at (act_changes book e c is) h same there
 
 -- a row counts no more acts than there are entries
 pub row_acts : (book : Book) (c : List ℕ) (row : ClientRow) → client_row book c ≡ Some row → row.acts ≤ size book
@@ -82,9 +82,9 @@ row_acts book c row is =
       | Some i ↦ λ h. let all : last c book ≡ row.acts = ap (λ (r : ClientRow). r.acts) (same_Some _ _ h) in omega (arith, count_by-le-length (is_act_of c) book.entries, all)
     ] is
 
-pub acts_bound : (book : Book) (c : List ℕ) (rows seen : List ClientRow) (at : ℕ) (row : ClientRow) → AreClientRows book rows → seen ≡ rows → Settles (client_of_row book) c seen (Ok at) → row ≡ get_or rows at row → row.acts ≤ size book
+pub acts_bound : (book : Book) (c : List ℕ) (rows seen : List ClientRow) (at : ℕ) (row : ClientRow) → AreClientRows book rows → seen ≡ rows → IsPositionOf (client_of_row book) c seen (Ok at) → row ≡ get_or rows at row → row.acts ≤ size book
 acts_bound book c rows seen at row h same found read =
-    let settled = subst (λ (xs : List ClientRow). Settles (client_of_row book) c xs (Ok at)) same found in
+    let settled = subst (λ (xs : List ClientRow). IsPositionOf (client_of_row book) c xs (Ok at)) same found in
     row_acts book c row (sym (h.found c) ∙ settled.found row ∙ ap Some (sym read))
 
 pub none_yet : AreClientRows empty_book []
@@ -149,17 +149,17 @@ no_group c book none =
     ] refl none
 
 -- what a row tells: the group of the act that it names, and the number of its acts
-pub record TellsClient (book : Book) (c : List ℕ) (row : ClientRow) : Type 0 where
+pub record GivesClient (book : Book) (c : List ℕ) (row : ClientRow) : Type 0 where
   pub group : option_and_then acted_in (slice_get book.entries row.first) ≡ group_of c book
   pub acts : row.acts ≡ last c book
   pub bound : row.acts ≤ size book
 
-pub tells_client : (book : Book) (c : List ℕ) (row : ClientRow) → Some row ≡ client_row book c → TellsClient book c row
-tells_client book c row is = record {
+pub gives_client : (book : Book) (c : List ℕ) (row : ClientRow) → Some row ≡ client_row book c → GivesClient book c row
+gives_client book c row is = record {
   group = group_of-found c book (Some row.first) (first_of book c (Some row) is);
   acts = acts_of book c (Some row) is;
   bound = row_acts book c row (sym is);
 }
 
-pub tells_none : (book : Book) (c : List ℕ) → None ≡ client_row book c → (None ≡ group_of c book) × (0 ≡ last c book)
-tells_none book c is = (sym (no_group c book (sym is)), acts_of book c None is)
+pub gives_none : (book : Book) (c : List ℕ) → None ≡ client_row book c → (None ≡ group_of c book) × (0 ≡ last c book)
+gives_none book c is = (sym (no_group c book (sym is)), acts_of book c None is)

@@ -6,7 +6,7 @@ use Rattle.std.specs.Str.{bytes_eq}
 use Rattle.std.proofs.lemmas.List.Folds.{list_any-append}
 use Rattle.std.proofs.lemmas.List.Sums.{count_by-le-length, fold_push}
 use Rattle.std.proofs.lemmas.Option.{same_Some}
-use Rattle.rv_base.specs.Sorted.{Settles}
+use Rattle.rv_base.specs.Sorted.{IsPositionOf}
 use Rattle.rv_book.specs.declared.entry.Entry.{Entry}
 use Rattle.rv_book.specs.declared.entry.Entry.TheVariants.{Act, Look, Retire}
 use Rattle.rv_book.specs.declared.groups.GroupRow.{GroupRow}
@@ -24,17 +24,17 @@ unfolding group_of_row
 group_of_row-before book e row lt = ap (λ (o : Option Entry). option_map_or named_in o []) (sym (at_before book.entries e row.named lt))
 
 -- the row of a group, by the index of an entry that names it
-abbrev pub row_at : Book → List ℕ → ℕ → GroupRow
-row_at book k index = record { named = index; bound = first_where (binds k) book.entries; order = last_order k book; looks = count_by (is_look_of k) book.entries; last_look = last_look k book; retired = retired k book }
+abbrev pub group_row_at : Book → List ℕ → ℕ → GroupRow
+group_row_at book k index = record { named = index; bound = first_where (binds k) book.entries; order = last_order k book; looks = count_by (is_look_of k) book.entries; last_look = last_look k book; retired = retired k book }
 
 -- what an entry leaves as it is where it names another group
-record Leaves (k : List ℕ) (e : Entry) : Type 0 where
+record LeavesGroup (k : List ℕ) (e : Entry) : Type 0 where
   binds : binds k e ≡ false
   order : (before : ℕ) → order_after k before e ≡ before
   looks : is_look_of k e ≡ false
   retires : retires k e ≡ false
 
-leaves : (k : List ℕ) (e : Entry) → names_group k e ≡ false → Leaves k e
+leaves : (k : List ℕ) (e : Entry) → names_group k e ≡ false → LeavesGroup k e
 leaves k (Act user group client id call) h = record { binds = h; order = λ before. refl; looks = refl; retires = refl }
 leaves k (Look user group order base) h = record { binds = h; order = λ before. ap (λ (b : Bool). cond b order before) h; looks = h; retires = refl }
 leaves k (Retire group) h = record { binds = refl; order = λ before. refl; looks = refl; retires = h }
@@ -55,7 +55,7 @@ none_any : (p : Entry → Bool) (entries : List Entry) → AllByRecursion (λ e.
 none_any p [] h = refl
 none_any p (e ∷ entries) h = rw h.0 (none_any p entries h.1)
 
-all_leave : (k : List ℕ) (P : Entry → Type 0) (entries : List Entry) → ((e : Entry) → Leaves k e → P e) → AllByRecursion (λ e. names_group k e ≡ false) entries → AllByRecursion P entries
+all_leave : (k : List ℕ) (P : Entry → Type 0) (entries : List Entry) → ((e : Entry) → LeavesGroup k e → P e) → AllByRecursion (λ e. names_group k e ≡ false) entries → AllByRecursion P entries
 all_leave k P [] each h = tt
 all_leave k P (e ∷ entries) each h = (each e (leaves k e h.0), all_leave k P entries each h.1)
 
@@ -64,7 +64,7 @@ none_order k before [] h = refl
 none_order k before (e ∷ entries) h = ap (λ (n : ℕ). fold (order_after k) n entries) ((leaves k e h.0).order before) ∙ none_order k before entries h.1
 
 -- the row of a group that no entry names
-unnamed : (book : Book) (k : List ℕ) (index : ℕ) → first_where (names_group k) book.entries ≡ None → row_at book k index ≡ new_row index
+unnamed : (book : Book) (k : List ℕ) (index : ℕ) → first_where (names_group k) book.entries ≡ None → group_row_at book k index ≡ new_row index
 unnamed book k index h =
     let all = none_names k book.entries h in
     let w = none_first (binds k) book.entries (all_leave k (λ e. binds k e ≡ false) book.entries (λ e l. l.binds) all) in
@@ -87,7 +87,7 @@ or_none None = refl
 or_none (Some i) = refl
 
 -- the fields after one more entry
-row_at-push : (book : Book) (e : Entry) (k : List ℕ) (index : ℕ) → row_at (with_entry book e) k index
+row_at-push : (book : Book) (e : Entry) (k : List ℕ) (index : ℕ) → group_row_at (with_entry book e) k index
     ≡ record { named = index; bound = option_or (first_where (binds k) book.entries) (cond (binds k e) (Some (size book)) None); order = order_after k (last_order k book) e; looks = count_by (is_look_of k) book.entries + cond (is_look_of k e) 1 0; last_look = cond (is_look_of k e) (Some (size book + 1)) (last_look k book); retired = retired k book || (retires k e || false) }
 row_at-push book e k index =
     let w = first-push (binds k) book.entries e in
@@ -97,7 +97,7 @@ row_at-push book e k index =
     let gone = list_any-append (retires k) book.entries (e ∷ []) in
     (λ i. record { named = index; bound = w i; order = order i; looks = looks i; last_look = last i; retired = gone i })
 
-row_at-same : (book : Book) (e : Entry) (k : List ℕ) (index : ℕ) → names_group k e ≡ false → row_at (with_entry book e) k index ≡ row_at book k index
+row_at-same : (book : Book) (e : Entry) (k : List ℕ) (index : ℕ) → names_group k e ≡ false → group_row_at (with_entry book e) k index ≡ group_row_at book k index
 row_at-same book e k index h =
     let l = leaves k e h in
     let w : option_or (first_where (binds k) book.entries) (cond (binds k e) (Some (size book)) None) ≡ first_where (binds k) book.entries = rw l.binds (or_none (first_where (binds k) book.entries)) in
@@ -106,7 +106,7 @@ row_at-same book e k index h =
     let gone : (retired k book || (retires k e || false)) ≡ retired k book = rw l.retires (or_false (retired k book)) in
     row_at-push book e k index ∙ (λ i. record { named = index; bound = w i; order = l.order (last_order k book) i; looks = looks i; last_look = last i; retired = gone i })
 
-row_at-more : (book : Book) (e : Entry) (k : List ℕ) (index : ℕ) → names_group k e ≡ true → row_at (with_entry book e) k index ≡ row_after (size book) e (row_at book k index)
+row_at-more : (book : Book) (e : Entry) (k : List ℕ) (index : ℕ) → names_group k e ≡ true → group_row_at (with_entry book e) k index ≡ row_after (size book) e (group_row_at book k index)
 row_at-more book (Act user group client id call) k index h =
     let w : option_or (first_where (binds k) book.entries) (cond (bytes_eq group k) (Some (size book)) None) ≡ option_or (first_where (binds k) book.entries) (Some (size book)) = rw h refl in
     let looks : count_by (is_look_of k) book.entries + 0 ≡ count_by (is_look_of k) book.entries = omega arith in
@@ -141,8 +141,8 @@ left_row index e o = row_after index e (unwrap_or o (new_row index))
 group_row-push : (book : Book) (e : Entry) (k : List ℕ) → group_row (with_entry book e) k ≡ cond (names_group k e) (Some (left_row (size book) e (group_row book k))) (group_row book k)
 unfolding group_row
 group_row-push book e k =
-    ap (option_map (row_at (with_entry book e) k)) (first-push (names_group k) book.entries e)
-    ∙ change (first_where (names_group k) book.entries) (names_group k e) (size book) (row_at book k) (row_at (with_entry book e) k) (row_after (size book) e)
+    ap (option_map (group_row_at (with_entry book e) k)) (first-push (names_group k) book.entries e)
+    ∙ change (first_where (names_group k) book.entries) (names_group k e) (size book) (group_row_at book k) (group_row_at (with_entry book e) k) (row_after (size book) e)
     (λ h i. row_at-same book e k i h) (λ h i. row_at-more book e k i h) (λ h. unnamed book k (size book) h)
 
 left_row-named : (index : ℕ) (e : Entry) (row : GroupRow) → (row_after index e row).named ≡ row.named
@@ -164,54 +164,54 @@ enter_changes book e =
       next = λ q. group_row-push book e q ∙ ap (λ (b : Bool). cond b (Some (left_row (size book) e (group_row book q))) (group_row book q)) (bytes_eq_back (named_in e) q);
     }
 
-pub enter_again : (book : Book) (e : Entry) (k : List ℕ) (rows seen : List GroupRow) (at : ℕ) (row left : GroupRow) → k ≡ named_in e → AreGroupRows book rows → seen ≡ rows → Settles (group_of_row (with_entry book e)) k seen (Ok at) → row ≡ get_or rows at row → left ≡ row_after (size book) e row
+pub enter_again : (book : Book) (e : Entry) (k : List ℕ) (rows seen : List GroupRow) (at : ℕ) (row left : GroupRow) → k ≡ named_in e → AreGroupRows book rows → seen ≡ rows → IsPositionOf (group_of_row (with_entry book e)) k seen (Ok at) → row ≡ get_or rows at row → left ≡ row_after (size book) e row
     → AreGroupRows (with_entry book e) (set rows at left)
 enter_again book e k rows seen at row left is h same there read after =
-    let settled = subst (λ (t : List ℕ). Settles (group_of_row (with_entry book e)) t seen (Ok at)) is there in
+    let settled = subst (λ (t : List ℕ). IsPositionOf (group_of_row (with_entry book e)) t seen (Ok at)) is there in
     subst (λ (r : GroupRow). AreGroupRows (with_entry book e) (set rows at r)) (sym after) (index-again _ _ _ _ _ _ _ (named_in e) (left_row (size book) e) rows seen at row (enter_changes book e) h same settled read)
 
-pub enter_first : (book : Book) (e : Entry) (k : List ℕ) (rows seen : List GroupRow) (at : ℕ) (row left : GroupRow) → k ≡ named_in e → AreGroupRows book rows → seen ≡ rows → Settles (group_of_row (with_entry book e)) k seen (Err at) → row ≡ new_row (size book) → left ≡ row_after (size book) e row
+pub enter_first : (book : Book) (e : Entry) (k : List ℕ) (rows seen : List GroupRow) (at : ℕ) (row left : GroupRow) → k ≡ named_in e → AreGroupRows book rows → seen ≡ rows → IsPositionOf (group_of_row (with_entry book e)) k seen (Err at) → row ≡ new_row (size book) → left ≡ row_after (size book) e row
     → AreGroupRows (with_entry book e) (take at rows ++ left ∷ drop at rows)
 enter_first book e k rows seen at row left is h same there new after =
-    let settled = subst (λ (t : List ℕ). Settles (group_of_row (with_entry book e)) t seen (Err at)) is there in
+    let settled = subst (λ (t : List ℕ). IsPositionOf (group_of_row (with_entry book e)) t seen (Err at)) is there in
     subst (λ (r : GroupRow). AreGroupRows (with_entry book e) (take at rows ++ r ∷ drop at rows)) (sym (after ∙ ap (row_after (size book) e) new)) (index-first _ _ _ _ _ _ _ (named_in e) (left_row (size book) e) rows seen at (enter_changes book e) h same settled)
 
 pub none_named : AreGroupRows empty_book []
 unfolding group_row
 none_named = record { order = tt; within = tt; found = λ k. refl }
 
--- what a row tells of its group, and what a new row tells of a group that no entry names
-pub record Tells (book : Book) (k : List ℕ) (row : GroupRow) : Type 0 where
+-- what a row says of its group, and what a new row says of a group that no entry names
+pub record GivesGroup (book : Book) (k : List ℕ) (row : GroupRow) : Type 0 where
   pub bound : row.bound ≡ first_where (binds k) book.entries
   pub order : row.order ≡ last_order k book
   pub looks : row.looks ≡ count_by (is_look_of k) book.entries
   pub last_look : row.last_look ≡ last_look k book
   pub retired : row.retired ≡ retired k book
 
-tells : (book : Book) (k : List ℕ) (index : ℕ) (row : GroupRow) → row_at book k index ≡ row → Tells book k row
-tells book k index row is = record { bound = sym (ap (λ (r : GroupRow). r.bound) is); order = sym (ap (λ (r : GroupRow). r.order) is); looks = sym (ap (λ (r : GroupRow). r.looks) is); last_look = sym (ap (λ (r : GroupRow). r.last_look) is); retired = sym (ap (λ (r : GroupRow). r.retired) is) }
+gives : (book : Book) (k : List ℕ) (index : ℕ) (row : GroupRow) → group_row_at book k index ≡ row → GivesGroup book k row
+gives book k index row is = record { bound = sym (ap (λ (r : GroupRow). r.bound) is); order = sym (ap (λ (r : GroupRow). r.order) is); looks = sym (ap (λ (r : GroupRow). r.looks) is); last_look = sym (ap (λ (r : GroupRow). r.last_look) is); retired = sym (ap (λ (r : GroupRow). r.retired) is) }
 
-pub row_tells : (book : Book) (k : List ℕ) (row : GroupRow) → Some row ≡ group_row book k → Tells book k row
+pub row_gives : (book : Book) (k : List ℕ) (row : GroupRow) → Some row ≡ group_row book k → GivesGroup book k row
 unfolding group_row
-row_tells book k row is =
-    elim (first_where (names_group k) book.entries) as (λ o. Some row ≡ option_map (row_at book k) o → Tells book k row) [
+row_gives book k row is =
+    elim (first_where (names_group k) book.entries) as (λ o. Some row ≡ option_map (group_row_at book k) o → GivesGroup book k row) [
       | None ↦ λ f. absurd (cc)
-      | Some i ↦ λ f. tells book k i row (same_Some (row_at book k i) row (sym f))
+      | Some i ↦ λ f. gives book k i row (same_Some (group_row_at book k i) row (sym f))
     ] is
 
-pub none_tells : (book : Book) (k : List ℕ) (index : ℕ) → None ≡ group_row book k → Tells book k (new_row index)
+pub none_gives : (book : Book) (k : List ℕ) (index : ℕ) → None ≡ group_row book k → GivesGroup book k (new_row index)
 unfolding group_row
-none_tells book k index is =
-    elim (first_where (names_group k) book.entries) as (λ o. first_where (names_group k) book.entries ≡ o → None ≡ option_map (row_at book k) o → Tells book k (new_row index)) [
-      | None ↦ λ e f. tells book k index (new_row index) (unnamed book k index e)
+none_gives book k index is =
+    elim (first_where (names_group k) book.entries) as (λ o. first_where (names_group k) book.entries ≡ o → None ≡ option_map (group_row_at book k) o → GivesGroup book k (new_row index)) [
+      | None ↦ λ e f. gives book k index (new_row index) (unnamed book k index e)
       | Some i ↦ λ e f. absurd (cc)
     ] refl is
 
 -- a row counts no more looks than there are entries
-pub looks_bound : (book : Book) (k : List ℕ) (rows seen : List GroupRow) (at : ℕ) (row : GroupRow) → AreGroupRows book rows → seen ≡ rows → Settles (group_of_row book) k seen (Ok at) → row ≡ get_or rows at row → row.looks ≤ size book
+pub looks_bound : (book : Book) (k : List ℕ) (rows seen : List GroupRow) (at : ℕ) (row : GroupRow) → AreGroupRows book rows → seen ≡ rows → IsPositionOf (group_of_row book) k seen (Ok at) → row ≡ get_or rows at row → row.looks ≤ size book
 looks_bound book k rows seen at row h same there read =
-    let settled = subst (λ (xs : List GroupRow). Settles (group_of_row book) k xs (Ok at)) same there in
-    omega (arith, (row_tells book k row (ap Some read ∙ sym (settled.found row) ∙ h.found k)).looks, count_by-le-length (is_look_of k) book.entries)
+    let settled = subst (λ (xs : List GroupRow). IsPositionOf (group_of_row book) k xs (Ok at)) same there in
+    omega (arith, (row_gives book k row (ap Some read ∙ sym (settled.found row) ∙ h.found k)).looks, count_by-le-length (is_look_of k) book.entries)
 
 -- the user of a group is that of its first act or look
 bound-first : (k : List ℕ) (entries : List Entry) → bound_in k entries ≡ option_and_then (λ i. option_and_then user_of (slice_get entries i)) (first_where (binds k) entries)

@@ -8,7 +8,7 @@ use Rattle.std.proofs.lemmas.List.Elements.{filter_map-append}
 use Rattle.std.proofs.lemmas.Option.{none-some, same_Some}
 use Rattle.std.proofs.lemmas.Slice.Eq.{bytes_eq-Decides}
 use Rattle.rv_base.specs.Sorted.{find_by, put_by, InOrder}
-use Rattle.rv_base.specs.Places.{Above, equals, differs_back, in_order-sorted, in_order-filter, found-sorted, all-put}
+use Rattle.rv_base.specs.Positions.{Above, equals, differs_back, in_order-sorted, in_order-filter, found-sorted, all-put}
 use Rattle.rv_base.specs.Arranged.{in_order-same, find-map}
 use Rattle.rv_book.specs.declared.entry.Entry.{Entry}
 use Rattle.rv_book.specs.declared.entry.Entry.TheVariants.{Act, Look, Retire}
@@ -16,7 +16,7 @@ use Rattle.rv_book.specs.declared.clients.ClientRow.{ClientRow}
 use Rattle.rv_book.specs.Entries.{is_act_of, group_of_in}
 use Rattle.rv_book.specs.Book.{Book, last, group_of, belongs, client_in, ids}
 use Rattle.rv_book.specs.Indexes.{first_where, actor, client_of_row, row_from, client_row}
-use Rattle.rv_book.specs.Members.{member_key, client_of_key, acting_client, group_of_member, key_of_member, is_member, told_by, row_with_key, member_row, AreMemberRows}
+use Rattle.rv_book.specs.Members.{member_key, client_of_key, acting_client, group_of_member, key_of_member, is_member, info_by, row_with_key, member_row, AreMemberRows}
 use Rattle.rv_book.proofs.IndexLaws.{bytes_eq_back, found_key, found_all}
 use Rattle.rv_book.proofs.ClientLaws.{act_is, no_group}
 use Rattle.rv_book.proofs.MemberKeys.{same-member_key, client-member_key, in_order-group}
@@ -109,24 +109,24 @@ first_at p (x ∷ entries) i h =
     ] refl h
 
 -- the row of a client names an act of it, and tells its last mutation id
-act_told : (c : List ℕ) (acts : ℕ) (e : Entry) → is_act_of c e ≡ true → option_map {U = Pair} (λ client. (client, acts)) (acting_client e) ≡ Some (actor e, acts)
-act_told c acts (Act user group client id call) is = refl
-act_told c acts (Look user group order base) is = absurd (cc)
-act_told c acts (Retire group) is = absurd (cc)
+act_info : (c : List ℕ) (acts : ℕ) (e : Entry) → is_act_of c e ≡ true → option_map {U = Pair} (λ client. (client, acts)) (acting_client e) ≡ Some (actor e, acts)
+act_info c acts (Act user group client id call) is = refl
+act_info c acts (Look user group order base) is = absurd (cc)
+act_info c acts (Retire group) is = absurd (cc)
 
-row_names : (c : List ℕ) (book : Book) (row : ClientRow) → client_row book c ≡ Some row → (told_by book row ≡ Some (pair_of book row)) × (pair_of book row ≡ (c, last c book))
+row_names : (c : List ℕ) (book : Book) (row : ClientRow) → client_row book c ≡ Some row → (info_by book row ≡ Some (pair_of book row)) × (pair_of book row ≡ (c, last c book))
 unfolding client_row client_of_row
 row_names c book row is =
-    elim (first_where (is_act_of c) book.entries) as (λ o. first_where (is_act_of c) book.entries ≡ o → option_map (row_from book c) o ≡ Some row → (told_by book row ≡ Some (pair_of book row)) × (pair_of book row ≡ (c, last c book))) [
+    elim (first_where (is_act_of c) book.entries) as (λ o. first_where (is_act_of c) book.entries ≡ o → option_map (row_from book c) o ≡ Some row → (info_by book row ≡ Some (pair_of book row)) × (pair_of book row ≡ (c, last c book))) [
       | None ↦ λ e h. absurd (cc)
-      | Some i ↦ λ e h. subst (λ (r : ClientRow). (told_by book r ≡ Some (pair_of book r)) × (pair_of book r ≡ (c, last c book))) (same_Some (row_from book c i) row h) (told i (first_at (is_act_of c) book.entries i e))
+      | Some i ↦ λ e h. subst (λ (r : ClientRow). (info_by book r ≡ Some (pair_of book r)) × (pair_of book r ≡ (c, last c book))) (same_Some (row_from book c i) row h) (info i (first_at (is_act_of c) book.entries i e))
     ] refl is
   where
-    told : (i : ℕ) → (e : Entry) × (slice_get book.entries i ≡ Some e) × (is_act_of c e ≡ true) → (told_by book (row_from book c i) ≡ Some (pair_of book (row_from book c i))) × (pair_of book (row_from book c i) ≡ (c, last c book))
-    told i there =
+    info : (i : ℕ) → (e : Entry) × (slice_get book.entries i ≡ Some e) × (is_act_of c e ≡ true) → (info_by book (row_from book c i) ≡ Some (pair_of book (row_from book c i))) × (pair_of book (row_from book c i) ≡ (c, last c book))
+    info i there =
         let acts = last c book in
         let actor_is : option_map_or actor (slice_get book.entries i) [] ≡ actor there.0 = ap (λ (o : Option Entry). option_map_or actor o []) there.1 in (
-          ap (λ (o : Option Entry). option_map {U = Pair} (λ client. (client, acts)) (option_and_then acting_client o)) there.1 ∙ act_told c acts there.0 there.2 ∙ (λ j. Some (sym actor_is j, acts)),
+          ap (λ (o : Option Entry). option_map {U = Pair} (λ client. (client, acts)) (option_and_then acting_client o)) there.1 ∙ act_info c acts there.0 there.2 ∙ (λ j. Some (sym actor_is j, acts)),
           (λ j. ((actor_is ∙ (act_is c there.0 there.2).0) j, acts)),
         )
 
@@ -152,24 +152,24 @@ all_pass p [] = tt
 all_pass p (x ∷ xs) = elim (p x) as (λ b. p x ≡ b → AllByRecursion (λ x. p x ≡ true) (cond b (x ∷ filter p xs) (filter p xs))) [ true ↦ λ e. (e, all_pass p xs) | false ↦ λ e. all_pass p xs ] refl
 
 -- each row by group is that of its client
-member_told : (book : Book) (rows : List ClientRow) → AreMemberRows book rows → AllByRecursion (λ row. told_by book row ≡ Some (pair_of book row)) rows
+member_info : (book : Book) (rows : List ClientRow) → AreMemberRows book rows → AllByRecursion (λ row. info_by book row ≡ Some (pair_of book row)) rows
 unfolding member_row
-member_told book rows h = all_weaker _ _ rows (λ row found. told row (sym (h.found (key_of_member book row)) ∙ found)) (finds_itself (key_of_member book) rows h.order)
+member_info book rows h = all_weaker _ _ rows (λ row found. info row (sym (h.found (key_of_member book row)) ∙ found)) (finds_itself (key_of_member book) rows h.order)
   where
-    of_client : (c : List ℕ) (row : ClientRow) (b : Bool) → cond b (client_row book c) None ≡ Some row → told_by book row ≡ Some (pair_of book row)
+    of_client : (c : List ℕ) (row : ClientRow) (b : Bool) → cond b (client_row book c) None ≡ Some row → info_by book row ≡ Some (pair_of book row)
     of_client c row true is = (row_names c book row is).0
     of_client c row false is = absurd (none-some row is)
 
-    go : (k c : List ℕ) (row : ClientRow) (o : Option (List ℕ)) → option_and_then (λ g. cond (bytes_eq k (member_key g c)) (client_row book c) None) o ≡ Some row → told_by book row ≡ Some (pair_of book row)
+    go : (k c : List ℕ) (row : ClientRow) (o : Option (List ℕ)) → option_and_then (λ g. cond (bytes_eq k (member_key g c)) (client_row book c) None) o ≡ Some row → info_by book row ≡ Some (pair_of book row)
     go k c row None is = absurd (none-some row is)
     go k c row (Some g) is = of_client c row (bytes_eq k (member_key g c)) is
 
-    told : (row : ClientRow) → row_with_key (key_of_member book row) book (client_of_key (key_of_member book row)) ≡ Some row → told_by book row ≡ Some (pair_of book row)
-    told row is = go (key_of_member book row) (client_of_key (key_of_member book row)) row (group_of (client_of_key (key_of_member book row)) book) is
+    info : (row : ClientRow) → row_with_key (key_of_member book row) book (client_of_key (key_of_member book row)) ≡ Some row → info_by book row ≡ Some (pair_of book row)
+    info row is = go (key_of_member book row) (client_of_key (key_of_member book row)) row (group_of (client_of_key (key_of_member book row)) book) is
 
-filter_map-told : {X Y : Type 0} (h : X → Option Y) (f : X → Y) (xs : List X) → AllByRecursion (λ x. h x ≡ Some (f x)) xs → filter_map h xs ≡ map f xs
-filter_map-told h f [] all = refl
-filter_map-told h f (x ∷ xs) all = ap (λ o. cons_option o (filter_map h xs)) all.0 ∙ ap (λ ys. f x ∷ ys) (filter_map-told h f xs all.1)
+filter_map-info : {X Y : Type 0} (h : X → Option Y) (f : X → Y) (xs : List X) → AllByRecursion (λ x. h x ≡ Some (f x)) xs → filter_map h xs ≡ map f xs
+filter_map-info h f [] all = refl
+filter_map-info h f (x ∷ xs) all = ap (λ o. cons_option o (filter_map h xs)) all.0 ∙ ap (λ ys. f x ∷ ys) (filter_map-info h f xs all.1)
 
 above-view : {X Y : Type 0} (key : X → List ℕ) (view : Y → X) (k : List ℕ) (ys : List Y) → Above (λ y. key (view y)) k ys → Above key k (map view ys)
 above-view key view k [] h = tt
@@ -198,7 +198,7 @@ row_found k group book =
     ap (λ (c : List ℕ). option_map (pair_of book) (row_with_key (member_key group k) book c)) (client-member_key group k)
     ∙ (elim (group_of k book) as (λ o. group_of k book ≡ o → option_map (pair_of book) (option_and_then (λ g. cond (bytes_eq (member_key group k) (member_key g k)) (client_row book k) None) o) ≡ cond (option_map_or (λ other. bytes_eq other group) o false) (Some (k, last k book)) None) [
       | None ↦ λ e. refl
-      | Some g ↦ λ e. ap (λ (b : Bool). option_map (pair_of book) (cond b (client_row book k) None)) (same g) ∙ told g e (bytes_eq g group)
+      | Some g ↦ λ e. ap (λ (b : Bool). option_map (pair_of book) (cond b (client_row book k) None)) (same g) ∙ info g e (bytes_eq g group)
     ] refl)
   where
     and_true : (b : Bool) → (b && true) ≡ b
@@ -215,13 +215,13 @@ row_found k group book =
           | Some row ↦ λ f. ap Some (row_names k book row f).1
         ] refl
 
-    told : (g : List ℕ) → group_of k book ≡ Some g → (b : Bool) → option_map (pair_of book) (cond b (client_row book k) None) ≡ cond b (Some (k, last k book)) None
-    told g e true = has_row g e
-    told g e false = refl
+    info : (g : List ℕ) → group_of k book ≡ Some g → (b : Bool) → option_map (pair_of book) (cond b (client_row book k) None) ≡ cond b (Some (k, last k book)) None
+    info g e true = has_row g e
+    info g e false = refl
 
-pub ids-members : (group : List ℕ) (book : Book) (rows : List ClientRow) → AreMemberRows book rows → filter_map (told_by book) (filter (is_member group book) rows) ≡ ids group book
+pub ids-members : (group : List ℕ) (book : Book) (rows : List ClientRow) → AreMemberRows book rows → filter_map (info_by book) (filter (is_member group book) rows) ≡ ids group book
 ids-members group book rows h =
-    filter_map-told (told_by book) (pair_of book) kept (all-filter _ (is_member group book) rows (member_told book rows h))
+    filter_map-info (info_by book) (pair_of book) kept (all-filter _ (is_member group book) rows (member_info book rows h))
     ∙ in_order-same first (map (pair_of book) kept) (ids group book) (in_order-view first (pair_of book) kept order) (in_order-sorted first (filter_map (client_in group book) book.entries)) same
   where
     kept : List ClientRow

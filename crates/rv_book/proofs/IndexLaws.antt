@@ -8,8 +8,8 @@ use Rattle.std.specs.List.{AllByRecursion}
 use Rattle.std.specs.List.Sorted.{IsBinarySearchResult, IsSearchInRange}
 use Rattle.std.proofs.lemmas.Slice.Eq.{bytes_eq-Decides}
 use Rattle.std.proofs.lemmas.Option.{none-some, same_Some}
-use Rattle.rv_base.specs.Sorted.{find_by, put_by, InOrder, Settles}
-use Rattle.rv_base.specs.Places.{Below, Above, equals, not_same, in_order-put, find_put, all-put, settles}
+use Rattle.rv_base.specs.Sorted.{find_by, put_by, InOrder, IsPositionOf}
+use Rattle.rv_base.specs.Positions.{Below, Above, equals, not_same, in_order-put, find_put, all-put, settles}
 use Rattle.rv_book.specs.Indexes.{IsIndex}
 
 pub bytes_eq_back : (a b : List ℕ) → bytes_eq a b ≡ bytes_eq b a
@@ -42,7 +42,7 @@ module _ {X : Type 0} (key other : X → List ℕ) where
   alike_at (x ∷ xs) (suc j) d lt same = alike_at xs j d (omega arith) same.1
 
   -- what a search by one of the two found, by the other
-  pub settles-alike : (k : List ℕ) (xs : List X) (r : Result ℕ ℕ) → Alike xs → InOrder key xs → IsSearchInRange r (length xs) → IsBinarySearchResult (λ y. slice_cmp nat_cmp (key y) k) xs r → Settles other k xs r
+  pub settles-alike : (k : List ℕ) (xs : List X) (r : Result ℕ ℕ) → Alike xs → InOrder key xs → IsSearchInRange r (length xs) → IsBinarySearchResult (λ y. slice_cmp nat_cmp (key y) k) xs r → IsPositionOf other k xs r
   settles-alike k xs (Ok i) same sorted lt at =
       settles other k xs (Ok i) (in_order-alike xs same sorted) lt (λ d. subst (λ (t : List ℕ). slice_cmp nat_cmp t k ≡ Equal) (alike_at xs i d lt same) (at d))
   settles-alike k xs (Err i) same sorted le parted =
@@ -135,10 +135,10 @@ module _ {X : Type 0} (key other : X → List ℕ) (named : X → ℕ) (count mo
           ] refl
 
   -- the key has a row
-  pub index-again : (k : List ℕ) (left : Option X → X) (rows seen : List X) (at : ℕ) (row : X) → Changes k left → IsIndex key named count row_of rows → seen ≡ rows → Settles other k seen (Ok at) → row ≡ get_or rows at row
+  pub index-again : (k : List ℕ) (left : Option X → X) (rows seen : List X) (at : ℕ) (row : X) → Changes k left → IsIndex key named count row_of rows → seen ≡ rows → IsPositionOf other k seen (Ok at) → row ≡ get_or rows at row
       → IsIndex other named more next_of (set rows at (left (Some row)))
   index-again k left rows seen at row w h same there read =
-      let settled = subst (λ (xs : List X). Settles other k xs (Ok at)) same there in
+      let settled = subst (λ (xs : List X). IsPositionOf other k xs (Ok at)) same there in
       let found : find_by other k rows ≡ Some row = settled.found row ∙ ap Some (sym read) in
       let was : row_of k ≡ Some row = sym (found_before k rows w.same h) ∙ found in
       let is : other (left (Some row)) ≡ k = w.by_name (left (Some row)) row (w.keeps row) ∙ found_key other k row rows found in
@@ -146,10 +146,10 @@ module _ {X : Type 0} (key other : X → List ℕ) (named : X → ℕ) (count mo
       subst (IsIndex other named more next_of) (settled.written (left (Some row)) is) (changed k left (Some row) rows w was is (omega (arith, w.keeps row, lt)) h)
 
   -- the key has no row yet
-  pub index-first : (k : List ℕ) (left : Option X → X) (rows seen : List X) (at : ℕ) → Changes k left → IsIndex key named count row_of rows → seen ≡ rows → Settles other k seen (Err at)
+  pub index-first : (k : List ℕ) (left : Option X → X) (rows seen : List X) (at : ℕ) → Changes k left → IsIndex key named count row_of rows → seen ≡ rows → IsPositionOf other k seen (Err at)
       → IsIndex other named more next_of (take at rows ++ left None ∷ drop at rows)
   index-first k left rows seen at w h same there =
-      let settled = subst (λ (xs : List X). Settles other k xs (Err at)) same there in
+      let settled = subst (λ (xs : List X). IsPositionOf other k xs (Err at)) same there in
       let was : row_of k ≡ None = sym (found_before k rows w.same h) ∙ settled.absent in
       let is : other (left None) ≡ k = w.fresh was in
       subst (IsIndex other named more next_of) (settled.inserted (left None) is) (changed k left None rows w was is w.fresh_within h)

@@ -7,5 +7,5 @@ pub mod IdLaws
 pub mod MemberKeys
 pub mod MemberLaws
 pub mod LookBack
-pub mod RowsTold
-pub mod ToldLaws
+pub mod RowsInfo
+pub mod InfoLaws

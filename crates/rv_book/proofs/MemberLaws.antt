@@ -5,8 +5,8 @@ use Rattle.std.specs.Option.{option_or, option_map_or, option_and_then}
 use Rattle.std.specs.Str.{bytes_eq}
 use Rattle.std.proofs.lemmas.Slice.Eq.{bytes_eq-Decides}
 use Rattle.std.proofs.lemmas.Option.{none-some, same_Some}
-use Rattle.rv_base.specs.Sorted.{Settles}
-use Rattle.rv_base.specs.Places.{equals}
+use Rattle.rv_base.specs.Sorted.{IsPositionOf}
+use Rattle.rv_base.specs.Positions.{equals}
 use Rattle.rv_book.specs.declared.entry.Entry.{Entry}
 use Rattle.rv_book.specs.declared.clients.ClientRow.{ClientRow}
 use Rattle.rv_book.specs.Entries.{is_act_of}
@@ -16,7 +16,7 @@ use Rattle.rv_book.specs.RegisterLaws.{group_of_in-push}
 use Rattle.rv_book.specs.Indexes.{actor, client_of_row, client_row}
 use Rattle.rv_book.specs.Members.{member_key, client_of_key, acting_group, group_of_member, key_of_member, row_with_key, member_row, AreMemberRows}
 use Rattle.rv_book.proofs.IndexLaws.{index-same, index-again, index-first, Changes}
-use Rattle.rv_book.proofs.ClientLaws.{client_of_row-before, act_is, one_more, client_row-push, no_row, no_group, row_acts}
+use Rattle.rv_book.proofs.ClientLaws.{client_of_row-before, act_is, one_more_act, client_row-push, no_row, no_group, row_acts}
 use Rattle.rv_book.proofs.MemberKeys.{client-member_key}
 
 pub key-before : (book : Book) (e : Entry) (row : ClientRow) → row.first < size book → key_of_member book row ≡ key_of_member (with_entry book e) row
@@ -36,7 +36,7 @@ or_none (Some x) = refl
 same_row : (book : Book) (e : Entry) (k c : List ℕ) → is_act_of c e ≡ false → row_with_key k (with_entry book e) c ≡ row_with_key k book c
 same_row book e k c other =
     let group : group_of c (with_entry book e) ≡ group_of c book = group_of_in-push c book.entries e ∙ ap (λ (b : Bool). option_or (group_of c book) (cond b (Some (acting_group e)) None)) other ∙ or_none (group_of c book) in
-    let row : client_row (with_entry book e) c ≡ client_row book c = client_row-push book e c ∙ ap (λ (b : Bool). cond b (Some (one_more (size book) (client_row book c))) (client_row book c)) other in
+    let row : client_row (with_entry book e) c ≡ client_row book c = client_row-push book e c ∙ ap (λ (b : Bool). cond b (Some (one_more_act (size book) (client_row book c))) (client_row book c)) other in
     (λ i. option_and_then (λ g. cond (bytes_eq k (member_key g c)) (row i) None) (group i))
 
 -- an entry that is no act
@@ -53,20 +53,20 @@ keeps_group c book e was now before after =
 
 -- the row of the client of an act
 more_row : (book : Book) (e : Entry) (k c g : List ℕ) → is_act_of c e ≡ true → group_of c (with_entry book e) ≡ Some g
-    → row_with_key k (with_entry book e) c ≡ cond (bytes_eq k (member_key g c)) (Some (one_more (size book) (row_with_key k book c))) (row_with_key k book c)
+    → row_with_key k (with_entry book e) c ≡ cond (bytes_eq k (member_key g c)) (Some (one_more_act (size book) (row_with_key k book c))) (row_with_key k book c)
 more_row book e k c g is now =
     (λ i. option_and_then (λ g. cond (bytes_eq k (member_key g c)) (row i) None) (now i))
-    ∙ (elim (group_of c book) as (λ o. group_of c book ≡ o → cond (bytes_eq k (member_key g c)) (Some (one_more (size book) (client_row book c))) None
-    ≡ (let before : Option ClientRow = option_and_then (λ g. cond (bytes_eq k (member_key g c)) (client_row book c) None) o in cond (bytes_eq k (member_key g c)) (Some (one_more (size book) before)) before)) [
-      | None ↦ λ f. ap (λ (o : Option ClientRow). cond (bytes_eq k (member_key g c)) (Some (one_more (size book) o)) None) (no_row c book f)
-      | Some was ↦ λ f. subst (λ (w : List ℕ). cond (bytes_eq k (member_key g c)) (Some (one_more (size book) (client_row book c))) None
-          ≡ (let before : Option ClientRow = cond (bytes_eq k (member_key w c)) (client_row book c) None in cond (bytes_eq k (member_key g c)) (Some (one_more (size book) before)) before)) (sym (keeps_group c book e was g f now)) (each (bytes_eq k (member_key g c)))
+    ∙ (elim (group_of c book) as (λ o. group_of c book ≡ o → cond (bytes_eq k (member_key g c)) (Some (one_more_act (size book) (client_row book c))) None
+    ≡ (let before : Option ClientRow = option_and_then (λ g. cond (bytes_eq k (member_key g c)) (client_row book c) None) o in cond (bytes_eq k (member_key g c)) (Some (one_more_act (size book) before)) before)) [
+      | None ↦ λ f. ap (λ (o : Option ClientRow). cond (bytes_eq k (member_key g c)) (Some (one_more_act (size book) o)) None) (no_row c book f)
+      | Some was ↦ λ f. subst (λ (w : List ℕ). cond (bytes_eq k (member_key g c)) (Some (one_more_act (size book) (client_row book c))) None
+          ≡ (let before : Option ClientRow = cond (bytes_eq k (member_key w c)) (client_row book c) None in cond (bytes_eq k (member_key g c)) (Some (one_more_act (size book) before)) before)) (sym (keeps_group c book e was g f now)) (each (bytes_eq k (member_key g c)))
     ] refl)
   where
-    row : client_row (with_entry book e) c ≡ Some (one_more (size book) (client_row book c))
-    row = client_row-push book e c ∙ ap (λ (b : Bool). cond b (Some (one_more (size book) (client_row book c))) (client_row book c)) is
+    row : client_row (with_entry book e) c ≡ Some (one_more_act (size book) (client_row book c))
+    row = client_row-push book e c ∙ ap (λ (b : Bool). cond b (Some (one_more_act (size book) (client_row book c))) (client_row book c)) is
 
-    each : (b : Bool) → cond b (Some (one_more (size book) (client_row book c))) None ≡ (let before : Option ClientRow = cond b (client_row book c) None in cond b (Some (one_more (size book) before)) before)
+    each : (b : Bool) → cond b (Some (one_more_act (size book) (client_row book c))) None ≡ (let before : Option ClientRow = cond b (client_row book c) None in cond b (Some (one_more_act (size book) before)) before)
     each true = refl
     each false = refl
 
@@ -87,12 +87,12 @@ own_group book e c g is now none =
     ] refl
 
 next_row : (book : Book) (e : Entry) (c g : List ℕ) (q : List ℕ) → is_act_of c e ≡ true → group_of c (with_entry book e) ≡ Some g
-    → member_row (with_entry book e) q ≡ cond (bytes_eq q (member_key g c)) (Some (one_more (size book) (member_row book q))) (member_row book q)
+    → member_row (with_entry book e) q ≡ cond (bytes_eq q (member_key g c)) (Some (one_more_act (size book) (member_row book q))) (member_row book q)
 unfolding member_row
 next_row book e c g q is now =
-    elim (bytes_eq (client_of_key q) c) as (λ b. bytes_eq (client_of_key q) c ≡ b → row_with_key q (with_entry book e) (client_of_key q) ≡ cond (bytes_eq q (member_key g c)) (Some (one_more (size book) (row_with_key q book (client_of_key q)))) (row_with_key q book (client_of_key q))) [
-      | true ↦ λ f. subst (λ (t : List ℕ). row_with_key q (with_entry book e) t ≡ cond (bytes_eq q (member_key g c)) (Some (one_more (size book) (row_with_key q book t))) (row_with_key q book t)) (sym ((bytes_eq-Decides (client_of_key q) c).0 f)) (more_row book e q c g is now)
-      | false ↦ λ f. same_row book e q (client_of_key q) ((act_is c e is).1 (client_of_key q) ∙ f) ∙ ap (λ (b : Bool). cond b (Some (one_more (size book) (row_with_key q book (client_of_key q)))) (row_with_key q book (client_of_key q))) (sym (apart f))
+    elim (bytes_eq (client_of_key q) c) as (λ b. bytes_eq (client_of_key q) c ≡ b → row_with_key q (with_entry book e) (client_of_key q) ≡ cond (bytes_eq q (member_key g c)) (Some (one_more_act (size book) (row_with_key q book (client_of_key q)))) (row_with_key q book (client_of_key q))) [
+      | true ↦ λ f. subst (λ (t : List ℕ). row_with_key q (with_entry book e) t ≡ cond (bytes_eq q (member_key g c)) (Some (one_more_act (size book) (row_with_key q book t))) (row_with_key q book t)) (sym ((bytes_eq-Decides (client_of_key q) c).0 f)) (more_row book e q c g is now)
+      | false ↦ λ f. same_row book e q (client_of_key q) ((act_is c e is).1 (client_of_key q) ∙ f) ∙ ap (λ (b : Bool). cond b (Some (one_more_act (size book) (row_with_key q book (client_of_key q)))) (row_with_key q book (client_of_key q))) (sym (apart f))
     ] refl
   where
     apart : bytes_eq (client_of_key q) c ≡ false → bytes_eq q (member_key g c) ≡ false
@@ -105,7 +105,7 @@ next_row book e c g q is now =
         ] refl
 
 member_changes : (book : Book) (e : Entry) (c g : List ℕ) → is_act_of c e ≡ true → group_of c (with_entry book e) ≡ Some g
-    → Changes (key_of_member book) (key_of_member (with_entry book e)) (λ (row : ClientRow). row.first) (size book) (size (with_entry book e)) (member_row book) (member_row (with_entry book e)) (member_key g c) (one_more (size book))
+    → Changes (key_of_member book) (key_of_member (with_entry book e)) (λ (row : ClientRow). row.first) (size book) (size (with_entry book e)) (member_row book) (member_row (with_entry book e)) (member_key g c) (one_more_act (size book))
 unfolding group_of_member client_of_row
 member_changes book e c g is now = record {
   same = key-before book e;
@@ -119,18 +119,18 @@ member_changes book e c g is now = record {
 
 -- an act
 pub member_again : (book : Book) (e : Entry) (c g : List ℕ) (rows seen : List ClientRow) (at : ℕ) (row : ClientRow) → is_act_of c e ≡ true → group_of c (with_entry book e) ≡ Some g → AreMemberRows book rows → seen ≡ rows
-    → Settles (key_of_member (with_entry book e)) (member_key g c) seen (Ok at) → row ≡ get_or rows at row → AreMemberRows (with_entry book e) (set rows at (record { first = row.first; acts = row.acts + 1 }))
-member_again book e c g rows seen at row is now h same there read = index-again _ _ _ _ _ _ _ (member_key g c) (one_more (size book)) rows seen at row (member_changes book e c g is now) h same there read
+    → IsPositionOf (key_of_member (with_entry book e)) (member_key g c) seen (Ok at) → row ≡ get_or rows at row → AreMemberRows (with_entry book e) (set rows at (record { first = row.first; acts = row.acts + 1 }))
+member_again book e c g rows seen at row is now h same there read = index-again _ _ _ _ _ _ _ (member_key g c) (one_more_act (size book)) rows seen at row (member_changes book e c g is now) h same there read
 
 pub member_first : (book : Book) (e : Entry) (c g : List ℕ) (rows seen : List ClientRow) (at : ℕ) → is_act_of c e ≡ true → group_of c (with_entry book e) ≡ Some g → AreMemberRows book rows → seen ≡ rows
-    → Settles (key_of_member (with_entry book e)) (member_key g c) seen (Err at) → AreMemberRows (with_entry book e) (take at rows ++ record { first = size book; acts = 1 } ∷ drop at rows)
-member_first book e c g rows seen at is now h same there = index-first _ _ _ _ _ _ _ (member_key g c) (one_more (size book)) rows seen at (member_changes book e c g is now) h same there
+    → IsPositionOf (key_of_member (with_entry book e)) (member_key g c) seen (Err at) → AreMemberRows (with_entry book e) (take at rows ++ record { first = size book; acts = 1 } ∷ drop at rows)
+member_first book e c g rows seen at is now h same there = index-first _ _ _ _ _ _ _ (member_key g c) (one_more_act (size book)) rows seen at (member_changes book e c g is now) h same there
 
 -- a row counts no more acts than there are entries
-pub member_bound : (book : Book) (k : List ℕ) (rows seen : List ClientRow) (at : ℕ) (row : ClientRow) → AreMemberRows book rows → seen ≡ rows → Settles (key_of_member book) k seen (Ok at) → row ≡ get_or rows at row → row.acts ≤ size book
+pub member_bound : (book : Book) (k : List ℕ) (rows seen : List ClientRow) (at : ℕ) (row : ClientRow) → AreMemberRows book rows → seen ≡ rows → IsPositionOf (key_of_member book) k seen (Ok at) → row ≡ get_or rows at row → row.acts ≤ size book
 unfolding member_row
 member_bound book k rows seen at row h same found read =
-    let settled = subst (λ (xs : List ClientRow). Settles (key_of_member book) k xs (Ok at)) same found in
+    let settled = subst (λ (xs : List ClientRow). IsPositionOf (key_of_member book) k xs (Ok at)) same found in
     go (group_of (client_of_key k) book) (sym (h.found k) ∙ settled.found row ∙ ap Some (sym read))
   where
     of_client : (b : Bool) → cond b (client_row book (client_of_key k)) None ≡ Some row → row.acts ≤ size book

@@ -59,9 +59,9 @@ acting_with acts (Act user group client id call) = Some (client, group, acts)
 acting_with acts (Look user group order base) = None
 acting_with acts (Retire group) = None
 
--- what a row tells of its client, by the act that it names
-abbrev pub told_by_client : Book → ClientRow → Option (List ℕ × List ℕ × ℕ)
-told_by_client book row = option_and_then (acting_with row.acts) (slice_get book.entries row.first)
+-- what a row says of its client, by the act that it names
+abbrev pub info_by_client : Book → ClientRow → Option (List ℕ × List ℕ × ℕ)
+info_by_client book row = option_and_then (acting_with row.acts) (slice_get book.entries row.first)
 
 -- the group that an entry names
 abbrev pub named_in : Entry → List ℕ
@@ -110,9 +110,9 @@ AreGroupRows book rows = IsIndex (group_of_row book) (λ row. row.named) (size b
 abbrev pub user_of_row : Book → GroupRow → Option (List ℕ)
 user_of_row book row = option_and_then (λ index. option_and_then user_of (slice_get book.entries index)) row.bound
 
--- what a row tells of its group, by the entry that it names, where the group is bound
-abbrev pub told_by_group : Book → GroupRow → Option (List ℕ × List ℕ × ℕ × Bool)
-told_by_group book row = option_and_then (λ entry. option_map (λ user. (named_in entry, user, row.order, row.retired)) (user_of_row book row)) (slice_get book.entries row.named)
+-- what a row says of its group, by the entry that it names, where the group is bound
+abbrev pub info_by_group : Book → GroupRow → Option (List ℕ × List ℕ × ℕ × Bool)
+info_by_group book row = option_and_then (λ entry. option_map (λ user. (named_in entry, user, row.order, row.retired)) (user_of_row book row)) (slice_get book.entries row.named)
 
 -- of a look at an index: its number among the looks of its group, from 1; and 0 of another entry
 unfoldable pub number_at : ℕ → Book → ℕ

@@ -43,8 +43,8 @@ acting_client (Look user group order base) = None
 acting_client (Retire group) = None
 
 -- of a row that names an act: its client, with its last mutation id
-abbrev pub told_by : Book → ClientRow → Option (List ℕ × ℕ)
-told_by book row = option_map (λ client. (client, row.acts)) (option_and_then acting_client (slice_get book.entries row.first))
+abbrev pub info_by : Book → ClientRow → Option (List ℕ × ℕ)
+info_by book row = option_map (λ client. (client, row.acts)) (option_and_then acting_client (slice_get book.entries row.first))
 
 -- the row of a client, where it has an act and the key is that of its group and the client
 abbrev pub row_with_key : List ℕ → Book → List ℕ → Option ClientRow

@@ -7,7 +7,7 @@ use Rattle.std.proofs.Math.Bool.{or-false, or-true}
 use Rattle.std.proofs.lemmas.Option.{same_Some}
 use Rattle.std.proofs.lemmas.Slice.Eq.{bytes_eq-Decides}
 use Rattle.rv_base.specs.Sorted.{find_by, put_by, InOrder, sorted_by}
-use Rattle.rv_base.specs.Places.{equals, not_same, find_put, in_order-put, in_order-sorted}
+use Rattle.rv_base.specs.Positions.{equals, not_same, find_put, in_order-put, in_order-sorted}
 use Rattle.rv_base.specs.Arranged.{in_order-same}
 use Rattle.rv_rows.specs.declared.call.Call.{Call}
 use Rattle.rv_book.specs.declared.entry.Entry.{Entry}
@@ -17,7 +17,7 @@ use Rattle.rv_book.specs.Book.{Book, with_entry, bound, group_of, last, last_ord
 use Rattle.rv_book.specs.BookWords.{last-with_entry, last_order-with_entry, retired-with_entry}
 use Rattle.rv_book.specs.Indexes.{binds, named_in, names_group, user_of}
 use Rattle.rv_book.specs.Members.{acting_client, acting_group}
-use Rattle.rv_book.specs.Registers.{client_named, client_told, clients_of, group_named, group_told, groups_of, RetiresBound}
+use Rattle.rv_book.specs.Registers.{client_named, client_info, clients_of, group_named, group_info, groups_of, RetiresBound}
 
 -- the element names k
 abbrev names : {A : Type 0} → (A → Option (List ℕ)) → List ℕ → A → Bool
@@ -35,8 +35,8 @@ where_none : {X : Type 0} (b : Bool) (o : Option X) → o ≡ None → cond b o 
 where_none true o none = refl
 where_none false o none = sym none
 
--- Items that are told of the names in a list: each element names one or none, and what is told of it depends on that name.
-module _ {A X : Type 0} (key : X → List ℕ) (name : A → Option (List ℕ)) (of : List ℕ → Option X) (told : A → Option X) where
+-- Items that are said of the names in a list: each element names one or none, and what is said of it depends on that name.
+module _ {A X : Type 0} (key : X → List ℕ) (name : A → Option (List ℕ)) (of : List ℕ → Option X) (info : A → Option X) where
   -- a name of which nothing is told
   found_absent : (k other : List ℕ) (b : Bool) (sorted : List X) → of other ≡ None → find_by key k sorted ≡ cond b (of k) None → find_by key k sorted ≡ cond (b || bytes_eq other k) (of k) None
   found_absent k other b sorted none h =
@@ -76,23 +76,23 @@ module _ {A X : Type 0} (key : X → List ℕ) (name : A → Option (List ℕ)) 
       ] refl)
       ∙ either_of b (bytes_eq other k) rest (of k)
 
-  found_told : (k : List ℕ) (xs : List A) (b : Bool) (sorted : List X) → ((a : A) → told a ≡ option_and_then of (name a)) → ((other : List ℕ) (x : X) → of other ≡ Some x → key x ≡ other)
-      → find_by key k sorted ≡ cond b (of k) None → find_by key k (fold (λ s x. put_by key x s) sorted (filter_map told xs)) ≡ cond (b || list_any (names name k) xs) (of k) None
-  found_told k [] b sorted is keyed h = h ∙ or_false b (of k)
-  found_told k (a ∷ xs) b sorted is keyed h =
-      ap (λ (o : Option X). find_by key k (fold (λ s x. put_by key x s) sorted (cons_option o (filter_map told xs)))) (is a)
-      ∙ found_after k (name a) (filter_map told xs) (list_any (names name k) xs) b sorted keyed (λ b sorted h. found_told k xs b sorted is keyed h) h
+  found_info : (k : List ℕ) (xs : List A) (b : Bool) (sorted : List X) → ((a : A) → info a ≡ option_and_then of (name a)) → ((other : List ℕ) (x : X) → of other ≡ Some x → key x ≡ other)
+      → find_by key k sorted ≡ cond b (of k) None → find_by key k (fold (λ s x. put_by key x s) sorted (filter_map info xs)) ≡ cond (b || list_any (names name k) xs) (of k) None
+  found_info k [] b sorted is keyed h = h ∙ or_false b (of k)
+  found_info k (a ∷ xs) b sorted is keyed h =
+      ap (λ (o : Option X). find_by key k (fold (λ s x. put_by key x s) sorted (cons_option o (filter_map info xs)))) (is a)
+      ∙ found_after k (name a) (filter_map info xs) (list_any (names name k) xs) b sorted keyed (λ b sorted h. found_info k xs b sorted is keyed h) h
 
-  -- what is found at a name: what is told of it, where an element names it
-  find-told : (k : List ℕ) (xs : List A) → ((a : A) → told a ≡ option_and_then of (name a)) → ((other : List ℕ) (x : X) → of other ≡ Some x → key x ≡ other)
-      → find_by key k (sorted_by key (filter_map told xs)) ≡ cond (list_any (names name k) xs) (of k) None
-  find-told k xs is keyed = found_told k xs false [] is keyed refl
+  -- what is found at a name: what is said of it, where an element names it
+  find-info : (k : List ℕ) (xs : List A) → ((a : A) → info a ≡ option_and_then of (name a)) → ((other : List ℕ) (x : X) → of other ≡ Some x → key x ≡ other)
+      → find_by key k (sorted_by key (filter_map info xs)) ≡ cond (list_any (names name k) xs) (of k) None
+  find-info k xs is keyed = found_info k xs false [] is keyed refl
 
 -- Two registers, of which the second is told a new item of one name, and of each other name what the first is told.
 put-same : {X : Type 0} (key : X → List ℕ) (before after : List ℕ → Option X) (new : X) (xs ys : List X) → InOrder key xs → InOrder key ys → ((k : List ℕ) → find_by key k xs ≡ before k) → ((k : List ℕ) → find_by key k ys ≡ after k)
     → after (key new) ≡ Some new → ((k : List ℕ) → bytes_eq k (key new) ≡ false → after k ≡ before k) → ys ≡ put_by key new xs
-put-same key before after new xs ys order next found told own other =
-    in_order-same key ys (put_by key new xs) next (in_order-put key new xs order) (λ k. told k ∙ each k ∙ sym (find_put key k new xs ∙ ap (cond (bytes_eq k (key new)) (Some new)) (found k)))
+put-same key before after new xs ys order next found info own other =
+    in_order-same key ys (put_by key new xs) next (in_order-put key new xs order) (λ k. info k ∙ each k ∙ sym (find_put key k new xs ∙ ap (cond (bytes_eq k (key new)) (Some new)) (found k)))
   where
     each : (k : List ℕ) → after k ≡ cond (bytes_eq k (key new)) (Some new) (before k)
     each k =
@@ -101,17 +101,17 @@ put-same key before after new xs ys order next found told own other =
           | false ↦ λ e. other k e
         ] refl
 
--- a client, as it is told of
+-- a client, as it is said of
 abbrev Client : Type 0
 Client = List ℕ × List ℕ × ℕ
 
 abbrev client_key : Client → List ℕ
 client_key client = client.0
 
-act_told : (book : Book) (entry : Entry) → client_told book entry ≡ option_and_then (λ client. client_named client book) (acting_client entry)
-act_told book (Act user group client id call) = refl
-act_told book (Look user group order base) = refl
-act_told book (Retire group) = refl
+act_info : (book : Book) (entry : Entry) → client_info book entry ≡ option_and_then (λ client. client_named client book) (acting_client entry)
+act_info book (Act user group client id call) = refl
+act_info book (Look user group order base) = refl
+act_info book (Retire group) = refl
 
 client_keyed : (book : Book) (client : List ℕ) (x : Client) → client_named client book ≡ Some x → x.0 ≡ client
 client_keyed book client x is =
@@ -134,12 +134,12 @@ where_some f (Some a) = refl
 -- what is found in the register of the clients
 pub found_client : (client : List ℕ) (book : Book) → find_by (λ (c : List ℕ × List ℕ × ℕ). c.0) client (clients_of book) ≡ client_named client book
 found_client client book =
-    find-told client_key acting_client (λ c. client_named c book) (client_told book) client book.entries (act_told book) (client_keyed book)
+    find-info client_key acting_client (λ c. client_named c book) (client_info book) client book.entries (act_info book) (client_keyed book)
     ∙ ap (λ (b : Bool). cond b (client_named client book) None) (has_group client book.entries)
     ∙ where_some (λ group. (client, group, last client book)) (group_of client book)
 
 pub clients-in_order : (book : Book) → InOrder (λ (c : List ℕ × List ℕ × ℕ). c.0) (clients_of book)
-clients-in_order book = in_order-sorted client_key (filter_map (client_told book) book.entries)
+clients-in_order book = in_order-sorted client_key (filter_map (client_info book) book.entries)
 
 -- the group of a client, when one more entry follows
 pub group_of_in-push : (client : List ℕ) (entries : List Entry) (entry : Entry) → group_of_in client (entries ++ entry ∷ []) ≡ option_or (group_of_in client entries) (cond (is_act_of client entry) (Some (acting_group entry)) None)
@@ -158,7 +158,7 @@ or_none : {X : Type 0} (o : Option X) → option_or o None ≡ o
 or_none None = refl
 or_none (Some x) = refl
 
--- what is told of a client, when an entry follows that is no act of it
+-- what is said of a client, when an entry follows that is no act of it
 other_client : (client : List ℕ) (book : Book) (entry : Entry) → is_act_of client entry ≡ false → client_named client (with_entry book entry) ≡ client_named client book
 other_client client book entry other =
     let group : group_of client (with_entry book entry) ≡ group_of client book = group_of_in-push client book.entries entry ∙ ap (λ (b : Bool). option_or (group_of client book) (cond b (Some (acting_group entry)) None)) other ∙ or_none (group_of client book) in
@@ -219,7 +219,7 @@ clients_after_look book user group order base = clients_after_other book (Look u
 pub clients_after_retire : (book : Book) (group : List ℕ) → clients_of (with_entry book (Retire group)) ≡ clients_of book
 clients_after_retire book group = clients_after_other book (Retire group) (λ client. refl)
 
--- a group, as it is told of
+-- a group, as it is said of
 abbrev Group : Type 0
 Group = List ℕ × List ℕ × ℕ × Bool
 
@@ -232,10 +232,10 @@ binding_group (Act user group client id call) = Some group
 binding_group (Look user group order base) = Some group
 binding_group (Retire group) = None
 
-binding_told : (book : Book) (entry : Entry) → group_told book entry ≡ option_and_then (λ group. group_named group book) (binding_group entry)
-binding_told book (Act user group client id call) = refl
-binding_told book (Look user group order base) = refl
-binding_told book (Retire group) = refl
+binding_info : (book : Book) (entry : Entry) → group_info book entry ≡ option_and_then (λ group. group_named group book) (binding_group entry)
+binding_info book (Act user group client id call) = refl
+binding_info book (Look user group order base) = refl
+binding_info book (Retire group) = refl
 
 group_keyed : (book : Book) (group : List ℕ) (x : Group) → group_named group book ≡ Some x → x.0 ≡ group
 group_keyed book group x is =
@@ -254,12 +254,12 @@ is_bound group (Retire other ∷ entries) = is_bound group entries
 -- what is found in the register of the groups
 pub found_group : (group : List ℕ) (book : Book) → find_by (λ (g : List ℕ × List ℕ × ℕ × Bool). g.0) group (groups_of book) ≡ group_named group book
 found_group group book =
-    find-told group_key binding_group (λ g. group_named g book) (group_told book) group book.entries (binding_told book) (group_keyed book)
+    find-info group_key binding_group (λ g. group_named g book) (group_info book) group book.entries (binding_info book) (group_keyed book)
     ∙ ap (λ (b : Bool). cond b (group_named group book) None) (is_bound group book.entries)
     ∙ where_some (λ user. (group, user, last_order group book, retired group book)) (bound group book)
 
 pub groups-in_order : (book : Book) → InOrder (λ (g : List ℕ × List ℕ × ℕ × Bool). g.0) (groups_of book)
-groups-in_order book = in_order-sorted group_key (filter_map (group_told book) book.entries)
+groups-in_order book = in_order-sorted group_key (filter_map (group_info book) book.entries)
 
 -- the user of a group, when one more entry follows
 pub bound_in-push : (group : List ℕ) (entries : List Entry) (entry : Entry) → bound_in group (entries ++ entry ∷ []) ≡ option_or (bound_in group entries) (cond (binds group entry) (user_of entry) None)
@@ -278,7 +278,7 @@ bound_in-push group (Look user other order base ∷ entries) entry =
     ]
 bound_in-push group (Retire other ∷ entries) entry = bound_in-push group entries entry
 
--- what is told of a group, when an entry follows that leaves what it is told by
+-- what is said of a group, when an entry follows that leaves what it is told by
 left_group : (group : List ℕ) (book : Book) (entry : Entry) → binds group entry ≡ false → order_after group (last_order group book) entry ≡ last_order group book → retires group entry ≡ false
     → group_named group (with_entry book entry) ≡ group_named group book
 left_group group book entry unbound same stands =
@@ -293,7 +293,7 @@ other_group group book (Act user named client id call) other = left_group group 
 other_group group book (Look user named order base) other = left_group group book (Look user named order base) other (ap (λ (b : Bool). cond b order (last_order group book)) other) refl
 other_group group book (Retire named) other = left_group group book (Retire named) refl refl other
 
--- one more entry of a group puts the group, as it is told of after the entry
+-- one more entry of a group puts the group, as it is said of after the entry
 groups_after : (book : Book) (entry : Entry) (user : List ℕ) (order : ℕ) (gone : Bool) → bound (named_in entry) (with_entry book entry) ≡ Some user → order_after (named_in entry) (last_order (named_in entry) book) entry ≡ order → (retired (named_in entry) book || retires (named_in entry) entry) ≡ gone
     → groups_of (with_entry book entry) ≡ put_by group_key (named_in entry, user, order, gone) (groups_of book)
 groups_after book entry user order gone own last stands =

@@ -12,14 +12,14 @@ abbrev pub client_named : List ℕ → Book → Option (List ℕ × List ℕ × 
 client_named client book = option_map (λ group. (client, group, last client book)) (group_of client book)
 
 -- of an act: its client
-abbrev pub client_told : Book → Entry → Option (List ℕ × List ℕ × ℕ)
-client_told book (Act user group client id call) = client_named client book
-client_told book (Look user group order base) = None
-client_told book (Retire group) = None
+abbrev pub client_info : Book → Entry → Option (List ℕ × List ℕ × ℕ)
+client_info book (Act user group client id call) = client_named client book
+client_info book (Look user group order base) = None
+client_info book (Retire group) = None
 
 -- the clients that have an act, in the order of their bytes
 abbrev pub clients_of : Book → List (List ℕ × List ℕ × ℕ)
-clients_of book = sorted_by (λ client. client.0) (filter_map (client_told book) book.entries)
+clients_of book = sorted_by (λ client. client.0) (filter_map (client_info book) book.entries)
 
 -- a group that an act or a look names: its name, the user whom it is bound to, the order of its last look (0 before the
 -- first), and whether it is retired
@@ -27,14 +27,14 @@ abbrev pub group_named : List ℕ → Book → Option (List ℕ × List ℕ × �
 group_named group book = option_map (λ user. (group, user, last_order group book, retired group book)) (bound group book)
 
 -- of an act or a look: its group
-abbrev pub group_told : Book → Entry → Option (List ℕ × List ℕ × ℕ × Bool)
-group_told book (Act user group client id call) = group_named group book
-group_told book (Look user group order base) = group_named group book
-group_told book (Retire group) = None
+abbrev pub group_info : Book → Entry → Option (List ℕ × List ℕ × ℕ × Bool)
+group_info book (Act user group client id call) = group_named group book
+group_info book (Look user group order base) = group_named group book
+group_info book (Retire group) = None
 
 -- the groups that an act or a look names, in the order of their bytes
 abbrev pub groups_of : Book → List (List ℕ × List ℕ × ℕ × Bool)
-groups_of book = sorted_by (λ group. group.0) (filter_map (group_told book) book.entries)
+groups_of book = sorted_by (λ group. group.0) (filter_map (group_info book) book.entries)
 
 -- each group that an entry retires is named by an act or a look, as it is in every lawful book
 abbrev pub RetiresBound : Book → Type 0

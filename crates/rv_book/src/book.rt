@@ -6,10 +6,10 @@ ghost use Rattle.rv_book.specs.Kept.{falls_out, kept, last_look, look_at, look_b
 ghost use Rattle.rv_book.specs.Registers.{clients_of, groups_of, RetiresBound};
 ghost use Rattle.rv_book.specs.declared.fault.BookFault.TheVariants as BookFault;
 
-use crate::clients::{ClientRef, ClientRow, ClientTold};
+use crate::clients::{ClientInfo, ClientRef, ClientRow};
 use crate::entry::{Entry, entry_at};
 use crate::fault::BookFault;
-use crate::groups::{GroupRef, GroupRow, GroupTold};
+use crate::groups::{GroupInfo, GroupRef, GroupRow};
 use crate::look::{LookMark, LookRef, look_at};
 use crate::{clients, groups, look, members};
 use rv_base::{Id, Memory, Num, User};
@@ -39,7 +39,7 @@ impl Model for Book {
 
     ghost Value = { Recorded };
 
-    ghost view = { λ b. record { book = book_of b.entries.items; limit = b.limit; room = min (min (free b.entries) (free b.marks)) (min (free b.groups) (min (free b.clients) (free b.members))) } };
+    ghost view = { λ b. record { book = book_of b.entries.items; limit = b.limit; spare = min (min (free b.entries) (free b.marks)) (min (free b.groups) (min (free b.clients) (free b.members))) } };
 
     ghost invariant = { λ b. IsIndexed (book_of b.entries.items) b.limit b.marks.items b.groups.items b.clients.items b.members.items };
 }
@@ -123,41 +123,41 @@ impl Book {
         groups::row(&self.entries, &self.groups, group).retired
     }
 
-    /// All that the book tells of a group for a mutation, found by one search.
+    /// All that the book says of a group for a mutation, found by one search.
     pub fn group(&self, group: &Id) -> GroupRef<'_>
         ensures user { option_map (λ user. user.now) result.user ≡ bound group.now self.now.book }
         ensures retired { result.retired ≡ retired group.now self.now.book }
         ensures last_order { result.last_order ≡ last_order group.now self.now.book }
     {
-        groups::told(&self.entries, &self.groups, group)
+        groups::info(&self.entries, &self.groups, group)
     }
 
-    /// All that the book tells of a client for a mutation, found by one search. Of a client without an act there is nothing to
+    /// All that the book says of a client for a mutation, found by one search. Of a client without an act there is nothing to
     /// tell: it has no group, and its last mutation id is 0.
     pub fn client(&self, client: &Id) -> Option<ClientRef<'_>>
-        ensures group { option_map (λ told. told.group.now) result ≡ group_of client.now self.now.book }
-        ensures last { option_map_or (λ told. told.last) result 0 ≡ last client.now self.now.book }
-        ensures bound { IfSome result (λ told. told.last ≤ size self.now.book) }
+        ensures group { option_map (λ info. info.group.now) result ≡ group_of client.now self.now.book }
+        ensures last { option_map_or (λ info. info.last) result 0 ≡ last client.now self.now.book }
+        ensures bound { IfSome result (λ info. info.last ≤ size self.now.book) }
     {
-        clients::told(&self.entries, &self.clients, client)
+        clients::info(&self.entries, &self.clients, client)
     }
 
     /// The client at an index, from 0, of the clients that have an act, in the order of their bytes; `None` from their number
     /// on. It takes no memory, and the time of one look-up by index, however long the book is.
-    pub fn client_at(&self, index: u32) -> Option<ClientTold<'_>>
-        ensures { option_map (λ told. (told.client.now, told.group.now, told.last)) result ≡ slice_get (clients_of self.now.book) index }
+    pub fn client_at(&self, index: u32) -> Option<ClientInfo<'_>>
+        ensures { option_map (λ info. (info.client.now, info.group.now, info.last)) result ≡ slice_get (clients_of self.now.book) index }
     {
-        clients::told_at(&self.entries, &self.clients, index)
+        clients::info_at(&self.entries, &self.clients, index)
     }
 
     /// The group at an index, from 0, of the groups that an act or a look names, in the order of their bytes; `None` from their
     /// number on. It takes no memory, and the time of one look-up by index, however long the book is. Each group that is retired
     /// has to be named by an act or a look, as it is in every book that the machine makes.
-    pub fn group_at(&self, index: u32) -> Option<GroupTold<'_>>
+    pub fn group_at(&self, index: u32) -> Option<GroupInfo<'_>>
         requires { RetiresBound self.now.book }
-        ensures { option_map (λ told. (told.group.now, told.user.now, told.last_order, told.retired)) result ≡ slice_get (groups_of self.now.book) index }
+        ensures { option_map (λ info. (info.group.now, info.user.now, info.last_order, info.retired)) result ≡ slice_get (groups_of self.now.book) index }
     {
-        groups::told_at(&self.entries, &self.groups, index)
+        groups::info_at(&self.entries, &self.groups, index)
     }
 
     /// The clients of a group with their last mutation ids, in the order of the clients' bytes.
@@ -205,12 +205,12 @@ impl Book {
         look::falls_out(&self.entries, &self.groups, &self.marks, group)
     }
 
-    /// Makes room for one more entry, and for what is looked up by it.
+    /// Makes space for one more entry, and for what is looked up by it.
     pub fn reserve(&mut self) -> Result<(), BookFault>
         ensures book { self.new.book ≡ self.old.book }
         ensures limit { self.new.limit ≡ self.old.limit }
-        ensures room { self.old.room ≤ self.new.room }
-        ensures ok { OnOk result ((1 ≤ self.new.room) × (size self.old.book < self.old.limit)) }
+        ensures spare { self.old.spare ≤ self.new.spare }
+        ensures ok { OnOk result ((1 ≤ self.new.spare) × (size self.old.book < self.old.limit)) }
         ensures full { (result ≡ Err BookFault.Full) ↔ (size self.old.book ≡ self.old.limit) }
     {
         if self.is_full() {
@@ -226,11 +226,11 @@ impl Book {
 
     /// Enters an entry at the next place. It can't fail, and takes no memory.
     pub fn push_entry(&mut self, entry: Entry)
-        requires room { 1 ≤ self.old.room }
+        requires spare { 1 ≤ self.old.spare }
         requires limit { size self.old.book < self.old.limit }
         ensures book { self.new.book ≡ with_entry self.old.book entry }
         ensures limit { self.new.limit ≡ self.old.limit }
-        ensures room { self.old.room ≤ self.new.room + 1 }
+        ensures spare { self.old.spare ≤ self.new.spare + 1 }
     {
         let mark = look::mark(&self.entries, &self.groups, &entry);
         match self.marks.push(mark) {

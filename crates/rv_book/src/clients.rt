@@ -1,10 +1,10 @@
 ghost use Rattle.std.specs.Prelude.{◌≡◌, true, ◌≤◌, ◌<◌, ◌+◌, ◌-◌, ◌^◌, length, option_map, option_and_then, slice_get, IfSome, vec_len, vec_capacity};
 ghost use Rattle.std.specs.Option.{option_map_or};
-ghost use Rattle.rv_base.specs.Sorted.{Settles};
+ghost use Rattle.rv_base.specs.Sorted.{IsPositionOf};
 ghost use Rattle.rv_book.specs.declared.entry.Entry.{Entry};
 ghost use Rattle.rv_book.specs.Entries.{is_act_of};
 ghost use Rattle.rv_book.specs.Book.{book_of, group_of, last, with_entry};
-ghost use Rattle.rv_book.specs.Indexes.{acted_in, AreClientRows, client_of_row, client_row, first_where, told_by_client};
+ghost use Rattle.rv_book.specs.Indexes.{acted_in, AreClientRows, client_of_row, client_row, first_where, info_by_client};
 ghost use Rattle.rv_book.specs.Registers.{clients_of};
 
 use crate::entry::Entry;
@@ -21,7 +21,7 @@ pub struct ClientRef<'a> {
 
 /// A client that has an act in the book, with its name.
 #[derive(Clone, Copy, Debug)]
-pub struct ClientTold<'a> {
+pub struct ClientInfo<'a> {
     /// The client.
     pub client: &'a Id,
     /// The group of the client's first act.
@@ -53,8 +53,8 @@ pub(crate) fn key<'b>(entries: &'b [Entry], row: &ClientRow) -> &'b str
 // Where the row of a client stands, or where it would go.
 fn place(entries: &[Entry], rows: &[ClientRow], client: &Id) -> Result<usize, usize>
     requires { AreClientRows (book_of entries.now) rows.now }
-    ensures now { Settles (client_of_row (book_of entries.now)) client.now rows.now result }
-    ensures next { (entry : Entry) → Settles (client_of_row (with_entry (book_of entries.now) entry)) client.now rows.now result }
+    ensures now { IsPositionOf (client_of_row (book_of entries.now)) client.now rows.now result }
+    ensures next { (entry : Entry) → IsPositionOf (client_of_row (with_entry (book_of entries.now) entry)) client.now rows.now result }
 {
     rows.binary_search_by(|row| key(entries, row).cmp(client.as_str()))
 }
@@ -115,16 +115,16 @@ pub(crate) fn acts(entries: &[Entry], rows: &[ClientRow], client: &Id) -> u32
     }
 }
 
-// What is told of a client.
-pub(crate) fn told<'b>(
+// What is said of a client.
+pub(crate) fn info<'b>(
     entries: &'b [Entry],
     rows: &[ClientRow],
     client: &Id,
 ) -> Option<ClientRef<'b>>
     requires { AreClientRows (book_of entries.now) rows.now }
-    ensures group { option_map (λ told. told.group.now) result ≡ group_of client.now (book_of entries.now) }
-    ensures last { option_map_or (λ told. told.last) result 0 ≡ last client.now (book_of entries.now) }
-    ensures bound { IfSome result (λ told. told.last ≤ length entries.now) }
+    ensures group { option_map (λ info. info.group.now) result ≡ group_of client.now (book_of entries.now) }
+    ensures last { option_map_or (λ info. info.last) result 0 ≡ last client.now (book_of entries.now) }
+    ensures bound { IfSome result (λ info. info.last ≤ length entries.now) }
 {
     match find(entries, rows, client) {
         Some(row) => match group_at(entries, row.first) {
@@ -138,12 +138,12 @@ pub(crate) fn told<'b>(
     }
 }
 
-// What a row tells of its client, by the act that it names.
-fn told_by<'b>(entries: &'b [Entry], row: &ClientRow) -> Option<ClientTold<'b>>
-    ensures { option_map (λ told. (told.client.now, told.group.now, told.last)) result ≡ told_by_client (book_of entries.now) row.now }
+// What a row says of its client, by the act that it names.
+fn info_by<'b>(entries: &'b [Entry], row: &ClientRow) -> Option<ClientInfo<'b>>
+    ensures { option_map (λ info. (info.client.now, info.group.now, info.last)) result ≡ info_by_client (book_of entries.now) row.now }
 {
     match entries.get(row.first as usize)? {
-        Entry::Act { client, group, .. } => Some(ClientTold {
+        Entry::Act { client, group, .. } => Some(ClientInfo {
             client,
             group,
             last: Num::from_u64(row.acts as u64),
@@ -154,24 +154,24 @@ fn told_by<'b>(entries: &'b [Entry], row: &ClientRow) -> Option<ClientTold<'b>>
 }
 
 // The client at an index, from 0, of those that have an act, in the order of their bytes.
-pub(crate) fn told_at<'b>(
+pub(crate) fn info_at<'b>(
     entries: &'b [Entry],
     rows: &[ClientRow],
     index: u32,
-) -> Option<ClientTold<'b>>
+) -> Option<ClientInfo<'b>>
     requires { AreClientRows (book_of entries.now) rows.now }
-    ensures { option_map (λ told. (told.client.now, told.group.now, told.last)) result ≡ slice_get (clients_of (book_of entries.now)) index }
+    ensures { option_map (λ info. (info.client.now, info.group.now, info.last)) result ≡ slice_get (clients_of (book_of entries.now)) index }
 {
-    told_by(entries, rows.get(index as usize)?)
+    info_by(entries, rows.get(index as usize)?)
 }
 
 // Enters an act of a client, which follows the entries.
 fn enter_act(entries: &[Entry], rows: &mut Vec<ClientRow>, client: &Id)
     requires rows { AreClientRows (book_of entries.now) rows.old.items }
-    requires room { 1 ≤ vec_capacity rows.old - vec_len rows.old }
+    requires spare { 1 ≤ vec_capacity rows.old - vec_len rows.old }
     requires length { length entries.now + 1 < 2 ^ 32 }
     ensures rows { (entry : Entry) → is_act_of client.now entry ≡ true → AreClientRows (with_entry (book_of entries.now) entry) rows.new.items }
-    ensures room { vec_capacity rows.old - vec_len rows.old ≤ (vec_capacity rows.new - vec_len rows.new) + 1 }
+    ensures spare { vec_capacity rows.old - vec_len rows.old ≤ (vec_capacity rows.new - vec_len rows.new) + 1 }
 {
     match place(entries, rows, client) {
         Ok(at) => rows[at].acts += 1,
@@ -191,10 +191,10 @@ fn enter_act(entries: &[Entry], rows: &mut Vec<ClientRow>, client: &Id)
 // Enters an entry, which follows the others.
 pub(crate) fn enter(entries: &[Entry], rows: &mut Vec<ClientRow>, entry: &Entry)
     requires rows { AreClientRows (book_of entries.now) rows.old.items }
-    requires room { 1 ≤ vec_capacity rows.old - vec_len rows.old }
+    requires spare { 1 ≤ vec_capacity rows.old - vec_len rows.old }
     requires length { length entries.now + 1 < 2 ^ 32 }
     ensures rows { AreClientRows (with_entry (book_of entries.now) entry.now) rows.new.items }
-    ensures room { vec_capacity rows.old - vec_len rows.old ≤ (vec_capacity rows.new - vec_len rows.new) + 1 }
+    ensures spare { vec_capacity rows.old - vec_len rows.old ≤ (vec_capacity rows.new - vec_len rows.new) + 1 }
 {
     match entry {
         Entry::Act { client, .. } => enter_act(entries, rows, client),

@@ -4,7 +4,7 @@ ghost use Rattle.rv_book.specs.declared.fault.BookFault.TheVariants as BookFault
 use std::alloc::AllocError;
 use thiserror::Error;
 
-/// Why no room for one more entry was made.
+/// Why no space for one more entry was made.
 #[derive(Clone, Copy, Debug, PartialEq, Eq, Error)]
 pub enum BookFault {
     /// The book has as many entries as it may have.

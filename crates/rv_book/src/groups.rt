@@ -1,9 +1,9 @@
 ghost use Rattle.std.specs.Prelude.{◌≡◌, ◌≤◌, ◌<◌, ◌+◌, ◌-◌, ◌^◌, length, count_by, option_map, option_and_then, slice_get, vec_len, vec_capacity};
-ghost use Rattle.rv_base.specs.Sorted.{Settles};
+ghost use Rattle.rv_base.specs.Sorted.{IsPositionOf};
 ghost use Rattle.rv_book.specs.declared.entry.Entry.{Entry};
 ghost use Rattle.rv_book.specs.Book.{book_of, bound, last_order, retired, with_entry};
 ghost use Rattle.rv_book.specs.Kept.{is_look_of, last_look};
-ghost use Rattle.rv_book.specs.Indexes.{AreGroupRows, binds, first_where, group_of_row, group_row, named_in, new_row, row_after, told_by_group, user_of, user_of_row};
+ghost use Rattle.rv_book.specs.Indexes.{AreGroupRows, binds, first_where, group_of_row, group_row, named_in, new_row, row_after, info_by_group, user_of, user_of_row};
 ghost use Rattle.rv_book.specs.Registers.{groups_of, RetiresBound};
 
 use crate::entry::Entry;
@@ -22,7 +22,7 @@ pub struct GroupRef<'a> {
 
 /// A client group that an act or a look of the book names, with its name.
 #[derive(Clone, Copy, Debug)]
-pub struct GroupTold<'a> {
+pub struct GroupInfo<'a> {
     /// The group.
     pub group: &'a Id,
     /// The user whom the group is bound to: that of the first act or look that names it.
@@ -109,8 +109,8 @@ fn key<'b>(entries: &'b [Entry], row: &GroupRow) -> &'b str
 // Where the row of a group stands, or where it would go.
 fn place(entries: &[Entry], rows: &[GroupRow], group: &Id) -> Result<usize, usize>
     requires { AreGroupRows (book_of entries.now) rows.now }
-    ensures now { Settles (group_of_row (book_of entries.now)) group.now rows.now result }
-    ensures next { (entry : Entry) → Settles (group_of_row (with_entry (book_of entries.now) entry)) group.now rows.now result }
+    ensures now { IsPositionOf (group_of_row (book_of entries.now)) group.now rows.now result }
+    ensures next { (entry : Entry) → IsPositionOf (group_of_row (with_entry (book_of entries.now) entry)) group.now rows.now result }
 {
     rows.binary_search_by(|row| key(entries, row).cmp(group.as_str()))
 }
@@ -168,11 +168,11 @@ pub(crate) fn bound<'b>(entries: &'b [Entry], rows: &[GroupRow], group: &Id) -> 
     requires { AreGroupRows (book_of entries.now) rows.now }
     ensures { option_map (λ user. user.now) result ≡ bound group.now (book_of entries.now) }
 {
-    told(entries, rows, group).user
+    info(entries, rows, group).user
 }
 
-// What is told of a group.
-pub(crate) fn told<'b>(entries: &'b [Entry], rows: &[GroupRow], group: &Id) -> GroupRef<'b>
+// What is said of a group.
+pub(crate) fn info<'b>(entries: &'b [Entry], rows: &[GroupRow], group: &Id) -> GroupRef<'b>
     requires { AreGroupRows (book_of entries.now) rows.now }
     ensures user { option_map (λ user. user.now) result.user ≡ bound group.now (book_of entries.now) }
     ensures retired { result.retired ≡ retired group.now (book_of entries.now) }
@@ -186,13 +186,13 @@ pub(crate) fn told<'b>(entries: &'b [Entry], rows: &[GroupRow], group: &Id) -> G
     }
 }
 
-// What a row tells of its group, by the entry that it names, where the group is bound.
-fn told_by<'b>(entries: &'b [Entry], row: &GroupRow) -> Option<GroupTold<'b>>
-    ensures { option_map (λ told. (told.group.now, told.user.now, told.last_order, told.retired)) result ≡ told_by_group (book_of entries.now) row.now }
+// What a row says of its group, by the entry that it names, where the group is bound.
+fn info_by<'b>(entries: &'b [Entry], row: &GroupRow) -> Option<GroupInfo<'b>>
+    ensures { option_map (λ info. (info.group.now, info.user.now, info.last_order, info.retired)) result ≡ info_by_group (book_of entries.now) row.now }
 {
     let entry = entries.get(row.named as usize)?;
     let user = user_of(entries, row)?;
-    Some(GroupTold {
+    Some(GroupInfo {
         group: named(entry),
         user,
         last_order: row.order,
@@ -201,25 +201,25 @@ fn told_by<'b>(entries: &'b [Entry], row: &GroupRow) -> Option<GroupTold<'b>>
 }
 
 // The group at an index, from 0, of those that an act or a look names, in the order of their bytes.
-pub(crate) fn told_at<'b>(
+pub(crate) fn info_at<'b>(
     entries: &'b [Entry],
     rows: &[GroupRow],
     index: u32,
-) -> Option<GroupTold<'b>>
+) -> Option<GroupInfo<'b>>
     requires rows { AreGroupRows (book_of entries.now) rows.now }
     requires bound { RetiresBound (book_of entries.now) }
-    ensures { option_map (λ told. (told.group.now, told.user.now, told.last_order, told.retired)) result ≡ slice_get (groups_of (book_of entries.now)) index }
+    ensures { option_map (λ info. (info.group.now, info.user.now, info.last_order, info.retired)) result ≡ slice_get (groups_of (book_of entries.now)) index }
 {
-    told_by(entries, rows.get(index as usize)?)
+    info_by(entries, rows.get(index as usize)?)
 }
 
 // Enters an entry, which follows the others.
 pub(crate) fn enter(entries: &[Entry], rows: &mut Vec<GroupRow>, entry: &Entry)
     requires rows { AreGroupRows (book_of entries.now) rows.old.items }
-    requires room { 1 ≤ vec_capacity rows.old - vec_len rows.old }
+    requires spare { 1 ≤ vec_capacity rows.old - vec_len rows.old }
     requires length { length entries.now + 1 < 2 ^ 32 }
     ensures rows { AreGroupRows (with_entry (book_of entries.now) entry.now) rows.new.items }
-    ensures room { vec_capacity rows.old - vec_len rows.old ≤ (vec_capacity rows.new - vec_len rows.new) + 1 }
+    ensures spare { vec_capacity rows.old - vec_len rows.old ≤ (vec_capacity rows.new - vec_len rows.new) + 1 }
 {
     let index = entries.len() as u32;
     match place(entries, rows, named(entry)) {

@@ -13,8 +13,8 @@ mod look;
 mod members;
 
 pub use book::Book;
-pub use clients::{ClientRef, ClientTold};
+pub use clients::{ClientInfo, ClientRef};
 pub use entry::Entry;
 pub use fault::BookFault;
-pub use groups::{GroupRef, GroupTold};
+pub use groups::{GroupInfo, GroupRef};
 pub use look::{KEPT_LOOKS, LookRef};

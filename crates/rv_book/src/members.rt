@@ -4,12 +4,12 @@ ghost use Rattle.std.specs.List.{cons_option, filter};
 ghost use Rattle.std.specs.Option.{option_or};
 ghost use Rattle.std.specs.Cmp.Lexicographic.{slice_cmp};
 ghost use Rattle.std.specs.Ordering.{nat_cmp};
-ghost use Rattle.rv_base.specs.Sorted.{InOrder, Settles};
+ghost use Rattle.rv_base.specs.Sorted.{InOrder, IsPositionOf};
 ghost use Rattle.rv_book.specs.declared.entry.Entry.{Entry};
 ghost use Rattle.rv_book.specs.Entries.{is_act_of};
 ghost use Rattle.rv_book.specs.Book.{book_of, group_of, ids, with_entry};
 ghost use Rattle.rv_book.specs.Indexes.{AreClientRows};
-ghost use Rattle.rv_book.specs.Members.{AreMemberRows, group_of_member, is_member, key_of_member, member_key, told_by};
+ghost use Rattle.rv_book.specs.Members.{AreMemberRows, group_of_member, is_member, key_of_member, member_key, info_by};
 
 use crate::clients;
 use crate::clients::ClientRow;
@@ -46,8 +46,8 @@ fn compare(entries: &[Entry], row: &ClientRow, other: &Id, client: &Id) -> Order
 // Where the row of a client of a group stands, or where it would go.
 fn place(entries: &[Entry], rows: &[ClientRow], group: &Id, client: &Id) -> Result<usize, usize>
     requires { AreMemberRows (book_of entries.now) rows.now }
-    ensures now { Settles (key_of_member (book_of entries.now)) (member_key group.now client.now) rows.now result }
-    ensures next { (entry : Entry) → Settles (key_of_member (with_entry (book_of entries.now) entry)) (member_key group.now client.now) rows.now result }
+    ensures now { IsPositionOf (key_of_member (book_of entries.now)) (member_key group.now client.now) rows.now result }
+    ensures next { (entry : Entry) → IsPositionOf (key_of_member (with_entry (book_of entries.now) entry)) (member_key group.now client.now) rows.now result }
 {
     rows.binary_search_by(|row| compare(entries, row, group, client))
 }
@@ -64,8 +64,8 @@ fn of<'r>(entries: &[Entry], rows: &'r [ClientRow], other: &Id) -> &'r [ClientRo
 }
 
 // The client of a row, with its last mutation id.
-fn told<'b>(entries: &'b [Entry], row: &ClientRow) -> Option<(&'b Id, Num)>
-    ensures { option_map (λ pair. (pair.0.now, pair.1)) result ≡ told_by (book_of entries.now) row.now }
+fn info<'b>(entries: &'b [Entry], row: &ClientRow) -> Option<(&'b Id, Num)>
+    ensures { option_map (λ pair. (pair.0.now, pair.1)) result ≡ info_by (book_of entries.now) row.now }
 {
     match entries.get(row.first as usize)? {
         Entry::Act { client, .. } => Some((client, Num::from_u64(row.acts as u64))),
@@ -81,9 +81,9 @@ fn add(
     entries: &[Entry],
     row: &ClientRow,
 ) -> Result<(), Memory>
-    ensures { OnOk result (clients.new.items ≡ clients.old.items ++ cons_option (told_by (book_of entries.now) row.now) []) }
+    ensures { OnOk result (clients.new.items ≡ clients.old.items ++ cons_option (info_by (book_of entries.now) row.now) []) }
 {
-    match told(entries, row) {
+    match info(entries, row) {
         Some((client, last)) => {
             clients.push((client.copy(alloc)?, last))?;
             Ok(())
@@ -125,10 +125,10 @@ fn group_with<'b>(entries: &'b [Entry], rows: &[ClientRow], group: &'b Id, clien
 // Enters an act of a client of a group, which follows the entries.
 fn enter_act(entries: &[Entry], rows: &mut Vec<ClientRow>, group: &Id, client: &Id)
     requires rows { AreMemberRows (book_of entries.now) rows.old.items }
-    requires room { 1 ≤ vec_capacity rows.old - vec_len rows.old }
+    requires spare { 1 ≤ vec_capacity rows.old - vec_len rows.old }
     requires length { length entries.now + 1 < 2 ^ 32 }
     ensures rows { (entry : Entry) → is_act_of client.now entry ≡ true → group_of client.now (with_entry (book_of entries.now) entry) ≡ Some group.now → AreMemberRows (with_entry (book_of entries.now) entry) rows.new.items }
-    ensures room { vec_capacity rows.old - vec_len rows.old ≤ (vec_capacity rows.new - vec_len rows.new) + 1 }
+    ensures spare { vec_capacity rows.old - vec_len rows.old ≤ (vec_capacity rows.new - vec_len rows.new) + 1 }
 {
     match place(entries, rows, group, client) {
         Ok(at) => rows[at].acts += 1,
@@ -154,10 +154,10 @@ pub(crate) fn enter(
 )
     requires clients { AreClientRows (book_of entries.now) clients.now }
     requires rows { AreMemberRows (book_of entries.now) rows.old.items }
-    requires room { 1 ≤ vec_capacity rows.old - vec_len rows.old }
+    requires spare { 1 ≤ vec_capacity rows.old - vec_len rows.old }
     requires length { length entries.now + 1 < 2 ^ 32 }
     ensures rows { AreMemberRows (with_entry (book_of entries.now) entry.now) rows.new.items }
-    ensures room { vec_capacity rows.old - vec_len rows.old ≤ (vec_capacity rows.new - vec_len rows.new) + 1 }
+    ensures spare { vec_capacity rows.old - vec_len rows.old ≤ (vec_capacity rows.new - vec_len rows.new) + 1 }
 {
     match entry {
         Entry::Act { group, client, .. } => enter_act(

@@ -9,17 +9,17 @@ use Rattle.rv_keeper.specs.declared.loaded.Loaded.{Loaded}
 use Rattle.rv_desk.specs.Seated.{Seated, HoldsBook, served}
 use Rattle.rv_cli.specs.declared.ending.Ending.{Ending}
 use Rattle.rv_cli.specs.declared.ending.Ending.TheVariants.{Done, Keeper, Damaged, Read, Write, Memory, Malformed}
-use Rattle.rv_cli.specs.Feeding.{RoseAt, GoesOn, EndedLine, LastLine, Feeds, FeedsWith}
+use Rattle.rv_cli.specs.Feeding.{RoseAt, LineGoesOn, EndedLine, LastLine, Feeds, FeedsWith}
 use Rattle.rv_cli.proofs.Going.{Going, going_answered, going_stopped, going_later, ends_line, ends_last, last_answered, last_stopped}
 
 module _ {K : Type 0} (tells : K → Type 0) (holds : K → Loaded → Type 0) (faults : K → ℕ) (begun : Seated K) (start : InputState) (first : OutputState) where
   -- a line after which the lines go on
   pub going_on : (desk next : Seated K) (old new : InputState) (out out' : OutputState) (pending pending' bytes : List ℕ) (number : ℕ) → Going (tells desk.keeper) (served faults begun) start old first out pending number (served faults desk)
       → ReadsFor pending old new false false → HasNoLf bytes → length bytes ≤ longest_line → Consumes (unread pending old.left) (unread pending' new.left) (bytes ++ 10 ∷ []) → number < 2 ^ 32 → (tells next.keeper → tells desk.keeper)
-      → GoesOn tells holds faults desk bytes next out out' → Going (tells next.keeper) (served faults begun) start new first out' pending' (number + 1) (served faults next)
-  going_on desk next old new out out' pending pending' bytes number w r h le c lt then (GoesOn.answered a) =
+      → LineGoesOn tells holds faults desk bytes next out out' → Going (tells next.keeper) (served faults begun) start new first out' pending' (number + 1) (served faults next)
+  going_on desk next old new out out' pending pending' bytes number w r h le c lt then (LineGoesOn.answered a) =
       going_answered (tells desk.keeper) (tells next.keeper) (served faults begun) start old new first out out' pending pending' bytes number (served faults desk) (served faults next) then w r h le c lt a
-  going_on desk next old new out out' pending pending' bytes number w r h le c lt then (GoesOn.stopped s) =
+  going_on desk next old new out out' pending pending' bytes number w r h le c lt then (LineGoesOn.stopped s) =
       going_stopped (tells desk.keeper) (tells next.keeper) (served faults begun) start old new first out out' pending pending' bytes number (served faults desk) (served faults next) then w r h le c lt s
 
   rose_since : (ending : Ending) (before mid : ℕ) (now : K) → before ≤ mid → RoseAt tells holds faults ending mid now → RoseAt tells holds faults ending before now
@@ -56,10 +56,10 @@ module _ {K : Type 0} (tells : K → Type 0) (holds : K → Loaded → Type 0) (
 
   done_last : (desk next : Seated K) (old new : InputState) (out out' : OutputState) (pending pending' bytes : List ℕ) (number : ℕ) → Going (tells desk.keeper) (served faults begun) start old first out pending number (served faults desk)
       → ReadsFor pending old new true false → HasNoLf bytes → 0 < length bytes → length bytes ≤ longest_line → Consumes (unread pending old.left) (unread pending' new.left) bytes → IsAtEnd (unread pending' new.left) → number < 2 ^ 32
-      → (tells next.keeper → tells desk.keeper) → GoesOn tells holds faults desk bytes next out out' → Feeds (tells next.keeper) (served faults begun) (served faults next) start new first out' Done
-  done_last desk next old new out out' pending pending' bytes number w r h some le c e lt then (GoesOn.answered a) =
+      → (tells next.keeper → tells desk.keeper) → LineGoesOn tells holds faults desk bytes next out out' → Feeds (tells next.keeper) (served faults begun) (served faults next) start new first out' Done
+  done_last desk next old new out out' pending pending' bytes number w r h some le c e lt then (LineGoesOn.answered a) =
       last_answered (tells desk.keeper) (tells next.keeper) (served faults begun) start old new first out out' pending pending' bytes number (served faults desk) (served faults next) then w r h some le c e lt a
-  done_last desk next old new out out' pending pending' bytes number w r h some le c e lt then (GoesOn.stopped s) =
+  done_last desk next old new out out' pending pending' bytes number w r h some le c e lt then (LineGoesOn.stopped s) =
       last_stopped (tells desk.keeper) (tells next.keeper) (served faults begun) start old new first out out' pending pending' bytes number (served faults desk) (served faults next) then w r h some le c e lt s
 
   -- a line that ends with the input

@@ -18,7 +18,7 @@ use Rattle.rv_cli.specs.declared.ending.Ending.{Ending}
 use Rattle.rv_cli.specs.declared.ending.Ending.TheVariants.{Done, Keeper, Damaged, Read, Write, Memory, Malformed}
 use Rattle.rv_cli.specs.Texts.{text_of}
 use Rattle.rv_cli.specs.Headline.{line_at, Answered}
-use Rattle.rv_cli.specs.Feeding.{Stays, WritesAnswer, CutsAnswer, Stopped, EndsLine, FedAnswers, Feeds}
+use Rattle.rv_cli.specs.Feeding.{OutputStays, WritesAnswer, CutsAnswer, Stopped, EndsLine, FedAnswers, Feeds}
 use Rattle.rv_cli.specs.RunLaws.{line_as, too_long, too_late, answered_later, answered_more, answered_none}
 
 -- All lines so far were ended and taken, and no fault rose.
@@ -31,7 +31,7 @@ pub record Going (Told : Type 0) (begun : Served) (start input : InputState) (fi
   pub count : number ≡ length lines + 1
   pub faults : input.faults ≡ start.faults
   pub ends : input.ends ≡ start.ends
-  pub stays : Stays first out
+  pub stays : OutputStays first out
 
 pub going_first : (Told : Type 0) (begun : Served) (start : InputState) (first : OutputState) (pending : List ℕ) → pending ≡ [] → Going Told begun start start first first pending 1 begun
 going_first Told begun start first pending e = record {
@@ -139,21 +139,21 @@ module _ (Told : Type 0) (begun : Served) where
         record { read = read; text = w.text; consumed = on.consumed; appended = w.appended; ends = record { lines = w.lines; line = line; others = others; are = on.are; count = w.count; asks = too_long number line lt; needed = on.needed; answered = w.answered } });
   }
 
-  -- What was looked at: a line that ends at an LF, or with the input.
-  pub record Looked (start old new : InputState) (line : List ℕ) (lines : List (List ℕ)) : Type 0 where
+  -- What was examined: a line that ends at an LF, or with the input.
+  pub record Examined (start old new : InputState) (line : List ℕ) (lines : List (List ℕ)) : Type 0 where
     pub ends : (new.ends ≡ old.ends) ⊎ (new.ends ≡ counted old.ends)
     pub on : (bytes : List ℕ) → start.left ≡ Some bytes → (read : List ℕ) × (others more : List (List ℕ)) × ReadOn bytes new.left read lines (line ∷ others) × (lines_of read ≡ lines ++ line ∷ more)
 
-  pub looked_line : (start old new : InputState) (pending pending' line : List ℕ) (lines : List (List ℕ)) → Taken start.left pending old.left lines → ReadsFor pending old new false false → HasNoLf line
-      → Consumes (unread pending old.left) (unread pending' new.left) (line ++ 10 ∷ []) → Looked start old new line lines
-  looked_line start old new pending pending' line lines t r h c = record {
+  pub examined_line : (start old new : InputState) (pending pending' line : List ℕ) (lines : List (List ℕ)) → Taken start.left pending old.left lines → ReadsFor pending old new false false → HasNoLf line
+      → Consumes (unread pending old.left) (unread pending' new.left) (line ++ 10 ∷ []) → Examined start old new line lines
+  examined_line start old new pending pending' line lines t r h c = record {
     ends = inl r.ends;
     on = λ bytes is. read_line bytes pending pending' old new lines line (of_bytes start.left bytes pending old.left lines is t) r.ahead h c;
   }
 
-  pub looked_last : (start old new : InputState) (pending pending' line : List ℕ) (lines : List (List ℕ)) → Taken start.left pending old.left lines → ReadsFor pending old new true false → HasNoLf line → 0 < length line
-      → Consumes (unread pending old.left) (unread pending' new.left) line → IsAtEnd (unread pending' new.left) → Looked start old new line lines
-  looked_last start old new pending pending' line lines t r h lt c e = record {
+  pub examined_last : (start old new : InputState) (pending pending' line : List ℕ) (lines : List (List ℕ)) → Taken start.left pending old.left lines → ReadsFor pending old new true false → HasNoLf line → 0 < length line
+      → Consumes (unread pending old.left) (unread pending' new.left) line → IsAtEnd (unread pending' new.left) → Examined start old new line lines
+  examined_last start old new pending pending' line lines t r h lt c e = record {
     ends = inr r.ends;
     on = λ bytes is. let on = read_last bytes pending pending' old new lines line (of_bytes start.left bytes pending old.left lines is t) r.ahead h lt c e in (bytes, [], [], on, on.are);
   }
@@ -164,7 +164,7 @@ module _ (Told : Type 0) (begun : Served) where
 
   -- the line isn't of the form
   pub line_malformed : (start old new : InputState) (first out : OutputState) (pending line : List ℕ) (number : ℕ) (now : Served) (w : Going Told begun start old first out pending number now)
-      → Looked start old new line w.lines → new.faults ≡ old.faults → line_at number line ≡ None → Feeds Told begun now start new first out (Malformed number)
+      → Examined start old new line w.lines → new.faults ≡ old.faults → line_at number line ≡ None → Feeds Told begun now start new first out (Malformed number)
   line_malformed start old new first out pending line number now w l still none = record {
     reads = (still ∙ w.faults, ends_as start old new w.ends l.ends);
     writes = w.stays.faults;
@@ -175,7 +175,7 @@ module _ (Told : Type 0) (begun : Served) where
 
   -- memory was refused before it was known what the line asks
   pub line_memory : (start old new : InputState) (first out : OutputState) (pending line : List ℕ) (number : ℕ) (now : Served) (w : Going Told begun start old first out pending number now)
-      → Looked start old new line w.lines → new.faults ≡ old.faults → Feeds Told begun now start new first out Memory
+      → Examined start old new line w.lines → new.faults ≡ old.faults → Feeds Told begun now start new first out Memory
   line_memory start old new first out pending line number now w l still = record {
     reads = (still ∙ w.faults, ends_as start old new w.ends l.ends);
     writes = w.stays.faults;
@@ -186,7 +186,7 @@ module _ (Told : Type 0) (begun : Served) where
 
   -- a write of the answer failed
   pub line_cut : (start old new : InputState) (first out out' : OutputState) (pending line : List ℕ) (number : ℕ) (now next : Served) (w : Going Told begun start old first out pending number now)
-      → Looked start old new line w.lines → new.faults ≡ old.faults → length line ≤ longest_line → number < 2 ^ 32 → CutsAnswer Told now line next out out' → Feeds Told begun next start new first out' Write
+      → Examined start old new line w.lines → new.faults ≡ old.faults → length line ≤ longest_line → number < 2 ^ 32 → CutsAnswer Told now line next out out' → Feeds Told begun next start new first out' Write
   line_cut start old new first out out' pending line number now next w l still le lt a = record {
     reads = (still ∙ w.faults, ends_as start old new w.ends l.ends);
     writes = rw (← w.stays.faults) a.rose;
@@ -221,7 +221,7 @@ module _ (Told : Type 0) (begun : Served) where
 
   -- memory was refused, or the store did not open again after a stop
   line_memory_or_closed : (start old new : InputState) (first out : OutputState) (pending line : List ℕ) (number : ℕ) (now : Served) (w : Going Told begun start old first out pending number now)
-      → Looked start old new line w.lines → new.faults ≡ old.faults → length line ≤ longest_line → number < 2 ^ 32 → line_of line ≡ Some Stop
+      → Examined start old new line w.lines → new.faults ≡ old.faults → length line ≤ longest_line → number < 2 ^ 32 → line_of line ≡ Some Stop
       → Feeds Told begun now start new first out Keeper × ((damage : Damage) → Feeds Told begun now start new first out (Damaged damage))
   line_memory_or_closed start old new first out pending line number now w l still le lt stop =
       let is : line_at (length w.lines + 1) line ≡ Some Stop = subst (λ (n : ℕ). line_at n line ≡ Some Stop) w.count (is_at number line (Some Stop) le lt stop) in (
@@ -241,21 +241,21 @@ module _ (Told : Type 0) (begun : Served) where
         },
       )
 
-  -- how a line that was looked at ends the run
-  ends_looked : {K : Type 0} (tells : K → Type 0) (holds : K → Loaded → Type 0) (faults : K → ℕ) (start old new : InputState) (first out out' : OutputState) (pending line : List ℕ) (number : ℕ) (now next : Served) (ending : Ending)
-      → (w : Going Told begun start old first out pending number now) → Looked start old new line w.lines → new.faults ≡ old.faults → length line ≤ longest_line → number < 2 ^ 32 → EndsLine tells holds faults Told now line number next out out' ending
+  -- how a line that was examined ends the run
+  ends_examined : {K : Type 0} (tells : K → Type 0) (holds : K → Loaded → Type 0) (faults : K → ℕ) (start old new : InputState) (first out out' : OutputState) (pending line : List ℕ) (number : ℕ) (now next : Served) (ending : Ending)
+      → (w : Going Told begun start old first out pending number now) → Examined start old new line w.lines → new.faults ≡ old.faults → length line ≤ longest_line → number < 2 ^ 32 → EndsLine tells holds faults Told now line number next out out' ending
       → Feeds Told begun next start new first out' ending
-  ends_looked tells holds faults start old new first out out' pending line number now next Done w l still le lt never = absurd never
-  ends_looked tells holds faults start old new first out out' pending line number now next Read w l still le lt never = absurd never
-  ends_looked tells holds faults start old new first out out' pending line number now next Write w l still le lt cut = line_cut start old new first out out' pending line number now next w l still le lt cut
-  ends_looked tells holds faults start old new first out out' pending line number now next Memory w l still le lt (same, kept) =
+  ends_examined tells holds faults start old new first out out' pending line number now next Done w l still le lt never = absurd never
+  ends_examined tells holds faults start old new first out out' pending line number now next Read w l still le lt never = absurd never
+  ends_examined tells holds faults start old new first out out' pending line number now next Write w l still le lt cut = line_cut start old new first out out' pending line number now next w l still le lt cut
+  ends_examined tells holds faults start old new first out out' pending line number now next Memory w l still le lt (same, kept) =
       subst (λ (s : Served). Feeds Told begun s start new first out' Memory) (sym same) (subst (λ (o : OutputState). Feeds Told begun now start new first o Memory) (sym kept) (line_memory start old new first out pending line number now w l still))
-  ends_looked tells holds faults start old new first out out' pending line number now next (Malformed n) w l still le lt (is, none, same, kept) =
+  ends_examined tells holds faults start old new first out out' pending line number now next (Malformed n) w l still le lt (is, none, same, kept) =
       subst (λ (s : Served). Feeds Told begun s start new first out' (Malformed n)) (sym same) (subst (λ (o : OutputState). Feeds Told begun now start new first o (Malformed n)) (sym kept)
       (subst (λ (m : ℕ). Feeds Told begun now start new first out (Malformed m)) (sym is) (line_malformed start old new first out pending line number now w l still (is_at number line None le lt none))))
-  ends_looked tells holds faults start old new first out out' pending line number now next Keeper w l still le lt (stop, same, kept) =
+  ends_examined tells holds faults start old new first out out' pending line number now next Keeper w l still le lt (stop, same, kept) =
       subst (λ (s : Served). Feeds Told begun s start new first out' Keeper) (sym same) (subst (λ (o : OutputState). Feeds Told begun now start new first o Keeper) (sym kept) (line_memory_or_closed start old new first out pending line number now w l still le lt stop).0)
-  ends_looked tells holds faults start old new first out out' pending line number now next (Damaged damage) w l still le lt (stop, same, kept) =
+  ends_examined tells holds faults start old new first out out' pending line number now next (Damaged damage) w l still le lt (stop, same, kept) =
       subst (λ (s : Served). Feeds Told begun s start new first out' (Damaged damage)) (sym same) (subst (λ (o : OutputState). Feeds Told begun now start new first o (Damaged damage)) (sym kept) ((line_memory_or_closed start old new first out pending line number now w l still le lt stop).1 damage))
 
   -- the line ended at an LF
@@ -263,14 +263,14 @@ module _ (Told : Type 0) (begun : Served) where
       → Going Told begun start old first out pending number now → ReadsFor pending old new false false → HasNoLf line → length line ≤ longest_line → Consumes (unread pending old.left) (unread pending' new.left) (line ++ 10 ∷ [])
       → number < 2 ^ 32 → EndsLine tells holds faults Told now line number next out out' ending → Feeds Told begun next start new first out' ending
   ends_line tells holds faults start old new first out out' pending pending' line number now next ending w r h le c lt e =
-      ends_looked tells holds faults start old new first out out' pending line number now next ending w (looked_line start old new pending pending' line w.lines w.taken r h c) r.faults le lt e
+      ends_examined tells holds faults start old new first out out' pending line number now next ending w (examined_line start old new pending pending' line w.lines w.taken r h c) r.faults le lt e
 
   -- or with the input
   pub ends_last : {K : Type 0} (tells : K → Type 0) (holds : K → Loaded → Type 0) (faults : K → ℕ) (start old new : InputState) (first out out' : OutputState) (pending pending' line : List ℕ) (number : ℕ) (now next : Served) (ending : Ending)
       → Going Told begun start old first out pending number now → ReadsFor pending old new true false → HasNoLf line → 0 < length line → length line ≤ longest_line → Consumes (unread pending old.left) (unread pending' new.left) line → IsAtEnd (unread pending' new.left)
       → number < 2 ^ 32 → EndsLine tells holds faults Told now line number next out out' ending → Feeds Told begun next start new first out' ending
   ends_last tells holds faults start old new first out out' pending pending' line number now next ending w r h some le c e lt ends =
-      ends_looked tells holds faults start old new first out out' pending line number now next ending w (looked_last start old new pending pending' line w.lines w.taken r h some c e) r.faults le lt ends
+      ends_examined tells holds faults start old new first out out' pending line number now next ending w (examined_last start old new pending pending' line w.lines w.taken r h some c e) r.faults le lt ends
 
   -- all lines were taken, the last with the input's end
   lines_done : (start old new : InputState) (first out' : OutputState) (pending pending' line text : List ℕ) (lines : List (List ℕ)) (next : Served)
@@ -288,13 +288,13 @@ module _ (Told : Type 0) (begun : Served) where
   pub ends_late_line : (start old new : InputState) (first out : OutputState) (pending pending' line : List ℕ) (number : ℕ) (now : Served)
       → Going Told begun start old first out pending number now → ReadsFor pending old new false false → HasNoLf line → Consumes (unread pending old.left) (unread pending' new.left) (line ++ 10 ∷ [])
       → 2 ^ 32 ≤ number → Feeds Told begun now start new first out (Malformed number)
-  ends_late_line start old new first out pending pending' line number now w r h c late = line_malformed start old new first out pending line number now w (looked_line start old new pending pending' line w.lines w.taken r h c) r.faults (too_late number line late)
+  ends_late_line start old new first out pending pending' line number now w r h c late = line_malformed start old new first out pending line number now w (examined_line start old new pending pending' line w.lines w.taken r h c) r.faults (too_late number line late)
 
   pub ends_late_last : (start old new : InputState) (first out : OutputState) (pending pending' line : List ℕ) (number : ℕ) (now : Served)
       → Going Told begun start old first out pending number now → ReadsFor pending old new true false → HasNoLf line → 0 < length line → Consumes (unread pending old.left) (unread pending' new.left) line → IsAtEnd (unread pending' new.left)
       → 2 ^ 32 ≤ number → Feeds Told begun now start new first out (Malformed number)
   ends_late_last start old new first out pending pending' line number now w r h some c e late =
-      line_malformed start old new first out pending line number now w (looked_last start old new pending pending' line w.lines w.taken r h some c e) r.faults (too_late number line late)
+      line_malformed start old new first out pending line number now w (examined_last start old new pending pending' line w.lines w.taken r h some c e) r.faults (too_late number line late)
 
 -- the last line was answered, or was a stop
 pub last_answered : (Told Now : Type 0) (begun : Served) (start old new : InputState) (first out out' : OutputState) (pending pending' line : List ℕ) (number : ℕ) (now next : Served)

@@ -13,9 +13,9 @@ use Rattle.rv_answering.specs.declared.request.Request.TheVariants.{Push, Pull, 
 use Rattle.rv_answering.specs.declared.line.Line.{Line}
 use Rattle.rv_answering.specs.declared.line.Line.TheVariants.{Asks, Stop}
 use Rattle.rv_answering.specs.Requests.{Parsed}
-use Rattle.rv_answering.specs.AnswerLaws.{no_push, same_reply}
+use Rattle.rv_answering.specs.AnswerLaws.{no_push, pulled_same}
 use Rattle.rv_answering.specs.Steps.{Answers, answer_of}
-use Rattle.rv_cli.specs.Headline.{Handles, Reopens, Takes, Run, ShowsAt, IsLawfulRun, IsShown}
+use Rattle.rv_cli.specs.Headline.{Handles, Reopens, TakesLine, Run, ShowsAt, IsLawfulRun, IsShown}
 use Rattle.rv_wire.specs.Answers.{pull_json}
 use Rattle.rv_turns.specs.declared.pull.PullRequest.{PullRequest}
 use Rattle.rv_turns.specs.declared.pull.PullReply.{PullReply}
@@ -27,13 +27,13 @@ law_same : (old new : Served) → new ≡ old → IsSound old → KeepsLaw old n
 law_same old new same sound = subst (λ (s : Served). KeepsLaw old s) (sym same) (record { sound = sound; more = extends_same old.book old.book refl; limit = refl; later = omega arith })
 
 -- the law over stops: the book goes on where what is kept is told
-record Kept (Told : Type 0) (old new : Served) : Type 0 where
+record KeptLawful (Told : Type 0) (old new : Served) : Type 0 where
   pub sound : IsSound new
   pub more : Told → Extends new.book old.book
   pub later : old.faults ≤ new.faults
   pub limit : old.limit ≡ 2 ^ 32 - 1 → new.limit ≡ 2 ^ 32 - 1
 
-kept_on : (Told : Type 0) (old mid new : Served) → Kept Told old mid → Kept Told mid new → Kept Told old new
+kept_on : (Told : Type 0) (old mid new : Served) → KeptLawful Told old mid → KeptLawful Told mid new → KeptLawful Told old new
 kept_on Told old mid new before after = record {
   sound = after.sound;
   more = λ told. extends_on new.book mid.book old.book (after.more told) (before.more told);
@@ -41,10 +41,10 @@ kept_on Told old mid new before after = record {
   limit = λ is. after.limit (before.limit is);
 }
 
-kept_law : (Told : Type 0) (old new : Served) → KeepsLaw old new → Kept Told old new
+kept_law : (Told : Type 0) (old new : Served) → KeepsLaw old new → KeptLawful Told old new
 kept_law Told old new law = record { sound = law.sound; more = λ told. law.more; later = law.later; limit = λ is. law.limit ∙ is }
 
-kept_reopened : (Told : Type 0) (old new : Served) → Reopens Told old new → Kept Told old new
+kept_reopened : (Told : Type 0) (old new : Served) → Reopens Told old new → KeptLawful Told old new
 kept_reopened Told old new r = record { sound = r.sound; more = λ told. settles_go old.book old.doubt new.book (r.settled told); later = let n = r.faults in omega (arith, n); limit = λ is. r.limit }
 
 module _ (pushes : PushesKeepLaw pull_json) (turns : TurnsKeepLaw pull_json) where
@@ -62,13 +62,13 @@ module _ (pushes : PushesKeepLaw pull_json) (turns : TurnsKeepLaw pull_json) whe
   step_keeps old new (Err fault) answer (acted, inl wants) sound = law_same old new wants.2 sound
   step_keeps old new (Err fault) answer (acted, inr told) sound = law_same old new told.2 sound
 
-  takes_keep : (Told : Type 0) (old new : Served) (line : Line) (answer : Option Answer) → Takes Told old line answer new → IsSound old → Kept Told old new
+  takes_keep : (Told : Type 0) (old new : Served) (line : Line) (answer : Option Answer) → TakesLine Told old line answer new → IsSound old → KeptLawful Told old new
   takes_keep Told old new (Asks asked) (Some answer) taken sound = kept_law Told old new (step_keeps old new asked answer taken.step sound)
   takes_keep Told old new Stop None reopens sound = kept_reopened Told old new reopens
   takes_keep Told old new (Asks asked) None never sound = absurd never
   takes_keep Told old new Stop (Some answer) never sound = absurd never
 
-  run_keeps : (Told : Type 0) (first now : Served) (lines : List Line) (answers : List (Option Answer)) → Run Told first lines answers now → IsSound first → Kept Told first now
+  run_keeps : (Told : Type 0) (first now : Served) (lines : List Line) (answers : List (Option Answer)) → Run Told first lines answers now → IsSound first → KeptLawful Told first now
   run_keeps Told first now [] [] same sound = kept_law Told first now (law_same first now same sound)
   run_keeps Told first now [] (answer ∷ answers) h sound = absurd h
   run_keeps Told first now (line ∷ lines) [] h sound = absurd h
@@ -83,7 +83,7 @@ module _ (pushes : PushesKeepLaw pull_json) (turns : TurnsKeepLaw pull_json) whe
 -- no retirement is answered by a reply
 pub no_retirement : (old new : Served) (group : List ℕ) (reply : PullReply) (outcome : Outcome) → Pulled reply ≡ answer_of outcome → TakesTurn pull_json old (Ask.retirement group) outcome new → ⊥
 no_retirement old new group reply outcome is taken =
-    let here : TakesTurn pull_json old (Ask.retirement group) (outcomes.Pulled reply) new = subst (λ (o : Outcome). TakesTurn pull_json old (Ask.retirement group) o new) (same_reply reply outcome is) taken in
+    let here : TakesTurn pull_json old (Ask.retirement group) (outcomes.Pulled reply) new = subst (λ (o : Outcome). TakesTurn pull_json old (Ask.retirement group) o new) (pulled_same reply outcome is) taken in
     step_of pull_json (Ask.retirement group) (outcomes.Pulled reply) old new here refl
 
 -- the pull was answered at the settled book
@@ -111,7 +111,7 @@ shown_at : PullsShow pull_json → (point new : Served) (asked : Parsed) (reply 
 shown_at show point new (Ok (Push user push)) reply (acted, inl wants) = absurd (let no = wants.0 in cc)
 shown_at show point new (Ok (Push user push)) reply (acted, inr (refused, h, is)) = absurd (no_push reply refused is)
 shown_at show point new (Ok (Pull user pull)) reply (acted, inl wants) = absurd (let no = wants.0 in cc)
-shown_at show point new (Ok (Pull user pull)) reply (acted, inr (outcome, h, is, none)) = pulled_at show point new user pull reply outcome (same_reply reply outcome is) h
+shown_at show point new (Ok (Pull user pull)) reply (acted, inr (outcome, h, is, none)) = pulled_at show point new user pull reply outcome (pulled_same reply outcome is) h
 shown_at show point new (Ok (Retire group)) reply (acted, (outcome, h, is, none)) = absurd (no_retirement point new group reply outcome is h)
 shown_at show point new (Err fault) reply (acted, inl wants) = absurd (let no = wants.0 in cc)
 shown_at show point new (Err fault) reply (acted, inr told) = absurd (let no = told.0 in cc)

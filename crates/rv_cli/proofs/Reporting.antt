@@ -13,26 +13,26 @@ use Rattle.rv_desk.specs.Seated.{Seated, served, HoldsBook}
 use Rattle.rv_cli.specs.declared.ending.Ending.{Ending}
 use Rattle.rv_cli.specs.declared.ending.Ending.TheVariants.{Done, Keeper, Damaged, Read, Write, Memory, Malformed}
 use Rattle.rv_cli.specs.Change.{change}
-use Rattle.rv_cli.specs.Headline.{Reported, TellsSound, WritesReport}
-use Rattle.rv_cli.specs.Reporting.{WritesText, WritesMade, WasSound, ChecksStore, ChecksKept}
+use Rattle.rv_cli.specs.Headline.{Reported, ReportsSound, WritesReport}
+use Rattle.rv_cli.specs.Reporting.{WritesUntil, WritesMade, WasSound, ChecksStore, ChecksKept}
 use Rattle.rv_cli.specs.Storing.{HasOpened}
 use Rattle.rv_cli.specs.Texts.{keep_ending}
 use Rattle.rv_cli.proofs.Storing.{WentBack, begins, leaves, not_given, store_opened}
 
 -- what was written of a text is written of a report that tells it
-pub reports_text : (Tells : List ℕ → Type 0) (text : List ℕ) (old new : OutputState) (ending : Ending) → Tells text → WritesText old new text ending → WritesReport Tells old new ending
-reports_text Tells text old new Done is (appended, still) = (text, is, appended, still)
-reports_text Tells text old new Write is (front, rose) = (text, is, front, rose)
-reports_text Tells text old new Keeper is never = never
-reports_text Tells text old new (Damaged damage) is never = never
-reports_text Tells text old new Read is never = never
-reports_text Tells text old new Memory is never = absurd never
-reports_text Tells text old new (Malformed number) is never = never
+pub reports_text : (Reports : List ℕ → Type 0) (text : List ℕ) (old new : OutputState) (ending : Ending) → Reports text → WritesUntil old new text ending → WritesReport Reports old new ending
+reports_text Reports text old new Done is (appended, still) = (text, is, appended, still)
+reports_text Reports text old new Write is (front, rose) = (text, is, front, rose)
+reports_text Reports text old new Keeper is never = never
+reports_text Reports text old new (Damaged damage) is never = never
+reports_text Reports text old new Read is never = never
+reports_text Reports text old new Memory is never = absurd never
+reports_text Reports text old new (Malformed number) is never = never
 
 -- and so of one for which there may be no memory
-pub reports_made : (Tells : List ℕ → Type 0) (made : Result (List ℕ) Refused) (old new : OutputState) (ending : Ending) → ((text : List ℕ) → made ≡ Ok text → Tells text) → WritesMade old new made ending → WritesReport Tells old new ending
-reports_made Tells (Ok text) old new ending is w = reports_text Tells text old new ending (is text refl) w
-reports_made Tells (Err refused) old new ending is (e, w) = subst (λ (ending : Ending). WritesReport Tells old new ending) (sym e) w
+pub reports_made : (Reports : List ℕ → Type 0) (made : Result (List ℕ) Refused) (old new : OutputState) (ending : Ending) → ((text : List ℕ) → made ≡ Ok text → Reports text) → WritesMade old new made ending → WritesReport Reports old new ending
+reports_made Reports (Ok text) old new ending is w = reports_text Reports text old new ending (is text refl) w
+reports_made Reports (Err refused) old new ending is (e, w) = subst (λ (ending : Ending). WritesReport Reports old new ending) (sym e) w
 
 -- what holds of the value at an Ok holds of it where the result is that
 pub if_ok : {T E : Type 0} (P : T → Type 0) (r : Result T E) (x : T) → IfOk r P → r ≡ Ok x → P x
@@ -43,11 +43,11 @@ module _ {P K : Type 0} (place : PlaceGhosts P K) (G : Ghosts K) (store : List �
   Back mid new keeper = WentBack place G store mid new keeper
 
   -- the desk was opened and reported of, and its keeper went back
-  pub has_reported : (Tells : Book → List ℕ → Type 0) (old mid new : P) (desk : Seated K) (keeper : K) (out out' : OutputState) (ending : Ending)
+  pub has_reported : (Reports : Book → List ℕ → Type 0) (old mid new : P) (desk : Seated K) (keeper : K) (out out' : OutputState) (ending : Ending)
       → HasOpened place G store old desk mid → keeper ≡ desk.keeper → (G.tells desk.keeper → HoldsBook (G.holds desk.keeper) desk.book desk.doubt)
-      → Back mid new keeper → WritesReport (Tells desk.book) out out' ending
-      → Reported (change place store old new) Tells out out' ending
-  has_reported Tells old mid new desk keeper out out' ending opened is held back w =
+      → Back mid new keeper → WritesReport (Reports desk.book) out out' ending
+      → Reported (change place store old new) Reports out out' ending
+  has_reported Reports old mid new desk keeper out out' ending opened is held back w =
       let home = subst (λ (k : K). Back mid new k) is back in
       record {
         first = served G.faults desk;
@@ -86,11 +86,11 @@ module _ {P K : Type 0} (place : PlaceGhosts P K) (G : Ghosts K) (store : List �
 
 -- the store was checked, and told to be sound
 pub has_checked : {P K : Type 0} (place : PlaceGhosts P K) (store : List ℕ) (old new : P) (entries : ℕ) (out out' : OutputState) (ending : Ending)
-    → WasSound place store old new entries → WritesText out out' (codes "ok " ++ (decimal entries ++ codes "\n")) ending
-    → Reported (change place store old new) TellsSound out out' ending
+    → WasSound place store old new entries → WritesUntil out out' (codes "ok " ++ (decimal entries ++ codes "\n")) ending
+    → Reported (change place store old new) ReportsSound out out' ending
 has_checked place store old new entries out out' ending was w = record {
   first = record { book = was.book; limit = 2 ^ 32 - 1; doubt = None; faults = 0 };
   begins = record { loaded = was.loaded; stored = was.stored; opens = was.opens; limit = refl; doubt = refl; faults = refl };
-  writes = reports_text (TellsSound was.book) _ out out' ending (ap (λ n. codes "ok " ++ (decimal n ++ codes "\n")) (sym was.length)) w;
-  leaves = record { held = λ t. (was.loaded, was.held t, was.opens.kept); kept = 0; later = omega arith; taken = was.same };
+  writes = reports_text (ReportsSound was.book) _ out out' ending (ap (λ n. codes "ok " ++ (decimal n ++ codes "\n")) (sym was.length)) w;
+  leaves = record { held = λ t. (was.loaded, was.held t, inl was.opens.kept); kept = 0; later = omega arith; taken = was.same };
 }

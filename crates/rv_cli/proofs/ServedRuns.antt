@@ -4,7 +4,7 @@ use Rattle.std.specs.List.{AllByRecursion, flat_map}
 use Rattle.rv_base.specs.Causes.{Rose}
 use Rattle.rv_base.specs.declared.outside.Source.{Ghosts as SourceGhosts}
 use Rattle.rv_base.specs.declared.outside.Sink.{Ghosts as SinkGhosts}
-use Rattle.rv_accounts.specs.File.{Served as AccountsServed}
+use Rattle.rv_accounts.specs.File.{AccountsServed}
 use Rattle.rv_book.specs.Book.{Book, Extends}
 use Rattle.rv_book.specs.BookWords.{extends_same, extends_on}
 use Rattle.rv_history.specs.TurnLaws.{goes_from, step_of, turn_goes}
@@ -24,9 +24,9 @@ use Rattle.rv_room.specs.Views.{newcomer}
 use Rattle.rv_serve.specs.Laws.{RunsTurns, turns_of}
 use Rattle.rv_serve.specs.RunLaws.{conns_run}
 use Rattle.rv_workers.specs.Serving.{EachServes}
-use Rattle.rv_cli.specs.Headline.{TellsChange, TellsTrouble}
+use Rattle.rv_cli.specs.Headline.{AnswersChange, AnswersTrouble}
 use Rattle.rv_cli.specs.Serving.{IsShownIn, ServedBooksAreLawful, ServedKeepersStay, ServedPullsAreShown, ServedTroublesHaveCauses, Serves, ShowsIn, StandsIn, TurnsStand, turns_served}
-use Rattle.rv_answering.specs.AnswerLaws.{no_push, same_reply}
+use Rattle.rv_answering.specs.AnswerLaws.{no_push, pulled_same}
 use Rattle.rv_cli.proofs.LawfulRuns.{no_retirement, pulled_shown}
 use Rattle.rv_cli.proofs.Troubled.{HasTrouble, any_step_causes, taken_rises, turns_each, turns_later}
 use Rattle.rv_wire.specs.Answers.{pull_json}
@@ -141,11 +141,11 @@ module _ {K : Type 0} (G : Ghosts K) (ask : Ask) (old new : SeatView K) (outcome
 
 module _ {K : Type 0} (G : Ghosts K) where
   seat_step : (old new : SeatView K) (asked : Parsed) (answer : Answer) → Handles (IsSeatTurn G) old asked answer new
-      → SeatGoes old new × (TellsTrouble (Some answer) → Stirs G old new)
+      → SeatGoes old new × (AnswersTrouble (Some answer) → Stirs G old new)
   seat_step = any_step_causes (λ trouble. Unit {0}) (IsSeatTurn G) SeatGoes (Stirs G) goes_same goes_on (stirs_before G) (seat_causes G)
 
   seat_changes : (old new : SeatView K) (asked : Parsed) (answer : Answer) → Handles (IsSeatTurn G) old asked answer new
-      → SeatGoes old new × (TellsChange (Some answer) → Untold G old new)
+      → SeatGoes old new × (AnswersChange (Some answer) → Untold G old new)
   seat_changes = any_step_causes (λ trouble. IsChanged (Some trouble)) (IsSeatTurn G) SeatGoes (Untold G) goes_same goes_on (λ s t u later untold. untold) (seat_changed G)
 
   seat_each : (Holds : Parsed × Answer → Type 0) (last : SeatView K)
@@ -175,7 +175,7 @@ module _ {K : Type 0} (G : Ghosts K) where
   shown_step show book old new (Ok (Push user push)) reply within (acted, inl wants) = absurd (let no = wants.0 in cc)
   shown_step show book old new (Ok (Push user push)) reply within (acted, inr (refused, h, is)) = absurd (no_push reply refused is)
   shown_step show book old new (Ok (Pull user pull)) reply within (acted, inl wants) = absurd (let no = wants.0 in cc)
-  shown_step show book old new (Ok (Pull user pull)) reply within (acted, inr (outcome, h, is, none)) = shown_pull show book old new user pull reply outcome within (same_reply reply outcome is) h
+  shown_step show book old new (Ok (Pull user pull)) reply within (acted, inr (outcome, h, is, none)) = shown_pull show book old new user pull reply outcome within (pulled_same reply outcome is) h
   shown_step show book old new (Ok (Retire group)) reply within (acted, (outcome, h, is, none)) = absurd (no_retirement (served G.faults h.desk) (served G.faults h.now) group reply outcome is h.takes.turn)
   shown_step show book old new (Err fault) reply within (acted, inl wants) = absurd (let no = wants.0 in cc)
   shown_step show book old new (Err fault) reply within (acted, inr told) = absurd (let no = told.0 in cc)
@@ -229,7 +229,7 @@ module _ {K L I O : Type 0} (G : Ghosts K) (listen : ListenGhosts L I O) (source
 
   pub troubles_have_causes : ServedTroublesHaveCauses G listen source sink accounts
   troubles_have_causes opened now givens backs together =
-      served_each (λ v. FollowsAll G v.after now.keeper) (λ turn. ((G.faults now.keeper ≡ G.faults opened.keeper) × (G.faults opened.keeper < 2 ^ 64 - 1)) ⊎ G.fails_no_more opened.keeper → TellsTrouble (Some turn.1) → ⊥) (newcomer 1 opened)
+      served_each (λ v. FollowsAll G v.after now.keeper) (λ turn. ((G.faults now.keeper ≡ G.faults opened.keeper) × (G.faults opened.keeper < 2 ^ 64 - 1)) ⊎ G.fails_no_more opened.keeper → AnswersTrouble (Some turn.1) → ⊥) (newcomer 1 opened)
       (λ last old new turn follows room step goes calm told.
       let (here, stirs) = seat_step G old new turn.0 turn.1 step in
       stirs told opened (sym here.opened ∙ (sym goes.opened ∙ room))
@@ -241,7 +241,7 @@ module _ {K L I O : Type 0} (G : Ghosts K) (listen : ListenGhosts L I O) (source
 
   pub keepers_stay : ServedKeepersStay G listen source sink accounts
   keepers_stay opened now givens backs together =
-      served_each (λ v. FollowsAll G v.after now.keeper) (λ turn. G.tells now.keeper → TellsChange (Some turn.1) → ⊥) (newcomer 1 opened)
+      served_each (λ v. FollowsAll G v.after now.keeper) (λ turn. G.tells now.keeper → AnswersChange (Some turn.1) → ⊥) (newcomer 1 opened)
       (λ last old new turn follows room step goes told changed.
       let before : FollowsAll G new.after now.keeper = all_front (λ (keeper : K). KeeperFollows G keeper now.keeper) new.after goes.after.0 (subst (λ (l : List K). FollowsAll G l now.keeper) goes.after.1 follows) in
       (seat_changes G old new turn.0 turn.1 step).1 changed now.keeper before told)

@@ -2,7 +2,7 @@
 use Rattle.std.proofs.Common.{◌≡◌, ◌≢◌, ◌⊎◌, ⊎_elim, ℕ, List, [], ◌∷◌, length, Result, Ok, Err, refl, sym, ap, ◌∙◌, subst, arith, inl, inr}
 use Rattle.rv_base.specs.Causes.{Rose}
 use Rattle.rv_base.specs.Outside.{OutputState}
-use Rattle.rv_accounts.specs.File.{Served as AccountsServed}
+use Rattle.rv_accounts.specs.File.{AccountsServed}
 use Rattle.rv_history.specs.Served.{IsSound}
 use Rattle.rv_net.specs.declared.net_fault.NetFault.{NetFault}
 use Rattle.rv_keeper.specs.declared.keeper.Keeper.{Ghosts}
@@ -22,8 +22,8 @@ use Rattle.rv_cli.specs.declared.serve_ending.ServeEnding.TheVariants.{Done, Bad
 use Rattle.rv_cli.specs.Texts.{serve_status, serve_text, status_of}
 use Rattle.rv_cli.specs.Change.{StoreChange, change}
 use Rattle.rv_cli.specs.Headline.{Begins, IsLeftAs, IsNotOpened, Leaves, WritesOnly, KeptSound}
-use Rattle.rv_cli.specs.Serving.{FileSays, HasNoAccounts, HasNoNet, HasNoStore, HasServed, IsNoNet, NetServes, RunsServe, TellsEntries}
-use Rattle.rv_cli.specs.ServingSteps.{AccountsRead, NetServed, TellsCount, TellsServed, count_text}
+use Rattle.rv_cli.specs.Serving.{FileSays, HasNoAccounts, HasNoNet, HasNoStore, HasServed, IsNoNet, NetServes, RunsServe, WritesEntries}
+use Rattle.rv_cli.specs.ServingSteps.{AccountsRead, NetServed, WritesCount, WritesServed, count_text}
 use Rattle.rv_cli.specs.Storing.{HasOpened}
 use Rattle.rv_cli.proofs.Sound.{refused_sound}
 use Rattle.rv_cli.proofs.Storing.{WentBack, begins, leaves}
@@ -48,14 +48,14 @@ not_opened_before c d endings.Write told also holds same after never = never
 not_opened_before c d (endings.Malformed number) told also holds same after never = never
 
 -- the count that is told is that of the book
-pub tells_entries : (book : Book) (entries : ℕ) (old new : OutputState) (ending : ServeEnding) → entries ≡ size book → TellsCount (count_text entries) old new ending → TellsEntries book old new ending
-tells_entries book entries old new Done is (appended, still) = (rw (← is) appended, still)
-tells_entries book entries old new Write is (front, rose) = (rw (← is) front, rose)
-tells_entries book entries old new (BadAccounts number) is never = never
-tells_entries book entries old new (TwiceAccounts number) is never = never
-tells_entries book entries old new (NotOpened ending) is never = never
-tells_entries book entries old new Net is never = never
-tells_entries book entries old new Memory is never = never
+pub entries_written : (book : Book) (entries : ℕ) (old new : OutputState) (ending : ServeEnding) → entries ≡ size book → WritesCount (count_text entries) old new ending → WritesEntries book old new ending
+entries_written book entries old new Done is (appended, still) = (rw (← is) appended, still)
+entries_written book entries old new Write is (front, rose) = (rw (← is) front, rose)
+entries_written book entries old new (BadAccounts number) is never = never
+entries_written book entries old new (TwiceAccounts number) is never = never
+entries_written book entries old new (NotOpened ending) is never = never
+entries_written book entries old new Net is never = never
+entries_written book entries old new Memory is never = never
 
 module _ {P K : Type 0} (place : PlaceGhosts P K) (G : Ghosts K) (store name : List ℕ) where
   abbrev Read : P → Result AccountsServed ServeEnding → P → Type 0
@@ -74,8 +74,8 @@ module _ {P K : Type 0} (place : PlaceGhosts P K) (G : Ghosts K) (store name : L
     other = other;
     is = refl;
     accounts = said;
-    says = says_later (place.tells new) old mid (Ok said) before read.tells_so.0;
-    why = not_opened_before (change place store mid new) (change place store old new) other (λ t. t) (λ t. opens_as store (place.holds old store) (place.holds mid store) (λ held was. read.stays (before t) store held was)) (λ t held was. was) read.tells_so.1 refl why;
+    says = says_later (place.tells new) old mid (Ok said) before read.gives_accounts.0;
+    why = not_opened_before (change place store mid new) (change place store old new) other (λ t. t) (λ t. opens_as store (place.holds old store) (place.holds mid store) (λ held was. read.stays (before t) store held was)) (λ t held was. was) read.gives_accounts.1 refl why;
     left = λ t. ⊎_elim (λ same. inl (λ held was. same held (read.stays (before t) store held was)))
         (λ same. inr (λ held was. same held (opens_as store (place.holds old store) (place.holds mid store) (λ h w. read.stays (before t) store h w) held was))) (left t);
     text = text;
@@ -106,13 +106,13 @@ module _ {P K : Type 0} (place : PlaceGhosts P K) (G : Ghosts K) (store name : L
 
     pub serve_leaves : Leaves (change place store old new) (served G.faults last)
     serve_leaves = leaves place G store old opened new (served G.faults last) last.keeper
-        (opens.same ∙ read.tells_so.1) (record { held = held; later = omega arith }) home
+        (opens.same ∙ read.gives_accounts.1) (record { held = held; later = omega arith }) home
 
     pub serve_says : FileSays (place.tells new) (place.accounts old name) (Ok said)
-    serve_says = says_later (place.tells new) old mid (Ok said) told read.tells_so.0
+    serve_says = says_later (place.tells new) old mid (Ok said) told read.gives_accounts.0
 
     pub has_served : (Serves : AccountsServed → Seated K → Seated K → Type 0) (entries : ℕ) (out out' : OutputState) (ending : ServeEnding) → Serves said first last
-        → IsSound (served G.faults last) → entries ≡ size last.book → TellsCount (count_text entries) out out' ending
+        → IsSound (served G.faults last) → entries ≡ size last.book → WritesCount (count_text entries) out out' ending
         → HasServed G (change place store old new) (place.accounts old name) Serves out out' ending
     has_served Serves entries out out' ending serves sound count text = record {
       accounts = said;
@@ -124,7 +124,7 @@ module _ {P K : Type 0} (place : PlaceGhosts P K) (G : Ghosts K) (store name : L
       sound = sound;
       told = λ t. (home.told t).1;
       leaves = serve_leaves;
-      entries = tells_entries last.book entries out out' ending count text;
+      entries = entries_written last.book entries out out' ending count text;
     }
 
     pub has_no_net : (net net' : ℕ) (out out' : OutputState) (ending : ServeEnding) → last ≡ first → IsNoNet net net' ending → WritesOnly out out' (serve_text ending)
@@ -169,7 +169,7 @@ module _ {P K : Type 0} (place : PlaceGhosts P K) (G : Ghosts K) (store name : L
       → {L : Type 0} (Told : Type 0) (listener_tells : L → Type 0) (Serves : AccountsServed → Seated K → Seated K → List L → List L → Type 0) (workers : ℕ) (to_give left came_back back : List L) (net net' : ℕ)
       (result : Result (Unit {0}) NetFault) (entries : ℕ) (out out' : OutputState) (ending : ServeEnding)
       → NetServed Told G.tells listener_tells (Serves said first last) workers to_give left came_back back net net' first last result
-      → entries ≡ size last.book → TellsServed result entries out out' ending
+      → entries ≡ size last.book → WritesServed result entries out out' ending
       → HasNoNet G (change place store old new) (place.accounts old name) net net' out out' ending
       ⊎ HasServed G (change place store old new) (place.accounts old name)
       (λ a f n. NetServes Told listener_tells (Serves a f n) workers to_give left came_back back) out out' ending
@@ -184,18 +184,18 @@ module _ {P K : Type 0} (place : PlaceGhosts P K) (G : Ghosts K) (store name : L
       no_net other same why text = has_no_net place G store name old mid opened new said first last keeper read opens before is held kept home net net' out out' other same why text
 
       by_result : (r : Result (Unit {0}) NetFault) → NetServed Told G.tells listener_tells (Serves said first last) workers to_give left came_back back net net' first last r
-          → TellsServed r entries out out' ending
+          → WritesServed r entries out out' ending
           → HasNoNet G (change place store old new) (place.accounts old name) net net' out out' ending
           ⊎ HasServed G (change place store old new) (place.accounts old name)
           (λ a f n. NetServes Told listener_tells (Serves a f n) workers to_give left came_back back) out out' ending
-      by_result (Ok done) (serves, on, same) tells_so = inr (has_served place G store name old mid opened new said first last keeper read opens before is held kept home
-          (λ a f n. NetServes Told listener_tells (Serves a f n) workers to_give left came_back back) entries out out' ending serves sound count tells_so)
+      by_result (Ok done) (serves, on, same) gives_accounts = inr (has_served place G store name old mid opened new said first last keeper read opens before is held kept home
+          (λ a f n. NetServes Told listener_tells (Serves a f n) workers to_give left came_back back) entries out out' ending serves sound count gives_accounts)
       by_result (Err nets.Failed) (same, rose) (ends, text) = inl (subst (λ (e : ServeEnding). HasNoNet G (change place store old new) (place.accounts old name) net net' out out' e) (sym ends) (no_net Net same rose text))
       by_result (Err nets.Memory) same (ends, text) = inl (subst (λ (e : ServeEnding). HasNoNet G (change place store old new) (place.accounts old name) net net' out out' e) (sym ends) (no_net Memory same tt text))
 
 -- at other statuses than 0 and 7 the net did not serve
 pub unserved_by : (Unserves : Type 0) (result : Result (Unit {0}) NetFault) (entries : ℕ) (out out' : OutputState) (ending : ServeEnding) (status : ℕ)
-    → TellsServed result entries out out' ending → status ≡ serve_status ending → IfErr result (λ fault. Unserves) → (status ≡ 0) ⊎ (status ≡ 7) ⊎ Unserves
+    → WritesServed result entries out out' ending → status ≡ serve_status ending → IfErr result (λ fault. Unserves) → (status ≡ 0) ⊎ (status ≡ 7) ⊎ Unserves
 unserved_by Unserves (Err fault) entries out out' ending status tells is why = inr (inr why)
 unserved_by Unserves (Ok done) entries out out' Done status tells is why = inl is
 unserved_by Unserves (Ok done) entries out out' Write status tells is why = inr (inl is)
@@ -231,7 +231,7 @@ net_undamaged before after (TwiceAccounts number) never is = never
 net_undamaged before after (NotOpened ending) never is = never
 net_undamaged before after Write never is = never
 
-served_undamaged : (book : Book) (old new : OutputState) (ending : ServeEnding) → TellsEntries book old new ending → serve_status ending ≢ 5
+served_undamaged : (book : Book) (old new : OutputState) (ending : ServeEnding) → WritesEntries book old new ending → serve_status ending ≢ 5
 served_undamaged book old new Done told is = omega (arith, is)
 served_undamaged book old new Write told is = omega (arith, is)
 served_undamaged book old new (BadAccounts number) never is = never
@@ -263,10 +263,10 @@ pub record ServeFacts (before after net net' : ℕ) (out out' : OutputState) (st
 abbrev IsServeStatus : ℕ → Type 0
 IsServeStatus status = (status ≡ 0) ⊎ (status ≡ 3) ⊎ (status ≡ 4) ⊎ (status ≡ 5) ⊎ (status ≡ 7) ⊎ (status ≡ 8) ⊎ (status ≡ 9)
 
-only_told : (out out' : OutputState) (text : List ℕ) (status : ℕ) → WritesOnly out out' text → status ≢ 0
+only_written : (out out' : OutputState) (text : List ℕ) (status : ℕ) → WritesOnly out out' text → status ≢ 0
     → (status ≡ 7) ⊎ (out'.faults ≡ out.faults) ⊎ ((status ≢ 0) × Rose out.faults out'.faults)
-only_told out out' text status (own, appended, inl (same, still)) some = inr (inl still)
-only_told out out' text status (own, appended, inr (front, rose)) some = inr (inr (some, rose))
+only_written out out' text status (own, appended, inl (same, still)) some = inr (inl still)
+only_written out out' text status (own, appended, inr (front, rose)) some = inr (inr (some, rose))
 
 module _ (c : StoreChange) (net net' : ℕ) (out out' : OutputState) (status : ℕ) where
   abbrev Facts : Type 0
@@ -288,7 +288,7 @@ module _ (c : StoreChange) (net net' : ℕ) (out out' : OutputState) (status : �
     keeper = λ e. rose;
     net_rose = λ e. absurd (omega (arith, is, e));
     write = λ e. absurd (omega (arith, is, e));
-    write_told = only_told out out' text status only (λ e. omega (arith, is, e));
+    write_told = only_written out out' text status only (λ e. omega (arith, is, e));
     complete = inr (inr (inl is));
   }
 
@@ -297,7 +297,7 @@ module _ (c : StoreChange) (net net' : ℕ) (out out' : OutputState) (status : �
     keeper = λ e. absurd (omega (arith, is, e));
     net_rose = λ e. rose;
     write = λ e. absurd (omega (arith, is, e));
-    write_told = only_told out out' text status only (λ e. omega (arith, is, e));
+    write_told = only_written out out' text status only (λ e. omega (arith, is, e));
     complete = inr (inr (inr (inr (inr (inr is)))));
   }
 
@@ -311,13 +311,13 @@ module _ (c : StoreChange) (net net' : ℕ) (out out' : OutputState) (status : �
   }
 
   accounts_facts : status ≡ 3 → (text : List ℕ) → WritesOnly out out' text → Facts
-  accounts_facts is text only = plain_facts 3 is (λ e. omega (arith, e)) (λ e. omega (arith, e)) (λ e. omega (arith, e)) (inr (inl is)) (only_told out out' text status only (λ e. omega (arith, is, e)))
+  accounts_facts is text only = plain_facts 3 is (λ e. omega (arith, e)) (λ e. omega (arith, e)) (λ e. omega (arith, e)) (inr (inl is)) (only_written out out' text status only (λ e. omega (arith, is, e)))
 
   damage_facts : status ≡ 5 → (text : List ℕ) → WritesOnly out out' text → Facts
-  damage_facts is text only = plain_facts 5 is (λ e. omega (arith, e)) (λ e. omega (arith, e)) (λ e. omega (arith, e)) (inr (inr (inr (inl is)))) (only_told out out' text status only (λ e. omega (arith, is, e)))
+  damage_facts is text only = plain_facts 5 is (λ e. omega (arith, e)) (λ e. omega (arith, e)) (λ e. omega (arith, e)) (inr (inr (inr (inl is)))) (only_written out out' text status only (λ e. omega (arith, is, e)))
 
   memory_facts : status ≡ 8 → (text : List ℕ) → WritesOnly out out' text → Facts
-  memory_facts is text only = plain_facts 8 is (λ e. omega (arith, e)) (λ e. omega (arith, e)) (λ e. omega (arith, e)) (inr (inr (inr (inr (inr (inl is)))))) (only_told out out' text status only (λ e. omega (arith, is, e)))
+  memory_facts is text only = plain_facts 8 is (λ e. omega (arith, e)) (λ e. omega (arith, e)) (λ e. omega (arith, e)) (inr (inr (inr (inr (inr (inl is)))))) (only_written out out' text status only (λ e. omega (arith, is, e)))
 
   done_facts : status ≡ 0 → out'.faults ≡ out.faults → Facts
   done_facts is still = plain_facts 0 is (λ e. omega (arith, e)) (λ e. omega (arith, e)) (λ e. omega (arith, e)) (inl is) (inr (inl still))
@@ -355,7 +355,7 @@ module _ (c : StoreChange) (net net' : ℕ) (out out' : OutputState) (status : �
   no_net_facts (NotOpened ending) is never only = absurd never
   no_net_facts Write is never only = absurd never
 
-  served_facts : (book : Book) (ending : ServeEnding) → status ≡ serve_status ending → TellsEntries book out out' ending → Facts
+  served_facts : (book : Book) (ending : ServeEnding) → status ≡ serve_status ending → WritesEntries book out out' ending → Facts
   served_facts book Done is (appended, still) = done_facts is still
   served_facts book Write is (front, rose) = write_facts is rose
   served_facts book (BadAccounts number) is never = absurd never

@@ -5,6 +5,7 @@ use Rattle.rv_base.specs.Outside.{InputState, OutputState}
 use Rattle.rv_words.specs.declared.command.Command.{Command}
 use Rattle.rv_words.specs.declared.command.Command.TheVariants as commands
 use Rattle.rv_words.specs.declared.serve_options.ServeOptions.{ServeOptions}
+use Rattle.rv_book.specs.Book.{empty_book}
 use Rattle.rv_history.specs.LawfulBooks.{lawful_none}
 use Rattle.rv_history.specs.ReplayLaws.{replay_none}
 use Rattle.rv_news.specs.KeptRecords.{records_none}
@@ -70,7 +71,7 @@ module _ (c : StoreChange) (told : c.told) (kept : KeptSound c.opens) where
 -- the store in memory is opened with the empty book
 pub memory_sound : (store : List ℕ) (Stored : Loaded → Type 0) → store ≡ codes "memory" → KeptSound (OpensAs store Stored)
 memory_sound store Stored is = (
-  [],
+  empty_book,
   holding [] 0,
   inl (is, refl),
   record {

@@ -13,13 +13,13 @@ use Rattle.rv_base.specs.Outside.{OutputState}
 use Rattle.rv_base.specs.declared.memory.Memory.{Memory as Refused}
 use Rattle.rv_answering.specs.declared.answer.Answer.{Answer}
 use Rattle.rv_cli.specs.Replying.{WritesReply}
-use Rattle.rv_cli.specs.Reporting.{WritesMade, WritesText}
+use Rattle.rv_cli.specs.Reporting.{WritesMade, WritesUntil}
 use Rattle.rv_net.specs.declared.net_fault.NetFault.{NetFault}
 use Rattle.rv_net.specs.declared.net_fault.NetFault.TheVariants as nets
 use Rattle.rv_cli.specs.declared.serve_ending.ServeEnding.{ServeEnding}
 use Rattle.rv_cli.specs.declared.serve_ending.ServeEnding.TheVariants as serves
 use Rattle.rv_cli.specs.Serving.{HasNoAccounts}
-use Rattle.rv_cli.specs.ServingSteps.{TellsCount, TellsServed}
+use Rattle.rv_cli.specs.ServingSteps.{WritesCount, WritesServed}
 use Rattle.rv_cli.specs.declared.ending.Ending.{Ending}
 use Rattle.rv_cli.specs.declared.ending.Ending.TheVariants.{Done, Keeper, Damaged, Read, Write, Memory, Malformed}
 use Rattle.rv_cli.specs.Texts.{fault_ending, keep_ending, serve_status, status_of}
@@ -42,13 +42,13 @@ pub reply_is_none : (before now : OutputState) (answer : Answer) (ending : Endin
 reply_is_none before now answer ending w is = subst (λ (e : Ending). WritesReply before now answer e) is w
 
 pub made_is_none : (before now : OutputState) (made : Result (List ℕ) Refused) (ending : Ending) → WritesMade before now made ending → ending ≡ Keeper → ⊥
-made_is_none before now (Ok text) ending w is = subst (λ (e : Ending). WritesText before now text e) is w
+made_is_none before now (Ok text) ending w is = subst (λ (e : Ending). WritesUntil before now text e) is w
 made_is_none before now (Err refused) ending (e, w) is = absurd (let m = sym e ∙ is in cc)
 
-text_is_none : (before now : OutputState) (text : List ℕ) (ending : Ending) → WritesText before now text ending → ending ≡ Keeper → ⊥
-text_is_none before now text ending w is = subst (λ (e : Ending). WritesText before now text e) is w
+text_is_none : (before now : OutputState) (text : List ℕ) (ending : Ending) → WritesUntil before now text ending → ending ≡ Keeper → ⊥
+text_is_none before now text ending w is = subst (λ (e : Ending). WritesUntil before now text e) is w
 
-pub sound_is_none : (before now : OutputState) (entries : ℕ) (ending : Ending) → WritesText before now (codes "ok " ++ (decimal entries ++ codes "\n")) ending → ending ≡ Keeper → ⊥
+pub sound_is_none : (before now : OutputState) (entries : ℕ) (ending : Ending) → WritesUntil before now (codes "ok " ++ (decimal entries ++ codes "\n")) ending → ending ≡ Keeper → ⊥
 sound_is_none before now entries ending w is = text_is_none before now (codes "ok " ++ (decimal entries ++ codes "\n")) ending w is
 
 -- a keeper that was not given was refused for memory
@@ -98,10 +98,10 @@ same_other one two e = cc
 pub no_store_not_four : (other : Ending) → (other ≡ Keeper → ⊥) → serves.NotOpened other ≡ serves.NotOpened Keeper → ⊥
 no_store_not_four other never e = never (same_other other Keeper e)
 
-counted_none : (text : List ℕ) (old new : OutputState) (ending : ServeEnding) → TellsCount text old new ending → ending ≡ serves.NotOpened Keeper → ⊥
-counted_none text old new ending tells is = subst (λ (e : ServeEnding). TellsCount text old new e) is tells
+counted_none : (text : List ℕ) (old new : OutputState) (ending : ServeEnding) → WritesCount text old new ending → ending ≡ serves.NotOpened Keeper → ⊥
+counted_none text old new ending tells is = subst (λ (e : ServeEnding). WritesCount text old new e) is tells
 
-pub served_not_four : (result : Result (Unit {0}) NetFault) (entries : ℕ) (old new : OutputState) (ending : ServeEnding) → TellsServed result entries old new ending → ending ≡ serves.NotOpened Keeper → ⊥
+pub served_not_four : (result : Result (Unit {0}) NetFault) (entries : ℕ) (old new : OutputState) (ending : ServeEnding) → WritesServed result entries old new ending → ending ≡ serves.NotOpened Keeper → ⊥
 served_not_four (Ok done) entries old new ending tells is = counted_none _ old new ending tells is
 served_not_four (Err nets.Failed) entries old new ending (e, text) is = absurd (let m = sym e ∙ is in cc)
 served_not_four (Err nets.Memory) entries old new ending (e, text) is = absurd (let m = sym e ∙ is in cc)
@@ -121,10 +121,10 @@ serve_not_nine serves.Net never is = never refl
 serve_not_nine serves.Memory never is = omega (arith, is)
 serve_not_nine serves.Write never is = omega (arith, is)
 
-counted_no_net : (text : List ℕ) (old new : OutputState) (ending : ServeEnding) → TellsCount text old new ending → ending ≡ serves.Net → ⊥
-counted_no_net text old new ending tells is = subst (λ (e : ServeEnding). TellsCount text old new e) is tells
+counted_no_net : (text : List ℕ) (old new : OutputState) (ending : ServeEnding) → WritesCount text old new ending → ending ≡ serves.Net → ⊥
+counted_no_net text old new ending tells is = subst (λ (e : ServeEnding). WritesCount text old new e) is tells
 
-pub served_not_nine : (result : Result (Unit {0}) NetFault) (entries : ℕ) (old new : OutputState) (ending : ServeEnding) → TellsServed result entries old new ending → result ≢ Err nets.Failed → ending ≡ serves.Net → ⊥
+pub served_not_nine : (result : Result (Unit {0}) NetFault) (entries : ℕ) (old new : OutputState) (ending : ServeEnding) → WritesServed result entries old new ending → result ≢ Err nets.Failed → ending ≡ serves.Net → ⊥
 served_not_nine (Ok done) entries old new ending tells never is = counted_no_net _ old new ending tells is
 served_not_nine (Err nets.Failed) entries old new ending tells never is = never refl
 served_not_nine (Err nets.Memory) entries old new ending (e, text) never is = absurd (let m = sym e ∙ is in cc)

@@ -7,7 +7,7 @@ use Rattle.rv_book.specs.Book.{Book, size, with_entry}
 use Rattle.rv_book.specs.BookWords.{size-with_entry}
 use Rattle.rv_history.specs.Lawful.{IsLawful}
 use Rattle.rv_history.specs.LawfulBooks.{lawful_more}
-use Rattle.rv_history.specs.Served.{Doubt, Settles, MayStand, TakesTurn}
+use Rattle.rv_history.specs.Served.{Doubt, with_doubt, Settles, MayStand, TakesTurn}
 use Rattle.rv_history.specs.TurnLaws.{still_of}
 use Rattle.rv_keeper.specs.declared.loaded.Loaded.{Loaded}
 use Rattle.rv_record.specs.declared.fault.Damage.{Damage}
@@ -15,7 +15,7 @@ use Rattle.rv_record.specs.EntryReading.{EntryFits}
 use Rattle.rv_store.specs.Opening.{MayOpen}
 use Rattle.rv_store.specs.OpeningLaws.{opens-not_damaged}
 use Rattle.rv_store.specs.StoreBooks.{doubt_fits, settled_unique}
-use Rattle.rv_store.specs.StoreCells.{IsKeptWith}
+use Rattle.rv_store.specs.StoreCells.{IsKeptAs, IsKeptWith}
 use Rattle.rv_keeper.specs.declared.keeper.Keeper.{Ghosts}
 use Rattle.rv_desk.specs.Seated.{Assures, DeskTakes, Seated, HoldsBook, served}
 use Rattle.rv_desk.specs.Opened.{Opens, IsDamagedIn, IsRefused, IsLeft}
@@ -31,9 +31,9 @@ use Rattle.rv_answering.specs.Requests.{Parsed, line_of}
 use Rattle.rv_cli.specs.declared.ending.Ending.{Ending}
 use Rattle.rv_cli.specs.declared.ending.Ending.TheVariants.{Done, Keeper, Damaged, Read, Write, Memory, Malformed}
 use Rattle.rv_cli.specs.Texts.{fault_ending, text_of}
-use Rattle.rv_cli.specs.Headline.{Reopens, Handles, TakesStep, TellsChange}
+use Rattle.rv_cli.specs.Headline.{Reopens, Handles, TakesStep, AnswersChange}
 use Rattle.rv_cli.specs.Steadiness.{KeeperIsSteady, LineKeepsSteady}
-use Rattle.rv_cli.specs.Feeding.{IsLeftWith, ServesOrNot, ReopensOrNot, GoesOn, LastLine, TakesLine}
+use Rattle.rv_cli.specs.Feeding.{IsLeftWith, ServesOrNot, ReopensOrNot, LineGoesOn, LastLine, TakesLine}
 use Rattle.rv_cli.proofs.Troubled.{any_step_causes, step_causes}
 use Rattle.rv_turns.specs.Asks.{Ask}
 use Rattle.rv_turns.specs.Outcomes.{IsChanged, trouble_of}
@@ -86,12 +86,14 @@ module _ {K : Type 0} (tells fails_no_more : K → Type 0) (holds : K → Loaded
   -- what a keeper that tells holds is not damaged
   may_open : (old : Seated K) (h : Loaded) → IsLawful old.book → AllByRecursion EntryFits old.book.entries × IfSome old.doubt EntryFits → (size old.book ≤ old.limit) × (old.limit < 2 ^ 32) → MayStand old.book old.limit old.doubt
       → IsKeptWith old.book old.doubt h → (book : Book) × MayOpen (2 ^ 32 - 1) book h
-  may_open old h lawful fits within next with = by_doubt old.doubt fits.1 next with
+  may_open old h lawful fits within next with = by_kept with
     where
-      by_doubt : (doubt : Doubt) → IfSome doubt EntryFits → MayStand old.book old.limit doubt → IsKeptWith old.book doubt h → (book : Book) × MayOpen (2 ^ 32 - 1) book h
-      by_doubt doubt fit next (inl kept) = (old.book, record { sound = record { lawful = lawful; within = omega (arith, within.0, within.1); fits = fits.0 }; kept = kept })
-      by_doubt None fit next (inr kept) = (old.book, record { sound = record { lawful = lawful; within = omega (arith, within.0, within.1); fits = fits.0 }; kept = kept })
-      by_doubt (Some entry) fit (stands, room) (inr kept) = (
+      by_book : IsKeptAs old.book h → (book : Book) × MayOpen (2 ^ 32 - 1) book h
+      by_book kept = (old.book, record { sound = record { lawful = lawful; within = omega (arith, within.0, within.1); fits = fits.0 }; kept = kept })
+
+      by_doubt : (doubt : Doubt) → IfSome doubt EntryFits → MayStand old.book old.limit doubt → IsKeptAs (with_doubt old.book doubt) h → (book : Book) × MayOpen (2 ^ 32 - 1) book h
+      by_doubt None fit next kept = by_book kept
+      by_doubt (Some entry) fit (stands, room) kept = (
         with_entry old.book entry,
         record {
           sound = record {
@@ -102,6 +104,10 @@ module _ {K : Type 0} (tells fails_no_more : K → Type 0) (holds : K → Loaded
           kept = kept;
         },
       )
+
+      by_kept : IsKeptWith old.book old.doubt h → (book : Book) × MayOpen (2 ^ 32 - 1) book h
+      by_kept (inl kept) = by_book kept
+      by_kept (inr kept) = by_doubt old.doubt fits.1 next kept
 
   untold : (old : Seated K) (kept now : K) (damage : Damage) → kept ≡ old.keeper → IsLawful old.book → AllByRecursion EntryFits old.book.entries × IfSome old.doubt EntryFits → (size old.book ≤ old.limit) × (old.limit < 2 ^ 32) → MayStand old.book old.limit old.doubt
       → (tells old.keeper → HoldsBook (holds old.keeper) old.book old.doubt) → IsLeft tells fails_no_more holds faults kept now → IsDamagedIn tells fails_no_more holds faults (2 ^ 32 - 1) kept now damage → tells now → ⊥
@@ -151,7 +157,7 @@ module _ {K : Type 0} (tells fails_no_more : K → Type 0) (holds : K → Loaded
 
   -- a turn tells that another changed what is kept only where its keeper does not tell
   desk_near : (old new : Seated K) (asked : Parsed) (answer : Answer) → steps.Handles desk_takes old asked answer new
-      → (tells new.keeper → tells old.keeper) × (TellsChange (Some answer) → tells new.keeper → ⊥)
+      → (tells new.keeper → tells old.keeper) × (AnswersChange (Some answer) → tells new.keeper → ⊥)
   desk_near = any_step_causes (λ found. IsChanged (Some found)) desk_takes (λ (old new : Seated K). tells new.keeper → tells old.keeper) (λ (old new : Seated K). tells new.keeper → ⊥)
       (λ s t. t) (λ s t u first next told. first (next told)) (λ s t u goes rises. rises)
       (λ ask old new outcome (taken, assured). (assured.told, λ (found, is, changed) t. assured.near t (subst IsChanged (sym is) changed)))
@@ -207,7 +213,7 @@ module _ {K : Type 0} (tells fails_no_more : K → Type 0) (holds : K → Loaded
   served_line : (old : Seated K) (line : List ℕ) (number : ℕ) (asked : Parsed) (result : Result (Seated K) (Ending × K)) (before now : OutputState) → line_of line ≡ Some (Asks asked)
       → ServesOrNot tells holds faults old asked result before now → TakesLine tells holds faults old line number result before now
   served_line old line number asked (Ok new) before now is ((answer, step, appended), counts, told) =
-      (GoesOn.answered (record { answer = answer; step = record { asked = asked; asks = is; step = step }; appended = appended; counts = counts }), told, (step_causes (served faults old) (served faults new) asked answer step.step).0)
+      (LineGoesOn.answered (record { answer = answer; step = record { asked = asked; asks = is; step = step }; appended = appended; counts = counts }), told, (step_causes (served faults old) (served faults new) asked answer step.step).0)
   served_line old line number asked (Err (Write, keeper)) before now is ((answer, new, step, front, left), rose, told) = record {
     new = new;
     ends = record { answer = answer; step = record { asked = asked; asks = is; step = step }; front = front; rose = rose };
@@ -229,7 +235,7 @@ module _ {K : Type 0} (tells fails_no_more : K → Type 0) (holds : K → Loaded
       served_line old line number asked result before now is (serves asked reading)
 
   stopped_line : (old : Seated K) (line : List ℕ) (number : ℕ) (result : Result (Seated K) (Ending × K)) (out : OutputState) → line_of line ≡ Some Stop → ReopensOrNot tells holds faults old result → TakesLine tells holds faults old line number result out out
-  stopped_line old line number (Ok new) out stop (reopens, told) = (GoesOn.stopped (record { stop = stop; reopens = reopens; kept = refl }), told, (let n = reopens.faults in omega (arith, n)))
+  stopped_line old line number (Ok new) out stop (reopens, told) = (LineGoesOn.stopped (record { stop = stop; reopens = reopens; kept = refl }), told, (let n = reopens.faults in omega (arith, n)))
   stopped_line old line number (Err (Keeper, keeper)) out stop (none, left, told, rose) = record { new = served faults old; ends = (stop, refl, refl); left = left; told = told; rose = rose }
   stopped_line old line number (Err (Damaged damage, keeper)) out stop (none, left, told, rose) = record { new = served faults old; ends = (stop, refl, refl); left = left; told = told; rose = rose }
   stopped_line old line number (Err (Memory, keeper)) out stop (none, left, told, rose) = record { new = served faults old; ends = (refl, refl); left = left; told = told; rose = rose }

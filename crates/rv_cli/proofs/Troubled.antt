@@ -17,7 +17,7 @@ use Rattle.rv_answering.specs.declared.line.Line.TheVariants.{Asks, Stop}
 use Rattle.rv_answering.specs.Requests.{Parsed}
 use Rattle.rv_answering.specs.Steps.{RefusesWith, answer_of, no_memory, push_answer}
 use Rattle.rv_serve.specs.Laws.{RunsTurns}
-use Rattle.rv_cli.specs.Headline.{Handles, Takes, Run, TellsOf, TellsTrouble}
+use Rattle.rv_cli.specs.Headline.{Handles, TakesLine, Run, AnswersWith, AnswersTrouble}
 use Rattle.rv_turns.specs.Asks.{Sender, Ask}
 use Rattle.rv_turns.specs.Pushing.{Pushes}
 use Rattle.rv_wire.specs.Answers.{pull_json}
@@ -43,40 +43,40 @@ refused None = None
 refused (Some why) = Some (Refused (errors.Refused why))
 
 module _ (Holds : Trouble → Type 0) where
-  refusal_told : (refusal : Refusal) → TellsOf Holds (Some (Refused (errors.Refused refusal))) → HasTrouble Holds (trouble_in refusal)
-  refusal_told (refusals.Trouble trouble) told = (trouble, refl, told)
-  refusal_told (refusals.Future expected got) none = absurd none
-  refusal_told refusals.GroupOfOther none = absurd none
-  refusal_told refusals.ClientOfOther none = absurd none
-  refusal_told refusals.NotFound none = absurd none
-  refusal_told refusals.NoGroup none = absurd none
-  refusal_told (refusals.Limit what at) none = absurd none
-  refusal_told refusals.Memory none = absurd none
+  refusal_causes : (refusal : Refusal) → AnswersWith Holds (Some (Refused (errors.Refused refusal))) → HasTrouble Holds (trouble_in refusal)
+  refusal_causes (refusals.Trouble trouble) told = (trouble, refl, told)
+  refusal_causes (refusals.Future expected got) none = absurd none
+  refusal_causes refusals.GroupOfOther none = absurd none
+  refusal_causes refusals.ClientOfOther none = absurd none
+  refusal_causes refusals.NotFound none = absurd none
+  refusal_causes refusals.NoGroup none = absurd none
+  refusal_causes (refusals.Limit what at) none = absurd none
+  refusal_causes refusals.Memory none = absurd none
 
-  turn_told : (outcome : Outcome) → TellsOf Holds (refused (refusal_of outcome)) → HasTrouble Holds (trouble_of outcome)
-  turn_told (outcomes.Refused refusal) told = refusal_told refusal told
-  turn_told (outcomes.Acted place) none = absurd none
-  turn_told (outcomes.Skipped number) none = absurd none
-  turn_told (outcomes.Pulled reply) none = absurd none
-  turn_told (outcomes.Retired place) none = absurd none
+  turn_causes : (outcome : Outcome) → AnswersWith Holds (refused (refusal_of outcome)) → HasTrouble Holds (trouble_of outcome)
+  turn_causes (outcomes.Refused refusal) told = refusal_causes refusal told
+  turn_causes (outcomes.Acted place) none = absurd none
+  turn_causes (outcomes.Skipped number) none = absurd none
+  turn_causes (outcomes.Pulled reply) none = absurd none
+  turn_causes (outcomes.Retired place) none = absurd none
 
-  outcome_told : (outcome : Outcome) → TellsOf Holds (Some (answer_of outcome)) → HasTrouble Holds (trouble_of outcome)
-  outcome_told (outcomes.Refused refusal) told = refusal_told refusal told
-  outcome_told (outcomes.Acted place) none = absurd none
-  outcome_told (outcomes.Skipped number) none = absurd none
-  outcome_told (outcomes.Pulled reply) none = absurd none
-  outcome_told (outcomes.Retired place) none = absurd none
+  outcome_causes : (outcome : Outcome) → AnswersWith Holds (Some (answer_of outcome)) → HasTrouble Holds (trouble_of outcome)
+  outcome_causes (outcomes.Refused refusal) told = refusal_causes refusal told
+  outcome_causes (outcomes.Acted place) none = absurd none
+  outcome_causes (outcomes.Skipped number) none = absurd none
+  outcome_causes (outcomes.Pulled reply) none = absurd none
+  outcome_causes (outcomes.Retired place) none = absurd none
 
-  push_told : (answer : Option Refusal) → TellsOf Holds (Some (push_answer answer)) → TellsOf Holds (refused answer)
-  push_told None none = absurd none
-  push_told (Some why) told = told
+  push_causes : (answer : Option Refusal) → AnswersWith Holds (Some (push_answer answer)) → AnswersWith Holds (refused answer)
+  push_causes None none = absurd none
+  push_causes (Some why) told = told
 
   -- what is wrong with a body is no trouble
-  wrong_told : (fault : WireFault) → TellsOf Holds (Some (Refused (fault_error fault))) → ⊥
-  wrong_told faulting.NotJson told = told
-  wrong_told (faulting.Field field) told = told
-  wrong_told (faulting.Version kind) told = told
-  wrong_told faulting.Memory told = told
+  wrong_causes : (fault : WireFault) → AnswersWith Holds (Some (Refused (fault_error fault))) → ⊥
+  wrong_causes faulting.NotJson told = told
+  wrong_causes (faulting.Field field) told = told
+  wrong_causes (faulting.Version kind) told = told
+  wrong_causes faulting.Memory told = told
 
 -- ---- Of anyone who takes turns, where each turn goes from a state to a later one, and one that tells such a trouble rises.
 
@@ -84,7 +84,7 @@ module _ {S : Type 0} (Holds : Trouble → Type 0) (takes : S → Ask → Outcom
     (later_same : (s : S) → Later s s) (later_on : (s t u : S) → Later s t → Later t u → Later s u) (rises_after : (s t u : S) → Later s t → Rises t u → Rises s u)
     (taken : (ask : Ask) (old new : S) (outcome : Outcome) → takes old ask outcome new → Later old new × (HasTrouble Holds (trouble_of outcome) → Rises old new)) where
   abbrev pub Causes : S → S → Option Answer → Type 0
-  Causes old new answer = Later old new × (TellsOf Holds answer → Rises old new)
+  Causes old new answer = Later old new × (AnswersWith Holds answer → Rises old new)
 
   same_later : (old new : S) → new ≡ old → Later old new
   same_later old new same = subst (λ (s : S). Later old s) (sym same) (later_same old)
@@ -93,29 +93,29 @@ module _ {S : Type 0} (Holds : Trouble → Type 0) (takes : S → Ask → Outcom
       → MatchOption told (Pushes takes from ms mid answer acted new) (λ why. (answer ≡ Some why) × (acted ≡ false) × (new ≡ mid)) → Causes old new (refused answer)
   push_rest from ms old mid new answer None acted (later, rises) goes rest = let (more, risen) = goes rest in (later_on old mid new later more, λ told. rises_after old mid new later (risen told))
   push_rest from ms old mid new answer (Some why) acted (later, rises) goes (is, none, same) =
-      subst (λ (s : S). Causes old s (refused answer)) (sym same) (later, λ told. rises (subst (λ (a : Option Refusal). TellsOf Holds (refused a)) is told))
+      subst (λ (s : S). Causes old s (refused answer)) (sym same) (later, λ told. rises (subst (λ (a : Option Refusal). AnswersWith Holds (refused a)) is told))
 
   pushes_cause : (from : Sender) (ms : List Mutation) (old new : S) (answer : Option Refusal) (acted : Bool) → Pushes takes from ms old answer acted new → Causes old new (refused answer)
-  pushes_cause from [] old new answer acted (is, none, same) = (same_later old new same, λ told. absurd (subst (λ (a : Option Refusal). TellsOf Holds (refused a)) is told))
+  pushes_cause from [] old new answer acted (is, none, same) = (same_later old new same, λ told. absurd (subst (λ (a : Option Refusal). AnswersWith Holds (refused a)) is told))
   pushes_cause from (m ∷ ms) old new answer acted (outcome, mid, others, turn, acts, rest) =
       let (later, rises) = taken (Ask.mutation from m) old mid outcome turn in
-      push_rest from ms old mid new answer (refusal_of outcome) others (later, λ told. rises (turn_told Holds outcome told)) (pushes_cause from ms mid new answer others) rest
+      push_rest from ms old mid new answer (refusal_of outcome) others (later, λ told. rises (turn_causes Holds outcome told)) (pushes_cause from ms mid new answer others) rest
 
-  as_told : (old new : S) (answer told : Answer) → answer ≡ told → Causes old new (Some told) → Causes old new (Some answer)
-  as_told old new answer told is causes = subst (λ (a : Answer). Causes old new (Some a)) (sym is) causes
+  same_causes : (old new : S) (answer told : Answer) → answer ≡ told → Causes old new (Some told) → Causes old new (Some answer)
+  same_causes old new answer told is causes = subst (λ (a : Answer). Causes old new (Some a)) (sym is) causes
 
   answers_cause : (old new : S) (request : Request) (answer : Answer) (acted : Bool) → steps.Answers takes old request answer acted new → Causes old new (Some answer)
   answers_cause old new (Push user push) answer acted (refused', pushed, is) =
       let (later, rises) = pushes_cause (record { user = user; group = push.group }) push.mutations old new refused' acted pushed in
-      as_told old new answer (push_answer refused') is (later, λ told. rises (push_told Holds refused' told))
+      same_causes old new answer (push_answer refused') is (later, λ told. rises (push_causes Holds refused' told))
   answers_cause old new (Pull user pull) answer acted (outcome, turn, is, none) =
-      let (later, rises) = taken (Ask.pull user pull) old new outcome turn in as_told old new answer (answer_of outcome) is (later, λ told. rises (outcome_told Holds outcome told))
+      let (later, rises) = taken (Ask.pull user pull) old new outcome turn in same_causes old new answer (answer_of outcome) is (later, λ told. rises (outcome_causes Holds outcome told))
   answers_cause old new (Retire group) answer acted (outcome, turn, is, none) =
-      let (later, rises) = taken (Ask.retirement group) old new outcome turn in as_told old new answer (answer_of outcome) is (later, λ told. rises (outcome_told Holds outcome told))
+      let (later, rises) = taken (Ask.retirement group) old new outcome turn in same_causes old new answer (answer_of outcome) is (later, λ told. rises (outcome_causes Holds outcome told))
 
   -- want of memory is no trouble
   wants_cause : (old new : S) (answer : Answer) (acted : Bool) → RefusesWith no_memory old answer acted new → Causes old new (Some answer)
-  wants_cause old new answer acted (is, none, same) = as_told old new answer (Refused no_memory) is (same_later old new same, λ none. absurd none)
+  wants_cause old new answer acted (is, none, same) = same_causes old new answer (Refused no_memory) is (same_later old new same, λ none. absurd none)
 
   pub any_step_causes : (old new : S) (asked : Parsed) (answer : Answer) → steps.Handles takes old asked answer new → Causes old new (Some answer)
   any_step_causes old new (Ok (Push user push)) answer (acted, inl wants) = wants_cause old new answer acted wants
@@ -124,7 +124,7 @@ module _ {S : Type 0} (Holds : Trouble → Type 0) (takes : S → Ask → Outcom
   any_step_causes old new (Ok (Pull user pull)) answer (acted, inr told) = answers_cause old new (Pull user pull) answer acted told
   any_step_causes old new (Ok (Retire group)) answer (acted, told) = answers_cause old new (Retire group) answer acted told
   any_step_causes old new (Err fault) answer (acted, inl wants) = wants_cause old new answer acted wants
-  any_step_causes old new (Err fault) answer (acted, inr (is, none, same)) = as_told old new answer (Refused (fault_error fault)) is (same_later old new same, λ told. absurd (wrong_told Holds fault told))
+  any_step_causes old new (Err fault) answer (acted, inr (is, none, same)) = same_causes old new answer (Refused (fault_error fault)) is (same_later old new same, λ told. absurd (wrong_causes Holds fault told))
 
   pub turns_later : (old new : S) (turns : List (Parsed × Answer)) → RunsTurns takes old turns new → Later old new
   turns_later old new [] same = same_later old new same
@@ -150,11 +150,11 @@ turn_rises old new ask outcome settled (Some entry) None never has = absurd neve
 pub taken_rises : (ask : Ask) (old new : Served) (outcome : Outcome) → TakesTurn pull_json old ask outcome new → (old.faults ≤ new.faults) × (HasTrouble (λ trouble. Unit {0}) (trouble_of outcome) → Rose old.faults new.faults)
 taken_rises ask old new outcome taken = (taken.later, λ has. turn_rises old new ask outcome taken.settled taken.left (trouble_of outcome) taken.turn has)
 
-pub step_causes : (old new : Served) (asked : Parsed) (answer : Answer) → Handles old asked answer new → (old.faults ≤ new.faults) × (TellsTrouble (Some answer) → Rose old.faults new.faults)
+pub step_causes : (old new : Served) (asked : Parsed) (answer : Answer) → Handles old asked answer new → (old.faults ≤ new.faults) × (AnswersTrouble (Some answer) → Rose old.faults new.faults)
 step_causes = any_step_causes (λ trouble. Unit {0}) (TakesTurn pull_json) (λ old new. old.faults ≤ new.faults) (λ old new. Rose old.faults new.faults)
     (λ s. omega arith) (λ s t u le more. omega (arith, le, more)) (λ s t u le rose. rose_before s.faults t.faults u.faults le rose) taken_rises
 
-takes_cause : (Told : Type 0) (old new : Served) (line : Line) (answer : Option Answer) → Takes Told old line answer new → (old.faults ≤ new.faults) × (TellsTrouble answer → Rose old.faults new.faults)
+takes_cause : (Told : Type 0) (old new : Served) (line : Line) (answer : Option Answer) → TakesLine Told old line answer new → (old.faults ≤ new.faults) × (AnswersTrouble answer → Rose old.faults new.faults)
 takes_cause Told old new (Asks asked) (Some answer) taken = step_causes old new asked answer taken.step
 takes_cause Told old new Stop None reopens = let n = reopens.faults in (omega (arith, n), λ none. absurd none)
 takes_cause Told old new (Asks asked) None never = absurd never
@@ -172,7 +172,7 @@ run_later Told first now (line ∷ lines) (answer ∷ answers) (mid, taken, rest
 no_rise : (old mid now : ℕ) → mid ≤ now → now ≡ 0 → Rose old mid → ⊥
 no_rise old mid now le none rose = omega (arith, le, none, rose)
 
-pub run_quiet : (Told : Type 0) (first now : Served) (lines : List Line) (answers : List (Option Answer)) → Run Told first lines answers now → now.faults ≡ 0 → AllByRecursion (λ answer. TellsTrouble answer → ⊥) answers
+pub run_quiet : (Told : Type 0) (first now : Served) (lines : List Line) (answers : List (Option Answer)) → Run Told first lines answers now → now.faults ≡ 0 → AllByRecursion (λ answer. AnswersTrouble answer → ⊥) answers
 run_quiet Told first now [] [] same none = tt
 run_quiet Told first now [] (answer ∷ answers) never none = absurd never
 run_quiet Told first now (line ∷ lines) [] never none = absurd never

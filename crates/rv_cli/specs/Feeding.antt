@@ -16,7 +16,7 @@ use Rattle.rv_cli.specs.Texts.{text_of}
 use Rattle.rv_cli.specs.Headline.{TakesStep, Reopens, Ends, ReadsSo}
 
 -- counts of an output that stay
-pub record Stays (old new : OutputState) : Type 0 where
+pub record OutputStays (old new : OutputState) : Type 0 where
   pub faults : new.faults ≡ old.faults
   pub refusals : new.refusals ≡ old.refusals
 
@@ -31,7 +31,7 @@ pub record WritesAnswer (Told : Type 0) (old : Served) (line : List ℕ) (new : 
   pub answer : Answer
   pub step : LineStep Told old line answer new
   pub appended : Appends before.written now.written (text_of answer)
-  pub counts : Stays before now
+  pub counts : OutputStays before now
 
 -- a line of whose answer a front was written
 pub record CutsAnswer (Told : Type 0) (old : Served) (line : List ℕ) (new : Served) (before now : OutputState) : Type 0 where
@@ -63,7 +63,7 @@ module _ {K : Type 0} (tells : K → Type 0) (holds : K → Loaded → Type 0) (
   -- a request is answered, and its answer written; or only a front of the answer was
   abbrev pub ServesOrNot : Seated K → Parsed → Result (Seated K) (Ending × K) → OutputState → OutputState → Type 0
   ServesOrNot old asked (Ok new) before now =
-      ((answer : Answer) × TakesStep (tells new.keeper) (served faults old) asked answer (served faults new) × Appends before.written now.written (text_of answer)) × Stays before now × (tells new.keeper → tells old.keeper)
+      ((answer : Answer) × TakesStep (tells new.keeper) (served faults old) asked answer (served faults new) × Appends before.written now.written (text_of answer)) × OutputStays before now × (tells new.keeper → tells old.keeper)
   ServesOrNot old asked (Err (Write, keeper)) before now =
       ((answer : Answer) × (new : Served) × TakesStep (tells keeper) (served faults old) asked answer new × AppendsFront before.written now.written (text_of answer) × IsLeftWith new keeper)
       × Rose before.faults now.faults × (tells keeper → tells old.keeper)
@@ -82,9 +82,9 @@ module _ {K : Type 0} (tells : K → Type 0) (holds : K → Loaded → Type 0) (
       IsNoStop ending × IsLeftWith (served faults old) keeper × (tells keeper → tells old.keeper) × RoseAt ending (faults old.keeper) keeper
 
   -- a line after which the lines go on: it was answered, or was a stop
-  pub data GoesOn (old : Seated K) (line : List ℕ) (new : Seated K) (before now : OutputState) : Type 0 where
-    answered : WritesAnswer (tells new.keeper) (served faults old) line (served faults new) before now → GoesOn old line new before now
-    stopped : Stopped (tells new.keeper) (served faults old) line (served faults new) before now → GoesOn old line new before now
+  pub data LineGoesOn (old : Seated K) (line : List ℕ) (new : Seated K) (before now : OutputState) : Type 0 where
+    answered : WritesAnswer (tells new.keeper) (served faults old) line (served faults new) before now → LineGoesOn old line new before now
+    stopped : Stopped (tells new.keeper) (served faults old) line (served faults new) before now → LineGoesOn old line new before now
 
   -- a line with this number at which the lines end so, with this state
   abbrev pub EndsLine : Type 0 → Served → List ℕ → ℕ → Served → OutputState → OutputState → Ending → Type 0
@@ -105,7 +105,7 @@ module _ {K : Type 0} (tells : K → Type 0) (holds : K → Loaded → Type 0) (
 
   -- what becomes of a line
   abbrev pub TakesLine : Seated K → List ℕ → ℕ → Result (Seated K) (Ending × K) → OutputState → OutputState → Type 0
-  TakesLine old line number (Ok new) before now = GoesOn old line new before now × (tells new.keeper → tells old.keeper) × (faults old.keeper ≤ faults new.keeper)
+  TakesLine old line number (Ok new) before now = LineGoesOn old line new before now × (tells new.keeper → tells old.keeper) × (faults old.keeper ≤ faults new.keeper)
   TakesLine old line number (Err ended) before now = EndedLine old line number ended before now
 
   -- the last line was taken, or ended the lines itself

@@ -15,7 +15,7 @@ use Rattle.rv_rows.specs.Held.{Stored as StoredRow}
 use Rattle.rv_book.specs.Book.{Book, last, size, Extends}
 use Rattle.rv_history.specs.Served.{Served, Settles, IsSound, TakesTurn}
 use Rattle.rv_history.specs.Replay.{IsReplay}
-use Rattle.rv_history.specs.Laws.{act_ids, look_orders, Tells}
+use Rattle.rv_history.specs.Laws.{act_ids, look_orders, ReplyShows}
 use Rattle.rv_keeper.specs.declared.loaded.Loaded.{Loaded}
 use Rattle.rv_keeper.specs.Stores.{TakesUp}
 use Rattle.rv_store.specs.Opening.{MayOpen, IsDamaged}
@@ -61,19 +61,19 @@ Are number (bytes ∷ rest) [] = ⊥
 abbrev pub Handles : Served → Parsed → Answer → Served → Type 0
 Handles = steps.Handles (TakesTurn pull_json)
 
--- the answer tells a trouble with what keeps the book, of which this holds
-abbrev pub TellsOf : (Trouble → Type 0) → Option Answer → Type 0
-TellsOf Holds (Some (Refused (errors.Refused (refusals.Trouble trouble)))) = Holds trouble
-TellsOf Holds answer = ⊥
+-- the answer is a trouble with what keeps the book, of which this holds
+abbrev pub AnswersWith : (Trouble → Type 0) → Option Answer → Type 0
+AnswersWith Holds (Some (Refused (errors.Refused (refusals.Trouble trouble)))) = Holds trouble
+AnswersWith Holds answer = ⊥
 
--- the answer tells that what is kept was changed by another
-abbrev pub TellsChange : Option Answer → Type 0
-TellsChange = TellsOf (λ trouble. IsChanged (Some trouble))
+-- the answer is that what is kept was changed by another
+abbrev pub AnswersChange : Option Answer → Type 0
+AnswersChange = AnswersWith (λ trouble. IsChanged (Some trouble))
 
 -- One request is answered by the server. Where what is kept is told, the answer is not that another changed it.
 pub record TakesStep (Told : Type 0) (old : Served) (asked : Parsed) (answer : Answer) (new : Served) : Type 0 where
   pub step : Handles old asked answer new
-  pub near : Told → ¬ TellsChange (Some answer)
+  pub near : Told → ¬ AnswersChange (Some answer)
 
 -- The server is closed and opened again: nothing is in doubt then, and the count of faults stays. Where what is kept is
 -- told, the book is the settled one, and else some lawful book within the limit.
@@ -85,16 +85,16 @@ pub record Reopens (Told : Type 0) (old new : Served) : Type 0 where
   pub settled : Told → Settles old.book old.doubt new.book
 
 -- a request has its answer, and a stop has none
-abbrev pub Takes : Type 0 → Served → Line → Option Answer → Served → Type 0
-Takes Told old (Asks asked) (Some answer) new = TakesStep Told old asked answer new
-Takes Told old Stop None new = Reopens Told old new
-Takes Told old (Asks asked) None new = ⊥
-Takes Told old Stop (Some answer) new = ⊥
+abbrev pub TakesLine : Type 0 → Served → Line → Option Answer → Served → Type 0
+TakesLine Told old (Asks asked) (Some answer) new = TakesStep Told old asked answer new
+TakesLine Told old Stop None new = Reopens Told old new
+TakesLine Told old (Asks asked) None new = ⊥
+TakesLine Told old Stop (Some answer) new = ⊥
 
 -- lines are taken one after another
 abbrev pub Run : Type 0 → Served → List Line → List (Option Answer) → Served → Type 0
 Run Told old [] [] new = new ≡ old
-Run Told old (line ∷ lines) (answer ∷ answers) new = (mid : Served) × Takes Told old line answer mid × Run Told mid lines answers new
+Run Told old (line ∷ lines) (answer ∷ answers) new = (mid : Served) × TakesLine Told old line answer mid × Run Told mid lines answers new
 Run Told old [] (answer ∷ answers) new = ⊥
 Run Told old (line ∷ lines) [] new = ⊥
 
@@ -112,7 +112,7 @@ pub record Answered (Told : Type 0) (first : Served) (lines : List (List ℕ)) (
 
 -- ---- How a run over lines ends.
 
--- Of the last line that is looked at only a front of the answer was written. The lines before it are answered.
+-- Of the last line that is examined only a front of the answer was written. The lines before it are answered.
 pub record IsCutOff (Told : Type 0) (first : Served) (bytes read text : List ℕ) (now : Served) : Type 0 where
   pub lines : List (List ℕ)
   pub line : List ℕ
@@ -331,35 +331,35 @@ module _ (c : StoreChange) where
 -- ---- And of a report: it is a text of the book that the store was kept as, which stays kept.
 
 -- the text of the rows that the book leaves
-abbrev pub TellsLists : Book → List ℕ → Type 0
-TellsLists book text = (rows : List StoredRow) × IsReplay book rows × (text ≡ lists_text rows)
+abbrev pub ReportsLists : Book → List ℕ → Type 0
+ReportsLists book text = (rows : List StoredRow) × IsReplay book rows × (text ≡ lists_text rows)
 
 -- the text of who did how much in the book
-abbrev pub TellsActivity : Book → List ℕ → Type 0
-TellsActivity book text = text ≡ activity_text book
+abbrev pub ReportsActivity : Book → List ℕ → Type 0
+ReportsActivity book text = text ≡ activity_text book
 
 -- that the store is sound, and how many entries the book has
-abbrev pub TellsSound : Book → List ℕ → Type 0
-TellsSound book text = text ≡ codes "ok " ++ (decimal (size book) ++ codes "\n")
+abbrev pub ReportsSound : Book → List ℕ → Type 0
+ReportsSound book text = text ≡ codes "ok " ++ (decimal (size book) ++ codes "\n")
 
 -- what was written of a report: all of it; or a front of it, and a write failed; or none, and memory was refused for it
 abbrev pub WritesReport : (List ℕ → Type 0) → OutputState → OutputState → Ending → Type 0
-WritesReport Tells old new Done = (text : List ℕ) × Tells text × Appends old.written new.written text × (new.faults ≡ old.faults)
-WritesReport Tells old new Write = (text : List ℕ) × Tells text × AppendsFront old.written new.written text × Rose old.faults new.faults
-WritesReport Tells old new Memory = WritesOnly old new (status_text Memory)
-WritesReport Tells old new ending = ⊥
+WritesReport Reports old new Done = (text : List ℕ) × Reports text × Appends old.written new.written text × (new.faults ≡ old.faults)
+WritesReport Reports old new Write = (text : List ℕ) × Reports text × AppendsFront old.written new.written text × Rose old.faults new.faults
+WritesReport Reports old new Memory = WritesOnly old new (status_text Memory)
+WritesReport Reports old new ending = ⊥
 
 module _ (c : StoreChange) where
-  pub record Reported (Tells : Book → List ℕ → Type 0) (output output' : OutputState) (ending : Ending) : Type 0 where
+  pub record Reported (Reports : Book → List ℕ → Type 0) (output output' : OutputState) (ending : Ending) : Type 0 where
     pub first : Served
     pub begins : Begins c first
-    pub writes : WritesReport (Tells first.book) output output' ending
+    pub writes : WritesReport (Reports first.book) output output' ending
     pub leaves : Leaves c first
 
   -- the status is that of an ending, and the store did not open, or was reported so
   abbrev pub RunsReport : (Book → List ℕ → Type 0) → OutputState → OutputState → ℕ → Type 0
-  RunsReport Tells output output' status = (ending : Ending) × (status ≡ status_of ending)
-      × ((NotOpened c output output' ending × IsLeftAs c) ⊎ Reported Tells output output' ending)
+  RunsReport Reports output output' status = (ending : Ending) × (status ≡ status_of ending)
+      × ((NotOpened c output output' ending × IsLeftAs c) ⊎ Reported Reports output output' ending)
 
 -- ---- What follows.
 
@@ -368,8 +368,8 @@ module _ (c : StoreChange) where
 pub record IsLawfulRun (Told : Type 0) (first now : Served) : Type 0 where
   pub sound : IsSound now
   pub more : Told → Extends now.book first.book
-  pub ids : (client : List ℕ) → act_ids client now.book ≡ range_with_len 1 (last client now.book)
-  pub orders : (group : List ℕ) → IsStrictlyIncreasing (look_orders group now.book)
+  pub ids : (client : List ℕ) → act_ids client now.book.entries ≡ range_with_len 1 (last client now.book)
+  pub orders : (group : List ℕ) → IsStrictlyIncreasing (look_orders group now.book.entries)
   pub later : first.faults ≤ now.faults
   pub limit : first.limit ≡ 2 ^ 32 - 1 → now.limit ≡ 2 ^ 32 - 1
 
@@ -383,7 +383,7 @@ pub record ShowsAt (asked : Parsed) (reply : PullReply) (point new : Book) : Typ
   pub user : List ℕ
   pub request : PullRequest
   pub asks : asked ≡ Ok (Pull user request)
-  pub tells : Tells pull_json user request point new reply
+  pub tells : ReplyShows pull_json user request point new reply
 
 -- Of a pull that is answered in a run: the state before it, the settled book at which it is answered, and the state after it.
 pub record IsShown (Told : Type 0) (first now : Served) (before : List Line) (answered : List (Option Answer)) (asked : Parsed) (reply : PullReply) : Type 0 where
@@ -403,10 +403,10 @@ abbrev pub PullsAreShown : Type 0
 PullsAreShown = (told : Bool) (first now : Served) (before after : List Line) (answered answers : List (Option Answer)) (asked : Parsed) (reply : PullReply) → IsSound first → length before ≡ length answered
     → Run (told ≡ true) first (before ++ Asks asked ∷ after) (answered ++ Some (Pulled reply) ∷ answers) now → IsShown (told ≡ true) first now before answered asked reply
 
--- the answer tells a trouble with what keeps the book
-abbrev pub TellsTrouble : Option Answer → Type 0
-TellsTrouble = TellsOf (λ trouble. Unit {0})
+-- the answer is a trouble with what keeps the book
+abbrev pub AnswersTrouble : Option Answer → Type 0
+AnswersTrouble = AnswersWith (λ trouble. Unit {0})
 
 -- Where no fault of what keeps the book rose in a run, no answer tells a trouble with it.
 abbrev pub TroublesHaveCauses : Type 0
-TroublesHaveCauses = (told : Bool) (first now : Served) (lines : List Line) (answers : List (Option Answer)) → Run (told ≡ true) first lines answers now → now.faults ≡ 0 → AllByRecursion (λ answer. TellsTrouble answer → ⊥) answers
+TroublesHaveCauses = (told : Bool) (first now : Served) (lines : List Line) (answers : List (Option Answer)) → Run (told ≡ true) first lines answers now → now.faults ≡ 0 → AllByRecursion (λ answer. AnswersTrouble answer → ⊥) answers

@@ -30,7 +30,7 @@ module _ {P Kept O : Type 0} (place : PlaceGhosts P Kept) (output : SinkGhosts O
 
   -- Of a report: what is written is a text of the book that the store kept, which it still keeps.
   abbrev pub WasReported : (Book → List ℕ → Type 0) → O → O → ℕ → Type 0
-  WasReported Tells out out' = RunsReport (change place store old new) Tells (output.state out) (output.state out')
+  WasReported Reports out out' = RunsReport (change place store old new) Reports (output.state out) (output.state out')
 
   -- The same; or memory was refused in reading the words, which the status and its text tell, and nothing else has changed.
   abbrev pub WasFedOrNot : {S : Type 0} → SourceGhosts S → S → S → O → O → ℕ → Type 0
@@ -41,7 +41,7 @@ module _ {P Kept O : Type 0} (place : PlaceGhosts P Kept) (output : SinkGhosts O
   WasRetiredOrNot group out out' status = WasRetired group out out' status ⊎ ((status ≡ 8) × (new ≡ old) × WritesOnly (output.state out) (output.state out') (status_text Memory))
 
   abbrev pub WasReportedOrNot : (Book → List ℕ → Type 0) → O → O → ℕ → Type 0
-  WasReportedOrNot Tells out out' status = WasReported Tells out out' status ⊎ ((status ≡ 8) × (new ≡ old) × WritesOnly (output.state out) (output.state out') (status_text Memory))
+  WasReportedOrNot Reports out out' status = WasReported Reports out out' status ⊎ ((status ≡ 8) × (new ≡ old) × WritesOnly (output.state out) (output.state out') (status_text Memory))
 
 module _ {N L I O : Type 0} (net : NetGhosts N L I O) (old new : N) where
   -- what the net was asked for, if it was: at the port of the options as many listeners as workers, each for as many connections

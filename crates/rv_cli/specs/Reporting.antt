@@ -18,14 +18,14 @@ use Rattle.rv_cli.specs.Change.{change, kept_change}
 use Rattle.rv_cli.specs.Headline.{IsLeftAs, IsNotOpened, WritesOnly}
 
 -- what was written of a text
-abbrev pub WritesText : OutputState → OutputState → List ℕ → Ending → Type 0
-WritesText old new text Done = Appends old.written new.written text × (new.faults ≡ old.faults)
-WritesText old new text Write = AppendsFront old.written new.written text × Rose old.faults new.faults
-WritesText old new text ending = ⊥
+abbrev pub WritesUntil : OutputState → OutputState → List ℕ → Ending → Type 0
+WritesUntil old new text Done = Appends old.written new.written text × (new.faults ≡ old.faults)
+WritesUntil old new text Write = AppendsFront old.written new.written text × Rose old.faults new.faults
+WritesUntil old new text ending = ⊥
 
 -- what was written of a text, or of why there is none
 abbrev pub WritesMade : OutputState → OutputState → Result (List ℕ) Refused → Ending → Type 0
-WritesMade old new (Ok text) ending = WritesText old new text ending
+WritesMade old new (Ok text) ending = WritesUntil old new text ending
 WritesMade old new (Err refused) ending = (ending ≡ Memory) × WritesOnly old new (status_text Memory)
 
 module _ {P K : Type 0} (place : PlaceGhosts P K) where

@@ -8,7 +8,7 @@ use Rattle.rv_answering.specs.declared.answer.Answer.{Answer}
 use Rattle.rv_answering.specs.declared.line.Line.{Line}
 use Rattle.rv_answering.specs.declared.line.Line.TheVariants.{Asks, Stop}
 use Rattle.rv_answering.specs.Requests.{Parsed, line_of}
-use Rattle.rv_cli.specs.Headline.{line_at, Are, Takes, TakesStep, Reopens, Run, told_text, Answered}
+use Rattle.rv_cli.specs.Headline.{line_at, Are, TakesLine, TakesStep, Reopens, Run, told_text, Answered}
 
 -- a line that is short enough, and early enough, is what its bytes are
 fits : (number : ℕ) (line : List ℕ) → length line ≤ longest_line → number < 2 ^ 32 → (nat_le (length line) longest_line && nat_lt number (2 ^ 32)) ≡ true
@@ -35,8 +35,8 @@ are_more n [] bytes (a ∷ lines) line number e h is = absurd h
 are_more n (l ∷ rest) bytes [] line number e h is = absurd h
 are_more n (l ∷ rest) bytes (a ∷ lines) line number e (here, more) is = (here, are_more (n + 1) rest bytes lines line number (omega (arith, e)) more is)
 
-pub run_more : (Told : Type 0) (lines : List Line) (answers : List (Option Answer)) (first mid new : Served) (line : Line) (answer : Option Answer) → Run Told first lines answers mid → Takes Told mid line answer new → Run Told first (lines ++ line ∷ []) (answers ++ answer ∷ []) new
-run_more Told [] [] first mid new line answer r s = (new, subst (λ (b : Served). Takes Told b line answer new) r s, refl)
+pub run_more : (Told : Type 0) (lines : List Line) (answers : List (Option Answer)) (first mid new : Served) (line : Line) (answer : Option Answer) → Run Told first lines answers mid → TakesLine Told mid line answer new → Run Told first (lines ++ line ∷ []) (answers ++ answer ∷ []) new
+run_more Told [] [] first mid new line answer r s = (new, subst (λ (b : Served). TakesLine Told b line answer new) r s, refl)
 run_more Told [] (a ∷ answers) first mid new line answer r s = absurd r
 run_more Told (q ∷ lines) [] first mid new line answer r s = absurd r
 run_more Told (q ∷ lines) (a ∷ answers) first mid new line answer (next, step, rest) s = (next, step, run_more Told lines answers next mid new line answer rest s)
@@ -48,7 +48,7 @@ reopens_later Told Now then old new r = record { sound = r.sound; limit = r.limi
 pub step_later : (Told Now : Type 0) → (Now → Told) → (old new : Served) (asked : Parsed) (answer : Answer) → TakesStep Told old asked answer new → TakesStep Now old asked answer new
 step_later Told Now then old new asked answer taken = record { step = taken.step; near = λ now. taken.near (then now) }
 
-pub takes_later : (Told Now : Type 0) → (Now → Told) → (old new : Served) (line : Line) (answer : Option Answer) → Takes Told old line answer new → Takes Now old line answer new
+pub takes_later : (Told Now : Type 0) → (Now → Told) → (old new : Served) (line : Line) (answer : Option Answer) → TakesLine Told old line answer new → TakesLine Now old line answer new
 takes_later Told Now then old new (Asks asked) (Some answer) taken = step_later Told Now then old new asked answer taken
 takes_later Told Now then old new Stop None taken = reopens_later Told Now then old new taken
 takes_later Told Now then old new (Asks asked) None taken = absurd taken
@@ -65,7 +65,7 @@ answered_later Told Now then first lines text new w = record { taken = w.taken; 
 
 -- one more line is taken
 pub answered_more : (Told : Type 0) (first : Served) (lines : List (List ℕ)) (bytes text : List ℕ) (mid new : Served) (number : ℕ) (line : Line) (answer : Option Answer) → number ≡ length lines + 1
-    → Answered Told first lines text mid → line_at number bytes ≡ Some line → Takes Told mid line answer new → Answered Told first (lines ++ bytes ∷ []) (text ++ told_text answer) new
+    → Answered Told first lines text mid → line_at number bytes ≡ Some line → TakesLine Told mid line answer new → Answered Told first (lines ++ bytes ∷ []) (text ++ told_text answer) new
 answered_more Told first lines bytes text mid new number line answer e w is s = record {
   taken = w.taken ++ line ∷ [];
   answers = w.answers ++ answer ∷ [];

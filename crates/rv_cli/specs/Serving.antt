@@ -10,7 +10,7 @@ use Rattle.rv_base.specs.declared.outside.Sink.{Ghosts as SinkGhosts}
 use Rattle.rv_base.specs.Writes.{AppendsFront}
 use Rattle.rv_keeper.specs.declared.keeper.Keeper.{Ghosts}
 use Rattle.rv_keeper.specs.declared.loaded.Loaded.{Loaded}
-use Rattle.rv_accounts.specs.File.{Served as AccountsServed, file_in}
+use Rattle.rv_accounts.specs.File.{AccountsServed, file_in}
 use Rattle.rv_accounts.specs.declared.fault.AccountsFault.{AccountsFault}
 use Rattle.rv_book.specs.Book.{Book, size, Extends}
 use Rattle.rv_history.specs.Served.{Served, IsSound}
@@ -29,7 +29,7 @@ use Rattle.rv_cli.specs.declared.serve_ending.ServeEnding.{ServeEnding}
 use Rattle.rv_cli.specs.declared.serve_ending.ServeEnding.TheVariants.{Done, BadAccounts, TwiceAccounts, NotOpened, Net, Memory, Write}
 use Rattle.rv_cli.specs.Change.{StoreChange}
 use Rattle.rv_cli.specs.Texts.{serve_status, serve_text}
-use Rattle.rv_cli.specs.Headline.{Begins, IsLawfulRun, IsLeftAs, IsNotOpened, Leaves, ShowsAt, TellsChange, TellsTrouble, WritesOnly}
+use Rattle.rv_cli.specs.Headline.{Begins, IsLawfulRun, IsLeftAs, IsNotOpened, Leaves, ShowsAt, AnswersChange, AnswersTrouble, WritesOnly}
 use Rattle.rv_turns.specs.declared.pull.PullReply.{PullReply}
 use Rattle.rv_room.specs.SeatTurns.{IsSeatTurn}
 use Rattle.rv_accounts.specs.declared.fault.AccountsFault.TheVariants as accounts
@@ -84,10 +84,10 @@ abbrev pub entries_text : Book → List ℕ
 entries_text book = codes "entries " ++ (decimal (size book) ++ codes "\n")
 
 -- all of it; or a front of it, and a write failed
-abbrev pub TellsEntries : Book → OutputState → OutputState → ServeEnding → Type 0
-TellsEntries book old new Done = Appends old.written new.written (entries_text book) × (new.faults ≡ old.faults)
-TellsEntries book old new Write = AppendsFront old.written new.written (entries_text book) × Rose old.faults new.faults
-TellsEntries book old new ending = ⊥
+abbrev pub WritesEntries : Book → OutputState → OutputState → ServeEnding → Type 0
+WritesEntries book old new Done = Appends old.written new.written (entries_text book) × (new.faults ≡ old.faults)
+WritesEntries book old new Write = AppendsFront old.written new.written (entries_text book) × Rose old.faults new.faults
+WritesEntries book old new ending = ⊥
 
 -- ---- What becomes of a run. The net is served so, with these accounts, between opening a desk and closing it.
 
@@ -130,7 +130,7 @@ module _ {K : Type 0} (G : Ghosts K) (c : StoreChange) (HasFile : List ℕ → T
     pub sound : IsSound (served G.faults now)
     pub told : c.told → G.tells now.keeper
     pub leaves : Leaves c (served G.faults now)
-    pub entries : TellsEntries now.book output output' ending
+    pub entries : WritesEntries now.book output output' ending
 
   -- the status is that of an ending, and the run ended so
   abbrev pub RunsServe : (AccountsServed → Seated K → Seated K → Type 0) → ℕ → ℕ → OutputState → OutputState → ℕ → Type 0
@@ -188,11 +188,11 @@ module _ {K L I O : Type 0} (G : Ghosts K) (listen : ListenGhosts L I O) (source
 
   -- Where no fault of what keeps the book rose, and where it failed no more from the beginning on, no answer tells a trouble with it.
   abbrev pub ServedTroublesHaveCauses : Type 0
-  ServedTroublesHaveCauses = OfAllServed (λ opened now turn. ((G.faults now.keeper ≡ G.faults opened.keeper) × (G.faults opened.keeper < 2 ^ 64 - 1)) ⊎ G.fails_no_more opened.keeper → TellsTrouble (Some turn.1) → ⊥)
+  ServedTroublesHaveCauses = OfAllServed (λ opened now turn. ((G.faults now.keeper ≡ G.faults opened.keeper) × (G.faults opened.keeper < 2 ^ 64 - 1)) ⊎ G.fails_no_more opened.keeper → AnswersTrouble (Some turn.1) → ⊥)
 
   -- Where the keeper tells as the room is closed, no answer says that another changed what is kept.
   abbrev pub ServedKeepersStay : Type 0
-  ServedKeepersStay = OfAllServed (λ opened now turn. G.tells now.keeper → TellsChange (Some turn.1) → ⊥)
+  ServedKeepersStay = OfAllServed (λ opened now turn. G.tells now.keeper → AnswersChange (Some turn.1) → ⊥)
 
   -- The book at the end goes on from the first, each client's acts in it have the ids 1, 2, 3 and so on, and the orders of each group's
   -- looks rise.

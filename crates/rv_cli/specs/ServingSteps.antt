@@ -5,7 +5,7 @@ use Rattle.rv_base.specs.Causes.{Rose}
 use Rattle.rv_base.specs.Outside.{OutputState}
 use Rattle.rv_base.specs.Writes.{AppendsFront}
 use Rattle.rv_keeper.specs.declared.loaded.Loaded.{Loaded}
-use Rattle.rv_accounts.specs.File.{Served as AccountsServed, file_in}
+use Rattle.rv_accounts.specs.File.{AccountsServed, file_in}
 use Rattle.rv_accounts.specs.declared.fault.AccountsFault.TheVariants as accounts
 use Rattle.rv_net.specs.declared.net_fault.NetFault.{NetFault}
 use Rattle.rv_net.specs.declared.net_fault.NetFault.TheVariants as nets
@@ -25,23 +25,23 @@ use Rattle.rv_net.specs.declared.net.Net.{Ghosts as NetGhosts}
 use Rattle.rv_workers.specs.Serving.{IsServed, ServesTogether}
 
 -- what an accounts file of these bytes says, as it is told
-abbrev pub TellsFile : List ℕ → Result AccountsServed ServeEnding → Type 0
-TellsFile bytes (Ok served) = file_in bytes ≡ Ok served
-TellsFile bytes (Err (BadAccounts number)) = file_in bytes ≡ Err (accounts.BadFile number)
-TellsFile bytes (Err (TwiceAccounts number)) = file_in bytes ≡ Err (accounts.Twice number)
-TellsFile bytes (Err (NotOpened endings.Memory)) = Unit {0}
-TellsFile bytes (Err ending) = ⊥
+abbrev pub ReadsAccounts : List ℕ → Result AccountsServed ServeEnding → Type 0
+ReadsAccounts bytes (Ok served) = file_in bytes ≡ Ok served
+ReadsAccounts bytes (Err (BadAccounts number)) = file_in bytes ≡ Err (accounts.BadFile number)
+ReadsAccounts bytes (Err (TwiceAccounts number)) = file_in bytes ≡ Err (accounts.Twice number)
+ReadsAccounts bytes (Err (NotOpened endings.Memory)) = Unit {0}
+ReadsAccounts bytes (Err ending) = ⊥
 
 -- the accounts of a file, or why there are none
-abbrev pub TellsAccounts : Type 0 → (List ℕ → Type 0) → ℕ → ℕ → Result AccountsServed ServeEnding → Type 0
-TellsAccounts Told HasFile before after (Ok served) = FileSays Told HasFile (Ok served) × (after ≡ before)
-TellsAccounts Told HasFile before after (Err ending) = HasNoAccounts Told HasFile before after ending
+abbrev pub GivesAccounts : Type 0 → (List ℕ → Type 0) → ℕ → ℕ → Result AccountsServed ServeEnding → Type 0
+GivesAccounts Told HasFile before after (Ok served) = FileSays Told HasFile (Ok served) × (after ≡ before)
+GivesAccounts Told HasFile before after (Err ending) = HasNoAccounts Told HasFile before after ending
 
 -- the file was read, and the stores stay as they are
 pub record AccountsRead {P K : Type 0} (place : PlaceGhosts P K) (name : List ℕ) (old : P) (result : Result AccountsServed ServeEnding) (new : P) : Type 0 where
   pub told : place.tells new → place.tells old
   pub stays : place.tells new → (store : List ℕ) (held : Loaded) → place.holds old store held → place.holds new store held
-  pub tells_so : TellsAccounts (place.tells new) (place.accounts old name) (place.faults old) (place.faults new) result
+  pub gives_accounts : GivesAccounts (place.tells new) (place.accounts old name) (place.faults old) (place.faults new) result
 
 -- The net was served at a desk, or nothing was served and the desk is as it was.
 abbrev pub NetServed : {L K : Type 0} → Type 0 → (K → Type 0) → (L → Type 0) → (List L → List L → Type 0) → ℕ → List L → List L → List L → List L → ℕ → ℕ → Seated K → Seated K → Result (Unit {0}) NetFault → Type 0
@@ -51,19 +51,19 @@ NetServed Told kept_tells tells Serves workers to_give left came_back back befor
 NetServed Told kept_tells tells Serves workers to_give left came_back back before after old new (Err nets.Memory) = new ≡ old
 
 -- all of a count and its label was written, or a front, and a write failed
-abbrev pub TellsCount : List ℕ → OutputState → OutputState → ServeEnding → Type 0
-TellsCount text old new Done = Appends old.written new.written text × (new.faults ≡ old.faults)
-TellsCount text old new Write = AppendsFront old.written new.written text × Rose old.faults new.faults
-TellsCount text old new ending = ⊥
+abbrev pub WritesCount : List ℕ → OutputState → OutputState → ServeEnding → Type 0
+WritesCount text old new Done = Appends old.written new.written text × (new.faults ≡ old.faults)
+WritesCount text old new Write = AppendsFront old.written new.written text × Rose old.faults new.faults
+WritesCount text old new ending = ⊥
 
 abbrev pub count_text : ℕ → List ℕ
 count_text entries = codes "entries " ++ (decimal entries ++ codes "\n")
 
 -- what is told of the net that served, or did not
-abbrev pub TellsServed : Result (Unit {0}) NetFault → ℕ → OutputState → OutputState → ServeEnding → Type 0
-TellsServed (Ok done) entries old new ending = TellsCount (count_text entries) old new ending
-TellsServed (Err nets.Failed) entries old new ending = (ending ≡ Net) × WritesOnly old new (serve_text Net)
-TellsServed (Err nets.Memory) entries old new ending = (ending ≡ Memory) × WritesOnly old new (serve_text Memory)
+abbrev pub WritesServed : Result (Unit {0}) NetFault → ℕ → OutputState → OutputState → ServeEnding → Type 0
+WritesServed (Ok done) entries old new ending = WritesCount (count_text entries) old new ending
+WritesServed (Err nets.Failed) entries old new ending = (ending ≡ Net) × WritesOnly old new (serve_text Net)
+WritesServed (Err nets.Memory) entries old new ending = (ending ≡ Memory) × WritesOnly old new (serve_text Memory)
 
 -- The listeners of a net were served side by side at a desk, with these accounts, as many as workers were asked for.
 module _ {K N L I O : Type 0} (keeper : KeeperGhosts K) (net : NetGhosts N L I O) (listen : ListenGhosts L I O) (source : SourceGhosts I) (sink : SinkGhosts O) where

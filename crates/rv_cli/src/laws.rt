@@ -1,6 +1,6 @@
 //! What follows from the clause of [`run`](crate::run), as contracts of functions that do nothing: a check of the crate
 //! proves them.
-ghost use Rattle.rv_accounts.specs.File.{Served as AccountsServed};
+ghost use Rattle.rv_accounts.specs.File.{AccountsServed};
 ghost use Rattle.rv_cli.specs.Headline.{BooksAreLawful, PullsAreShown, TroublesHaveCauses};
 ghost use Rattle.rv_cli.specs.Serving.{ServedBooksAreLawful, ServedKeepersStay, ServedPullsAreShown, ServedTroublesHaveCauses, TurnsStand};
 

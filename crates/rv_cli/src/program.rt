@@ -6,7 +6,7 @@ ghost use Rattle.rv_words.specs.declared.serve_options.ServeOptions.{ServeOption
 ghost use Rattle.rv_keeper.specs.Stores.{OpensAs, OthersStay};
 ghost use Rattle.rv_answering.specs.declared.request.Request.TheVariants.{Retire};
 ghost use Rattle.rv_cli.specs.Texts.{usage_text, status_of, status_text};
-ghost use Rattle.rv_cli.specs.Headline.{TellsActivity, TellsLists, TellsSound, WritesOnly, AllAsk, IsOther, KeptSound};
+ghost use Rattle.rv_cli.specs.Headline.{ReportsActivity, ReportsLists, ReportsSound, WritesOnly, AllAsk, IsOther, KeptSound};
 ghost use Rattle.rv_cli.specs.Promises.{ServesAsAsked, WasFed, WasFedOrNot, WasReportedOrNot, WasRetired, WasRetiredOrNot, WasUnserved, WasWanted};
 ghost use Rattle.rv_cli.specs.Commands.{HasFile, asked_by, IsOfStore, IsReportOf};
 ghost use Rattle.rv_cli.specs.Replying.{Retired, WritesReply};
@@ -194,11 +194,11 @@ where
 
     // A report is a text of the book that the store kept, which it still keeps.
     ensures lists { (store : List ℕ) → asked_by words.now ≡ Some (commands.Lists store)
-        → WasReportedOrNot P.Place O.Sink store place.old place.new TellsLists out.old out.new result }
+        → WasReportedOrNot P.Place O.Sink store place.old place.new ReportsLists out.old out.new result }
     ensures activity { (store : List ℕ) → asked_by words.now ≡ Some (commands.Activity store)
-        → WasReportedOrNot P.Place O.Sink store place.old place.new TellsActivity out.old out.new result }
+        → WasReportedOrNot P.Place O.Sink store place.old place.new ReportsActivity out.old out.new result }
     ensures check { (store : List ℕ) → asked_by words.now ≡ Some (commands.Check store)
-        → WasReportedOrNot P.Place O.Sink store place.old place.new TellsSound out.old out.new result }
+        → WasReportedOrNot P.Place O.Sink store place.old place.new ReportsSound out.old out.new result }
 
     // A fault is told exactly where one rose, but for a write of a status's own text that failed.
     ensures keeper { result ≡ 4 → Rose (P.faults place.old) (P.faults place.new) }

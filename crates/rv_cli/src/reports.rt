@@ -2,9 +2,9 @@
 ghost use Rattle.std.specs.Prelude.{◌≡◌, ◌≢◌, ◌⊎◌, ◌++◌, codes, decimal};
 ghost use Rattle.rv_base.specs.Causes.{Rose};
 ghost use Rattle.rv_keeper.specs.Stores.{OpensAs, OthersStay};
-ghost use Rattle.rv_cli.specs.Headline.{KeptSound, TellsActivity, TellsLists, TellsSound};
+ghost use Rattle.rv_cli.specs.Headline.{KeptSound, ReportsActivity, ReportsLists, ReportsSound};
 ghost use Rattle.rv_cli.specs.Promises.{WasReported};
-ghost use Rattle.rv_cli.specs.Reporting.{WritesMade, WritesText};
+ghost use Rattle.rv_cli.specs.Reporting.{WritesMade, WritesUntil};
 ghost use Rattle.rv_cli.specs.Steadiness.{OutputIsSteady, PlaceIsSteady};
 
 use crate::ending::Ending;
@@ -17,7 +17,7 @@ use std::alloc::Global;
 
 // Writes the text of a report.
 fn write_text<O: Sink>(out: &mut O, text: &Bytes) -> Ending
-    ensures writes { WritesText (O.state out.old) (O.state out.new) text.now result }
+    ensures writes { WritesUntil (O.state out.old) (O.state out.new) text.now result }
     ensures steady { O.fails_no_more out.old → OutputIsSteady (O.fails_no_more out.new) (O.state out.old).refusals (O.state out.new).refusals result }
 {
     match write_all(out, text.as_slice()) {
@@ -42,7 +42,7 @@ fn write_report<O: Sink>(out: &mut O, report: &Result<Bytes, Memory>) -> Ending
 
 // Writes that a store is sound.
 fn report_sound<O: Sink>(out: &mut O, entries: u32) -> Ending
-    ensures writes { WritesText (O.state out.old) (O.state out.new) (codes "ok " ++ (decimal entries ++ codes "\n")) result }
+    ensures writes { WritesUntil (O.state out.old) (O.state out.new) (codes "ok " ++ (decimal entries ++ codes "\n")) result }
     ensures steady { O.fails_no_more out.old → OutputIsSteady (O.fails_no_more out.new) (O.state out.old).refusals (O.state out.new).refusals result }
 {
     match write_count(out, b"ok ", u64::from(entries)) {
@@ -54,7 +54,7 @@ fn report_sound<O: Sink>(out: &mut O, entries: u32) -> Ending
 /// Writes the lists of the book that the store keeps, as [`lists_text`](rv_report::lists_text): the command `lists STORE`. The
 /// status is 0, 4, 5, 7 or 8; it is 4 where the store isn't there, and none is made. The store stays as it is.
 pub fn run_lists<P: Place, O: Sink>(alloc: Global, place: &mut P, store: &str, out: &mut O) -> u8
-    ensures report { WasReported P.Place O.Sink store.now place.old place.new TellsLists out.old out.new result }
+    ensures report { WasReported P.Place O.Sink store.now place.old place.new ReportsLists out.old out.new result }
 
     // Where the place tells, and the store kept a lawful book within the limit, the status is no damage.
     ensures sound { P.tells place.new → KeptSound (OpensAs store.now (P.holds place.old store.now)) → result ≢ 5 }
@@ -81,7 +81,7 @@ pub fn run_lists<P: Place, O: Sink>(alloc: Global, place: &mut P, store: &str, o
 /// Writes who did how much in the book that the store keeps, as [`activity_text`](rv_report::activity_text): the command
 /// `activity STORE`. The status is 0, 4, 5, 7 or 8; it is 4 where the store isn't there, and none is made. The store stays as it is.
 pub fn run_activity<P: Place, O: Sink>(alloc: Global, place: &mut P, store: &str, out: &mut O) -> u8
-    ensures report { WasReported P.Place O.Sink store.now place.old place.new TellsActivity out.old out.new result }
+    ensures report { WasReported P.Place O.Sink store.now place.old place.new ReportsActivity out.old out.new result }
     ensures sound { P.tells place.new → KeptSound (OpensAs store.now (P.holds place.old store.now)) → result ≢ 5 }
     ensures absent { P.tells place.new → result ≡ 0 → P.has place.old store.now }
     ensures none_made { P.tells place.new → P.has place.new store.now → P.has place.old store.now }
@@ -102,7 +102,7 @@ pub fn run_activity<P: Place, O: Sink>(alloc: Global, place: &mut P, store: &str
 /// Writes that the store is sound, with the number of its book's entries: the command `check STORE`. The status is 0, 4, 5, 7 or 8,
 /// where 4 also tells that the store isn't there, and none is made, and 5 what is wrong first. The store stays as it is.
 pub fn run_check<P: Place, O: Sink>(alloc: Global, place: &mut P, store: &str, out: &mut O) -> u8
-    ensures report { WasReported P.Place O.Sink store.now place.old place.new TellsSound out.old out.new result }
+    ensures report { WasReported P.Place O.Sink store.now place.old place.new ReportsSound out.old out.new result }
     ensures sound { P.tells place.new → KeptSound (OpensAs store.now (P.holds place.old store.now)) → result ≢ 5 }
     ensures absent { P.tells place.new → result ≡ 0 → P.has place.old store.now }
     ensures none_made { P.tells place.new → P.has place.new store.now → P.has place.old store.now }

@@ -1,12 +1,12 @@
 // The command `serve`: the accounts are read, the store is opened, and its desk serves the connections of a net.
 ghost use Rattle.std.specs.Prelude.{◌≡◌, ◌≢◌, ◌≤◌, ◌⊎◌, Err, None, Some, IfErr, length};
 ghost use Rattle.rv_base.specs.Causes.{Rose};
-ghost use Rattle.rv_keeper.specs.Stores.{OpensAs, OthersStay, Stays};
+ghost use Rattle.rv_keeper.specs.Stores.{OpensAs, OthersStay, PlaceStays};
 ghost use Rattle.rv_net.specs.declared.net_fault.NetFault.TheVariants as nets;
 ghost use Rattle.rv_cli.specs.Headline.{KeptSound, WritesOnly};
 ghost use Rattle.rv_cli.specs.Serving.{Unserved};
 ghost use Rattle.rv_cli.specs.Promises.{WasServed, WasUnserved, WasWanted};
-ghost use Rattle.rv_cli.specs.ServingSteps.{AccountsRead, ServesNet, TellsCount, TellsFile, TellsServed, count_text};
+ghost use Rattle.rv_cli.specs.ServingSteps.{AccountsRead, ServesNet, WritesCount, ReadsAccounts, WritesServed, count_text};
 ghost use Rattle.rv_cli.specs.Commands.{HasFile};
 ghost use Rattle.rv_cli.specs.Steadiness.{AccountsAreSteady, ServeIsSteady};
 ghost use Rattle.rv_cli.specs.Texts.{serve_status, serve_text};
@@ -27,7 +27,7 @@ use std::sync::Wait;
 
 // What the bytes of an accounts file say.
 fn accounts_in(alloc: Global, bytes: &Bytes) -> Result<Accounts, ServeEnding>
-    ensures { TellsFile bytes.now result }
+    ensures { ReadsAccounts bytes.now result }
 {
     match read_accounts(alloc, bytes.as_slice()) {
         Ok(accounts) => Ok(accounts),
@@ -40,7 +40,7 @@ fn accounts_in(alloc: Global, bytes: &Bytes) -> Result<Accounts, ServeEnding>
 // The accounts of the file of this name; or why there are none.
 fn accounts_of<P: Place>(alloc: Global, place: &mut P, name: &str) -> Result<Accounts, ServeEnding>
     ensures read { AccountsRead P.Place name.now place.old result place.new }
-    ensures stays { P.tells place.new → Stays P.holds P.is_out P.has P.accounts place.old place.new }
+    ensures stays { P.tells place.new → PlaceStays P.holds P.is_out P.has P.accounts place.old place.new }
     ensures steady { P.fails_no_more place.old → HasFile (P.accounts place.old) name.now → P.fails_no_more place.new × AccountsAreSteady result }
 {
     match place.read_accounts(name) {
@@ -85,20 +85,20 @@ where
 }
 
 // Writes how many entries the book has that was served; or why nothing was served.
-fn tell_served<O: Sink>(out: &mut O, served: Result<(), NetFault>, entries: u32) -> ServeEnding
-    ensures tells { TellsServed served entries (O.state out.old) (O.state out.new) result }
+fn write_served<O: Sink>(out: &mut O, served: Result<(), NetFault>, entries: u32) -> ServeEnding
+    ensures writes { WritesServed served entries (O.state out.old) (O.state out.new) result }
     ensures steady { O.fails_no_more out.old → ServeIsSteady (O.fails_no_more out.new) (O.state out.old).refusals (O.state out.new).refusals result }
 {
     match served {
-        Ok(()) => tell_entries(out, entries),
+        Ok(()) => write_entries(out, entries),
         Err(NetFault::Failed) => tell(out, ServeEnding::Net),
         Err(NetFault::Memory) => tell(out, ServeEnding::Memory),
     }
 }
 
 // Writes how many entries the book has.
-fn tell_entries<O: Sink>(out: &mut O, entries: u32) -> ServeEnding
-    ensures tells { TellsCount (count_text entries) (O.state out.old) (O.state out.new) result }
+fn write_entries<O: Sink>(out: &mut O, entries: u32) -> ServeEnding
+    ensures writes { WritesCount (count_text entries) (O.state out.old) (O.state out.new) result }
     ensures steady { O.fails_no_more out.old → ServeIsSteady (O.fails_no_more out.new) (O.state out.old).refusals (O.state out.new).refusals result }
 {
     match write_count(out, b"entries ", u64::from(entries)) {
@@ -150,7 +150,7 @@ where
     let (served, desk) = serve_net(alloc, runtime, crew, &accounts, desk, options, net);
     let entries = desk.book().len();
     place.close_keeper(store, desk.close());
-    tell_served(out, served, entries).status()
+    write_served(out, served, entries).status()
 }
 
 /// Answers the requests of connections, from the book that the store keeps: the command `serve STORE`. The accounts file is read

@@ -134,7 +134,7 @@ impl<K: Keeper> Desk<K> {
                 keeper,
                 alloc,
             }),
-            Err(CellFault::Damaged(damage)) => Err((OpenFault::Damaged(damage), keeper)),
+            Err(CellFault::BadCell(damage)) => Err((OpenFault::Damaged(damage), keeper)),
             Err(CellFault::Memory) => Err((OpenFault::Memory, keeper)),
         }
     }

@@ -4,7 +4,7 @@ ghost use Rattle.rv_book.specs.declared.entry.Entry.TheVariants.{Act};
 ghost use Rattle.rv_book.specs.Book.{last, size};
 ghost use Rattle.rv_history.specs.Groups.{Admits};
 ghost use Rattle.rv_history.specs.Lawful.{IsLawfulAfter};
-ghost use Rattle.rv_history.specs.Machine.{Takes};
+ghost use Rattle.rv_history.specs.Machine.{TakesMutation};
 ghost use Rattle.rv_turns.specs.Asks.{Ask};
 ghost use Rattle.rv_desk.specs.Keeping.{IsKept, keep_trouble};
 ghost use Rattle.rv_desk.specs.Seated.{Assures, served};
@@ -70,7 +70,7 @@ impl<K: Keeper> Desk<K> {
         previous: Num,
     ) -> Result<Outcome, KeepFault>
         requires settled { self.old.doubt ≡ None }
-        requires takes { Takes (record { user = user.now; group = group.now }) client.now self.old.book }
+        requires takes { TakesMutation (record { user = user.now; group = group.now }) client.now self.old.book }
         requires previous { previous ≡ last client.now self.old.book }
         requires below { previous ≤ size self.old.book }
         ensures stepped { HasStepped (served K.faults self.old) (Ask.mutation (record { user = user.now; group = group.now }) (record { client = client.now; id = id; call = call })) result (served K.faults self.new) }
@@ -109,7 +109,7 @@ impl<K: Keeper> Desk<K> {
         call: Call,
     ) -> Result<u32, KeepFault>
         requires settled { self.old.doubt ≡ None }
-        requires room { size self.old.book < self.old.limit }
+        requires within_limit { size self.old.book < self.old.limit }
         requires lawful { IsLawfulAfter self.old.book (Act user.now group.now client.now id call) }
         ensures kept { IsKept (served K.faults self.old) (Act user.now group.now client.now id call) result (served K.faults self.new) }
         ensures assured { Assures K.tells K.fails_no_more self.old.keeper (keep_trouble result) self.new.keeper }

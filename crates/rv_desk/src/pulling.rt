@@ -77,7 +77,7 @@ impl<K: Keeper> Desk<K> {
         requires settled { self.old.doubt ≡ None }
         requires admits { Admits user.now request.now.group self.old.book }
         requires changed { ¬ IsUnchanged user.now request.now self.old.book }
-        requires room { size self.old.book < self.old.limit }
+        requires within_limit { size self.old.book < self.old.limit }
         requires order { order ≡ next_order request.now self.old.book }
         requires news { IsNews self.old.book user.now request.now news }
         requires lawful { IsLawfulAfter self.old.book (Look user.now request.now.group order news.base) }

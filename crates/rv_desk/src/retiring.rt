@@ -43,7 +43,7 @@ impl<K: Keeper> Desk<K> {
     // Keeps a retirement.
     fn enter_retirement(&mut self, group: &Id) -> Result<u32, KeepFault>
         requires settled { self.old.doubt ≡ None }
-        requires room { size self.old.book < self.old.limit }
+        requires within_limit { size self.old.book < self.old.limit }
         requires lawful { IsLawfulAfter self.old.book (Retire group.now) }
         ensures kept { IsKept (served K.faults self.old) (Retire group.now) result (served K.faults self.new) }
         ensures assured { Assures K.tells K.fails_no_more self.old.keeper (keep_trouble result) self.new.keeper }

@@ -9,7 +9,7 @@ use Rattle.std.proofs.lemmas.Option.{same_Some}
 use Rattle.std.proofs.lemmas.List.Elements.{Contains-append_right}
 use Rattle.std.proofs.lemmas.Slice.Eq.{bytes_eq-Decides}
 use Rattle.rv_base.specs.Sorted.{find_by}
-use Rattle.rv_base.specs.Places.{in_order-sorted}
+use Rattle.rv_base.specs.Positions.{in_order-sorted}
 use Rattle.rv_views.specs.declared.cookie.Cookie.{Cookie}
 use Rattle.rv_views.specs.declared.cookie.Cookie.TheVariants.{Null, Named}
 use Rattle.rv_book.specs.declared.entry.Entry.{Entry}
@@ -21,7 +21,7 @@ use Rattle.rv_book.specs.LookLaws.{look_at-within}
 use Rattle.rv_history.specs.Bases.{base_of, base_group}
 use Rattle.rv_history.specs.Based.{base_look, base_spelled}
 use Rattle.rv_history.specs.Machine.{ReplyText}
-use Rattle.rv_history.specs.Clients.{Held, nothing, ClientPull, held_then, ArePulls, IsClient, IsCurrent, WasTold, EachCurrent}
+use Rattle.rv_history.specs.Clients.{ClientState, nothing, ClientPull, held_then, ArePulls, IsClient, IsCurrent, WasSent, EachCurrent}
 use Rattle.rv_history.specs.Laws.{IsBaseView, known_ids}
 use Rattle.rv_history.specs.LookIds.{ids_look}
 use Rattle.rv_history.specs.Patches.{client_view, key_value, apply}
@@ -80,9 +80,9 @@ ids_found group book pair there =
     all_at (λ p. find_by key (key p) (ids group book) ≡ Some p) (ids group book) pair (each_found key (ids group book) (in_order-sorted key (filter_map (client_in group book) book.entries))) there
 
 -- what is told and what is held, where each pair of the group is told or held and nothing else is told
-told_or_held : (group : List ℕ) (book : Book) (told held : Pairs) (pair : List ℕ × ℕ) → Contains (ids group book) pair → ((p : List ℕ × ℕ) → Contains told p → Contains (ids group book) p)
+sent_or_held : (group : List ℕ) (book : Book) (told held : Pairs) (pair : List ℕ × ℕ) → Contains (ids group book) pair → ((p : List ℕ × ℕ) → Contains told p → Contains (ids group book) p)
     → Contains told pair ⊎ (find_by key (key pair) held ≡ Some pair) → find_by key (key pair) (told ++ held) ≡ Some pair
-told_or_held group book told held pair there sound which =
+sent_or_held group book told held pair there sound which =
     find_both (key pair) told held ∙ go (find_by key (key pair) told) refl which
   where
     go : (o : Option (List ℕ × ℕ)) → find_by key (key pair) told ≡ o → Contains told pair ⊎ (find_by key (key pair) held ≡ Some pair) → option_or o (find_by key (key pair) held) ≡ Some pair
@@ -108,7 +108,7 @@ look_front place book more look there =
 -- ---- What a client holds.
 
 -- it is what the user saw at the look that its cookie names
-record IsAt (user : List ℕ) (book : Book) (held : Held) : Type 0 where
+record IsAt (user : List ℕ) (book : Book) (held : ClientState) : Type 0 where
   pub place : ℕ
   pub order : ℕ
   pub group : List ℕ
@@ -117,10 +117,10 @@ record IsAt (user : List ℕ) (book : Book) (held : Held) : Type 0 where
   pub look : look_at place book ≡ Some (user, group, order)
   pub current : IsCurrent user group (up_to place book) held
 
-abbrev Stands : List ℕ → Book → Held → Type 0
+abbrev Stands : List ℕ → Book → ClientState → Type 0
 Stands user book held = (held.cookie ≡ Null) ⊎ IsAt user book held
 
-module _ (write : ReplyText) (user : List ℕ) (book : Book) (pull : ClientPull) (fits : size book < 2 ^ 64) (told : WasTold write user book pull) (asks : pull.request.cookie ≡ pull.base.cookie) (stands : Stands user book pull.base) where
+module _ (write : ReplyText) (user : List ℕ) (book : Book) (pull : ClientPull) (fits : size book < 2 ^ 64) (told : WasSent write user book pull) (asks : pull.request.cookie ≡ pull.base.cookie) (stands : Stands user book pull.base) where
   -- the point is a front of the book
   since_point : Extends book told.point
   since_point = extends_on book told.new told.point told.within (go pull.reply.same refl)
@@ -175,7 +175,7 @@ module _ (write : ReplyText) (user : List ℕ) (book : Book) (pull : ClientPull)
   current_then : IsCurrent user pull.request.group told.point (held_then pull)
   current_then = record {
     view = told.tells.shows pull.base.view (view_there (base_of user pull.request.cookie told.point) refl);
-    ids = λ pair there. told_or_held pull.request.group told.point pull.reply.ids pull.base.ids pair there told.tells.sound (which pair (told.tells.complete pair there));
+    ids = λ pair there. sent_or_held pull.request.group told.point pull.reply.ids pull.base.ids pair there told.tells.sound (which pair (told.tells.complete pair there));
   }
     where
       which : (pair : List ℕ × ℕ) → Contains (known_ids user pull.request told.point) pair ⊎ Contains pull.reply.ids pair → Contains pull.reply.ids pair ⊎ (find_by key (key pair) pull.base.ids ≡ Some pair)
@@ -187,7 +187,7 @@ module _ (write : ReplyText) (user : List ℕ) (book : Book) (pull : ClientPull)
   same_stands is =
       let (ops, none, cookie, stays) = told.tells.same is in
       let left : held_then pull ≡ pull.base = (λ i. record { cookie = (cookie ∙ asks) i; view = apply (ops i) pull.base.view; ids = none i ++ pull.base.ids }) in
-      subst (λ (h : Held). Stands user book h) (sym left) stands
+      subst (λ (h : ClientState). Stands user book h) (sym left) stands
 
   -- and a new one names the look at which it is what the user sees
   look_stands : pull.reply.same ≡ false → Stands user book (held_then pull)
@@ -219,11 +219,11 @@ module _ (write : ReplyText) (user : List ℕ) (book : Book) (pull : ClientPull)
   stands_then : Stands user book (held_then pull)
   stands_then = elim pull.reply.same as (λ b. pull.reply.same ≡ b → Stands user book (held_then pull)) [ true ↦ same_stands | false ↦ look_stands ] refl
 
-follows : (write : ReplyText) (user : List ℕ) (book : Book) → size book < 2 ^ 64 → (held : List Held) → AllByRecursion (Stands user book) held → (pulls : List ClientPull) → ArePulls held pulls → (told : AllByRecursion (WasTold write user book) pulls) → EachCurrent write user book pulls told
+follows : (write : ReplyText) (user : List ℕ) (book : Book) → size book < 2 ^ 64 → (held : List ClientState) → AllByRecursion (Stands user book) held → (pulls : List ClientPull) → ArePulls held pulls → (told : AllByRecursion (WasSent write user book) pulls) → EachCurrent write user book pulls told
 follows write user book fits held all [] pulls told = tt
 follows write user book fits held all (pull ∷ pulls) (within, asks, rest) (told, others) =
     let stands : Stands user book pull.base = all_at (Stands user book) held pull.base all within in
     (current_then write user book pull fits told asks stands, follows write user book fits (held_then pull ∷ held) (stands_then write user book pull fits told asks stands, all) pulls rest others)
 
-pub clients_follow : (write : ReplyText) (user : List ℕ) (book : Book) (pulls : List ClientPull) → size book < 2 ^ 64 → IsClient pulls → (told : AllByRecursion (WasTold write user book) pulls) → EachCurrent write user book pulls told
+pub clients_follow : (write : ReplyText) (user : List ℕ) (book : Book) (pulls : List ClientPull) → size book < 2 ^ 64 → IsClient pulls → (told : AllByRecursion (WasSent write user book) pulls) → EachCurrent write user book pulls told
 clients_follow write user book pulls fits client told = follows write user book fits (nothing ∷ []) (inl refl, tt) pulls client told

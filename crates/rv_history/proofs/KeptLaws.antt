@@ -25,24 +25,24 @@ use Rattle.rv_history.specs.Served.{Served, Settles, StaysInDoubt, LeavesDoubt, 
 use Rattle.rv_history.specs.Based.{base_lawful, next_above}
 use Rattle.rv_history.specs.LawfulBooks.{lawful_more}
 
--- the book stays, or one entry that may stand next is entered, where there is room
+-- the book stays, or one entry that may stand next is entered, where there is space
 abbrev Advances : ℕ → Book → Book → Type 0
 Advances limit book new = (new ≡ book) ⊎ ((entry : Entry) × (new ≡ with_entry book entry) × IsLawfulAfter book entry × (size book < limit))
 
 module _ (write : ReplyText) (limit : ℕ) (book : Book) where
   replies_advance : (user : List ℕ) (request : PullRequest) (same : Bool) (reply : PullReply) (new : Book) → Admits user request.group book → Replies write limit book user request same reply new → Advances limit book new
   replies_advance user request true reply new admits (none, is, same) = inl same
-  replies_advance user request false reply new admits (some, fits, room, is, more) = inr (
+  replies_advance user request false reply new admits (some, fits, below, is, more) = inr (
     Look user request.group (next_order request book) (base_of user request.cookie book),
     more,
     (admits, (next_above (cookie_order request.cookie) (last_order request.group book) (next_order request book) refl).1, fits, base_lawful user request book),
-    room,
+    below,
   )
 
   step_advances : (ask : Ask) (outcome : Outcome) (new : Book) → Step write limit book ask outcome new → Advances limit book new
   step_advances (Ask.mutation from m) (Refused refusal) new (why, same) = inl same
   step_advances (Ask.mutation from m) (Skipped number) new (takes, le, is, same) = inl same
-  step_advances (Ask.mutation from m) (Acted place) new (takes, next, room, at, is) = inr (Act from.user from.group m.client m.id m.call, is, (takes.admits, takes.here, next), room)
+  step_advances (Ask.mutation from m) (Acted place) new (takes, next, below, at, is) = inr (Act from.user from.group m.client m.id m.call, is, (takes.admits, takes.here, next), below)
   step_advances (Ask.mutation from m) (Pulled reply) new never = absurd never
   step_advances (Ask.mutation from m) (Retired place) new never = absurd never
   step_advances (Ask.pull user request) (Refused refusal) new (why, same) = inl same
@@ -51,7 +51,7 @@ module _ (write : ReplyText) (limit : ℕ) (book : Book) where
   step_advances (Ask.pull user request) (Skipped number) new never = absurd never
   step_advances (Ask.pull user request) (Retired place) new never = absurd never
   step_advances (Ask.retirement group) (Refused refusal) new (why, same) = inl same
-  step_advances (Ask.retirement group) (Retired place) new (some, stands, room, at, is) = inr (Retire group, is, (some, stands), room)
+  step_advances (Ask.retirement group) (Retired place) new (some, stands, below, at, is) = inr (Retire group, is, (some, stands), below)
   step_advances (Ask.retirement group) (Acted place) new never = absurd never
   step_advances (Ask.retirement group) (Skipped number) new never = absurd never
   step_advances (Ask.retirement group) (Pulled reply) new never = absurd never
@@ -68,7 +68,7 @@ goes_still : (limit : ℕ) (book new : Book) → new ≡ book → Stands limit b
 goes_still limit book new same stands = (subst (λ (b : Book). Stands limit b) (sym same) stands, extends_same new book same)
 
 goes_more : (limit : ℕ) (book new : Book) (entry : Entry) → new ≡ with_entry book entry → IsLawfulAfter book entry → size book < limit → Stands limit book → Goes limit book new
-goes_more limit book new entry is next room (lawful, within) =
+goes_more limit book new entry is next below (lawful, within) =
     let more : Stands limit (with_entry book entry) = (lawful_more book entry lawful next, omega (arith, size-with_entry book entry)) in
     (subst (λ (b : Book). Stands limit b) (sym is) more, (entry ∷ [], is))
 
@@ -77,12 +77,12 @@ goes_on limit book mid new (_, before) (stands, later) = (stands, extends_on new
 
 advances : (limit : ℕ) (book new : Book) → Advances limit book new → Stands limit book → Goes limit book new
 advances limit book new (inl same) stands = goes_still limit book new same stands
-advances limit book new (inr (entry, is, next, room)) stands = goes_more limit book new entry is next room stands
+advances limit book new (inr (entry, is, next, below)) stands = goes_more limit book new entry is next below stands
 
 settles : (limit : ℕ) (book : Book) (doubt : Doubt) (settled : Book) → Settles book doubt settled → Stands limit book → MayStand book limit doubt → Goes limit book settled
 settles limit book doubt settled (inl same) stands next = goes_still limit book settled same stands
 settles limit book None settled (inr same) stands next = goes_still limit book settled same stands
-settles limit book (Some entry) settled (inr is) stands (next, room) = goes_more limit book settled entry is next room stands
+settles limit book (Some entry) settled (inr is) stands (next, below) = goes_more limit book settled entry is next below stands
 
 -- an entry that a step enters may stand next
 same_entry : (book : Book) (one two : Entry) → with_entry book one ≡ with_entry book two → one ≡ two
@@ -92,7 +92,7 @@ entered : (limit : ℕ) (book : Book) (entry : Entry) → Advances limit book (w
 entered limit book entry (inl same) =
     let n : size (with_entry book entry) ≡ size book = ap (λ (b : Book). size b) same in
     absurd (omega (arith, n, size-with_entry book entry))
-entered limit book entry (inr (other, is, next, room)) = (subst (λ (e : Entry). IsLawfulAfter book e) (sym (same_entry book entry other is)) next, room)
+entered limit book entry (inr (other, is, next, below)) = (subst (λ (e : Entry). IsLawfulAfter book e) (sym (same_entry book entry other is)) next, below)
 
 law_of : (old new : Served) → IsSound old → Goes old.limit old.book new.book → MayStand new.book old.limit new.doubt → new.limit ≡ old.limit → old.faults ≤ new.faults → KeepsLaw old new
 law_of old new sound goes next limit later = record {

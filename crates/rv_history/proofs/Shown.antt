@@ -24,7 +24,7 @@ use Rattle.rv_history.specs.Bases.{base_of, base_group}
 use Rattle.rv_history.specs.Patches.{ClientView, client_view, apply}
 use Rattle.rv_history.specs.History.{is_absent, is_news, patch_since, is_among, ids_since}
 use Rattle.rv_history.specs.Machine.{ReplyText, Step, Replies, cookie_order, next_order, patch_for, ids_for, same_reply, reply_to}
-use Rattle.rv_history.specs.Laws.{IsBaseView, IsPermitted, is_clear, ClearsWithoutBase, EntersLook, known_ids, Tells}
+use Rattle.rv_history.specs.Laws.{IsBaseView, IsPermitted, is_clear, ClearsWithoutBase, EntersLook, known_ids, ReplyShows}
 use Rattle.rv_history.specs.Based.{first_and, last_and}
 use Rattle.rv_history.specs.Based.{next_above}
 use Rattle.rv_history.specs.PatchLaws.{patch_applies, patch_anew}
@@ -157,7 +157,7 @@ Cookies user request book new reply =
     × (reply.same ≡ false → EntersLook user request book new reply.cookie)
 
 module _ (write : ReplyText) where
-  tells : (user : List ℕ) (request : PullRequest) (book new : Book) (reply : PullReply) → reply.ops ≡ patch_for user request book → reply.ids ≡ ids_for user request book → reply.text ≡ write reply.cookie reply.ids reply.ops → Cookies user request book new reply → Tells write user request book new reply
+  tells : (user : List ℕ) (request : PullRequest) (book new : Book) (reply : PullReply) → reply.ops ≡ patch_for user request book → reply.ids ≡ ids_for user request book → reply.text ≡ write reply.cookie reply.ids reply.ops → Cookies user request book new reply → ReplyShows write user request book new reply
   tells user request book new reply ops told text cookies =
       let base : Option ℕ = base_of user request.cookie book in
       let group : Option (ℕ × List ℕ) = option_and_then (base_group book) base in
@@ -179,8 +179,8 @@ module _ (write : ReplyText) where
   own_text : (reply is : PullReply) → reply ≡ is → is.text ≡ write is.cookie is.ids is.ops → reply.text ≡ write reply.cookie reply.ids reply.ops
   own_text reply is same text = subst (λ (r : PullReply). r.text ≡ write r.cookie r.ids r.ops) (sym same) text
 
-  replies_tell : (limit : ℕ) (user : List ℕ) (request : PullRequest) (book new : Book) (same : Bool) (reply : PullReply) → Replies write limit book user request same reply new → Tells write user request book new reply
-  replies_tell limit user request book new true reply (none, is, stays) =
+  replies_show : (limit : ℕ) (user : List ℕ) (request : PullRequest) (book new : Book) (same : Bool) (reply : PullReply) → Replies write limit book user request same reply new → ReplyShows write user request book new reply
+  replies_show limit user request book new true reply (none, is, stays) =
       let cookie : reply.cookie ≡ request.cookie = ap (λ (r : PullReply). r.cookie) is in
       let own : reply.same ≡ true = ap (λ (r : PullReply). r.same) is in
       let order : cookie_order reply.cookie ≡ cookie_order request.cookie = ap cookie_order cookie in
@@ -188,11 +188,11 @@ module _ (write : ReplyText) where
       let told : reply.ids ≡ [] = ap (λ (r : PullReply). r.ids) is in
       tells user request book new reply (ops ∙ sym none.0) (told ∙ sym none.1) (own_text reply (same_reply write request) is refl)
       (omega arith, (λ yes. (ops, told, cookie, stays)), (λ no. absurd (let both : true ≡ false = sym own ∙ no in cc)), (λ no. absurd (let both : true ≡ false = sym own ∙ no in cc)))
-  replies_tell limit user request book new false reply (some, fits, room, is, more) =
+  replies_show limit user request book new false reply (some, fits, below, is, more) =
       let other : reply.same ≡ false = ap (λ (r : PullReply). r.same) is in
       let rises = next_above (cookie_order request.cookie) (last_order request.group book) (cookie_order reply.cookie) (ap (λ (r : PullReply). cookie_order r.cookie) is) in
       tells user request book new reply (ap (λ (r : PullReply). r.ops) is) (ap (λ (r : PullReply). r.ids) is) (own_text reply (reply_to write user request book) is refl)
       (omega arith, (λ yes. absurd (let both : true ≡ false = sym yes ∙ other in cc)), (λ no. (rises.1, rises.0)), (λ no. (next_order request book, ap (λ (r : PullReply). r.cookie) is, more)))
 
-  pub pulls_show : (limit : ℕ) (user : List ℕ) (request : PullRequest) (book new : Book) (reply : PullReply) → Step write limit book (Ask.pull user request) (Pulled reply) new → Tells write user request book new reply
-  pulls_show limit user request book new reply (admits, replies) = replies_tell limit user request book new reply.same reply replies
+  pub pulls_show : (limit : ℕ) (user : List ℕ) (request : PullRequest) (book new : Book) (reply : PullReply) → Step write limit book (Ask.pull user request) (Pulled reply) new → ReplyShows write user request book new reply
+  pulls_show limit user request book new reply (admits, replies) = replies_show limit user request book new reply.same reply replies

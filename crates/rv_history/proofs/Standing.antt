@@ -21,7 +21,7 @@ use Rattle.rv_history.specs.GroupLaws.{groups_have_one_user, clients_have_one_gr
 use Rattle.rv_history.specs.Lawful.{IsLawful}
 use Rattle.rv_history.specs.LawfulBooks.{ids_count_up}
 use Rattle.rv_history.specs.Laws.{act_ids, IsEntered}
-use Rattle.rv_history.specs.Machine.{ReplyText, Step, Takes}
+use Rattle.rv_history.specs.Machine.{ReplyText, Step, TakesMutation}
 use Rattle.rv_history.specs.Served.{Served, IsSound, TakesTurn}
 use Rattle.rv_history.specs.TurnLaws.{no_trouble, step_of}
 use Rattle.rv_history.proofs.KeptLaws.{turns_keep, pushes_keep, settled_lawful}
@@ -87,7 +87,7 @@ itself : (text : List ℕ) → bytes_eq text text ≡ true
 itself text = (bytes_eq-Decides text text).1 refl
 
 -- and it is an act of the sender
-entered : (from : Sender) (m : Mutation) (book : Book) → IsLawful book → Takes from m.client book → HasAct m.client m.id book.entries → IsEntered from book m
+entered : (from : Sender) (m : Mutation) (book : Book) → IsLawful book → TakesMutation from m.client book → HasAct m.client m.id book.entries → IsEntered from book m
 entered from m book lawful takes (user, group, call, there) =
     let e : Entry = Act user group m.client m.id call in
     let owner : bound group book ≡ Some user = groups_have_one_user book group user e lawful there (ap (λ (b : Bool). cond b (Some user) None) (itself group)) in
@@ -104,7 +104,7 @@ stands_on from m book new (more, is) (call, there) =
 
 module _ (write : ReplyText) (from : Sender) where
   pub mutation_stands : (limit : ℕ) (m : Mutation) (book new : Book) (outcome : Outcome) → Step write limit book (Ask.mutation from m) outcome new → refusal_of outcome ≡ None → IsLawful book → 1 ≤ m.id → IsEntered from new m
-  mutation_stands limit m book new (Acted place) (takes, next, room, at, is) none lawful first =
+  mutation_stands limit m book new (Acted place) (takes, next, below, at, is) none lawful first =
       let e : Entry = Act from.user from.group m.client m.id m.call in
       (m.call, subst (λ (b : Book). Contains b.entries e) (sym is) (Contains-append_right book.entries (e ∷ []) e (0, omega arith, refl)))
   mutation_stands limit m book new (Skipped number) (takes, le, is, same) none lawful first =

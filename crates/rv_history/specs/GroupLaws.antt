@@ -12,7 +12,7 @@ use Rattle.rv_book.specs.Book.{Book, bound, retired, group_of, last, last_order,
 use Rattle.rv_book.specs.BookWords.{last_order-with_entry, with_entries-more, with_entry-more}
 use Rattle.rv_history.specs.Groups.{is_of_other, is_elsewhere}
 use Rattle.rv_history.specs.Lawful.{IsLawfulAfter, IsLawful}
-use Rattle.rv_history.specs.Laws.{is_of_group, user_in, group_in}
+use Rattle.rv_history.specs.Laws.{is_of_group, user_for_group, group_for_client}
 use Rattle.rv_history.specs.LawfulBooks.{lawful_front, here, onward, last_append, last_cons, orders_stay, one}
 
 -- where an entry of a list stands
@@ -125,19 +125,19 @@ named before rest u other group user own h mine =
       | false ↦ λ different is. absurd (cc)
     ] refl h
 
-one_user : (before : Book) (after : List Entry) (entry : Entry) (group user : List ℕ) → IsLawfulAfter before entry → user_in group entry ≡ Some user → bound group (with_entries before (entry ∷ after)) ≡ Some user
+one_user : (before : Book) (after : List Entry) (entry : Entry) (group user : List ℕ) → IsLawfulAfter before entry → user_for_group group entry ≡ Some user → bound group (with_entries before (entry ∷ after)) ≡ Some user
 one_user before after (Act u other client id call) group user next h =
     named before (Act u other client id call ∷ after) u other group user next.0.own h (λ same. ap (λ (b : Bool). cond b (Some u) (bound_in group after)) same)
 one_user before after (Look u other order base) group user next h =
     named before (Look u other order base ∷ after) u other group user next.0.own h (λ same. ap (λ (b : Bool). cond b (Some u) (bound_in group after)) same)
 one_user before after (Retire other) group user next h = absurd (cc)
 
-pub groups_have_one_user : (book : Book) (group user : List ℕ) (entry : Entry) → IsLawful book → Contains book.entries entry → user_in group entry ≡ Some user → bound group book ≡ Some user
+pub groups_have_one_user : (book : Book) (group user : List ℕ) (entry : Entry) → IsLawful book → Contains book.entries entry → user_for_group group entry ≡ Some user → bound group book ≡ Some user
 groups_have_one_user book group user entry lawful within h =
     let (before, after, is) = split_at book entry within in
     ap (bound group) is ∙ one_user before after entry group user (lawful before after entry is) h
 
-one_group : (before : Book) (after : List Entry) (entry : Entry) (client group : List ℕ) → IsLawfulAfter before entry → group_in client entry ≡ Some group → group_of client (with_entries before (entry ∷ after)) ≡ Some group
+one_group : (before : Book) (after : List Entry) (entry : Entry) (client group : List ℕ) → IsLawfulAfter before entry → group_for_client client entry ≡ Some group → group_of client (with_entries before (entry ∷ after)) ≡ Some group
 one_group before after (Act user g actor id call) client group next h =
     elim (bytes_eq actor client) as (λ b. bytes_eq actor client ≡ b → cond b (Some g) None ≡ Some group → group_of client (with_entries before (Act user g actor id call ∷ after)) ≡ Some group) [
       | true ↦ λ same is.
@@ -148,7 +148,7 @@ one_group before after (Act user g actor id call) client group next h =
 one_group before after (Look user g order base) client group next h = absurd (cc)
 one_group before after (Retire g) client group next h = absurd (cc)
 
-pub clients_have_one_group : (book : Book) (client group : List ℕ) (entry : Entry) → IsLawful book → Contains book.entries entry → group_in client entry ≡ Some group → group_of client book ≡ Some group
+pub clients_have_one_group : (book : Book) (client group : List ℕ) (entry : Entry) → IsLawful book → Contains book.entries entry → group_for_client client entry ≡ Some group → group_of client book ≡ Some group
 clients_have_one_group book client group entry lawful within h =
     let (before, after, is) = split_at book entry within in
     ap (group_of client) is ∙ one_group before after entry client group (lawful before after entry is) h

@@ -65,24 +65,24 @@ is_of_group group (Look user other order base) = bytes_eq other group
 is_of_group group (Retire other) = bytes_eq other group
 
 -- the user of an act or a look that names the group
-abbrev pub user_in : List ℕ → Entry → Option (List ℕ)
-user_in group (Act user other client id call) = if bytes_eq other group then Some user else None
-user_in group (Look user other order base) = if bytes_eq other group then Some user else None
-user_in group (Retire other) = None
+abbrev pub user_for_group : List ℕ → Entry → Option (List ℕ)
+user_for_group group (Act user other client id call) = if bytes_eq other group then Some user else None
+user_for_group group (Look user other order base) = if bytes_eq other group then Some user else None
+user_for_group group (Retire other) = None
 
 -- the group of an act of the client
-abbrev pub group_in : List ℕ → Entry → Option (List ℕ)
-group_in client (Act user group actor id call) = if bytes_eq actor client then Some group else None
-group_in client (Look user group order base) = None
-group_in client (Retire group) = None
+abbrev pub group_for_client : List ℕ → Entry → Option (List ℕ)
+group_for_client client (Act user group actor id call) = if bytes_eq actor client then Some group else None
+group_for_client client (Look user group order base) = None
+group_for_client client (Retire group) = None
 
 -- No group has two users: each act and each look of a group is by the user whom the group is bound to.
 abbrev pub GroupsHaveOneUser : Type 0
-GroupsHaveOneUser = (book : Book) (group user : List ℕ) (entry : Entry) → IsLawful book → Contains book.entries entry → user_in group entry ≡ Some user → bound group book ≡ Some user
+GroupsHaveOneUser = (book : Book) (group user : List ℕ) (entry : Entry) → IsLawful book → Contains book.entries entry → user_for_group group entry ≡ Some user → bound group book ≡ Some user
 
 -- No client has two groups: each of its acts is of the group of its first.
 abbrev pub ClientsHaveOneGroup : Type 0
-ClientsHaveOneGroup = (book : Book) (client group : List ℕ) (entry : Entry) → IsLawful book → Contains book.entries entry → group_in client entry ≡ Some group → group_of client book ≡ Some group
+ClientsHaveOneGroup = (book : Book) (client group : List ℕ) (entry : Entry) → IsLawful book → Contains book.entries entry → group_for_client client entry ≡ Some group → group_of client book ≡ Some group
 
 -- Nothing of a group follows its retirement.
 abbrev pub RetiredGroupsRest : Type 0
@@ -162,7 +162,7 @@ EntersLook user request book new cookie = (order : ℕ) × (cookie ≡ Named (de
 -- not below the request's. A reply of the same cookie has an empty patch and no ids, and leaves the book as it is; any other names
 -- the look that it enters, at the next place, and has an order above the group's last and the request's. The text is what is
 -- written of the cookie, the ids and the patch.
-pub record Tells (write : ReplyText) (user : List ℕ) (request : PullRequest) (book new : Book) (reply : PullReply) : Type 0 where
+pub record ReplyShows (write : ReplyText) (user : List ℕ) (request : PullRequest) (book new : Book) (reply : PullReply) : Type 0 where
   pub shows : (view : ClientView) → IsBaseView user book (base_of user request.cookie book) view → apply reply.ops view ≡ client_view user book
   pub clears : ClearsWithoutBase (base_of user request.cookie book) reply.ops
   pub permitted : AllByRecursion (IsPermitted user book (base_of user request.cookie book)) reply.ops
@@ -177,4 +177,4 @@ pub record Tells (write : ReplyText) (user : List ℕ) (request : PullRequest) (
 
 -- So does each reply that the machine gives.
 abbrev pub PullsShow : ReplyText → Type 0
-PullsShow write = (limit : ℕ) (user : List ℕ) (request : PullRequest) (book new : Book) (reply : PullReply) → Step write limit book (Ask.pull user request) (Pulled reply) new → Tells write user request book new reply
+PullsShow write = (limit : ℕ) (user : List ℕ) (request : PullRequest) (book new : Book) (reply : PullReply) → Step write limit book (Ask.pull user request) (Pulled reply) new → ReplyShows write user request book new reply

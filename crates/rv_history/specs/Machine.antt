@@ -18,7 +18,7 @@ use Rattle.rv_history.specs.History.{patch_since, ids_since}
 use Rattle.rv_history.specs.Bases.{base_of, base_group}
 
 -- A mutation's id is looked at where its user may use the group and its client is of no other group.
-pub record Takes (from : Sender) (client : List ℕ) (book : Book) : Type 0 where
+pub record TakesMutation (from : Sender) (client : List ℕ) (book : Book) : Type 0 where
   pub admits : Admits from.user from.group book
   pub here : is_elsewhere client from.group book ≡ false
 
@@ -52,9 +52,9 @@ abbrev pub Refuses : ℕ → Book → Ask → Refusal → Type 0
 Refuses limit book (Ask.mutation from m) GroupOfOther = is_of_other from.user from.group book ≡ true
 Refuses limit book (Ask.mutation from m) NotFound = (is_of_other from.user from.group book ≡ false) × (retired from.group book ≡ true)
 Refuses limit book (Ask.mutation from m) ClientOfOther = Admits from.user from.group book × (is_elsewhere m.client from.group book ≡ true)
-Refuses limit book (Ask.mutation from m) (Future expected got) = Takes from m.client book × (last m.client book + 1 < m.id) × (expected ≡ last m.client book + 1) × (got ≡ m.id)
-Refuses limit book (Ask.mutation from m) (Limit what at) = Takes from m.client book × (m.id ≡ last m.client book + 1) × (size book ≡ limit) × (what ≡ which.Book) × (at ≡ limit)
-Refuses limit book (Ask.mutation from m) Memory = Takes from m.client book × (m.id ≡ last m.client book + 1) × (size book < limit)
+Refuses limit book (Ask.mutation from m) (Future expected got) = TakesMutation from m.client book × (last m.client book + 1 < m.id) × (expected ≡ last m.client book + 1) × (got ≡ m.id)
+Refuses limit book (Ask.mutation from m) (Limit what at) = TakesMutation from m.client book × (m.id ≡ last m.client book + 1) × (size book ≡ limit) × (what ≡ which.Book) × (at ≡ limit)
+Refuses limit book (Ask.mutation from m) Memory = TakesMutation from m.client book × (m.id ≡ last m.client book + 1) × (size book < limit)
 Refuses limit book (Ask.pull user request) GroupOfOther = is_of_other user request.group book ≡ true
 Refuses limit book (Ask.pull user request) NotFound = (is_of_other user request.group book ≡ false) × (retired request.group book ≡ true)
 Refuses limit book (Ask.pull user request) (Limit which.Order at) = Admits user request.group book × ¬ IsUnchanged user request book × (2 ^ 53 ≤ next_order request book) × (at ≡ 2 ^ 53 - 1)
@@ -76,12 +76,12 @@ module _ (write : ReplyText) where
   same_reply request = record { cookie = request.cookie; same = true; ids = []; ops = []; text = write request.cookie [] [] }
 
   -- the reply with a cookie of its own
-  abbrev pub answered : Cookie → List (List ℕ × ℕ) → List Op → PullReply
-  answered cookie ids ops = record { cookie = cookie; same = false; ids = ids; ops = ops; text = write cookie ids ops }
+  abbrev pub new_reply : Cookie → List (List ℕ × ℕ) → List Op → PullReply
+  new_reply cookie ids ops = record { cookie = cookie; same = false; ids = ids; ops = ops; text = write cookie ids ops }
 
   -- The reply that is entered at the next place: the cookie has that place and the next order.
   abbrev pub reply_to : List ℕ → PullRequest → Book → PullReply
-  reply_to user request book = answered (Named (decimal (size book + 1)) (next_order request book)) (ids_for user request book) (patch_for user request book)
+  reply_to user request book = new_reply (Named (decimal (size book + 1)) (next_order request book)) (ids_for user request book) (patch_for user request book)
 
   -- A pull is answered: by its own cookie where there is nothing to tell, whatever the limits, and then nothing is entered; and
   -- else as one entry, a look with its base.
@@ -96,9 +96,9 @@ module _ (write : ReplyText) where
   -- that has something to tell.
   abbrev pub Step : ℕ → Book → Ask → Outcome → Book → Type 0
   Step limit book ask (Refused refusal) new = Refuses limit book ask refusal × (new ≡ book)
-  Step limit book (Ask.mutation from m) (Skipped number) new = Takes from m.client book × (m.id ≤ last m.client book) × (number ≡ last m.client book) × (new ≡ book)
+  Step limit book (Ask.mutation from m) (Skipped number) new = TakesMutation from m.client book × (m.id ≤ last m.client book) × (number ≡ last m.client book) × (new ≡ book)
   Step limit book (Ask.mutation from m) (Acted place) new =
-      Takes from m.client book × (m.id ≡ last m.client book + 1) × (size book < limit) × (place ≡ size book + 1) × (new ≡ with_entry book (Act from.user from.group m.client m.id m.call))
+      TakesMutation from m.client book × (m.id ≡ last m.client book + 1) × (size book < limit) × (place ≡ size book + 1) × (new ≡ with_entry book (Act from.user from.group m.client m.id m.call))
   Step limit book (Ask.pull user request) (Pulled reply) new = Admits user request.group book × Replies limit book user request reply.same reply new
   Step limit book (Ask.retirement group) (Retired place) new =
       IsSome (bound group book) × (retired group book ≡ false) × (size book < limit) × (place ≡ size book + 1) × (new ≡ with_entry book (Retire group))

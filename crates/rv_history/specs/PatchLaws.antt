@@ -11,7 +11,7 @@ use Rattle.std.proofs.lemmas.List.Sums.{fold-append}
 use Rattle.std.proofs.lemmas.Map.Entries.{option_filter}
 use Rattle.std.proofs.lemmas.Slice.Eq.{bytes_eq-Decides}
 use Rattle.rv_base.specs.Sorted.{find_by, put_by, without, InOrder, Distinct}
-use Rattle.rv_base.specs.Places.{equals, not_same, find_put, find_without, found-any, in_order-put, in_order-without, in_order-sorted, in_order-filter}
+use Rattle.rv_base.specs.Positions.{equals, not_same, find_put, find_without, found-any, in_order-put, in_order-without, in_order-sorted, in_order-filter}
 use Rattle.rv_base.specs.Arranged.{in_order-same, distinct-in_order, distinct-sorted, distinct-filter, find-filter, find-sorted, find-map}
 use Rattle.rv_rows.specs.declared.row.Row.{Row}
 use Rattle.rv_rows.specs.Keys.{row_key, key_text, row_text, row_at, has_row, in_key_order}

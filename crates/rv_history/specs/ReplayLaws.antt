@@ -11,7 +11,7 @@ use Rattle.std.proofs.lemmas.Bool.{cases_lt}
 use Rattle.std.proofs.lemmas.List.Sums.{fold_push}
 use Rattle.std.proofs.lemmas.Slice.Eq.{bytes_eq-Decides}
 use Rattle.rv_base.specs.Sorted.{find_by, InOrder, Distinct}
-use Rattle.rv_base.specs.Places.{in_order-sorted, equals, differs_back}
+use Rattle.rv_base.specs.Positions.{in_order-sorted, equals, differs_back}
 use Rattle.rv_rows.specs.declared.row.Row.{Row}
 use Rattle.rv_rows.specs.declared.call.Call.{Call}
 use Rattle.rv_rows.specs.Keys.{row_text, row_at, in_key_order}

@@ -1,6 +1,6 @@
 pub mod Targets
 pub mod Named
-pub mod Room
+pub mod Overflow
 pub mod Closings
 pub mod Tokens
 pub mod Pendings

@@ -9,8 +9,8 @@ use Rattle.rv_http.specs.declared.http_end.HttpEnd.TheVariants.{End, Cut, BadHea
 use Rattle.rv_http.specs.Numbers.{head_limit}
 use Rattle.rv_http.specs.declared.request.Request.{Request}
 use Rattle.rv_http.specs.Heads.{Head, judge}
-use Rattle.rv_http.specs.Looks.{IsOpen, IsRefused}
-use Rattle.rv_http.specs.Requests.{Begins, Judged, Gives, IsPartial, Waits, window}
+use Rattle.rv_http.specs.Scans.{IsOpen, HeadIsRefused}
+use Rattle.rv_http.specs.Requests.{BeginsWithHead, Judged, Gives, IsPartial, Waits, window}
 use Rattle.rv_http.specs.RequestLaws.{begins_more, gives_more, gives_one, same_head}
 use Rattle.rv_http.specs.Laws.{IsRefusal, IsJudgement, IsRequest, IsThisRefusal}
 use Rattle.rv_http.proofs.Refusing.{window_more, open_more, nothing_is_not_refused}
@@ -35,28 +35,28 @@ stay bytes rest more rest' (CodingNotServed flag) r g = judged_more bytes more (
 stay bytes rest more rest' (Memory flag) r (head, next, n, begins, judged, is) = (head, next ++ more, n, begins_more bytes next head more begins, judged, is)
 
 -- a complete head stands within the first bytes that may be one
-head_in_window : (bytes more : List ℕ) (head : Head) → (begins : Begins bytes head more) → (rest : List ℕ) × ReadsRequest (window bytes) begins.tree rest
+head_in_window : (bytes more : List ℕ) (head : Head) → (begins : BeginsWithHead bytes head more) → (rest : List ℕ) × ReadsRequest (window bytes) begins.tree rest
 head_in_window bytes more head begins =
     let text = print_request begins.tree in
     let n = head_limit - length text in
     let all : head_limit ≡ length text + n = omega (arith, begins.within) in
     (take n more, (begins.reads.0, ap (take head_limit) begins.reads.1 ∙ ap (λ k. take k (text ++ more)) all ∙ take-append-add text more n))
 
-head_is_not_refused : (bytes more : List ℕ) (head : Head) → Begins bytes head more → IsRefused (window bytes) → ⊥
+head_is_not_refused : (bytes more : List ℕ) (head : Head) → BeginsWithHead bytes head more → HeadIsRefused (window bytes) → ⊥
 head_is_not_refused bytes more head begins (never, outside) =
     let (rest, reads) = head_in_window bytes more head begins in
     never [] begins.tree (rest ++ []) (ReadsRequest-append (window bytes) begins.tree rest [] reads)
 
-head_is_not_open : (bytes more : List ℕ) (head : Head) → Begins bytes head more → IsOpen (window bytes) → ⊥
+head_is_not_open : (bytes more : List ℕ) (head : Head) → BeginsWithHead bytes head more → IsOpen (window bytes) → ⊥
 head_is_not_open bytes more head begins (none, may) = let (rest, reads) = head_in_window bytes more head begins in none begins.tree rest reads
 
-refused_is_not_open : (bytes : List ℕ) → IsRefused bytes → IsOpen bytes → ⊥
+refused_is_not_open : (bytes : List ℕ) → HeadIsRefused bytes → IsOpen bytes → ⊥
 refused_is_not_open bytes (never, outside) (none, inl (more, tree, reads)) = never more tree [] reads
 refused_is_not_open bytes (never, outside) (none, inr inside) = outside inside
 
 -- why bytes are refused
 abbrev Reason : List ℕ → HttpEnd → Type 0
-Reason bytes e = Judged bytes (Err e) ⊎ (((e ≡ BadHead false) × IsRefused (window bytes)) ⊎ ((e ≡ HeadTooLarge false) × (head_limit ≤ length bytes) × IsOpen (window bytes)))
+Reason bytes e = Judged bytes (Err e) ⊎ (((e ≡ BadHead false) × HeadIsRefused (window bytes)) ⊎ ((e ≡ HeadTooLarge false) × (head_limit ≤ length bytes) × IsOpen (window bytes)))
 
 reason : (bytes rest : List ℕ) (e : HttpEnd) → IsJudgement e → Gives bytes rest (Err e) → Reason bytes e
 reason bytes rest End is g = absurd is
@@ -130,7 +130,7 @@ one_request bytes rest more rest' request result g o = request_only (bytes ++ mo
 -- before its first byte nothing is refused
 none_is_refused : (bytes : List ℕ) (e : HttpEnd) → bytes ≡ [] → Reason bytes e → ⊥
 none_is_refused bytes e empty (inl (head, more, begins, judged)) = omega (arith, some_head bytes more head begins, ap length empty)
-none_is_refused bytes e empty (inr (inl (is, refused))) = nothing_is_not_refused (subst IsRefused (ap window empty ∙ take_all head_limit [] (omega arith)) refused)
+none_is_refused bytes e empty (inr (inl (is, refused))) = nothing_is_not_refused (subst HeadIsRefused (ap window empty ∙ take_all head_limit [] (omega arith)) refused)
 none_is_refused bytes e empty (inr (inr (is, le, waiting))) = omega (arith, le, ap length empty)
 
 refusal_only : (bytes rest' : List ℕ) (e : HttpEnd) (result : Result Request HttpEnd) → Reason bytes e → Gives bytes rest' result → IsThisRefusal e result

@@ -6,32 +6,32 @@ use Rattle.rv_http.specs.declared.http_end.HttpEnd.{HttpEnd}
 use Rattle.rv_http.specs.declared.http_end.HttpEnd.TheVariants.{End, Cut, BadHead, HeadTooLarge, LengthRequired, BodyTooLarge, CodingNotServed, ReadFault, Memory}
 
 -- The count of faults rises exactly where a read failed, and that of ends exactly where one told the end.
-pub record Counts (old new : InputState) (ended failed : Bool) : Type 0 where
+pub record CountsReads (old new : InputState) (ended failed : Bool) : Type 0 where
   pub faults : MatchBool failed (Rose old.faults new.faults) (new.faults ≡ old.faults)
   pub ends : new.ends ≡ counted_if ended old.ends
 
 -- of a source that fails no more: it goes on so, and no read failed
-pub record IsSteady (steady : Type 0) (failed : Bool) : Type 0 where
+pub record RequestIsSteady (steady : Type 0) (failed : Bool) : Type 0 where
   pub goes_on : steady
   pub no_fault : failed ≡ false
 
 -- one read told the end
-abbrev pub tells_end : {E : Type 0} → Result ℕ E → Bool
-tells_end (Ok count) = count == 0
-tells_end (Err e) = false
+abbrev pub read_ended : {E : Type 0} → Result ℕ E → Bool
+read_ended (Ok count) = count == 0
+read_ended (Err e) = false
 
 -- a request was waited for until a read told the end
-abbrev pub told_end : {T : Type 0} → Result T HttpEnd → Bool
-told_end (Ok x) = false
-told_end (Err End) = true
-told_end (Err Cut) = true
-told_end (Err (BadHead flag)) = false
-told_end (Err (HeadTooLarge flag)) = false
-told_end (Err LengthRequired) = false
-told_end (Err (BodyTooLarge flag)) = false
-told_end (Err (CodingNotServed flag)) = false
-told_end (Err ReadFault) = false
-told_end (Err (Memory flag)) = false
+abbrev pub saw_end : {T : Type 0} → Result T HttpEnd → Bool
+saw_end (Ok x) = false
+saw_end (Err End) = true
+saw_end (Err Cut) = true
+saw_end (Err (BadHead flag)) = false
+saw_end (Err (HeadTooLarge flag)) = false
+saw_end (Err LengthRequired) = false
+saw_end (Err (BodyTooLarge flag)) = false
+saw_end (Err (CodingNotServed flag)) = false
+saw_end (Err ReadFault) = false
+saw_end (Err (Memory flag)) = false
 
 -- a request was waited for until a read failed
 abbrev pub read_failed : {T : Type 0} → Result T HttpEnd → Bool

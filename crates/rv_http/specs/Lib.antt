@@ -3,7 +3,7 @@ pub mod Numbers
 pub mod Heads
 pub mod Parts
 pub mod Causes
-pub mod Looks
+pub mod Scans
 pub mod Requests
 pub mod Steps
 pub mod Responses

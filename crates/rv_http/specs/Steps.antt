@@ -14,8 +14,8 @@ use Rattle.rv_http.specs.Numbers.{head_limit}
 use Rattle.rv_http.specs.declared.parts.Parts.{Parts}
 use Rattle.rv_http.specs.Heads.{Head, judge, is_head}
 use Rattle.rv_http.specs.Parts.{parts_of}
-use Rattle.rv_http.specs.Looks.{IsOpen, IsRefused}
-use Rattle.rv_http.specs.Requests.{Begins}
+use Rattle.rv_http.specs.Scans.{IsOpen, HeadIsRefused}
+use Rattle.rv_http.specs.Requests.{BeginsWithHead}
 
 -- the search for a head told the end of the source
 abbrev pub search_ended : {T : Type 0} → Result T HeadStop → Bool
@@ -47,7 +47,7 @@ body_failed (Err bodies.Ended) = false
 body_failed (Err bodies.Fault) = true
 body_failed (Err bodies.Memory) = false
 
--- these bytes were read, of a body of so many bytes that is filled from a place on
+-- these bytes were read, of a body of so many bytes that is filled from a position on
 abbrev pub Filled : ℕ → ℕ → List ℕ → List ℕ → Option (List ℕ) → List ℕ → Result (Unit {0}) BodyStop → Type 0
 Filled from n old new left read (Ok done) = (new ≡ take from old ++ read) × (from + length read ≡ n)
 Filled from n old new left read (Err bodies.Ended) = (from + length read < n) × IsAtEnd left
@@ -72,11 +72,11 @@ abbrev pub Found : List ℕ → List HeaderSpan → Option (List ℕ) → Result
 Found bytes spans left (Ok found) = IsRequestOf bytes spans found × IsRequestWithin bytes spans found
 Found bytes spans left (Err heads.Ended) = (length bytes < head_limit) × IsOpen bytes × IsAtEnd left
 Found bytes spans left (Err heads.Fault) = (length bytes < head_limit) × IsOpen bytes
-Found bytes spans left (Err heads.Refused) = (length bytes ≤ head_limit) × IsRefused bytes
+Found bytes spans left (Err heads.Refused) = (length bytes ≤ head_limit) × HeadIsRefused bytes
 Found bytes spans left (Err heads.TooLong) = (length bytes ≡ head_limit) × IsOpen bytes
 
-abbrev pub Finds : List ℕ → List ℕ → List HeaderSpan → Option (List ℕ) → Option (List ℕ) → Result RequestSpans HeadStop → Type 0
-Finds pending pending' spans left left' result = (read : List ℕ) × (pending' ≡ pending ++ read) × Consumes left left' read × Found pending' spans left' result
+abbrev pub FindsHead : List ℕ → List ℕ → List HeaderSpan → Option (List ℕ) → Option (List ℕ) → Result RequestSpans HeadStop → Type 0
+FindsHead pending pending' spans left left' result = (read : List ℕ) × (pending' ≡ pending ++ read) × Consumes left left' read × Found pending' spans left' result
 
 -- what is told where no head was found, with so many bytes read
 abbrev pub head_end : HeadStop → ℕ → HttpEnd
@@ -96,5 +96,5 @@ abbrev pub TakesHead : Head → List ℕ → List ℕ → Result (Parts × ℕ) 
 TakesHead head more rest (Ok taken) = (taken.0 ≡ parts_of head) × (judge head ≡ Ok taken.1) × (rest ≡ more)
 TakesHead head more rest (Err e) = (judge head ≡ Err e) ⊎ ((n : ℕ) × (judge head ≡ Ok n) × (e ≡ Memory (is_head head)))
 
-abbrev pub Takes : List ℕ → List ℕ → Result (Parts × ℕ) HttpEnd → Type 0
-Takes bytes rest result = (head : Head) × (more : List ℕ) × Begins bytes head more × TakesHead head more rest result
+abbrev pub TakesFirstHead : List ℕ → List ℕ → Result (Parts × ℕ) HttpEnd → Type 0
+TakesFirstHead bytes rest result = (head : Head) × (more : List ℕ) × BeginsWithHead bytes head more × TakesHead head more rest result

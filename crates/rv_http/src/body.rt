@@ -1,6 +1,6 @@
 // The body of a request, whose length Content-Length gives (RFC 9112, section 6.3).
 ghost use Rattle.std.specs.Prelude.{◌≡◌, ◌≤◌, ◌<◌, ◌⊎◌, take, length, OnOk};
-ghost use Rattle.rv_http.specs.Causes.{Counts, IsSteady};
+ghost use Rattle.rv_http.specs.Causes.{CountsReads, RequestIsSteady};
 ghost use Rattle.rv_http.specs.Steps.{Fills, ReadsBody, body_ended, body_failed};
 
 use crate::numbers::{BODY_LIMIT, HEAD_LIMIT};
@@ -47,11 +47,11 @@ fn grow(body: &mut Vec<u8>, size: usize) -> Result<(), AllocError>
     requires bound { size ≤ BODY_LIMIT }
     ensures { OnOk result ((take (length body.old.items) body.new.items ≡ body.old.items) × (length body.old.items < length body.new.items) × (length body.new.items ≤ size)) }
 {
-    let room = (body.len() * 2).max(HEAD_LIMIT).min(size);
-    body.resize(room, 0)
+    let capacity = (body.len() * 2).max(HEAD_LIMIT).min(size);
+    body.resize(capacity, 0)
 }
 
-// Fills a body from this place on.
+// Fills a body from this position on.
 fn fill_body<S: Source>(
     source: &mut S,
     body: &mut Vec<u8>,
@@ -59,12 +59,12 @@ fn fill_body<S: Source>(
     size: usize,
 ) -> Result<(), BodyStop>
     requires from { from ≤ length body.old.items }
-    requires room { length body.old.items ≤ size }
+    requires capacity { length body.old.items ≤ size }
     requires bound { size ≤ BODY_LIMIT }
     ensures idle { (from < size) ⊎ (source.new ≡ source.old) }
     ensures bytes { Fills from size body.old.items body.new.items (S.state source.old).left (S.state source.new).left result }
-    ensures counts { Counts (S.state source.old) (S.state source.new) (body_ended result) (body_failed result) }
-    ensures steady { S.fails_no_more source.old → IsSteady (S.fails_no_more source.new) (body_failed result) }
+    ensures counts { CountsReads (S.state source.old) (S.state source.new) (body_ended result) (body_failed result) }
+    ensures steady { S.fails_no_more source.old → RequestIsSteady (S.fails_no_more source.new) (body_failed result) }
 {
     let mut at = from;
     while at < size {
@@ -92,8 +92,8 @@ pub(crate) fn read_body<S: Source>(
     // Nothing is read where the whole body was read ahead.
     ensures idle { (length pending.old < size) ⊎ (source.new ≡ source.old) }
     ensures bytes { ReadsBody size pending.old pending.new (S.state source.old).left (S.state source.new).left result }
-    ensures counts { Counts (S.state source.old) (S.state source.new) (body_ended result) (body_failed result) }
-    ensures steady { S.fails_no_more source.old → IsSteady (S.fails_no_more source.new) (body_failed result) }
+    ensures counts { CountsReads (S.state source.old) (S.state source.new) (body_ended result) (body_failed result) }
+    ensures steady { S.fails_no_more source.old → RequestIsSteady (S.fails_no_more source.new) (body_failed result) }
 {
     let mut body = vec![in alloc; 0; size.min(HEAD_LIMIT)]?;
     let count = pending.give(&mut body);

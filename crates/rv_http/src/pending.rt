@@ -1,7 +1,7 @@
 // Bytes that were read ahead.
 ghost use Rattle.std.specs.Prelude.{◌≡◌, ◌≤◌, ◌<◌, ◌++◌, ◌+◌, ℕ, List, [], length, take, drop, min, OnErr, IfOk, is_err};
 ghost use Rattle.std.specs.Io.KnownBytes.{Keeps, Consumes, IsAtEnd};
-ghost use Rattle.rv_http.specs.Causes.{Counts, IsSteady, tells_end};
+ghost use Rattle.rv_http.specs.Causes.{CountsReads, RequestIsSteady, read_ended};
 
 use crate::numbers::HEAD_LIMIT;
 use rv_base::{Failed, Memory, Source};
@@ -26,7 +26,7 @@ impl Model for Pending {
     ghost invariant = { λ p. (length p.bytes.items ≡ HEAD_LIMIT) × (p.end ≤ HEAD_LIMIT) };
 }
 
-/// Reads some bytes of the source into the bytes from a place on, none only at its end.
+/// Reads some bytes of the source into the bytes from a position on, none only at its end.
 pub(crate) fn read_at<S: Source>(
     source: &mut S,
     bytes: &mut [u8],
@@ -37,8 +37,8 @@ pub(crate) fn read_at<S: Source>(
     ensures bytes { IfOk result (λ n. (more : List ℕ) × (take (at + n) bytes.new ≡ take at bytes.old ++ more) × (length more ≡ n) × (at + n ≤ length bytes.new) × Consumes (S.state source.old).left (S.state source.new).left more) }
     ensures end { IfOk result (λ n. n ≡ 0 → IsAtEnd (S.state source.new).left) }
     ensures err { OnErr result ((take at bytes.new ≡ take at bytes.old) × Keeps (S.state source.old).left (S.state source.new).left) }
-    ensures counts { Counts (S.state source.old) (S.state source.new) (tells_end result) (is_err result) }
-    ensures steady { S.fails_no_more source.old → IsSteady (S.fails_no_more source.new) (is_err result) }
+    ensures counts { CountsReads (S.state source.old) (S.state source.new) (read_ended result) (is_err result) }
+    ensures steady { S.fails_no_more source.old → RequestIsSteady (S.fails_no_more source.new) (is_err result) }
 {
     let count = source.read(&mut bytes[at..])?;
     Ok(count)
@@ -78,12 +78,12 @@ impl Pending {
 
     /// Takes some bytes from the source, none only at its end.
     pub(crate) fn fill<S: Source>(&mut self, source: &mut S) -> Result<usize, Failed>
-        requires room { length self.old < HEAD_LIMIT }
+        requires capacity { length self.old < HEAD_LIMIT }
         ensures bytes { IfOk result (λ n. (more : List ℕ) × (self.new ≡ self.old ++ more) × (length more ≡ n) × Consumes (S.state source.old).left (S.state source.new).left more) }
         ensures end { IfOk result (λ n. n ≡ 0 → IsAtEnd (S.state source.new).left) }
         ensures err { OnErr result ((self.new ≡ self.old) × Keeps (S.state source.old).left (S.state source.new).left) }
-        ensures counts { Counts (S.state source.old) (S.state source.new) (tells_end result) (is_err result) }
-        ensures steady { S.fails_no_more source.old → IsSteady (S.fails_no_more source.new) (is_err result) }
+        ensures counts { CountsReads (S.state source.old) (S.state source.new) (read_ended result) (is_err result) }
+        ensures steady { S.fails_no_more source.old → RequestIsSteady (S.fails_no_more source.new) (is_err result) }
     {
         let count = read_at(source, &mut self.bytes, self.end)?;
         self.end += count;

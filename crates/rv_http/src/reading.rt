@@ -2,18 +2,18 @@
 ghost use Rattle.std.specs.Prelude.{◌≡◌, ◌≤◌, ◌⊎◌, length, IfOk};
 ghost use Rattle.httparse.specs.Spans.{IsRequestOf, IsRequestWithin};
 ghost use Rattle.rv_http.specs.Requests.{IsPartial, Waits, ReadsOne};
-ghost use Rattle.rv_http.specs.Causes.{Counts, IsSteady, told_end, read_failed};
-ghost use Rattle.rv_http.specs.Steps.{Finds, Takes, search_ended, search_failed, head_end, body_end};
+ghost use Rattle.rv_http.specs.Causes.{CountsReads, RequestIsSteady, saw_end, read_failed};
+ghost use Rattle.rv_http.specs.Steps.{FindsHead, TakesFirstHead, search_ended, search_failed, head_end, body_end};
 
 use crate::body::{BodyStop, read_body};
 use crate::buffer::Buffer;
 use crate::head::Head;
 use crate::http_end::HttpEnd;
-use crate::look::{Look, look_at};
 use crate::numbers::{BODY_LIMIT, HEAD_LIMIT, SPANS};
 use crate::parts::Parts;
 use crate::pending::Pending;
 use crate::request::Request;
+use crate::scan::{HeadScan, scan_head};
 use httparse::spans::{HeaderSpan, RequestSpans};
 use rv_base::{Failed, Memory, Source};
 use std::alloc::Global;
@@ -41,15 +41,15 @@ fn find_head<S: Source>(
 
     // Nothing is read but where a head is waited for.
     ensures idle { IsPartial pending.old ⊎ ((source.new ≡ source.old) × (pending.new ≡ pending.old)) }
-    ensures finds { Finds pending.old pending.new spans.new (S.state source.old).left (S.state source.new).left result }
-    ensures counts { Counts (S.state source.old) (S.state source.new) (search_ended result) (search_failed result) }
-    ensures steady { S.fails_no_more source.old → IsSteady (S.fails_no_more source.new) (search_failed result) }
+    ensures finds { FindsHead pending.old pending.new spans.new (S.state source.old).left (S.state source.new).left result }
+    ensures counts { CountsReads (S.state source.old) (S.state source.new) (search_ended result) (search_failed result) }
+    ensures steady { S.fails_no_more source.old → RequestIsSteady (S.fails_no_more source.new) (search_failed result) }
 {
     loop {
-        match look_at(pending.bytes(), spans) {
-            Look::Whole(found) => return Ok(found),
-            Look::Refused => return Err(HeadStop::Refused),
-            Look::Open => {}
+        match scan_head(pending.bytes(), spans) {
+            HeadScan::Whole(found) => return Ok(found),
+            HeadScan::Refused => return Err(HeadStop::Refused),
+            HeadScan::Open => {}
         }
         if pending.len() == HEAD_LIMIT {
             return Err(HeadStop::TooLong);
@@ -71,7 +71,7 @@ fn take_head(
 ) -> Result<(Parts, usize), HttpEnd>
     requires found { IsRequestOf pending.old spans.now found }
     requires within { IsRequestWithin pending.old spans.now found }
-    ensures takes { Takes pending.old pending.new result }
+    ensures takes { TakesFirstHead pending.old pending.new result }
     ensures bound { IfOk result (λ taken. taken.1 ≤ BODY_LIMIT) }
 {
     let head = Head::new(pending.bytes(), spans, found);
@@ -113,7 +113,7 @@ fn body_end(stop: BodyStop, head_only: bool) -> HttpEnd
     }
 }
 
-// Reads a request, with room for the fields of its head.
+// Reads a request, with space for the fields of its head.
 fn read_into<S: Source>(
     alloc: Global,
     source: &mut S,
@@ -123,8 +123,8 @@ fn read_into<S: Source>(
     requires { length spans.old ≡ SPANS }
     ensures idle { Waits pending.old ⊎ (source.new ≡ source.old) }
     ensures reads { ReadsOne pending.old pending.new (S.state source.old).left (S.state source.new).left result }
-    ensures counts { Counts (S.state source.old) (S.state source.new) (told_end result) (read_failed result) }
-    ensures steady { S.fails_no_more source.old → IsSteady (S.fails_no_more source.new) (read_failed result) }
+    ensures counts { CountsReads (S.state source.old) (S.state source.new) (saw_end result) (read_failed result) }
+    ensures steady { S.fails_no_more source.old → RequestIsSteady (S.fails_no_more source.new) (read_failed result) }
 {
     let found = match find_head(source, pending, spans) {
         Ok(found) => found,
@@ -151,8 +151,8 @@ pub fn read_request<S: Source>(
     // Nothing is read but where a request is waited for.
     ensures idle { Waits buffer.old ⊎ (source.new ≡ source.old) }
     ensures reads { ReadsOne buffer.old buffer.new (S.state source.old).left (S.state source.new).left result }
-    ensures counts { Counts (S.state source.old) (S.state source.new) (told_end result) (read_failed result) }
-    ensures steady { S.fails_no_more source.old → IsSteady (S.fails_no_more source.new) (read_failed result) }
+    ensures counts { CountsReads (S.state source.old) (S.state source.new) (saw_end result) (read_failed result) }
+    ensures steady { S.fails_no_more source.old → RequestIsSteady (S.fails_no_more source.new) (read_failed result) }
 {
     read_into(alloc, source, &mut buffer.pending, &mut buffer.spans)
 }

@@ -1,6 +1,6 @@
 ghost use Rattle.std.specs.Prelude.{◌≡◌, true};
 ghost use Rattle.rv_http.specs.Rejections.{rejection_body, rejection_status};
-ghost use Rattle.rv_http.specs.Responses.{is_served};
+ghost use Rattle.rv_http.specs.Responses.{is_status};
 
 /// Why a request is rejected before its body is looked at.
 #[derive(Clone, Copy, Debug, PartialEq, Eq)]
@@ -27,7 +27,7 @@ impl Rejection {
     /// The status of the response.
     pub fn status(self) -> u16
         ensures value { result ≡ rejection_status self }
-        ensures served { is_served result ≡ true }
+        ensures served { is_status result ≡ true }
     {
         match self {
             Rejection::BadHead => 400,

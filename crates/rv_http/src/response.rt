@@ -1,7 +1,7 @@
 // Responses (RFC 9112, section 4; RFC 9110, section 15).
 ghost use Rattle.std.specs.Prelude.{◌≡◌, ◌≤◌, ◌+◌, ◌++◌, true, length, take, decimal, codes};
 ghost use Rattle.rv_base.specs.Outside.{Writes, IsSteady};
-ghost use Rattle.rv_http.specs.Responses.{is_served, reason, own_field, close_field, response_head, sent_body, response_text};
+ghost use Rattle.rv_http.specs.Responses.{is_status, reason, own_field, close_field, response_head, sent_body, response_text};
 
 use http::StatusCode;
 use itoa::Buffer;
@@ -33,11 +33,11 @@ impl From<Failed> for WriteFault {
 }
 
 // The most bytes of a head.
-const ROOM: usize = 256;
+const BUFFER_LEN: usize = 256;
 
-// Copies a text into the buffer from a place on, and answers the place after it.
-fn put(out: &mut [u8; ROOM], at: usize, text: &[u8]) -> usize
-    requires { at + length text.now ≤ ROOM }
+// Copies a text into the buffer from a position on, and answers the position after it.
+fn put(out: &mut [u8; BUFFER_LEN], at: usize, text: &[u8]) -> usize
+    requires { at + length text.now ≤ BUFFER_LEN }
     ensures end { result ≡ at + length text.now }
     ensures text { take result out.new ≡ take at out.old ++ text.now }
 {
@@ -47,8 +47,8 @@ fn put(out: &mut [u8; ROOM], at: usize, text: &[u8]) -> usize
 }
 
 // Copies the digits of a number.
-fn put_number(out: &mut [u8; ROOM], at: usize, number: u64) -> usize
-    requires { at + 20 ≤ ROOM }
+fn put_number(out: &mut [u8; BUFFER_LEN], at: usize, number: u64) -> usize
+    requires { at + 20 ≤ BUFFER_LEN }
     ensures bound { result ≤ at + 20 }
     ensures text { take result out.new ≡ take at out.old ++ decimal number }
 {
@@ -59,7 +59,7 @@ fn put_number(out: &mut [u8; ROOM], at: usize, number: u64) -> usize
 
 // The reason of a status that is served.
 fn reason(status: u16) -> &'static str
-    requires { is_served status ≡ true }
+    requires { is_status status ≡ true }
     ensures value { result.now ≡ reason status }
     ensures bound { length result.now ≤ 31 }
 {
@@ -73,8 +73,8 @@ fn reason(status: u16) -> &'static str
 }
 
 // The status line.
-fn put_status(out: &mut [u8; ROOM], status: u16) -> usize
-    requires { is_served status ≡ true }
+fn put_status(out: &mut [u8; BUFFER_LEN], status: u16) -> usize
+    requires { is_status status ≡ true }
     ensures bound { result ≤ 63 }
     ensures text { take result out.new ≡ codes "HTTP/1.1 " ++ (decimal status ++ (codes " " ++ (reason status ++ codes "\r\n"))) }
 {
@@ -86,7 +86,7 @@ fn put_status(out: &mut [u8; ROOM], status: u16) -> usize
 }
 
 // The two fields that each response has.
-fn put_content(out: &mut [u8; ROOM], at: usize, count: usize) -> usize
+fn put_content(out: &mut [u8; BUFFER_LEN], at: usize, count: usize) -> usize
     requires { at ≤ 63 }
     ensures bound { result ≤ 140 }
     ensures text { take result out.new ≡ take at out.old ++ (codes "Content-Type: application/json\r\nContent-Length: " ++ (decimal count ++ codes "\r\n")) }
@@ -101,7 +101,7 @@ fn put_content(out: &mut [u8; ROOM], at: usize, count: usize) -> usize
 }
 
 // The field of a status: the challenge of 401 (RFC 9110, section 11.6.1), the methods of 405 (section 10.2.1).
-fn put_own(out: &mut [u8; ROOM], at: usize, status: u16) -> usize
+fn put_own(out: &mut [u8; BUFFER_LEN], at: usize, status: u16) -> usize
     requires { at ≤ 140 }
     ensures bound { result ≤ 180 }
     ensures text { take result out.new ≡ take at out.old ++ own_field status }
@@ -116,7 +116,7 @@ fn put_own(out: &mut [u8; ROOM], at: usize, status: u16) -> usize
 }
 
 // The field of an answer that closes (RFC 9112, section 9.6).
-fn put_close(out: &mut [u8; ROOM], at: usize, closes: bool) -> usize
+fn put_close(out: &mut [u8; BUFFER_LEN], at: usize, closes: bool) -> usize
     requires { at ≤ 180 }
     ensures bound { result ≤ 200 }
     ensures text { take result out.new ≡ take at out.old ++ close_field closes }
@@ -129,9 +129,9 @@ fn put_close(out: &mut [u8; ROOM], at: usize, closes: bool) -> usize
 }
 
 // The head.
-fn put_head(out: &mut [u8; ROOM], response: &Response<'_>) -> usize
-    requires { is_served response.now.status ≡ true }
-    ensures bound { result ≤ ROOM }
+fn put_head(out: &mut [u8; BUFFER_LEN], response: &Response<'_>) -> usize
+    requires { is_status response.now.status ≡ true }
+    ensures bound { result ≤ BUFFER_LEN }
     ensures text { take result out.new ≡ response_head response.now }
 {
     let at = put_status(out, response.status);
@@ -155,11 +155,11 @@ fn write_body<O: Sink>(sink: &mut O, response: &Response<'_>) -> Result<(), Fail
 
 /// Writes a response. It takes no memory. After a write that fails the sink has a front of it.
 pub fn write_response<O: Sink>(sink: &mut O, response: &Response<'_>) -> Result<(), WriteFault>
-    requires { is_served response.now.status ≡ true }
+    requires { is_status response.now.status ≡ true }
     ensures writes { Writes (O.state sink.old) (O.state sink.new) result (response_text response.now) }
     ensures steady { O.fails_no_more sink.old → IsSteady (O.fails_no_more sink.new) (O.state sink.old) (O.state sink.new) result }
 {
-    let mut out = [0; ROOM];
+    let mut out = [0; BUFFER_LEN];
     let count = put_head(&mut out, response);
     write_all(sink, &out[..count])?;
     write_body(sink, response)?;

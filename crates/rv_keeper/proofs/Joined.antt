@@ -12,7 +12,7 @@ use Rattle.std.proofs.lemmas.Cmp.{nat_list_cmp_total}
 use Rattle.std.proofs.lemmas.List.Elements.{filter-append}
 use Rattle.std.proofs.lemmas.Bool.Decides.{nat_tests}
 use Rattle.rv_base.specs.Sorted.{InOrder, find_by, put_by, without}
-use Rattle.rv_base.specs.Places.{Below, Above, without_above, differs_back}
+use Rattle.rv_base.specs.Positions.{Below, Above, without_above, differs_back}
 
 -- what is above it
 pub above_is : (a b : List ℕ) → Below a b → slice_cmp nat_cmp b a ≡ Greater

@@ -7,7 +7,7 @@ use Rattle.std.proofs.lemmas.List.{get_or_push, length-append}
 use Rattle.std.proofs.lemmas.Slice.Eq.{bytes_eq-Decides}
 use Rattle.std.proofs.Math.Seq.{set-append_seam}
 use Rattle.rv_base.specs.InMemory.{fails_next}
-use Rattle.rv_base.specs.Places.{equals}
+use Rattle.rv_base.specs.Positions.{equals}
 use Rattle.rv_keeper.specs.declared.accounts_file.AccountsFile.{AccountsFile}
 use Rattle.rv_keeper.specs.declared.fails.Fails.{Fails}
 use Rattle.rv_keeper.specs.declared.fault.KeepFault.{KeepFault}
@@ -15,10 +15,10 @@ use Rattle.rv_keeper.specs.declared.loaded.Loaded.{Loaded}
 use Rattle.rv_keeper.specs.declared.memory_keeper.MemoryKeeper.{MemoryKeeper}
 use Rattle.rv_keeper.specs.declared.store.Store.{Store}
 use Rattle.rv_keeper.specs.Keeping.{holding}
-use Rattle.rv_keeper.specs.Schedules.{FailsNoMore, counted, has_failed, one_more}
+use Rattle.rv_keeper.specs.Schedules.{KeeperFailsNoMore, counted_fault, has_failed, next_call}
 use Rattle.rv_keeper.specs.declared.fault.KeepFault.TheVariants.{Failed, Memory}
 use Rattle.rv_base.specs.InMemoryLaws.{fails_no_more_later, not_next}
-use Rattle.rv_keeper.specs.Stores.{GoesOn, OpensAs, OpensWith, OthersStay, Stays}
+use Rattle.rv_keeper.specs.Stores.{CallIsSteady, OpensAs, OpensWith, OthersStay, PlaceStays}
 use Rattle.rv_keeper.specs.declared.memory_place.MemoryPlace.{MemoryPlace}
 use Rattle.rv_keeper.specs.PlaceStates.{IsSteadyKeeper, IsSteadyPlace, place_file, place_has, place_holds, place_out}
 use Rattle.rv_keeper.specs.MemoryStores.{store_of, has_store, with_store, empty_store, found_store, StoreHolds, StoreIsOut, kept_store, out_store, given, StandsAt, accounts_file, with_file, first_schedule}
@@ -155,7 +155,7 @@ others_stay name old new are same = record {
 }
 
 -- where its stores and files are the same, nothing has changed
-pub all_stays : (old new : MemoryPlace) → new.stores.items ≡ old.stores.items → new.files ≡ old.files → Stays place_holds place_out place_has place_file old new
+pub all_stays : (old new : MemoryPlace) → new.stores.items ≡ old.stores.items → new.files ≡ old.files → PlaceStays place_holds place_out place_has place_file old new
 all_stays old new stores files = record {
   held = λ name held h. rw stores h;
   out = λ name h. rw stores h;
@@ -165,7 +165,7 @@ all_stays old new stores files = record {
 }
 
 -- the first schedule is one of those that are to come, and names no call where none is left
-pub steady_first : (schedules : List (List Fails)) → AllByRecursion (FailsNoMore 0 0 0) schedules → FailsNoMore 0 0 0 (first_schedule schedules) × AllByRecursion (FailsNoMore 0 0 0) (drop 1 schedules)
+pub steady_first : (schedules : List (List Fails)) → AllByRecursion (KeeperFailsNoMore 0 0 0) schedules → KeeperFailsNoMore 0 0 0 (first_schedule schedules) × AllByRecursion (KeeperFailsNoMore 0 0 0) (drop 1 schedules)
 steady_first [] all = (tt, tt)
 steady_first (schedule ∷ schedules) all = all
 
@@ -181,23 +181,23 @@ pub record OpensSo (name : List ℕ) (old new : MemoryPlace) (fails : Bool) (res
   pub fresh : IfOk result (λ kept. (kept.loads ≡ 0) × (kept.questions ≡ 0) × (kept.commits ≡ 0) × (kept.faults ≡ 0))
   pub ok : OnOk result ((new.stores.items ≡ with_store (out_store name) old.stores.items) × (new.schedules.items ≡ drop 1 old.schedules.items))
   pub err : OnErr result ((new.stores.items ≡ old.stores.items) × (new.schedules.items ≡ old.schedules.items))
-  pub after : new ≡ record old { stores = new.stores; schedules = new.schedules; calls = one_more old.calls; faults = counted (has_failed result) old.faults }
+  pub after : new ≡ record old { stores = new.stores; schedules = new.schedules; calls = next_call old.calls; faults = counted_fault (has_failed result) old.faults }
 
 module _ (name : List ℕ) (old new : MemoryPlace) (fails : Bool) where
-  pub so_refused : (result : Result MemoryKeeper KeepFault) → OpensSo name old new fails result → OnErr result (Stays place_holds place_out place_has place_file old new)
+  pub so_refused : (result : Result MemoryKeeper KeepFault) → OpensSo name old new fails result → OnErr result (PlaceStays place_holds place_out place_has place_file old new)
   so_refused (Ok x) so = tt
   so_refused (Err fault) so = all_stays old new so.err.0 (ap (λ (place : MemoryPlace). place.files) so.after)
 
-  left : (result : Result MemoryKeeper KeepFault) → OpensSo name old new fails result → AllByRecursion (FailsNoMore 0 0 0) old.schedules.items → AllByRecursion (FailsNoMore 0 0 0) new.schedules.items
+  left : (result : Result MemoryKeeper KeepFault) → OpensSo name old new fails result → AllByRecursion (KeeperFailsNoMore 0 0 0) old.schedules.items → AllByRecursion (KeeperFailsNoMore 0 0 0) new.schedules.items
   left (Ok x) so all = rw so.ok.1 (steady_first old.schedules.items all).1
   left (Err fault) so all = rw so.err.1 all
 
-  is_given : (result : Result MemoryKeeper KeepFault) → OpensSo name old new fails result → AllByRecursion (FailsNoMore 0 0 0) old.schedules.items → IfOk result IsSteadyKeeper
+  is_given : (result : Result MemoryKeeper KeepFault) → OpensSo name old new fails result → AllByRecursion (KeeperFailsNoMore 0 0 0) old.schedules.items → IfOk result IsSteadyKeeper
   is_given (Ok x) so all = rw (so.fresh.0, so.fresh.1, so.fresh.2, so.gives.1) (steady_first old.schedules.items all).0
   is_given (Err fault) so all = tt
 
   pub so_steady : (There : Type 0) (result : Result MemoryKeeper KeepFault) → OpensSo name old new fails result → (There → fails_next old.calls old.failing.items ≡ false → fails ≡ false) → IsSteadyPlace old
-      → GoesOn (IsSteadyPlace new) There result × IfOk result IsSteadyKeeper
+      → CallIsSteady (IsSteadyPlace new) There result × IfOk result IsSteadyKeeper
   so_steady There result so lasts (openings, schedules) =
       let calls = ap (λ (place : MemoryPlace). place.calls) so.after in
       let failing = ap (λ (place : MemoryPlace). place.failing) so.after in (

@@ -3,7 +3,7 @@ use Rattle.std.proofs.Common.{◌≡◌, ◌≢◌, ℕ, suc, ◌+◌, ◌<◌, 
 use Rattle.std.specs.List.{position_from}
 use Rattle.std.specs.Str.{bytes_eq}
 use Rattle.std.proofs.lemmas.Slice.Eq.{bytes_eq-Decides}
-use Rattle.rv_base.specs.Places.{equals}
+use Rattle.rv_base.specs.Positions.{equals}
 use Rattle.rv_keeper.specs.Named.{first_named, with_named}
 
 -- names that differ are told apart
@@ -16,7 +16,7 @@ apart a b ne =
 
 module _ {X : Type 0} (name_of : X → List ℕ) where
   -- the item that is found at an index
-  pub record Found (name : List ℕ) (items : List X) (start at : ℕ) : Type 0 where
+  pub record FoundNamed (name : List ℕ) (items : List X) (start at : ℕ) : Type 0 where
     pub index : ℕ
     pub is : at ≡ start + index
     pub in_range : index < length items
@@ -33,7 +33,7 @@ module _ {X : Type 0} (name_of : X → List ℕ) where
           | false ↦ λ e. none_found items (start + 1) e
         ] e
 
-    found_here : (item : X) (items : List X) (start at : ℕ) → bytes_eq name (name_of item) ≡ true → Some start ≡ Some at → Found name (item ∷ items) start at
+    found_here : (item : X) (items : List X) (start at : ℕ) → bytes_eq name (name_of item) ≡ true → Some start ≡ Some at → FoundNamed name (item ∷ items) start at
     found_here item items start at same e = record {
       index = 0;
       is = (let is : start ≡ at = cc in omega arith);
@@ -43,7 +43,7 @@ module _ {X : Type 0} (name_of : X → List ℕ) where
       written = λ new is. (let e : bytes_eq (name_of new) (name_of item) ≡ true = ap (λ (n : List ℕ). bytes_eq n (name_of item)) is ∙ same in rw e refl);
     }
 
-    found_later : (item : X) (items : List X) (start at : ℕ) → bytes_eq name (name_of item) ≡ false → Found name items (start + 1) at → Found name (item ∷ items) start at
+    found_later : (item : X) (items : List X) (start at : ℕ) → bytes_eq name (name_of item) ≡ false → FoundNamed name items (start + 1) at → FoundNamed name (item ∷ items) start at
     found_later item items start at other f = record {
       index = suc f.index;
       is = omega (arith, f.is);
@@ -53,10 +53,10 @@ module _ {X : Type 0} (name_of : X → List ℕ) where
       written = λ new is. (let e : bytes_eq (name_of new) (name_of item) ≡ false = ap (λ (n : List ℕ). bytes_eq n (name_of item)) is ∙ other in rw e (ap (λ (t : List X). item ∷ t) (f.written new is)));
     }
 
-    pub found_at : (items : List X) (start at : ℕ) → position_from (λ item. bytes_eq name (name_of item)) start items ≡ Some at → Found name items start at
+    pub found_at : (items : List X) (start at : ℕ) → position_from (λ item. bytes_eq name (name_of item)) start items ≡ Some at → FoundNamed name items start at
     found_at [] start at e = absurd (cc)
     found_at (item ∷ items) start at e =
-        elim (bytes_eq name (name_of item)) as (λ b. bytes_eq name (name_of item) ≡ b → cond b (Some start) (position_from (λ item. bytes_eq name (name_of item)) (start + 1) items) ≡ Some at → Found name (item ∷ items) start at) [
+        elim (bytes_eq name (name_of item)) as (λ b. bytes_eq name (name_of item) ≡ b → cond b (Some start) (position_from (λ item. bytes_eq name (name_of item)) (start + 1) items) ≡ Some at → FoundNamed name (item ∷ items) start at) [
           | true ↦ λ same e. found_here item items start at same e
           | false ↦ λ other e. found_later item items start at other (found_at items (start + 1) at e)
         ] refl e

@@ -7,7 +7,7 @@ use Rattle.rv_keeper.specs.declared.fault.KeepFault.{KeepFault}
 use Rattle.rv_keeper.specs.declared.fault.KeepFault.TheVariants.{Failed, Memory}
 use Rattle.rv_keeper.specs.declared.fails.Fails.{Fails}
 use Rattle.rv_keeper.specs.declared.fails.Fails.TheVariants.{Before, After, Load, Generation}
-use Rattle.rv_keeper.specs.Schedules.{fails_at, one_more, FailsNoMore}
+use Rattle.rv_keeper.specs.Schedules.{fails_at, next_call, KeeperFailsNoMore}
 
 other_number : (n m : ℕ) → n < m → (n == m) ≡ false
 other_number n m lt = go (n == m) refl
@@ -16,7 +16,7 @@ other_number n m lt = go (n == m) refl
     go false e = refl
     go true e = absurd (omega (arith, lt, (Decides-eqb n m).0 e))
 
-past_more : (n count : ℕ) → n < one_more count → n < one_more (one_more count)
+past_more : (n count : ℕ) → n < next_call count → n < next_call (next_call count)
 past_more n count past = omega (arith, past)
 
 or_else : (a b : Bool) → a ≡ false → b ≡ false → (a || b) ≡ false
@@ -24,50 +24,50 @@ or_else true b e f = e
 or_else false b e f = f
 
 -- the schedule does not name the next load, question or commit
-no_load : (loads questions commits : ℕ) (schedule : List Fails) → FailsNoMore loads questions commits schedule → fails_at (Load (one_more loads)) schedule ≡ false
+no_load : (loads questions commits : ℕ) (schedule : List Fails) → KeeperFailsNoMore loads questions commits schedule → fails_at (Load (next_call loads)) schedule ≡ false
 no_load loads questions commits [] all = refl
 no_load loads questions commits (Before n ∷ schedule) all = no_load loads questions commits schedule all.1
 no_load loads questions commits (After n ∷ schedule) all = no_load loads questions commits schedule all.1
-no_load loads questions commits (Load n ∷ schedule) all = or_else _ _ (other_number n (one_more loads) all.0) (no_load loads questions commits schedule all.1)
+no_load loads questions commits (Load n ∷ schedule) all = or_else _ _ (other_number n (next_call loads) all.0) (no_load loads questions commits schedule all.1)
 no_load loads questions commits (Generation n ∷ schedule) all = no_load loads questions commits schedule all.1
 
-no_question : (loads questions commits : ℕ) (schedule : List Fails) → FailsNoMore loads questions commits schedule → fails_at (Generation (one_more questions)) schedule ≡ false
+no_question : (loads questions commits : ℕ) (schedule : List Fails) → KeeperFailsNoMore loads questions commits schedule → fails_at (Generation (next_call questions)) schedule ≡ false
 no_question loads questions commits [] all = refl
 no_question loads questions commits (Before n ∷ schedule) all = no_question loads questions commits schedule all.1
 no_question loads questions commits (After n ∷ schedule) all = no_question loads questions commits schedule all.1
 no_question loads questions commits (Load n ∷ schedule) all = no_question loads questions commits schedule all.1
-no_question loads questions commits (Generation n ∷ schedule) all = or_else _ _ (other_number n (one_more questions) all.0) (no_question loads questions commits schedule all.1)
+no_question loads questions commits (Generation n ∷ schedule) all = or_else _ _ (other_number n (next_call questions) all.0) (no_question loads questions commits schedule all.1)
 
-no_before : (loads questions commits : ℕ) (schedule : List Fails) → FailsNoMore loads questions commits schedule → fails_at (Before (one_more commits)) schedule ≡ false
+no_before : (loads questions commits : ℕ) (schedule : List Fails) → KeeperFailsNoMore loads questions commits schedule → fails_at (Before (next_call commits)) schedule ≡ false
 no_before loads questions commits [] all = refl
-no_before loads questions commits (Before n ∷ schedule) all = or_else _ _ (other_number n (one_more commits) all.0) (no_before loads questions commits schedule all.1)
+no_before loads questions commits (Before n ∷ schedule) all = or_else _ _ (other_number n (next_call commits) all.0) (no_before loads questions commits schedule all.1)
 no_before loads questions commits (After n ∷ schedule) all = no_before loads questions commits schedule all.1
 no_before loads questions commits (Load n ∷ schedule) all = no_before loads questions commits schedule all.1
 no_before loads questions commits (Generation n ∷ schedule) all = no_before loads questions commits schedule all.1
 
-no_after : (loads questions commits : ℕ) (schedule : List Fails) → FailsNoMore loads questions commits schedule → fails_at (After (one_more commits)) schedule ≡ false
+no_after : (loads questions commits : ℕ) (schedule : List Fails) → KeeperFailsNoMore loads questions commits schedule → fails_at (After (next_call commits)) schedule ≡ false
 no_after loads questions commits [] all = refl
 no_after loads questions commits (Before n ∷ schedule) all = no_after loads questions commits schedule all.1
-no_after loads questions commits (After n ∷ schedule) all = or_else _ _ (other_number n (one_more commits) all.0) (no_after loads questions commits schedule all.1)
+no_after loads questions commits (After n ∷ schedule) all = or_else _ _ (other_number n (next_call commits) all.0) (no_after loads questions commits schedule all.1)
 no_after loads questions commits (Load n ∷ schedule) all = no_after loads questions commits schedule all.1
 no_after loads questions commits (Generation n ∷ schedule) all = no_after loads questions commits schedule all.1
 
 -- one more call leaves none to come
-later_load : (loads questions commits : ℕ) (schedule : List Fails) → FailsNoMore loads questions commits schedule → FailsNoMore (one_more loads) questions commits schedule
+later_load : (loads questions commits : ℕ) (schedule : List Fails) → KeeperFailsNoMore loads questions commits schedule → KeeperFailsNoMore (next_call loads) questions commits schedule
 later_load loads questions commits [] all = tt
 later_load loads questions commits (Before n ∷ schedule) all = (all.0, later_load loads questions commits schedule all.1)
 later_load loads questions commits (After n ∷ schedule) all = (all.0, later_load loads questions commits schedule all.1)
 later_load loads questions commits (Load n ∷ schedule) all = (past_more n loads all.0, later_load loads questions commits schedule all.1)
 later_load loads questions commits (Generation n ∷ schedule) all = (all.0, later_load loads questions commits schedule all.1)
 
-later_question : (loads questions commits : ℕ) (schedule : List Fails) → FailsNoMore loads questions commits schedule → FailsNoMore loads (one_more questions) commits schedule
+later_question : (loads questions commits : ℕ) (schedule : List Fails) → KeeperFailsNoMore loads questions commits schedule → KeeperFailsNoMore loads (next_call questions) commits schedule
 later_question loads questions commits [] all = tt
 later_question loads questions commits (Before n ∷ schedule) all = (all.0, later_question loads questions commits schedule all.1)
 later_question loads questions commits (After n ∷ schedule) all = (all.0, later_question loads questions commits schedule all.1)
 later_question loads questions commits (Load n ∷ schedule) all = (all.0, later_question loads questions commits schedule all.1)
 later_question loads questions commits (Generation n ∷ schedule) all = (past_more n questions all.0, later_question loads questions commits schedule all.1)
 
-later_commit : (loads questions commits : ℕ) (schedule : List Fails) → FailsNoMore loads questions commits schedule → FailsNoMore loads questions (one_more commits) schedule
+later_commit : (loads questions commits : ℕ) (schedule : List Fails) → KeeperFailsNoMore loads questions commits schedule → KeeperFailsNoMore loads questions (next_call commits) schedule
 later_commit loads questions commits [] all = tt
 later_commit loads questions commits (Before n ∷ schedule) all = (past_more n commits all.0, later_commit loads questions commits schedule all.1)
 later_commit loads questions commits (After n ∷ schedule) all = (past_more n commits all.0, later_commit loads questions commits schedule all.1)
@@ -75,14 +75,14 @@ later_commit loads questions commits (Load n ∷ schedule) all = (all.0, later_c
 later_commit loads questions commits (Generation n ∷ schedule) all = (all.0, later_commit loads questions commits schedule all.1)
 
 -- The next call of each kind does not fail, and none is still to come after it.
-pub next_load : (loads questions commits : ℕ) (schedule : List Fails) → FailsNoMore loads questions commits schedule → (fails_at (Load (one_more loads)) schedule ≡ false) × FailsNoMore (one_more loads) questions commits schedule
+pub next_load : (loads questions commits : ℕ) (schedule : List Fails) → KeeperFailsNoMore loads questions commits schedule → (fails_at (Load (next_call loads)) schedule ≡ false) × KeeperFailsNoMore (next_call loads) questions commits schedule
 next_load loads questions commits schedule all = (no_load loads questions commits schedule all, later_load loads questions commits schedule all)
 
-pub next_question : (loads questions commits : ℕ) (schedule : List Fails) → FailsNoMore loads questions commits schedule → (fails_at (Generation (one_more questions)) schedule ≡ false) × FailsNoMore loads (one_more questions) commits schedule
+pub next_question : (loads questions commits : ℕ) (schedule : List Fails) → KeeperFailsNoMore loads questions commits schedule → (fails_at (Generation (next_call questions)) schedule ≡ false) × KeeperFailsNoMore loads (next_call questions) commits schedule
 next_question loads questions commits schedule all = (no_question loads questions commits schedule all, later_question loads questions commits schedule all)
 
-pub next_commit : (loads questions commits : ℕ) (schedule : List Fails) → FailsNoMore loads questions commits schedule
-    → (fails_at (Before (one_more commits)) schedule ≡ false) × (fails_at (After (one_more commits)) schedule ≡ false) × FailsNoMore loads questions (one_more commits) schedule
+pub next_commit : (loads questions commits : ℕ) (schedule : List Fails) → KeeperFailsNoMore loads questions commits schedule
+    → (fails_at (Before (next_call commits)) schedule ≡ false) × (fails_at (After (next_call commits)) schedule ≡ false) × KeeperFailsNoMore loads questions (next_call commits) schedule
 next_commit loads questions commits schedule all = (no_before loads questions commits schedule all, no_after loads questions commits schedule all, later_commit loads questions commits schedule all)
 
 -- it is not said of one call both that it fails and that it does not

@@ -17,8 +17,8 @@ abbrev pub committed : ℕ → List Change → Loaded → Loaded
 committed from changes held = holding (changed held.cells changes) (from + 1)
 
 -- What a load answers is what is held: by what it left, and as the one thing that was held before.
-abbrev pub Tells : Loaded → (Loaded → Type 0) → (Loaded → Type 0) → Type 0
-Tells loaded Held Holds = Holds loaded × ((held : Loaded) → Held held → held ≡ loaded)
+abbrev pub LoadsHeld : Loaded → (Loaded → Type 0) → (Loaded → Type 0) → Type 0
+LoadsHeld loaded Held Holds = Holds loaded × ((held : Loaded) → Held held → held ≡ loaded)
 
 -- What is held after a commit, by its answer, where this was held before: at `Failed` the commit may have been made.
 abbrev pub Made : ℕ → List Change → Result (Unit {0}) KeepFault → (Loaded → Type 0) → Loaded → Type 0

@@ -10,7 +10,7 @@ use Rattle.rv_keeper.specs.declared.fails.Fails.{Fails}
 use Rattle.rv_keeper.specs.declared.loaded.Loaded.{Loaded}
 use Rattle.rv_keeper.specs.declared.store.Store.{Store}
 use Rattle.rv_keeper.specs.Keeping.{holding}
-use Rattle.rv_keeper.specs.Schedules.{FailsNoMore}
+use Rattle.rv_keeper.specs.Schedules.{KeeperFailsNoMore}
 use Rattle.rv_base.specs.InMemory as opening
 use Rattle.rv_keeper.specs.Named.{first_named, with_named}
 
@@ -61,7 +61,7 @@ first_schedule (schedule ∷ schedules) = schedule
 
 -- no opening to come fails, and no call of a keeper that is to be given
 abbrev pub PlaceFailsNoMore : ℕ → List ℕ → List (List Fails) → Type 0
-PlaceFailsNoMore calls failing schedules = opening.FailsNoMore calls failing × AllByRecursion (FailsNoMore 0 0 0) schedules
+PlaceFailsNoMore calls failing schedules = opening.FailsNoMore calls failing × AllByRecursion (KeeperFailsNoMore 0 0 0) schedules
 
 -- Where the store of this name stands: what is there, and what a write there leaves of the stores as they were before the
 -- store was found or added.

@@ -4,7 +4,7 @@ use Rattle.rv_keeper.specs.declared.loaded.Loaded.{Loaded}
 use Rattle.rv_keeper.specs.declared.memory_keeper.MemoryKeeper.{MemoryKeeper}
 use Rattle.rv_keeper.specs.declared.memory_place.MemoryPlace.{MemoryPlace}
 use Rattle.rv_keeper.specs.MemoryStores.{PlaceFailsNoMore, StoreHolds, StoreIsOut, bytes_of, has_store}
-use Rattle.rv_keeper.specs.Schedules.{FailsNoMore}
+use Rattle.rv_keeper.specs.Schedules.{KeeperFailsNoMore}
 
 -- the store of this name holds this
 abbrev pub place_holds : MemoryPlace → List ℕ → Loaded → Type 0
@@ -28,4 +28,4 @@ IsSteadyPlace place = PlaceFailsNoMore place.calls place.failing.items place.sch
 
 -- no call of the keeper fails any more
 abbrev pub IsSteadyKeeper : MemoryKeeper → Type 0
-IsSteadyKeeper keeper = FailsNoMore keeper.loads keeper.questions keeper.commits keeper.schedule.items
+IsSteadyKeeper keeper = KeeperFailsNoMore keeper.loads keeper.questions keeper.commits keeper.schedule.items

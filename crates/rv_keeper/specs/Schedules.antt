@@ -22,23 +22,23 @@ abbrev pub fails_at : Fails → List Fails → Bool
 fails_at call schedule = list_any (λ fails. same_fails fails call) schedule
 
 -- one more, up to the type's end
-abbrev pub one_more : ℕ → ℕ
-one_more n = min (n + 1) (2 ^ 64 - 1)
+abbrev pub next_call : ℕ → ℕ
+next_call n = min (n + 1) (2 ^ 64 - 1)
 
 -- the call is none that is still to come, after so many loads, questions for the generation and commits
 abbrev pub IsPast : ℕ → ℕ → ℕ → Fails → Type 0
-IsPast loads questions commits (Before n) = n < one_more commits
-IsPast loads questions commits (After n) = n < one_more commits
-IsPast loads questions commits (Load n) = n < one_more loads
-IsPast loads questions commits (Generation n) = n < one_more questions
+IsPast loads questions commits (Before n) = n < next_call commits
+IsPast loads questions commits (After n) = n < next_call commits
+IsPast loads questions commits (Load n) = n < next_call loads
+IsPast loads questions commits (Generation n) = n < next_call questions
 
 -- no call of the schedule is still to come
-abbrev pub FailsNoMore : ℕ → ℕ → ℕ → List Fails → Type 0
-FailsNoMore loads questions commits schedule = AllByRecursion (IsPast loads questions commits) schedule
+abbrev pub KeeperFailsNoMore : ℕ → ℕ → ℕ → List Fails → Type 0
+KeeperFailsNoMore loads questions commits schedule = AllByRecursion (IsPast loads questions commits) schedule
 
 -- the count of faults after a call, which was one or not
-abbrev pub counted : Bool → ℕ → ℕ
-counted fault n = if fault then one_more n else n
+abbrev pub counted_fault : Bool → ℕ → ℕ
+counted_fault fault n = if fault then next_call n else n
 
 -- the generation can't be what a commit from this one left or found
 abbrev pub is_strange : ℕ → ℕ → Bool

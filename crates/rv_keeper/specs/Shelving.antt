@@ -13,13 +13,13 @@ use Rattle.rv_keeper.specs.Cells.{cell_key}
 abbrev pub shelf_key : Shelf → List ℕ
 shelf_key shelf = shelf.number ∷ []
 
--- how many more cells there is room for
-abbrev pub room : Shelf → ℕ
-room shelf = vec_capacity shelf.cells - vec_len shelf.cells
+-- how many more cells there is space for
+abbrev pub spare : Shelf → ℕ
+spare shelf = vec_capacity shelf.cells - vec_len shelf.cells
 
 -- the cells of all shelves, one shelf after another
-abbrev pub cells_of : List Shelf → List Cell
-cells_of shelves = flat_map (λ shelf. shelf.cells.items) shelves
+abbrev pub shelved_cells : List Shelf → List Cell
+shelved_cells shelves = flat_map (λ shelf. shelf.cells.items) shelves
 
 -- a shelf from 1 has cells of its own number, in the order of their keys
 pub record IsShelf (shelf : Shelf) : Type 0 where
@@ -40,18 +40,18 @@ shelf_at number shelves = find_by shelf_key (number ∷ []) shelves
 abbrev pub cells_on : ℕ → List Shelf → List Cell
 cells_on number shelves = option_map_or (λ shelf. shelf.cells.items) (shelf_at number shelves) []
 
--- the room on the shelf of this number; none where there is no such shelf
-abbrev pub room_on : ℕ → List Shelf → ℕ
-room_on number shelves = option_map_or room (shelf_at number shelves) 0
+-- the space on the shelf of this number; none where there is no such shelf
+abbrev pub spare_on : ℕ → List Shelf → ℕ
+spare_on number shelves = option_map_or spare (shelf_at number shelves) 0
 
--- What a change leaves of shelves: shelves with these cells, each with room for all but so many of the cells that it had room
+-- What a change leaves of shelves: shelves with these cells, each with space for all but so many of the cells that it had space
 -- for.
-pub record Leaves (old : List Shelf) (cells : List Cell) (used : ℕ) (new : List Shelf) : Type 0 where
+pub record LeavesShelves (old : List Shelf) (cells : List Cell) (used : ℕ) (new : List Shelf) : Type 0 where
   pub shelves : AreShelves new
-  pub holding : cells_of new ≡ cells
-  pub room : (number : ℕ) → room_on number old ≤ room_on number new + used
+  pub holding : shelved_cells new ≡ cells
+  pub spare : (number : ℕ) → spare_on number old ≤ spare_on number new + used
 
--- there is room for so many cells on the shelf on which the change writes
-abbrev pub HasRoom : ℕ → List Shelf → Change → Type 0
-HasRoom n shelves (Put cell) = n ≤ room_on cell.shelf shelves
-HasRoom n shelves (Remove shelf key) = Unit {0}
+-- there is space for so many cells on the shelf on which the change writes
+abbrev pub HasSpareFor : ℕ → List Shelf → Change → Type 0
+HasSpareFor n shelves (Put cell) = n ≤ spare_on cell.shelf shelves
+HasSpareFor n shelves (Remove shelf key) = Unit {0}

@@ -1,11 +1,11 @@
 -- Laws of what stays of a place's stores and accounts files.
 use Rattle.std.specs.Prelude.{ℕ, List}
 use Rattle.rv_keeper.specs.declared.loaded.Loaded.{Loaded}
-use Rattle.rv_keeper.specs.Stores.{OthersStay, Stays}
+use Rattle.rv_keeper.specs.Stores.{OthersStay, PlaceStays}
 
 module _ {P : Type 0} (holds : P → List ℕ → Loaded → Type 0) (is_out has : P → List ℕ → Type 0) (accounts : P → List ℕ → List ℕ → Type 0) where
   -- what stays stays of every store but one
-  pub others_of : (name : List ℕ) (old new : P) → Stays holds is_out has accounts old new → OthersStay holds is_out has accounts name old new
+  pub others_of : (name : List ℕ) (old new : P) → PlaceStays holds is_out has accounts old new → OthersStay holds is_out has accounts name old new
   others_of name old new all = record {
     held = λ other held ne h. all.held other held h;
     out = λ other ne h. all.out other h;

@@ -21,7 +21,7 @@ TakesUp (suc n) before now = Rose before now
 
 -- what was held by stores, which keepers were out, which stores were there and which not, and what accounts files had, is still so
 module _ {P : Type 0} (holds : P → List ℕ → Loaded → Type 0) (is_out has : P → List ℕ → Type 0) (accounts : P → List ℕ → List ℕ → Type 0) where
-  pub record Stays (old new : P) : Type 0 where
+  pub record PlaceStays (old new : P) : Type 0 where
     pub held : (name : List ℕ) (held : Loaded) → holds old name held → holds new name held
     pub out : (name : List ℕ) → is_out old name → is_out new name
     pub stores : (name : List ℕ) → has old name → has new name
@@ -37,6 +37,6 @@ module _ {P : Type 0} (holds : P → List ℕ → Loaded → Type 0) (is_out has
     pub files : (other file : List ℕ) → accounts old other file → accounts new other file
 
 -- of a place that fails no more: it goes on so, and a call of what is there did not fail
-pub record GoesOn {T : Type 0} (steady There : Type 0) (result : Result T KeepFault) : Type 0 where
+pub record CallIsSteady {T : Type 0} (steady There : Type 0) (result : Result T KeepFault) : Type 0 where
   pub goes_on : steady
   pub no_fault : There → ¬ IsErrOf result Failed

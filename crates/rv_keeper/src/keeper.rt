@@ -1,7 +1,7 @@
 ghost use Rattle.std.specs.Prelude.{◌≡◌, ◌<◌, ◌-◌, ◌^◌, ℕ, IsOk, IfOk};
 ghost use Rattle.rv_keeper.specs.declared.loaded.Loaded.{Loaded};
 ghost use Rattle.rv_keeper.specs.Cells.{AreCells, AreChanges};
-ghost use Rattle.rv_keeper.specs.Keeping.{Tells, Made, HasKeepCause, HasGenerationCause, KeepsSteady};
+ghost use Rattle.rv_keeper.specs.Keeping.{LoadsHeld, Made, HasKeepCause, HasGenerationCause, KeepsSteady};
 
 use crate::change::Change;
 use crate::fault::KeepFault;
@@ -32,7 +32,7 @@ pub trait Keeper {
         ensures order { IfOk result (λ loaded. AreCells loaded.cells) }
         ensures tells { tells self.new → tells self.old }
         ensures same { tells self.new → (held : Loaded) → holds self.old held → holds self.new held }
-        ensures told { tells self.new → IfOk result (λ loaded. Tells loaded (holds self.old) (holds self.new)) }
+        ensures told { tells self.new → IfOk result (λ loaded. LoadsHeld loaded (holds self.old) (holds self.new)) }
         ensures cause { HasKeepCause (faults self.old) (faults self.new) result }
         ensures steady { fails_no_more self.old → KeepsSteady (fails_no_more self.new) result };
 

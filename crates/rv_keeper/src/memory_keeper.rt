@@ -5,7 +5,7 @@ ghost use Rattle.rv_base.specs.Causes.{Rose};
 ghost use Rattle.rv_keeper.specs.declared.fails.Fails.TheVariants as calls;
 ghost use Rattle.rv_keeper.specs.Cells.{AreCells, AreChanges, changed};
 ghost use Rattle.rv_keeper.specs.Keeping.{Made, HasKeepCause, HasGenerationCause, KeepsSteady, holding};
-ghost use Rattle.rv_keeper.specs.Schedules.{fails_at, one_more, counted, is_strange, has_failed, FailsNoMore, IsLoad, IsCommitBy};
+ghost use Rattle.rv_keeper.specs.Schedules.{fails_at, next_call, counted_fault, is_strange, has_failed, KeeperFailsNoMore, IsLoad, IsCommitBy};
 
 use crate::change::Change;
 use crate::fails::{Fails, fails_at};
@@ -79,7 +79,7 @@ impl MemoryKeeper {
 
     // Counts a fault.
     fn count_fault(&mut self)
-        ensures after { self.new ≡ record self.old { faults = one_more self.old.faults } }
+        ensures after { self.new ≡ record self.old { faults = next_call self.old.faults } }
         ensures later { self.old.faults ≤ self.new.faults }
         ensures rose { Rose self.old.faults self.new.faults }
     {
@@ -109,7 +109,7 @@ impl Keeper for MemoryKeeper {
     ghost faults = { λ s. s.faults };
 
     // No call of the schedule is still to come.
-    ghost fails_no_more = { λ s. FailsNoMore s.loads s.questions s.commits s.schedule.items };
+    ghost fails_no_more = { λ s. KeeperFailsNoMore s.loads s.questions s.commits s.schedule.items };
 
     fn fault_count(&self) -> u64
         ensures { result ≡ self.now.faults }
@@ -122,9 +122,9 @@ impl Keeper for MemoryKeeper {
         ensures order { IfOk result (λ loaded. AreCells loaded.cells) }
         ensures told { IfOk result (λ loaded. loaded ≡ holding self.old.shelves self.old.generation) }
         ensures cause { HasKeepCause self.old.faults self.new.faults result }
-        ensures steady { FailsNoMore self.old.loads self.old.questions self.old.commits self.old.schedule.items → KeepsSteady (FailsNoMore self.new.loads self.new.questions self.new.commits self.new.schedule.items) result }
+        ensures steady { KeeperFailsNoMore self.old.loads self.old.questions self.old.commits self.old.schedule.items → KeepsSteady (KeeperFailsNoMore self.new.loads self.new.questions self.new.commits self.new.schedule.items) result }
         ensures answer { IsLoad (fails_at (calls.Load self.new.loads) self.old.schedule.items) (holding self.old.shelves self.old.generation) result }
-        ensures after { self.new ≡ record self.old { loads = one_more self.old.loads; faults = counted (has_failed result) self.old.faults } }
+        ensures after { self.new ≡ record self.old { loads = next_call self.old.loads; faults = counted_fault (has_failed result) self.old.faults } }
     {
         self.loads = self.loads.saturating_add(1);
         if fails_at(&self.schedule, Fails::Load(self.loads)) {
@@ -143,9 +143,9 @@ impl Keeper for MemoryKeeper {
         requires { from < 2 ^ 64 - 1 }
         ensures told { IfOk result (λ n. n ≡ self.old.generation) }
         ensures cause { HasGenerationCause from self.old.faults self.new.faults result }
-        ensures steady { FailsNoMore self.old.loads self.old.questions self.old.commits self.old.schedule.items → FailsNoMore self.new.loads self.new.questions self.new.commits self.new.schedule.items × IsOk result }
+        ensures steady { KeeperFailsNoMore self.old.loads self.old.questions self.old.commits self.old.schedule.items → KeeperFailsNoMore self.new.loads self.new.questions self.new.commits self.new.schedule.items × IsOk result }
         ensures fails { is_err result ≡ fails_at (calls.Generation self.new.questions) self.old.schedule.items }
-        ensures after { self.new ≡ record self.old { questions = one_more self.old.questions; faults = counted (is_err result || is_strange from self.old.generation) self.old.faults } }
+        ensures after { self.new ≡ record self.old { questions = next_call self.old.questions; faults = counted_fault (is_err result || is_strange from self.old.generation) self.old.faults } }
     {
         self.questions = self.questions.saturating_add(1);
         if fails_at(&self.schedule, Fails::Generation(self.questions)) {
@@ -164,9 +164,9 @@ impl Keeper for MemoryKeeper {
         requires changes { AreChanges changes.now }
         ensures made { Made from changes.now result (λ held. held ≡ holding self.new.shelves self.new.generation) (holding self.old.shelves self.old.generation) }
         ensures cause { HasKeepCause self.old.faults self.new.faults result }
-        ensures steady { FailsNoMore self.old.loads self.old.questions self.old.commits self.old.schedule.items → KeepsSteady (FailsNoMore self.new.loads self.new.questions self.new.commits self.new.schedule.items) result }
+        ensures steady { KeeperFailsNoMore self.old.loads self.old.questions self.old.commits self.old.schedule.items → KeepsSteady (KeeperFailsNoMore self.new.loads self.new.questions self.new.commits self.new.schedule.items) result }
         ensures answer { IsCommitBy self.old.schedule.items self.new.commits from changes.now (holding self.old.shelves self.old.generation) (holding self.new.shelves self.new.generation) result }
-        ensures after { self.new ≡ record self.old { shelves = self.new.shelves; generation = self.new.generation; commits = one_more self.old.commits; faults = counted (has_failed result) self.old.faults } }
+        ensures after { self.new ≡ record self.old { shelves = self.new.shelves; generation = self.new.generation; commits = next_call self.old.commits; faults = counted_fault (has_failed result) self.old.faults } }
     {
         self.commits = self.commits.saturating_add(1);
         if fails_at(&self.schedule, Fails::Before(self.commits)) {

@@ -9,10 +9,10 @@ ghost use Rattle.rv_base.specs.InMemory.{fails_next};
 ghost use Rattle.rv_keeper.specs.declared.loaded.Loaded.{Loaded};
 ghost use Rattle.rv_keeper.specs.Keeping.{HasKeepCause, holding};
 ghost use Rattle.rv_keeper.specs.MemoryStores.{StandsAt, StoreHolds, StoreIsOut, accounts_file, bytes_of, file_of, first_schedule, found_store, given, has_store, kept_store, out_store, store_of, with_file, with_store};
-ghost use Rattle.rv_keeper.specs.Schedules.{counted, has_failed, one_more};
+ghost use Rattle.rv_keeper.specs.Schedules.{counted_fault, has_failed, next_call};
 ghost use Rattle.rv_keeper.specs.PlaceStates.{IsSteadyKeeper, IsSteadyPlace, place_file, place_has, place_holds, place_out};
 ghost use Rattle.rv_keeper.specs.AbsentStores.{absent_holds};
-ghost use Rattle.rv_keeper.specs.Stores.{GoesOn, OpensWith, OthersStay, Stays, TakesUp};
+ghost use Rattle.rv_keeper.specs.Stores.{CallIsSteady, OpensWith, OthersStay, PlaceStays, TakesUp};
 
 use crate::accounts_file::{self, AccountsFile};
 use crate::fails::{Fails, Schedule};
@@ -133,7 +133,7 @@ impl MemoryPlace {
 
     // Counts a fault.
     fn count_fault(&mut self)
-        ensures after { self.new ≡ record self.old { faults = one_more self.old.faults } }
+        ensures after { self.new ≡ record self.old { faults = next_call self.old.faults } }
         ensures later { self.old.faults ≤ self.new.faults }
         ensures rose { Rose self.old.faults self.new.faults }
     {
@@ -143,7 +143,7 @@ impl MemoryPlace {
     // Counts a keeper that came back after so many faults.
     fn count_returned(&mut self, faults: u64)
         ensures faults { TakesUp faults self.old.faults self.new.faults }
-        ensures after { self.new ≡ record self.old { faults = counted (nat_lt 0 faults) self.old.faults } }
+        ensures after { self.new ≡ record self.old { faults = counted_fault (nat_lt 0 faults) self.old.faults } }
     {
         if faults > 0 {
             self.count_fault();
@@ -166,7 +166,7 @@ impl MemoryPlace {
     // Counts a call that opens a store, and tells whether it fails: where the store isn't there, and at the calls of the list.
     fn next_opening_fails(&mut self, is_there: bool) -> bool
         ensures result { result ≡ (not is_there || fails_next self.old.calls self.old.failing.items) }
-        ensures after { self.new ≡ record self.old { calls = one_more self.old.calls } }
+        ensures after { self.new ≡ record self.old { calls = next_call self.old.calls } }
     {
         self.calls = self.calls.saturating_add(1);
         !is_there || self.failing.contains(&self.calls)
@@ -180,7 +180,7 @@ impl MemoryPlace {
         ensures fresh { IfOk result (λ kept. (kept.loads ≡ 0) × (kept.questions ≡ 0) × (kept.commits ≡ 0) × (kept.faults ≡ 0)) }
         ensures ok { OnOk result ((self.new.stores.items ≡ with_store (out_store name.now) self.old.stores.items) × (self.new.schedules.items ≡ drop 1 self.old.schedules.items)) }
         ensures err { OnErr result ((self.new.stores.items ≡ self.old.stores.items) × (self.new.schedules.items ≡ self.old.schedules.items)) }
-        ensures after { self.new ≡ record self.old { stores = self.new.stores; schedules = self.new.schedules; calls = one_more self.old.calls; faults = counted (has_failed result) self.old.faults } }
+        ensures after { self.new ≡ record self.old { stores = self.new.stores; schedules = self.new.schedules; calls = next_call self.old.calls; faults = counted_fault (has_failed result) self.old.faults } }
     {
         if self.next_opening_fails(is_there) {
             self.count_fault();
@@ -266,15 +266,15 @@ impl Place for MemoryPlace {
         ensures kept { IfOk result (λ kept. StoreIsOut self.new.stores.items name.now × OpensWith name.now (StoreHolds self.old.stores.items name.now) (λ held. held ≡ holding kept.shelves kept.generation)) }
         ensures others { OthersStay place_holds place_out place_has place_file name.now self.old self.new }
         ensures made { OnOk result (has_store self.new.stores.items name.now ≡ true) }
-        ensures refused { OnErr result (Stays place_holds place_out place_has place_file self.old self.new) }
-        ensures steady { IsSteadyPlace self.old → GoesOn (IsSteadyPlace self.new) (Unit {0}) result × IfOk result IsSteadyKeeper }
+        ensures refused { OnErr result (PlaceStays place_holds place_out place_has place_file self.old self.new) }
+        ensures steady { IsSteadyPlace self.old → CallIsSteady (IsSteadyPlace self.new) (Unit {0}) result × IfOk result IsSteadyKeeper }
         ensures cause { HasKeepCause self.old.faults self.new.faults result }
         ensures fails { has_failed result ≡ fails_next self.old.calls self.old.failing.items }
         ensures gives { IfOk result (λ kept. (holding kept.shelves kept.generation ≡ given name.now (found_store name.now self.old.stores.items)) × (kept.schedule.items ≡ first_schedule self.old.schedules.items)) }
         ensures fresh { IfOk result (λ kept. (kept.loads ≡ 0) × (kept.questions ≡ 0) × (kept.commits ≡ 0) × (kept.faults ≡ 0)) }
         ensures ok { OnOk result ((self.new.stores.items ≡ with_store (out_store name.now) self.old.stores.items) × (self.new.schedules.items ≡ drop 1 self.old.schedules.items)) }
         ensures err { OnErr result ((self.new.stores.items ≡ self.old.stores.items) × (self.new.schedules.items ≡ self.old.schedules.items)) }
-        ensures after { self.new ≡ record self.old { stores = self.new.stores; schedules = self.new.schedules; calls = one_more self.old.calls; faults = counted (has_failed result) self.old.faults } }
+        ensures after { self.new ≡ record self.old { stores = self.new.stores; schedules = self.new.schedules; calls = next_call self.old.calls; faults = counted_fault (has_failed result) self.old.faults } }
     {
         self.open_store(name, true)
     }
@@ -284,15 +284,15 @@ impl Place for MemoryPlace {
         ensures others { OthersStay place_holds place_out place_has place_file name.now self.old self.new }
         ensures there { IsOk result → has_store self.old.stores.items name.now ≡ true }
         ensures none_made { (other : List ℕ) → has_store self.new.stores.items other ≡ true → has_store self.old.stores.items other ≡ true }
-        ensures refused { OnErr result (Stays place_holds place_out place_has place_file self.old self.new) }
-        ensures steady { IsSteadyPlace self.old → GoesOn (IsSteadyPlace self.new) (has_store self.old.stores.items name.now ≡ true) result × IfOk result IsSteadyKeeper }
+        ensures refused { OnErr result (PlaceStays place_holds place_out place_has place_file self.old self.new) }
+        ensures steady { IsSteadyPlace self.old → CallIsSteady (IsSteadyPlace self.new) (has_store self.old.stores.items name.now ≡ true) result × IfOk result IsSteadyKeeper }
         ensures cause { HasKeepCause self.old.faults self.new.faults result }
         ensures fails { has_failed result ≡ (not (has_store self.old.stores.items name.now) || fails_next self.old.calls self.old.failing.items) }
         ensures gives { IfOk result (λ kept. (holding kept.shelves kept.generation ≡ given name.now (found_store name.now self.old.stores.items)) × (kept.schedule.items ≡ first_schedule self.old.schedules.items)) }
         ensures fresh { IfOk result (λ kept. (kept.loads ≡ 0) × (kept.questions ≡ 0) × (kept.commits ≡ 0) × (kept.faults ≡ 0)) }
         ensures ok { OnOk result ((self.new.stores.items ≡ with_store (out_store name.now) self.old.stores.items) × (self.new.schedules.items ≡ drop 1 self.old.schedules.items)) }
         ensures err { OnErr result ((self.new.stores.items ≡ self.old.stores.items) × (self.new.schedules.items ≡ self.old.schedules.items)) }
-        ensures after { self.new ≡ record self.old { stores = self.new.stores; schedules = self.new.schedules; calls = one_more self.old.calls; faults = counted (has_failed result) self.old.faults } }
+        ensures after { self.new ≡ record self.old { stores = self.new.stores; schedules = self.new.schedules; calls = next_call self.old.calls; faults = counted_fault (has_failed result) self.old.faults } }
     {
         let is_there = self.has_store(name);
         self.open_store(name, is_there)
@@ -305,7 +305,7 @@ impl Place for MemoryPlace {
         ensures faults { TakesUp kept.faults self.old.faults self.new.faults }
         ensures steady { IsSteadyPlace self.old → IsSteadyPlace self.new }
         ensures stores { self.new.stores.items ≡ with_store (kept_store name.now kept.shelves kept.generation) self.old.stores.items }
-        ensures after { self.new ≡ record self.old { stores = self.new.stores; faults = counted (nat_lt 0 kept.faults) self.old.faults } }
+        ensures after { self.new ≡ record self.old { stores = self.new.stores; faults = counted_fault (nat_lt 0 kept.faults) self.old.faults } }
     {
         self.count_returned(kept.faults);
         self.put_back(name, kept.shelves, kept.generation);
@@ -314,11 +314,11 @@ impl Place for MemoryPlace {
     fn read_accounts(&mut self, name: &str) -> Result<Bytes, KeepFault>
         ensures reads { (file : List ℕ) → bytes_of name.now self.old.files.items ≡ Some file → IfOk result (λ bytes. bytes ≡ file) }
         ensures there { IfOk result (λ bytes. bytes_of name.now self.old.files.items ≡ Some bytes) }
-        ensures stays { Stays place_holds place_out place_has place_file self.old self.new }
-        ensures steady { IsSteadyPlace self.old → GoesOn (IsSteadyPlace self.new) ((file : List ℕ) × (bytes_of name.now self.old.files.items ≡ Some file)) result }
+        ensures stays { PlaceStays place_holds place_out place_has place_file self.old self.new }
+        ensures steady { IsSteadyPlace self.old → CallIsSteady (IsSteadyPlace self.new) ((file : List ℕ) × (bytes_of name.now self.old.files.items ≡ Some file)) result }
         ensures cause { HasKeepCause self.old.faults self.new.faults result }
         ensures fails { has_failed result ≡ is_none (file_of name.now self.old.files.items) }
-        ensures after { self.new ≡ record self.old { faults = counted (has_failed result) self.old.faults } }
+        ensures after { self.new ≡ record self.old { faults = counted_fault (has_failed result) self.old.faults } }
     {
         match self.file(name) {
             Some(file) => Ok(file.read(self.alloc)?),

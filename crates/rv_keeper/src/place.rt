@@ -1,7 +1,7 @@
 ghost use Rattle.std.specs.Prelude.{◌≡◌, ℕ, List, [], IfOk, IsOk, OnErr, OnOk};
 ghost use Rattle.rv_keeper.specs.declared.loaded.Loaded.{Loaded};
 ghost use Rattle.rv_keeper.specs.Keeping.{HasKeepCause, holding};
-ghost use Rattle.rv_keeper.specs.Stores.{GoesOn, OpensWith, OthersStay, Stays, TakesUp};
+ghost use Rattle.rv_keeper.specs.Stores.{CallIsSteady, OpensWith, OthersStay, PlaceStays, TakesUp};
 
 use crate::fault::KeepFault;
 use crate::keeper::Keeper;
@@ -45,10 +45,10 @@ pub trait Place {
         ensures kept { tells self.new → IfOk result (λ kept. Self.Kept.tells kept × is_out self.new name.now × OpensWith name.now (holds self.old name.now) (Self.Kept.holds kept)) }
         ensures others { tells self.new → OthersStay holds is_out has accounts name.now self.old self.new }
         ensures made { tells self.new → OnOk result (has self.new name.now) }
-        ensures refused { tells self.new → OnErr result (Stays holds is_out has accounts self.old self.new) }
+        ensures refused { tells self.new → OnErr result (PlaceStays holds is_out has accounts self.old self.new) }
         ensures fresh { IfOk result (λ kept. Self.Kept.faults kept ≡ 0) }
         ensures cause { HasKeepCause (faults self.old) (faults self.new) result }
-        ensures steady { fails_no_more self.old → GoesOn (fails_no_more self.new) (Unit {0}) result × IfOk result Self.Kept.fails_no_more };
+        ensures steady { fails_no_more self.old → CallIsSteady (fails_no_more self.new) (Unit {0}) result × IfOk result Self.Kept.fails_no_more };
 
     /// The keeper of a store that is there, as of [`open_keeper`](Place::open_keeper). Of a store that isn't there it fails, and
     /// makes none. The store `memory` is always there.
@@ -58,10 +58,10 @@ pub trait Place {
         ensures others { tells self.new → OthersStay holds is_out has accounts name.now self.old self.new }
         ensures there { tells self.new → IsOk result → has self.old name.now }
         ensures none_made { tells self.new → (other : List ℕ) → has self.new other → has self.old other }
-        ensures refused { tells self.new → OnErr result (Stays holds is_out has accounts self.old self.new) }
+        ensures refused { tells self.new → OnErr result (PlaceStays holds is_out has accounts self.old self.new) }
         ensures fresh { IfOk result (λ kept. Self.Kept.faults kept ≡ 0) }
         ensures cause { HasKeepCause (faults self.old) (faults self.new) result }
-        ensures steady { fails_no_more self.old → GoesOn (fails_no_more self.new) (has self.old name.now) result × IfOk result Self.Kept.fails_no_more };
+        ensures steady { fails_no_more self.old → CallIsSteady (fails_no_more self.new) (has self.old name.now) result × IfOk result Self.Kept.fails_no_more };
 
     /// Takes the keeper of a store back: the store then holds what the keeper holds. It can't fail, and takes no memory. The
     /// count of faults rises where the keeper has failed.
@@ -78,9 +78,9 @@ pub trait Place {
         ensures tells { tells self.new → tells self.old }
         ensures reads { tells self.new → (file : List ℕ) → accounts self.old name.now file → IfOk result (λ bytes. bytes ≡ file) }
         ensures there { tells self.new → IfOk result (λ bytes. accounts self.old name.now bytes) }
-        ensures stays { tells self.new → Stays holds is_out has accounts self.old self.new }
+        ensures stays { tells self.new → PlaceStays holds is_out has accounts self.old self.new }
         ensures cause { HasKeepCause (faults self.old) (faults self.new) result }
-        ensures steady { fails_no_more self.old → GoesOn (fails_no_more self.new) ((file : List ℕ) × accounts self.old name.now file) result };
+        ensures steady { fails_no_more self.old → CallIsSteady (fails_no_more self.new) ((file : List ℕ) × accounts self.old name.now file) result };
 
     /// What fails no more tells.
     ghost steady_tells: { (place : Self) → fails_no_more place → tells place };

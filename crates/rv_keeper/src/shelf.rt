@@ -1,8 +1,8 @@
 // The cells of one shelf.
 ghost use Rattle.std.specs.Prelude.{◌≡◌, ◌≤◌, ◌+◌, ◌∷◌, [], OnOk};
-ghost use Rattle.rv_base.specs.Sorted.{InOrder, Settles, put_by, without};
+ghost use Rattle.rv_base.specs.Sorted.{InOrder, IsPositionOf, put_by, without};
 ghost use Rattle.rv_keeper.specs.Cells.{cell_key};
-ghost use Rattle.rv_keeper.specs.Shelving.{room};
+ghost use Rattle.rv_keeper.specs.Shelving.{spare};
 
 use crate::cell::Cell;
 use rv_base::{Bytes, Memory};
@@ -29,12 +29,12 @@ impl Shelf {
         }
     }
 
-    /// Makes room for so many more cells.
+    /// Makes space for so many more cells.
     pub(crate) fn reserve(&mut self, more: usize) -> Result<(), Memory>
         ensures number { self.new.number ≡ self.old.number }
         ensures cells { self.new.cells.items ≡ self.old.cells.items }
-        ensures ok { OnOk result (more ≤ room self.new) }
-        ensures room { room self.old ≤ room self.new }
+        ensures ok { OnOk result (more ≤ spare self.new) }
+        ensures spare { spare self.old ≤ spare self.new }
     {
         self.cells.reserve(more)?;
         Ok(())
@@ -43,10 +43,10 @@ impl Shelf {
     /// Writes a cell, over the one at its place. It can't fail, and takes no memory.
     pub(crate) fn put(&mut self, cell: Cell)
         requires order { InOrder cell_key self.old.cells.items }
-        requires room { 1 ≤ room self.old }
+        requires spare { 1 ≤ spare self.old }
         ensures number { self.new.number ≡ self.old.number }
         ensures cells { self.new.cells.items ≡ put_by cell_key cell self.old.cells.items }
-        ensures room { room self.old ≤ room self.new + 1 }
+        ensures spare { spare self.old ≤ spare self.new + 1 }
     {
         match place(&self.cells, cell.shelf, &cell.key) {
             Ok(at) => self.cells[at] = cell,
@@ -62,7 +62,7 @@ impl Shelf {
         requires { InOrder cell_key self.old.cells.items }
         ensures number { self.new.number ≡ self.old.number }
         ensures cells { self.new.cells.items ≡ without cell_key (self.old.number ∷ key.now) self.old.cells.items }
-        ensures room { room self.old ≤ room self.new }
+        ensures spare { spare self.old ≤ spare self.new }
     {
         match place(&self.cells, self.number, key) {
             Ok(at) => {
@@ -76,7 +76,7 @@ impl Shelf {
 // Where the cell of a shelf and a key stands, or where it would go.
 fn place(cells: &[Cell], shelf: u8, key: &Bytes) -> Result<usize, usize>
     requires { InOrder cell_key cells.now }
-    ensures { Settles cell_key (shelf ∷ key.now) cells.now result }
+    ensures { IsPositionOf cell_key (shelf ∷ key.now) cells.now result }
 {
     cells.binary_search_by(|cell| cell.compare(shelf, key))
 }

@@ -4,7 +4,7 @@ ghost use Rattle.rv_keeper.specs.Cells.{AreCells, AreChanges, cell_key, changed}
 
 use crate::cell::Cell;
 use crate::change::Change;
-use crate::changing::{make_all, make_room, make_room_for, put};
+use crate::changing::{make_all, put, reserve_cells, reserve_for_changes};
 use crate::loaded::Cells;
 use crate::shelf::Shelf;
 use rv_base::{Memory, Sequence};
@@ -23,11 +23,11 @@ pub struct Shelves {
 impl Model for Shelves {
     ghost use Rattle.std.specs.Prelude.{List};
     ghost use Rattle.rv_keeper.specs.declared.cell.Cell.{Cell};
-    ghost use Rattle.rv_keeper.specs.Shelving.{cells_of, AreShelves};
+    ghost use Rattle.rv_keeper.specs.Shelving.{shelved_cells, AreShelves};
 
     ghost Value = { List Cell };
 
-    ghost view = { λ s. cells_of s.shelves.items };
+    ghost view = { λ s. shelved_cells s.shelves.items };
 
     ghost invariant = { λ s. AreShelves s.shelves.items };
 }
@@ -60,7 +60,7 @@ impl Shelves {
         ensures ok { OnOk result (self.new ≡ put_by cell_key cell self.old) }
         ensures err { OnErr result (self.new ≡ self.old) }
     {
-        make_room(alloc, &mut self.shelves, cell.shelf, 1)?;
+        reserve_cells(alloc, &mut self.shelves, cell.shelf, 1)?;
         put(&mut self.shelves, cell);
         Ok(())
     }
@@ -86,7 +86,7 @@ impl Shelves {
         ensures err { OnErr result (self.new ≡ self.old) }
     {
         let changes = copies_of_changes(alloc, changes)?;
-        make_room_for(alloc, &mut self.shelves, &changes)?;
+        reserve_for_changes(alloc, &mut self.shelves, &changes)?;
         make_all(&mut self.shelves, changes);
         Ok(())
     }

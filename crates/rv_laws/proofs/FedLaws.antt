@@ -4,9 +4,9 @@ use Rattle.std.specs.List.{AllByRecursion}
 use Rattle.rv_keeper.specs.declared.place.Place.{Ghosts as PlaceGhosts}
 use Rattle.rv_keeper.specs.Stores.{TakesUp}
 use Rattle.rv_book.specs.Book.{size}
-use Rattle.rv_history.specs.Clients.{ClientPull, EachCurrent, WasTold}
+use Rattle.rv_history.specs.Clients.{ClientPull, EachCurrent, WasSent}
 use Rattle.rv_wire.specs.Answers.{pull_json}
-use Rattle.rv_history.specs.Laws.{PushesStand, Tells}
+use Rattle.rv_history.specs.Laws.{PushesStand, ReplyShows}
 use Rattle.rv_history.specs.Served.{Doubt, Served, IsSound, MayStand}
 use Rattle.rv_answering.specs.declared.answer.Answer.{Answer}
 use Rattle.rv_answering.specs.declared.answer.Answer.TheVariants.{Pulled}
@@ -72,19 +72,19 @@ module _ (Told : Type 0) (first now : Served) (lines : List Line) (answers : Lis
   abbrev At : (pull : ClientPull) (turn : IsPull Told first now lines answers user pull) → IsShown Told first now turn.before turn.answered (Ok (Pull user pull.request)) pull.reply
   At pull turn = show (Ok (Pull user pull.request)) pull.reply turn
 
-  tells_at : (pull : ClientPull) (turn : IsPull Told first now lines answers user pull) → Tells pull_json user pull.request (At pull turn).settled (At pull turn).new.book pull.reply
+  tells_at : (pull : ClientPull) (turn : IsPull Told first now lines answers user pull) → ReplyShows pull_json user pull.request (At pull turn).settled (At pull turn).new.book pull.reply
   tells_at pull turn =
       let at = At pull turn in
       let shows = at.shows in
       let (who, what) = same_pull (Ok (Pull user pull.request)) user shows.user pull.request shows.request refl shows.asks in
-      subst (λ (u : List ℕ). Tells pull_json u pull.request at.settled at.new.book pull.reply) who (subst (λ (r : PullRequest). Tells pull_json shows.user r at.settled at.new.book pull.reply) what shows.tells)
+      subst (λ (u : List ℕ). ReplyShows pull_json u pull.request at.settled at.new.book pull.reply) who (subst (λ (r : PullRequest). ReplyShows pull_json shows.user r at.settled at.new.book pull.reply) what shows.tells)
 
-  abbrev was_told : (pull : ClientPull) → IsPull Told first now lines answers user pull → WasTold pull_json user now.book pull
-  was_told pull turn = record { point = (At pull turn).settled; new = (At pull turn).new.book; tells = tells_at pull turn; within = (At pull turn).on told }
+  abbrev was_sent : (pull : ClientPull) → IsPull Told first now lines answers user pull → WasSent pull_json user now.book pull
+  was_sent pull turn = record { point = (At pull turn).settled; new = (At pull turn).new.book; tells = tells_at pull turn; within = (At pull turn).on told }
 
-  abbrev all_told : (pulls : List ClientPull) → AllByRecursion (IsPull Told first now lines answers user) pulls → AllByRecursion (WasTold pull_json user now.book) pulls
+  abbrev all_told : (pulls : List ClientPull) → AllByRecursion (IsPull Told first now lines answers user) pulls → AllByRecursion (WasSent pull_json user now.book) pulls
   all_told [] turns = tt
-  all_told (pull ∷ pulls) (turn, turns) = (was_told pull turn, all_told pulls turns)
+  all_told (pull ∷ pulls) (turn, turns) = (was_sent pull turn, all_told pulls turns)
 
   each_follows : (pulls : List ClientPull) (turns : AllByRecursion (IsPull Told first now lines answers user) pulls) → EachCurrent pull_json user now.book pulls (all_told pulls turns) → EachFollows Told first now lines answers user pulls turns
   each_follows [] turns current = tt

@@ -3,7 +3,7 @@ use Rattle.std.proofs.Common.{◌≡◌, ℕ, ◌-◌, ◌^◌, ◌<◌, ◌≤�
 use Rattle.std.specs.List.{AllByRecursion}
 use Rattle.rv_base.specs.declared.outside.Source.{Ghosts as SourceGhosts}
 use Rattle.rv_base.specs.declared.outside.Sink.{Ghosts as SinkGhosts}
-use Rattle.rv_accounts.specs.File.{Served as AccountsServed}
+use Rattle.rv_accounts.specs.File.{AccountsServed}
 use Rattle.rv_keeper.specs.declared.keeper.Keeper.{Ghosts}
 use Rattle.rv_keeper.specs.declared.place.Place.{Ghosts as PlaceGhosts}
 use Rattle.rv_book.specs.Book.{size}
@@ -14,7 +14,7 @@ use Rattle.rv_cli.specs.declared.ending.Ending.TheVariants as endings
 use Rattle.rv_cli.specs.declared.serve_ending.ServeEnding.{ServeEnding}
 use Rattle.rv_cli.specs.declared.serve_ending.ServeEnding.TheVariants.{BadAccounts, TwiceAccounts, NotOpened, Net, Memory}
 use Rattle.rv_cli.specs.Change.{StoreChange, change}
-use Rattle.rv_cli.specs.Headline.{IsNotOpened, TellsChange, TellsTrouble}
+use Rattle.rv_cli.specs.Headline.{IsNotOpened, AnswersChange, AnswersTrouble}
 use Rattle.rv_cli.specs.Serving.{HasNoAccounts, IsNoNet, ServedBooksAreLawful, ServedKeepersStay, ServedPullsAreShown, ServedTroublesHaveCauses}
 use Rattle.rv_cli.specs.Texts.{serve_status, status_of}
 use Rattle.rv_laws.specs.Listeners.{ServedClientsFollow, ServedPushesStand}
@@ -92,13 +92,13 @@ module _ {P N K L I O : Type 0} (place : PlaceGhosts P K) (G : Ghosts K) (net : 
   pub troubles_have_causes : ((accounts : AccountsServed) → ServedTroublesHaveCauses G listen source sink accounts)
       → ServeTroublesHaveCauses place G net listen source sink
   troubles_have_causes law old new before after store options run stays below =
-      each_so (((G.faults run.now.keeper ≡ G.faults run.opened.keeper) × (G.faults run.opened.keeper < 2 ^ 64 - 1)) ⊎ G.fails_no_more run.opened.keeper) (λ turn. TellsTrouble (Some turn.1) → ⊥)
+      each_so (((G.faults run.now.keeper ≡ G.faults run.opened.keeper) × (G.faults run.opened.keeper < 2 ^ 64 - 1)) ⊎ G.fails_no_more run.opened.keeper) (λ turn. AnswersTrouble (Some turn.1) → ⊥)
       (all_turns place G net listen source sink old new before after store options run) (inl ((no_fault run.leaves.kept (place.faults old) (place.faults new) (G.faults run.now.keeper) run.leaves.taken stays below run.leaves.later) ∙ sym run.begins.faults, omega (arith, run.begins.faults))) (law run.accounts run.opened run.now run.givens run.backs run.together)
 
   pub keepers_stay : ((accounts : AccountsServed) → ServedKeepersStay G listen source sink accounts)
       → ServeKeepersStay place G net listen source sink
   keepers_stay law old new before after store options run told =
-      each_so (G.tells run.now.keeper) (λ turn. TellsChange (Some turn.1) → ⊥)
+      each_so (G.tells run.now.keeper) (λ turn. AnswersChange (Some turn.1) → ⊥)
       (all_turns place G net listen source sink old new before after store options run) (run.told told) (law run.accounts run.opened run.now run.givens run.backs run.together)
 
   pub pushes_stand : ((accounts : AccountsServed) → ServedPushesStand G listen source sink accounts)

@@ -4,19 +4,19 @@ use Rattle.std.specs.List.{AllByRecursion, Contains}
 use Rattle.std.specs.Option.{MatchOption}
 use Rattle.rv_base.specs.declared.outside.Source.{Ghosts as SourceGhosts}
 use Rattle.rv_base.specs.declared.outside.Sink.{Ghosts as SinkGhosts}
-use Rattle.rv_accounts.specs.File.{Served as AccountsServed}
+use Rattle.rv_accounts.specs.File.{AccountsServed}
 use Rattle.rv_book.specs.Book.{Book, Extends}
 use Rattle.rv_book.specs.BookWords.{extends_same, extends_on}
-use Rattle.rv_history.specs.Clients.{ClientPull, ClientsFollow, EachCurrent, WasTold}
+use Rattle.rv_history.specs.Clients.{ClientPull, ClientsFollow, EachCurrent, WasSent}
 use Rattle.rv_history.specs.TurnLaws.{goes_from, no_trouble, settles_go, step_of, turn_goes}
 use Rattle.rv_history.specs.Lawful.{IsLawful}
 use Rattle.rv_history.specs.LawfulBooks.{lawful_front}
-use Rattle.rv_history.specs.Laws.{IsEntered, MutationsStand, PullsShow, Tells}
+use Rattle.rv_history.specs.Laws.{IsEntered, MutationsStand, PullsShow, ReplyShows}
 use Rattle.rv_answering.specs.declared.answer.Answer.{Answer}
 use Rattle.rv_answering.specs.declared.answer.Answer.TheVariants.{Pushed, Pulled}
 use Rattle.rv_answering.specs.declared.request.Request.TheVariants.{Push, Pull}
 use Rattle.rv_answering.specs.Requests.{Parsed}
-use Rattle.rv_answering.specs.AnswerLaws.{same_reply, went}
+use Rattle.rv_answering.specs.AnswerLaws.{pulled_same, went}
 use Rattle.rv_answering.specs.Steps.{Handles}
 use Rattle.rv_wire.specs.Answers.{pull_json}
 use Rattle.rv_net.specs.declared.listen.Listen.{Ghosts as ListenGhosts}
@@ -92,7 +92,7 @@ module _ {K : Type 0} (G : Ghosts K) (show : PullsShow pull_json) (book : Book) 
   step_served pull old new (acted, inl wants) within = absurd (let no = wants.0 in cc)
   step_served pull old new (acted, inr (outcome, turn, is, none)) within =
       let ask : Ask = Ask.pull user pull.request in
-      let here : IsSeatTurn G old ask (outcomes.Pulled pull.reply) new = subst (λ (o : Outcome). IsSeatTurn G old ask o new) (same_reply pull.reply outcome is) turn in
+      let here : IsSeatTurn G old ask (outcomes.Pulled pull.reply) new = subst (λ (o : Outcome). IsSeatTurn G old ask o new) (pulled_same pull.reply outcome is) turn in
       let taken = here.takes.turn in
       let step = step_of pull_json ask (outcomes.Pulled pull.reply) (served G.faults here.desk) (served G.faults here.now) taken refl in
       record {
@@ -101,16 +101,16 @@ module _ {K : Type 0} (G : Ghosts K) (show : PullsShow pull_json) (book : Book) 
         step = (acted, inr (outcome, turn, is, none));
         point = taken.settled;
         since = extends_on taken.settled here.desk.book old.seen (settles_go here.desk.book here.desk.doubt taken.settled taken.settles) here.begins;
-        tells = subst (λ (b : Book). Tells pull_json user pull.request taken.settled b pull.reply) (sym here.seen) (show here.desk.limit user pull.request taken.settled here.now.book pull.reply step);
+        tells = subst (λ (b : Book). ReplyShows pull_json user pull.request taken.settled b pull.reply) (sym here.seen) (show here.desk.limit user pull.request taken.settled here.now.book pull.reply step);
         within = within;
       }
 
-  abbrev was_told : (pull : ClientPull) → IsServedPull G book user pull → WasTold pull_json user book pull
-  was_told pull at = record { point = at.point; new = at.new.seen; tells = at.tells; within = at.within }
+  abbrev was_sent : (pull : ClientPull) → IsServedPull G book user pull → WasSent pull_json user book pull
+  was_sent pull at = record { point = at.point; new = at.new.seen; tells = at.tells; within = at.within }
 
-  abbrev all_told : (pulls : List ClientPull) → AllByRecursion (IsServedPull G book user) pulls → AllByRecursion (WasTold pull_json user book) pulls
+  abbrev all_told : (pulls : List ClientPull) → AllByRecursion (IsServedPull G book user) pulls → AllByRecursion (WasSent pull_json user book) pulls
   all_told [] served = tt
-  all_told (pull ∷ pulls) (at, served) = (was_told pull at, all_told pulls served)
+  all_told (pull ∷ pulls) (at, served) = (was_sent pull at, all_told pulls served)
 
   each_follows : (pulls : List ClientPull) (served : AllByRecursion (IsServedPull G book user) pulls) → EachCurrent pull_json user book pulls (all_told pulls served) → AllByRecursion (FollowsIn G book user) pulls
   each_follows [] served current = tt

@@ -14,7 +14,7 @@ use Rattle.rv_answering.specs.declared.request.Request.TheVariants.{Push}
 use Rattle.rv_answering.specs.Requests.{Parsed}
 use Rattle.rv_answering.specs.AnswerLaws.{went}
 use Rattle.rv_wire.specs.Answers.{pull_json}
-use Rattle.rv_cli.specs.Headline.{BooksAreLawful, Run, Handles, Takes}
+use Rattle.rv_cli.specs.Headline.{BooksAreLawful, Run, Handles, TakesLine}
 use Rattle.rv_turns.specs.Asks.{Sender}
 use Rattle.rv_turns.specs.Pushing.{Pushes}
 use Rattle.rv_turns.specs.declared.mutation.Mutation.{Mutation}
@@ -32,7 +32,7 @@ pub record At (first now : Served) (before : List Line) (answered : List (Option
   pub new : Served
   pub run : Run Yes first before answered point
   pub sound : IsSound point
-  pub takes : Takes Yes point (Asks asked) (Some answer) new
+  pub takes : TakesLine Yes point (Asks asked) (Some answer) new
   pub more : Extends now.book new.book
 
 pub turn_at : BooksAreLawful → (first now : Served) (before after : List Line) (answered others : List (Option Answer)) (asked : Parsed) (answer : Answer) → IsSound first → length before ≡ length answered

@@ -19,7 +19,7 @@ use Rattle.rv_answering.specs.declared.request.Request.TheVariants.{Push, Pull}
 use Rattle.rv_answering.specs.Requests.{Parsed}
 use Rattle.rv_cli.specs.declared.ending.Ending.{Ending}
 use Rattle.rv_cli.specs.Change.{change}
-use Rattle.rv_cli.specs.Headline.{Are, Begins, IsLawfulRun, IsLeftAs, IsShown, Leaves, NotFed, Run, TellsTrouble, told_text}
+use Rattle.rv_cli.specs.Headline.{Are, Begins, IsLawfulRun, IsLeftAs, IsShown, Leaves, NotFed, Run, AnswersTrouble, told_text}
 use Rattle.rv_cli.specs.Promises.{WasFed}
 use Rattle.rv_cli.specs.Texts.{status_of}
 use Rattle.rv_turns.specs.declared.pull.PullReply.{PullReply}
@@ -105,7 +105,7 @@ module _ {P K : Type 0} (place : PlaceGhosts P K) where
 
   -- Where the place's count of faults stayed below its last value, no answer tells a trouble with what keeps the book.
   abbrev pub FedTroublesHaveCauses : Type 0
-  FedTroublesHaveCauses = OfAllRuns (λ old new store bytes output output' run. place.faults new ≡ place.faults old → place.faults old < 2 ^ 64 - 1 → AllByRecursion (λ answer. TellsTrouble answer → ⊥) run.answers)
+  FedTroublesHaveCauses = OfAllRuns (λ old new store bytes output output' run. place.faults new ≡ place.faults old → place.faults old < 2 ^ 64 - 1 → AllByRecursion (λ answer. AnswersTrouble answer → ⊥) run.answers)
 
   -- Each mutation of a push that was not refused stands in the book at the end; but for an id of 0, which is skipped and stands nowhere.
   abbrev pub FedPushesStand : Type 0

@@ -3,12 +3,12 @@ use Rattle.std.specs.Prelude.{ℕ, ◌≤◌, ◌<◌, ◌^◌, List, Ok, Contai
 use Rattle.std.specs.List.{AllByRecursion}
 use Rattle.rv_base.specs.declared.outside.Source.{Ghosts as SourceGhosts}
 use Rattle.rv_base.specs.declared.outside.Sink.{Ghosts as SinkGhosts}
-use Rattle.rv_accounts.specs.File.{Served as AccountsServed}
+use Rattle.rv_accounts.specs.File.{AccountsServed}
 use Rattle.rv_book.specs.Book.{Book, size, Extends}
 use Rattle.rv_keeper.specs.declared.keeper.Keeper.{Ghosts}
 use Rattle.rv_history.specs.Clients.{ClientPull, IsClient, IsCurrent, held_then}
 use Rattle.rv_wire.specs.Answers.{pull_json}
-use Rattle.rv_history.specs.Laws.{IsEntered, Tells}
+use Rattle.rv_history.specs.Laws.{IsEntered, ReplyShows}
 use Rattle.rv_history.specs.Served.{IsSound}
 use Rattle.rv_desk.specs.Seated.{Seated, served}
 use Rattle.rv_answering.specs.declared.answer.Answer.{Answer}
@@ -31,7 +31,7 @@ pub record IsServedPull {K : Type 0} (G : Ghosts K) (book : Book) (user : List �
   pub step : Handles (IsSeatTurn G) old (Ok (Pull user pull.request)) (Pulled pull.reply) new
   pub point : Book
   pub since : Extends point old.seen
-  pub tells : Tells pull_json user pull.request point new.seen pull.reply
+  pub tells : ReplyShows pull_json user pull.request point new.seen pull.reply
   pub within : Extends book new.seen
 
 -- and it left the client with what its user sees there

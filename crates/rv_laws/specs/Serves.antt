@@ -4,7 +4,7 @@ use Rattle.std.specs.List.{AllByRecursion}
 use Rattle.rv_base.specs.declared.outside.Source.{Ghosts as SourceGhosts}
 use Rattle.rv_base.specs.declared.outside.Sink.{Ghosts as SinkGhosts}
 use Rattle.rv_words.specs.declared.serve_options.ServeOptions.{ServeOptions}
-use Rattle.rv_accounts.specs.File.{Served as AccountsServed}
+use Rattle.rv_accounts.specs.File.{AccountsServed}
 use Rattle.rv_keeper.specs.declared.keeper.Keeper.{Ghosts}
 use Rattle.rv_keeper.specs.declared.place.Place.{Ghosts as PlaceGhosts}
 use Rattle.rv_history.specs.Clients.{ClientPull, IsClient}
@@ -18,7 +18,7 @@ use Rattle.rv_answering.specs.Requests.{Parsed}
 use Rattle.rv_net.specs.declared.listen.Listen.{Ghosts as ListenGhosts}
 use Rattle.rv_net.specs.declared.net.Net.{Ghosts as NetGhosts}
 use Rattle.rv_cli.specs.Change.{change}
-use Rattle.rv_cli.specs.Headline.{Begins, IsLawfulRun, Leaves, TellsChange, TellsTrouble}
+use Rattle.rv_cli.specs.Headline.{Begins, IsLawfulRun, Leaves, AnswersChange, AnswersTrouble}
 use Rattle.rv_cli.specs.Serving.{ShowsIn}
 use Rattle.rv_cli.specs.Promises.{WasServed}
 use Rattle.rv_laws.specs.Listeners.{FollowsIn, Together, turns_in}
@@ -73,11 +73,11 @@ module _ {P N K L I O : Type 0} (place : PlaceGhosts P K) (G : Ghosts K) (net : 
   -- Where the place's count of faults stayed below its last value, no answer tells a trouble with what keeps the book.
   abbrev pub ServeTroublesHaveCauses : Type 0
   ServeTroublesHaveCauses = OfAllServes (λ old new before after store options run. place.faults new ≡ place.faults old → place.faults old < 2 ^ 64 - 1
-      → AllByRecursion (λ turn. TellsTrouble (Some turn.1) → ⊥) (all_turns old new before after store options run))
+      → AllByRecursion (λ turn. AnswersTrouble (Some turn.1) → ⊥) (all_turns old new before after store options run))
 
   -- Where the place tells, no answer says that another changed what is kept.
   abbrev pub ServeKeepersStay : Type 0
-  ServeKeepersStay = OfAllServes (λ old new before after store options run. place.tells new → AllByRecursion (λ turn. TellsChange (Some turn.1) → ⊥) (all_turns old new before after store options run))
+  ServeKeepersStay = OfAllServes (λ old new before after store options run. place.tells new → AllByRecursion (λ turn. AnswersChange (Some turn.1) → ⊥) (all_turns old new before after store options run))
 
   -- Each mutation of a push that was not refused stands in the book at the end; but for an id of 0, which is skipped and stands nowhere.
   abbrev pub ServePushesStand : Type 0

@@ -1,5 +1,5 @@
 //! What follows of listeners that are served side by side, which is a part of the clause `serve`.
-ghost use Rattle.rv_accounts.specs.File.{Served as AccountsServed};
+ghost use Rattle.rv_accounts.specs.File.{AccountsServed};
 ghost use Rattle.rv_laws.specs.Listeners.{ServedPushesStand, ServedClientsFollow};
 
 use rv_keeper::Keeper;

@@ -11,7 +11,7 @@ use Rattle.std.proofs.lemmas.Bool.Decides.{Decides-eqb}
 use Rattle.memchr.specs.Find.{Nowhere, Passes, IsFirstByte, is_byte}
 use Rattle.rv_base.specs.Outside.{InputState}
 use Rattle.rv_lines.specs.Lines.{HasNoLf, has_lf, longest_line}
-use Rattle.rv_lines.specs.Found.{Finds}
+use Rattle.rv_lines.specs.Found.{FindsLine}
 use Rattle.rv_lines.specs.declared.buffer.Found.TheVariants.{At}
 use Rattle.rv_lines.specs.Reading.{ReadsAhead}
 
@@ -67,7 +67,7 @@ pub kept_none : (pending buffer : List ℕ) (before now : Option (List ℕ)) (st
 kept_none pending buffer before now start n p k le e = rw (p, e) k
 
 -- How far a buffer is filled: it has grown by what was taken of the source, no read failed and none told the end.
-pub record Fills (first : List ℕ) (start : InputState) (buffer : List ℕ) (now : InputState) : Type 0 where
+pub record FillsBuffer (first : List ℕ) (start : InputState) (buffer : List ℕ) (now : InputState) : Type 0 where
   pub more : List ℕ
   pub grown : buffer ≡ first ++ more
   pub taken : Consumes start.left now.left more
@@ -76,7 +76,7 @@ pub record Fills (first : List ℕ) (start : InputState) (buffer : List ℕ) (no
   pub ahead : ReadsAhead first start now
 
 -- a whole line that is held, from an index on: it is given, and what comes after its LF waits
-pub held : (pending buffer : List ℕ) (left : Option (List ℕ)) (next n after : ℕ) (line : List ℕ) → pending ≡ drop next buffer → Finds (drop next buffer) None (Ok (At n)) → line ≡ drop next (take (next + n) buffer) → after ≡ next + n + 1
+pub held : (pending buffer : List ℕ) (left : Option (List ℕ)) (next n after : ℕ) (line : List ℕ) → pending ≡ drop next buffer → FindsLine (drop next buffer) None (Ok (At n)) → line ≡ drop next (take (next + n) buffer) → after ≡ next + n + 1
     → HasNoLf line × (length line ≤ longest_line) × Consumes (prepend_known pending left) (prepend_known (drop after buffer) left) (line ++ 10 ∷ [])
 held pending buffer left next n after line waits found is goes_on =
     let begins : line ≡ take n (drop next buffer) = is ∙ drop-take next n buffer in

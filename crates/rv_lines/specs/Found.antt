@@ -12,12 +12,12 @@ use Rattle.rv_lines.specs.Lines.{HasNoLf, BeginsLong, longest_line}
 use Rattle.rv_lines.specs.Reading.{read_failed}
 
 -- what is found in the buffer, with what is left of the source
-abbrev pub Finds : List ℕ → Option (List ℕ) → Result Found LineFault → Type 0
-Finds buffer left (Ok (At i)) = (i < length buffer) × (i ≤ longest_line) × HasNoLf (take i buffer) × (slice_index buffer i ≡ 10)
-Finds buffer left (Ok Rest) = (length buffer ≤ longest_line) × HasNoLf buffer × IsAtEnd left
-Finds buffer left (Ok Long) = BeginsLong buffer
-Finds buffer left (Err Read) = HasNoLf buffer
-Finds buffer left (Err Memory) = Unit {0}
+abbrev pub FindsLine : List ℕ → Option (List ℕ) → Result Found LineFault → Type 0
+FindsLine buffer left (Ok (At i)) = (i < length buffer) × (i ≤ longest_line) × HasNoLf (take i buffer) × (slice_index buffer i ≡ 10)
+FindsLine buffer left (Ok Rest) = (length buffer ≤ longest_line) × HasNoLf buffer × IsAtEnd left
+FindsLine buffer left (Ok Long) = BeginsLong buffer
+FindsLine buffer left (Err Read) = HasNoLf buffer
+FindsLine buffer left (Err Memory) = Unit {0}
 
 -- the end of the input was found
 abbrev pub finds_end : Result Found LineFault → Bool
@@ -31,9 +31,9 @@ abbrev pub KeepsUnread : List ℕ → Option (List ℕ) → List ℕ → Option 
 KeepsUnread buffer left buffer' left' = Keeps (prepend_known buffer left) (prepend_known buffer' left')
 
 -- what one read adds to a buffer
-abbrev pub Adds : List ℕ → InputState → List ℕ → InputState → Result ℕ LineFault → Type 0
-Adds buffer old buffer' new (Ok count) = (piece : List ℕ) × (buffer' ≡ buffer ++ piece) × (length piece ≡ count) × (count ≤ 4096) × Consumes old.left new.left piece × (count ≡ 0 → IsAtEnd new.left)
-Adds buffer old buffer' new (Err fault) = (buffer' ≡ buffer) × Keeps old.left new.left
+abbrev pub AddsPiece : List ℕ → InputState → List ℕ → InputState → Result ℕ LineFault → Type 0
+AddsPiece buffer old buffer' new (Ok count) = (piece : List ℕ) × (buffer' ≡ buffer ++ piece) × (length piece ≡ count) × (count ≤ 4096) × Consumes old.left new.left piece × (count ≡ 0 → IsAtEnd new.left)
+AddsPiece buffer old buffer' new (Err fault) = (buffer' ≡ buffer) × Keeps old.left new.left
 
 -- the read told the end
 abbrev pub reads_end : Result ℕ LineFault → Bool
@@ -42,6 +42,6 @@ reads_end (Err fault) = false
 
 -- one read: the bytes that it adds, and the counts
 pub record ReadsPiece (buffer : List ℕ) (old : InputState) (buffer' : List ℕ) (new : InputState) (result : Result ℕ LineFault) : Type 0 where
-  pub bytes : Adds buffer old buffer' new result
+  pub bytes : AddsPiece buffer old buffer' new result
   pub faults : MatchBool (read_failed result) (Rose old.faults new.faults) (new.faults ≡ old.faults)
   pub ends : new.ends ≡ counted_if (reads_end result) old.ends

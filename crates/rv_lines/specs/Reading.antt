@@ -57,6 +57,6 @@ pub record ReadsFor (pending : List ℕ) (old new : InputState) (ended failed : 
   pub ahead : ReadsAhead pending old new
 
 -- of a source that fails no more: it goes on so, and no read failed
-pub record IsSteady {T : Type 0} (steady : Type 0) (result : Result T LineFault) : Type 0 where
+pub record NextLineIsSteady {T : Type 0} (steady : Type 0) (result : Result T LineFault) : Type 0 where
   pub goes_on : steady
   pub no_fault : read_failed result ≡ false

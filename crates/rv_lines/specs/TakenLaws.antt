@@ -49,7 +49,7 @@ piece_needed whole pending more piece lines ended h le =
     let e : (whole ++ pending) ++ (more ++ piece) ≡ (whole ++ (pending ++ more)) ++ piece = simp append_assoc in
     inr (whole ++ (pending ++ more), piece, e, le, omega (arith, ap length count))
 
--- how far was read where one more line was looked at
+-- how far was read where one more line was examined
 needed_on : (bytes : List ℕ) (pending : List ℕ) (old new : InputState) (lines : List (List ℕ)) (w : Taken (Some bytes) pending old.left lines) (read : List ℕ)
     → ReadsAhead pending old new → Consumes (Some bytes) new.left read → IsNeeded read (length lines + 1)
 needed_on bytes pending old new lines w read (inl k) c =

@@ -2,8 +2,8 @@
 ghost use Rattle.std.specs.Prelude.{◌≡◌, ◌≤◌, ◌<◌, ◌++◌, ℕ, List, length, take, drop, slice_index, true, false, OnErr, IfOk, IfSome, MatchOption, None, Ok};
 ghost use Rattle.std.specs.Io.KnownBytes.{Keeps, Consumes, IsAtEnd};
 ghost use Rattle.rv_lines.specs.Lines.{HasNoLf, holds_line};
-ghost use Rattle.rv_lines.specs.Found.{Finds, KeepsUnread, ReadsPiece, finds_end};
-ghost use Rattle.rv_lines.specs.Reading.{ReadsFor, read_failed, IsSteady};
+ghost use Rattle.rv_lines.specs.Found.{FindsLine, KeepsUnread, ReadsPiece, finds_end};
+ghost use Rattle.rv_lines.specs.Reading.{ReadsFor, read_failed, NextLineIsSteady};
 ghost use Rattle.rv_lines.specs.declared.buffer.Found.TheVariants.{At};
 
 use crate::line_fault::LineFault;
@@ -39,10 +39,10 @@ fn find_lf(bytes: &[u8], from: usize) -> Option<usize>
     }
 }
 
-// Takes some bytes from the source, none only at its end. The room is made first, so that nothing that was read is lost.
+// Takes some bytes from the source, none only at its end. The space is made first, so that nothing that was read is lost.
 fn read_more<S: Source>(buffer: &mut Vec<u8>, source: &mut S) -> Result<usize, LineFault>
     ensures piece { ReadsPiece buffer.old.items (S.state source.old) buffer.new.items (S.state source.new) result }
-    ensures steady { S.fails_no_more source.old → IsSteady (S.fails_no_more source.new) result }
+    ensures steady { S.fails_no_more source.old → NextLineIsSteady (S.fails_no_more source.new) result }
 {
     buffer.reserve(PIECE)?;
     let mut piece = [0; PIECE];
@@ -54,7 +54,7 @@ fn read_more<S: Source>(buffer: &mut Vec<u8>, source: &mut S) -> Result<usize, L
 /// The length of the line that begins at this index, where the buffer holds its LF and it is no longer than a line may be.
 pub(crate) fn held_line(buffer: &[u8], start: usize) -> Option<usize>
     requires { start ≤ length buffer.now }
-    ensures { IfSome result (λ n. Finds (drop start buffer.now) None (Ok (At n))) }
+    ensures { IfSome result (λ n. FindsLine (drop start buffer.now) None (Ok (At n))) }
 {
     match find_lf(&buffer[start..], 0) {
         Some(at) if at <= LINE_LIMIT => Some(at),
@@ -65,12 +65,12 @@ pub(crate) fn held_line(buffer: &[u8], start: usize) -> Option<usize>
 /// Fills the buffer until the end of its first line is known.
 pub(crate) fn find_line<S: Source>(buffer: &mut Vec<u8>, source: &mut S) -> Result<Found, LineFault>
     ensures unread { KeepsUnread buffer.old.items (S.state source.old).left buffer.new.items (S.state source.new).left }
-    ensures found { Finds buffer.new.items (S.state source.new).left result }
+    ensures found { FindsLine buffer.new.items (S.state source.new).left result }
 
     // Nothing is read while the buffer holds a whole line, and no more than one piece that the line did not need.
     ensures idle { holds_line buffer.old.items ≡ true → source.new ≡ source.old }
     ensures reads { ReadsFor buffer.old.items (S.state source.old) (S.state source.new) (finds_end result) (read_failed result) }
-    ensures steady { S.fails_no_more source.old → IsSteady (S.fails_no_more source.new) result }
+    ensures steady { S.fails_no_more source.old → NextLineIsSteady (S.fails_no_more source.new) result }
 {
     let mut searched = 0;
     loop {

@@ -30,7 +30,7 @@ impl Model for LineReader {
 
 impl LineReader {
     ghost use Rattle.rv_lines.specs.Lines.{holds_line};
-    ghost use Rattle.rv_lines.specs.Reading.{unread, GivesNext, ReadsFor, gives_end, read_failed, IsSteady};
+    ghost use Rattle.rv_lines.specs.Reading.{unread, GivesNext, ReadsFor, gives_end, read_failed, NextLineIsSteady};
 
     /// A reader that has read nothing yet.
     pub fn new(alloc: Global) -> Self
@@ -53,7 +53,7 @@ impl LineReader {
         // Nothing is read while a whole line is held, and no more than one piece that the line did not need.
         ensures idle { holds_line self.old.pending ≡ true → source.new ≡ source.old }
         ensures reads { ReadsFor self.old.pending (S.state source.old) (S.state source.new) (gives_end result) (read_failed result) }
-        ensures steady { S.fails_no_more source.old → IsSteady (S.fails_no_more source.new) result }
+        ensures steady { S.fails_no_more source.old → NextLineIsSteady (S.fails_no_more source.new) result }
     {
         let Some(length) = held_line(&self.buffer, self.next) else {
             return self.fill(source);
@@ -72,7 +72,7 @@ impl LineReader {
         // Nothing is read while a whole line is held, and no more than one piece that the line did not need.
         ensures idle { holds_line self.old.pending ≡ true → source.new ≡ source.old }
         ensures reads { ReadsFor self.old.pending (S.state source.old) (S.state source.new) (gives_end result) (read_failed result) }
-        ensures steady { S.fails_no_more source.old → IsSteady (S.fails_no_more source.new) result }
+        ensures steady { S.fails_no_more source.old → NextLineIsSteady (S.fails_no_more source.new) result }
     {
         forget(&mut self.buffer, self.next);
         self.start = 0;

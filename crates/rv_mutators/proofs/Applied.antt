@@ -6,7 +6,7 @@ use Rattle.std.specs.Option.{option_map, option_map_or, is_some}
 use Rattle.std.proofs.lemmas.Slice.Eq.{bytes_eq-Decides}
 use Rattle.std.proofs.lemmas.Map.Entries.{option_filter}
 use Rattle.rv_base.specs.Sorted.{find_by, InOrder}
-use Rattle.rv_base.specs.Places.{Above, equals, not_same, find_put, find_without, in_order-put, in_order-without, in_order-sorted, in_order-filter, found-sorted}
+use Rattle.rv_base.specs.Positions.{Above, equals, not_same, find_put, find_without, in_order-put, in_order-without, in_order-sorted, in_order-filter, found-sorted}
 use Rattle.rv_base.specs.Arranged.{distinct-in_order, in_order-same, find-filter, find-map}
 use Rattle.rv_rows.specs.declared.key.Key.{Key}
 use Rattle.rv_rows.specs.declared.row.Row.{Row}
@@ -14,7 +14,7 @@ use Rattle.rv_rows.specs.Keys.{key_text, row_key, row_text, has_row, in_key_orde
 use Rattle.rv_rows.specs.Held.{Stored, stored_key, rows_in, AreRows, find, put, remove}
 use Rattle.rv_rows.specs.HeldLaws.{in_order-rows}
 use Rattle.rv_rows.specs.Changes.{same_row, is_new, is_gone, written, lost, version_after}
-use Rattle.rv_mutators.specs.Staging.{applied}
+use Rattle.rv_mutators.specs.Staging.{with_staged}
 use Rattle.rv_rows.specs.EffectLaws.{same_row-Decides}
 use Rattle.rv_mutators.proofs.Picked.{by_flag, find-key, none_after}
 use Rattle.rv_mutators.proofs.Changed.{changes, any_same}
@@ -121,7 +121,7 @@ module _ (version : ℕ) (stored : List Stored) where
         let own : k ≡ row_text row = find-key row_text k (in_key_order after) row e in
         rw own (ends row (find (row_text row) stored) refl (any_same (rows_in stored) row (in_order-rows stored h) ∙ ap (λ (o : Option Row). option_map_or (same_row row) o false) (sym (find-map row_text (λ s. s.0) (row_text row) stored))))
 
-    pub applied-changes : applied version (changes (rows_in stored) after) stored ≡ map (λ row. (row, version_after version stored row)) (in_key_order after)
+    pub applied-changes : with_staged version (changes (rows_in stored) after) stored ≡ map (λ row. (row, version_after version stored row)) (in_key_order after)
     applied-changes =
         in_order-same stored_key _ _
         (in_order-puts version (written (rows_in stored) after) _ (in_order-removes (lost (rows_in stored) after) stored h))

@@ -4,14 +4,14 @@ use Rattle.std.specs.Prelude.{IfOk}
 use Rattle.std.specs.Str.{bytes_eq}
 use Rattle.std.specs.List.{list_any}
 use Rattle.std.proofs.lemmas.List.{take_more}
-use Rattle.rv_base.specs.Places.{equals, not_same}
+use Rattle.rv_base.specs.Positions.{equals, not_same}
 use Rattle.rv_rows.specs.declared.row.Row.{Row}
 use Rattle.rv_rows.specs.declared.row.ListRow.{ListRow}
 use Rattle.rv_rows.specs.declared.row.ShareRow.{ShareRow}
 use Rattle.rv_rows.specs.declared.row.TodoRow.{TodoRow}
 use Rattle.rv_rows.specs.declared.row.Row.TheVariants as variants
 use Rattle.rv_rows.specs.Sharing.{sees, is_list, owns, shares, list_of}
-use Rattle.rv_sharing.specs.Texts.{Adds}
+use Rattle.rv_sharing.specs.Texts.{AddsText}
 use Rattle.rv_sharing.specs.Sharers.{AddsSharers}
 use Rattle.rv_sharing.specs.Affected.{AddsViewers}
 use Rattle.rv_mutators.specs.Touched.{sees_with, AddsReaders}
@@ -19,30 +19,30 @@ use Rattle.rv_mutators.proofs.Picked.{by_flag}
 
 pub list_any-push : {X : Type 0} (p : X → Bool) (xs : List X) (x : X) → list_any p (xs ++ x ∷ []) ≡ (p x || list_any p xs)
 list_any-push p [] x = refl
-list_any-push p (y ∷ ys) x = ap (λ (b : Bool). p y || b) (list_any-push p ys x) ∙ turned (p y) (p x) (list_any p ys)
+list_any-push p (y ∷ ys) x = ap (λ (b : Bool). p y || b) (list_any-push p ys x) ∙ swapped (p y) (p x) (list_any p ys)
   where
-    turned : (a b c : Bool) → (a || (b || c)) ≡ (b || (a || c))
-    turned true true c = refl
-    turned true false c = refl
-    turned false true c = refl
-    turned false false c = refl
+    swapped : (a b c : Bool) → (a || (b || c)) ≡ (b || (a || c))
+    swapped true true c = refl
+    swapped true false c = refl
+    swapped false true c = refl
+    swapped false false c = refl
 
 -- equality of texts is told from either side
-bytes_eq-turned : (a b : List ℕ) → bytes_eq a b ≡ bytes_eq b a
-bytes_eq-turned a b =
+bytes_eq-swapped : (a b : List ℕ) → bytes_eq a b ≡ bytes_eq b a
+bytes_eq-swapped a b =
     by_flag (λ t. bytes_eq a b ≡ t) (bytes_eq b a)
     (λ e. by_flag (λ t. t ≡ true) (bytes_eq a b) (λ f. refl) (λ f. sym (not_same a b f) ∙ e))
     (λ e. not_same b a e)
 
 -- a list's readers are those of the list before, its owner, and whom shares of it name
 pub readers_list : {E : Type 0} (rows : List Row) (row : ListRow) (users viewers owned : List (List ℕ)) (result : Result (List (List ℕ)) E)
-    → AddsViewers rows row.id users viewers → Adds row.owner viewers owned → IfOk result (AddsSharers rows row.id owned) → IfOk result (AddsViewers (variants.List row ∷ rows) row.id users)
+    → AddsViewers rows row.id users viewers → AddsText row.owner viewers owned → IfOk result (AddsSharers rows row.id owned) → IfOk result (AddsViewers (variants.List row ∷ rows) row.id users)
 unfolding sees
 readers_list rows row users viewers owned (Err e) seen own shared = tt
 readers_list rows row users viewers owned (Ok after) seen own shared = record {
   order = shared.order;
   each = λ user. shared.each user ∙ ap (λ (b : Bool). b || list_any (shares user row.id) rows) (own.each (bytes_eq user) ∙ ap (λ (b : Bool). bytes_eq user row.owner || b) (seen.each user))
-      ∙ rw (equals row.id, bytes_eq-turned row.owner user) (flags (list_any (bytes_eq user) users) (bytes_eq user row.owner) (list_any (owns user row.id) rows) (list_any (is_list row.id) rows) (list_any (shares user row.id) rows));
+      ∙ rw (equals row.id, bytes_eq-swapped row.owner user) (flags (list_any (bytes_eq user) users) (bytes_eq user row.owner) (list_any (owns user row.id) rows) (list_any (is_list row.id) rows) (list_any (shares user row.id) rows));
 }
   where
     flags : (u w o i s : Bool) → ((w || (u || (o || (i && s)))) || s) ≡ (u || ((w || o) || s))
@@ -56,13 +56,13 @@ readers_list rows row users viewers owned (Ok after) seen own shared = record {
 
 -- a share's readers are those of the list before, and whom it names where the list is there
 pub readers_share : {E : Type 0} (rows : List Row) (row : ShareRow) (users viewers : List (List ℕ)) (result : Result (List (List ℕ)) E)
-    → list_any (is_list row.list) rows ≡ true → AddsViewers rows row.list users viewers → IfOk result (Adds row.user viewers) → IfOk result (AddsViewers (variants.Share row ∷ rows) row.list users)
+    → list_any (is_list row.list) rows ≡ true → AddsViewers rows row.list users viewers → IfOk result (AddsText row.user viewers) → IfOk result (AddsViewers (variants.Share row ∷ rows) row.list users)
 unfolding sees
 readers_share rows row users viewers (Err e) there seen named = tt
 readers_share rows row users viewers (Ok after) there seen named = record {
   order = named.order;
   each = λ user. named.each (bytes_eq user) ∙ ap (λ (b : Bool). bytes_eq user row.user || b) (seen.each user)
-      ∙ rw (there, equals row.list, bytes_eq-turned row.user user) (flags (list_any (bytes_eq user) users) (bytes_eq user row.user) (list_any (owns user row.list) rows) (list_any (shares user row.list) rows));
+      ∙ rw (there, equals row.list, bytes_eq-swapped row.user user) (flags (list_any (bytes_eq user) users) (bytes_eq user row.user) (list_any (owns user row.list) rows) (list_any (shares user row.list) rows));
 }
   where
     flags : (u w o s : Bool) → (w || (u || (o || s))) ≡ (u || (o || (w || s)))

@@ -5,7 +5,7 @@ use Rattle.std.specs.Str.{bytes_eq}
 use Rattle.std.specs.List.{filter, list_any}
 use Rattle.std.specs.Option.{option_map_or}
 use Rattle.rv_base.specs.Sorted.{find_by, InOrder}
-use Rattle.rv_base.specs.Places.{equals, found-any, none_found, found-sorted, find_put}
+use Rattle.rv_base.specs.Positions.{equals, found-any, none_found, found-sorted, find_put}
 use Rattle.rv_base.specs.Arranged.{distinct-in_order, distinct-push, sorted-in_order, sorted-push, find-changed, in_order-map}
 use Rattle.rv_rows.specs.declared.key.Key.{Key}
 use Rattle.rv_rows.specs.declared.key.Kind.TheVariants as kinds
@@ -21,7 +21,7 @@ use Rattle.rv_rows.specs.Changes.{same_row, is_gone, written, lost, version_afte
 use Rattle.rv_rows.specs.EffectLaws.{same_row-Decides, sees-sorted}
 use Rattle.rv_sharing.specs.Affected.{sees_key, AreAffected}
 use Rattle.rv_mutators.specs.declared.staged.Staged.{Staged}
-use Rattle.rv_mutators.specs.Staging.{staged, applied, IsStagedOn, written_if}
+use Rattle.rv_mutators.specs.Staging.{staged, with_staged, IsStagedOn, written_if}
 use Rattle.rv_mutators.specs.Touched.{touched, AreTouched, sees_with, AddsReaders}
 use Rattle.rv_rows.specs.declared.row.TodoRow.{TodoRow}
 use Rattle.rv_mutators.proofs.Picked.{by_flag, by_found, find-key}
@@ -32,8 +32,8 @@ use Rattle.rv_mutators.proofs.Calls.{free_first, free_second, keeps, set_if, upd
 use Rattle.rv_mutators.proofs.ReaderLaws.{list_any-push}
 
 -- whether a user sees a touched key before or after, told by the removed keys before and the written rows
-abbrev pub IsTold : List Row → List Row → List ℕ → Staged → Type 0
-IsTold before after user s = (list_any (sees_key before user) (touched s) || list_any (sees_key after user) (touched s)) ≡ (list_any (sees_key before user) s.keys || list_any (sees_with before user) s.rows)
+abbrev pub HasViewers : List Row → List Row → List ℕ → Staged → Type 0
+HasViewers before after user s = (list_any (sees_key before user) (touched s) || list_any (sees_key after user) (touched s)) ≡ (list_any (sees_key before user) s.keys || list_any (sees_with before user) s.rows)
 
 append-nil : {X : Type 0} (xs : List X) → xs ++ [] ≡ xs
 append-nil [] = refl
@@ -49,33 +49,33 @@ lost-unseen user (row ∷ before) after =
     (λ e. rw (none_found row_text (row_text row) (in_key_order after) (found-sorted row_text (row_text row) after ∙ e)) (lost-unseen user before after))
 
 -- nothing is written
-told-removed : (user : List ℕ) (before after : List Row) (keys : List Key) → lost before after ≡ keys → IsTold before (in_key_order after) user (record { rows = []; keys = keys })
-told-removed user before after keys e =
+viewers-removed : (user : List ℕ) (before after : List Row) (keys : List Key) → lost before after ≡ keys → HasViewers before (in_key_order after) user (record { rows = []; keys = keys })
+viewers-removed user before after keys e =
     rw (append-nil keys) (ap (λ (b : Bool). list_any (sees_key before user) keys || b) (subst (λ (t : List Key). list_any (sees_key (in_key_order after) user) t ≡ false) e (lost-unseen user before after)))
 
 -- one row is written, and nothing removed
-told-written : (user : List ℕ) (before after : List Row) (row : Row) → row_at (row_text row) after ≡ Some row → sees user (list_of row) after ≡ sees_with before user row
-    → (sees_key before user (row_key row) ≡ true → sees_with before user row ≡ true) → IsTold before after user (record { rows = row ∷ []; keys = [] })
-told-written user before after row stands same earlier = rw (stands, same) (each (sees_key before user (row_key row)) (sees_with before user row) earlier)
+viewers-written : (user : List ℕ) (before after : List Row) (row : Row) → row_at (row_text row) after ≡ Some row → sees user (list_of row) after ≡ sees_with before user row
+    → (sees_key before user (row_key row) ≡ true → sees_with before user row ≡ true) → HasViewers before after user (record { rows = row ∷ []; keys = [] })
+viewers-written user before after row stands same earlier = rw (stands, same) (each (sees_key before user (row_key row)) (sees_with before user row) earlier)
   where
     each : (a b : Bool) → (a ≡ true → b ≡ true) → ((a || false) || (b || false)) ≡ (b || false)
     each true b h = sym (ap (λ (t : Bool). t || false) (h refl))
     each false b h = refl
 
 -- one more row
-told-push : (user : List ℕ) (before : List Row) (row : Row) → InOrder row_text before → find_by row_text (row_text row) before ≡ None
-    → IsTold before (in_key_order (before ++ row ∷ [])) user (record { rows = row ∷ []; keys = [] })
+viewers-push : (user : List ℕ) (before : List Row) (row : Row) → InOrder row_text before → find_by row_text (row_text row) before ≡ None
+    → HasViewers before (in_key_order (before ++ row ∷ [])) user (record { rows = row ∷ []; keys = [] })
 unfolding sees
-told-push user before row h none =
-    told-written user before (in_key_order (before ++ row ∷ [])) row
+viewers-push user before row h none =
+    viewers-written user before (in_key_order (before ++ row ∷ [])) row
     (rw (sorted-push row_text row before, sorted-in_order row_text before h, find_put row_text (row_text row) row before, equals (row_text row)) refl)
     (sees-sorted user (list_of row) (before ++ row ∷ []) (distinct-push row_text row before none (distinct-in_order row_text before h)) ∙ rw (list_any-push (owns user (list_of row)) before row, list_any-push (is_list (list_of row)) before row, list_any-push (shares user (list_of row)) before row) refl)
     (λ e. absurd (let never : sees_key before user (row_key row) ≡ false = rw none refl in let both : false ≡ true = sym never ∙ e in cc))
 
 -- only keys are removed
-told-rest : (user : List ℕ) (before after : List Row) → written before after ≡ [] → IsTold before (in_key_order after) user (changes before after)
-told-rest user before after e =
-    subst (λ (rows : List Row). IsTold before (in_key_order after) user (record { rows = rows; keys = lost before after })) (sym e) (told-removed user before after (lost before after) refl)
+viewers-rest : (user : List ℕ) (before after : List Row) → written before after ≡ [] → HasViewers before (in_key_order after) user (changes before after)
+viewers-rest user before after e =
+    subst (λ (rows : List Row). HasViewers before (in_key_order after) user (record { rows = rows; keys = lost before after })) (sym e) (viewers-removed user before after (lost before after) refl)
 
 any-map : (p : Row → Bool) (f : Row → Row) (rows : List Row) → ((x : Row) → p (f x) ≡ p x) → list_any p (map f rows) ≡ list_any p rows
 any-map p f [] same = refl
@@ -86,19 +86,19 @@ both_true true c e = refl
 both_true false c e = absurd (cc)
 
 module _ (before : List Row) (h : InOrder row_text before) (user caller : List ℕ) where
-  told-none : IsTold before (in_key_order before) user (changes before before)
-  told-none = told-rest user before before (ap (λ (s : Staged). s.rows) (changes-none before h))
+  viewers-none : HasViewers before (in_key_order before) user (changes before before)
+  viewers-none = viewers-rest user before before (ap (λ (s : Staged). s.rows) (changes-none before h))
 
-  told-push_if : (test : Bool) (row : Row) → (test ≡ true → has_row (row_text row) before ≡ false)
-      → IsTold before (in_key_order (cond test (before ++ row ∷ []) before)) user (changes before (cond test (before ++ row ∷ []) before))
-  told-push_if true row free =
+  viewers-push_if : (test : Bool) (row : Row) → (test ≡ true → has_row (row_text row) before ≡ false)
+      → HasViewers before (in_key_order (cond test (before ++ row ∷ []) before)) user (changes before (cond test (before ++ row ∷ []) before))
+  viewers-push_if true row free =
       let none = none_found row_text (row_text row) before (found-any row_text (row_text row) before ∙ free refl) in
-      subst (IsTold before (in_key_order (before ++ row ∷ [])) user) (sym (changes-push before row h none)) (told-push user before row h none)
-  told-push_if false row free = told-none
+      subst (HasViewers before (in_key_order (before ++ row ∷ [])) user) (sym (changes-push before row h none)) (viewers-push user before row h none)
+  viewers-push_if false row free = viewers-none
 
-  told-filter_if : (test : Bool) (p : Row → Bool) → IsTold before (in_key_order (cond test (filter p before) before)) user (changes before (cond test (filter p before) before))
-  told-filter_if true p = told-rest user before (filter p before) (ap (λ (s : Staged). s.rows) (changes-filter before p h))
-  told-filter_if false p = told-none
+  viewers-filter_if : (test : Bool) (p : Row → Bool) → HasViewers before (in_key_order (cond test (filter p before) before)) user (changes before (cond test (filter p before) before))
+  viewers-filter_if true p = viewers-rest user before (filter p before) (ap (λ (s : Staged). s.rows) (changes-filter before p h))
+  viewers-filter_if false p = viewers-none
 
   -- a todo's fields are set
   module _ (id : List ℕ) (text : Option (List ℕ)) (complete : Option Bool) (sort : Option ℕ) where
@@ -133,69 +133,69 @@ module _ (before : List Row) (h : InOrder row_text before) (user caller : List �
         shares_same (variants.Share x) = refl
         shares_same (variants.Todo x) = refl
 
-    told-set : (x : TodoRow) → find_by row_text (key_text (record { kind = kinds.Todo; id = id })) before ≡ Some (variants.Todo x) → sees caller x.list before ≡ true
-        → IsTold before (in_key_order (map set before)) user (record { rows = with_fields text complete sort (variants.Todo x) ∷ []; keys = [] })
+    viewers-set : (x : TodoRow) → find_by row_text (key_text (record { kind = kinds.Todo; id = id })) before ≡ Some (variants.Todo x) → sees caller x.list before ≡ true
+        → HasViewers before (in_key_order (map set before)) user (record { rows = with_fields text complete sort (variants.Todo x) ∷ []; keys = [] })
     unfolding may_change sees
-    told-set x e seen =
+    viewers-set x e seen =
         let k = key_text (record { kind = kinds.Todo; id = id }) in
         let own = at_own k before (variants.Todo x) e in
         let at : bytes_eq k (row_text (variants.Todo x)) ≡ true = subst (λ (t : List ℕ). bytes_eq t (row_text (variants.Todo x)) ≡ true) (sym (find-key row_text k before (variants.Todo x) e)) (equals (row_text (variants.Todo x))) in
-        told-written user before (in_key_order (map set before)) (with_fields text complete sort (variants.Todo x))
+        viewers-written user before (in_key_order (map set before)) (with_fields text complete sort (variants.Todo x))
         (rw (sorted, find-changed row_text set (row_text (variants.Todo x)) before (keeps before h caller id text complete sort), own, at, seen) refl)
         (rw sorted (sees-set x.list))
         (λ t. rw own at t)
 
-    told-still : IsTold before (in_key_order (map set before)) user (record { rows = []; keys = [] })
-    told-still = told-removed user before (map set before) [] (ap (λ (s : Staged). s.keys) (changes-map before set (keeps before h caller id text complete sort) h))
+    viewers-still : HasViewers before (in_key_order (map set before)) user (record { rows = []; keys = [] })
+    viewers-still = viewers-removed user before (map set before) [] (ap (λ (s : Staged). s.keys) (changes-map before set (keeps before h caller id text complete sort) h))
 
     and-false : (b : Bool) → (b && false) ≡ false
     and-false true = refl
     and-false false = refl
 
-    told-other : (x : Row) → with_fields text complete sort x ≡ x → IsTold before (in_key_order (map set before)) user (written_if (set_if before h caller id text complete sort x) (with_fields text complete sort x))
-    told-other x same =
+    viewers-other : (x : Row) → with_fields text complete sort x ≡ x → HasViewers before (in_key_order (map set before)) user (written_if (set_if before h caller id text complete sort x) (with_fields text complete sort x))
+    viewers-other x same =
         let never : set_if before h caller id text complete sort x ≡ false = rw ((same_row-Decides (with_fields text complete sort x) x).1 same) (and-false (sees caller (list_of x) before)) in
-        subst (λ (b : Bool). IsTold before (in_key_order (map set before)) user (written_if b (with_fields text complete sort x))) (sym never) told-still
+        subst (λ (b : Bool). HasViewers before (in_key_order (map set before)) user (written_if b (with_fields text complete sort x))) (sym never) viewers-still
 
-    told-found : (x : Row) → find_by row_text (key_text (record { kind = kinds.Todo; id = id })) before ≡ Some x
-        → IsTold before (in_key_order (map set before)) user (written_if (set_if before h caller id text complete sort x) (with_fields text complete sort x))
-    told-found (variants.List x) e = told-other (variants.List x) refl
-    told-found (variants.Share x) e = told-other (variants.Share x) refl
-    told-found (variants.Todo x) e =
-        by_flag (λ b. IsTold before (in_key_order (map set before)) user (written_if b (with_fields text complete sort (variants.Todo x)))) (set_if before h caller id text complete sort (variants.Todo x))
-        (λ t. told-set x e (both_true (sees caller x.list before) (not (same_row (with_fields text complete sort (variants.Todo x)) (variants.Todo x))) t))
-        (λ t. told-still)
+    viewers-found : (x : Row) → find_by row_text (key_text (record { kind = kinds.Todo; id = id })) before ≡ Some x
+        → HasViewers before (in_key_order (map set before)) user (written_if (set_if before h caller id text complete sort x) (with_fields text complete sort x))
+    viewers-found (variants.List x) e = viewers-other (variants.List x) refl
+    viewers-found (variants.Share x) e = viewers-other (variants.Share x) refl
+    viewers-found (variants.Todo x) e =
+        by_flag (λ b. HasViewers before (in_key_order (map set before)) user (written_if b (with_fields text complete sort (variants.Todo x)))) (set_if before h caller id text complete sort (variants.Todo x))
+        (λ t. viewers-set x e (both_true (sees caller x.list before) (not (same_row (with_fields text complete sort (variants.Todo x)) (variants.Todo x))) t))
+        (λ t. viewers-still)
 
-    told-update : IsTold before (in_key_order (map set before)) user (staged before caller (UpdateTodo id text complete sort))
-    told-update =
-        subst (IsTold before (in_key_order (map set before)) user) (update_todo-is before h caller id text complete sort)
-        (by_found (λ o. IsTold before (in_key_order (map set before)) user (option_map_or (λ x. written_if (set_if before h caller id text complete sort x) (with_fields text complete sort x)) o (record { rows = []; keys = [] })))
+    viewers-update : HasViewers before (in_key_order (map set before)) user (staged before caller (UpdateTodo id text complete sort))
+    viewers-update =
+        subst (HasViewers before (in_key_order (map set before)) user) (update_todo-is before h caller id text complete sort)
+        (by_found (λ o. HasViewers before (in_key_order (map set before)) user (option_map_or (λ x. written_if (set_if before h caller id text complete sort x) (with_fields text complete sort x)) o (record { rows = []; keys = [] })))
         (find_by row_text (key_text (record { kind = kinds.Todo; id = id })) before)
-        (λ e. told-still)
-        (λ x e. told-found x e))
+        (λ e. viewers-still)
+        (λ x e. viewers-found x e))
 
   -- each call
-  told : (call : Call) → IsTold before (in_key_order (effect before caller call)) user (staged before caller call)
-  told (CreateList id name owner) =
-      told-push_if (not (has_row (key_text (record { kind = kinds.List; id = id })) before) && bytes_eq owner caller) (variants.List (record { id = id; name = name; owner = owner }))
+  viewers : (call : Call) → HasViewers before (in_key_order (effect before caller call)) user (staged before caller call)
+  viewers (CreateList id name owner) =
+      viewers-push_if (not (has_row (key_text (record { kind = kinds.List; id = id })) before) && bytes_eq owner caller) (variants.List (record { id = id; name = name; owner = owner }))
       (free_first before h (has_row (key_text (record { kind = kinds.List; id = id })) before) (bytes_eq owner caller))
-  told (DeleteList id) = told-filter_if (list_any (owns caller id) before) (is_outside id)
-  told (CreateShare id list other) =
-      told-push_if (list_any (owns caller list) before && not (has_row (key_text (record { kind = kinds.Share; id = id })) before) && not (bytes_eq other caller) && not (list_any (shares other list) before)) (variants.Share (record { id = id; list = list; user = other }))
+  viewers (DeleteList id) = viewers-filter_if (list_any (owns caller id) before) (is_outside id)
+  viewers (CreateShare id list other) =
+      viewers-push_if (list_any (owns caller list) before && not (has_row (key_text (record { kind = kinds.Share; id = id })) before) && not (bytes_eq other caller) && not (list_any (shares other list) before)) (variants.Share (record { id = id; list = list; user = other }))
       (free_second before h (list_any (owns caller list) before) (has_row (key_text (record { kind = kinds.Share; id = id })) before) (not (bytes_eq other caller)) (not (list_any (shares other list) before)))
-  told (DeleteShare id) = told-filter_if (list_any (ends caller before id) before) (is_other kinds.Share id)
-  told (CreateTodo id list text complete) =
-      told-push_if (not (has_row (key_text (record { kind = kinds.Todo; id = id })) before) && sees caller list before) (variants.Todo (record { id = id; list = list; text = text; complete = complete; sort = next_sort list before }))
+  viewers (DeleteShare id) = viewers-filter_if (list_any (ends caller before id) before) (is_other kinds.Share id)
+  viewers (CreateTodo id list text complete) =
+      viewers-push_if (not (has_row (key_text (record { kind = kinds.Todo; id = id })) before) && sees caller list before) (variants.Todo (record { id = id; list = list; text = text; complete = complete; sort = next_sort list before }))
       (free_first before h (has_row (key_text (record { kind = kinds.Todo; id = id })) before) (sees caller list before))
-  told (UpdateTodo id text complete sort) = told-update id text complete sort
-  told (DeleteTodo id) = told-filter_if true (is_unchanged caller before id)
-  told (Void reason) = told-none
+  viewers (UpdateTodo id text complete sort) = viewers-update id text complete sort
+  viewers (DeleteTodo id) = viewers-filter_if true (is_unchanged caller before id)
+  viewers (Void reason) = viewers-none
 
 rows_stored : (version : Row → ℕ) (rows : List Row) → rows_in (map (λ row. (row, version row)) rows) ≡ rows
 rows_stored version [] = refl
 rows_stored version (row ∷ rows) = ap (λ (t : List Row). row ∷ t) (rows_stored version rows)
 
-rows_after : (stored : List Stored) (caller : List ℕ) (call : Call) → AreRows stored → rows_in (applied 0 (staged (rows_in stored) caller call) stored) ≡ in_key_order (effect (rows_in stored) caller call)
+rows_after : (stored : List Stored) (caller : List ℕ) (call : Call) → AreRows stored → rows_in (with_staged 0 (staged (rows_in stored) caller call) stored) ≡ in_key_order (effect (rows_in stored) caller call)
 rows_after stored caller call h =
     ap rows_in (applied-changes 0 stored (effect (rows_in stored) caller call) h) ∙ rows_stored (version_after 0 stored) (in_key_order (effect (rows_in stored) caller call))
 
@@ -207,7 +207,7 @@ are_touched stored s users (Ok after) h on removed readers = record {
   each = λ user. readers.each user ∙ ap (λ (b : Bool). b || list_any (sees_with (rows_in stored) user) s.rows) (removed.each user) ∙ sym (both user);
 }
   where
-    both : (user : List ℕ) → IsTold (rows_in stored) (rows_in (applied 0 s stored)) user s
+    both : (user : List ℕ) → HasViewers (rows_in stored) (rows_in (with_staged 0 s stored)) user s
     both user =
-        subst (λ (t : Staged). IsTold (rows_in stored) (rows_in (applied 0 t stored)) user t) (sym on.2)
-        (subst (λ (rows : List Row). IsTold (rows_in stored) rows user (staged (rows_in stored) on.0 on.1)) (sym (rows_after stored on.0 on.1 h)) (told (rows_in stored) (in_order-rows stored h) user on.0 on.1))
+        subst (λ (t : Staged). HasViewers (rows_in stored) (rows_in (with_staged 0 t stored)) user t) (sym on.2)
+        (subst (λ (rows : List Row). HasViewers (rows_in stored) rows user (staged (rows_in stored) on.0 on.1)) (sym (rows_after stored on.0 on.1 h)) (viewers (rows_in stored) (in_order-rows stored h) user on.0 on.1))

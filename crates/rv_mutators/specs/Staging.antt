@@ -14,8 +14,8 @@ abbrev pub staged : List Row → List ℕ → Call → Staged
 staged rows user call = record { rows = written rows (effect rows user call); keys = lost rows (effect rows user call) }
 
 -- the stored rows without the keys, and with the rows at this version
-abbrev pub applied : ℕ → Staged → List Stored → List Stored
-applied version s stored = fold (λ t row. put (row, version) t) (fold (λ t key. remove (key_text key) t) stored s.keys) s.rows
+abbrev pub with_staged : ℕ → Staged → List Stored → List Stored
+with_staged version s stored = fold (λ t row. put (row, version) t) (fold (λ t key. remove (key_text key) t) stored s.keys) s.rows
 
 -- it was staged on these stored rows, for some call of some user
 abbrev pub IsStagedOn : List Stored → Staged → Type 0

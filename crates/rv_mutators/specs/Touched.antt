@@ -11,7 +11,7 @@ use Rattle.rv_rows.specs.Sharing.{sees, list_of}
 use Rattle.rv_sharing.specs.Affected.{sees_key}
 use Rattle.rv_sharing.specs.Texts.{AreInOrder}
 use Rattle.rv_mutators.specs.declared.staged.Staged.{Staged}
-use Rattle.rv_mutators.specs.Staging.{applied}
+use Rattle.rv_mutators.specs.Staging.{with_staged}
 
 -- the keys that are removed, and those of the rows that are written
 abbrev pub touched : Staged → List Key
@@ -20,7 +20,7 @@ touched s = s.keys ++ map row_key s.rows
 -- these are the users who see one of those keys before or after, in the order of their bytes, each once
 pub record AreTouched (stored : List Stored) (s : Staged) (users : List (List ℕ)) : Type 0 where
   pub order : InOrder (λ user. user) users
-  pub each : (user : List ℕ) → list_any (bytes_eq user) users ≡ (list_any (sees_key (rows_in stored) user) (touched s) || list_any (sees_key (rows_in (applied 0 s stored)) user) (touched s))
+  pub each : (user : List ℕ) → list_any (bytes_eq user) users ≡ (list_any (sees_key (rows_in stored) user) (touched s) || list_any (sees_key (rows_in (with_staged 0 s stored)) user) (touched s))
 
 -- the user sees the list of the row, where it stands beside the others
 abbrev pub sees_with : List Row → List ℕ → Row → Bool

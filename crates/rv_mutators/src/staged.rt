@@ -1,7 +1,7 @@
 ghost use Rattle.std.specs.Prelude.{◌≡◌, ◌≤◌, length, fold, vec_len, [], ◌∷◌, IfOk};
 ghost use Rattle.rv_rows.specs.Keys.{key_text};
 ghost use Rattle.rv_rows.specs.Held.{put, remove};
-ghost use Rattle.rv_mutators.specs.Staging.{applied, IsStagedOn};
+ghost use Rattle.rv_mutators.specs.Staging.{with_staged, IsStagedOn};
 ghost use Rattle.rv_mutators.specs.Touched.{AreTouched};
 
 use crate::readers::add_readers;
@@ -55,10 +55,10 @@ impl Staged {
     }
 
     /// Removes the keys, and writes the rows with this version, the place of the act. It can't fail, and takes no memory;
-    /// the tables have room for the rows where they are those that it was staged on.
+    /// the tables have space for the rows where they are those that it was staged on.
     pub fn apply(self, tables: &mut Tables, version: u32)
         requires { length self.rows ≤ tables.old.spare }
-        ensures { tables.new.rows ≡ applied version self tables.old.rows }
+        ensures { tables.new.rows ≡ with_staged version self tables.old.rows }
     {
         let Staged { rows, keys } = self;
         remove_keys(tables, keys.as_slice());
@@ -88,7 +88,7 @@ fn remove_keys(tables: &mut Tables, keys: &[Key])
     }
 }
 
-// Writes the rows with the version, in room that there is.
+// Writes the rows with the version, in space that there is.
 fn put_rows(tables: &mut Tables, rows: Vec<Row>, version: u32)
     requires { vec_len rows ≤ tables.old.spare }
     ensures { tables.new.rows ≡ fold (λ t row. put (row, version) t) tables.old.rows rows.items }

@@ -1,7 +1,7 @@
 ghost use Rattle.std.specs.Prelude.{◌≡◌, ℕ, ◌≤◌, length, IfOk};
 ghost use Rattle.rv_rows.specs.Held.{rows_in, AreRows};
 ghost use Rattle.rv_rows.specs.Changes.{after};
-ghost use Rattle.rv_mutators.specs.Staging.{staged, applied};
+ghost use Rattle.rv_mutators.specs.Staging.{staged, with_staged};
 
 use crate::lists::{create_list, delete_list};
 use crate::shares::{create_share, delete_share};
@@ -11,14 +11,14 @@ use rv_base::{Memory, User};
 use rv_rows::{Call, Tables};
 use std::alloc::Global;
 
-/// What the user's call writes and removes. Of the tables it changes nothing but the room that they have, which is enough
+/// What the user's call writes and removes. Of the tables it changes nothing but the space that they have, which is enough
 /// for [`Staged::apply`].
 pub fn stage(alloc: Global, tables: &mut Tables, user: &User, call: &Call) -> Result<Staged, Memory>
     ensures rows { tables.new.rows ≡ tables.old.rows }
     ensures spare { tables.old.spare ≤ tables.new.spare }
-    ensures room { IfOk result (λ s. length s.rows ≤ tables.new.spare) }
+    ensures enough { IfOk result (λ s. length s.rows ≤ tables.new.spare) }
     ensures staged { IfOk result (λ s. s ≡ staged (rows_in tables.old.rows) user.now call.now) }
-    ensures effect { IfOk result (λ s. (version : ℕ) → applied version s tables.old.rows ≡ after tables.old.rows user.now call.now version) }
+    ensures effect { IfOk result (λ s. (version : ℕ) → with_staged version s tables.old.rows ≡ after tables.old.rows user.now call.now version) }
 {
     // `iter` tells that the rows stand in order
     let _in_order = tables.iter();

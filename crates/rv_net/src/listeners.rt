@@ -3,7 +3,7 @@ ghost use Rattle.rv_net.specs.Listed.{TakesLast};
 
 use std::marker::Model;
 
-/// Listeners at one port, in order. A contract sees the list of them, and the number `spare` of places that are reserved
+/// Listeners at one port, in order. A contract sees the list of them, and the number `spare` of slots that are reserved
 /// beside it.
 #[derive(Drop)]
 pub struct Listeners<L> {
@@ -43,14 +43,14 @@ impl<L> Listeners<L> {
         self.items.len()
     }
 
-    /// The last listener, which leaves its place reserved. It takes no memory.
+    /// The last listener, which leaves its slot reserved. It takes no memory.
     pub fn take(&mut self) -> Option<L>
         ensures { TakesLast self.old self.new result }
     {
         self.items.pop()
     }
 
-    /// Puts a listener at the end, in a place that is reserved. It can't fail, and takes no memory.
+    /// Puts a listener at the end, in a slot that is reserved. It can't fail, and takes no memory.
     pub fn give(&mut self, listener: L)
         requires { 1 ≤ self.old.spare }
         ensures listeners { self.new.listeners ≡ self.old.listeners ++ listener ∷ [] }

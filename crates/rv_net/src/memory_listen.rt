@@ -20,12 +20,12 @@ pub struct MemoryListen {
     pub out: usize,
     /// How often it has answered that no connection is to come. It stands still at 2^64 - 1.
     pub ends: u64,
-    // Whatever was given or is to come has a place to come back to.
-    ghost room: { vec_len came_back + out + vec_len to_come ≤ vec_capacity came_back },
+    // Whatever was given or is to come has a slot to come back to.
+    ghost capacity: { vec_len came_back + out + vec_len to_come ≤ vec_capacity came_back },
 }
 
 impl MemoryListen {
-    /// A listener to which these connections are to come, the next one first. It makes the room for those that come back.
+    /// A listener to which these connections are to come, the next one first. It makes the space for those that come back.
     pub fn new(alloc: Global, to_come: Vec<MemoryConn>) -> Result<Self, Memory>
         ensures to_come { IfOk result (λ made. made.to_come ≡ to_come) }
         ensures came_back { IfOk result (λ made. made.came_back.items ≡ []) }

@@ -4,7 +4,7 @@ ghost use Rattle.rv_base.specs.Causes.{Counts, Rose};
 ghost use Rattle.rv_base.specs.InMemory.{FailsNoMore, fails_next};
 ghost use Rattle.rv_base.specs.Outside.{counted, counted_if};
 ghost use Rattle.rv_net.specs.declared.net_fault.NetFault.TheVariants as NetFault;
-ghost use Rattle.rv_net.specs.Giving.{Gives, has_failed};
+ghost use Rattle.rv_net.specs.Giving.{GivesListeners, has_failed};
 
 use crate::listeners::Listeners;
 use crate::memory_listen::MemoryListen;
@@ -34,12 +34,12 @@ pub struct MemoryNet {
     pub calls: u64,
     /// How many of them failed, but for want of memory.
     pub faults: u64,
-    // Whatever was given or is to give has a place to come back to.
-    ghost room: { vec_len came_back + out + vec_len to_give ≤ vec_capacity came_back },
+    // Whatever was given or is to give has a slot to come back to.
+    ghost capacity: { vec_len came_back + out + vec_len to_give ≤ vec_capacity came_back },
 }
 
 impl MemoryNet {
-    /// A net that has these listeners to give, the next one first. It makes the room for those that come back.
+    /// A net that has these listeners to give, the next one first. It makes the space for those that come back.
     pub fn new(alloc: Global, to_give: Vec<MemoryListen>, failing: Vec<u64>) -> Result<Self, Memory>
         ensures to_give { IfOk result (λ made. made.to_give ≡ to_give) }
         ensures came_back { IfOk result (λ made. made.came_back.items ≡ []) }
@@ -100,7 +100,7 @@ impl Net for MemoryNet {
         most: u32,
     ) -> Result<Listeners<MemoryListen>, NetFault>
         ensures count { IfOk result (λ given. length given.listeners ≡ count) }
-        ensures given { Gives self.old.to_give.items self.old.out self.new.to_give.items self.new.out result }
+        ensures given { GivesListeners self.old.to_give.items self.old.out self.new.to_give.items self.new.out result }
         ensures back { self.new.came_back ≡ self.old.came_back }
         ensures wanted { self.new.wanted ≡ Some (record { port = port; count = count; most = most }) }
         ensures faults { Counts self.old.faults self.new.faults result }

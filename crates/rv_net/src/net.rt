@@ -3,7 +3,7 @@ ghost use Rattle.std.specs.List.{AllByRecursion};
 ghost use Rattle.rv_base.specs.Causes.{Counts, Rose};
 ghost use Rattle.rv_net.specs.declared.net_fault.NetFault.TheVariants as NetFault;
 ghost use Rattle.rv_net.specs.declared.wanted.Wanted.{Wanted};
-ghost use Rattle.rv_net.specs.Giving.{Gives};
+ghost use Rattle.rv_net.specs.Giving.{GivesListeners};
 
 use crate::listen::Listen;
 use crate::listeners::Listeners;
@@ -45,7 +45,7 @@ pub trait Net {
     ) -> Result<Listeners<Self::Listen>, NetFault>
         ensures count { IfOk result (λ given. length given.listeners ≡ count) }
         ensures tells { tells self.new → tells self.old }
-        ensures given { tells self.new → Gives (to_give self.old) (out self.old) (to_give self.new) (out self.new) result }
+        ensures given { tells self.new → GivesListeners (to_give self.old) (out self.old) (to_give self.new) (out self.new) result }
         ensures back { tells self.new → came_back self.new ≡ came_back self.old }
         ensures wanted { tells self.new → wanted self.new ≡ Some (record { port = port; count = count; most = most }) }
         ensures faults { Counts (faults self.old) (faults self.new) result }

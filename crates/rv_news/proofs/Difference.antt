@@ -23,7 +23,7 @@ use Rattle.rv_news.specs.Shows.{put_of}
 use Rattle.rv_history.specs.History.{is_touched, is_absent, is_news, patch_since}
 use Rattle.rv_history.specs.ReplayLaws.{distinct-rows_of, stored_in_order, stored_is, each_found, each_at}
 use Rattle.rv_history.specs.PatchLaws.{bytes_eq-sym, passed, absent_is, news_absent, news_present}
-use Rattle.rv_news.proofs.Versions.{versions_tell}
+use Rattle.rv_news.proofs.Versions.{versions_match}
 
 -- the keys at the base that are not among those now
 abbrev pub gone_keys : List (Key × ℕ) → List (Key × ℕ) → List Key
@@ -101,10 +101,10 @@ any_same k v (x ∷ xs) h =
     ∙ first_or (λ (s : Stored). s.1 == v) (bytes_eq k (row_text x.0)) x (find k xs) (λ e. subst (λ (t : List ℕ). find t xs ≡ None) (sym ((bytes_eq-Decides k (row_text x.0)).0 e)) h.0)
 
 -- a row is news exactly where its key does not stand at the base with its version
-news_tells : (rows : List Row) (since : List Entry) (base : List Stored) (s : Stored) → Distinct stored_key base
+news_match : (rows : List Row) (since : List Entry) (base : List Stored) (s : Stored) → Distinct stored_key base
     → ((was : Stored) → find (row_text s.0) base ≡ Some was → is_touched (row_text s.0) rows since ≡ not (was.1 == s.1))
     → not (list_any (λ other. bytes_eq (key_text other.0) (row_text s.0) && (other.1 == s.1)) (map pair base)) ≡ is_news (rows_in base) rows since s.0
-news_tells rows since base s h told =
+news_match rows since base s h told =
     let k : List ℕ = row_text s.0 in
     let at : row_at k (rows_in base) ≡ option_map (λ (t : Stored). t.0) (find k base) = sym (find-map row_text (λ (t : Stored). t.0) k base) in
     ap not (any_same k s.1 base h)
@@ -114,17 +114,17 @@ news_tells rows since base s h told =
     ] refl
 
 -- the keys of the dels
-pub dels_tell : (user : List ℕ) (book : Book) (place : ℕ) (stored earlier : List Stored) → IsReplay book stored → IsReplay (up_to place book) earlier
+pub dels_are : (user : List ℕ) (book : Book) (place : ℕ) (stored earlier : List Stored) → IsReplay book stored → IsReplay (up_to place book) earlier
     → gone_keys (visible user earlier) (visible user stored) ≡ map row_key (filter (is_absent (seen user (rows_of book))) (seen user (rows_of (up_to place book))))
-dels_tell user book place stored earlier r q =
+dels_are user book place stored earlier r q =
     keys_filter (λ pair. not (list_any (λ other. bytes_eq (key_text other.0) (key_text pair.0)) (visible user stored))) (is_absent (rows_in (sighted user stored))) (sighted user earlier)
     (all_each _ (sighted user earlier) (λ s. key_absent (sighted user stored) s))
     ∙ (λ i. map row_key (filter (is_absent (sighted_rows user book stored r i)) (sighted_rows user (up_to place book) earlier q i)))
 
 -- the keys of the puts
-pub puts_tell : (user : List ℕ) (book : Book) (place : ℕ) (stored earlier : List Stored) → IsReplay book stored → IsReplay (up_to place book) earlier
+pub puts_are : (user : List ℕ) (book : Book) (place : ℕ) (stored earlier : List Stored) → IsReplay book stored → IsReplay (up_to place book) earlier
     → news_keys (visible user earlier) (visible user stored) ≡ map row_key (filter (is_news (seen user (rows_of (up_to place book))) (rows_of (up_to place book)) (since place book)) (seen user (rows_of book)))
-puts_tell user book place stored earlier r q =
+puts_are user book place stored earlier r q =
     let rows : List Row = rows_of (up_to place book) in
     let since : List Entry = since place book in
     let base : List Stored = sighted user earlier in
@@ -132,8 +132,8 @@ puts_tell user book place stored earlier r q =
     let sight : Stored → Bool = λ (s : Stored). sees_list user (list_of s.0) (rows_in earlier) in
     keys_filter (λ pair. not (list_any (λ other. bytes_eq (key_text other.0) (key_text pair.0) && (other.1 == pair.1)) (visible user earlier))) (is_news (rows_in base) rows since) (sighted user stored)
     (all_to (λ (s : Stored). find (stored_key s) stored ≡ Some s) _ (sighted user stored)
-    (λ s found. news_tells rows since base s (distinct-filter stored_key sight earlier apart)
-    (λ was e. versions_tell book place stored earlier (row_text s.0) s was r q found (passed sight (find (row_text s.0) earlier) was (sym (find-filter stored_key sight (row_text s.0) earlier apart) ∙ e))))
+    (λ s found. news_match rows since base s (distinct-filter stored_key sight earlier apart)
+    (λ was e. versions_match book place stored earlier (row_text s.0) s was r q found (passed sight (find (row_text s.0) earlier) was (sym (find-filter stored_key sight (row_text s.0) earlier apart) ∙ e))))
     (all_filter (λ (s : Stored). find (stored_key s) stored ≡ Some s) (λ (s : Stored). sees_list user (list_of s.0) (rows_in stored)) stored (each_found stored_key stored (stored_in_order book stored r))))
     ∙ (λ i. map row_key (filter (is_news (sighted_rows user (up_to place book) earlier q i) rows since) (sighted_rows user book stored r i)))
 
@@ -158,14 +158,14 @@ seen_stored user book stored r =
     (all_filter (λ (row : Row). row_at (row_text row) (rows_of book) ≡ Some row) (λ row. sees_list user (list_of row) (rows_of book)) (in_key_order (rows_of book)) (each_at book))
 
 -- the whole patch since a place, by the keys and versions there and now, and the rows that are stored now
-pub patch_told : (user : List ℕ) (book : Book) (place : ℕ) (stored earlier : List Stored) → IsReplay book stored → IsReplay (up_to place book) earlier
+pub patch_by_keys : (user : List ℕ) (book : Book) (place : ℕ) (stored earlier : List Stored) → IsReplay book stored → IsReplay (up_to place book) earlier
     → patch_since user book (Some place) ≡ map (λ key. Del key) (gone_keys (visible user earlier) (visible user stored)) ++ filter_map (put_of stored) (news_keys (visible user earlier) (visible user stored))
-patch_told user book place stored earlier r q =
+patch_by_keys user book place stored earlier r q =
     let base : List Row = seen user (rows_of (up_to place book)) in
     let now : List Row = seen user (rows_of book) in
     let news : Row → Bool = is_news base (rows_of (up_to place book)) (since place book) in
-    let dels = dels_of (filter (is_absent now) base) ∙ ap (map (λ (key : Key). Del key)) (sym (dels_tell user book place stored earlier r q)) in
-    let puts = sym (puts_of stored (filter news now) (all_filter _ news now (seen_stored user book stored r))) ∙ ap (filter_map (put_of stored)) (sym (puts_tell user book place stored earlier r q)) in
+    let dels = dels_of (filter (is_absent now) base) ∙ ap (map (λ (key : Key). Del key)) (sym (dels_are user book place stored earlier r q)) in
+    let puts = sym (puts_of stored (filter news now) (all_filter _ news now (seen_stored user book stored r))) ∙ ap (filter_map (put_of stored)) (sym (puts_are user book place stored earlier r q)) in
     (λ i. dels i ++ puts i)
 
 pairs_keys : (xs : List Stored) → map (λ (x : Key × ℕ). x.0) (map pair xs) ≡ map row_key (rows_in xs)
@@ -173,8 +173,8 @@ pairs_keys [] = refl
 pairs_keys (x ∷ xs) = ap (λ (t : List Key). row_key x.0 ∷ t) (pairs_keys xs)
 
 -- and without a base
-pub patch_anew_told : (user : List ℕ) (book : Book) (stored : List Stored) → IsReplay book stored
+pub patch_anew_by_keys : (user : List ℕ) (book : Book) (stored : List Stored) → IsReplay book stored
     → patch_since user book None ≡ Clear ∷ filter_map (put_of stored) (map (λ pair. pair.0) (visible user stored))
-patch_anew_told user book stored r =
+patch_anew_by_keys user book stored r =
     ap (λ (t : List Op). Clear ∷ t) (sym (puts_of stored (seen user (rows_of book)) (seen_stored user book stored r))
     ∙ ap (filter_map (put_of stored)) (ap (map row_key) (sym (sighted_rows user book stored r)) ∙ sym (pairs_keys (sighted user stored))))

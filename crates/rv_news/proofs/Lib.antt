@@ -3,5 +3,5 @@ pub mod Difference
 pub mod NewsLaws
 pub mod RecordLaws
 pub mod Searched
-pub mod Told
+pub mod Puts
 pub mod Versions

@@ -24,9 +24,9 @@ use Rattle.rv_news.specs.News.{IsBaseRecord, IsNews, ShowsSame, found_for}
 use Rattle.rv_history.specs.Machine.{IsUnchanged}
 use Rattle.rv_views.specs.declared.diff.Diff.{Diff}
 use Rattle.rv_views.specs.DifferenceLaws.{difference-same}
-use Rattle.rv_news.specs.Shows.{put_of, tells}
+use Rattle.rv_news.specs.Shows.{put_of, ops_of}
 use Rattle.rv_history.specs.Based.{base_look}
-use Rattle.rv_news.proofs.Difference.{patch_anew_told}
+use Rattle.rv_news.proofs.Difference.{patch_anew_by_keys}
 use Rattle.rv_news.proofs.RecordLaws.{record_difference, record_ids}
 use Rattle.rv_news.specs.KeptRecords.{record_found}
 
@@ -35,35 +35,35 @@ record_user : (book : Book) (place : ℕ) (viewed : Viewed) (user group : List �
 record_user book place viewed user group order r there = ap (λ (look : List ℕ × List ℕ × ℕ). look.0) (same_Some (r.user, r.group, r.order) (user, group, order) (sym r.looked ∙ there))
 
 -- the operations tell the patch
-ops_anew : (user : List ℕ) (book : Book) (stored : List Stored) (now : Viewed) → IsReplay book stored → now.rows ≡ visible user stored → tells stored (difference None now) ≡ patch_since user book None
+ops_anew : (user : List ℕ) (book : Book) (stored : List Stored) (now : Viewed) → IsReplay book stored → now.rows ≡ visible user stored → ops_of stored (difference None now) ≡ patch_since user book None
 ops_anew user book stored now replay rows =
-    ap (λ (keys : List (Key × ℕ)). Clear ∷ filter_map (put_of stored) (map (λ pair. pair.0) keys)) rows ∙ sym (patch_anew_told user book stored replay)
+    ap (λ (keys : List (Key × ℕ)). Clear ∷ filter_map (put_of stored) (map (λ pair. pair.0) keys)) rows ∙ sym (patch_anew_by_keys user book stored replay)
 
 ops_since : (user : List ℕ) (book : Book) (place : ℕ) (viewed now : Viewed) (stored : List Stored) (r : IsRecord book place viewed) → r.user ≡ user → IsReplay book stored → now.rows ≡ visible user stored
-    → tells stored (difference (Some viewed) now) ≡ patch_since user book (Some place)
+    → ops_of stored (difference (Some viewed) now) ≡ patch_since user book (Some place)
 ops_since user book place viewed now stored r mine replay rows =
     ap (λ (keys : List (Key × ℕ)). map (λ key. Del key) (lost_keys viewed.rows keys) ++ filter_map (put_of stored) (touched_keys viewed.rows keys)) rows
     ∙ sym (record_difference book place viewed user stored r mine replay)
 
-ops_told : (user : List ℕ) (request : PullRequest) (book : Book) (stored : List Stored) (base : Option ℕ) (found : Option Viewed) (now : Viewed) → IsReplay book stored → base_of user request.cookie book ≡ base → IsBaseRecord book base found → now.rows ≡ visible user stored
-    → tells stored (difference found now) ≡ patch_since user book base
-ops_told user request book stored None found now replay named none rows =
-    ap (λ (o : Option Viewed). tells stored (difference o now)) none ∙ ops_anew user book stored now replay rows
-ops_told user request book stored (Some place) found now replay named record_is rows =
+ops_shown : (user : List ℕ) (request : PullRequest) (book : Book) (stored : List Stored) (base : Option ℕ) (found : Option Viewed) (now : Viewed) → IsReplay book stored → base_of user request.cookie book ≡ base → IsBaseRecord book base found → now.rows ≡ visible user stored
+    → ops_of stored (difference found now) ≡ patch_since user book base
+ops_shown user request book stored None found now replay named none rows =
+    ap (λ (o : Option Viewed). ops_of stored (difference o now)) none ∙ ops_anew user book stored now replay rows
+ops_shown user request book stored (Some place) found now replay named record_is rows =
     let look = base_look user request.cookie book place named in
     let (viewed, is, r) = record_is look.2 in
-    ap (λ (o : Option Viewed). tells stored (difference o now)) is
+    ap (λ (o : Option Viewed). ops_of stored (difference o now)) is
     ∙ ops_since user book place viewed now stored r (record_user book place viewed user look.0 _ r look.1) replay rows
 
 -- the last mutation ids
 group_at : (book : Book) (place : ℕ) (viewed : Viewed) (r : IsRecord book place viewed) → base_group book place ≡ Some (place, r.group)
 group_at book place viewed r = ap (option_map (λ (look : List ℕ × List ℕ × ℕ). (place, look.1))) r.looked
 
-ids_told : (user : List ℕ) (request : PullRequest) (book : Book) (base : Option ℕ) (found : Option Viewed) (now : Viewed) → base_of user request.cookie book ≡ base → IsBaseRecord book base found → now.clients ≡ ids request.group book
+ids_shown : (user : List ℕ) (request : PullRequest) (book : Book) (base : Option ℕ) (found : Option Viewed) (now : Viewed) → base_of user request.cookie book ≡ base → IsBaseRecord book base found → now.clients ≡ ids request.group book
     → (difference found now).ids ≡ ids_since request.group book (option_and_then (base_group book) base)
-ids_told user request book None found now named none clients =
+ids_shown user request book None found now named none clients =
     ap (λ (o : Option Viewed). (difference o now).ids) none ∙ clients
-ids_told user request book (Some place) found now named record_is clients =
+ids_shown user request book (Some place) found now named record_is clients =
     let look = base_look user request.cookie book place named in
     let (viewed, is, r) = record_is look.2 in
     ap (λ (o : Option Viewed). (difference o now).ids) is
@@ -74,22 +74,22 @@ ids_told user request book (Some place) found now named record_is clients =
 -- so this is what the pull is told
 is_news : (user : List ℕ) (request : PullRequest) (book : Book) (stored : List Stored) (base : Option ℕ) (found : Option Viewed) (now : Viewed) (news : News) → IsReplay book stored → base ≡ base_of user request.cookie book → IsBaseRecord book base found
     → now.rows ≡ visible user stored → now.clients ≡ ids request.group book
-    → news.base ≡ base → news.view ≡ now → news.ops ≡ tells stored (difference found now) → news.ids ≡ (difference found now).ids → InOrder (λ pair. pair.0) news.ids
+    → news.base ≡ base → news.view ≡ now → news.ops ≡ ops_of stored (difference found now) → news.ids ≡ (difference found now).ids → InOrder (λ pair. pair.0) news.ids
     → IsNews book user request news
 is_news user request book stored base found now news replay named record_is rows clients base_is view_is ops_are ids_are order = record {
   base = base_is ∙ named;
   view = record { stored = stored; replay = replay; rows = ap (λ (v : Viewed). v.rows) view_is ∙ rows; clients = ap (λ (v : Viewed). v.clients) view_is ∙ clients };
-  ops = ops_are ∙ ops_told user request book stored base found now replay (sym named) record_is rows ∙ ap (patch_since user book) named;
-  ids = ids_are ∙ ids_told user request book base found now (sym named) record_is clients ∙ ap (λ (o : Option ℕ). ids_since request.group book (option_and_then (base_group book) o)) named;
+  ops = ops_are ∙ ops_shown user request book stored base found now replay (sym named) record_is rows ∙ ap (patch_since user book) named;
+  ids = ids_are ∙ ids_shown user request book base found now (sym named) record_is clients ∙ ap (λ (o : Option ℕ). ids_since request.group book (option_and_then (base_group book) o)) named;
   order = order;
 }
 
-pub news_told : (user : List ℕ) (request : PullRequest) (book : Book) (stored : List Stored) (base : Option ℕ) (found : Option Viewed) (now : Viewed) (result : Result News Memory) → IsReplay book stored → base ≡ base_of user request.cookie book → IsBaseRecord book base found
+pub news_shown : (user : List ℕ) (request : PullRequest) (book : Book) (stored : List Stored) (base : Option ℕ) (found : Option Viewed) (now : Viewed) (result : Result News Memory) → IsReplay book stored → base ≡ base_of user request.cookie book → IsBaseRecord book base found
     → now.rows ≡ visible user stored → now.clients ≡ ids request.group book
-    → IfOk result (λ news. news.base ≡ base) → IfOk result (λ news. news.view ≡ now) → IfOk result (λ news. news.ops ≡ tells stored (difference found now)) → IfOk result (λ news. news.ids ≡ (difference found now).ids) → IfOk result (λ news. InOrder (λ pair. pair.0) news.ids)
+    → IfOk result (λ news. news.base ≡ base) → IfOk result (λ news. news.view ≡ now) → IfOk result (λ news. news.ops ≡ ops_of stored (difference found now)) → IfOk result (λ news. news.ids ≡ (difference found now).ids) → IfOk result (λ news. InOrder (λ pair. pair.0) news.ids)
     → IfOk result (λ news. IsNews book user request news)
-news_told user request book stored base found now (Ok news) replay named record_is rows clients base_is view_is ops_are ids_are order = is_news user request book stored base found now news replay named record_is rows clients base_is view_is ops_are ids_are order
-news_told user request book stored base found now (Err refused) replay named record_is rows clients base_is view_is ops_are ids_are order = tt
+news_shown user request book stored base found now (Ok news) replay named record_is rows clients base_is view_is ops_are ids_are order = is_news user request book stored base found now news replay named record_is rows clients base_is view_is ops_are ids_are order
+news_shown user request book stored base found now (Err refused) replay named record_is rows clients base_is view_is ops_are ids_are order = tt
 
 -- the record of a base is the one at its place
 pub base_found : (book : Book) (records : List Placed) (base : Option ℕ) (found : Option Viewed) → AreRecords book records → found ≡ option_and_then (λ place. record_at place records) base → IsBaseRecord book base found
@@ -97,7 +97,7 @@ base_found book records None found are is = is
 base_found book records (Some place) found are is = λ stays. let (viewed, at, r) = record_found book records place are stays in (viewed, is ∙ at, r)
 
 -- where the record shows what is seen now, the patch is empty
-same_ops : (stored : List Stored) (viewed now : Viewed) → viewed.rows ≡ now.rows → tells stored (difference (Some viewed) now) ≡ []
+same_ops : (stored : List Stored) (viewed now : Viewed) → viewed.rows ≡ now.rows → ops_of stored (difference (Some viewed) now) ≡ []
 same_ops stored viewed now rows =
     ap (λ (keys : List (Key × ℕ)). map (λ key. Del key) (lost_keys viewed.rows keys) ++ filter_map (put_of stored) (touched_keys viewed.rows keys)) (sym rows)
     ∙ ap (λ (diff : Diff). map (λ key. Del key) diff.dels ++ filter_map (put_of stored) diff.puts) (difference-same viewed)
@@ -115,12 +115,12 @@ same_unchanged user request book stored records replay are same =
     go base named None record_is shows = absurd shows
     go base named (Some viewed) record_is shows =
         let base_is : Option ℕ = base_of user request.cookie book in (
-          sym (ops_told user request book stored base_is (Some viewed) now replay refl record_is refl) ∙ same_ops stored viewed now shows.0,
-          sym (ids_told user request book base_is (Some viewed) now refl record_is refl) ∙ shows.1,
+          sym (ops_shown user request book stored base_is (Some viewed) now replay refl record_is refl) ∙ same_ops stored viewed now shows.0,
+          sym (ids_shown user request book base_is (Some viewed) now refl record_is refl) ∙ shows.1,
         )
 
-pub told_unchanged : (user : List ℕ) (request : PullRequest) (book : Book) (stored : List Stored) (records : List Placed) (viewed : Viewed) (result : Result Bool Memory) → IsReplay book stored → AreRecords book records → found_for user request book records ≡ Some viewed
+pub shown_unchanged : (user : List ℕ) (request : PullRequest) (book : Book) (stored : List Stored) (records : List Placed) (viewed : Viewed) (result : Result Bool Memory) → IsReplay book stored → AreRecords book records → found_for user request book records ≡ Some viewed
     → IfOk result (λ same. IsTrue same ↔ ShowsSame (Some viewed) (visible user stored) (ids request.group book)) → IfOk result (λ same. IsTrue same → IsUnchanged user request book)
-told_unchanged user request book stored records viewed (Ok same) replay are is told = λ yes.
+shown_unchanged user request book stored records viewed (Ok same) replay are is told = λ yes.
     same_unchanged user request book stored records replay are (subst (λ (o : Option Viewed). ShowsSame o (visible user stored) (ids request.group book)) (sym is) (told.0 yes))
-told_unchanged user request book stored records viewed (Err refused) replay are is told = tt
+shown_unchanged user request book stored records viewed (Err refused) replay are is told = tt

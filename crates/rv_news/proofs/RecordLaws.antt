@@ -12,15 +12,15 @@ use Rattle.rv_history.specs.Replay.{IsReplay}
 use Rattle.rv_history.specs.History.{patch_since, ids_since, is_among}
 use Rattle.rv_news.specs.Records.{IsRecord}
 use Rattle.rv_news.specs.Shows.{put_of}
-use Rattle.rv_news.proofs.Difference.{gone_keys, news_keys, patch_told}
+use Rattle.rv_news.proofs.Difference.{gone_keys, news_keys, patch_by_keys}
 
 -- a record and the stored rows tell the patch since its look
-pub record_tells : (book : Book) (place : ℕ) (viewed : Viewed) (user : List ℕ) (stored : List Stored) (r : IsRecord book place viewed) → r.user ≡ user → IsReplay book stored
+pub record_shows : (book : Book) (place : ℕ) (viewed : Viewed) (user : List ℕ) (stored : List Stored) (r : IsRecord book place viewed) → r.user ≡ user → IsReplay book stored
     → patch_since user book (Some place) ≡ map (λ key. Del key) (gone_keys viewed.rows (visible user stored)) ++ filter_map (put_of stored) (news_keys viewed.rows (visible user stored))
-record_tells book place viewed user stored r mine replay =
+record_shows book place viewed user stored r mine replay =
     let earlier : List Stored = r.shown.stored in
     let rows : viewed.rows ≡ visible user earlier = r.shown.rows ∙ ap (λ (u : List ℕ). visible u earlier) mine in
-    patch_told user book place stored earlier replay r.shown.replay
+    patch_by_keys user book place stored earlier replay r.shown.replay
     ∙ ap (λ (base : List (Key × ℕ)). map (λ key. Del key) (gone_keys base (visible user stored)) ++ filter_map (put_of stored) (news_keys base (visible user stored))) (sym rows)
 
 -- the keys that have gone, those that are news and the ids that have changed are those of the difference of two views
@@ -41,7 +41,7 @@ pub record_difference : (book : Book) (place : ℕ) (viewed : Viewed) (user : Li
     → patch_since user book (Some place) ≡ map (λ key. Del key) (lost_keys viewed.rows (visible user stored)) ++ filter_map (put_of stored) (touched_keys viewed.rows (visible user stored))
 record_difference book place viewed user stored r mine replay =
     let now : List (Key × ℕ) = visible user stored in
-    record_tells book place viewed user stored r mine replay
+    record_shows book place viewed user stored r mine replay
     ∙ (λ i. map (λ key. Del key) (sym (gone_is viewed.rows now) i) ++ filter_map (put_of stored) (sym (news_is viewed.rows now) i))
 
 -- and the last mutation ids

@@ -19,16 +19,16 @@ use Rattle.rv_history.specs.ReplayLaws.{At, rows_of-with_entry, wrote_more, wrot
 use Rattle.rv_history.specs.PatchLaws.{first_false, second_false}
 
 -- the row is there afterwards, and was not, or was another, before
-abbrev changed : Option Row → Option Row → Bool
-changed was is = option_map_or (λ (r : Row). option_map_or (λ (w : Row). not (same_row w r)) was true) is false
+abbrev row_changed : Option Row → Option Row → Bool
+row_changed was is = option_map_or (λ (r : Row). option_map_or (λ (w : Row). not (same_row w r)) was true) is false
 
-changed_differs : (was is : Option Row) → changed was is ≡ true → IsSome is × (is ≡ was → ⊥)
+changed_differs : (was is : Option Row) → row_changed was is ≡ true → IsSome is × (is ≡ was → ⊥)
 changed_differs was None e = absurd (cc)
 changed_differs None (Some row) e = (refl, λ same. absurd (cc))
 changed_differs (Some w) (Some row) e =
     (refl, λ same. (let u : same_row w row ≡ true = (same_row-Decides w row).1 (sym (same_Some row w same)) in let clash : false ≡ true = subst (λ (b : Bool). not b ≡ true) u e in absurd (cc)))
 
-differs_changed : (was is : Option Row) → IsSome is → (is ≡ was → ⊥) → changed was is ≡ true
+differs_changed : (was is : Option Row) → IsSome is → (is ≡ was → ⊥) → row_changed was is ≡ true
 differs_changed was None stands differs = absurd (cc)
 differs_changed None (Some row) stands differs = refl
 differs_changed (Some w) (Some row) stands differs =
@@ -136,8 +136,8 @@ apart v w lt = grind (arith, nat_tests)
 alike : (v w : ℕ) → v ≡ w → false ≡ not (v == w)
 alike v w same = grind (arith, nat_tests)
 
-pub touched_tells : (front : Book) (since : List Entry) (k : List ℕ) (v w : ℕ) → IsLastWrite front k v → IsLastWrite (with_entries front since) k w → is_touched k (rows_of front) since ≡ not (v == w)
-touched_tells front since k v w a b =
+pub touched_differs : (front : Book) (since : List Entry) (k : List ℕ) (v w : ℕ) → IsLastWrite front k v → IsLastWrite (with_entries front since) k w → is_touched k (rows_of front) since ≡ not (v == w)
+touched_differs front since k v w a b =
     elim (is_touched k (rows_of front) since) as (λ t. is_touched k (rows_of front) since ≡ t → t ≡ not (v == w)) [
       | true ↦ λ h. apart v w (last_rises front since k v w h a b)
       | false ↦ λ h. alike v w (last_once (with_entries front since) k v w (last_stays front since k v h a) b)
@@ -150,8 +150,8 @@ stored_write book stored k s r is =
     subst (λ (q : List ℕ). IsLastWrite book q s.1) (sym w.1) w.0
 
 -- two rows of one key, stored at a book and at a place of it, have one version exactly where the key was not touched since
-pub versions_tell : (book : Book) (place : ℕ) (stored earlier : List Stored) (k : List ℕ) (now was : Stored) → IsReplay book stored → IsReplay (up_to place book) earlier → find k stored ≡ Some now → find k earlier ≡ Some was
+pub versions_match : (book : Book) (place : ℕ) (stored earlier : List Stored) (k : List ℕ) (now was : Stored) → IsReplay book stored → IsReplay (up_to place book) earlier → find k stored ≡ Some now → find k earlier ≡ Some was
     → is_touched k (rows_of (up_to place book)) (since place book) ≡ not (was.1 == now.1)
-versions_tell book place stored earlier k now was r q is stood =
-    touched_tells (up_to place book) (since place book) k was.1 now.1 (stored_write (up_to place book) earlier k was q stood)
+versions_match book place stored earlier k now was r q is stood =
+    touched_differs (up_to place book) (since place book) k was.1 now.1 (stored_write (up_to place book) earlier k was q stood)
     (subst (λ (b : Book). IsLastWrite b k now.1) (sym (up_to-since place book)) (stored_write book stored k now r is))

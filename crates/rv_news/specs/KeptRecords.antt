@@ -124,8 +124,8 @@ kept_more book e place stays = go (eq-or-lt_of_le (omega (arith, kept_within pla
 
 -- After one more entry with its records, which stand at its place, those records stay whose looks are kept.
 module _ (book : Book) (e : Entry) (records : List Placed) (are : AreRecords book records) where
-  abbrev Stays : Placed → Type 0
-  Stays r = kept r.0 (with_entry book e) ≡ true → IsRecord (with_entry book e) r.0 r.1
+  abbrev RecordStays : Placed → Type 0
+  RecordStays r = kept r.0 (with_entry book e) ≡ true → IsRecord (with_entry book e) r.0 r.1
 
   abbrev still : Placed → Bool
   still r = kept r.0 (with_entry book e)
@@ -133,13 +133,13 @@ module _ (book : Book) (e : Entry) (records : List Placed) (are : AreRecords boo
   within : (r : Placed) → IsRecord book r.0 r.1 → r.0 ≤ size book
   within r is = (look_at-within r.0 book (is.user, is.group, is.order) is.looked).1
 
-  records_next : (added : List Placed) → Rise added → All (λ r. size book < r.0) added → All Stays added
+  records_next : (added : List Placed) → Rise added → All (λ r. size book < r.0) added → All RecordStays added
       → (kept (size book + 1) (with_entry book e) ≡ true → IsSome (record_at (size book + 1) added))
       → AreRecords (with_entry book e) (filter still (records ++ added))
   records_next added rise above new own = record {
     rise = rise_filter still (records ++ added) (rise_append (size book) records added are.rise (all_weaker (λ r. IsRecord book r.0 r.1) (λ r. r.0 ≤ size book) within records are.each) rise above);
     each = all_filter (λ r. IsRecord (with_entry book e) r.0 r.1) still (records ++ added)
-        (all_append Stays records added (all_weaker (λ r. IsRecord book r.0 r.1) Stays (λ r is stays. record_more book e r.0 r.1 stays is) records are.each) new);
+        (all_append RecordStays records added (all_weaker (λ r. IsRecord book r.0 r.1) RecordStays (λ r is stays. record_more book e r.0 r.1 stays is) records are.each) new);
     all = λ place stays. found_filter place still (records ++ added) (λ r is. ap (λ (p : ℕ). kept p (with_entry book e)) is ∙ stays) (go place stays (kept_more book e place stays));
   }
     where

@@ -49,7 +49,7 @@ pub record AreRecords (book : Book) (records : List Placed) : Type 0 where
   pub each : AllByRecursion (λ r. IsRecord book r.0 r.1) records
   pub all : (place : ℕ) → kept place book ≡ true → IsSome (record_at place records)
 
--- records, and the room that there is beside them, as contracts see them
+-- records, and the space that there is beside them, as contracts see them
 pub record Collected : Type 0 where
   pub records : List Placed
   pub spare : ℕ

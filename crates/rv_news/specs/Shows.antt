@@ -17,5 +17,5 @@ abbrev pub clears : Bool → List Op
 clears clear = if clear then Clear ∷ [] else []
 
 -- everything goes, where it does; then each key that is gone, and then the row of each key that is put
-abbrev pub tells : List Stored → Diff → List Op
-tells stored diff = clears diff.clear ++ (map (λ key. Del key) diff.dels ++ filter_map (put_of stored) diff.puts)
+abbrev pub ops_of : List Stored → Diff → List Op
+ops_of stored diff = clears diff.clear ++ (map (λ key. Del key) diff.dels ++ filter_map (put_of stored) diff.puts)

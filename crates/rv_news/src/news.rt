@@ -6,7 +6,7 @@ ghost use Rattle.rv_turns.specs.declared.op.Op.TheVariants.{Del};
 ghost use Rattle.rv_sharing.specs.Visible.{visible};
 ghost use Rattle.rv_book.specs.Book.{ids};
 ghost use Rattle.rv_views.specs.Difference.{difference};
-ghost use Rattle.rv_news.specs.Shows.{put_of, clears, tells};
+ghost use Rattle.rv_news.specs.Shows.{put_of, clears, ops_of};
 
 use rv_base::{Id, Memory, Sequence, User};
 use rv_book::Book;
@@ -59,7 +59,7 @@ pub fn news_since(
 ) -> Result<News, Memory>
     ensures base { IfOk result (λ news. news.base ≡ base) }
     ensures view { IfOk result (λ news. news.view ≡ view) }
-    ensures ops { IfOk result (λ news. news.ops ≡ tells tables.now.rows (difference (option_map (λ r. r.now) found.entry) view)) }
+    ensures ops { IfOk result (λ news. news.ops ≡ ops_of tables.now.rows (difference (option_map (λ r. r.now) found.entry) view)) }
     ensures ids { IfOk result (λ news. news.ids ≡ (difference (option_map (λ r. r.now) found.entry) view).ids) }
     ensures order { IfOk result (λ news. InOrder (λ pair. pair.0) news.ids) }
 {
@@ -79,7 +79,7 @@ fn news_of(
 ) -> Result<News, Memory>
     ensures base { IfOk result (λ news. news.base ≡ base) }
     ensures view { IfOk result (λ news. news.view ≡ view) }
-    ensures ops { IfOk result (λ news. news.ops ≡ tells tables.now.rows (difference (Some found.now) view)) }
+    ensures ops { IfOk result (λ news. news.ops ≡ ops_of tables.now.rows (difference (Some found.now) view)) }
     ensures ids { IfOk result (λ news. news.ids ≡ (difference (Some found.now) view).ids) }
     ensures order { IfOk result (λ news. InOrder (λ pair. pair.0) news.ids) }
 {
@@ -107,7 +107,7 @@ fn news_anew(
 ) -> Result<News, Memory>
     ensures base { IfOk result (λ news. news.base ≡ base) }
     ensures view { IfOk result (λ news. news.view ≡ view) }
-    ensures ops { IfOk result (λ news. news.ops ≡ tells tables.now.rows (difference None view)) }
+    ensures ops { IfOk result (λ news. news.ops ≡ ops_of tables.now.rows (difference None view)) }
     ensures ids { IfOk result (λ news. news.ids ≡ (difference None view).ids) }
     ensures order { IfOk result (λ news. InOrder (λ pair. pair.0) news.ids) }
 {

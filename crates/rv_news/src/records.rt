@@ -12,7 +12,7 @@ use std::marker::Model;
 
 /// View records, each with the place of its look, in the order of the places.
 ///
-/// A contract sees them as a list, and a lower bound of the room that is left, `spare`.
+/// A contract sees them as a list, and a lower bound of the space that is left, `spare`.
 #[derive(Debug, Drop)]
 pub struct Records {
     records: Vec<(u32, ViewRecord)>,
@@ -63,7 +63,7 @@ impl Records {
         &self.records
     }
 
-    /// Makes room for one more record.
+    /// Makes space for one more record.
     pub fn reserve(&mut self) -> Result<(), Memory>
         ensures records { self.new.records ≡ self.old.records }
         ensures ok { OnOk result (1 ≤ self.new.spare) }

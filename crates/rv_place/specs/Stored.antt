@@ -5,7 +5,7 @@ use Rattle.sqlite.specs.State.{HasCleanDisk}
 use Rattle.sqlite.specs.Held.{Held, state}
 use Rattle.rv_keeper.specs.declared.loaded.Loaded.{Loaded}
 use Rattle.rv_keeper.specs.Keeping.{holding}
-use Rattle.rv_keeper.specs.Schedules.{FailsNoMore}
+use Rattle.rv_keeper.specs.Schedules.{KeeperFailsNoMore}
 use Rattle.rv_place.specs.declared.store_keeper.StoreKeeper.{StoreKeeper}
 use Rattle.rv_place.specs.declared.store_keeper.StoreKeeper.TheVariants.{Memory, Sqlite}
 use Rattle.rv_sqlite.specs.Asked.{FindsGeneration}
@@ -29,7 +29,7 @@ module _ {S : Type 0} where
 
   -- no call of one in memory fails any more
   abbrev pub StoredSteady : StoreKeeper S → Type 0
-  StoredSteady (Memory keeper) = FailsNoMore keeper.loads keeper.questions keeper.commits keeper.schedule.items
+  StoredSteady (Memory keeper) = KeeperFailsNoMore keeper.loads keeper.questions keeper.commits keeper.schedule.items
   StoredSteady (Sqlite keeper) = ⊥
 
   -- the connection, where there is one

@@ -1,7 +1,7 @@
 ghost use Rattle.std.specs.Prelude.{◌≡◌, ◌<◌, ◌-◌, ◌^◌, IfOk, IsOk, None, Some};
 ghost use Rattle.rv_keeper.specs.declared.loaded.Loaded.{Loaded};
 ghost use Rattle.rv_keeper.specs.Cells.{AreCells};
-ghost use Rattle.rv_keeper.specs.Keeping.{HasGenerationCause, HasKeepCause, KeepsSteady, Tells};
+ghost use Rattle.rv_keeper.specs.Keeping.{HasGenerationCause, HasKeepCause, KeepsSteady, LoadsHeld};
 ghost use Rattle.rv_place.specs.Stored.{StoredFinds, StoredHolds, StoredLoads, StoredSteady, StoredTells, stored_connection, stored_faults};
 ghost use Rattle.rv_place.specs.StoredLaws.{stored_one, stored_tells};
 
@@ -59,7 +59,7 @@ impl<S: Alter> Keeper for StoreKeeper<S> {
         ensures order { IfOk result (λ loaded. AreCells loaded.cells) }
         ensures tells { StoredTells self.new → StoredTells self.old }
         ensures same { StoredTells self.new → (held : Loaded) → StoredHolds self.old held → StoredHolds self.new held }
-        ensures told { StoredTells self.new → IfOk result (λ loaded. Tells loaded (StoredHolds self.old) (StoredHolds self.new)) }
+        ensures told { StoredTells self.new → IfOk result (λ loaded. LoadsHeld loaded (StoredHolds self.old) (StoredHolds self.new)) }
         ensures cause { HasKeepCause (stored_faults self.old) (stored_faults self.new) result }
         ensures steady { StoredSteady self.old → KeepsSteady (StoredSteady self.new) result }
         ensures found { IfOk result (StoredLoads S.Store self.old self.new) }

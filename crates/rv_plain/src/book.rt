@@ -1,6 +1,6 @@
 ghost use Rattle.std.specs.Prelude.{◌≡◌, ◌≤◌, ◌<◌, ◌^◌, length, IfOk, OnOk, option_map};
 ghost use Rattle.std.specs.Option.{option_map_or};
-ghost use Rattle.rv_base.specs.Sorted.{InOrder, put_by, Settles};
+ghost use Rattle.rv_base.specs.Sorted.{InOrder, put_by, IsPositionOf};
 ghost use Rattle.rv_book.specs.Entries.{is_act_of, order_after, retires};
 ghost use Rattle.rv_book.specs.Book.{belongs, book_of, bound, client_in, group_of, ids, last, last_order, retired};
 ghost use Rattle.rv_history.specs.Replay.{rows_after, rows_of};
@@ -150,7 +150,7 @@ fn client_in<'b>(book: &'b [Entry], group: &Id, entry: &'b Entry) -> Option<(&'b
 // Where a client stands, or where it would go.
 fn place(clients: &[(Id, Num)], client: &Id) -> Result<usize, usize>
     requires { InOrder (λ pair. pair.0) clients.now }
-    ensures { Settles (λ pair. pair.0) client.now clients.now result }
+    ensures { IsPositionOf (λ pair. pair.0) client.now clients.now result }
 {
     clients.binary_search_by(|pair| pair.0.cmp(client))
 }

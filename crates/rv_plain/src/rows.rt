@@ -1,6 +1,6 @@
 //! Lists of rows: their order, who sees which of them, and what a call makes of them. Nothing here is a sorted table.
 ghost use Rattle.std.specs.Prelude.{◌≡◌, IfOk, OnOk, map};
-ghost use Rattle.rv_base.specs.Sorted.{InOrder, put_by, Settles};
+ghost use Rattle.rv_base.specs.Sorted.{InOrder, put_by, IsPositionOf};
 ghost use Rattle.rv_rows.specs.Keys.{key_text, row_text, has_row, in_key_order};
 ghost use Rattle.rv_rows.specs.Sharing.{is_list, owns, shares, sees, seen};
 ghost use Rattle.rv_rows.specs.Effects.{is_at, is_other, is_outside, may_change, is_unchanged, may_end, ends, sort_in, greatest_sort, next_sort, with_fields, after_update, effect};
@@ -324,7 +324,7 @@ pub(crate) fn effect(
 // Where the row of a key stands, or where it would go.
 fn place(rows: &[Row], row: &Row) -> Result<usize, usize>
     requires { InOrder row_text rows.now }
-    ensures { Settles row_text (row_text row.now) rows.now result }
+    ensures { IsPositionOf row_text (row_text row.now) rows.now result }
 {
     rows.binary_search_by(|other| other.compare_key(row.kind(), row.id()))
 }

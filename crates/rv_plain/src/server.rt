@@ -47,13 +47,13 @@ fn full(limit: u32) -> Refusal
 
 // What a pull is told, with the place of its base.
 #[derive(Drop)]
-struct Told {
+struct PullNews {
     base: Option<u32>,
     ops: Ops,
     ids: Clients,
 }
 
-impl Told {
+impl PullNews {
     // Whether there is nothing to tell.
     fn is_empty(&self) -> bool
         ensures { IsTrue result ↔ ((self.now.ops ≡ []) × (self.now.ids ≡ [])) }
@@ -63,22 +63,22 @@ impl Told {
 }
 
 // What a pull is told at a book.
-fn told_at(
+fn news_at(
     alloc: Global,
     book: &[Entry],
     user: &User,
     request: &PullRequest,
-) -> Result<Told, Memory>
+) -> Result<PullNews, Memory>
     requires { length book.now < 2 ^ 32 }
-    ensures base { IfOk result (λ told. told.base ≡ base_of user.now request.now.cookie (book_of book.now)) }
-    ensures ops { IfOk result (λ told. told.ops ≡ patch_for user.now request.now (book_of book.now)) }
-    ensures ids { IfOk result (λ told. told.ids ≡ ids_for user.now request.now (book_of book.now)) }
-    ensures order { IfOk result (λ told. InOrder (λ pair. pair.0) told.ids) }
+    ensures base { IfOk result (λ news. news.base ≡ base_of user.now request.now.cookie (book_of book.now)) }
+    ensures ops { IfOk result (λ news. news.ops ≡ patch_for user.now request.now (book_of book.now)) }
+    ensures ids { IfOk result (λ news. news.ids ≡ ids_for user.now request.now (book_of book.now)) }
+    ensures order { IfOk result (λ news. InOrder (λ pair. pair.0) news.ids) }
 {
     let base = base_of(book, user, &request.cookie);
     let ops = patch_since(alloc, book, user, base)?;
     let ids = ids_since(alloc, book, &request.group, base)?;
-    Ok(Told { base, ops, ids })
+    Ok(PullNews { base, ops, ids })
 }
 
 /// A server that has nothing but its book, and replays it at each pull.
@@ -229,8 +229,8 @@ impl PlainDesk {
         ensures err { OnErr result (self.new.book ≡ self.old.book) }
         ensures limit { self.new.limit ≡ self.old.limit }
     {
-        let told = told_at(self.alloc, &self.entries, user, request)?;
-        if told.is_empty() {
+        let news = news_at(self.alloc, &self.entries, user, request)?;
+        if news.is_empty() {
             return Ok(Outcome::Pulled(same_reply(self.alloc, request)?));
         }
         let order = next_order(&request.cookie, last_order(&self.entries, &request.group));
@@ -240,7 +240,7 @@ impl PlainDesk {
         if self.entries.len() >= self.limit as usize {
             return Ok(Outcome::Refused(full(self.limit)));
         }
-        let reply = self.look(user, request, Num::from_u64(order), told)?;
+        let reply = self.look(user, request, Num::from_u64(order), news)?;
         Ok(Outcome::Pulled(reply))
     }
 
@@ -250,20 +250,20 @@ impl PlainDesk {
         user: &User,
         request: &PullRequest,
         order: Num,
-        told: Told,
+        news: PullNews,
     ) -> Result<PullReply, Memory>
-        requires room { size self.old.book < self.old.limit }
+        requires within_limit { size self.old.book < self.old.limit }
         requires order { order ≡ next_order request.now self.old.book }
-        requires base { told.base ≡ base_of user.now request.now.cookie self.old.book }
-        requires ops { told.ops ≡ patch_for user.now request.now self.old.book }
-        requires ids { told.ids ≡ ids_for user.now request.now self.old.book }
-        requires ids_order { InOrder (λ pair. pair.0) told.ids }
+        requires base { news.base ≡ base_of user.now request.now.cookie self.old.book }
+        requires ops { news.ops ≡ patch_for user.now request.now self.old.book }
+        requires ids { news.ids ≡ ids_for user.now request.now self.old.book }
+        requires ids_order { InOrder (λ pair. pair.0) news.ids }
         ensures reply { IfOk result (λ reply. reply ≡ reply_to pull_json user.now request.now self.old.book) }
         ensures ok { OnOk result (self.new.book ≡ with_entry self.old.book (Look user.now request.now.group order (base_of user.now request.now.cookie self.old.book))) }
         ensures err { OnErr result (self.new.book ≡ self.old.book) }
         ensures limit { self.new.limit ≡ self.old.limit }
     {
-        let Told { base, ops, ids } = told;
+        let PullNews { base, ops, ids } = news;
         let place = self.entries.len() as u32 + 1;
         let reply = look_reply(self.alloc, place, order, ids, ops)?;
         let entry = entries::look(self.alloc, user, &request.group, order, base)?;

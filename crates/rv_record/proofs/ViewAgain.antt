@@ -11,7 +11,7 @@ use Rattle.json.proofs.Printed.Utf8.{IsUtf8-are_ascii}
 use Rattle.serde_json.specs.Data.{Data}
 use Rattle.serde_json.specs.View.{items_of}
 use Rattle.serde_json.specs.Written.{compact_text}
-use Rattle.rv_base.specs.Places.{Below, above_chain}
+use Rattle.rv_base.specs.Positions.{Below, above_chain}
 use Rattle.rv_base.specs.Sorted.{InOrder}
 use Rattle.rv_keeper.specs.declared.cell.Cell.{Cell}
 use Rattle.rv_rows.specs.Keys.{prefix}

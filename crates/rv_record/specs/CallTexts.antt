@@ -12,8 +12,8 @@ use Rattle.rv_rows.specs.declared.call.Reason.{Reason}
 use Rattle.rv_rows.specs.declared.call.Reason.TheVariants.{UnknownName, BadArgs}
 
 -- a list of values
-abbrev pub listed : List Data → Data
-listed values = array (items_of values)
+abbrev pub array_of : List Data → Data
+array_of values = array (items_of values)
 
 -- a text, a flag or a number that may be absent; null where it is
 abbrev pub text_or_null : Option (List ℕ) → Data
@@ -31,11 +31,11 @@ reason_text UnknownName = codes "UnknownName"
 reason_text BadArgs = codes "BadArgs"
 
 abbrev pub call_data : Call → Data
-call_data (CreateList id name owner) = listed (string (codes "createList") ∷ string id ∷ string name ∷ string owner ∷ [])
-call_data (DeleteList id) = listed (string (codes "deleteList") ∷ string id ∷ [])
-call_data (CreateShare id list user) = listed (string (codes "createShare") ∷ string id ∷ string list ∷ string user ∷ [])
-call_data (DeleteShare id) = listed (string (codes "deleteShare") ∷ string id ∷ [])
-call_data (CreateTodo id list text complete) = listed (string (codes "createTodo") ∷ string id ∷ string list ∷ string text ∷ boolean complete ∷ [])
-call_data (UpdateTodo id text complete sort) = listed (string (codes "updateTodo") ∷ string id ∷ text_or_null text ∷ flag_or_null complete ∷ number_or_null sort ∷ [])
-call_data (DeleteTodo id) = listed (string (codes "deleteTodo") ∷ string id ∷ [])
-call_data (Void reason) = listed (string (codes "void") ∷ string (reason_text reason) ∷ [])
+call_data (CreateList id name owner) = array_of (string (codes "createList") ∷ string id ∷ string name ∷ string owner ∷ [])
+call_data (DeleteList id) = array_of (string (codes "deleteList") ∷ string id ∷ [])
+call_data (CreateShare id list user) = array_of (string (codes "createShare") ∷ string id ∷ string list ∷ string user ∷ [])
+call_data (DeleteShare id) = array_of (string (codes "deleteShare") ∷ string id ∷ [])
+call_data (CreateTodo id list text complete) = array_of (string (codes "createTodo") ∷ string id ∷ string list ∷ string text ∷ boolean complete ∷ [])
+call_data (UpdateTodo id text complete sort) = array_of (string (codes "updateTodo") ∷ string id ∷ text_or_null text ∷ flag_or_null complete ∷ number_or_null sort ∷ [])
+call_data (DeleteTodo id) = array_of (string (codes "deleteTodo") ∷ string id ∷ [])
+call_data (Void reason) = array_of (string (codes "void") ∷ string (reason_text reason) ∷ [])

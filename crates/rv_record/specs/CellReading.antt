@@ -6,9 +6,9 @@ use Rattle.rv_base.specs.Options.{◌>>=◌}
 use Rattle.rv_base.specs.Texts.{IsWithin}
 use Rattle.rv_keeper.specs.declared.cell.Cell.{Cell}
 use Rattle.rv_record.specs.declared.fault.CellFault.{CellFault}
-use Rattle.rv_record.specs.declared.fault.CellFault.TheVariants.{Damaged, Memory}
+use Rattle.rv_record.specs.declared.fault.CellFault.TheVariants.{BadCell, Memory}
 use Rattle.rv_record.specs.declared.fault.Damage.{Damage}
-use Rattle.rv_record.specs.ValueReading.{json_in, text_of, text_item, num_item, flag_item}
+use Rattle.rv_record.specs.ValueReading.{json_in, utf8_text_in, text_item, num_item, flag_item}
 
 -- the damage at the cell's own place
 abbrev pub damage_at : Cell → Damage
@@ -16,7 +16,7 @@ damage_at cell = record { shelf = cell.shelf; key = cell.key }
 
 -- the fault names the cell's own place, or says that memory was refused
 abbrev pub Blames : Cell → CellFault → Type 0
-Blames cell (Damaged damage) = damage ≡ damage_at cell
+Blames cell (BadCell damage) = damage ≡ damage_at cell
 Blames cell Memory = Unit {0}
 
 module _ {A : Type 0} (cell_of : A → Cell) (Fits : A → Type 0) where
@@ -26,10 +26,10 @@ module _ {A : Type 0} (cell_of : A → Cell) (Fits : A → Type 0) where
 
   -- What reading a cell answers: what it is the cell of; or its place, where it is that of nothing; or that memory was
   -- refused, which may come at any cell.
-  abbrev pub Reads : Cell → Result A CellFault → Type 0
-  Reads cell (Ok made) = cell ≡ cell_of made
-  Reads cell (Err (Damaged damage)) = (damage ≡ damage_at cell) × IsOfNone cell
-  Reads cell (Err Memory) = Unit {0}
+  abbrev pub ReadsCell : Cell → Result A CellFault → Type 0
+  ReadsCell cell (Ok made) = cell ≡ cell_of made
+  ReadsCell cell (Err (BadCell damage)) = (damage ≡ damage_at cell) × IsOfNone cell
+  ReadsCell cell (Err Memory) = Unit {0}
 
 -- the cells have the same shelf, key and body
 abbrev pub same_cell : Cell → Cell → Bool
@@ -47,17 +47,17 @@ ClientFits c = IsText 1 128 c.0 × IsText 1 128 c.1 × (c.2 < 2 ^ 53)
 abbrev pub GroupFits : List ℕ × List ℕ × ℕ × Bool → Type 0
 GroupFits g = IsText 1 128 g.0 × IsText 1 64 g.1 × (g.2 < 2 ^ 53)
 
-unfoldable pub client_in : Cell → Option (List ℕ × List ℕ × ℕ)
-client_in cell = do
-  client ← text_of 1 128 cell.key
+unfoldable pub client_in_cell : Cell → Option (List ℕ × List ℕ × ℕ)
+client_in_cell cell = do
+  client ← utf8_text_in 1 128 cell.key
   body ← json_in cell.body
   group ← text_item 1 128 0 body
   last ← num_item 1 body
   Some (client, group, last)
 
-unfoldable pub group_in : Cell → Option (List ℕ × List ℕ × ℕ × Bool)
-group_in cell = do
-  group ← text_of 1 128 cell.key
+unfoldable pub group_in_cell : Cell → Option (List ℕ × List ℕ × ℕ × Bool)
+group_in_cell cell = do
+  group ← utf8_text_in 1 128 cell.key
   body ← json_in cell.body
   user ← text_item 1 64 0 body
   order ← num_item 1 body

@@ -14,7 +14,7 @@ use Rattle.rv_rows.specs.RowTexts.{row_data}
 use Rattle.rv_views.specs.Viewed.{Viewed}
 use Rattle.rv_book.specs.declared.entry.Entry.{Entry}
 use Rattle.rv_keeper.specs.declared.cell.Cell.{Cell}
-use Rattle.rv_record.specs.CallTexts.{listed}
+use Rattle.rv_record.specs.CallTexts.{array_of}
 use Rattle.rv_record.specs.EntryTexts.{entry_data}
 
 -- a place in ten decimal digits, with leading zeros
@@ -26,24 +26,24 @@ abbrev pub cell_at : ℕ → List ℕ → Data → Cell
 cell_at shelf key body = record { shelf = shelf; key = key; body = compact_text body }
 
 abbrev pub row_body : Row → ℕ → Data
-row_body row version = listed (number (unsigned version) ∷ row_data row ∷ [])
+row_body row version = array_of (number (unsigned version) ∷ row_data row ∷ [])
 
 abbrev pub client_body : List ℕ → ℕ → Data
-client_body group last = listed (string group ∷ number (unsigned last) ∷ [])
+client_body group last = array_of (string group ∷ number (unsigned last) ∷ [])
 
 abbrev pub group_body : List ℕ → ℕ → Bool → Data
-group_body user order retired = listed (string user ∷ number (unsigned order) ∷ boolean retired ∷ [])
+group_body user order retired = array_of (string user ∷ number (unsigned order) ∷ boolean retired ∷ [])
 
 -- a key that was seen, with the version of its row
 abbrev pub seen_data : Key × ℕ → Data
-seen_data pair = listed (string (key_text pair.0) ∷ number (unsigned pair.1) ∷ [])
+seen_data pair = array_of (string (key_text pair.0) ∷ number (unsigned pair.1) ∷ [])
 
 -- a client with its last mutation id
 abbrev pub client_data : List ℕ × ℕ → Data
-client_data pair = listed (string pair.0 ∷ number (unsigned pair.1) ∷ [])
+client_data pair = array_of (string pair.0 ∷ number (unsigned pair.1) ∷ [])
 
 abbrev pub view_body : Viewed → Data
-view_body view = listed (listed (map seen_data view.rows) ∷ listed (map client_data view.clients) ∷ [])
+view_body view = array_of (array_of (map seen_data view.rows) ∷ array_of (map client_data view.clients) ∷ [])
 
 abbrev pub entry_cell : ℕ → Entry → Cell
 entry_cell place entry = cell_at 1 (ten_digits place) (entry_data entry)

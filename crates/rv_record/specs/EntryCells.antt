@@ -16,7 +16,7 @@ use Rattle.rv_record.specs.EntryTexts.{entry_data}
 use Rattle.rv_record.specs.CellTexts.{entry_cell}
 use Rattle.rv_record.specs.CellReading.{IsText}
 use Rattle.rv_record.specs.ValueReading.{or_null, place_in}
-use Rattle.rv_record.specs.EntryReading.{IfThere, CallFits, EntryFits, create_list_in, create_share_in, create_todo_in, update_todo_in, call_in, act_in, look_in, entry_in, body_entry}
+use Rattle.rv_record.specs.EntryReading.{IfThere, CallFits, EntryFits, stored_create_list_in, stored_create_share_in, stored_create_todo_in, stored_update_todo_in, stored_call_in, act_in, look_in, entry_in, body_entry}
 use Rattle.rv_record.specs.ReadBack.{IsPlain, json_again}
 use Rattle.rv_record.specs.ReadTexts.{within_again, num_again, place_again, num_plain, place_plain}
 
@@ -71,8 +71,8 @@ maybe_place_again : (o : Option ℕ) → IfThere (λ n. n < 2 ^ 32) o → or_nul
 maybe_place_again None h = refl
 maybe_place_again (Some n) h = rw (place_again n h) refl
 
-call_again : (call : Call) → CallFits call → call_in (call_data call) ≡ Some call
-unfolding call_in create_list_in create_share_in create_todo_in update_todo_in
+call_again : (call : Call) → CallFits call → stored_call_in (call_data call) ≡ Some call
+unfolding stored_call_in stored_create_list_in stored_create_share_in stored_create_todo_in stored_update_todo_in
 call_again (CreateList id name owner) h = rw (within_again 1 128 id h.0.0, within_again 0 16384 name h.1.0, within_again 1 64 owner h.2.0) refl
 call_again (DeleteList id) h = rw (within_again 1 128 id h.0) refl
 call_again (CreateShare id list user) h = rw (within_again 1 128 id h.0.0, within_again 1 128 list h.1.0, within_again 1 64 user h.2.0) refl

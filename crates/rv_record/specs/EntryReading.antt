@@ -42,30 +42,30 @@ EntryFits (Retire group) = IsText 1 128 group
 abbrev pub PlacedFits : ℕ × Entry → Type 0
 PlacedFits p = IsPlace p.0 × EntryFits p.1
 
-unfoldable pub create_list_in : Data → Option Call
-create_list_in value = do
+unfoldable pub stored_create_list_in : Data → Option Call
+stored_create_list_in value = do
   id ← text_item 1 128 1 value
   name ← text_item 0 16384 2 value
   owner ← text_item 1 64 3 value
   Some (CreateList id name owner)
 
-unfoldable pub create_share_in : Data → Option Call
-create_share_in value = do
+unfoldable pub stored_create_share_in : Data → Option Call
+stored_create_share_in value = do
   id ← text_item 1 128 1 value
   list ← text_item 1 128 2 value
   user ← text_item 1 64 3 value
   Some (CreateShare id list user)
 
-unfoldable pub create_todo_in : Data → Option Call
-create_todo_in value = do
+unfoldable pub stored_create_todo_in : Data → Option Call
+stored_create_todo_in value = do
   id ← text_item 1 128 1 value
   list ← text_item 1 128 2 value
   text ← text_item 0 16384 3 value
   complete ← flag_item 4 value
   Some (CreateTodo id list text complete)
 
-unfoldable pub update_todo_in : Data → Option Call
-update_todo_in value = do
+unfoldable pub stored_update_todo_in : Data → Option Call
+stored_update_todo_in value = do
   id ← text_item 1 128 1 value
   text ← option_and_then (or_null (text_in 0 16384)) (at 2 value)
   complete ← option_and_then (or_null as_bool) (at 3 value)
@@ -80,20 +80,20 @@ void_with reason =
     else None
 
 -- the call of a name
-abbrev pub call_with : List ℕ → Data → Option Call
-call_with name value =
-    if bytes_eq name (codes "createList") then create_list_in value
+abbrev pub stored_call_with : List ℕ → Data → Option Call
+stored_call_with name value =
+    if bytes_eq name (codes "createList") then stored_create_list_in value
     else if bytes_eq name (codes "deleteList") then option_map (λ id. DeleteList id) (text_item 1 128 1 value)
-    else if bytes_eq name (codes "createShare") then create_share_in value
+    else if bytes_eq name (codes "createShare") then stored_create_share_in value
     else if bytes_eq name (codes "deleteShare") then option_map (λ id. DeleteShare id) (text_item 1 128 1 value)
-    else if bytes_eq name (codes "createTodo") then create_todo_in value
-    else if bytes_eq name (codes "updateTodo") then update_todo_in value
+    else if bytes_eq name (codes "createTodo") then stored_create_todo_in value
+    else if bytes_eq name (codes "updateTodo") then stored_update_todo_in value
     else if bytes_eq name (codes "deleteTodo") then option_map (λ id. DeleteTodo id) (text_item 1 128 1 value)
     else if bytes_eq name (codes "void") then option_and_then void_with (string_item 1 value)
     else None
 
-unfoldable pub call_in : Data → Option Call
-call_in value = option_and_then (λ name. call_with name value) (string_item 0 value)
+unfoldable pub stored_call_in : Data → Option Call
+stored_call_in value = option_and_then (λ name. stored_call_with name value) (string_item 0 value)
 
 unfoldable pub act_in : Data → Option Entry
 act_in value = do
@@ -102,7 +102,7 @@ act_in value = do
   client ← text_item 1 128 3 value
   id ← num_item 4 value
   spelled ← at 5 value
-  call ← call_in spelled
+  call ← stored_call_in spelled
   Some (Act user group client id call)
 
 unfoldable pub look_in : Data → Option Entry

@@ -7,7 +7,7 @@ use Rattle.serde_json.specs.Data.{Data, number, unsigned}
 use Rattle.serde_json.specs.Read.{read}
 use Rattle.rv_base.specs.Texts.{IsWithin}
 use Rattle.rv_rows.specs.Members.{within, num_in}
-use Rattle.rv_record.specs.ValueReading.{json_in, text_of, place_in}
+use Rattle.rv_record.specs.ValueReading.{json_in, utf8_text_in, place_in}
 
 pub json_some : (text : List ℕ) (d : Data) → IsUtf8 text → read text ≡ Some d → json_in text ≡ Some d
 unfolding json_in
@@ -17,18 +17,18 @@ pub json_none : (text : List ℕ) → (IsUtf8 text → read text ≡ None) → j
 unfolding json_in
 json_none text none = elim (is_utf8 text) as (λ b. is_utf8 text ≡ b → cond b (read text) None ≡ None) [ true ↦ λ e. none (IsUtf8-from_is_utf8 text e) | false ↦ λ e. refl ] refl
 
-pub text_some : (low high : ℕ) (bytes : List ℕ) → IsUtf8 bytes → text_of low high bytes ≡ within low high bytes
-unfolding text_of
+pub text_some : (low high : ℕ) (bytes : List ℕ) → IsUtf8 bytes → utf8_text_in low high bytes ≡ within low high bytes
+unfolding utf8_text_in
 text_some low high bytes valid = rw (is_utf8-from_IsUtf8 bytes valid) refl
 
-pub text_none : (low high : ℕ) (bytes : List ℕ) → ¬ IsUtf8 bytes → text_of low high bytes ≡ None
-unfolding text_of
+pub text_none : (low high : ℕ) (bytes : List ℕ) → ¬ IsUtf8 bytes → utf8_text_in low high bytes ≡ None
+unfolding utf8_text_in
 text_none low high bytes none = elim (is_utf8 bytes) as (λ b. is_utf8 bytes ≡ b → cond b (within low high bytes) None ≡ None) [ true ↦ λ e. absurd (none (IsUtf8-from_is_utf8 bytes e)) | false ↦ λ e. refl ] refl
 
 pub within_again : (low high : ℕ) (text : List ℕ) → IsWithin low high text → within low high text ≡ Some text
 within_again low high text fits = grind (arith, nat_tests)
 
-pub text_again : (low high : ℕ) (text : List ℕ) → IsWithin low high text → IsUtf8 text → text_of low high text ≡ Some text
+pub text_again : (low high : ℕ) (text : List ℕ) → IsWithin low high text → IsUtf8 text → utf8_text_in low high text ≡ Some text
 text_again low high text fits valid = rw (text_some low high text valid) (within_again low high text fits)
 
 pub num_again : (n : ℕ) → n < 2 ^ 53 → num_in (number (unsigned n)) ≡ Some n

@@ -5,7 +5,7 @@ use Rattle.serde_json.specs.Find.{at}
 use Rattle.rv_base.specs.Options.{◌>>=◌}
 use Rattle.rv_rows.specs.declared.row.Row.{Row}
 use Rattle.rv_rows.specs.declared.row.Row.TheVariants as variants
-use Rattle.rv_rows.specs.RowTexts.{Fits, row_in}
+use Rattle.rv_rows.specs.RowTexts.{RowIsWithin, row_in}
 use Rattle.rv_keeper.specs.declared.cell.Cell.{Cell}
 use Rattle.rv_record.specs.ValueReading.{json_in, place_item}
 
@@ -17,7 +17,7 @@ HasTexts (variants.Todo row) = IsUtf8 row.id × IsUtf8 row.list × IsUtf8 row.te
 
 -- a row and its version
 abbrev pub RowFits : Row × ℕ → Type 0
-RowFits r = Fits r.0 × HasTexts r.0 × (r.1 < 2 ^ 32)
+RowFits r = RowIsWithin r.0 × HasTexts r.0 × (r.1 < 2 ^ 32)
 
 unfoldable pub row_cell_in : Cell → Option (Row × ℕ)
 row_cell_in cell = do

@@ -11,8 +11,8 @@ unfoldable pub json_in : List ℕ → Option Data
 json_in text = if is_utf8 text then read text else None
 
 -- bytes that are UTF-8, at least low and at most high of them
-unfoldable pub text_of : ℕ → ℕ → List ℕ → Option (List ℕ)
-text_of low high bytes = if is_utf8 bytes then within low high bytes else None
+unfoldable pub utf8_text_in : ℕ → ℕ → List ℕ → Option (List ℕ)
+utf8_text_in low high bytes = if is_utf8 bytes then within low high bytes else None
 
 -- a whole number up to 2^32 - 1, as places and versions are
 abbrev pub place_within : ℕ → Option ℕ

@@ -14,7 +14,7 @@ use Rattle.rv_rows.specs.declared.key.Kind.TheVariants as kinds
 use Rattle.rv_views.specs.Viewed.{Viewed, AreSeen, AreClients, seen_key, client_of_pair}
 use Rattle.rv_record.specs.CellReading.{IsText}
 use Rattle.rv_record.specs.EntryReading.{IsPlace}
-use Rattle.rv_record.specs.ValueReading.{json_in, text_of, string_item, text_item, num_item, place_item}
+use Rattle.rv_record.specs.ValueReading.{json_in, utf8_text_in, string_item, text_item, num_item, place_item}
 
 abbrev pub SeenFits : Key × ℕ → Type 0
 SeenFits pair = IsText 1 128 pair.0.id × (pair.1 < 2 ^ 32)
@@ -32,7 +32,7 @@ after_front front text = if bytes_eq (take (length front) text) front then Some 
 
 -- the key of a kind whose id is the bytes, where they are one
 abbrev pub key_with : Kind → List ℕ → Option Key
-key_with kind bytes = option_map (λ id. record { kind = kind; id = id }) (text_of 1 128 bytes)
+key_with kind bytes = option_map (λ id. record { kind = kind; id = id }) (utf8_text_in 1 128 bytes)
 
 -- the key of this kind, where an id was found after the kind's front, and else another
 abbrev pub with_front : Option (List ℕ) → Kind → Option Key → Option Key

@@ -1,5 +1,5 @@
 // What stands in the cells of rows and of groups, as JSON.
-ghost use Rattle.rv_rows.specs.Additions.{Adds};
+ghost use Rattle.rv_rows.specs.Additions.{AddsValue};
 ghost use Rattle.rv_record.specs.CellTexts.{row_body, group_body};
 
 use json::Writer;
@@ -8,7 +8,7 @@ use rv_rows::{Row, write_row};
 
 // Writes a row with its version, as `[VERSION,ROW]`.
 pub(crate) fn write_row_body(out: &mut Writer, row: &Row, version: u32) -> Result<(), Memory>
-    ensures { Adds result out.old out.new (row_body row.now version) }
+    ensures { AddsValue result out.old out.new (row_body row.now version) }
 {
     out.begin_array()?;
     out.u64(u64::from(version))?;
@@ -24,7 +24,7 @@ pub(crate) fn write_group_body(
     order: Num,
     retired: bool,
 ) -> Result<(), Memory>
-    ensures { Adds result out.old out.new (group_body user.now order retired) }
+    ensures { AddsValue result out.old out.new (group_body user.now order retired) }
 {
     out.begin_array()?;
     out.string(user.as_str())?;

@@ -3,7 +3,7 @@ ghost use Rattle.serde_json.specs.Find.{at, as_bool};
 ghost use Rattle.serde_json.specs.View.{view};
 ghost use Rattle.rv_rows.specs.Members.{text_in, num_in};
 ghost use Rattle.rv_record.specs.ValueReading.{or_null, text_item};
-ghost use Rattle.rv_record.specs.EntryReading.{create_list_in, create_share_in, create_todo_in, update_todo_in, void_with, call_with, call_in};
+ghost use Rattle.rv_record.specs.EntryReading.{stored_create_list_in, stored_create_share_in, stored_create_todo_in, stored_update_todo_in, void_with, stored_call_with, stored_call_in};
 
 use crate::value_reading::{flag_item, string_item, text_item};
 use rv_base::{Id, Memory, Num, Text};
@@ -17,9 +17,9 @@ fn id_of(alloc: Global, value: &Value) -> Result<Option<Id>, Memory>
     text_item(alloc, value, 1)
 }
 
-#[tactic(auto, unfolding(crate::specs::EntryReading::create_list_in))]
+#[tactic(auto, unfolding(crate::specs::EntryReading::stored_create_list_in))]
 fn create_list(alloc: Global, value: &Value) -> Result<Option<Call>, Memory>
-    ensures { IfOk result (λ o. o ≡ create_list_in (view value.now)) }
+    ensures { IfOk result (λ o. o ≡ stored_create_list_in (view value.now)) }
 {
     let Some(id) = text_item(alloc, value, 1)? else {
         return Ok(None);
@@ -33,9 +33,9 @@ fn create_list(alloc: Global, value: &Value) -> Result<Option<Call>, Memory>
     Ok(Some(Call::CreateList { id, name, owner }))
 }
 
-#[tactic(auto, unfolding(crate::specs::EntryReading::create_share_in))]
+#[tactic(auto, unfolding(crate::specs::EntryReading::stored_create_share_in))]
 fn create_share(alloc: Global, value: &Value) -> Result<Option<Call>, Memory>
-    ensures { IfOk result (λ o. o ≡ create_share_in (view value.now)) }
+    ensures { IfOk result (λ o. o ≡ stored_create_share_in (view value.now)) }
 {
     let Some(id) = text_item(alloc, value, 1)? else {
         return Ok(None);
@@ -49,9 +49,9 @@ fn create_share(alloc: Global, value: &Value) -> Result<Option<Call>, Memory>
     Ok(Some(Call::CreateShare { id, list, user }))
 }
 
-#[tactic(auto, unfolding(crate::specs::EntryReading::create_todo_in))]
+#[tactic(auto, unfolding(crate::specs::EntryReading::stored_create_todo_in))]
 fn create_todo(alloc: Global, value: &Value) -> Result<Option<Call>, Memory>
-    ensures { IfOk result (λ o. o ≡ create_todo_in (view value.now)) }
+    ensures { IfOk result (λ o. o ≡ stored_create_todo_in (view value.now)) }
 {
     let Some(id) = text_item(alloc, value, 1)? else {
         return Ok(None);
@@ -111,9 +111,9 @@ fn num_or_null(value: &Value, place: usize) -> Option<Option<Num>>
     }
 }
 
-#[tactic(auto, unfolding(crate::specs::EntryReading::update_todo_in))]
+#[tactic(auto, unfolding(crate::specs::EntryReading::stored_update_todo_in))]
 fn update_todo(alloc: Global, value: &Value) -> Result<Option<Call>, Memory>
-    ensures { IfOk result (λ o. o ≡ update_todo_in (view value.now)) }
+    ensures { IfOk result (λ o. o ≡ stored_update_todo_in (view value.now)) }
 {
     let Some(id) = text_item(alloc, value, 1)? else {
         return Ok(None);
@@ -146,8 +146,8 @@ fn void_with(reason: &str) -> Option<Call>
 }
 
 // The call of a name, from the items after it.
-fn call_with(alloc: Global, name: &str, value: &Value) -> Result<Option<Call>, Memory>
-    ensures { IfOk result (λ o. o ≡ call_with name.now (view value.now)) }
+fn stored_call_with(alloc: Global, name: &str, value: &Value) -> Result<Option<Call>, Memory>
+    ensures { IfOk result (λ o. o ≡ stored_call_with name.now (view value.now)) }
 {
     match name {
         "createList" => create_list(alloc, value),
@@ -163,12 +163,12 @@ fn call_with(alloc: Global, name: &str, value: &Value) -> Result<Option<Call>, M
 }
 
 // The call that a value is, from its name and the items that the name asks for.
-#[tactic(auto, unfolding(crate::specs::EntryReading::call_in))]
+#[tactic(auto, unfolding(crate::specs::EntryReading::stored_call_in))]
 pub(crate) fn call_of_value(alloc: Global, value: &Value) -> Result<Option<Call>, Memory>
-    ensures { IfOk result (λ o. o ≡ call_in (view value.now)) }
+    ensures { IfOk result (λ o. o ≡ stored_call_in (view value.now)) }
 {
     match string_item(value, 0) {
-        Some(name) => call_with(alloc, name, value),
+        Some(name) => stored_call_with(alloc, name, value),
         None => Ok(None),
     }
 }

@@ -3,8 +3,8 @@ ghost use Rattle.std.specs.Prelude.{◌≡◌, [], ◌∷◌};
 ghost use Rattle.json.specs.Token.{begin_array, string};
 ghost use Rattle.serde_json.specs.Data as values;
 ghost use Rattle.rv_rows.specs.declared.call.Call.TheVariants as calls;
-ghost use Rattle.rv_rows.specs.Additions.{Adds, AddsTokens};
-ghost use Rattle.rv_record.specs.CallTexts.{listed, reason_text, call_data};
+ghost use Rattle.rv_rows.specs.Additions.{AddsValue, AddsTokens};
+ghost use Rattle.rv_record.specs.CallTexts.{array_of, reason_text, call_data};
 
 use crate::value_writing::{write_flag_or_null, write_num_or_null, write_text_or_null};
 use json::Writer;
@@ -22,7 +22,7 @@ fn begin_call(out: &mut Writer, name: &str, id: &Id) -> Result<(), Memory>
 }
 
 fn write_create_list(out: &mut Writer, id: &Id, name: &Text, owner: &User) -> Result<(), Memory>
-    ensures { Adds result out.old out.new (call_data (calls.CreateList id.now name.now owner.now)) }
+    ensures { AddsValue result out.old out.new (call_data (calls.CreateList id.now name.now owner.now)) }
 {
     begin_call(out, "createList", id)?;
     out.string(name.as_str())?;
@@ -32,7 +32,7 @@ fn write_create_list(out: &mut Writer, id: &Id, name: &Text, owner: &User) -> Re
 }
 
 fn write_create_share(out: &mut Writer, id: &Id, list: &Id, user: &User) -> Result<(), Memory>
-    ensures { Adds result out.old out.new (call_data (calls.CreateShare id.now list.now user.now)) }
+    ensures { AddsValue result out.old out.new (call_data (calls.CreateShare id.now list.now user.now)) }
 {
     begin_call(out, "createShare", id)?;
     out.string(list.as_str())?;
@@ -48,7 +48,7 @@ fn write_create_todo(
     text: &Text,
     complete: bool,
 ) -> Result<(), Memory>
-    ensures { Adds result out.old out.new (call_data (calls.CreateTodo id.now list.now text.now complete)) }
+    ensures { AddsValue result out.old out.new (call_data (calls.CreateTodo id.now list.now text.now complete)) }
 {
     begin_call(out, "createTodo", id)?;
     out.string(list.as_str())?;
@@ -65,7 +65,7 @@ fn write_update_todo(
     complete: Option<bool>,
     sort: Option<Num>,
 ) -> Result<(), Memory>
-    ensures { Adds result out.old out.new (call_data (calls.UpdateTodo id.now text.now complete sort)) }
+    ensures { AddsValue result out.old out.new (call_data (calls.UpdateTodo id.now text.now complete sort)) }
 {
     begin_call(out, "updateTodo", id)?;
     write_text_or_null(out, text)?;
@@ -77,7 +77,7 @@ fn write_update_todo(
 
 // Writes a call that names an id and nothing else.
 fn write_removal(out: &mut Writer, name: &str, id: &Id) -> Result<(), Memory>
-    ensures { Adds result out.old out.new (listed (values.string name.now ∷ values.string id.now ∷ [])) }
+    ensures { AddsValue result out.old out.new (array_of (values.string name.now ∷ values.string id.now ∷ [])) }
 {
     begin_call(out, name, id)?;
     out.end_array()?;
@@ -94,7 +94,7 @@ fn reason_text(reason: Reason) -> &'static str
 }
 
 fn write_void(out: &mut Writer, reason: Reason) -> Result<(), Memory>
-    ensures { Adds result out.old out.new (call_data (calls.Void reason)) }
+    ensures { AddsValue result out.old out.new (call_data (calls.Void reason)) }
 {
     out.begin_array()?;
     out.string("void")?;
@@ -105,7 +105,7 @@ fn write_void(out: &mut Writer, reason: Reason) -> Result<(), Memory>
 
 // Writes a call.
 pub(crate) fn write_call(out: &mut Writer, call: &Call) -> Result<(), Memory>
-    ensures { Adds result out.old out.new (call_data call.now) }
+    ensures { AddsValue result out.old out.new (call_data call.now) }
 {
     match call {
         Call::CreateList { id, name, owner } => write_create_list(out, id, name, owner),

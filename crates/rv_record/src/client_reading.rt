@@ -1,6 +1,6 @@
 ghost use Rattle.std.specs.Prelude.{◌≡◌, IfOk};
 ghost use Rattle.rv_record.specs.CellTexts.{client_cell, group_cell};
-ghost use Rattle.rv_record.specs.CellReading.{Reads, ClientFits, GroupFits, client_in, group_in};
+ghost use Rattle.rv_record.specs.CellReading.{ReadsCell, ClientFits, GroupFits, client_in_cell, group_in_cell};
 
 use crate::cells::{cell_of_client, cell_of_group};
 use crate::fault::{CellFault, damaged};
@@ -12,9 +12,9 @@ use rv_keeper::Cell;
 use std::alloc::Global;
 
 // What the cell is of, if it is a client's.
-#[tactic(auto, unfolding(crate::specs::CellReading::client_in))]
-fn client_in(alloc: Global, cell: &Cell) -> Result<Option<(Id, Id, Num)>, Memory>
-    ensures { IfOk result (λ o. o ≡ client_in cell.now) }
+#[tactic(auto, unfolding(crate::specs::CellReading::client_in_cell))]
+fn client_in_cell(alloc: Global, cell: &Cell) -> Result<Option<(Id, Id, Num)>, Memory>
+    ensures { IfOk result (λ o. o ≡ client_in_cell cell.now) }
 {
     let Some(client) = text_of_bytes(alloc, cell.key.as_slice())? else {
         return Ok(None);
@@ -31,11 +31,11 @@ fn client_in(alloc: Global, cell: &Cell) -> Result<Option<(Id, Id, Num)>, Memory
     Ok(Some((client, group, last)))
 }
 
-/// The client whose cell this is, its group, and the last mutation id. Any other cell is `Damaged`.
+/// The client whose cell this is, its group, and the last mutation id. Any other cell is `BadCell`.
 pub fn client_of_cell(alloc: Global, cell: &Cell) -> Result<(Id, Id, Num), CellFault>
-    ensures { Reads (λ c. client_cell c.0 c.1 c.2) ClientFits cell.now result }
+    ensures { ReadsCell (λ c. client_cell c.0 c.1 c.2) ClientFits cell.now result }
 {
-    let Some(made) = client_in(alloc, cell)? else {
+    let Some(made) = client_in_cell(alloc, cell)? else {
         return Err(damaged(alloc, cell));
     };
     let again = cell_of_client(alloc, &made.0, &made.1, made.2)?;
@@ -47,9 +47,9 @@ pub fn client_of_cell(alloc: Global, cell: &Cell) -> Result<(Id, Id, Num), CellF
 }
 
 // What the cell is of, if it is a group's.
-#[tactic(auto, unfolding(crate::specs::CellReading::group_in))]
-fn group_in(alloc: Global, cell: &Cell) -> Result<Option<(Id, User, Num, bool)>, Memory>
-    ensures { IfOk result (λ o. o ≡ group_in cell.now) }
+#[tactic(auto, unfolding(crate::specs::CellReading::group_in_cell))]
+fn group_in_cell(alloc: Global, cell: &Cell) -> Result<Option<(Id, User, Num, bool)>, Memory>
+    ensures { IfOk result (λ o. o ≡ group_in_cell cell.now) }
 {
     let Some(group) = text_of_bytes(alloc, cell.key.as_slice())? else {
         return Ok(None);
@@ -70,11 +70,11 @@ fn group_in(alloc: Global, cell: &Cell) -> Result<Option<(Id, User, Num, bool)>,
 }
 
 /// The group whose cell this is, its user, the order of its last look, and whether it is retired. Any other cell is
-/// `Damaged`.
+/// `BadCell`.
 pub fn group_of_cell(alloc: Global, cell: &Cell) -> Result<(Id, User, Num, bool), CellFault>
-    ensures { Reads (λ g. group_cell g.0 g.1 g.2 g.3) GroupFits cell.now result }
+    ensures { ReadsCell (λ g. group_cell g.0 g.1 g.2 g.3) GroupFits cell.now result }
 {
-    let Some(made) = group_in(alloc, cell)? else {
+    let Some(made) = group_in_cell(alloc, cell)? else {
         return Err(damaged(alloc, cell));
     };
     let again = cell_of_group(alloc, &made.0, &made.1, made.2, made.3)?;

@@ -2,7 +2,7 @@ ghost use Rattle.std.specs.Prelude.{◌≡◌, ◌≤◌, IfOk, option_and_then}
 ghost use Rattle.serde_json.specs.Find.{at};
 ghost use Rattle.serde_json.specs.View.{view};
 ghost use Rattle.rv_record.specs.CellTexts.{entry_cell};
-ghost use Rattle.rv_record.specs.CellReading.{Reads};
+ghost use Rattle.rv_record.specs.CellReading.{ReadsCell};
 ghost use Rattle.rv_record.specs.ValueReading.{or_null, place_in, text_item};
 ghost use Rattle.rv_record.specs.EntryReading.{PlacedFits, act_in, look_in, entry_with, entry_in, body_entry};
 
@@ -124,9 +124,9 @@ fn entry_of_body(alloc: Global, body: &[u8]) -> Result<Option<Entry>, Memory>
     }
 }
 
-/// The entry whose cell this is, at its place, from 1. Any other cell is `Damaged`.
+/// The entry whose cell this is, at its place, from 1. Any other cell is `BadCell`.
 pub fn entry_of_cell(alloc: Global, cell: &Cell) -> Result<(u32, Entry), CellFault>
-    ensures reads { Reads (λ e. entry_cell e.0 e.1) PlacedFits cell.now result }
+    ensures reads { ReadsCell (λ e. entry_cell e.0 e.1) PlacedFits cell.now result }
     ensures place { IfOk result (λ e. 1 ≤ e.0) }
 {
     let Some(place) = place_of_key(cell.key.as_slice()) else {

@@ -1,7 +1,7 @@
 // Entries as JSON: each is an array of its kind and its fields.
 ghost use Rattle.std.specs.Prelude.{[], ◌∷◌};
 ghost use Rattle.json.specs.Token.{begin_array, string};
-ghost use Rattle.rv_rows.specs.Additions.{Adds, AddsTokens};
+ghost use Rattle.rv_rows.specs.Additions.{AddsValue, AddsTokens};
 ghost use Rattle.rv_book.specs.declared.entry.Entry.TheVariants as entries;
 ghost use Rattle.rv_record.specs.EntryTexts.{entry_data};
 
@@ -31,7 +31,7 @@ pub(crate) fn write_act(
     id: Num,
     call: &Call,
 ) -> Result<(), Memory>
-    ensures { Adds result out.old out.new (entry_data (entries.Act user.now group.now client.now id call.now)) }
+    ensures { AddsValue result out.old out.new (entry_data (entries.Act user.now group.now client.now id call.now)) }
 {
     begin_entry(out, "act", user, group)?;
     out.string(client.as_str())?;
@@ -49,7 +49,7 @@ pub(crate) fn write_look(
     order: Num,
     base: Option<u32>,
 ) -> Result<(), Memory>
-    ensures { Adds result out.old out.new (entry_data (entries.Look user.now group.now order base)) }
+    ensures { AddsValue result out.old out.new (entry_data (entries.Look user.now group.now order base)) }
 {
     begin_entry(out, "look", user, group)?;
     out.u64(order.get())?;
@@ -60,7 +60,7 @@ pub(crate) fn write_look(
 
 // Writes a retirement.
 pub(crate) fn write_retirement(out: &mut Writer, group: &Id) -> Result<(), Memory>
-    ensures { Adds result out.old out.new (entry_data (entries.Retire group.now)) }
+    ensures { AddsValue result out.old out.new (entry_data (entries.Retire group.now)) }
 {
     out.begin_array()?;
     out.string("retire")?;

@@ -22,7 +22,7 @@ pub struct Damage {
 pub enum CellFault {
     /// What stands there is not what a book's cells have there: it is missing, is too much, or is another.
     #[error("the store is damaged on shelf {}", .0.shelf)]
-    Damaged(Damage),
+    BadCell(Damage),
     /// Memory was refused.
     #[error("out of memory")]
     Memory,
@@ -41,7 +41,7 @@ pub fn damaged(alloc: Global, cell: &Cell) -> CellFault
     ensures { Blames cell.now result }
 {
     match cell.key.as_slice().to_vec(alloc) {
-        Ok(key) => CellFault::Damaged(Damage {
+        Ok(key) => CellFault::BadCell(Damage {
             shelf: cell.shelf,
             key: Bytes::from_vec(key),
         }),

@@ -2,7 +2,7 @@ ghost use Rattle.std.specs.Prelude.{◌≡◌, IfOk};
 ghost use Rattle.serde_json.specs.View.{view};
 ghost use Rattle.rv_rows.specs.RowTexts.{row_in};
 ghost use Rattle.rv_record.specs.CellTexts.{row_cell};
-ghost use Rattle.rv_record.specs.CellReading.{Reads};
+ghost use Rattle.rv_record.specs.CellReading.{ReadsCell};
 ghost use Rattle.rv_record.specs.RowReading.{RowFits, row_cell_in};
 
 use crate::cells::cell_of_row;
@@ -43,9 +43,9 @@ fn row_in(alloc: Global, cell: &Cell) -> Result<Option<(Row, u32)>, Memory>
     Ok(Some((row, version)))
 }
 
-/// The row whose cell this is, with its version. Any other cell is `Damaged`.
+/// The row whose cell this is, with its version. Any other cell is `BadCell`.
 pub fn row_of_cell(alloc: Global, cell: &Cell) -> Result<(Row, u32), CellFault>
-    ensures { Reads (λ r. row_cell r.0 r.1) RowFits cell.now result }
+    ensures { ReadsCell (λ r. row_cell r.0 r.1) RowFits cell.now result }
 {
     let Some(made) = row_in(alloc, cell)? else {
         return Err(damaged(alloc, cell));

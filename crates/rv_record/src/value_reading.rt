@@ -2,7 +2,7 @@
 ghost use Rattle.std.specs.Prelude.{◌≡◌, IfOk, option_map};
 ghost use Rattle.serde_json.specs.View.{view};
 ghost use Rattle.rv_rows.specs.Members.{within};
-ghost use Rattle.rv_record.specs.ValueReading.{text_of, string_item, text_item, num_item, place_in, place_item, flag_item};
+ghost use Rattle.rv_record.specs.ValueReading.{utf8_text_in, string_item, text_item, num_item, place_in, place_item, flag_item};
 
 use rv_base::{Bounded, Memory, Num, TextRefusal};
 use rv_rows::{num_of_value, text_of_value};
@@ -29,7 +29,7 @@ pub(crate) fn text_of_bytes<const MIN: usize, const MAX: usize>(
     alloc: Global,
     bytes: &[u8],
 ) -> Result<Option<Bounded<MIN, MAX>>, Memory>
-    ensures { IfOk result (λ o. o ≡ text_of MIN MAX bytes.now) }
+    ensures { IfOk result (λ o. o ≡ utf8_text_in MIN MAX bytes.now) }
 {
     match str::from_utf8(bytes) {
         Ok(text) => text_within(alloc, text),

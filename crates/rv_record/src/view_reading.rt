@@ -3,7 +3,7 @@ ghost use Rattle.serde_json.specs.Find.{at, as_array};
 ghost use Rattle.serde_json.specs.View.{view, items_view};
 ghost use Rattle.rv_views.specs.Viewed.{seen_key, client_of_pair};
 ghost use Rattle.rv_record.specs.CellTexts.{view_cell};
-ghost use Rattle.rv_record.specs.CellReading.{Reads};
+ghost use Rattle.rv_record.specs.CellReading.{ReadsCell};
 ghost use Rattle.rv_record.specs.ViewReading.{ViewFits, seen_in, pair_in, each_item, each_of, is_in_order, viewed, view_in, body_view};
 
 use crate::cells::cell_of_view;
@@ -171,9 +171,9 @@ fn view_of_body(alloc: Global, body: &[u8]) -> Result<Option<ViewRecord>, Memory
     }
 }
 
-/// The kept view record whose cell this is, at the place of its look, from 1. Any other cell is `Damaged`.
+/// The kept view record whose cell this is, at the place of its look, from 1. Any other cell is `BadCell`.
 pub fn view_of_cell(alloc: Global, cell: &Cell) -> Result<(u32, ViewRecord), CellFault>
-    ensures reads { Reads (λ v. view_cell v.0 v.1) ViewFits cell.now result }
+    ensures reads { ReadsCell (λ v. view_cell v.0 v.1) ViewFits cell.now result }
     ensures place { IfOk result (λ v. 1 ≤ v.0) }
 {
     let Some(place) = place_of_key(cell.key.as_slice()) else {

@@ -1,7 +1,7 @@
 // View records as JSON: the keys that were seen and the group's clients, each with its number.
 ghost use Rattle.std.specs.Prelude.{map};
-ghost use Rattle.rv_rows.specs.Additions.{Adds};
-ghost use Rattle.rv_record.specs.CallTexts.{listed};
+ghost use Rattle.rv_rows.specs.Additions.{AddsValue};
+ghost use Rattle.rv_record.specs.CallTexts.{array_of};
 ghost use Rattle.rv_record.specs.CellTexts.{seen_data, client_data, view_body};
 
 use crate::value_writing::write_pair;
@@ -17,7 +17,7 @@ fn write_seen(
     key: &Key,
     version: u32,
 ) -> Result<(), Memory>
-    ensures { Adds result out.old out.new (seen_data (key.now, version)) }
+    ensures { AddsValue result out.old out.new (seen_data (key.now, version)) }
 {
     key.kind.put_key_text(key_text, &key.id)?;
     write_pair(out, key_text.as_str(), u64::from(version))
@@ -25,7 +25,7 @@ fn write_seen(
 
 // Each key is spelled in the same buffer, so that none takes memory of its own.
 fn write_rows(out: &mut Writer, key_text: &mut String, rows: &[(Key, u32)]) -> Result<(), Memory>
-    ensures { Adds result out.old out.new (listed (map seen_data rows.now)) }
+    ensures { AddsValue result out.old out.new (array_of (map seen_data rows.now)) }
 {
     out.begin_array()?;
     for (key, version) in rows {
@@ -36,7 +36,7 @@ fn write_rows(out: &mut Writer, key_text: &mut String, rows: &[(Key, u32)]) -> R
 }
 
 fn write_clients(out: &mut Writer, clients: &[(Id, Num)]) -> Result<(), Memory>
-    ensures { Adds result out.old out.new (listed (map client_data clients.now)) }
+    ensures { AddsValue result out.old out.new (array_of (map client_data clients.now)) }
 {
     out.begin_array()?;
     for (client, last) in clients {
@@ -52,7 +52,7 @@ pub(crate) fn write_view(
     key_text: &mut String,
     view: &ViewRecord,
 ) -> Result<(), Memory>
-    ensures { Adds result out.old out.new (view_body view.now) }
+    ensures { AddsValue result out.old out.new (view_body view.now) }
 {
     out.begin_array()?;
     write_rows(out, key_text, view.rows())?;

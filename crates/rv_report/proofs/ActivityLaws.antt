@@ -6,7 +6,7 @@ use Rattle.std.proofs.lemmas.List.Folds.{flat_map-map}
 use Rattle.std.proofs.lemmas.List.Sums.{sum_by-cons}
 use Rattle.rv_book.specs.Book.{Book, retired}
 use Rattle.rv_report.specs.declared.tally.Tally.{Tally}
-use Rattle.rv_report.specs.Activity.{groups_of, groups_text, user_text, users_of}
+use Rattle.rv_report.specs.Activity.{group_ids, groups_text, user_text, users_of}
 use Rattle.rv_report.specs.Shown.{shown_groups, shown_users}
 use Rattle.rv_report.specs.Tallies.{groups_line, tallies_of, tally_line, tally_of}
 
@@ -27,7 +27,7 @@ counted_shown p (group ∷ groups) =
     ∙ ap (λ (n : ℕ). cond (p group.now) 1 0 + n) (counted_shown p groups)
     ∙ sym (sum_by-cons (λ (g : List ℕ). cond (p g) 1 0) group.now (shown_groups groups))
 
-pub groups_are : (book : Book) (groups : List (Bor (List ℕ))) → shown_groups groups ≡ groups_of book → groups_line (length groups) (count_by (λ group. retired group.now book) groups) ≡ groups_text book
+pub groups_are : (book : Book) (groups : List (Bor (List ℕ))) → shown_groups groups ≡ group_ids book → groups_line (length groups) (count_by (λ group. retired group.now book) groups) ≡ groups_text book
 groups_are book groups are =
     ap (λ (n : ℕ). groups_line n (count_by (λ group. retired group.now book) groups)) (sym (length-map groups (λ (group : Bor (List ℕ)). group.now)))
     ∙ ap (groups_line (length (shown_groups groups))) (counted_shown (λ group. retired group book) groups)

@@ -6,7 +6,7 @@ use Rattle.rv_rows.specs.Held.{Stored}
 use Rattle.rv_report.specs.declared.counts.Counted.{Counted}
 use Rattle.rv_report.specs.declared.counts.Counted.TheVariants.{CompleteTodo, OpenTodo}
 use Rattle.rv_report.specs.Counted.{counted_as, counts_list, counts_open, counts_share, counts_todo}
-use Rattle.rv_report.specs.Lists.{is_list, is_open, is_share, is_todo}
+use Rattle.rv_report.specs.Lists.{is_list_row, is_open, is_share, is_todo}
 
 counted_same : (p : Counted → Bool) (q : Stored → Bool) (rows : List Stored) → ((s : Stored) → p (counted_as s.0) ≡ q s) → count_by p (map (λ s. counted_as s.0) rows) ≡ count_by q rows
 counted_same p q [] same = refl
@@ -15,10 +15,10 @@ counted_same p q (s ∷ rows) same =
     ∙ (λ i. cond (same s i) 1 0 + counted_same p q rows same i)
     ∙ sym (sum_by-cons (λ (s : Stored). cond (q s) 1 0) s rows)
 
-pub lists_counted : (rows : List Stored) → count_by counts_list (map (λ s. counted_as s.0) rows) ≡ count_by is_list rows
-lists_counted rows = counted_same counts_list is_list rows each
+pub lists_counted : (rows : List Stored) → count_by counts_list (map (λ s. counted_as s.0) rows) ≡ count_by is_list_row rows
+lists_counted rows = counted_same counts_list is_list_row rows each
   where
-    each : (s : Stored) → counts_list (counted_as s.0) ≡ is_list s
+    each : (s : Stored) → counts_list (counted_as s.0) ≡ is_list_row s
     each (variants.List row, version) = refl
     each (variants.Share row, version) = refl
     each (variants.Todo row, version) = elim row.complete as (λ b. counts_list (cond b CompleteTodo OpenTodo) ≡ false) [ true ↦ refl | false ↦ refl ]

@@ -12,7 +12,7 @@ use Rattle.std.proofs.lemmas.List.Sums.{sum_by-cons, count_by-le-length}
 use Rattle.std.proofs.lemmas.Option.{none-some, same_Some, slice_get-get_or, slice_get_within, get_or_from_slice_get}
 use Rattle.std.proofs.lemmas.Slice.Eq.{bytes_eq-Decides}
 use Rattle.rv_base.specs.Sorted.{find_by, put_by, InOrder}
-use Rattle.rv_base.specs.Places.{Above, equals, below_is, same_from, differs, differs_back, above_chain, not_same, sorted_more, in_order-sorted, map-put, found-sorted}
+use Rattle.rv_base.specs.Positions.{Above, equals, below_is, same_from, differs, differs_back, above_chain, not_same, sorted_more, in_order-sorted, map-put, found-sorted}
 use Rattle.rv_base.specs.Arranged.{find-map}
 use Rattle.rv_rows.specs.declared.call.Call.{Call}
 use Rattle.rv_rows.specs.declared.call.Call.TheVariants.{CreateList, DeleteList, CreateShare, DeleteShare, CreateTodo, UpdateTodo, DeleteTodo, Void}
@@ -21,8 +21,8 @@ use Rattle.rv_book.specs.declared.entry.Entry.TheVariants.{Act, Look, Retire}
 use Rattle.rv_book.specs.Book.{Book, book_of, entry_at, size, up_to, with_entry}
 use Rattle.rv_book.specs.BookWords.{count-push, entry_at-next}
 use Rattle.rv_report.specs.declared.tally.Tally.{Tally}
-use Rattle.rv_report.specs.Activity.{groups_of, named_group, user_of, users_of, is_act_by, is_void_by, is_look_by}
-use Rattle.rv_report.specs.Tallies.{Tallied, tallied_key, no_entries, is_void, with_one, MayRise, tally_in, counted, tally_of, tallies_of}
+use Rattle.rv_report.specs.Activity.{group_ids, named_group, entry_user, users_of, is_act_by, is_void_by, is_look_by}
+use Rattle.rv_report.specs.Tallies.{Tallied, tallied_key, no_entries, is_void, with_one, MayRise, tally_in, tallied_with, tally_of, tallies_of}
 
 -- the entry that comes after so many
 pub entry_next : (book : Book) (before : ℕ) (entry : Entry) → Some entry ≡ entry_at (before + 1) book → (before < size book) × (entry ≡ get_or book.entries before entry)
@@ -39,30 +39,30 @@ none_next book before there lt =
     ] (there ∙ entry_at-next before book) lt
 
 -- a user with the tally, of which the numbers are told
-abbrev told : (List ℕ → Tally) → List ℕ → Tallied
-told tally user = (user, tally user)
+abbrev tallied : (List ℕ → Tally) → List ℕ → Tallied
+tallied tally user = (user, tally user)
 
 abbrev text_key : List ℕ → List ℕ
 text_key text = text
 
 -- One user's tally is put among those that are told of users in order, whatever was told of that user.
 module _ (user : List ℕ) (new : Tally) (before after : List ℕ → Tally) (same : (other : List ℕ) → bytes_eq user other ≡ false → after other ≡ before other) where
-  told_above : (users : List (List ℕ)) → Above text_key user users → map (told after) users ≡ map (told before) users
-  told_above [] all = refl
-  told_above (other ∷ users) all = (λ i. (other, same other (differs user other all.0) i) ∷ told_above users all.1 i)
+  tallied_above : (users : List (List ℕ)) → Above text_key user users → map (tallied after) users ≡ map (tallied before) users
+  tallied_above [] all = refl
+  tallied_above (other ∷ users) all = (λ i. (other, same other (differs user other all.0) i) ∷ tallied_above users all.1 i)
 
-  told_put : (users : List (List ℕ)) → InOrder text_key users → put_by tallied_key (user, new) (map (told after) users) ≡ put_by tallied_key (user, new) (map (told before) users)
-  told_put [] order = refl
-  told_put (other ∷ users) order =
-      elim (slice_cmp nat_cmp user other) as (λ o. slice_cmp nat_cmp user other ≡ o → match_ordering o ((user, new) ∷ map (told after) (other ∷ users)) ((user, new) ∷ map (told after) users) (told after other ∷ put_by tallied_key (user, new) (map (told after) users)) ≡ match_ordering o ((user, new) ∷ map (told before) (other ∷ users)) ((user, new) ∷ map (told before) users) (told before other ∷ put_by tallied_key (user, new) (map (told before) users))) [
-        | Less ↦ λ o. ap (λ (rest : List Tallied). (user, new) ∷ rest) (told_above (other ∷ users) (o, above_chain text_key user other users o order.0))
-        | Equal ↦ λ o. ap (λ (rest : List Tallied). (user, new) ∷ rest) (told_above users (subst (λ (text : List ℕ). Above text_key text users) (sym (same_from user other o)) order.0))
-        | Greater ↦ λ o. (λ i. (other, same other (differs_back other user (below_is user other o)) i) ∷ told_put users order.1 i)
+  tallied_put : (users : List (List ℕ)) → InOrder text_key users → put_by tallied_key (user, new) (map (tallied after) users) ≡ put_by tallied_key (user, new) (map (tallied before) users)
+  tallied_put [] order = refl
+  tallied_put (other ∷ users) order =
+      elim (slice_cmp nat_cmp user other) as (λ o. slice_cmp nat_cmp user other ≡ o → match_ordering o ((user, new) ∷ map (tallied after) (other ∷ users)) ((user, new) ∷ map (tallied after) users) (tallied after other ∷ put_by tallied_key (user, new) (map (tallied after) users)) ≡ match_ordering o ((user, new) ∷ map (tallied before) (other ∷ users)) ((user, new) ∷ map (tallied before) users) (tallied before other ∷ put_by tallied_key (user, new) (map (tallied before) users))) [
+        | Less ↦ λ o. ap (λ (rest : List Tallied). (user, new) ∷ rest) (tallied_above (other ∷ users) (o, above_chain text_key user other users o order.0))
+        | Equal ↦ λ o. ap (λ (rest : List Tallied). (user, new) ∷ rest) (tallied_above users (subst (λ (text : List ℕ). Above text_key text users) (sym (same_from user other o)) order.0))
+        | Greater ↦ λ o. (λ i. (other, same other (differs_back other user (below_is user other o)) i) ∷ tallied_put users order.1 i)
       ] refl
 
 -- the entry is an act or a look by the user
 abbrev is_by : List ℕ → Entry → Bool
-is_by user entry = option_map_or (λ other. bytes_eq other user) (user_of entry) false
+is_by user entry = option_map_or (λ other. bytes_eq other user) (entry_user entry) false
 
 void_by : (user other group client : List ℕ) (id : ℕ) (call : Call) → is_void_by user (Act other group client id call) ≡ (is_void call && bytes_eq other user)
 void_by user other group client id (CreateList list name owner) = refl
@@ -104,17 +104,17 @@ tally_last user book (Retire group) =
     ∙ one_look false (count_by (is_act_by user) book.entries) (count_by (is_void_by user) book.entries) (count_by (is_look_by user) book.entries)
 
 -- a user of no entry has no entries
-none_counted : (user : List ℕ) (p : Entry → Bool) (entries : List Entry) → ((entry : Entry) → is_by user entry ≡ false → p entry ≡ false) → list_any (bytes_eq user) (filter_map user_of entries) ≡ false → count_by p entries ≡ 0
+none_counted : (user : List ℕ) (p : Entry → Bool) (entries : List Entry) → ((entry : Entry) → is_by user entry ≡ false → p entry ≡ false) → list_any (bytes_eq user) (filter_map entry_user entries) ≡ false → count_by p entries ≡ 0
 none_counted user p [] apart none = refl
 none_counted user p (entry ∷ entries) apart none =
-    let parts = later (user_of entry) none in
+    let parts = later (entry_user entry) none in
     let here : p entry ≡ false = apart entry parts.0 in
     sum_by-cons (λ (e : Entry). cond (p e) 1 0) entry entries ∙ (λ i. cond (here i) 1 0 + none_counted user p entries apart parts.1 i)
   where
-    later : (o : Option (List ℕ)) → list_any (bytes_eq user) (cons_option o (filter_map user_of entries)) ≡ false → (option_map_or (λ other. bytes_eq other user) o false ≡ false) × (list_any (bytes_eq user) (filter_map user_of entries) ≡ false)
+    later : (o : Option (List ℕ)) → list_any (bytes_eq user) (cons_option o (filter_map entry_user entries)) ≡ false → (option_map_or (λ other. bytes_eq other user) o false ≡ false) × (list_any (bytes_eq user) (filter_map entry_user entries) ≡ false)
     later None h = (refl, h)
     later (Some other) h =
-        elim (bytes_eq user other) as (λ b. bytes_eq user other ≡ b → (b || list_any (bytes_eq user) (filter_map user_of entries)) ≡ false → (bytes_eq other user ≡ false) × (list_any (bytes_eq user) (filter_map user_of entries) ≡ false)) [
+        elim (bytes_eq user other) as (λ b. bytes_eq user other ≡ b → (b || list_any (bytes_eq user) (filter_map entry_user entries)) ≡ false → (bytes_eq other user ≡ false) × (list_any (bytes_eq user) (filter_map entry_user entries) ≡ false)) [
           | true ↦ λ e f. absurd (cc)
           | false ↦ λ e f. (not_same user other e, f)
         ] refl h
@@ -138,7 +138,7 @@ no_look user (Act other group client id call) none = refl
 no_look user (Look other group order base) none = none
 no_look user (Retire group) none = refl
 
-no_tally : (user : List ℕ) (book : Book) → list_any (bytes_eq user) (filter_map user_of book.entries) ≡ false → tally_of user book ≡ no_entries
+no_tally : (user : List ℕ) (book : Book) → list_any (bytes_eq user) (filter_map entry_user book.entries) ≡ false → tally_of user book ≡ no_entries
 no_tally user book none =
     (λ i. numbers (none_counted user (is_act_by user) book.entries (no_act user) none i) (none_counted user (is_void_by user) book.entries (no_void user) none i) (none_counted user (is_look_by user) book.entries (no_look user) none i))
 
@@ -153,9 +153,9 @@ found_text text found (other ∷ texts) there =
 -- what is found among the tallies of a book
 pub tally_found : (user : List ℕ) (book : Book) → tally_in user (tallies_of book) ≡ tally_of user book
 tally_found user book =
-    ap (λ (o : Option Tallied). option_map_or (λ tallied. tallied.1) o no_entries) (sym (find-map tallied_key (told (λ u. tally_of u book)) user (users_of book)))
-    ∙ elim (find_by text_key user (users_of book)) as (λ o. find_by text_key user (users_of book) ≡ o → option_map_or (λ tallied. tallied.1) (option_map (told (λ u. tally_of u book)) o) no_entries ≡ tally_of user book) [
-      | None ↦ λ e. sym (no_tally user book (sym (found-sorted text_key user (filter_map user_of book.entries)) ∙ ap is_some e))
+    ap (λ (o : Option Tallied). option_map_or (λ tallied. tallied.1) o no_entries) (sym (find-map tallied_key (tallied (λ u. tally_of u book)) user (users_of book)))
+    ∙ elim (find_by text_key user (users_of book)) as (λ o. find_by text_key user (users_of book) ≡ o → option_map_or (λ tallied. tallied.1) (option_map (tallied (λ u. tally_of u book)) o) no_entries ≡ tally_of user book) [
+      | None ↦ λ e. sym (no_tally user book (sym (found-sorted text_key user (filter_map entry_user book.entries)) ∙ ap is_some e))
       | Some found ↦ λ e. ap (λ (u : List ℕ). tally_of u book) (sym (found_text user found (users_of book) e))
     ] refl
 
@@ -166,19 +166,19 @@ tally_rises user book short =
     (omega (arith, count_by-le-length (is_act_by user) book.entries), omega (arith, count_by-le-length (is_void_by user) book.entries), omega (arith, count_by-le-length (is_look_by user) book.entries))
 
 -- the tallies after one more entry
-counted_users : (book : Book) (entry : Entry) (o : Option (List ℕ)) (users : List (List ℕ)) → user_of entry ≡ o → users ≡ option_map_or (λ user. put_by text_key user (users_of book)) o (users_of book)
-    → option_map_or (λ user. put_by tallied_key (user, with_one entry (tally_in user (tallies_of book))) (tallies_of book)) o (tallies_of book) ≡ map (told (λ user. tally_of user (with_entry book entry))) users
+counted_users : (book : Book) (entry : Entry) (o : Option (List ℕ)) (users : List (List ℕ)) → entry_user entry ≡ o → users ≡ option_map_or (λ user. put_by text_key user (users_of book)) o (users_of book)
+    → option_map_or (λ user. put_by tallied_key (user, with_one entry (tally_in user (tallies_of book))) (tallies_of book)) o (tallies_of book) ≡ map (tallied (λ user. tally_of user (with_entry book entry))) users
 counted_users book entry None users by are =
-    ap (λ (f : List ℕ → Tally). map (told f) (users_of book)) (λ i user. same user i) ∙ ap (map (told (λ user. tally_of user (with_entry book entry)))) (sym are)
+    ap (λ (f : List ℕ → Tally). map (tallied f) (users_of book)) (λ i user. same user i) ∙ ap (map (tallied (λ user. tally_of user (with_entry book entry)))) (sym are)
   where
     same : (user : List ℕ) → tally_of user book ≡ tally_of user (with_entry book entry)
     same user = sym (tally_last user book entry ∙ ap (λ (o : Option (List ℕ)). cond (option_map_or (λ other. bytes_eq other user) o false) (with_one entry (tally_of user book)) (tally_of user book)) by)
 counted_users book entry (Some user) users by are =
     ap (λ (t : Tally). put_by tallied_key (user, with_one entry t) (tallies_of book)) (tally_found user book)
     ∙ ap (λ (t : Tally). put_by tallied_key (user, t) (tallies_of book)) (sym own)
-    ∙ sym (told_put user (after user) (λ u. tally_of u book) after other (users_of book) (in_order-sorted text_key (filter_map user_of book.entries)))
-    ∙ sym (map-put tallied_key (told after) user (users_of book))
-    ∙ ap (map (told after)) (sym are)
+    ∙ sym (tallied_put user (after user) (λ u. tally_of u book) after other (users_of book) (in_order-sorted text_key (filter_map entry_user book.entries)))
+    ∙ sym (map-put tallied_key (tallied after) user (users_of book))
+    ∙ ap (map (tallied after)) (sym are)
   where
     after : List ℕ → Tally
     after u = tally_of u (with_entry book entry)
@@ -192,15 +192,15 @@ counted_users book entry (Some user) users by are =
 last_taken : (book : Book) (before : ℕ) (entry : Entry) → before < size book → entry ≡ get_or book.entries before entry → up_to (before + 1) book ≡ with_entry (up_to before book) entry
 last_taken book before entry lt is = ap book_of (take_more book.entries before entry lt ∙ ap (λ (e : Entry). take before book.entries ++ e ∷ []) (sym is))
 
-pub tallies_more : (book : Book) (before : ℕ) (entry : Entry) (tallies next : List Tallied) → Some entry ≡ entry_at (before + 1) book → tallies ≡ tallies_of (up_to before book) → next ≡ counted entry tallies → next ≡ tallies_of (up_to (before + 1) book)
+pub tallies_more : (book : Book) (before : ℕ) (entry : Entry) (tallies next : List Tallied) → Some entry ≡ entry_at (before + 1) book → tallies ≡ tallies_of (up_to before book) → next ≡ tallied_with entry tallies → next ≡ tallies_of (up_to (before + 1) book)
 tallies_more book before entry tallies next there so_far counts =
     let at = entry_next book before entry there in
     counts
-    ∙ ap (counted entry) so_far
-    ∙ counted_users (up_to before book) entry (user_of entry) (users_of (up_to (before + 1) book)) refl (sorted_more text_key user_of book.entries before entry at.0 at.1)
-    ∙ ap (λ (b : Book). map (told (λ user. tally_of user b)) (users_of (up_to (before + 1) book))) (sym (last_taken book before entry at.0 at.1))
+    ∙ ap (tallied_with entry) so_far
+    ∙ counted_users (up_to before book) entry (entry_user entry) (users_of (up_to (before + 1) book)) refl (sorted_more text_key entry_user book.entries before entry at.0 at.1)
+    ∙ ap (λ (b : Book). map (tallied (λ user. tally_of user b)) (users_of (up_to (before + 1) book))) (sym (last_taken book before entry at.0 at.1))
 
-pub groups_more : (book : Book) (before : ℕ) (entry : Entry) (groups next : List (List ℕ)) → Some entry ≡ entry_at (before + 1) book → groups ≡ groups_of (up_to before book) → next ≡ option_map_or (λ group. put_by (λ text. text) group groups) (named_group entry) groups → next ≡ groups_of (up_to (before + 1) book)
+pub groups_more : (book : Book) (before : ℕ) (entry : Entry) (groups next : List (List ℕ)) → Some entry ≡ entry_at (before + 1) book → groups ≡ group_ids (up_to before book) → next ≡ option_map_or (λ group. put_by (λ text. text) group groups) (named_group entry) groups → next ≡ group_ids (up_to (before + 1) book)
 groups_more book before entry groups next there so_far adds =
     let at = entry_next book before entry there in
     adds

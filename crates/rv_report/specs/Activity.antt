@@ -10,10 +10,10 @@ use Rattle.rv_book.specs.Book.{Book, retired}
 use Rattle.rv_report.specs.Texts.{quoted, in_ten}
 
 -- who made an act or a look
-abbrev pub user_of : Entry → Option (List ℕ)
-user_of (Act user group client id call) = Some user
-user_of (Look user group order base) = Some user
-user_of (Retire group) = None
+abbrev pub entry_user : Entry → Option (List ℕ)
+entry_user (Act user group client id call) = Some user
+entry_user (Look user group order base) = Some user
+entry_user (Retire group) = None
 
 -- the group that an act or a look names
 abbrev pub named_group : Entry → Option (List ℕ)
@@ -26,10 +26,10 @@ abbrev pub in_order : List (List ℕ) → List (List ℕ)
 in_order texts = sorted_by (λ text. text) texts
 
 abbrev pub users_of : Book → List (List ℕ)
-users_of book = in_order (filter_map user_of book.entries)
+users_of book = in_order (filter_map entry_user book.entries)
 
-abbrev pub groups_of : Book → List (List ℕ)
-groups_of book = in_order (filter_map named_group book.entries)
+abbrev pub group_ids : Book → List (List ℕ)
+group_ids book = in_order (filter_map named_group book.entries)
 
 abbrev pub is_act_by : List ℕ → Entry → Bool
 is_act_by user (Act other group client id call) = bytes_eq other user
@@ -53,7 +53,7 @@ user_text book user =
 
 -- how many groups an act or a look names, and how many of them are retired
 abbrev pub groups_text : Book → List ℕ
-groups_text book = codes "groups " ++ (decimal (length (groups_of book)) ++ (codes " retired " ++ (decimal (count_by (λ group. retired group book) (groups_of book)) ++ codes "\n")))
+groups_text book = codes "groups " ++ (decimal (length (group_ids book)) ++ (codes " retired " ++ (decimal (count_by (λ group. retired group book) (group_ids book)) ++ codes "\n")))
 
 abbrev pub activity_text : Book → List ℕ
 activity_text book = flat_map (user_text book) (users_of book) ++ groups_text book

@@ -21,12 +21,12 @@ module _ {K : Type 0} (tells fails_no_more : K → Type 0) (holds : K → Loaded
     pub goes_on : fails_no_more before → fails_no_more now
 
   -- as opening answers with the greatest limit
-  abbrev pub Answers : CheckAnswer → K → K → Type 0
-  Answers (Sound entries) before now = IsSoundIn entries before now
-  Answers (Damaged damage) before now = IsDamagedIn tells fails_no_more holds faults (2 ^ 32 - 1) before now damage
-  Answers Keeper before now = Rose (faults before) (faults now) × ¬ fails_no_more before
-  Answers Memory before now = faults now ≡ faults before
+  abbrev pub AnswersCheck : CheckAnswer → K → K → Type 0
+  AnswersCheck (Sound entries) before now = IsSoundIn entries before now
+  AnswersCheck (Damaged damage) before now = IsDamagedIn tells fails_no_more holds faults (2 ^ 32 - 1) before now damage
+  AnswersCheck Keeper before now = Rose (faults before) (faults now) × ¬ fails_no_more before
+  AnswersCheck Memory before now = faults now ≡ faults before
 
   -- and the keeper holds what it held
   abbrev pub Checks : K → CheckAnswer × K → Type 0
-  Checks before checked = Answers checked.0 before checked.1 × IsLeft tells fails_no_more holds faults before checked.1
+  Checks before checked = AnswersCheck checked.0 before checked.1 × IsLeft tells fails_no_more holds faults before checked.1

@@ -6,7 +6,7 @@ use Rattle.rv_rows.specs.Held.{Stored}
 use Rattle.rv_report.specs.declared.counts.Counted.{Counted}
 use Rattle.rv_report.specs.declared.counts.Counted.TheVariants.{CompleteTodo, List as ListCounted, OpenTodo, Share}
 use Rattle.rv_report.specs.declared.counts.Counts.{Counts}
-use Rattle.rv_report.specs.Lists.{is_list, is_open, is_share, is_todo}
+use Rattle.rv_report.specs.Lists.{is_list_row, is_open, is_share, is_todo}
 
 abbrev pub counted_as : Row → Counted
 counted_as (variants.List row) = ListCounted
@@ -38,4 +38,4 @@ counts_open OpenTodo = true
 counts_open CompleteTodo = false
 
 abbrev pub counts_of : List Stored → Counts
-counts_of rows = record { lists = count_by is_list rows; todos = count_by is_todo rows; incomplete = count_by is_open rows; shares = count_by is_share rows }
+counts_of rows = record { lists = count_by is_list_row rows; todos = count_by is_todo rows; incomplete = count_by is_open rows; shares = count_by is_share rows }

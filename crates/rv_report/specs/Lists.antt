@@ -8,10 +8,10 @@ use Rattle.rv_rows.specs.Held.{Stored}
 use Rattle.rv_rows.specs.Sharing.{list_of}
 use Rattle.rv_report.specs.Texts.{quoted}
 
-abbrev pub is_list : Stored → Bool
-is_list (variants.List row, version) = true
-is_list (variants.Share row, version) = false
-is_list (variants.Todo row, version) = false
+abbrev pub is_list_row : Stored → Bool
+is_list_row (variants.List row, version) = true
+is_list_row (variants.Share row, version) = false
+is_list_row (variants.Todo row, version) = false
 
 abbrev pub is_share : Stored → Bool
 is_share (variants.List row, version) = false
@@ -30,8 +30,8 @@ is_open (variants.Share row, version) = false
 is_open (variants.Todo row, version) = not row.complete
 
 -- the list itself, its shares and its todos
-abbrev pub rows_of : List ℕ → List Stored → List Stored
-rows_of list rows = filter (λ s. bytes_eq (list_of s.0) list) rows
+abbrev pub list_rows : List ℕ → List Stored → List Stored
+list_rows list rows = filter (λ s. bytes_eq (list_of s.0) list) rows
 
 -- three numbers with one space between, and LF
 abbrev pub counts_text : ℕ → ℕ → ℕ → List ℕ
@@ -43,15 +43,15 @@ list_text list own =
     quoted list.id ++ (codes " " ++ (quoted list.owner ++ (codes " " ++ (quoted list.name ++ (codes " " ++ counts_text (count_by is_todo own) (count_by is_open own) (count_by is_share own))))))
 
 -- the line of a row, which only a list has
-abbrev pub line_of : List Stored → Stored → List ℕ
-line_of rows (variants.List list, version) = list_text list (rows_of list.id rows)
-line_of rows (variants.Share share, version) = []
-line_of rows (variants.Todo todo, version) = []
+abbrev pub line_of_list : List Stored → Stored → List ℕ
+line_of_list rows (variants.List list, version) = list_text list (list_rows list.id rows)
+line_of_list rows (variants.Share share, version) = []
+line_of_list rows (variants.Todo todo, version) = []
 
 -- how many lists, todos and shares there are
 abbrev pub totals_text : List Stored → List ℕ
 totals_text rows =
-    codes "lists " ++ (decimal (count_by is_list rows) ++ (codes " todos " ++ (decimal (count_by is_todo rows) ++ (codes " shares " ++ (decimal (count_by is_share rows) ++ codes "\n")))))
+    codes "lists " ++ (decimal (count_by is_list_row rows) ++ (codes " todos " ++ (decimal (count_by is_todo rows) ++ (codes " shares " ++ (decimal (count_by is_share rows) ++ codes "\n")))))
 
 abbrev pub lists_text : List Stored → List ℕ
-lists_text rows = flat_map (line_of rows) rows ++ totals_text rows
+lists_text rows = flat_map (line_of_list rows) rows ++ totals_text rows

@@ -9,7 +9,7 @@ use Rattle.rv_book.specs.declared.entry.Entry.TheVariants.{Act, Look, Retire}
 use Rattle.rv_book.specs.Book.{Book}
 use Rattle.rv_report.specs.declared.tally.Tally.{Tally}
 use Rattle.rv_report.specs.Texts.{quoted, in_ten}
-use Rattle.rv_report.specs.Activity.{user_of, users_of, is_act_by, is_void_by, is_look_by}
+use Rattle.rv_report.specs.Activity.{entry_user, users_of, is_act_by, is_void_by, is_look_by}
 
 -- a user with the tally
 abbrev pub Tallied : Type 0
@@ -41,8 +41,8 @@ abbrev pub tally_in : List ℕ → List Tallied → Tally
 tally_in user tallies = option_map_or (λ tallied. tallied.1) (find_by tallied_key user tallies) no_entries
 
 -- the tallies after one more entry
-abbrev pub counted : Entry → List Tallied → List Tallied
-counted entry tallies = option_map_or (λ user. put_by tallied_key (user, with_one entry (tally_in user tallies)) tallies) (user_of entry) tallies
+abbrev pub tallied_with : Entry → List Tallied → List Tallied
+tallied_with entry tallies = option_map_or (λ user. put_by tallied_key (user, with_one entry (tally_in user tallies)) tallies) (entry_user entry) tallies
 
 -- the tally of a user in a book
 abbrev pub tally_of : List ℕ → Book → Tally

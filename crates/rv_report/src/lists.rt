@@ -1,7 +1,7 @@
 // The report of the lists.
 ghost use Rattle.std.specs.Prelude.{◌≡◌, ◌++◌, ℕ, IfOk, OnOk, codes};
 ghost use Rattle.rv_report.specs.Texts.{quoted};
-ghost use Rattle.rv_report.specs.Lists.{line_of, lists_text};
+ghost use Rattle.rv_report.specs.Lists.{line_of_list, lists_text};
 ghost use Rattle.rv_report.specs.ListLines.{counts_line, list_line, totals_line};
 
 use crate::counts::Counts;
@@ -27,7 +27,7 @@ pub fn lists_text(alloc: Global, tables: &Tables) -> Result<Bytes, Memory>
 
 // The buffer with the line of a row, which only a list has.
 fn with_line(alloc: Global, out: Vec<u8>, tables: &Tables, row: &Row) -> Result<Vec<u8>, Memory>
-    ensures { IfOk result (λ added. (version : ℕ) → added.items ≡ out.items ++ line_of tables.now.rows (row.now, version)) }
+    ensures { IfOk result (λ added. (version : ℕ) → added.items ≡ out.items ++ line_of_list tables.now.rows (row.now, version)) }
 {
     match row {
         Row::List(list) => {

@@ -2,8 +2,8 @@
 ghost use Rattle.std.specs.Prelude.{◌≡◌, ℕ, List, IfOk, OnOk, map, option_map};
 ghost use Rattle.std.specs.Option.{option_map_or};
 ghost use Rattle.rv_base.specs.Sorted.{put_by};
-ghost use Rattle.rv_report.specs.Activity.{groups_of, named_group, user_of};
-ghost use Rattle.rv_report.specs.Tallies.{counted, tallied_key, tallies_of, tally_in, MayRise};
+ghost use Rattle.rv_report.specs.Activity.{group_ids, named_group, entry_user};
+ghost use Rattle.rv_report.specs.Tallies.{tallied_with, tallied_key, tallies_of, tally_in, MayRise};
 ghost use Rattle.rv_report.specs.Shown.{shown_groups, shown_users};
 
 use crate::tally::Tally;
@@ -19,8 +19,8 @@ pub(crate) type Tallies<'b> = BTreeMap<&'b User, Tally>;
 pub(crate) type Groups<'b> = BTreeSet<&'b Id>;
 
 // Who made an act or a look.
-fn user_of(entry: &Entry) -> Option<&User>
-    ensures { option_map (λ user. user.now) result ≡ user_of entry.now }
+fn entry_user(entry: &Entry) -> Option<&User>
+    ensures { option_map (λ user. user.now) result ≡ entry_user entry.now }
 {
     match entry {
         Entry::Act { user, .. } => Some(user),
@@ -63,9 +63,9 @@ fn put<'b>(tallies: &mut Tallies<'b>, user: &'b User, tally: Tally) -> Result<()
 // Counts one more entry.
 fn count<'b>(tallies: &mut Tallies<'b>, entry: &'b Entry) -> Result<(), Memory>
     requires { (user : List ℕ) → MayRise (tally_in user (shown_users tallies.old.entries)) }
-    ensures { OnOk result (shown_users tallies.new.entries ≡ counted entry.now (shown_users tallies.old.entries)) }
+    ensures { OnOk result (shown_users tallies.new.entries ≡ tallied_with entry.now (shown_users tallies.old.entries)) }
 {
-    match user_of(entry) {
+    match entry_user(entry) {
         Some(user) => {
             let tally = tally(tallies, user).with(entry);
             put(tallies, user, tally)
@@ -89,7 +89,7 @@ fn add<'b>(groups: &mut Groups<'b>, entry: &'b Entry) -> Result<(), Memory>
 
 /// The users who have an act or a look, each with its tally, and the groups that one names: one walk of the book.
 pub(crate) fn walk(alloc: Global, book: &Book) -> Result<(Tallies<'_>, Groups<'_>), Memory>
-    ensures { IfOk result (λ told. (shown_users told.0.entries ≡ tallies_of book.now.book) × (shown_groups told.1.keys ≡ groups_of book.now.book)) }
+    ensures { IfOk result (λ told. (shown_users told.0.entries ≡ tallies_of book.now.book) × (shown_groups told.1.keys ≡ group_ids book.now.book)) }
 {
     let mut tallies = BTreeMap::new(alloc);
     let mut groups = BTreeSet::new(alloc);

@@ -21,7 +21,7 @@ use Rattle.rv_desk.specs.TurnLaws.{assures_on, no_doubt, none_settles, turn_afte
 use Rattle.rv_room.specs.declared.view.SeatView.{SeatView}
 use Rattle.rv_room.specs.Following.{KeeperFollows, FollowsAll, follows_on}
 use Rattle.rv_room.specs.Lists.{numbered}
-use Rattle.rv_room.specs.Views.{waiting, on_turn, grown, entered, listed}
+use Rattle.rv_room.specs.Views.{waiting, on_turn, grown, entered, option_items}
 use Rattle.rv_room.specs.Rule.{IsOf}
 use Rattle.rv_room.specs.Plays.{Knows}
 use Rattle.rv_room.specs.Ends.{end_view, held_view}
@@ -144,7 +144,7 @@ module _ {K : Type 0} (G : Ghosts K) where
     ends = refl;
     own = refl;
     settled = refl;
-    left = ap (λ (doubt : Doubt). v.left ++ listed doubt) (turn_left (served G.faults mid) ask outcome (served G.faults d') settled.settled.1 takes.turn);
+    left = ap (λ (doubt : Doubt). v.left ++ option_items doubt) (turn_left (served G.faults mid) ask outcome (served G.faults d') settled.settled.1 takes.turn);
     before = refl;
     after = refl;
   }

@@ -20,9 +20,9 @@ use Rattle.rv_desk.specs.Seated.{Seated}
 use Rattle.rv_room.specs.declared.view.SeatView.{SeatView}
 use Rattle.rv_room.specs.Following.{KeeperFollows, FollowsAll, follows_same, follows_on}
 use Rattle.rv_room.specs.Lists.{hit, total, once_below, count_at, numbered}
-use Rattle.rv_room.specs.Views.{IsIdle, waiting, on_turn, grown, entered, listed, noted, with_keeper, ended}
-use Rattle.rv_room.specs.Rule.{parts_of, waits_of, own_at, IsLeft, DoubtIsLeft, Fits, IsOut, Keeps, IsOf, AtHome, Kept, KeptIn}
-use Rattle.rv_room.specs.Plays.{TakesTicket, TakesIfNext, Looks, CountsSettled, CountsMade, NotesSettled, NotesKeeper, Passes, Signals}
+use Rattle.rv_room.specs.Views.{IsIdle, waiting, on_turn, grown, entered, option_items, noted, with_keeper, ended}
+use Rattle.rv_room.specs.Rule.{seat_parts, waits_of, own_at, IsLeftBySeat, DoubtIsLeft, SeatFits, IsOut, Keeps, IsOf, AtHome, Kept, KeptIn}
+use Rattle.rv_room.specs.Plays.{TakesTicket, TakesIfNext, ChecksTurn, CountsSettled, CountsMade, NotesSettled, NotesKeeper, Passes, Signals}
 use Rattle.rv_room.proofs.Totals.{total_set, total_le, total_has, here, same_at, all_map, all_append, get_front, get_last, count_at-append, below_next, drop_front}
 
 value_or : {X : Type 0} → X → Option X → X
@@ -69,7 +69,7 @@ module _ {K : Type 0} where
       i a ea
 
   -- what was left is left still, where a view's left only grows
-  pub left_set : (views : List (SeatView K)) (id : ℕ) (v w : SeatView K) → At views id v → (more : List Entry) → w.left ≡ v.left ++ more → (e : Entry) → IsLeft views e → IsLeft (set views id w) e
+  pub left_set : (views : List (SeatView K)) (id : ℕ) (v w : SeatView K) → At views id v → (more : List Entry) → w.left ≡ v.left ++ more → (e : Entry) → IsLeftBySeat views e → IsLeftBySeat (set views id w) e
   left_set views id v w at more grows e l =
       dite (ℕ_discrete l.0 id)
       (λ same. (id, w, here views id v w at, (l.3.0, ap (λ xs. slice_get xs l.3.0) grows ∙ get_front v.left more l.3.0 e (ap (λ (u : SeatView K). slice_get u.left l.3.0) (sym (same_at views l.0 id l.1 v l.2 at same)) ∙ l.3.1))))
@@ -80,11 +80,11 @@ module _ {K : Type 0} where
 
 module _ {K : Type 0} (G : Ghosts K) where
   abbrev pub AllFit : Seated K → Book → ℕ → ℕ → K → List (SeatView K) → Type 0
-  AllFit opened log front n keeper views = (j : ℕ) (v : SeatView K) → At views j v → Fits G opened log front n keeper v
+  AllFit opened log front n keeper views = (j : ℕ) (v : SeatView K) → At views j v → SeatFits G opened log front n keeper v
 
-  pub all_set : (opened : Seated K) (log : Book) (front n : ℕ) (keeper : K) (views : List (SeatView K)) (j : ℕ) (w : SeatView K) → ((i : ℕ) (u : SeatView K) → i ≢ j → At views i u → Fits G opened log front n keeper u) → Fits G opened log front n keeper w
+  pub all_set : (opened : Seated K) (log : Book) (front n : ℕ) (keeper : K) (views : List (SeatView K)) (j : ℕ) (w : SeatView K) → ((i : ℕ) (u : SeatView K) → i ≢ j → At views i u → SeatFits G opened log front n keeper u) → SeatFits G opened log front n keeper w
       → AllFit opened log front n keeper (set views j w)
-  all_set opened log front n keeper = each_set (λ _. Fits G opened log front n keeper)
+  all_set opened log front n keeper = each_set (λ _. SeatFits G opened log front n keeper)
 
   -- what follows the last of keepers follows each
   follows_later : (old new : K) → KeeperFollows G old new → (keepers : List K) → FollowsAll G keepers old → FollowsAll G keepers new
@@ -139,11 +139,11 @@ module _ {K : Type 0} (G : Ghosts K) (opened : Seated K) (seats : ℕ) where
       → w.parts ≡ v.parts
       → Extends log' opened.book
       → ((p : ℕ) → own_at p w + once_below p (size k.log) ≡ own_at p v + once_below p (size log'))
-      → ((i : ℕ) (u : SeatView K) → i ≢ id → At views i u → Fits G opened log' front' n' keeper' u)
-      → Fits G opened log' front' n' keeper' w
+      → ((i : ℕ) (u : SeatView K) → i ≢ id → At views i u → SeatFits G opened log' front' n' keeper' u)
+      → SeatFits G opened log' front' n' keeper' w
       → ((i : ℕ) (u : SeatView K) → i ≢ id → At views i u → w.waits ≡ 1 → u.waits ≡ 1 → w.ticket ≡ u.ticket → ⊥)
       → (more : List Entry) → w.left ≡ v.left ++ more
-      → AllByRecursion (IsLeft (set views id w)) w.settled
+      → AllByRecursion (IsLeftBySeat (set views id w)) w.settled
       → Rule words' homes' (set views id w)
   changes words homes views id v w k at words' homes' log' front' n' keeper' sum are slot parts begun places others mine alone more grows settled =
       let now : n' ≡ total waits_of (set views id w) = let t = total_set waits_of views id v w at in omega arith in record {
@@ -154,22 +154,22 @@ module _ {K : Type 0} (G : Ghosts K) (opened : Seated K) (seats : ℕ) where
         words_are = subst (λ (n : ℕ). words' ≡ (front' + n) % 2 ^ 64 ∷ front' % 2 ^ 64 ∷ size log' ∷ k.signals) now are;
         slot = slot;
         few = k.few;
-        parts = let t = total_set parts_of views id v w at in let q = k.parts in omega arith;
+        parts = let t = total_set seat_parts views id v w at in let q = k.parts in omega arith;
         begun = begun;
         places = λ p. let t = total_set (own_at p) views id v w at in let q = k.places p in let r = places p in omega arith;
         each = subst (λ (n : ℕ). AllFit G opened log' front' n keeper' (set views id w)) now (all_set G opened log' front' n' keeper' views id w others mine);
         apart = apart_set views id w k.apart alone;
-        left = each_set (λ _ u. AllByRecursion (IsLeft (set views id w)) u.settled) views id w (λ i u _ e. all_map _ _ u.settled (left_set views id v w at more grows) (k.left i u e)) settled;
+        left = each_set (λ _ u. AllByRecursion (IsLeftBySeat (set views id w)) u.settled) views id w (λ i u _ e. all_map _ _ u.settled (left_set views id v w at more grows) (k.left i u e)) settled;
       }
 
   waiting_few : (words : List ℕ) (homes : Homes) (views : List (SeatView K)) → Rule words homes views → total waits_of views < 2 ^ 32
-  waiting_few words homes views k = let a = total_le waits_of parts_of views (λ j v e. (k.each j v e).part) in let b = k.parts in let c = k.few in omega arith
+  waiting_few words homes views k = let a = total_le waits_of seat_parts views (λ j v e. (k.each j v e).part) in let b = k.parts in let c = k.few in omega arith
 
-  takes_fits : (log : Book) (front n : ℕ) (keeper : K) (u : SeatView K) → Fits G opened log front n keeper u → Fits G opened log front (n + 1) keeper u
+  takes_fits : (log : Book) (front n : ℕ) (keeper : K) (u : SeatView K) → SeatFits G opened log front n keeper u → SeatFits G opened log front (n + 1) keeper u
   takes_fits log front n keeper u f = record { once = f.once; part = f.part; waits = f.waits; line = (λ w. let l = f.line w in (l.0, omega (arith, l.1))); turn = f.turn; knows = f.knows; seen = f.seen; joined = f.joined; own = f.own; after = f.after; spent = f.spent }
 
   -- what the view had settled was left, and is still
-  settled_still : (words : List ℕ) (homes : Homes) (views : List (SeatView K)) (k : Rule words homes views) (id : ℕ) (v w : SeatView K) → At views id v → (more : List Entry) → w.left ≡ v.left ++ more → AllByRecursion (IsLeft (set views id w)) v.settled
+  settled_still : (words : List ℕ) (homes : Homes) (views : List (SeatView K)) (k : Rule words homes views) (id : ℕ) (v w : SeatView K) → At views id v → (more : List Entry) → w.left ≡ v.left ++ more → AllByRecursion (IsLeftBySeat (set views id w)) v.settled
   settled_still words homes views k id v w at more grows = all_map _ _ v.settled (left_set views id v w at more grows) (k.left id v at)
 
   pub takes_ticket : (slots id : ℕ) (v : SeatView K) (c : List (ℕ × Option (Seated K))) → IsIdle v → 0 < v.parts → Allows (KeptIn G opened seats) slots id (v, c) 0 (λ n. (n + 1) % 2 ^ 64) (TakesTicket (v, c))
@@ -231,14 +231,14 @@ module _ {K : Type 0} (G : Ghosts K) (opened : Seated K) (seats : ℕ) where
       )
 
   -- the number of turns that have ended is read
-  pub looks : (slots id : ℕ) (v : SeatView K) (c : List (ℕ × Option (Seated K))) → v.waits ≡ 1 → v.turns ≡ 0 → Allows (KeptIn G opened seats) slots id (v, c) 1 (λ n. n) (Looks G (v, c))
-  looks slots id v c wait off s k len at bound = dite (ℕ_discrete (slice_index s.words 1) (v.ticket % 2 ^ 64)) mine other
+  pub checks_turn : (slots id : ℕ) (v : SeatView K) (c : List (ℕ × Option (Seated K))) → v.waits ≡ 1 → v.turns ≡ 0 → Allows (KeptIn G opened seats) slots id (v, c) 1 (λ n. n) (ChecksTurn G (v, c))
+  checks_turn slots id v c wait off s k len at bound = dite (ℕ_discrete (slice_index s.words 1) (v.ticket % 2 ^ 64)) mine other
     where
       same_words : slice_set s.words 1 (slice_index s.words 1) ≡ s.words
       same_words = ap (λ ws. slice_set ws 1 (slice_index ws 1)) k.words_are ∙ sym k.words_are
 
       Goes : Type 0
-      Goes = (w : SeatView K) × (a : Act (Option (Seated K))) × Valid s.homes c a × KeptIn G opened seats (stepped s 1 (slice_index s.words 1) id c w a) × Looks G (v, c) (slice_index s.words 1) (w, carried_after c a)
+      Goes = (w : SeatView K) × (a : Act (Option (Seated K))) × Valid s.homes c a × KeptIn G opened seats (stepped s 1 (slice_index s.words 1) id c w a) × ChecksTurn G (v, c) (slice_index s.words 1) (w, carried_after c a)
 
       other : slice_index s.words 1 ≢ v.ticket % 2 ^ 64 → Goes
       other ne = (v, keeps, tt, subst (λ (ws : List ℕ). Rule ws s.homes (set s.views id v)) (sym same_words) (same_rule s.words s.homes s.views id v k at), ((λ _. refl), (λ e. absurd (ne e))))
@@ -336,7 +336,7 @@ module _ {K : Type 0} (G : Ghosts K) (opened : Seated K) (seats : ℕ) where
           zero_if zero le h = refl
           zero_if (suc n) le h = absurd (h (omega arith))
 
-  longer_fits : (log now : Book) (e : Entry) (front n : ℕ) (keeper : K) (u : SeatView K) → now ≡ with_entry log e → Fits G opened log front n keeper u → u.turns ≡ 0 → Fits G opened now front n keeper u
+  longer_fits : (log now : Book) (e : Entry) (front n : ℕ) (keeper : K) (u : SeatView K) → now ≡ with_entry log e → SeatFits G opened log front n keeper u → u.turns ≡ 0 → SeatFits G opened now front n keeper u
   longer_fits log now e front n keeper u longer f off = record { once = f.once; part = f.part; waits = f.waits; line = f.line; turn = (λ o. absurd (omega arith)); knows = f.knows; seen = still log e now longer u.seen f.seen; joined = all_map _ _ u.joined (still log e now longer) f.joined; own = all_map _ _ u.own (stands log e now longer) f.own; after = f.after; spent = f.spent }
 
   -- the parts of a view that a longer history leaves as they are
@@ -355,7 +355,7 @@ module _ {K : Type 0} (G : Ghosts K) (opened : Seated K) (seats : ℕ) where
   -- the history is one entry longer, which becomes own of the view with the turn
   grows : (s : S) (id : ℕ) (v w : SeatView K) (k : KeptIn G opened seats s) → At s.views id v → v.turns ≡ 1 → (e : Entry) (now : Book) → now ≡ with_entry v.book e → size now < 2 ^ 63
       → w.book ≡ now → w.own ≡ v.own ++ numbered (size v.book) (since (size v.book) now) → IsAsBefore v w
-      → DoubtIsLeft (set s.views id w) w.doubt → AllByRecursion (IsLeft (set s.views id w)) w.settled
+      → DoubtIsLeft (set s.views id w) w.doubt → AllByRecursion (IsLeftBySeat (set s.views id w)) w.settled
       → Rule (slice_set s.words 2 ((slice_index s.words 2 + 1) % 2 ^ 64)) s.homes (set s.views id w)
   grows s id v w k at on e now is_longer short named own same doubt settled =
       let o = on_turn_now s id v k at on in
@@ -391,7 +391,7 @@ module _ {K : Type 0} (G : Ghosts K) (opened : Seated K) (seats : ℕ) where
           let c : once_below p (size now) ≡ hit (size k.log) p + once_below p (size k.log) = ap (once_below p) size_is ∙ below_next p (size k.log) in
           omega arith
 
-      mine : Fits G opened k.log k.front (total waits_of s.views) k.keeper v → v.ticket ≡ k.front → now ≡ with_entry k.log e → v.book ≡ k.log → v.keeper ≡ Some k.keeper → v.waits ≡ 1 → w.own ≡ v.own ++ (size v.book, e) ∷ [] → Fits G opened now k.front (total waits_of s.views) k.keeper w
+      mine : SeatFits G opened k.log k.front (total waits_of s.views) k.keeper v → v.ticket ≡ k.front → now ≡ with_entry k.log e → v.book ≡ k.log → v.keeper ≡ Some k.keeper → v.waits ≡ 1 → w.own ≡ v.own ++ (size v.book, e) ∷ [] → SeatFits G opened now k.front (total waits_of s.views) k.keeper w
       mine f ticket longer is keeper wait one =
           let part = f.part in let once = f.once in let waits = f.waits in
           let w1 = same.waits in let t1 = same.turns in let p1 = same.parts in let k1 = same.ticket in
@@ -426,7 +426,7 @@ module _ {K : Type 0} (G : Ghosts K) (opened : Seated K) (seats : ℕ) where
             (record { parts = refl; waits = refl; turns = refl; ticket = refl; room = refl; keeper = refl; seen = refl; joined = refl; after = refl; left = refl })
             (doubt_set s.views id v w at [] none_more v.doubt o.doubt)
             (all_append _ v.settled _ (settled_still s.words s.homes s.views k id v w at [] none_more)
-            (subst (λ (l : List Entry). AllByRecursion (IsLeft (set s.views id w)) l) (sym new) (left_set s.views id v w at [] none_more e (o.doubt e is), tt))),
+            (subst (λ (l : List Entry). AllByRecursion (IsLeftBySeat (set s.views id w)) l) (sym new) (left_set s.views id v w at [] none_more e (o.doubt e is), tt))),
         refl,
       )
 
@@ -448,13 +448,13 @@ module _ {K : Type 0} (G : Ghosts K) (opened : Seated K) (seats : ℕ) where
       )
 
   -- the desk is looked at again: what a view with the turn becomes, of which the doubt was left
-  looked : (slots id : ℕ) (v w : SeatView K) (c : List (ℕ × Option (Seated K))) (Told : ℕ → Me (Option (Seated K)) (SeatView K) → Type 0) → v.turns ≡ 1 → (now : K) → w.keeper ≡ Some now → IfSome v.keeper (λ keeper. KeeperFollows G keeper now)
+  seen_again : (slots id : ℕ) (v w : SeatView K) (c : List (ℕ × Option (Seated K))) (Told : ℕ → Me (Option (Seated K)) (SeatView K) → Type 0) → v.turns ≡ 1 → (now : K) → w.keeper ≡ Some now → IfSome v.keeper (λ keeper. KeeperFollows G keeper now)
       → (w.parts ≡ v.parts) × (w.waits ≡ v.waits) × (w.turns ≡ v.turns) × (w.ticket ≡ v.ticket) × (w.opened ≡ v.opened) × (w.book ≡ v.book) × (w.seen ≡ v.seen) × (w.joined ≡ v.joined) × (w.own ≡ v.own) × (w.after ≡ v.after) × (w.settled ≡ v.settled)
       → (more : List Entry) → w.left ≡ v.left ++ more
       → ((views : List (SeatView K)) → At views id v → DoubtIsLeft views v.doubt → DoubtIsLeft (set views id w) w.doubt)
       → ((n : ℕ) → Told n (w, c))
       → Allows (KeptIn G opened seats) slots id (v, c) 1 (λ n. n) Told
-  looked slots id v w c Told on now is_now goes same more more_left doubt told s k len at bound =
+  seen_again slots id v w c Told on now is_now goes same more more_left doubt told s k len at bound =
       let o = on_turn_now s id v k at on in
       let n : ℕ = total waits_of s.views in
       let f = k.each id v at in
@@ -489,25 +489,25 @@ module _ {K : Type 0} (G : Ghosts K) (opened : Seated K) (seats : ℕ) where
             (λ i u ne there ww uw ts. ne (k.apart i id u v there at uw o.waits (sym ts ∙ k1)))
             more
             more_left
-            (subst (λ (l : List Entry). AllByRecursion (IsLeft (set s.views id w)) l) (sym same.10) (all_map _ _ v.settled (left_set s.views id v w at more more_left) (k.left id v at))),
+            (subst (λ (l : List Entry). AllByRecursion (IsLeftBySeat (set s.views id w)) l) (sym same.10) (all_map _ _ v.settled (left_set s.views id v w at more more_left) (k.left id v at))),
         told (slice_index s.words 1),
       )
     where
-      others : (u : SeatView K) → Fits G opened k.log k.front (total waits_of s.views) k.keeper u → u.turns ≡ 0 → KeeperFollows G k.keeper now → Fits G opened k.log k.front (total waits_of s.views) now u
+      others : (u : SeatView K) → SeatFits G opened k.log k.front (total waits_of s.views) k.keeper u → u.turns ≡ 0 → KeeperFollows G k.keeper now → SeatFits G opened k.log k.front (total waits_of s.views) now u
       others u f off up = record { once = f.once; part = f.part; waits = f.waits; line = f.line; turn = (λ o. absurd (omega arith)); knows = f.knows; seen = f.seen; joined = f.joined; own = f.own; after = follows_later G k.keeper now up u.after f.after; spent = f.spent }
 
   -- what a view's turn has left in doubt is left
-  newly_left : (views : List (SeatView K)) (id : ℕ) (v w : SeatView K) → At views id v → (d : Doubt) → w.left ≡ v.left ++ listed d → DoubtIsLeft (set views id w) d
+  newly_left : (views : List (SeatView K)) (id : ℕ) (v w : SeatView K) → At views id v → (d : Doubt) → w.left ≡ v.left ++ option_items d → DoubtIsLeft (set views id w) d
   newly_left views id v w at d more e is =
-      (id, w, here views id v w at, (length v.left, ap (λ l. slice_get l (length v.left)) (more ∙ ap (λ (x : Doubt). v.left ++ listed x) is) ∙ get_last v.left e))
+      (id, w, here views id v w at, (length v.left, ap (λ l. slice_get l (length v.left)) (more ∙ ap (λ (x : Doubt). v.left ++ option_items x) is) ∙ get_last v.left e))
 
   -- the desk has settled and stepped
   pub notes_settled : (slots id : ℕ) (v : SeatView K) (d : Seated K) → v.turns ≡ 1 → IfSome v.keeper (λ keeper. KeeperFollows G keeper d.keeper) → Allows (KeptIn G opened seats) slots id (v, (0, Some d) ∷ []) 1 (λ n. n) (NotesSettled (v, (0, Some d) ∷ []))
   notes_settled slots id v d on goes =
       let w = noted v d.doubt (Some d.keeper) in
-      looked slots id v w ((0, Some d) ∷ []) (NotesSettled (v, (0, Some d) ∷ [])) on d.keeper refl goes
+      seen_again slots id v w ((0, Some d) ∷ []) (NotesSettled (v, (0, Some d) ∷ [])) on d.keeper refl goes
       (refl, refl, refl, refl, refl, refl, refl, refl, refl, refl, refl)
-      (listed d.doubt)
+      (option_items d.doubt)
       refl
       (λ views at left. newly_left views id v w at d.doubt refl)
       (λ n. refl)
@@ -516,7 +516,7 @@ module _ {K : Type 0} (G : Ghosts K) (opened : Seated K) (seats : ℕ) where
   pub notes_keeper : (slots id : ℕ) (v : SeatView K) (d : Seated K) → v.turns ≡ 1 → IfSome v.keeper (λ keeper. KeeperFollows G keeper d.keeper) → Allows (KeptIn G opened seats) slots id (v, (0, Some d) ∷ []) 1 (λ n. n) (NotesKeeper (v, (0, Some d) ∷ []))
   notes_keeper slots id v d on goes =
       let w = with_keeper v (Some d.keeper) in
-      looked slots id v w ((0, Some d) ∷ []) (NotesKeeper (v, (0, Some d) ∷ [])) on d.keeper refl goes
+      seen_again slots id v w ((0, Some d) ∷ []) (NotesKeeper (v, (0, Some d) ∷ [])) on d.keeper refl goes
       (refl, refl, refl, refl, refl, refl, refl, refl, refl, refl, refl)
       []
       (sym (append-nil v.left))
@@ -558,7 +558,7 @@ module _ {K : Type 0} (G : Ghosts K) (opened : Seated K) (seats : ℕ) where
             k.begun
             (λ p. refl)
             (λ i u ne there. others i u (k.each i u there) (o.others i u ne there) (λ uw same. ne (k.apart i id u v there at uw wait same)) o.ticket some_wait wait)
-            (record { once = omega arith; part = omega arith; waits = omega arith; line = (λ o. absurd (omega arith)); turn = (λ o. absurd (omega arith)); knows = f.knows; seen = extends_same k.log v.book (sym o.named); joined = f.joined; own = f.own; after = all_append _ v.after (listed v.keeper) f.after (subst (λ (x : Option K). FollowsAll G (listed x) k.keeper) (sym o.keeper) (follows_same G k.keeper, tt)); spent = f.spent })
+            (record { once = omega arith; part = omega arith; waits = omega arith; line = (λ o. absurd (omega arith)); turn = (λ o. absurd (omega arith)); knows = f.knows; seen = extends_same k.log v.book (sym o.named); joined = f.joined; own = f.own; after = all_append _ v.after (option_items v.keeper) f.after (subst (λ (x : Option K). FollowsAll G (option_items x) k.keeper) (sym o.keeper) (follows_same G k.keeper, tt)); spent = f.spent })
             (λ i u ne there ww uw same. omega arith)
             []
             none_more
@@ -566,8 +566,8 @@ module _ {K : Type 0} (G : Ghosts K) (opened : Seated K) (seats : ℕ) where
         refl,
       )
     where
-      others : (i : ℕ) (u : SeatView K) → Fits G opened k.log k.front (total waits_of s.views) k.keeper u → u.turns ≡ 0 → (u.waits ≡ 1 → u.ticket ≡ v.ticket → ⊥) → v.ticket ≡ k.front → v.waits ≤ total waits_of s.views → v.waits ≡ 1
-          → Fits G opened k.log (k.front + 1) (total waits_of s.views - 1) k.keeper u
+      others : (i : ℕ) (u : SeatView K) → SeatFits G opened k.log k.front (total waits_of s.views) k.keeper u → u.turns ≡ 0 → (u.waits ≡ 1 → u.ticket ≡ v.ticket → ⊥) → v.ticket ≡ k.front → v.waits ≤ total waits_of s.views → v.waits ≡ 1
+          → SeatFits G opened k.log (k.front + 1) (total waits_of s.views - 1) k.keeper u
       others i u f off ne ticket some_wait wait =
           record { once = f.once; part = f.part; waits = f.waits; line = (λ w. let l0 = (f.line w).0 in let l1 = (f.line w).1 in let not_mine : u.ticket ≡ k.front → ⊥ = λ same. ne w (same ∙ sym ticket) in (omega arith, omega arith)); turn = (λ o. absurd (omega arith)); knows = f.knows; seen = f.seen; joined = f.joined; own = f.own; after = f.after; spent = f.spent }
 
@@ -619,5 +619,5 @@ module _ {K : Type 0} (G : Ghosts K) (opened : Seated K) (seats : ℕ) where
       → Allows (KeptIn G opened seats) slots id (v, c) 1 (λ n. (n + 1) % 2 ^ 64) (Passes (v, c))
   passes_as slots id v c d is on of same doubt keeper = subst (λ (c : Slots). Allows (KeptIn G opened seats) slots id (v, c) 1 (λ n. (n + 1) % 2 ^ 64) (Passes (v, c))) (sym is) (passes slots id v d on of same doubt keeper)
 
-  pub looks_as : (slots id : ℕ) (m : Me (Option (Seated K)) (SeatView K)) (v : SeatView K) (c : Slots) → m ≡ (v, c) → v.waits ≡ 1 → v.turns ≡ 0 → Allows (KeptIn G opened seats) slots id m 1 (λ n. n) (Looks G m)
-  looks_as slots id m v c is wait off = subst (λ (m : Me (Option (Seated K)) (SeatView K)). Allows (KeptIn G opened seats) slots id m 1 (λ n. n) (Looks G m)) (sym is) (looks slots id v c wait off)
+  pub checks_turn_as : (slots id : ℕ) (m : Me (Option (Seated K)) (SeatView K)) (v : SeatView K) (c : Slots) → m ≡ (v, c) → v.waits ≡ 1 → v.turns ≡ 0 → Allows (KeptIn G opened seats) slots id m 1 (λ n. n) (ChecksTurn G m)
+  checks_turn_as slots id m v c is wait off = subst (λ (m : Me (Option (Seated K)) (SeatView K)). Allows (KeptIn G opened seats) slots id m 1 (λ n. n) (ChecksTurn G m)) (sym is) (checks_turn slots id v c wait off)

@@ -18,7 +18,7 @@ use Rattle.rv_room.specs.declared.view.SeatView.{SeatView}
 use Rattle.rv_room.specs.Following.{KeeperFollows, FollowsAll, follows_same}
 use Rattle.rv_room.specs.Lists.{total, once_below, count_at}
 use Rattle.rv_room.specs.Views.{newcomer, spent, IsIdle, less_one, one_more, longer, both}
-use Rattle.rv_room.specs.Rule.{parts_of, waits_of, own_at, IsLeft, Fits, IsOut, Keeps, AtHome, KeptIn}
+use Rattle.rv_room.specs.Rule.{seat_parts, waits_of, own_at, IsLeftBySeat, SeatFits, IsOut, Keeps, AtHome, KeptIn}
 use Rattle.rv_room.specs.Closing.{gather, SomeLeft, Closes}
 use Rattle.rv_room.proofs.Totals.{total_set, total_snoc, total_has, total_alone, here, same_at, get_front, get_back, get_split, all_map, all_append, all_split, count_at-append}
 use Rattle.rv_room.proofs.Moves.{At, AllFit, each_set, apart_set, all_set, slot_set, left_set, some_same}
@@ -37,11 +37,11 @@ module _ {K : Type 0} where
   snoc_all : (P : ℕ → SeatView K → Type 0) (views : List (SeatView K)) (w : SeatView K) → ((i : ℕ) (u : SeatView K) → At views i u → P i u) → ((i : ℕ) → P i w) → (i : ℕ) (u : SeatView K) → At (views ++ w ∷ []) i u → P i u
   snoc_all P views w old new i u e = ⊎_elim (λ t. old i u t) (λ (same : w ≡ u). subst (P i) same (new i)) (at_snoc views w u i e)
 
-  left_longer : (views more : List (SeatView K)) (e : Entry) → IsLeft views e → IsLeft (views ++ more) e
+  left_longer : (views more : List (SeatView K)) (e : Entry) → IsLeftBySeat views e → IsLeftBySeat (views ++ more) e
   left_longer views more e l = (l.0, l.1, at_longer views more l.0 l.1 l.2, l.3)
 
   -- what the joined seat had left, the other has left now
-  left_joined : (views : List (SeatView K)) (id other : ℕ) (v w b gone : SeatView K) → At views id v → At views other w → other ≢ id → b.left ≡ v.left ++ w.left → (e : Entry) → IsLeft views e → IsLeft (set (set views id b) other gone) e
+  left_joined : (views : List (SeatView K)) (id other : ℕ) (v w b gone : SeatView K) → At views id v → At views other w → other ≢ id → b.left ≡ v.left ++ w.left → (e : Entry) → IsLeftBySeat views e → IsLeftBySeat (set (set views id b) other gone) e
   left_joined views id other v w b gone at there apart is e l =
       let mine : At (set (set views id b) other gone) id b = set_else (set views id b) other id gone (λ s. apart (sym s)) ∙ here views id v b at in
       dite (ℕ_discrete l.0 id)
@@ -51,10 +51,10 @@ module _ {K : Type 0} where
       (λ not_other. (l.0, l.1, set_else (set views id b) other l.0 gone not_other ∙ (set_else views id l.0 b not_id ∙ l.2), l.3)))
 
 module _ {K : Type 0} (G : Ghosts K) where
-  new_fits : (opened : Seated K) (log : Book) (front n parts : ℕ) (keeper : K) → Extends log opened.book → Fits G opened log front n keeper (newcomer parts opened)
+  new_fits : (opened : Seated K) (log : Book) (front n parts : ℕ) (keeper : K) → Extends log opened.book → SeatFits G opened log front n keeper (newcomer parts opened)
   new_fits opened log front n parts keeper begun = record { once = omega arith; part = omega arith; waits = omega arith; line = (λ w. absurd (omega arith)); turn = (λ t. absurd (omega arith)); knows = (λ _. refl); seen = begun; joined = tt; own = tt; after = tt; spent = (λ _. (refl, refl)) }
 
-  spent_fits : (opened : Seated K) (log : Book) (front n : ℕ) (keeper : K) → Fits G opened log front n keeper spent
+  spent_fits : (opened : Seated K) (log : Book) (front n : ℕ) (keeper : K) → SeatFits G opened log front n keeper spent
   spent_fits opened log front n keeper = record { once = omega arith; part = omega arith; waits = omega arith; line = (λ w. absurd (omega arith)); turn = (λ t. absurd (omega arith)); knows = (λ some. absurd (omega arith)); seen = (log.entries, refl); joined = tt; own = tt; after = tt; spent = (λ _. (refl, refl)) }
 
 module _ {K : Type 0} (G : Ghosts K) (opened : Seated K) (seats : ℕ) where
@@ -118,9 +118,9 @@ module _ {K : Type 0} (G : Ghosts K) (opened : Seated K) (seats : ℕ) where
     parts = omega arith;
     begun = extends_same opened.book opened.book refl;
     places = λ p. omega arith;
-    each = one (Fits G opened opened.book 0 0 opened.keeper) (new_fits G opened opened.book 0 0 seats opened.keeper (extends_same opened.book opened.book refl));
+    each = one (SeatFits G opened opened.book 0 0 opened.keeper) (new_fits G opened opened.book 0 0 seats opened.keeper (extends_same opened.book opened.book refl));
     apart = λ i j v w a b vw ww same. absurd (one (λ u. u.waits ≡ 1 → ⊥) (λ x. omega arith) i v a vw);
-    left = one (λ u. AllByRecursion (IsLeft (newcomer seats opened ∷ [])) u.settled) tt;
+    left = one (λ u. AllByRecursion (IsLeftBySeat (newcomer seats opened ∷ [])) u.settled) tt;
   }
     where
       no_doubt : (e : Entry) → (None ≡ Some e) → ⊥
@@ -146,17 +146,17 @@ module _ {K : Type 0} (G : Ghosts K) (opened : Seated K) (seats : ℕ) where
         signals = k.signals;
         words_are = subst (λ (n : ℕ). s.words ≡ (k.front + n) % 2 ^ 64 ∷ k.front % 2 ^ 64 ∷ size k.log ∷ k.signals) now k.words_are;
         slot = slot_snoc k.log k.keeper s.homes views w refl (slot_set G opened seats k.log k.keeper s.homes s.views id v l at refl refl [] refl k.slot);
-        left = snoc_all (λ _ u. AllByRecursion (IsLeft (views ++ w ∷ [])) u.settled) views w
-            (each_set (λ _ u. AllByRecursion (IsLeft (views ++ w ∷ [])) u.settled) s.views id l
+        left = snoc_all (λ _ u. AllByRecursion (IsLeftBySeat (views ++ w ∷ [])) u.settled) views w
+            (each_set (λ _ u. AllByRecursion (IsLeftBySeat (views ++ w ∷ [])) u.settled) s.views id l
             (λ i u _ e. all_map _ _ u.settled (λ x y. left_longer views (w ∷ []) x (left_set s.views id v l at [] refl x y)) (k.left i u e))
             tt)
             (λ _. tt);
         few = k.few;
-        parts = let t = total_set parts_of s.views id v l at in let t' = total_snoc parts_of views w in let q = k.parts in omega arith;
+        parts = let t = total_set seat_parts s.views id v l at in let t' = total_snoc seat_parts views w in let q = k.parts in omega arith;
         begun = k.begun;
         places = λ p. let t = total_set (own_at p) s.views id v l at in let t' = total_snoc (own_at p) views w in let q = k.places p in omega arith;
         each = subst (λ (n : ℕ). AllFit G opened k.log k.front n k.keeper (views ++ w ∷ [])) now
-            (snoc_all (λ _. Fits G opened k.log k.front n k.keeper) views w
+            (snoc_all (λ _. SeatFits G opened k.log k.front n k.keeper) views w
             (all_set G opened k.log k.front n k.keeper s.views id l (λ i u _ e. k.each i u e) (record { once = f.once; part = omega arith; waits = f.waits; line = (λ o. absurd (omega arith)); turn = (λ o. absurd (omega arith)); knows = (λ _. refl); seen = f.seen; joined = f.joined; own = f.own; after = f.after; spent = (λ z. (refl, refl)) }))
             (λ _. new_fits G opened k.log k.front n 1 k.keeper k.begun));
         apart = λ i j a b ea eb aw bw same.
@@ -186,12 +186,12 @@ module _ {K : Type 0} (G : Ghosts K) (opened : Seated K) (seats : ℕ) where
         words_are = subst (λ (n : ℕ). s.words ≡ (k.front + n) % 2 ^ 64 ∷ k.front % 2 ^ 64 ∷ size k.log ∷ k.signals) now k.words_are;
         slot = slot_joined k.log k.keeper s.homes s.views id other v w b gone at was apart refl v1 w1 v1 refl k.slot;
         left = let still = left_joined s.views id other v w b gone at was apart refl in
-            each_set (λ _ u. AllByRecursion (IsLeft (set one other gone)) u.settled) one other gone
-            (λ i u _ e. each_set (λ _ u. AllByRecursion (IsLeft (set one other gone)) u.settled) s.views id b (λ i u _ e. all_map _ _ u.settled still (k.left i u e))
+            each_set (λ _ u. AllByRecursion (IsLeftBySeat (set one other gone)) u.settled) one other gone
+            (λ i u _ e. each_set (λ _ u. AllByRecursion (IsLeftBySeat (set one other gone)) u.settled) s.views id b (λ i u _ e. all_map _ _ u.settled still (k.left i u e))
             (all_append _ v.settled w.settled (all_map _ _ v.settled still (k.left id v at)) (all_map _ _ w.settled still (k.left other w was))) i u e)
             tt;
         few = k.few;
-        parts = let t = total_set parts_of s.views id v b at in let t' = total_set parts_of one other w gone there in let q = k.parts in omega arith;
+        parts = let t = total_set seat_parts s.views id v b at in let t' = total_set seat_parts one other w gone there in let q = k.parts in omega arith;
         begun = k.begun;
         places = λ p. let t = total_set (own_at p) s.views id v b at in let t' = total_set (own_at p) one other w gone there in let q = k.places p in let a = count_at-append p v.own w.own in omega arith;
         each = subst (λ (n : ℕ). AllFit G opened k.log k.front n k.keeper (set one other gone)) now
@@ -239,15 +239,15 @@ module _ {K : Type 0} (G : Ghosts K) (opened : Seated K) (seats : ℕ) where
       (λ (t : IsOut s.homes s.views). absurd (nobody s k at t.who t.view t.at t.turn))
       k.slot
     where
-      mine : (s : State (Option (Seated K)) (SeatView K)) (k : Holds s) → At s.views id v → (e : Entry) → IsLeft s.views e → (m : ℕ) × (slice_get v.left m ≡ Some e)
+      mine : (s : State (Option (Seated K)) (SeatView K)) (k : Holds s) → At s.views id v → (e : Entry) → IsLeftBySeat s.views e → (m : ℕ) × (slice_get v.left m ≡ Some e)
       mine s k at e l =
           dite (ℕ_discrete l.0 id)
           (λ same. (l.3.0, ap (λ (u : SeatView K). slice_get u.left l.3.0) (sym (same_at s.views l.0 id l.1 v l.2 at same)) ∙ l.3.1))
           (λ apart.
           let gone : SeatView K = spent in
-          let t = total_set parts_of s.views id v gone at in
+          let t = total_set seat_parts s.views id v gone at in
           let q = k.parts in
-          let has = total_has parts_of (set s.views id gone) l.0 l.1 (set_else s.views id l.0 gone apart ∙ l.2) in
+          let has = total_has seat_parts (set s.views id gone) l.0 l.1 (set_else s.views id l.0 gone apart ∙ l.2) in
           let none_left : l.1.left ≡ [] = ((k.each l.0 l.1 l.2).spent (omega arith)).1 in
           absurd (nothing l.3.0 e (ap (λ xs. slice_get xs l.3.0) (sym none_left) ∙ l.3.1)))
         where
@@ -256,7 +256,7 @@ module _ {K : Type 0} (G : Ghosts K) (opened : Seated K) (seats : ℕ) where
 
       nobody : (s : State (Option (Seated K)) (SeatView K)) (k : Holds s) → At s.views id v → (j : ℕ) (u : SeatView K) → At s.views j u → u.turns ≡ 1 → ⊥
       nobody s k at j u there on =
-          let whole = total_alone waits_of parts_of s.views id v at (k.parts ∙ sym all) (λ i u e z. let p = (k.each i u e).part in omega arith) in
+          let whole = total_alone waits_of seat_parts s.views id v at (k.parts ∙ sym all) (λ i u e z. let p = (k.each i u e).part in omega arith) in
           let has = total_has waits_of s.views j u there in
           let f = k.each j u there in let w = f.waits in let i0 = idle.0 in omega arith
 
@@ -269,7 +269,7 @@ module _ {K : Type 0} (G : Ghosts K) (opened : Seated K) (seats : ℕ) where
         seen = subst (λ (l : Book). Extends l v.seen) (sym is) f.seen;
         joined = subst (λ (l : Book). AllByRecursion (Extends l) v.joined) (sym is) f.joined;
         own = subst (λ (l : Book). AllByRecursion (λ x. slice_get l.entries x.0 ≡ Some x.1) v.own) (sym is) f.own;
-        places = λ p. let whole = total_alone (own_at p) parts_of s.views id v at (k.parts ∙ sym all) (λ i u e z. ap (count_at p) ((k.each i u e).spent z).0) in let q = k.places p in let e : once_below p (size d.book) ≡ once_below p (size k.log) = ap (λ (l : Book). once_below p (size l)) is in omega arith;
+        places = λ p. let whole = total_alone (own_at p) seat_parts s.views id v at (k.parts ∙ sym all) (λ i u e z. ap (count_at p) ((k.each i u e).spent z).0) in let q = k.places p in let e : once_below p (size d.book) ≡ once_below p (size k.log) = ap (λ (l : Book). once_below p (size l)) is in omega arith;
         left = all_map _ _ v.settled (λ e l. mine s k at e l) (k.left id v at);
         doubt = λ e is. mine s k at e (h.doubt e is);
         after = subst (λ (x : K). FollowsAll G v.after x) (sym h.keeper_is) f.after;
@@ -289,7 +289,7 @@ module _ {K : Type 0} where
   gather_places p v [] = omega arith
   gather_places p v (w ∷ ws) = let r = gather_places p v ws in let a = count_at-append p (gather v ws).own w.own in omega arith
 
-  pub gather_parts : (v : SeatView K) (ws : List (SeatView K)) → (gather v ws).parts ≡ v.parts + total parts_of ws
+  pub gather_parts : (v : SeatView K) (ws : List (SeatView K)) → (gather v ws).parts ≡ v.parts + total seat_parts ws
   gather_parts v [] = omega arith
   gather_parts v (w ∷ ws) = let r = gather_parts v ws in omega arith
 
@@ -303,7 +303,7 @@ module _ {K : Type 0} where
 
 module _ {K : Type 0} (G : Ghosts K) (opened : Seated K) where
   -- what is known of the book that was closed, from what the one view knows
-  closes : (v : SeatView K) (ws : List (SeatView K)) (homes : List (Option (Seated K))) (c : Closing G opened (total parts_of (ws ++ v ∷ [])) (gather v ws) homes) → Closes G opened (ws ++ v ∷ []) c.desk
+  closes : (v : SeatView K) (ws : List (SeatView K)) (homes : List (Option (Seated K))) (c : Closing G opened (total seat_parts (ws ++ v ∷ [])) (gather v ws) homes) → Closes G opened (ws ++ v ∷ []) c.desk
   closes v ws homes c =
       let own = gather_all (λ v. v.own) (λ v w. refl) (λ x. slice_get c.desk.book.entries x.0 ≡ Some x.1) v ws c.own in
       let after = gather_all (λ v. v.after) (λ v w. refl) (λ keeper. KeeperFollows G keeper c.desk.keeper) v ws c.after in
@@ -337,19 +337,19 @@ module _ {K : Type 0} (G : Ghosts K) (opened : Seated K) where
 
   -- the desk of a room that was closed
   pub shut : (seats id : ℕ) (v : SeatView K) (words : List ℕ) (homes : List (Option (Seated K))) (first : SeatView K) (ws : List (SeatView K))
-      → v ≡ gather first ws → IsIdle first → total parts_of (ws ++ first ∷ []) ≡ seats → Final (Seen (KeptIn G opened seats) id v) words homes
+      → v ≡ gather first ws → IsIdle first → total seat_parts (ws ++ first ∷ []) ≡ seats → Final (Seen (KeptIn G opened seats) id v) words homes
       → (slot : Option (Seated K)) → get_elem? homes 0 ≡ some slot → (d : Seated K) × (slot ≡ Some d) × Closes G opened (ws ++ first ∷ []) d
   shut seats id v words homes first ws is idle all final slot at =
-      let t = total_snoc parts_of ws first in
+      let t = total_snoc seat_parts ws first in
       let p = gather_parts first ws in
       let same : v.parts ≡ (gather first ws).parts = ap (λ (u : SeatView K). u.parts) is in
       let c : Closing G opened seats v homes = closing G opened seats id v words homes (subst IsIdle (sym is) (gather_idle first ws idle)) (omega arith) final in
-      let c' : Closing G opened (total parts_of (ws ++ first ∷ [])) (gather first ws) homes = subst (λ (x : ℕ × SeatView K). Closing G opened x.0 x.1 homes) (λ i. (sym all i, is i)) c in
+      let c' : Closing G opened (total seat_parts (ws ++ first ∷ [])) (gather first ws) homes = subst (λ (x : ℕ × SeatView K). Closing G opened x.0 x.1 homes) (λ i. (sym all i, is i)) c in
       (c'.desk, some-injective _ _ (sym at ∙ c'.home), closes first ws homes c')
 
   -- the same, of a desk that was found in the slot
   pub shut_at : (seats id : ℕ) (v : SeatView K) (words : List ℕ) (homes : List (Option (Seated K))) (first : SeatView K) (ws : List (SeatView K))
-      → v ≡ gather first ws → IsIdle first → total parts_of (ws ++ first ∷ []) ≡ seats → Final (Seen (KeptIn G opened seats) id v) words homes
+      → v ≡ gather first ws → IsIdle first → total seat_parts (ws ++ first ∷ []) ≡ seats → Final (Seen (KeptIn G opened seats) id v) words homes
       → (slot : Option (Seated K)) → get_elem? homes 0 ≡ some slot → (d : Seated K) → slot ≡ Some d → Closes G opened (ws ++ first ∷ []) d
   shut_at seats id v words homes first ws is idle all final slot at d found =
       let s = shut seats id v words homes first ws is idle all final slot at in

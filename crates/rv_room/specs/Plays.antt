@@ -31,8 +31,8 @@ module _ {K : Type 0} where
 
   -- The number of turns that have ended is another than the seat's ticket, and all stays; or it is the ticket, and the seat has the
   -- turn and the desk, whose book goes on from what the seat had seen, and whose keeper follows those that it remembers.
-  abbrev pub Looks : Ghosts K → Knows K → ℕ → Knows K → Type 0
-  Looks G m n m' =
+  abbrev pub ChecksTurn : Ghosts K → Knows K → ℕ → Knows K → Type 0
+  ChecksTurn G m n m' =
       (n ≢ m.0.ticket % 2 ^ 64 → m' ≡ m)
       × (n ≡ m.0.ticket % 2 ^ 64 → (d : Seated K) × IsOf G m.0 d × Extends d.book m.0.seen × FollowsAll G m.0.after d.keeper × (m' ≡ (on_turn G.faults m.0 d, (0, Some d) ∷ m.1)))
 

@@ -16,8 +16,8 @@ use Rattle.rv_room.specs.Following.{KeeperFollows, FollowsAll}
 use Rattle.rv_room.specs.Lists.{total, once_below, count_at}
 
 module _ {K : Type 0} where
-  abbrev pub parts_of : SeatView K → ℕ
-  parts_of v = v.parts
+  abbrev pub seat_parts : SeatView K → ℕ
+  seat_parts v = v.parts
 
   abbrev pub waits_of : SeatView K → ℕ
   waits_of v = v.waits
@@ -26,11 +26,11 @@ module _ {K : Type 0} where
   own_at n v = count_at n v.own
 
   -- some seat's turn left the entry in doubt
-  abbrev pub IsLeft : List (SeatView K) → Entry → Type 0
-  IsLeft views e = (j : ℕ) × (v : SeatView K) × (get_elem? views j ≡ some v) × ((k : ℕ) × (slice_get v.left k ≡ Some e))
+  abbrev pub IsLeftBySeat : List (SeatView K) → Entry → Type 0
+  IsLeftBySeat views e = (j : ℕ) × (v : SeatView K) × (get_elem? views j ≡ some v) × ((k : ℕ) × (slice_get v.left k ≡ Some e))
 
   abbrev pub DoubtIsLeft : List (SeatView K) → Doubt → Type 0
-  DoubtIsLeft views doubt = (e : Entry) → doubt ≡ Some e → IsLeft views e
+  DoubtIsLeft views doubt = (e : Entry) → doubt ≡ Some e → IsLeftBySeat views e
 
   -- a seat has the turn, and the slot is empty
   pub record IsOut (homes : List (maybe.Option (Option (Seated K)))) (views : List (SeatView K)) : Type 0 where
@@ -53,7 +53,7 @@ module _ {K : Type 0} (G : Ghosts K) where
 
   -- What holds of one view, where the room was opened with this desk, this is the history, so many turns have ended, so many seats
   -- wait or have the turn, and this is the keeper.
-  pub record Fits (opened : Seated K) (log : Book) (front waiting : ℕ) (keeper : K) (v : SeatView K) : Type 0 where
+  pub record SeatFits (opened : Seated K) (log : Book) (front waiting : ℕ) (keeper : K) (v : SeatView K) : Type 0 where
     pub once : v.waits ≤ 1
     pub part : v.waits ≤ v.parts
     pub waits : v.turns ≤ v.waits
@@ -84,14 +84,14 @@ module _ {K : Type 0} (G : Ghosts K) where
     pub words_are : words ≡ (front + total waits_of views) % 2 ^ 64 ∷ front % 2 ^ 64 ∷ size log ∷ signals
     pub slot : AtHome opened log keeper homes views ⊎ IsOut homes views
     pub few : seats < 2 ^ 32
-    pub parts : total parts_of views ≡ seats
+    pub parts : total seat_parts views ≡ seats
     pub begun : Extends log opened.book
     -- each place after the opened book is own of one view, and once
     pub places : (n : ℕ) → total (own_at n) views + once_below n (size opened.book) ≡ once_below n (size log)
-    pub each : (j : ℕ) (v : SeatView K) → get_elem? views j ≡ some v → Fits opened log front (total waits_of views) keeper v
+    pub each : (j : ℕ) (v : SeatView K) → get_elem? views j ≡ some v → SeatFits opened log front (total waits_of views) keeper v
     pub apart : (i j : ℕ) (v w : SeatView K) → get_elem? views i ≡ some v → get_elem? views j ≡ some w → v.waits ≡ 1 → w.waits ≡ 1 → v.ticket ≡ w.ticket → i ≡ j
     -- what one view settled was left by some seat
-    pub left : (j : ℕ) (v : SeatView K) → get_elem? views j ≡ some v → AllByRecursion (IsLeft views) v.settled
+    pub left : (j : ℕ) (v : SeatView K) → get_elem? views j ≡ some v → AllByRecursion (IsLeftBySeat views) v.settled
 
   abbrev pub KeptIn : Seated K → ℕ → State (Option (Seated K)) (SeatView K) → Type 0
   KeptIn opened seats s = Kept opened seats s.words s.homes s.views

@@ -9,7 +9,7 @@ use Rattle.rv_room.specs.declared.view.SeatView.{SeatView}
 use Rattle.rv_room.specs.Following.{FollowsAll}
 use Rattle.rv_room.specs.Lists.{numbered}
 use Rattle.rv_room.specs.Rule.{Keeps}
-use Rattle.rv_room.specs.Views.{listed}
+use Rattle.rv_room.specs.Views.{option_items}
 
 -- A turn of a seat, by what it knows before and after: it is a turn of a desk, as the desk in the room stood. That desk keeps the limit of the
 -- one that the room was opened with, and its keeper follows that one's, and each that the seat remembers; its book goes on from what the
@@ -30,6 +30,6 @@ pub record IsSeatTurn {K : Type 0} (G : Ghosts K) (old : SeatView K) (ask : Ask)
   pub ends : new.ends ≡ old.ends ++ size now.book ∷ []
   pub own : new.own ≡ (old.own ++ numbered (size desk.book) (since (size desk.book) takes.turn.settled)) ++ numbered (size takes.turn.settled) (since (size takes.turn.settled) now.book)
   pub settled : new.settled ≡ old.settled ++ since (size desk.book) takes.turn.settled
-  pub left : new.left ≡ old.left ++ listed takes.turn.left
+  pub left : new.left ≡ old.left ++ option_items takes.turn.left
   pub before : new.before ≡ old.before ++ G.faults desk.keeper ∷ []
   pub after : new.after ≡ old.after ++ now.keeper ∷ []

@@ -7,9 +7,9 @@ use Rattle.rv_room.specs.declared.view.SeatView.{SeatView}
 use Rattle.rv_room.specs.Lists.{numbered}
 
 -- what is there, as a list
-abbrev pub listed : {X : Type 0} → Option X → List X
-listed None = []
-listed (Some x) = x ∷ []
+abbrev pub option_items : {X : Type 0} → Option X → List X
+option_items None = []
+option_items (Some x) = x ∷ []
 
 abbrev pub longer : Book → Book → Book
 longer xs ys = if nat_le (size xs) (size ys) then ys else xs
@@ -83,7 +83,7 @@ module _ {K : Type 0} where
 
   -- the same, and this is in doubt, which the seat's turn left so
   abbrev pub noted : SeatView K → Doubt → Option K → SeatView K
-  noted v doubt keeper = record v { doubt = doubt; keeper = keeper; left = v.left ++ listed doubt }
+  noted v doubt keeper = record v { doubt = doubt; keeper = keeper; left = v.left ++ option_items doubt }
 
   -- its turn has ended
   abbrev pub ended : SeatView K → SeatView K
@@ -96,7 +96,7 @@ module _ {K : Type 0} where
     keeper = None;
     seen = v.book;
     ends = v.ends ++ size v.book ∷ [];
-    after = v.after ++ listed v.keeper;
+    after = v.after ++ option_items v.keeper;
   }
 
   -- a seat is cut off it

@@ -48,12 +48,12 @@ impl<K: Keeper> Play<Option<Desk<K>>, SeatView<K>> for TakeFreeTicket {
 }
 
 // The number of turns that have ended is read. Where it is the seat's ticket, the seat has the turn, and the desk.
-pub(crate) struct LookAtTurn;
+pub(crate) struct CheckTurn;
 
-impl<K: Keeper> Play<Option<Desk<K>>, SeatView<K>> for LookAtTurn {
-    ghost use Rattle.rv_room.specs.Plays.{Looks};
+impl<K: Keeper> Play<Option<Desk<K>>, SeatView<K>> for CheckTurn {
+    ghost use Rattle.rv_room.specs.Plays.{ChecksTurn};
 
-    ghost then = { λ _. Looks K.Keeper };
+    ghost then = { λ _. ChecksTurn K.Keeper };
 }
 
 // The entry that was in doubt is counted.

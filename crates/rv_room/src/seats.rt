@@ -13,7 +13,7 @@ impl<K: Keeper> Seats<K> {
     /// The last seat, which leaves its place reserved. It takes no memory.
     pub fn take(&mut self) -> Option<Seat<K>>
         ensures last { MatchOption result ((self.old.list.items ≡ []) × (self.new.list.items ≡ [])) (λ s. self.old.list.items ≡ self.new.list.items ++ s ∷ []) }
-        ensures room { vec_capacity self.new.list ≡ vec_capacity self.old.list }
+        ensures capacity { vec_capacity self.new.list ≡ vec_capacity self.old.list }
     {
         self.list.pop()
     }
@@ -22,7 +22,7 @@ impl<K: Keeper> Seats<K> {
     pub fn give(&mut self, seat: Seat<K>)
         requires { vec_len self.old.list + 1 ≤ vec_capacity self.old.list }
         ensures list { self.new.list.items ≡ self.old.list.items ++ seat ∷ [] }
-        ensures room { vec_capacity self.new.list ≡ vec_capacity self.old.list }
+        ensures capacity { vec_capacity self.new.list ≡ vec_capacity self.old.list }
     {
         self.list.push_reserved(seat);
     }

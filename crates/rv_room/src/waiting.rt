@@ -8,14 +8,14 @@ ghost use Rattle.rv_room.specs.Rule.{IsOf};
 ghost use Rattle.rv_room.specs.Views.{IsIdle, ended, on_turn};
 
 use crate::room::Room;
-use crate::rule::{LookAtTurn, PassTurn, Signal, TakeFreeTicket, TakeTicket};
+use crate::rule::{CheckTurn, PassTurn, Signal, TakeFreeTicket, TakeTicket};
 use crate::seat::Token;
 use rv_keeper::Keeper;
 use std::hint;
 use std::sync::Wait;
 
-// How often a seat looks for its turn before it sleeps: for about as long as it takes to wake a thread.
-const LOOKS: u32 = 2048;
+// How often a seat spins for its turn before it sleeps: for about as long as it takes to wake a thread.
+const SPINS: u32 = 2048;
 
 // How often a seat sleeps before it takes a ticket behind others. From then on nobody can go before it.
 const SLEEPS: u32 = 16;
@@ -43,7 +43,7 @@ fn bell_of(ticket: u64) -> usize
 }
 
 impl<K: Keeper> Room<K> {
-    // The next ticket, if its turn seems to have come, which is so where no seat has a ticket. It can change between the two looks.
+    // The next ticket, if its turn seems to have come, which is so where no seat has a ticket. It can change between the two reads.
     fn free_ticket(&self) -> Option<u64> {
         let ended = self.table.shared.peek(TURNS);
         if self.table.shared.peek(TICKETS) == ended {
@@ -70,15 +70,15 @@ impl<K: Keeper> Room<K> {
         if was == ticket { Some(ticket) } else { None }
     }
 
-    // Takes the next ticket as soon as its turn has come, but gives up after many looks.
-    fn look_for_ticket(&self, token: &mut Token<K>) -> Option<u64>
+    // Takes the next ticket as soon as its turn has come, but gives up after many spins.
+    fn spin_for_ticket(&self, token: &mut Token<K>) -> Option<u64>
         requires table { token.old.table_id ≡ self.now.table.shared.table_id }
         requires idle { IsIdle token.old.me.0 × (0 < token.old.me.0.parts) }
         ensures same { (token.new.table_id ≡ token.old.table_id) × (token.new.id ≡ token.old.id) }
         ensures waits { IfSome result (λ ticket. TakesTicket token.old.me ticket token.new.me) }
         ensures stays { result ≡ None → token.new.me ≡ token.old.me }
     {
-        for _ in 0..LOOKS {
+        for _ in 0..SPINS {
             if let Some(ticket) = self.take_free_ticket(token) {
                 return Some(ticket);
             }
@@ -87,8 +87,8 @@ impl<K: Keeper> Room<K> {
         None
     }
 
-    // Sleeps until a turn has ended. It counts itself among the sleepers before it looks for the last time: so a turn that ends after
-    // this look wakes it.
+    // Sleeps until a turn has ended. It counts itself among the sleepers before it checks for the last time: so a turn that ends after
+    // this check wakes it.
     fn sleep(&self, rt: &impl Wait, token: &mut Token<K>)
         requires table { token.old.table_id ≡ self.now.table.shared.table_id }
         ensures { (token.new.table_id ≡ token.old.table_id) × (token.new.id ≡ token.old.id) × (token.new.me ≡ token.old.me) }
@@ -119,7 +119,7 @@ impl<K: Keeper> Room<K> {
         ensures waits { TakesTicket token.old.me result token.new.me }
     {
         for _ in 0..SLEEPS {
-            if let Some(ticket) = self.look_for_ticket(token) {
+            if let Some(ticket) = self.spin_for_ticket(token) {
                 return ticket;
             }
             self.sleep(rt, token);
@@ -135,28 +135,28 @@ impl<K: Keeper> Room<K> {
         ensures turn { (d : Seated K) × IsOf K.Keeper token.old.me.0 d × Extends d.book token.old.me.0.seen × FollowsAll K.Keeper token.old.me.0.after d.keeper × (token.new.me ≡ (on_turn K.faults token.old.me.0 d, (0, Some d) ∷ token.old.me.1)) }
     {
         let bell = bell_of(ticket);
-        let mut looks = 0;
+        let mut spins = 0;
         for _ in rt.forever() {
             let rung = self.table.shared.peek(bell);
-            let found = self.table.shared.load::<LookAtTurn>(token, TURNS);
+            let found = self.table.shared.load::<CheckTurn>(token, TURNS);
             if found == ticket {
                 return;
             }
-            looks = self.rest(rt, bell, rung, looks);
+            spins = self.rest(rt, bell, rung, spins);
         }
         unreachable!()
     }
 
-    // Lets time pass, after so many looks. A seat that has looked often sleeps until the bell is rung again.
-    fn rest(&self, rt: &impl Wait, bell: usize, rung: u64, looks: u32) -> u32
+    // Lets time pass, after so many spins. A seat that has spun often sleeps until the bell is rung again.
+    fn rest(&self, rt: &impl Wait, bell: usize, rung: u64, spins: u32) -> u32
         requires { bell < 21 }
     {
-        if looks < LOOKS {
+        if spins < SPINS {
             hint::spin_loop();
-            return looks + 1;
+            return spins + 1;
         }
         self.table.shared.park(rt, bell, (rung % (1 << 32)) as u32);
-        looks
+        spins
     }
 
     // Wakes the seat that has this ticket, if it sleeps.

@@ -12,11 +12,11 @@ use Rattle.std.proofs.lemmas.Map.Text.{is_eq-slice_cmp}
 use Rattle.std.proofs.lemmas.Slice.Eq.{bytes_eq-Decides}
 use Rattle.std.proofs.lemmas.Cmp.{nat_list_cmp_total, tied_itself}
 use Rattle.rv_base.specs.Sorted.{InOrder}
-use Rattle.rv_base.specs.Places.{Below, Above, same_from, in_order-filter}
+use Rattle.rv_base.specs.Positions.{Below, Above, same_from, in_order-filter}
 use Rattle.rv_rows.specs.Held.{Stored, stored_key}
 use Rattle.rv_rows.specs.Sharing.{list_of}
 use Rattle.rv_rows.specs.Listed.{listed, list_key}
-use Rattle.rv_rows.specs.Slots.{row_of, standing, by_slot, in_list, AreSlots, IsIndexed}
+use Rattle.rv_rows.specs.Slots.{row_of, standing, by_slot, in_list, AreSlots, HasOrders}
 use Rattle.rv_rows.proofs.ListedLaws.{listed-below, listed-rises}
 use Rattle.rv_rows.proofs.SlotLaws.{by_flag, same_orders, same-filter, in_order-slots, all-filter}
 
@@ -201,7 +201,7 @@ filter-standing p slots (x ∷ os) =
     ]
 
 -- the rows of a list in the one order are those in the other
-pub listed_rows : (slots : List Stored) (by_key by_list found : List ℕ) (rows : List Stored) (list : List ℕ) → IsIndexed slots by_key by_list → standing slots by_key ≡ rows → found ≡ filter (in_list list slots) by_list
+pub listed_rows : (slots : List Stored) (by_key by_list found : List ℕ) (rows : List Stored) (list : List ℕ) → HasOrders slots by_key by_list → standing slots by_key ≡ rows → found ≡ filter (in_list list slots) by_list
     → standing slots found ≡ filter (λ s. bytes_eq (list_of s.0) list) rows
 listed_rows slots by_key by_list found rows list indexed rows_are found_is =
     let keys : InOrder (λ i. stored_key (row_of slots i)) (filter (in_list list slots) by_key) = in_order-filter (λ (i : ℕ). stored_key (row_of slots i)) (in_list list slots) by_key (in_order-slots stored_key (row_of slots) by_key indexed.key_order) in

@@ -6,7 +6,7 @@ use Rattle.std.specs.Ordering.{nat_cmp, match_ordering, ordering_then}
 use Rattle.std.specs.Cmp.Lexicographic.{slice_cmp}
 use Rattle.std.proofs.lemmas.Bool.Decides.{nat_tests}
 use Rattle.std.proofs.lemmas.Cmp.{nat_list_cmp_total, tied_itself}
-use Rattle.rv_base.specs.Places.{Below, same_from}
+use Rattle.rv_base.specs.Positions.{Below, same_from}
 use Rattle.rv_rows.specs.Listed.{listed}
 
 lowest : (y : ℕ) → nat_cmp 0 (suc y) ≡ Less

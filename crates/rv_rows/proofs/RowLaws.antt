@@ -15,7 +15,7 @@ use Rattle.rv_rows.specs.declared.row.ListRow.{ListRow}
 use Rattle.rv_rows.specs.declared.row.ShareRow.{ShareRow}
 use Rattle.rv_rows.specs.declared.row.TodoRow.{TodoRow}
 use Rattle.rv_rows.specs.Members.{within, text_in, num_in, named, has_ended}
-use Rattle.rv_rows.specs.RowTexts.{row_data, Fits, list_row_in, share_row_in, todo_row_in, either, row_in}
+use Rattle.rv_rows.specs.RowTexts.{row_data, RowIsWithin, list_row_in, share_row_in, todo_row_in, either, row_in}
 
 named_is : (k : List ℕ) (ms : Members) (x : Data × Members) → named k ms ≡ Some x → ms ≡ member k x.0 x.1
 named_is k no_members x e = absurd (none-some x e)
@@ -52,28 +52,28 @@ then : {A B P : Type 0} (o : Option A) (f : A → Option B) (y : B) → (o >>= f
 then (Some x) f y e next = next x refl e
 then None f y e next = absurd (none-some y e)
 
-list_takes : (ms : Members) (r : ListRow) → list_row_in ms ≡ Some r → (object ms ≡ row_data (variants.List r)) × Fits (variants.List r)
+list_takes : (ms : Members) (r : ListRow) → list_row_in ms ≡ Some r → (object ms ≡ row_data (variants.List r)) × RowIsWithin (variants.List r)
 unfolding list_row_in
 list_takes ms r e =
     then _ _ r e (λ a ea e. then _ _ r e (λ b eb e. then _ _ r e (λ c ec e. then _ _ r e (λ d ed e. then _ _ r e (λ i ei e. then _ _ r e (λ n en e. then _ _ r e (λ o eo e.
     list_made ms a b c d i n o r ea eb ec ed (text_is 1 128 a.0 i ei) (text_is 0 16384 b.0 n en) (text_is 1 64 c.0 o eo) e)))))))
   where
     list_made : (ms : Members) (a b c : Data × Members) (d : Unit {0}) (i n o : List ℕ) (r : ListRow) → named (codes "id") ms ≡ Some a → named (codes "name") a.1 ≡ Some b → named (codes "ownerID") b.1 ≡ Some c → has_ended c.1 ≡ Some d
-        → (a.0 ≡ string i) × IsWithin 1 128 i → (b.0 ≡ string n) × IsWithin 0 16384 n → (c.0 ≡ string o) × IsWithin 1 64 o → Some (record { id = i; name = n; owner = o }) ≡ Some r → (object ms ≡ row_data (variants.List r)) × Fits (variants.List r)
+        → (a.0 ≡ string i) × IsWithin 1 128 i → (b.0 ≡ string n) × IsWithin 0 16384 n → (c.0 ≡ string o) × IsWithin 1 64 o → Some (record { id = i; name = n; owner = o }) ≡ Some r → (object ms ≡ row_data (variants.List r)) × RowIsWithin (variants.List r)
     list_made ms a b c d i n o r ea eb ec ed ti tn to e =
-        subst (λ (q : ListRow). (object ms ≡ row_data (variants.List q)) × Fits (variants.List q)) (same_Some (record { id = i; name = n; owner = o }) r e)
+        subst (λ (q : ListRow). (object ms ≡ row_data (variants.List q)) × RowIsWithin (variants.List q)) (same_Some (record { id = i; name = n; owner = o }) r e)
         (ap (λ (t : Members). object t) (one_more (codes "id") ms a (string i) _ ea ti.0 (one_more (codes "name") a.1 b (string n) _ eb tn.0 (one_more (codes "ownerID") b.1 c (string o) _ ec to.0 (ended_is c.1 d ed)))), (ti.1, tn.1, to.1))
 
-share_takes : (ms : Members) (r : ShareRow) → share_row_in ms ≡ Some r → (object ms ≡ row_data (variants.Share r)) × Fits (variants.Share r)
+share_takes : (ms : Members) (r : ShareRow) → share_row_in ms ≡ Some r → (object ms ≡ row_data (variants.Share r)) × RowIsWithin (variants.Share r)
 unfolding share_row_in
 share_takes ms r e =
     then _ _ r e (λ a ea e. then _ _ r e (λ b eb e. then _ _ r e (λ c ec e. then _ _ r e (λ d ed e. then _ _ r e (λ i ei e. then _ _ r e (λ l el e. then _ _ r e (λ u eu e.
     share_made ms a b c d i l u r ea eb ec ed (text_is 1 128 a.0 i ei) (text_is 1 128 b.0 l el) (text_is 1 64 c.0 u eu) e)))))))
   where
     share_made : (ms : Members) (a b c : Data × Members) (d : Unit {0}) (i l u : List ℕ) (r : ShareRow) → named (codes "id") ms ≡ Some a → named (codes "listID") a.1 ≡ Some b → named (codes "userID") b.1 ≡ Some c → has_ended c.1 ≡ Some d
-        → (a.0 ≡ string i) × IsWithin 1 128 i → (b.0 ≡ string l) × IsWithin 1 128 l → (c.0 ≡ string u) × IsWithin 1 64 u → Some (record { id = i; list = l; user = u }) ≡ Some r → (object ms ≡ row_data (variants.Share r)) × Fits (variants.Share r)
+        → (a.0 ≡ string i) × IsWithin 1 128 i → (b.0 ≡ string l) × IsWithin 1 128 l → (c.0 ≡ string u) × IsWithin 1 64 u → Some (record { id = i; list = l; user = u }) ≡ Some r → (object ms ≡ row_data (variants.Share r)) × RowIsWithin (variants.Share r)
     share_made ms a b c d i l u r ea eb ec ed ti tl tu e =
-        subst (λ (q : ShareRow). (object ms ≡ row_data (variants.Share q)) × Fits (variants.Share q)) (same_Some (record { id = i; list = l; user = u }) r e)
+        subst (λ (q : ShareRow). (object ms ≡ row_data (variants.Share q)) × RowIsWithin (variants.Share q)) (same_Some (record { id = i; list = l; user = u }) r e)
         (ap (λ (t : Members). object t) (one_more (codes "id") ms a (string i) _ ea ti.0 (one_more (codes "listID") a.1 b (string l) _ eb tl.0 (one_more (codes "userID") b.1 c (string u) _ ec tu.0 (ended_is c.1 d ed)))), (ti.1, tl.1, tu.1))
 
 bool_is : (d : Data) (b : Bool) → as_bool d ≡ Some b → d ≡ boolean b
@@ -94,26 +94,26 @@ num_is (string s) n e = absurd (none-some n e)
 num_is (array ds) n e = absurd (none-some n e)
 num_is (object ms) n e = absurd (none-some n e)
 
-todo_takes : (ms : Members) (r : TodoRow) → todo_row_in ms ≡ Some r → (object ms ≡ row_data (variants.Todo r)) × Fits (variants.Todo r)
+todo_takes : (ms : Members) (r : TodoRow) → todo_row_in ms ≡ Some r → (object ms ≡ row_data (variants.Todo r)) × RowIsWithin (variants.Todo r)
 unfolding todo_row_in
 todo_takes ms r e =
     then _ _ r e (λ a ea e. then _ _ r e (λ b eb e. then _ _ r e (λ f ef e. then _ _ r e (λ g eg e. then _ _ r e (λ h eh e. then _ _ r e (λ d ed e. then _ _ r e (λ c ec e. then _ _ r e (λ i ei e. then _ _ r e (λ l el e. then _ _ r e (λ s es e. then _ _ r e (λ t et e.
     todo_made ms a b f g h d c i l s t r ea eb ef eg eh ed (bool_is a.0 c ec) (text_is 1 128 b.0 i ei) (text_is 1 128 f.0 l el) (num_is g.0 s es) (text_is 0 16384 h.0 t et) e)))))))))))
   where
     todo_made : (ms : Members) (a b f g h : Data × Members) (d : Unit {0}) (c : Bool) (i l : List ℕ) (s : ℕ) (t : List ℕ) (r : TodoRow) → named (codes "complete") ms ≡ Some a → named (codes "id") a.1 ≡ Some b → named (codes "listID") b.1 ≡ Some f → named (codes "sort") f.1 ≡ Some g → named (codes "text") g.1 ≡ Some h → has_ended h.1 ≡ Some d
-        → a.0 ≡ boolean c → (b.0 ≡ string i) × IsWithin 1 128 i → (f.0 ≡ string l) × IsWithin 1 128 l → (g.0 ≡ number (unsigned s)) × (s < 2 ^ 53) → (h.0 ≡ string t) × IsWithin 0 16384 t → Some (record { id = i; list = l; text = t; complete = c; sort = s }) ≡ Some r → (object ms ≡ row_data (variants.Todo r)) × Fits (variants.Todo r)
+        → a.0 ≡ boolean c → (b.0 ≡ string i) × IsWithin 1 128 i → (f.0 ≡ string l) × IsWithin 1 128 l → (g.0 ≡ number (unsigned s)) × (s < 2 ^ 53) → (h.0 ≡ string t) × IsWithin 0 16384 t → Some (record { id = i; list = l; text = t; complete = c; sort = s }) ≡ Some r → (object ms ≡ row_data (variants.Todo r)) × RowIsWithin (variants.Todo r)
     todo_made ms a b f g h d c i l s t r ea eb ef eg eh ed tc ti tl ts tt e =
-        subst (λ (q : TodoRow). (object ms ≡ row_data (variants.Todo q)) × Fits (variants.Todo q)) (same_Some (record { id = i; list = l; text = t; complete = c; sort = s }) r e)
+        subst (λ (q : TodoRow). (object ms ≡ row_data (variants.Todo q)) × RowIsWithin (variants.Todo q)) (same_Some (record { id = i; list = l; text = t; complete = c; sort = s }) r e)
         (ap (λ (x : Members). object x) (one_more (codes "complete") ms a (boolean c) _ ea tc (one_more (codes "id") a.1 b (string i) _ eb ti.0 (one_more (codes "listID") b.1 f (string l) _ ef tl.0 (one_more (codes "sort") f.1 g (number (unsigned s)) _ eg ts.0 (one_more (codes "text") g.1 h (string t) _ eh tt.0 (ended_is h.1 d ed)))))), (ti.1, tl.1, tt.1, ts.1))
 
 members_takes : (ms : Members) (o : Option ListRow) (p : Option ShareRow) (q : Option TodoRow) (r : Row) → list_row_in ms ≡ o → share_row_in ms ≡ p → todo_row_in ms ≡ q
-    → either (option_map (λ r. variants.List r) o) (either (option_map (λ r. variants.Share r) p) (option_map (λ r. variants.Todo r) q)) ≡ Some r → (object ms ≡ row_data r) × Fits r
-members_takes ms (Some x) p q r e f g h = subst (λ (r : Row). (object ms ≡ row_data r) × Fits r) (same_Some (variants.List x) r h) (list_takes ms x e)
-members_takes ms None (Some x) q r e f g h = subst (λ (r : Row). (object ms ≡ row_data r) × Fits r) (same_Some (variants.Share x) r h) (share_takes ms x f)
-members_takes ms None None (Some x) r e f g h = subst (λ (r : Row). (object ms ≡ row_data r) × Fits r) (same_Some (variants.Todo x) r h) (todo_takes ms x g)
+    → either (option_map (λ r. variants.List r) o) (either (option_map (λ r. variants.Share r) p) (option_map (λ r. variants.Todo r) q)) ≡ Some r → (object ms ≡ row_data r) × RowIsWithin r
+members_takes ms (Some x) p q r e f g h = subst (λ (r : Row). (object ms ≡ row_data r) × RowIsWithin r) (same_Some (variants.List x) r h) (list_takes ms x e)
+members_takes ms None (Some x) q r e f g h = subst (λ (r : Row). (object ms ≡ row_data r) × RowIsWithin r) (same_Some (variants.Share x) r h) (share_takes ms x f)
+members_takes ms None None (Some x) r e f g h = subst (λ (r : Row). (object ms ≡ row_data r) × RowIsWithin r) (same_Some (variants.Todo x) r h) (todo_takes ms x g)
 members_takes ms None None None r e f g h = absurd (none-some r h)
 
-pub row_takes : (d : Data) (r : Row) → row_in d ≡ Some r → (d ≡ row_data r) × Fits r
+pub row_takes : (d : Data) (r : Row) → row_in d ≡ Some r → (d ≡ row_data r) × RowIsWithin r
 row_takes (object ms) r e = members_takes ms _ _ _ r refl refl refl e
 row_takes null r e = absurd (none-some r e)
 row_takes (boolean b) r e = absurd (none-some r e)
@@ -121,12 +121,12 @@ row_takes (number n) r e = absurd (none-some r e)
 row_takes (string s) r e = absurd (none-some r e)
 row_takes (array ds) r e = absurd (none-some r e)
 
-pub row_again : (r : Row) → Fits r → row_in (row_data r) ≡ Some r
+pub row_again : (r : Row) → RowIsWithin r → row_in (row_data r) ≡ Some r
 unfolding list_row_in share_row_in todo_row_in
 row_again (variants.List r) fits = rw (within_again 1 128 r.id fits.0, within_again 0 16384 r.name fits.1, within_again 1 64 r.owner fits.2) refl
 row_again (variants.Share r) fits = rw (within_again 1 128 r.id fits.0, within_again 1 128 r.list fits.1, within_again 1 64 r.user fits.2) refl
 row_again (variants.Todo r) fits = rw (within_again 1 128 r.id fits.0, within_again 1 128 r.list fits.1, within_again 0 16384 r.text fits.2, num_again r.sort fits.3) refl
 
-pub is_found : (d : Data) (o : Option Row) → o ≡ row_in d → IfSome o (λ r. (d ≡ row_data r) × Fits r)
+pub is_found : (d : Data) (o : Option Row) → o ≡ row_in d → IfSome o (λ r. (d ≡ row_data r) × RowIsWithin r)
 is_found d (Some r) e = row_takes d r (sym e)
 is_found d None e = tt

@@ -12,14 +12,14 @@ use Rattle.std.proofs.Math.ListN.{length-set}
 use Rattle.std.proofs.lemmas.List.{get_or_append_left, length-append, length-map, get_or-map}
 use Rattle.std.proofs.lemmas.Option.{none-some}
 use Rattle.std.proofs.Math.Seq.{get_or-append_seam}
-use Rattle.rv_base.specs.Sorted.{find_by, InOrder, Settles}
-use Rattle.rv_base.specs.Places.{in_order-filter, find_without, equals}
+use Rattle.rv_base.specs.Sorted.{find_by, InOrder, IsPositionOf}
+use Rattle.rv_base.specs.Positions.{in_order-filter, find_without, equals}
 use Rattle.rv_base.specs.Arranged.{find-map}
 use Rattle.rv_rows.specs.Keys.{row_text}
 use Rattle.rv_rows.specs.Held.{Stored, stored_key, AreRows}
 use Rattle.rv_rows.specs.Sharing.{list_of}
 use Rattle.rv_rows.specs.Listed.{listed, list_key}
-use Rattle.rv_rows.specs.Slots.{no_row, row_of, standing, by_slot, AreSlots, AreSame, IsIndexed, relabelled, renamed, Vacates}
+use Rattle.rv_rows.specs.Slots.{no_row, row_of, standing, by_slot, AreSlots, AreSame, HasOrders, relabelled, renamed, Vacates}
 use Rattle.rv_rows.proofs.ListedLaws.{listed-key}
 use Rattle.rv_rows.proofs.SlotLaws.{by_flag, by_found, any_default, found_key, renamed_settled, struck, rewritten, member_found, found_item, in_order-slots, in_order-items, same-filter, same-map, all-to, all-map, all-insert, others-filter, alike, alike-moved, map-insert, map-remove, same-insert}
 
@@ -41,7 +41,7 @@ slot_held n s [] all e = absurd (let f : false ≡ true = e in cc)
 slot_held n s (o ∷ os) all e = by_flag (λ b. (b || list_any (eqb s) os) ≡ true → s < n) (eqb s o) (λ t f. subst (λ (i : ℕ). i < n) (sym ((Decides-eqb s o).0 t)) all.0) (λ t f. slot_held n s os all.1 f) e
 
 -- a key that no row has is not among the rows by their lists either
-pub absent_too : (slots : List Stored) (by_key by_list : List ℕ) (list key : List ℕ) → IsIndexed slots by_key by_list → find_by stored_key key (standing slots by_key) ≡ None → find_by list_key (listed list key) (standing slots by_list) ≡ None
+pub absent_too : (slots : List Stored) (by_key by_list : List ℕ) (list key : List ℕ) → HasOrders slots by_key by_list → find_by stored_key key (standing slots by_key) ≡ None → find_by list_key (listed list key) (standing slots by_list) ≡ None
 absent_too slots by_key by_list list key indexed none =
     sym (find-map list_key (row_of slots) (listed list key) by_list)
     ∙ by_found (λ o. option_map (row_of slots) o ≡ None) (find_by (λ i. list_key (row_of slots i)) (listed list key) by_list)
@@ -60,8 +60,8 @@ standing_new slots x os j all =
     map-insert (row_of (slots ++ x ∷ [])) os j (length slots)
     ∙ rw (standing_old slots x os all, get_or-append_seam slots x [] no_row) refl
 
-pub pushed : (slots new : List Stored) (by_key keys by_list lists : List ℕ) (x : Stored) (i j n : ℕ) → IsIndexed slots by_key by_list → AreRows (insert (standing slots by_key) i x) → InOrder list_key (insert (standing slots by_list) j x)
-    → new ≡ slots ++ x ∷ [] → n ≡ length slots → keys ≡ insert by_key i n → lists ≡ insert by_list j n → IsIndexed new keys lists
+pub pushed : (slots new : List Stored) (by_key keys by_list lists : List ℕ) (x : Stored) (i j n : ℕ) → HasOrders slots by_key by_list → AreRows (insert (standing slots by_key) i x) → InOrder list_key (insert (standing slots by_list) j x)
+    → new ≡ slots ++ x ∷ [] → n ≡ length slots → keys ≡ insert by_key i n → lists ≡ insert by_list j n → HasOrders new keys lists
 pushed slots new by_key keys by_list lists x i j n indexed rows order new_is n_is keys_are lists_are =
     rw (keys_are, lists_are, n_is, new_is)
     (record {
@@ -82,7 +82,7 @@ moved_in n s m i e at lt apart = by_flag (λ b. cond b s i < m) (eqb i (n - 1)) 
     false_true : false ≡ true → ⊥
     false_true e = absurd (cc)
 
--- an order without the slot at a place has the other slots
+-- an order without the slot at a position has the other slots
 left_over : (key : Stored → List ℕ) (slots : List Stored) (os : List ℕ) (j s : ℕ) → InOrder key (standing slots os) → j < length os → get_or os j 0 ≡ s → remove os j ≡ filter (λ i. not (eqb s i)) os
 left_over key slots os j s sorted lt is = struck (λ i. key (row_of slots i)) os j s (in_order-slots key (row_of slots) os sorted) lt is
 
@@ -108,8 +108,8 @@ slots_left key slots left os j s all sorted lt is gone =
     let there : s < length slots = subst (λ (i : ℕ). i < length slots) is (slot_at (length slots) os j all lt) in
     all-map (λ i. (i < length slots) × (i ≢ s)) (λ i. i < length left) (relabelled (length slots - 1) s) (remove os j) (λ i h. moved_in (length slots) s (length left) i gone.one_less there h.0 h.1) (left_slots key slots os j s all sorted lt is)
 
-pub vacated : (slots left : List Stored) (by_key keys by_list lists : List ℕ) (i j s last : ℕ) → IsIndexed slots by_key by_list → i < length by_key → get_or by_key i 0 ≡ s → j < length by_list → get_or by_list j 0 ≡ s → Vacates slots s left
-    → last ≡ length slots - 1 → keys ≡ map (relabelled last s) (remove by_key i) → lists ≡ map (relabelled last s) (remove by_list j) → IsIndexed left keys lists × (standing left keys ≡ remove (standing slots by_key) i)
+pub vacated : (slots left : List Stored) (by_key keys by_list lists : List ℕ) (i j s last : ℕ) → HasOrders slots by_key by_list → i < length by_key → get_or by_key i 0 ≡ s → j < length by_list → get_or by_list j 0 ≡ s → Vacates slots s left
+    → last ≡ length slots - 1 → keys ≡ map (relabelled last s) (remove by_key i) → lists ≡ map (relabelled last s) (remove by_list j) → HasOrders left keys lists × (standing left keys ≡ remove (standing slots by_key) i)
 vacated slots left by_key keys by_list lists i j s last indexed i_in i_is j_in j_is gone last_is keys_are lists_are =
     rw (keys_are, lists_are, last_is) (
       record {
@@ -145,8 +145,8 @@ module _ (slots : List Stored) (s : ℕ) (x : Stored) (at : s < length slots) wh
   order_stays : (key : Stored → List ℕ) (os : List ℕ) → key x ≡ key (row_of slots s) → InOrder key (standing slots os) → InOrder key (standing (set slots s x) os)
   order_stays key os same sorted = in_order-items key (row_of (set slots s x)) os (subst (λ (g : ℕ → List ℕ). InOrder g os) (keys_stay key same) (in_order-slots key (row_of slots) os sorted))
 
-pub written : (slots new : List Stored) (by_key by_list : List ℕ) (i s : ℕ) (x : Stored) → IsIndexed slots by_key by_list → i < length by_key → get_or by_key i 0 ≡ s → stored_key x ≡ stored_key (row_of slots s) → list_of x.0 ≡ list_of (row_of slots s).0
-    → new ≡ set slots s x → IsIndexed new by_key by_list × (standing new by_key ≡ set (standing slots by_key) i x)
+pub written : (slots new : List Stored) (by_key by_list : List ℕ) (i s : ℕ) (x : Stored) → HasOrders slots by_key by_list → i < length by_key → get_or by_key i 0 ≡ s → stored_key x ≡ stored_key (row_of slots s) → list_of x.0 ≡ list_of (row_of slots s).0
+    → new ≡ set slots s x → HasOrders new by_key by_list × (standing new by_key ≡ set (standing slots by_key) i x)
 written slots new by_key by_list i s x indexed lt is key list new_is =
     let at : s < length slots = subst (λ (i : ℕ). i < length slots) is (slot_at (length slots) by_key i indexed.key_slots lt) in
     rw new_is (
@@ -164,34 +164,34 @@ written slots new by_key by_list i s x indexed lt is key list new_is =
 pub read_at : {X : Type 0} (xs : List X) (j : ℕ) (x d : X) → j < length xs → x ≡ get_or xs j x → get_or xs j d ≡ x
 read_at xs j x d lt is = any_default xs j d x lt ∙ sym is
 
-place_in : (slots : List Stored) (os : List ℕ) (at : ℕ) → at < length (standing slots os) → at < length os
-place_in slots os at lt = rw (length-map os (row_of slots)) at lt
+position_in : (slots : List Stored) (os : List ℕ) (at : ℕ) → at < length (standing slots os) → at < length os
+position_in slots os at lt = rw (length-map os (row_of slots)) at lt
 
--- the row at a place of an order is that of the slot there
+-- the row at a position of an order is that of the slot there
 row_at_slot : (slots : List Stored) (os : List ℕ) (at s : ℕ) (d : Stored) → at < length (standing slots os) → s ≡ get_or os at s → get_or (standing slots os) at d ≡ row_of slots s
-row_at_slot slots os at s d lt is = get_or-map (row_of slots) os at s d (place_in slots os at lt) ∙ ap (row_of slots) (sym is)
+row_at_slot slots os at s d lt is = get_or-map (row_of slots) os at s d (position_in slots os at lt) ∙ ap (row_of slots) (sym is)
 
 pub row_found : (slots seen : List Stored) (os order : List ℕ) (rows : List Stored) (k : List ℕ) (at s : ℕ) (x : Stored) → seen ≡ slots → order ≡ os → standing slots os ≡ rows → AreSlots (length slots) os
-    → Settles stored_key k (standing seen order) (Ok at) → s ≡ get_or os at s → x ≡ get_or slots s x → Some x ≡ find_by stored_key k rows
+    → IsPositionOf stored_key k (standing seen order) (Ok at) → s ≡ get_or os at s → x ≡ get_or slots s x → Some x ≡ find_by stored_key k rows
 row_found slots seen os order rows k at s x seen_is order_is rows_are all there slot_is x_is =
-    let here : Settles stored_key k (standing slots os) (Ok at) = subst (λ (o : List ℕ). Settles stored_key k (standing slots o) (Ok at)) order_is (subst (λ (t : List Stored). Settles stored_key k (standing t order) (Ok at)) seen_is there) in
-    let low : s < length slots = subst (λ (i : ℕ). i < length slots) (read_at os at s 0 (place_in slots os at here.in_range) slot_is) (slot_at (length slots) os at all (place_in slots os at here.in_range)) in
+    let here : IsPositionOf stored_key k (standing slots os) (Ok at) = subst (λ (o : List ℕ). IsPositionOf stored_key k (standing slots o) (Ok at)) order_is (subst (λ (t : List Stored). IsPositionOf stored_key k (standing t order) (Ok at)) seen_is there) in
+    let low : s < length slots = subst (λ (i : ℕ). i < length slots) (read_at os at s 0 (position_in slots os at here.in_range) slot_is) (slot_at (length slots) os at all (position_in slots os at here.in_range)) in
     sym (
     ap (find_by stored_key k) (sym rows_are)
     ∙ here.found no_row
     ∙ ap (λ (y : Stored). Some y) (row_at_slot slots os at s no_row here.in_range slot_is ∙ read_at slots s x no_row low x_is)
     )
 
-pub row_there : (slots seen : List Stored) (os order : List ℕ) (rows : List Stored) (k : List ℕ) (at : ℕ) → seen ≡ slots → order ≡ os → standing slots os ≡ rows → Settles stored_key k (standing seen order) (Ok at) → true ≡ is_some (find_by stored_key k rows)
+pub row_there : (slots seen : List Stored) (os order : List ℕ) (rows : List Stored) (k : List ℕ) (at : ℕ) → seen ≡ slots → order ≡ os → standing slots os ≡ rows → IsPositionOf stored_key k (standing seen order) (Ok at) → true ≡ is_some (find_by stored_key k rows)
 row_there slots seen os order rows k at seen_is order_is rows_are there =
-    let here : Settles stored_key k (standing slots os) (Ok at) = subst (λ (o : List ℕ). Settles stored_key k (standing slots o) (Ok at)) order_is (subst (λ (t : List Stored). Settles stored_key k (standing t order) (Ok at)) seen_is there) in
+    let here : IsPositionOf stored_key k (standing slots os) (Ok at) = subst (λ (o : List ℕ). IsPositionOf stored_key k (standing slots o) (Ok at)) order_is (subst (λ (t : List Stored). IsPositionOf stored_key k (standing t order) (Ok at)) seen_is there) in
     sym (ap (λ (rs : List Stored). is_some (find_by stored_key k rs)) (sym rows_are) ∙ ap is_some (here.found no_row))
 
-pub written_at : (slots new : List Stored) (by_key by_list : List ℕ) (rows : List Stored) (at s : ℕ) (x old : Stored) (l m : List ℕ) → IsIndexed slots by_key by_list → standing slots by_key ≡ rows → Settles stored_key (stored_key x) rows (Ok at)
-    → s ≡ get_or by_key at s → old ≡ get_or slots s old → true ≡ bytes_eq l m → l ≡ list_of old.0 → m ≡ list_of x.0 → new ≡ set slots s x → IsIndexed new by_key by_list × (standing new by_key ≡ set rows at x)
+pub written_at : (slots new : List Stored) (by_key by_list : List ℕ) (rows : List Stored) (at s : ℕ) (x old : Stored) (l m : List ℕ) → HasOrders slots by_key by_list → standing slots by_key ≡ rows → IsPositionOf stored_key (stored_key x) rows (Ok at)
+    → s ≡ get_or by_key at s → old ≡ get_or slots s old → true ≡ bytes_eq l m → l ≡ list_of old.0 → m ≡ list_of x.0 → new ≡ set slots s x → HasOrders new by_key by_list × (standing new by_key ≡ set rows at x)
 written_at slots new by_key by_list rows at s x old l m indexed rows_are there slot_is old_is same l_is m_is new_is =
-    let here : Settles stored_key (stored_key x) (standing slots by_key) (Ok at) = subst (λ (rs : List Stored). Settles stored_key (stored_key x) rs (Ok at)) (sym rows_are) there in
-    let lt : at < length by_key = place_in slots by_key at here.in_range in
+    let here : IsPositionOf stored_key (stored_key x) (standing slots by_key) (Ok at) = subst (λ (rs : List Stored). IsPositionOf stored_key (stored_key x) rs (Ok at)) (sym rows_are) there in
+    let lt : at < length by_key = position_in slots by_key at here.in_range in
     let read : get_or by_key at 0 ≡ s = read_at by_key at s 0 lt slot_is in
     let low : s < length slots = subst (λ (i : ℕ). i < length slots) read (slot_at (length slots) by_key at indexed.key_slots lt) in
     let key : stored_key x ≡ stored_key (row_of slots s) = found_key stored_key (stored_key x) (standing slots by_key) (get_or (standing slots by_key) at no_row) (here.found no_row) ∙ ap stored_key (row_at_slot slots by_key at s no_row here.in_range slot_is) in
@@ -199,35 +199,35 @@ written_at slots new by_key by_list rows at s x old l m indexed rows_are there s
     let both = written slots new by_key by_list at s x indexed lt read key list new_is in
     (both.0, both.1 ∙ ap (λ (rs : List Stored). set rs at x) rows_are)
 
--- a row that leaves its place and another that takes it
+-- a row that leaves its position and another that takes it
 reinserted : {X : Type 0} (xs : List X) (i : ℕ) (x : X) → i < length xs → insert (remove xs i) i x ≡ set xs i x
 reinserted [] i x lt = absurd (omega arith)
 reinserted (y ∷ ys) zero x lt = refl
 reinserted (y ∷ ys) (suc i) x lt = ap (λ t. y ∷ t) (reinserted ys i x (omega arith))
 
-pub again_absent : (rows left : List Stored) (k : List ℕ) (at : ℕ) → Settles stored_key k rows (Ok at) → left ≡ remove rows at → find_by stored_key k left ≡ None
+pub again_absent : (rows left : List Stored) (k : List ℕ) (at : ℕ) → IsPositionOf stored_key k rows (Ok at) → left ≡ remove rows at → find_by stored_key k left ≡ None
 again_absent rows left k at there is = ap (find_by stored_key k) (is ∙ sym there.removed) ∙ find_without stored_key k k rows ∙ ap (λ (b : Bool). cond b None (find_by stored_key k rows)) (equals k)
 
-pub again_there : (rows left : List Stored) (x : Stored) (at : ℕ) → Settles stored_key (stored_key x) rows (Ok at) → left ≡ remove rows at → insert left at x ≡ set rows at x
+pub again_there : (rows left : List Stored) (x : Stored) (at : ℕ) → IsPositionOf stored_key (stored_key x) rows (Ok at) → left ≡ remove rows at → insert left at x ≡ set rows at x
 again_there rows left x at there is = ap (λ (rs : List Stored). insert rs at x) is ∙ reinserted rows at x there.in_range
 
-pub again_in_order : (rows left : List Stored) (x : Stored) (at : ℕ) → Settles stored_key (stored_key x) rows (Ok at) → left ≡ remove rows at → AreRows (insert left at x)
+pub again_in_order : (rows left : List Stored) (x : Stored) (at : ℕ) → IsPositionOf stored_key (stored_key x) rows (Ok at) → left ≡ remove rows at → AreRows (insert left at x)
 again_in_order rows left x at there is = subst AreRows (sym (again_there rows left x at there is)) (there.written_order x refl)
 
-pub removed_at : (slots left : List Stored) (by_key keys by_list order lists : List ℕ) (rows : List Stored) (i j s last : ℕ) → IsIndexed slots by_key by_list → standing slots by_key ≡ rows → i < length rows → s ≡ get_or by_key i s
+pub removed_at : (slots left : List Stored) (by_key keys by_list order lists : List ℕ) (rows : List Stored) (i j s last : ℕ) → HasOrders slots by_key by_list → standing slots by_key ≡ rows → i < length rows → s ≡ get_or by_key i s
     → order ≡ by_list → j < length order → get_or order j 0 ≡ s → Vacates slots s left → last ≡ length slots - 1 → keys ≡ map (relabelled last s) (remove by_key i) → lists ≡ map (relabelled last s) (remove by_list j)
-    → IsIndexed left keys lists × (standing left keys ≡ remove rows i)
+    → HasOrders left keys lists × (standing left keys ≡ remove rows i)
 removed_at slots left by_key keys by_list order lists rows i j s last indexed rows_are i_in slot_is order_is j_in j_is gone last_is keys_are lists_are =
-    let i_low : i < length by_key = place_in slots by_key i (subst (λ (rs : List Stored). i < length rs) (sym rows_are) i_in) in
+    let i_low : i < length by_key = position_in slots by_key i (subst (λ (rs : List Stored). i < length rs) (sym rows_are) i_in) in
     let j_low : j < length by_list = subst (λ (o : List ℕ). j < length o) order_is j_in in
     let j_reads : get_or by_list j 0 ≡ s = subst (λ (o : List ℕ). get_or o j 0 ≡ s) order_is j_is in
     let both = vacated slots left by_key keys by_list lists i j s last indexed i_low (read_at by_key i s 0 i_low slot_is) j_low j_reads gone last_is keys_are lists_are in
     (both.0, both.1 ∙ ap (λ (rs : List Stored). remove rs i) rows_are)
 
 -- an order in which the last slot was looked for, by the key of its row
-pub struck_from : (key : Stored → List ℕ) (slots seen : List Stored) (os order new : List ℕ) (k : List ℕ) (r : Result ℕ ℕ) (j s last : ℕ) → seen ≡ slots → order ≡ os → k ≡ key (row_of slots last) → InOrder key (standing slots os) → Settles key k (standing seen order) r
+pub struck_from : (key : Stored → List ℕ) (slots seen : List Stored) (os order new : List ℕ) (k : List ℕ) (r : Result ℕ ℕ) (j s last : ℕ) → seen ≡ slots → order ≡ os → k ≡ key (row_of slots last) → InOrder key (standing slots os) → IsPositionOf key k (standing seen order) r
     → new ≡ remove (renamed r last s os) j → new ≡ map (relabelled last s) (remove os j)
 struck_from key slots seen os order new k r j s last seen_is order_is k_is sorted there new_is =
-    let here : Settles key (key (row_of slots last)) (standing slots os) r =
-    subst (λ (k : List ℕ). Settles key k (standing slots os) r) k_is (subst (λ (o : List ℕ). Settles key k (standing slots o) r) order_is (subst (λ (t : List Stored). Settles key k (standing t order) r) seen_is there)) in
+    let here : IsPositionOf key (key (row_of slots last)) (standing slots os) r =
+    subst (λ (k : List ℕ). IsPositionOf key k (standing slots os) r) k_is (subst (λ (o : List ℕ). IsPositionOf key k (standing slots o) r) order_is (subst (λ (t : List Stored). IsPositionOf key k (standing t order) r) seen_is there)) in
     new_is ∙ ap (λ (o : List ℕ). remove o j) (renamed_settled key (row_of slots) os last s r sorted here) ∙ sym (map-remove (relabelled last s) os j)

@@ -14,8 +14,8 @@ use Rattle.std.proofs.lemmas.Option.{none-some, same_Some}
 use Rattle.std.proofs.lemmas.Bool.Decides.{Decides-eqb}
 use Rattle.std.proofs.lemmas.Slice.Eq.{bytes_eq-Decides}
 use Rattle.std.proofs.lemmas.Cmp.{nat_list_cmp_total, tied_itself}
-use Rattle.rv_base.specs.Sorted.{find_by, InOrder, Settles}
-use Rattle.rv_base.specs.Places.{Below, Above, equals, differs_back, find_found, settles}
+use Rattle.rv_base.specs.Sorted.{find_by, InOrder, IsPositionOf}
+use Rattle.rv_base.specs.Positions.{Below, Above, equals, differs_back, find_found, settles}
 use Rattle.rv_base.specs.Arranged.{in_order-same, find-map}
 use Rattle.rv_rows.specs.Slots.{AreSame, relabelled, renamed}
 
@@ -92,7 +92,7 @@ module _ (g : ℕ → List ℕ) where
   above_at k (o ∷ os) zero lt all = all.0
   above_at k (o ∷ os) (suc j) lt all = above_at k os j (omega arith) all.1
 
-  -- an order without the slot at a place is without that slot
+  -- an order without the slot at a position is without that slot
   pub struck : (os : List ℕ) (j s : ℕ) → InOrder g os → j < length os → get_or os j 0 ≡ s → take j os ++ drop (suc j) os ≡ filter (λ i. not (eqb s i)) os
   struck [] j s h lt is = absurd (omega arith)
   struck (o ∷ os) zero s h lt is =
@@ -102,7 +102,7 @@ module _ (g : ℕ → List ℕ) where
       let low : Below (g o) (g s) = subst (λ (j : ℕ). Below (g o) (g j)) is (above_at (g o) os j (omega arith) h.0) in
       rw (apart_below s o low) (ap (λ (t : List ℕ). o ∷ t) (struck os j s h.1 (omega arith) is))
 
-  -- a new item in the slot at a place
+  -- a new item in the slot at a position
   pub rewritten : {X : Type 0} (f h : ℕ → X) (os : List ℕ) (j s : ℕ) (x : X) → h s ≡ x → ((o : ℕ) → eqb s o ≡ false → h o ≡ f o) → InOrder g os → j < length os → get_or os j 0 ≡ s → map h os ≡ set (map f os) j x
   rewritten f h [] j s x new old sorted lt is = absurd (omega arith)
   rewritten f h (o ∷ os) zero s x new old sorted lt is =
@@ -168,7 +168,7 @@ module _ {X : Type 0} (key : X → List ℕ) (f : ℕ → X) where
 
   -- what a binary search among the slots says of the items
   pub settled : (ord : ℕ → Ordering) (k : List ℕ) (os : List ℕ) (r : Result ℕ ℕ) → ((j : ℕ) → j < length os → ord (get_or os j 0) ≡ slice_cmp nat_cmp (key (f (get_or os j 0))) k)
-      → InOrder key (map f os) → IsSearchInRange r (length os) → IsBinarySearchResult ord os r → Settles key k (map f os) r
+      → InOrder key (map f os) → IsSearchInRange r (length os) → IsBinarySearchResult ord os r → IsPositionOf key k (map f os) r
   settled ord k os (Ok i) same sorted lt at =
       settles key k (map f os) (Ok i) sorted (rw (length-map os f) lt) (λ d. rw (get_or-map f os i 0 d lt) (sym (same i lt) ∙ at 0))
   settled ord k os (Err i) same sorted le parted =
@@ -194,16 +194,16 @@ module _ {X : Type 0} (key : X → List ℕ) (f : ℕ → X) where
   pub found_item : (os : List ℕ) (s : ℕ) → InOrder key (map f os) → list_any (eqb s) os ≡ true → find_by key (key (f s)) (map f os) ≡ Some (f s)
   found_item os s h e = sym (find-map key f (key (f s)) os) ∙ ap (option_map f) (found_member (λ i. key (f i)) os s (in_order-slots os h) e)
 
-  -- the place of the item of a slot is the slot's
-  pub placed : (os : List ℕ) (s at : ℕ) → InOrder key (map f os) → list_any (eqb s) os ≡ true → Settles key (key (f s)) (map f os) (Ok at) → get_or os at 0 ≡ s
-  placed os s at h e there =
+  -- the position of the item of a slot is the slot's
+  pub at_position : (os : List ℕ) (s at : ℕ) → InOrder key (map f os) → list_any (eqb s) os ≡ true → IsPositionOf key (key (f s)) (map f os) (Ok at) → get_or os at 0 ≡ s
+  at_position os s at h e there =
       let lt : at < length os = rw (length-map os f) at there.in_range in
       let item : f (get_or os at 0) ≡ f s = same_Some (f (get_or os at 0)) (f s) (ap (λ (x : X). Some x) (sym (get_or-map f os at 0 (f 0) lt)) ∙ sym (there.found (f 0)) ∙ found_item os s h e) in
       let slot : find_by (λ i. key (f i)) (key (f s)) os ≡ Some (get_or os at 0) = find_found (λ (i : ℕ). key (f i)) (key (f s)) os at 0 (in_order-slots os h) lt (ap key item) in
       same_Some (get_or os at 0) s (sym slot ∙ found_member (λ i. key (f i)) os s (in_order-slots os h) e)
 
   -- a slot that was looked for by its item's key has the other number wherever it stands
-  pub renamed_settled : (os : List ℕ) (s to : ℕ) (r : Result ℕ ℕ) → InOrder key (map f os) → Settles key (key (f s)) (map f os) r → renamed r s to os ≡ map (relabelled s to) os
+  pub renamed_settled : (os : List ℕ) (s to : ℕ) (r : Result ℕ ℕ) → InOrder key (map f os) → IsPositionOf key (key (f s)) (map f os) r → renamed r s to os ≡ map (relabelled s to) os
   renamed_settled os s to (Ok at) h there =
       let lt : at < length os = rw (length-map os f) at there.in_range in
       let is : key (f s) ≡ key (f (get_or os at 0)) = found_key key (key (f s)) (map f os) (get_or (map f os) at (f 0)) (there.found (f 0)) ∙ ap key (get_or-map f os at 0 (f 0) lt) in
@@ -214,7 +214,7 @@ module _ {X : Type 0} (key : X → List ℕ) (f : ℕ → X) where
       nothing None e = refl
       nothing (Some i) e = absurd (none-some (f i) (sym e))
 
-  pub never_gap : (os : List ℕ) (s at : ℕ) → InOrder key (map f os) → list_any (eqb s) os ≡ true → Settles key (key (f s)) (map f os) (Err at) → ⊥
+  pub never_gap : (os : List ℕ) (s at : ℕ) → InOrder key (map f os) → list_any (eqb s) os ≡ true → IsPositionOf key (key (f s)) (map f os) (Err at) → ⊥
   never_gap os s at h e gap = none-some (f s) (sym gap.absent ∙ found_item os s h e)
 
 -- some slots of an order

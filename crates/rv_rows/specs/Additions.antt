@@ -12,5 +12,5 @@ abbrev pub AddsTokens : {E : Type 0} → Result (Unit {0}) E → Written → Wri
 AddsTokens result old new tokens = (new.before ≡ old.before) × OnOk result (new.tokens ≡ old.tokens ++ tokens)
 
 -- At Ok the value, whole, stands behind what was there.
-abbrev pub Adds : {E : Type 0} → Result (Unit {0}) E → Written → Written → Data → Type 0
-Adds result old new value = AddsTokens result old new (json_tokens (outline value))
+abbrev pub AddsValue : {E : Type 0} → Result (Unit {0}) E → Written → Written → Data → Type 0
+AddsValue result old new value = AddsTokens result old new (json_tokens (outline value))

@@ -1,4 +1,4 @@
--- A table as its rows with their versions, in key order, and the room that it has beside.
+-- A table as its rows with their versions, in key order, and the space that it has beside.
 use Rattle.std.specs.Prelude.{ℕ, List, Option, map}
 use Rattle.rv_rows.specs.declared.row.Row.{Row}
 use Rattle.rv_rows.specs.Keys.{row_text}

@@ -20,10 +20,10 @@ row_data (variants.Share row) = object (member (codes "id") (string row.id) (mem
 row_data (variants.Todo row) = object (member (codes "complete") (boolean row.complete) (member (codes "id") (string row.id) (member (codes "listID") (string row.list) (member (codes "sort") (number (unsigned row.sort)) (member (codes "text") (string row.text) no_members)))))
 
 -- the row's texts are within their bounds
-abbrev pub Fits : Row → Type 0
-Fits (variants.List row) = IsWithin 1 128 row.id × IsWithin 0 16384 row.name × IsWithin 1 64 row.owner
-Fits (variants.Share row) = IsWithin 1 128 row.id × IsWithin 1 128 row.list × IsWithin 1 64 row.user
-Fits (variants.Todo row) = IsWithin 1 128 row.id × IsWithin 1 128 row.list × IsWithin 0 16384 row.text × (row.sort < 2 ^ 53)
+abbrev pub RowIsWithin : Row → Type 0
+RowIsWithin (variants.List row) = IsWithin 1 128 row.id × IsWithin 0 16384 row.name × IsWithin 1 64 row.owner
+RowIsWithin (variants.Share row) = IsWithin 1 128 row.id × IsWithin 1 128 row.list × IsWithin 1 64 row.user
+RowIsWithin (variants.Todo row) = IsWithin 1 128 row.id × IsWithin 1 128 row.list × IsWithin 0 16384 row.text × (row.sort < 2 ^ 53)
 
 unfoldable pub list_row_in : Members → Option ListRow
 list_row_in members = do

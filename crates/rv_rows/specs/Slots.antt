@@ -33,14 +33,14 @@ abbrev pub AreSame : List ℕ → List ℕ → Type 0
 AreSame order other = (test : ℕ → Bool) → list_any test order ≡ list_any test other
 
 -- two orders of the same slots: one by the keys of the rows, one by their lists and then by their keys
-pub record IsIndexed (slots : List Stored) (by_key by_list : List ℕ) : Type 0 where
+pub record HasOrders (slots : List Stored) (by_key by_list : List ℕ) : Type 0 where
   pub key_slots : AreSlots (length slots) by_key
   pub list_slots : AreSlots (length slots) by_list
   pub key_order : AreRows (standing slots by_key)
   pub list_order : InOrder list_key (standing slots by_list)
   pub same : AreSame by_key by_list
 
--- the vector has room for so many more items
+-- the vector has space for so many more items
 abbrev pub HasSpare : {X Z : Type 0} → Vec X Z → ℕ → Type 0
 HasSpare items more = vec_len items + more ≤ vec_capacity items
 
@@ -56,7 +56,7 @@ in_list list slots i = bytes_eq (list_of (row_of slots i).0) list
 abbrev pub relabelled : ℕ → ℕ → ℕ → ℕ
 relabelled from to i = if i == from then to else i
 
--- the order in which the slot was looked for, with the number `to` at the place where it was found
+-- the order in which the slot was looked for, with the number `to` at the position where it was found
 abbrev pub renamed : Result ℕ ℕ → ℕ → ℕ → List ℕ → List ℕ
 renamed (Ok at) from to order = slice_set order at (relabelled from to (slice_index order at))
 renamed (Err at) from to order = order

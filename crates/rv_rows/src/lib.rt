@@ -10,7 +10,7 @@ mod key;
 mod lists;
 mod member_writing;
 mod members;
-mod places;
+mod positions;
 mod row;
 mod row_json;
 mod row_reading;

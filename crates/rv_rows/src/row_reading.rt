@@ -1,7 +1,7 @@
 ghost use Rattle.std.specs.Prelude.{◌≡◌, IfOk, IfSome, Some};
 ghost use Rattle.serde_json.specs.View.{view, members_view};
 ghost use Rattle.rv_rows.specs.declared.row.Row.{Row};
-ghost use Rattle.rv_rows.specs.RowTexts.{row_data, Fits, list_row_in, share_row_in, todo_row_in, members_row_in, row_in};
+ghost use Rattle.rv_rows.specs.RowTexts.{row_data, RowIsWithin, list_row_in, share_row_in, todo_row_in, members_row_in, row_in};
 
 use crate::members::{next_named, num_of_value, text_of_value};
 use crate::row::{ListRow, Row, ShareRow, TodoRow};
@@ -139,8 +139,8 @@ fn row_of(alloc: Global, value: &Value) -> Result<Option<Row>, Memory>
 
 /// The row that a value is, where it is exactly the value of one.
 pub fn read_row(alloc: Global, value: &Value) -> Result<Option<Row>, Memory>
-    ensures found { IfOk result (λ o. IfSome o (λ r. (view value.now ≡ row_data r) × Fits r)) }
-    ensures only { IfOk result (λ o. (r : Row) → Fits r → view value.now ≡ row_data r → o ≡ Some r) }
+    ensures found { IfOk result (λ o. IfSome o (λ r. (view value.now ≡ row_data r) × RowIsWithin r)) }
+    ensures only { IfOk result (λ o. (r : Row) → RowIsWithin r → view value.now ≡ row_data r → o ≡ Some r) }
 {
     row_of(alloc, value)
 }

@@ -1,6 +1,6 @@
 ghost use Rattle.rv_rows.specs.declared.row.Row.TheVariants as variants;
 ghost use Rattle.rv_rows.specs.RowTexts.{row_data};
-ghost use Rattle.rv_rows.specs.Additions.{Adds};
+ghost use Rattle.rv_rows.specs.Additions.{AddsValue};
 
 use crate::member_writing::{write_bool_member, write_num_member, write_text_member};
 use crate::row::{ListRow, Row, ShareRow, TodoRow};
@@ -8,7 +8,7 @@ use json::Writer;
 use rv_base::Memory;
 
 fn write_list(out: &mut Writer, row: &ListRow) -> Result<(), Memory>
-    ensures { Adds result out.old out.new (row_data (variants.List row.now)) }
+    ensures { AddsValue result out.old out.new (row_data (variants.List row.now)) }
 {
     out.begin_object()?;
     write_text_member(out, "id", row.id.as_str())?;
@@ -19,7 +19,7 @@ fn write_list(out: &mut Writer, row: &ListRow) -> Result<(), Memory>
 }
 
 fn write_share(out: &mut Writer, row: &ShareRow) -> Result<(), Memory>
-    ensures { Adds result out.old out.new (row_data (variants.Share row.now)) }
+    ensures { AddsValue result out.old out.new (row_data (variants.Share row.now)) }
 {
     out.begin_object()?;
     write_text_member(out, "id", row.id.as_str())?;
@@ -30,7 +30,7 @@ fn write_share(out: &mut Writer, row: &ShareRow) -> Result<(), Memory>
 }
 
 fn write_todo(out: &mut Writer, row: &TodoRow) -> Result<(), Memory>
-    ensures { Adds result out.old out.new (row_data (variants.Todo row.now)) }
+    ensures { AddsValue result out.old out.new (row_data (variants.Todo row.now)) }
 {
     out.begin_object()?;
     write_bool_member(out, "complete", row.complete)?;
@@ -46,7 +46,7 @@ fn write_todo(out: &mut Writer, row: &TodoRow) -> Result<(), Memory>
 /// todo is `{"complete":B,"id":I,"listID":I,"sort":N,"text":T}`. Where memory is refused, some first part of it may have
 /// been written.
 pub fn write_row(out: &mut Writer, row: &Row) -> Result<(), Memory>
-    ensures { Adds result out.old out.new (row_data row.now) }
+    ensures { AddsValue result out.old out.new (row_data row.now) }
 {
     match row {
         Row::List(row) => write_list(out, row),

@@ -2,15 +2,15 @@ ghost use Rattle.std.specs.Prelude.{◌≡◌, ◌≤◌, ◌<◌, ◌+◌, leng
 ghost use Rattle.std.specs.List.{filter, insert, remove as removed};
 ghost use Rattle.std.specs.Iterator.{YieldsFirstBy, item_count};
 ghost use Rattle.std.specs.Str.{bytes_eq};
-ghost use Rattle.rv_base.specs.Sorted.{Settles};
+ghost use Rattle.rv_base.specs.Sorted.{IsPositionOf};
 ghost use Rattle.rv_rows.specs.Keys.{key_text, row_text};
 ghost use Rattle.rv_rows.specs.Held.{find, put, remove, AreRows, stored_key};
 ghost use Rattle.rv_rows.specs.Sharing.{list_of};
 
 use crate::key::{Key, Kind};
-use crate::places::{
-    gap_by_list, insert, place_by_key, place_by_list, place_by_slot, push, rewrite, slots_of,
-    strike, vacate,
+use crate::positions::{
+    gap_by_list, insert, position_by_key, position_by_list, position_by_slot, push, rewrite,
+    slots_of, strike, vacate,
 };
 use crate::row::Row;
 use rv_base::{Id, Memory};
@@ -19,7 +19,7 @@ use std::marker::Model;
 
 /// The rows that stand, each with the version of its last write, in the order of their keys.
 ///
-/// A contract sees the list of rows and versions, and a lower bound of the room that is left, `spare`.
+/// A contract sees the list of rows and versions, and a lower bound of the space that is left, `spare`.
 #[derive(Debug, Drop)]
 pub struct Tables {
     // the rows, each in a slot of its own, in no order
@@ -28,20 +28,20 @@ pub struct Tables {
     by_key: Vec<u32>,
     // the slots in the order of their rows' lists, and within a list in that of their keys
     by_list: Vec<u32>,
-    // each of the three has room for so many more
+    // each of the three has space for so many more
     spare: usize,
 }
 
 impl Model for Tables {
     ghost use Rattle.std.specs.Prelude.{◌<◌, ◌+◌, ◌^◌, vec_len};
     ghost use Rattle.rv_rows.specs.Held.{Held};
-    ghost use Rattle.rv_rows.specs.Slots.{standing, HasSpare, IsIndexed};
+    ghost use Rattle.rv_rows.specs.Slots.{standing, HasSpare, HasOrders};
 
     ghost Value = { Held };
 
     ghost view = { λ t. record { rows = standing t.slots.items t.by_key.items; spare = t.spare } };
 
-    ghost invariant = { λ t. IsIndexed t.slots.items t.by_key.items t.by_list.items × HasSpare t.slots t.spare × HasSpare t.by_key t.spare × HasSpare t.by_list t.spare × (vec_len t.slots + t.spare < 2 ^ 32) };
+    ghost invariant = { λ t. HasOrders t.slots.items t.by_key.items t.by_list.items × HasSpare t.slots t.spare × HasSpare t.by_key t.spare × HasSpare t.by_list t.spare × (vec_len t.slots + t.spare < 2 ^ 32) };
 }
 
 impl Tables {
@@ -69,7 +69,7 @@ impl Tables {
         ensures found { option_map (λ r. (r.0.now, r.1)) result ≡ find (key_text (record { kind = kind; id = id.now })) self.now.rows }
         ensures order { AreRows self.now.rows }
     {
-        match place_by_key(&self.slots, &self.by_key, kind, id) {
+        match position_by_key(&self.slots, &self.by_key, kind, id) {
             Ok(at) => {
                 let stored = &self.slots[self.by_key[at] as usize];
                 Some((&stored.0, stored.1))
@@ -78,7 +78,7 @@ impl Tables {
         }
     }
 
-    /// Makes room for so many more rows.
+    /// Makes space for so many more rows.
     pub fn reserve(&mut self, more: usize) -> Result<(), Memory>
         ensures rows { self.new.rows ≡ self.old.rows }
         ensures ok { OnOk result (more ≤ self.new.spare) }
@@ -104,7 +104,7 @@ impl Tables {
         ensures rows { self.new.rows ≡ put (row, version) self.old.rows }
         ensures spare { self.old.spare ≤ self.new.spare + 1 }
     {
-        match place_by_key(&self.slots, &self.by_key, row.kind(), row.id()) {
+        match position_by_key(&self.slots, &self.by_key, row.kind(), row.id()) {
             Ok(at) => self.write_at(at, row, version),
             Err(at) => self.put_at(at, row, version),
         }
@@ -116,7 +116,7 @@ impl Tables {
         ensures found { result ≡ is_some (find (key_text key.now) self.old.rows) }
         ensures spare { self.old.spare ≤ self.new.spare }
     {
-        match place_by_key(&self.slots, &self.by_key, key.kind, &key.id) {
+        match position_by_key(&self.slots, &self.by_key, key.kind, &key.id) {
             Ok(at) => {
                 self.remove_at(at);
                 true
@@ -125,10 +125,10 @@ impl Tables {
         }
     }
 
-    // Writes a row in the place of the one that has its key, which stands at this place in the order of the keys.
+    // Writes a row in the place of the one that has its key, which stands at this position in the order of the keys.
     fn write_at(&mut self, at: usize, row: Row, version: u32)
-        requires room { 1 ≤ self.old.spare }
-        requires place { Settles stored_key (row_text row) self.old.rows (Ok at) }
+        requires spare { 1 ≤ self.old.spare }
+        requires position { IsPositionOf stored_key (row_text row) self.old.rows (Ok at) }
         ensures rows { self.new.rows ≡ slice_set self.old.rows at (row, version) }
         ensures spare { self.old.spare ≤ self.new.spare + 1 }
     {
@@ -141,10 +141,10 @@ impl Tables {
         }
     }
 
-    // Puts a row whose key no row has, at its place in the order of the keys.
+    // Puts a row whose key no row has, at its position in the order of the keys.
     fn put_at(&mut self, at: usize, row: Row, version: u32)
-        requires room { 1 ≤ self.old.spare }
-        requires place { at ≤ length self.old.rows }
+        requires spare { 1 ≤ self.old.spare }
+        requires position { at ≤ length self.old.rows }
         requires absent { find (row_text row) self.old.rows ≡ None }
         requires order { AreRows (insert self.old.rows at (row, version)) }
         ensures rows { self.new.rows ≡ insert self.old.rows at (row, version) }
@@ -158,18 +158,18 @@ impl Tables {
         self.spare -= 1;
     }
 
-    // Removes the row at this place in the order of the keys. The row of the last slot moves to the slot that it leaves.
+    // Removes the row at this position in the order of the keys. The row of the last slot moves to the slot that it leaves.
     fn remove_at(&mut self, at: usize)
         requires { at < length self.old.rows }
         ensures rows { self.new.rows ≡ removed self.old.rows at }
         ensures spare { self.old.spare ≤ self.new.spare }
     {
         let slot = self.by_key[at];
-        let in_list = place_by_slot(&self.slots, &self.by_list, slot);
+        let in_list = position_by_slot(&self.slots, &self.by_list, slot);
         let last = (self.slots.len() - 1) as u32;
         let moved = &self.slots[last as usize].0;
-        let moved_by_key = place_by_key(&self.slots, &self.by_key, moved.kind(), moved.id());
-        let moved_by_list = place_by_list(&self.slots, &self.by_list, moved);
+        let moved_by_key = position_by_key(&self.slots, &self.by_key, moved.kind(), moved.id());
+        let moved_by_list = position_by_list(&self.slots, &self.by_list, moved);
         strike(&mut self.by_key, at, moved_by_key, last, slot);
         strike(&mut self.by_list, in_list, moved_by_list, last, slot);
         vacate(&mut self.slots, slot);

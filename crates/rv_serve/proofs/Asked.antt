@@ -4,7 +4,7 @@ use Rattle.std.proofs.Math.Path.{fun_ext}
 use Rattle.std.specs.declared.alloc.Global.{Global}
 use Rattle.std.specs.Str.{bytes_eq}
 use Rattle.rv_wire.specs.declared.fault.WireFault.{WireFault}
-use Rattle.rv_wire.specs.Bodies.{Fails, is_served}
+use Rattle.rv_wire.specs.Bodies.{Fails, is_schema_served}
 use Rattle.rv_wire.specs.Errors.{fault_error}
 use Rattle.rv_answering.specs.declared.request.Request.TheVariants.{Push, Pull}
 use Rattle.rv_answering.specs.declared.answer.Answer.{Answer}
@@ -18,12 +18,12 @@ use Rattle.rv_turns.specs.declared.pull.PullRequest.{PullRequest}
 use Rattle.rv_wire.specs.declared.fault.WireFault.TheVariants as faults
 use Rattle.rv_wire.specs.declared.push.Push as pushes
 
-served_among : (schemas : List (String Global)) (schema : List ℕ) → is_served schemas schema ≡ serves (map string_bytes schemas) schema
+served_among : (schemas : List (String Global)) (schema : List ℕ) → is_schema_served schemas schema ≡ serves (map string_bytes schemas) schema
 served_among [] schema = refl
 served_among (served ∷ schemas) schema = ap (λ (b : Bool). bytes_eq (string_bytes served) schema || b) (served_among schemas schema)
 
 -- the schema versions of the accounts file, as texts and as their bytes
-pub same_serves : (schemas : List (String Global)) → is_served schemas ≡ serves (map string_bytes schemas)
+pub same_serves : (schemas : List (String Global)) → is_schema_served schemas ≡ serves (map string_bytes schemas)
 same_serves schemas = fun_ext (served_among schemas)
 
 module _ {S : Type 0} (takes : S → Ask → Outcome → S → Type 0) where

@@ -5,14 +5,14 @@ use Rattle.rv_base.specs.declared.outside.Source.{Ghosts as SourceGhosts}
 use Rattle.rv_base.specs.declared.outside.Sink.{Ghosts as SinkGhosts}
 use Rattle.rv_net.specs.declared.conn.Conn.{Conn}
 use Rattle.rv_net.specs.declared.listen.Listen.{Ghosts as ListenGhosts}
-use Rattle.rv_accounts.specs.File.{Served as Accounts}
+use Rattle.rv_accounts.specs.File.{AccountsServed as Accounts}
 use Rattle.rv_serve.specs.declared.gate.Gate.{Ghosts as GateGhosts}
 use Rattle.rv_serve.specs.declared.heard.Heard.{Heard}
 use Rattle.rv_serve.specs.Hearing.{Hears}
 use Rattle.rv_serve.specs.HearingLaws.{hears_on}
 use Rattle.rv_serve.specs.declared.conn_end.ConnEnd.{ConnEnd}
 use Rattle.rv_serve.specs.Talk.{TalksPast, answered, heard_from}
-use Rattle.rv_serve.specs.Causes.{ConnCause, InputIsSteady, OutputIsSteady}
+use Rattle.rv_serve.specs.Causes.{ConnCause, ConnInputIsSteady, ConnOutputIsSteady}
 use Rattle.rv_serve.specs.Listening.{ServedConn, ServesConn, ServesEach, ServesPast, heard_over}
 use Rattle.rv_turns.specs.Asks.{Ask}
 use Rattle.rv_turns.specs.declared.outcome.Outcome.{Outcome}
@@ -22,7 +22,7 @@ heard_more [] conn = append-nil (heard_from 1 conn.answers)
 heard_more (c ∷ conns) conn = ap (λ (l : List Heard). heard_from 1 c.answers ++ l) (heard_more conns conn) ∙ sym (append_assoc (heard_from 1 c.answers) (heard_over conns) (heard_from 1 conn.answers))
 
 -- Of connections that were to come, these were given and are back, and as many are out as before.
-pub record AreServed {I O : Type 0} (conns : List (ServedConn I O)) (to_come to_come' came_back came_back' : List (Conn I O)) (out out' : ℕ) : Type 0 where
+pub record AreConnsServed {I O : Type 0} (conns : List (ServedConn I O)) (to_come to_come' came_back came_back' : List (Conn I O)) (out out' : ℕ) : Type 0 where
   pub given : to_come ≡ map (λ conn. conn.given) conns ++ to_come'
   pub back : came_back' ≡ came_back ++ map (λ conn. conn.back) conns
   pub same : out' ≡ out
@@ -38,20 +38,20 @@ module _ {S L I O W : Type 0} (takes : S → Ask → Outcome → S → Type 0) (
   each_one old mid new [] conn same one = (new, subst (λ (s : S). One s conn new) same one, refl)
   each_one old mid new (c ∷ conns) conn (next, first, each) one = (next, first, each_one next mid new conns conn each one)
 
-  pub record Served (old : S) (given : L) (before : W) (new : S) (left : L) (after : W) : Type 0 where
+  pub record ServedSoFar (old : S) (given : L) (before : W) (new : S) (left : L) (after : W) : Type 0 where
     pub conns : List (ServedConn I O)
     pub serves : Each old conns new
-    pub are_served : listen.tells left → AreServed conns (listen.to_come given) (listen.to_come left) (listen.came_back given) (listen.came_back left) (listen.out given) (listen.out left)
+    pub are_served : listen.tells left → AreConnsServed conns (listen.to_come given) (listen.to_come left) (listen.came_back given) (listen.came_back left) (listen.out given) (listen.out left)
     pub hears : Hears (gate.heard before) (gate.heard after) (heard_over conns)
 
   -- the next connection is given, served, and goes back
-  pub served_more : (old : S) (first : L) (before : W) (mid : S) (left : L) (then : W) (new : S) (next : L) (after : W) (given returned : Conn I O) (end : ConnEnd) → Served old first before mid left then
+  pub served_more : (old : S) (first : L) (before : W) (mid : S) (left : L) (then : W) (new : S) (next : L) (after : W) (given returned : Conn I O) (end : ConnEnd) → ServedSoFar old first before mid left then
       → TalksPast takes accounts mid new (source.state given.source) (source.state returned.source) (sink.state given.sink) (sink.state returned.sink) (gate.heard then) (gate.heard after) end
       → ConnCause (source.state given.source) (source.state returned.source) (sink.state given.sink) (sink.state returned.sink) end
-      → (source.fails_no_more given.source → InputIsSteady (source.fails_no_more returned.source) end)
-      → (sink.fails_no_more given.sink → OutputIsSteady (sink.fails_no_more returned.sink) (sink.state given.sink) (sink.state returned.sink) end)
+      → (source.fails_no_more given.source → ConnInputIsSteady (source.fails_no_more returned.source) end)
+      → (sink.fails_no_more given.sink → ConnOutputIsSteady (sink.fails_no_more returned.sink) (sink.state given.sink) (sink.state returned.sink) end)
       → (listen.tells next → listen.tells left) → (listen.tells next → listen.to_come left ≡ given ∷ listen.to_come next) → (listen.tells next → listen.came_back next ≡ listen.came_back left ++ returned ∷ [])
-      → (listen.tells next → listen.out left ≡ listen.out next) → Served old first before new next after
+      → (listen.tells next → listen.out left ≡ listen.out next) → ServedSoFar old first before new next after
   served_more old first before mid left then new next after given returned end served past cause steady_input steady_output earlier gives goes stays =
       let conn : ServedConn I O = record { given = given; back = returned; end = end; answers = answered takes accounts past.talks } in record {
         conns = served.conns ++ conn ∷ [];
@@ -69,7 +69,7 @@ module _ {S L I O W : Type 0} (takes : S → Ask → Outcome → S → Type 0) (
       }
 
   -- none is to come any more
-  pub served_all : (old : S) (first : L) (before : W) (new : S) (left back : L) (after : W) → Served old first before new left after
+  pub served_all : (old : S) (first : L) (before : W) (new : S) (left back : L) (after : W) → ServedSoFar old first before new left after
       → (listen.tells back → listen.tells left) → (listen.tells back → listen.to_come left ≡ []) → (listen.tells back → listen.to_come back ≡ [])
       → (listen.tells back → listen.came_back back ≡ listen.came_back left) → (listen.tells back → listen.out back ≡ listen.out left) → ServesPast takes listen source sink accounts gate old first before new back after
   served_all old first before new left back after served earlier none rests stays same = record {

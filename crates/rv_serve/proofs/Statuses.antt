@@ -1,6 +1,6 @@
 -- The status of each refusal is served.
 use Rattle.std.proofs.Common.{◌≡◌, true, refl}
-use Rattle.rv_http.specs.Responses.{is_served}
+use Rattle.rv_http.specs.Responses.{is_status}
 use Rattle.rv_turns.specs.declared.refusal.Refusal.{Refusal}
 use Rattle.rv_turns.specs.declared.refusal.Refusal.TheVariants.{Future, GroupOfOther, ClientOfOther, NotFound, NoGroup, Limit, Trouble, Memory}
 use Rattle.rv_turns.specs.declared.refusal.Trouble.TheVariants.{Keeper, Changed}
@@ -8,7 +8,7 @@ use Rattle.rv_wire.specs.declared.error_body.ErrorBody.{ErrorBody}
 use Rattle.rv_wire.specs.declared.error_body.ErrorBody.TheVariants.{VersionNotSupported, NotJson, Field, Refused}
 use Rattle.rv_wire.specs.Errors.{error_status, refusal_status}
 
-refusal_served : (refusal : Refusal) → is_served (refusal_status refusal) ≡ true
+refusal_served : (refusal : Refusal) → is_status (refusal_status refusal) ≡ true
 refusal_served (Future expected got) = refl
 refusal_served GroupOfOther = refl
 refusal_served ClientOfOther = refl
@@ -19,7 +19,7 @@ refusal_served (Trouble Keeper) = refl
 refusal_served (Trouble (Changed kept found)) = refl
 refusal_served Memory = refl
 
-pub error_served : (refusal : ErrorBody) → is_served (error_status refusal) ≡ true
+pub error_served : (refusal : ErrorBody) → is_status (error_status refusal) ≡ true
 error_served (VersionNotSupported kind) = refl
 error_served NotJson = refl
 error_served (Field field) = refl

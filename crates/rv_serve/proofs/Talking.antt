@@ -9,15 +9,15 @@ use Rattle.rv_http.specs.declared.http_end.HttpEnd.{HttpEnd}
 use Rattle.rv_http.specs.declared.response.WriteFault.{WriteFault as WriteFailed}
 use Rattle.rv_http.specs.Requests.{Gives, ReadsOne}
 use Rattle.rv_http.specs.RequestLaws.{gives_more}
-use Rattle.rv_http.specs.Causes.{Counts, told_end, read_failed}
-use Rattle.rv_accounts.specs.File.{Served as Accounts}
+use Rattle.rv_http.specs.Causes.{CountsReads, saw_end, read_failed}
+use Rattle.rv_accounts.specs.File.{AccountsServed as Accounts}
 use Rattle.rv_serve.specs.declared.heard.Heard.{Heard}
 use Rattle.rv_serve.specs.Hearing.{Hears}
 use Rattle.rv_serve.specs.HearingLaws.{hears_nothing, hears_on}
 use Rattle.rv_serve.specs.declared.conn_end.ConnEnd.{ConnEnd}
 use Rattle.rv_serve.specs.declared.conn_end.ConnEnd.TheVariants.{Done, WriteFault}
-use Rattle.rv_serve.specs.Replies.{Replies}
-use Rattle.rv_serve.specs.Talk.{Exchange, closes_at, exchange_text, text_from, heard_of, heard_from, Ends, EndsUnread, AnswersEach, TalksPast}
+use Rattle.rv_serve.specs.Replies.{Responds}
+use Rattle.rv_serve.specs.Talk.{Exchange, closes_at, exchange_text, text_from, heard_of, heard_from, EndsTalk, EndsUnread, AnswersEach, TalksPast}
 use Rattle.rv_serve.specs.Steps.{AnswersOne, EndsConn}
 use Rattle.rv_serve.proofs.Counting.{counts_from}
 use Rattle.rv_turns.specs.Asks.{Ask}
@@ -28,8 +28,8 @@ module _ {S : Type 0} (takes : S → Ask → Outcome → S → Type 0) (accounts
   abbrev Each : ℕ → S → List ℕ → List Exchange → S → List ℕ → Type 0
   Each = AnswersEach takes accounts
 
-  abbrev Replied : S → Request → Exchange → S → Type 0
-  Replied old request x new = Replies takes accounts old request x.answer x.acted new
+  abbrev ExchangeReplied : S → Request → Exchange → S → Type 0
+  ExchangeReplied old request x new = Responds takes accounts old request x.answer x.acted new
 
   answers_more : (n : ℕ) (old : S) (bytes more : List ℕ) (xs : List Exchange) (new : S) (rest : List ℕ) → Each n old bytes xs new rest → Each n old (bytes ++ more) xs new (rest ++ more)
   answers_more n old bytes more [] new rest (same, left) = (same, ap (λ l. l ++ more) left)
@@ -37,9 +37,9 @@ module _ {S : Type 0} (takes : S → Ask → Outcome → S → Type 0) (accounts
       (after ++ more, mid, gives_more bytes after x.request more gives, replies, on, answers_more (n + 1) mid after more xs new rest each)
 
   answers_one : (n m : ℕ) (old : S) (bytes : List ℕ) (xs : List Exchange) (mid : S) (rest after : List ℕ) (x : Exchange) (new : S) → m ≡ n + length xs
-      → Each n old bytes xs mid rest → Gives rest after (Ok x.request) → Replied mid x.request x new → closes_at m x.request ≡ false → Each n old bytes (xs ++ x ∷ []) new after
+      → Each n old bytes xs mid rest → Gives rest after (Ok x.request) → ExchangeReplied mid x.request x new → closes_at m x.request ≡ false → Each n old bytes (xs ++ x ∷ []) new after
   answers_one n m old bytes [] mid rest after x new count (same, left) gives replies goes =
-      (after, new, subst (λ (l : List ℕ). Gives l after (Ok x.request)) left gives, subst (λ (s : S). Replied s x.request x new) same replies, subst (λ (k : ℕ). closes_at k x.request ≡ false) (count ∙ add-zero n) goes, (refl, refl))
+      (after, new, subst (λ (l : List ℕ). Gives l after (Ok x.request)) left gives, subst (λ (s : S). ExchangeReplied s x.request x new) same replies, subst (λ (k : ℕ). closes_at k x.request ≡ false) (count ∙ add-zero n) goes, (refl, refl))
   answers_one n m old bytes (y ∷ ys) mid rest after x new count (first, then, begins, replied, on, each) gives replies goes =
       (first, then, begins, replied, on, answers_one (n + 1) m then first ys mid rest after x new (omega (arith, count)) each gives replies goes)
 
@@ -85,7 +85,7 @@ module _ {S : Type 0} (takes : S → Ask → Outcome → S → Type 0) (accounts
   }
 
   module _ (old now : S) (input input' input'' : InputState) (output output' output'' : OutputState) (heard heard' heard'' : Option (List Heard)) (bytes bytes' : List ℕ) (count : ℕ) (going : Going old now input input' output output' heard heard' bytes count) where
-    pub going_on : (request : Request) (new : S) → ReadsOne bytes bytes' input'.left input''.left (Ok request) → Counts input' input'' false false
+    pub going_on : (request : Request) (new : S) → ReadsOne bytes bytes' input'.left input''.left (Ok request) → CountsReads input' input'' false false
         → AnswersOne takes accounts (count + 1) now request output' output'' heard' heard'' new (Ok false) → Going old new input input'' output output'' heard heard'' bytes' (count + 1)
     going_on request new one counts told =
         let x : Exchange = record { request = request; answer = told.answer; acted = told.acted } in
@@ -103,7 +103,7 @@ module _ {S : Type 0} (takes : S → Ask → Outcome → S → Type 0) (accounts
           hears = hears_one heard heard' heard'' going.exchanges x (count + 1) at going.hears told.hears;
         }
 
-    pub closed : (request : Request) (new : S) → ReadsOne bytes bytes' input'.left input''.left (Ok request) → Counts input' input'' false false
+    pub closed : (request : Request) (new : S) → ReadsOne bytes bytes' input'.left input''.left (Ok request) → CountsReads input' input'' false false
         → AnswersOne takes accounts (count + 1) now request output' output'' heard' heard'' new (Ok true) → TalksPast takes accounts old new input input'' output output'' heard heard'' (Done (count + 1))
     closed request new one counts told =
         let x : Exchange = record { request = request; answer = told.answer; acted = told.acted } in record {
@@ -127,7 +127,7 @@ module _ {S : Type 0} (takes : S → Ask → Outcome → S → Type 0) (accounts
           hears = hears_one heard heard' heard'' going.exchanges x (count + 1) (omega (arith, going.counted)) going.hears told.hears;
         }
 
-    pub write_failed : (request : Request) (new : S) (fault : WriteFailed) → ReadsOne bytes bytes' input'.left input''.left (Ok request) → Counts input' input'' false false
+    pub write_failed : (request : Request) (new : S) (fault : WriteFailed) → ReadsOne bytes bytes' input'.left input''.left (Ok request) → CountsReads input' input'' false false
         → AnswersOne takes accounts (count + 1) now request output' output'' heard' heard'' new (Err fault) → TalksPast takes accounts old new input input'' output output'' heard heard'' WriteFault
     write_failed request new fault one counts told =
         let x : Exchange = record { request = request; answer = told.answer; acted = told.acted } in
@@ -146,13 +146,13 @@ module _ {S : Type 0} (takes : S → Ask → Outcome → S → Type 0) (accounts
             stops = tt;
             counts = counts_from input input' input'' false false going.faults going.ends counts;
             answers_last = told.replies;
-            ends = subst (λ (k : ℕ). Ends k (Ok x) part output.faults output''.faults WriteFault) going.counted front;
+            ends = subst (λ (k : ℕ). EndsTalk k (Ok x) part output.faults output''.faults WriteFault) going.counted front;
             appended = Appends-trans output.written output'.written output''.written _ _ going.appended added;
           };
           hears = hears_one heard heard' heard'' going.exchanges x (count + 1) (omega (arith, going.counted)) going.hears told.hears;
         }
 
-    pub refused : (cause : HttpEnd) (end : ConnEnd) → ReadsOne bytes bytes' input'.left input''.left (Err cause) → Counts input' input'' (told_end {T = Request} (Err cause)) (read_failed {T = Request} (Err cause))
+    pub refused : (cause : HttpEnd) (end : ConnEnd) → ReadsOne bytes bytes' input'.left input''.left (Err cause) → CountsReads input' input'' (saw_end {T = Request} (Err cause)) (read_failed {T = Request} (Err cause))
         → EndsConn count cause output' output'' end → TalksPast takes accounts old now input input'' output output'' heard heard' end
     refused cause end one counts told = record {
       talks = record {
@@ -167,7 +167,7 @@ module _ {S : Type 0} (takes : S → Ask → Outcome → S → Type 0) (accounts
         answers = answers_more 1 old going.read one.read going.exchanges now bytes going.answers;
         gives = inr one.gives;
         stops = one.ends;
-        counts = counts_from input input' input'' (told_end {T = Request} (Err cause)) (read_failed {T = Request} (Err cause)) going.faults going.ends counts;
+        counts = counts_from input input' input'' (saw_end {T = Request} (Err cause)) (read_failed {T = Request} (Err cause)) going.faults going.ends counts;
         answers_last = refl;
         ends = subst (λ (k : ℕ). EndsUnread k cause told.text output.faults output''.faults end) going.counted (subst (λ (k : ℕ). EndsUnread count cause told.text k output''.faults end) going.failed told.ends);
         appended = Appends-trans output.written output'.written output''.written _ _ going.appended told.appended;
@@ -176,8 +176,8 @@ module _ {S : Type 0} (takes : S → Ask → Outcome → S → Type 0) (accounts
     }
 
   -- memory was refused before anything was read
-  pub no_room : (old : S) (input : InputState) (output output' : OutputState) (heard : Option (List Heard)) (end : ConnEnd) → EndsConn 0 (reading.Memory false) output output' end → TalksPast takes accounts old old input input output output' heard heard end
-  no_room old input output output' heard end told = record {
+  pub no_buffer : (old : S) (input : InputState) (output output' : OutputState) (heard : Option (List Heard)) (end : ConnEnd) → EndsConn 0 (reading.Memory false) output output' end → TalksPast takes accounts old old input input output output' heard heard end
+  no_buffer old input output output' heard end told = record {
     talks = record {
       read = [];
       exchanges = [];

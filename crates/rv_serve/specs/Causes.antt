@@ -24,7 +24,7 @@ pub record ConnCause (input input' : InputState) (output output' : OutputState) 
   pub writes : OutputCause output output' end
 
 -- a source that fails no more goes on so, and no read failed
-pub record InputIsSteady (steady : Type 0) (end : ConnEnd) : Type 0 where
+pub record ConnInputIsSteady (steady : Type 0) (end : ConnEnd) : Type 0 where
   pub goes_on : steady
   pub no_fault : end ≡ ReadFault → ⊥
 
@@ -36,6 +36,6 @@ FailsForMemory old new WriteFault = Rose old.refusals new.refusals
 FailsForMemory old new Memory = (new.faults ≡ old.faults) ⊎ Rose old.refusals new.refusals
 
 -- a sink that fails no more goes on so, and a write failed only where memory was refused to it
-pub record OutputIsSteady (steady : Type 0) (old new : OutputState) (end : ConnEnd) : Type 0 where
+pub record ConnOutputIsSteady (steady : Type 0) (old new : OutputState) (end : ConnEnd) : Type 0 where
   pub goes_on : steady
   pub only_memory : FailsForMemory old new end

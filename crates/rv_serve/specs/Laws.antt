@@ -4,10 +4,10 @@ use Rattle.std.specs.List.{flat_map}
 use Rattle.rv_base.specs.Outside.{InputState, OutputState}
 use Rattle.rv_base.specs.declared.outside.Source.{Ghosts as SourceGhosts}
 use Rattle.rv_base.specs.declared.outside.Sink.{Ghosts as SinkGhosts}
-use Rattle.rv_accounts.specs.File.{Served as Accounts}
+use Rattle.rv_accounts.specs.File.{AccountsServed as Accounts}
 use Rattle.rv_answering.specs.declared.answer.Answer.{Answer}
 use Rattle.rv_answering.specs.Requests.{Parsed}
-use Rattle.rv_answering.specs.Steps.{Run}
+use Rattle.rv_answering.specs.Steps.{HandlesAll}
 use Rattle.rv_serve.specs.declared.conn_end.ConnEnd.{ConnEnd}
 use Rattle.rv_serve.specs.Replies.{asked_of}
 use Rattle.rv_serve.specs.Talk.{Exchange, Talks, answered}
@@ -31,7 +31,7 @@ turns_of accounts (x ∷ xs) = turn_of (asked_of accounts x.request) x.answer ++
 module _ {S : Type 0} (takes : S → Ask → Outcome → S → Type 0) where
   -- these are asked and answered so, one after another
   abbrev pub RunsTurns : S → List (Parsed × Answer) → S → Type 0
-  RunsTurns old turns new = Run takes old (map (λ turn. turn.0) turns) (map (λ turn. turn.1) turns) new
+  RunsTurns old turns new = HandlesAll takes old (map (λ turn. turn.0) turns) (map (λ turn. turn.1) turns) new
 
   -- What was answered on a connection is a run from the state before it to the state after it.
   abbrev pub TalksAreRuns : Type 0

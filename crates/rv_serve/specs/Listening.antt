@@ -5,13 +5,13 @@ use Rattle.rv_base.specs.declared.outside.Source.{Ghosts as SourceGhosts}
 use Rattle.rv_base.specs.declared.outside.Sink.{Ghosts as SinkGhosts}
 use Rattle.rv_net.specs.declared.conn.Conn.{Conn}
 use Rattle.rv_net.specs.declared.listen.Listen.{Ghosts as ListenGhosts}
-use Rattle.rv_accounts.specs.File.{Served as Accounts}
+use Rattle.rv_accounts.specs.File.{AccountsServed as Accounts}
 use Rattle.rv_serve.specs.declared.gate.Gate.{Ghosts as GateGhosts}
 use Rattle.rv_serve.specs.declared.heard.Heard.{Heard}
 use Rattle.rv_serve.specs.Hearing.{Hears}
 use Rattle.rv_serve.specs.declared.conn_end.ConnEnd.{ConnEnd}
 use Rattle.rv_serve.specs.Talk.{Exchange, Talks, answered, heard_from}
-use Rattle.rv_serve.specs.Causes.{ConnCause, InputIsSteady, OutputIsSteady}
+use Rattle.rv_serve.specs.Causes.{ConnCause, ConnInputIsSteady, ConnOutputIsSteady}
 use Rattle.rv_turns.specs.Asks.{Ask}
 use Rattle.rv_turns.specs.declared.outcome.Outcome.{Outcome}
 
@@ -40,8 +40,8 @@ module _ {S I O : Type 0} (takes : S → Ask → Outcome → S → Type 0) (sour
     pub talks : Talks takes accounts old new (source.state conn.given.source) (source.state conn.back.source) (sink.state conn.given.sink) (sink.state conn.back.sink) conn.end
     pub answers : conn.answers ≡ answered takes accounts talks
     pub cause : ConnCause (source.state conn.given.source) (source.state conn.back.source) (sink.state conn.given.sink) (sink.state conn.back.sink) conn.end
-    pub steady_input : source.fails_no_more conn.given.source → InputIsSteady (source.fails_no_more conn.back.source) conn.end
-    pub steady_output : sink.fails_no_more conn.given.sink → OutputIsSteady (sink.fails_no_more conn.back.sink) (sink.state conn.given.sink) (sink.state conn.back.sink) conn.end
+    pub steady_input : source.fails_no_more conn.given.source → ConnInputIsSteady (source.fails_no_more conn.back.source) conn.end
+    pub steady_output : sink.fails_no_more conn.given.sink → ConnOutputIsSteady (sink.fails_no_more conn.back.sink) (sink.state conn.given.sink) (sink.state conn.back.sink) conn.end
 
   -- connections are served one after another, each from the state that the one before it left
   abbrev pub ServesEach : S → List (ServedConn I O) → S → Type 0

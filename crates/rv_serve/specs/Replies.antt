@@ -7,7 +7,7 @@ use Rattle.rv_http.specs.declared.request.Request.{Request}
 use Rattle.rv_http.specs.declared.routes.Route.{Route}
 use Rattle.rv_http.specs.declared.routes.Route.TheVariants.{Push, Pull, NoRoute, OtherMethod}
 use Rattle.rv_http.specs.Routes.{route_of}
-use Rattle.rv_accounts.specs.File.{Served as Accounts, user_in}
+use Rattle.rv_accounts.specs.File.{AccountsServed as Accounts, user_in}
 use Rattle.rv_answering.specs.Requests.{Parsed, push_asked, pull_asked}
 use Rattle.rv_answering.specs.Steps.{HandlesActing}
 use Rattle.rv_turns.specs.Asks.{Ask}
@@ -23,15 +23,15 @@ serves schemas schema = list_any (λ served. bytes_eq served schema) schemas
 
 -- The user of a request is that of the account whose key is the whole value of its first Authorization field. Without one the
 -- request is not authorized (RFC 9110, sections 11.6.2 and 15.5.2).
-abbrev pub user_of : Accounts → Request → Result (List ℕ) Rejection
-user_of accounts request = need rejections.Unauthorized (option_and_then (λ key. user_in key accounts.accounts) request.authorization)
+abbrev pub user_by_key : Accounts → Request → Result (List ℕ) Rejection
+user_by_key accounts request = need rejections.Unauthorized (option_and_then (λ key. user_in key accounts.accounts) request.authorization)
 
 -- What is asked where a request goes: its body is a push or a pull of its user, where it has one.
 abbrev pub asked_at : Accounts → Request → Route → Result Parsed Rejection
 asked_at accounts request NoRoute = Err rejections.NoRoute
 asked_at accounts request OtherMethod = Err rejections.OtherMethod
-asked_at accounts request Push = user_of accounts request >>= λ user. Ok (push_asked user (push_body (serves accounts.schemas) request.body))
-asked_at accounts request Pull = user_of accounts request >>= λ user. Ok (pull_asked user (pull_body (serves accounts.schemas) request.body))
+asked_at accounts request Push = user_by_key accounts request >>= λ user. Ok (push_asked user (push_body (serves accounts.schemas) request.body))
+asked_at accounts request Pull = user_by_key accounts request >>= λ user. Ok (pull_asked user (pull_body (serves accounts.schemas) request.body))
 
 -- What a request asks, or the first thing that it is rejected for before its body: the path is not served, it is for another
 -- method, or no account has the key.
@@ -47,5 +47,5 @@ module _ {S : Type 0} (takes : S → Ask → Outcome → S → Type 0) where
   AnswersAsked old (Err rejection) answer acted new = (answer ≡ Rejected rejection) × (acted ≡ false) × (new ≡ old)
 
   -- a request is answered so
-  abbrev pub Replies : Accounts → S → Request → HttpAnswer → Bool → S → Type 0
-  Replies accounts old request answer acted new = AnswersAsked old (asked_of accounts request) answer acted new
+  abbrev pub Responds : Accounts → S → Request → HttpAnswer → Bool → S → Type 0
+  Responds accounts old request answer acted new = AnswersAsked old (asked_of accounts request) answer acted new

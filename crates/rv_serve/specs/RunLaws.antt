@@ -4,7 +4,7 @@ use Rattle.std.specs.List.{flat_map}
 use Rattle.rv_base.specs.declared.outside.Source.{Ghosts as SourceGhosts}
 use Rattle.rv_base.specs.declared.outside.Sink.{Ghosts as SinkGhosts}
 use Rattle.rv_http.specs.declared.http_end.HttpEnd.{HttpEnd}
-use Rattle.rv_accounts.specs.File.{Served as Accounts}
+use Rattle.rv_accounts.specs.File.{AccountsServed as Accounts}
 use Rattle.rv_answering.specs.declared.answer.Answer.{Answer}
 use Rattle.rv_answering.specs.Requests.{Parsed}
 use Rattle.rv_serve.specs.Replies.{asked_of, AnswersAsked}

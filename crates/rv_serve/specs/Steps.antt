@@ -6,12 +6,12 @@ use Rattle.rv_base.specs.Outside.{OutputState, Writes}
 use Rattle.rv_http.specs.declared.request.Request.{Request}
 use Rattle.rv_http.specs.declared.http_end.HttpEnd.{HttpEnd}
 use Rattle.rv_http.specs.declared.response.WriteFault.{WriteFault}
-use Rattle.rv_accounts.specs.File.{Served as Accounts}
+use Rattle.rv_accounts.specs.File.{AccountsServed as Accounts}
 use Rattle.rv_serve.specs.declared.heard.Heard.{Heard}
 use Rattle.rv_serve.specs.Hearing.{Hears}
 use Rattle.rv_serve.specs.declared.conn_end.ConnEnd.{ConnEnd}
-use Rattle.rv_serve.specs.Replies.{Replies}
-use Rattle.rv_serve.specs.Talk.{closes_at, exchange_text, heard_of, TellsLast, EndsUnread}
+use Rattle.rv_serve.specs.Replies.{Responds}
+use Rattle.rv_serve.specs.Talk.{closes_at, exchange_text, heard_of, EndsWithText, EndsUnread}
 use Rattle.rv_serve.specs.Causes.{OutputCause}
 use Rattle.rv_turns.specs.Asks.{Ask}
 use Rattle.rv_turns.specs.declared.outcome.Outcome.{Outcome}
@@ -27,7 +27,7 @@ user_found None = Err rejections.Unauthorized
 -- a text that ends a connection, with which so many answers are written
 pub record WritesLast (count : ℕ) (whole : List ℕ) (output output' : OutputState) (end : ConnEnd) : Type 0 where
   pub text : List ℕ
-  pub tells : TellsLast count whole text end
+  pub tells : EndsWithText count whole text end
   pub appended : Appends output.written output'.written text
   pub cause : OutputCause output output' end
 
@@ -44,7 +44,7 @@ module _ {S : Type 0} (takes : S → Ask → Outcome → S → Type 0) (accounts
   pub record AnswersOne (number : ℕ) (old : S) (request : Request) (output output' : OutputState) (heard heard' : Option (List Heard)) (new : S) (result : Result Bool WriteFault) : Type 0 where
     pub answer : HttpAnswer
     pub acted : Bool
-    pub replies : Replies takes accounts old request answer acted new
+    pub replies : Responds takes accounts old request answer acted new
     pub writes : Writes output output' result (exchange_text number (record { request = request; answer = answer; acted = acted }))
     pub hears : Hears heard heard' (heard_of number (record { request = request; answer = answer; acted = acted }))
     pub closes : IfOk result (λ closes. closes ≡ closes_at number request)

@@ -7,14 +7,14 @@ use Rattle.rv_base.specs.Writes.{IsFront}
 use Rattle.rv_http.specs.declared.request.Request.{Request}
 use Rattle.rv_http.specs.declared.http_end.HttpEnd.{HttpEnd}
 use Rattle.rv_http.specs.Requests.{Gives, EndsSo}
-use Rattle.rv_http.specs.Causes.{Counts, told_end, read_failed}
-use Rattle.rv_accounts.specs.File.{Served as Accounts}
+use Rattle.rv_http.specs.Causes.{CountsReads, saw_end, read_failed}
+use Rattle.rv_accounts.specs.File.{AccountsServed as Accounts}
 use Rattle.rv_serve.specs.declared.heard.Heard.{Heard}
 use Rattle.rv_serve.specs.declared.heard.Heard.TheVariants.{Before, After}
 use Rattle.rv_serve.specs.Hearing.{Hears}
 use Rattle.rv_serve.specs.declared.conn_end.ConnEnd.{ConnEnd}
 use Rattle.rv_serve.specs.declared.conn_end.ConnEnd.TheVariants.{Done, ReadFault, WriteFault, Memory}
-use Rattle.rv_serve.specs.Replies.{Replies}
+use Rattle.rv_serve.specs.Replies.{Responds}
 use Rattle.rv_serve.specs.Texts.{answer_text, http_status, rejection_text, memory_text}
 use Rattle.rv_serve.specs.declared.http_answer.HttpAnswer.{HttpAnswer}
 use Rattle.rv_turns.specs.Asks.{Ask}
@@ -62,18 +62,18 @@ abbrev pub last_of : Result Exchange HttpEnd → List Exchange
 last_of (Ok x) = x ∷ []
 last_of (Err cause) = []
 
--- memory was refused for the connection's own room, before anything was read
-pub record HasNoRoom (count : ℕ) (bytes : List ℕ) (last : Result Exchange HttpEnd) : Type 0 where
+-- memory was refused for the connection's own buffer, before anything was read
+pub record HasNoBuffer (count : ℕ) (bytes : List ℕ) (last : Result Exchange HttpEnd) : Type 0 where
   pub first : count ≡ 0
   pub unread : bytes ≡ []
   pub memory : last ≡ Err (reading.Memory false)
 
 -- A text that ends a connection: it was written whole, and with it so many answers; or its write failed, and it was cut.
-abbrev pub TellsLast : ℕ → List ℕ → List ℕ → ConnEnd → Type 0
-TellsLast count whole text (Done n) = (text ≡ whole) × (n ≡ count)
-TellsLast count whole text WriteFault = IsFront text whole
-TellsLast count whole text ReadFault = ⊥
-TellsLast count whole text Memory = ⊥
+abbrev pub EndsWithText : ℕ → List ℕ → List ℕ → ConnEnd → Type 0
+EndsWithText count whole text (Done n) = (text ≡ whole) × (n ≡ count)
+EndsWithText count whole text WriteFault = IsFront text whole
+EndsWithText count whole text ReadFault = ⊥
+EndsWithText count whole text Memory = ⊥
 
 -- the same of the response for want of memory, which was tried, with the count of the sink's faults before and after
 abbrev pub TriesLast : List ℕ → List ℕ → ℕ → ℕ → ConnEnd → Type 0
@@ -85,21 +85,21 @@ abbrev pub EndsUnread : ℕ → HttpEnd → List ℕ → ℕ → ℕ → ConnEnd
 EndsUnread count reading.End text before now end = (text ≡ []) × (end ≡ Done count)
 EndsUnread count reading.Cut text before now end = (text ≡ []) × (end ≡ Done count)
 EndsUnread count reading.ReadFault text before now end = (text ≡ []) × (end ≡ ReadFault)
-EndsUnread count (reading.BadHead flag) text before now end = TellsLast (count + 1) (rejection_text rejections.BadHead flag) text end
-EndsUnread count (reading.HeadTooLarge flag) text before now end = TellsLast (count + 1) (rejection_text rejections.HeadTooLarge flag) text end
-EndsUnread count reading.LengthRequired text before now end = TellsLast (count + 1) (rejection_text rejections.LengthRequired false) text end
-EndsUnread count (reading.BodyTooLarge flag) text before now end = TellsLast (count + 1) (rejection_text rejections.BodyTooLarge flag) text end
-EndsUnread count (reading.CodingNotServed flag) text before now end = TellsLast (count + 1) (rejection_text rejections.CodingNotServed flag) text end
+EndsUnread count (reading.BadHead flag) text before now end = EndsWithText (count + 1) (rejection_text rejections.BadHead flag) text end
+EndsUnread count (reading.HeadTooLarge flag) text before now end = EndsWithText (count + 1) (rejection_text rejections.HeadTooLarge flag) text end
+EndsUnread count reading.LengthRequired text before now end = EndsWithText (count + 1) (rejection_text rejections.LengthRequired false) text end
+EndsUnread count (reading.BodyTooLarge flag) text before now end = EndsWithText (count + 1) (rejection_text rejections.BodyTooLarge flag) text end
+EndsUnread count (reading.CodingNotServed flag) text before now end = EndsWithText (count + 1) (rejection_text rejections.CodingNotServed flag) text end
 EndsUnread count (reading.Memory flag) text before now end = TriesLast (memory_text flag) text before now end
 
 -- After so many answers that do not close, this text is written last. A request's answer ends a connection where it closes, or
 -- where its write fails.
-abbrev pub Ends : ℕ → Result Exchange HttpEnd → List ℕ → ℕ → ℕ → ConnEnd → Type 0
-Ends count (Ok x) text before now (Done n) = (text ≡ exchange_text (count + 1) x) × (closes_at (count + 1) x.request ≡ true) × (n ≡ count + 1)
-Ends count (Ok x) text before now WriteFault = IsFront text (exchange_text (count + 1) x)
-Ends count (Ok x) text before now ReadFault = ⊥
-Ends count (Ok x) text before now Memory = ⊥
-Ends count (Err cause) text before now end = EndsUnread count cause text before now end
+abbrev pub EndsTalk : ℕ → Result Exchange HttpEnd → List ℕ → ℕ → ℕ → ConnEnd → Type 0
+EndsTalk count (Ok x) text before now (Done n) = (text ≡ exchange_text (count + 1) x) × (closes_at (count + 1) x.request ≡ true) × (n ≡ count + 1)
+EndsTalk count (Ok x) text before now WriteFault = IsFront text (exchange_text (count + 1) x)
+EndsTalk count (Ok x) text before now ReadFault = ⊥
+EndsTalk count (Ok x) text before now Memory = ⊥
+EndsTalk count (Err cause) text before now end = EndsUnread count cause text before now end
 
 module _ {S : Type 0} (takes : S → Ask → Outcome → S → Type 0) (accounts : Accounts) where
   -- The bytes give these requests one after another, from the one with this number on. Each is answered at the state that the
@@ -107,12 +107,12 @@ module _ {S : Type 0} (takes : S → Ask → Outcome → S → Type 0) (accounts
   abbrev pub AnswersEach : ℕ → S → List ℕ → List Exchange → S → List ℕ → Type 0
   AnswersEach number old bytes [] new rest = (new ≡ old) × (rest ≡ bytes)
   AnswersEach number old bytes (x ∷ xs) new rest =
-      (after : List ℕ) × (mid : S) × Gives bytes after (Ok x.request) × Replies takes accounts old x.request x.answer x.acted mid
+      (after : List ℕ) × (mid : S) × Gives bytes after (Ok x.request) × Responds takes accounts old x.request x.answer x.acted mid
       × (closes_at number x.request ≡ false) × AnswersEach (number + 1) mid after xs new rest
 
   -- the request that was read last is answered; where none was read, nothing changes
   abbrev pub AnswersLast : S → Result Exchange HttpEnd → S → Type 0
-  AnswersLast old (Ok x) new = Replies takes accounts old x.request x.answer x.acted new
+  AnswersLast old (Ok x) new = Responds takes accounts old x.request x.answer x.acted new
   AnswersLast old (Err cause) new = new ≡ old
 
   -- A connection was served: these bytes were read, these requests were answered in turn, then this was read last, and this text
@@ -127,11 +127,11 @@ module _ {S : Type 0} (takes : S → Ask → Outcome → S → Type 0) (accounts
     pub text : List ℕ
     pub consumed : Consumes input.left input'.left read
     pub answers : AnswersEach 1 old read exchanges mid rest
-    pub gives : HasNoRoom (length exchanges) rest last ⊎ Gives rest after (read_of last)
+    pub gives : HasNoBuffer (length exchanges) rest last ⊎ Gives rest after (read_of last)
     pub stops : EndsSo input'.left (read_of last)
-    pub counts : Counts input input' (told_end (read_of last)) (read_failed (read_of last))
+    pub counts : CountsReads input input' (saw_end (read_of last)) (read_failed (read_of last))
     pub answers_last : AnswersLast mid last new
-    pub ends : Ends (length exchanges) last text output.faults output'.faults end
+    pub ends : EndsTalk (length exchanges) last text output.faults output'.faults end
     pub appended : Appends output.written output'.written (text_from 1 exchanges ++ text)
 
   -- all that was answered on the connection; of the last answer a front may have been written, but its turns stand

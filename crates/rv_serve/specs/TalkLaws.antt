@@ -5,12 +5,12 @@ use Rattle.rv_base.specs.declared.outside.Source.{Ghosts as SourceGhosts}
 use Rattle.rv_base.specs.declared.outside.Sink.{Ghosts as SinkGhosts}
 use Rattle.rv_http.specs.declared.request.Request.{Request}
 use Rattle.rv_http.specs.declared.http_end.HttpEnd.{HttpEnd}
-use Rattle.rv_accounts.specs.File.{Served as Accounts}
+use Rattle.rv_accounts.specs.File.{AccountsServed as Accounts}
 use Rattle.rv_answering.specs.Requests.{Parsed}
 use Rattle.rv_answering.specs.StepLaws.{acting_shown, shown_takes}
 use Rattle.rv_serve.specs.declared.gate.Gate.{Ghosts as GateGhosts}
 use Rattle.rv_serve.specs.declared.conn_end.ConnEnd.{ConnEnd}
-use Rattle.rv_serve.specs.Replies.{AnswersAsked, Replies, asked_of}
+use Rattle.rv_serve.specs.Replies.{AnswersAsked, Responds, asked_of}
 use Rattle.rv_serve.specs.Talk.{AnswersEach, AnswersLast, Exchange, Talks}
 use Rattle.rv_serve.specs.Listening.{ServedConn, ServesAll, ServesConn, ServesEach, ServesPast}
 use Rattle.rv_net.specs.declared.listen.Listen.{Ghosts as ListenGhosts}
@@ -31,8 +31,8 @@ module _ {S V : Type 0} (shown : S → V) (Goes : S → S → Type 0) (goes_same
   asked_shown old new (Ok asked) (Rejected rejection) acted never = absurd never
   asked_shown old new (Err rejection) answer acted (is, none, same) = ((is, none, ap shown same), subst (λ (s : S). Goes old s) (sym same) (goes_same old))
 
-  replies_shown : (old new : S) (request : Request) (answer : HttpAnswer) (acted : Bool) → Replies taking accounts old request answer acted new
-      → Replies takes accounts (shown old) request answer acted (shown new) × Goes old new
+  replies_shown : (old new : S) (request : Request) (answer : HttpAnswer) (acted : Bool) → Responds taking accounts old request answer acted new
+      → Responds takes accounts (shown old) request answer acted (shown new) × Goes old new
   replies_shown old new request answer acted replies = asked_shown old new (asked_of accounts request) answer acted replies
 
   each_shown : (number : ℕ) (old new : S) (bytes rest : List ℕ) (xs : List Exchange) → AnswersEach taking accounts number old bytes xs new rest

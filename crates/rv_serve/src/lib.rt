@@ -15,8 +15,8 @@ mod listening;
 mod memory_gate;
 mod replying;
 mod serving;
-mod telling;
 mod tools;
+mod writing;
 
 pub use conn_end::ConnEnd;
 pub use gate::{Gate, OpenGate};

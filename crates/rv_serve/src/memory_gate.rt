@@ -12,11 +12,11 @@ pub struct MemoryGate {
 impl MemoryGate {
     ghost use Rattle.std.specs.Prelude.{◌≡◌, [], ◌∷◌, Some, MatchOption};
     ghost use Rattle.rv_serve.specs.Hearing.{Hears};
-    ghost use Rattle.rv_serve.specs.MemoryGates.{told};
+    ghost use Rattle.rv_serve.specs.MemoryGates.{heard_by};
 
     /// A gate that has heard nothing yet.
     pub fn new(alloc: Global) -> MemoryGate
-        ensures { told result ≡ Some [] }
+        ensures { heard_by result ≡ Some [] }
     {
         MemoryGate {
             heard: Vec::new(alloc),
@@ -26,7 +26,7 @@ impl MemoryGate {
 
     /// What it has heard, in order, or none where memory was refused.
     pub fn heard(&self) -> Option<&[Heard]>
-        ensures { MatchOption result (told self.now ≡ None) (λ heard. told self.now ≡ Some heard.now) }
+        ensures { MatchOption result (heard_by self.now ≡ None) (λ heard. heard_by self.now ≡ Some heard.now) }
     {
         if self.lost {
             None
@@ -37,7 +37,7 @@ impl MemoryGate {
 
     // Keeps what was heard.
     fn keep(&mut self, heard: Heard)
-        ensures { Hears (told self.old) (told self.new) (heard ∷ []) }
+        ensures { Hears (heard_by self.old) (heard_by self.new) (heard ∷ []) }
     {
         match self.heard.push(heard) {
             Ok(()) => {}
@@ -47,9 +47,9 @@ impl MemoryGate {
 }
 
 impl Gate for MemoryGate {
-    ghost use Rattle.rv_serve.specs.MemoryGates.{told};
+    ghost use Rattle.rv_serve.specs.MemoryGates.{heard_by};
 
-    ghost heard = { told };
+    ghost heard = { heard_by };
 
     fn before(&mut self, number: u32) {
         self.keep(Heard::Before(number));

@@ -5,7 +5,7 @@ ghost use Rattle.rv_wire.specs.Bodies.{push_body, pull_body};
 ghost use Rattle.rv_answering.specs.Requests.{push_asked, pull_asked};
 ghost use Rattle.rv_answering.specs.Steps.{HandlesActing};
 ghost use Rattle.rv_http.specs.declared.routes.Route.TheVariants as routes;
-ghost use Rattle.rv_serve.specs.Replies.{serves, user_of, asked_at, AnswersAsked, Replies};
+ghost use Rattle.rv_serve.specs.Replies.{serves, user_by_key, asked_at, AnswersAsked, Responds};
 ghost use Rattle.rv_serve.specs.Steps.{user_found};
 ghost use Rattle.rv_serve.specs.declared.http_answer.HttpAnswer.TheVariants as answers;
 
@@ -19,8 +19,8 @@ use rv_wire::{read_pull, read_push};
 use std::alloc::Global;
 
 // Whom a request is from.
-fn user_of<'a>(accounts: &'a Accounts, request: &Request) -> Option<&'a User>
-    ensures { user_found result ≡ user_of accounts.now request.now }
+fn user_by_key<'a>(accounts: &'a Accounts, request: &Request) -> Option<&'a User>
+    ensures { user_found result ≡ user_by_key accounts.now request.now }
 {
     match &request.authorization {
         Some(key) => accounts.user_of(key.as_slice()),
@@ -69,7 +69,7 @@ fn reply_push<T: Turns>(
 ) -> HttpAnswered
     ensures { AnswersAsked T.takes turns.old (asked_at accounts.now request.now routes.Push) result.answer result.acted turns.new }
 {
-    match user_of(accounts, request) {
+    match user_by_key(accounts, request) {
         Some(user) => {
             let Answered { answer, acted } = answer_push(
                 alloc,
@@ -96,7 +96,7 @@ fn reply_pull<T: Turns>(
 ) -> HttpAnswered
     ensures { AnswersAsked T.takes turns.old (asked_at accounts.now request.now routes.Pull) result.answer result.acted turns.new }
 {
-    match user_of(accounts, request) {
+    match user_by_key(accounts, request) {
         Some(user) => HttpAnswered {
             answer: HttpAnswer::Answered(answer_pull(
                 alloc,
@@ -129,7 +129,7 @@ pub(crate) fn reply<T: Turns>(
     routes: &Routes,
     request: &Request,
 ) -> HttpAnswered
-    ensures { Replies T.takes accounts.now turns.old request.now result.answer result.acted turns.new }
+    ensures { Responds T.takes accounts.now turns.old request.now result.answer result.acted turns.new }
 {
     match routes.route(&request.method, request.path.as_slice()) {
         Route::NoRoute => rejected(Rejection::NoRoute),

@@ -4,15 +4,15 @@ ghost use Rattle.rv_base.specs.Outside.{IsSteady};
 ghost use Rattle.rv_http.specs.declared.http_end.HttpEnd.TheVariants as reading;
 ghost use Rattle.rv_serve.specs.Texts.{rejection_text};
 ghost use Rattle.rv_serve.specs.Talk.{closes_at, TalksPast};
-ghost use Rattle.rv_serve.specs.Causes.{ConnCause, InputIsSteady, OutputIsSteady};
+ghost use Rattle.rv_serve.specs.Causes.{ConnCause, ConnInputIsSteady, ConnOutputIsSteady};
 ghost use Rattle.rv_serve.specs.Steps.{AnswersOne, EndsConn, WritesLast};
 
 use crate::conn_end::ConnEnd;
 use crate::gate::Gate;
 use crate::http_answer::HttpAnswered;
 use crate::replying::reply;
-use crate::telling::{write_answer, write_no_memory, write_rejection};
 use crate::tools::Tools;
+use crate::writing::{write_answer, write_no_memory, write_rejection};
 use rv_accounts::Accounts;
 use rv_base::{Sink, Source};
 use rv_http::{Buffer, HttpEnd, Rejection, Request, Routes, WriteFault, read_request};
@@ -60,7 +60,7 @@ fn answer_request<T: Turns, G: Gate, O: Sink>(
 fn close_with<O: Sink>(sink: &mut O, rejection: Rejection, head_only: bool, count: u32) -> ConnEnd
     requires { count < 2 ^ 31 }
     ensures writes { WritesLast (count + 1) (rejection_text rejection head_only) (O.state sink.old) (O.state sink.new) result }
-    ensures steady { O.fails_no_more sink.old → OutputIsSteady (O.fails_no_more sink.new) (O.state sink.old) (O.state sink.new) result }
+    ensures steady { O.fails_no_more sink.old → ConnOutputIsSteady (O.fails_no_more sink.new) (O.state sink.old) (O.state sink.new) result }
 {
     match write_rejection(sink, rejection, true, head_only) {
         Ok(()) => ConnEnd::Done(count + 1),
@@ -71,7 +71,7 @@ fn close_with<O: Sink>(sink: &mut O, rejection: Rejection, head_only: bool, coun
 // Tries to answer that memory was refused.
 fn refuse_memory<O: Sink>(sink: &mut O, head_only: bool) -> ConnEnd
     ensures ends { EndsConn 0 (reading.Memory head_only) (O.state sink.old) (O.state sink.new) result }
-    ensures steady { O.fails_no_more sink.old → OutputIsSteady (O.fails_no_more sink.new) (O.state sink.old) (O.state sink.new) result }
+    ensures steady { O.fails_no_more sink.old → ConnOutputIsSteady (O.fails_no_more sink.new) (O.state sink.old) (O.state sink.new) result }
 {
     match write_no_memory(sink, head_only) {
         Ok(()) => ConnEnd::Memory,
@@ -83,7 +83,7 @@ fn refuse_memory<O: Sink>(sink: &mut O, head_only: bool) -> ConnEnd
 fn refuse<O: Sink>(sink: &mut O, cause: HttpEnd, count: u32) -> ConnEnd
     requires { count < 2 ^ 31 }
     ensures ends { EndsConn count cause (O.state sink.old) (O.state sink.new) result }
-    ensures steady { O.fails_no_more sink.old → OutputIsSteady (O.fails_no_more sink.new) (O.state sink.old) (O.state sink.new) result }
+    ensures steady { O.fails_no_more sink.old → ConnOutputIsSteady (O.fails_no_more sink.new) (O.state sink.old) (O.state sink.new) result }
 {
     match cause {
         HttpEnd::End => ConnEnd::Done(count),
@@ -112,8 +112,8 @@ fn serve_requests<T: Turns, G: Gate, S: Source, O: Sink>(
     requires { buffer.old ≡ [] }
     ensures talks { TalksPast T.takes accounts.now turns.old turns.new (S.state source.old) (S.state source.new) (O.state sink.old) (O.state sink.new) (G.heard gate.old) (G.heard gate.new) result }
     ensures cause { ConnCause (S.state source.old) (S.state source.new) (O.state sink.old) (O.state sink.new) result }
-    ensures steady_input { S.fails_no_more source.old → InputIsSteady (S.fails_no_more source.new) result }
-    ensures steady_output { O.fails_no_more sink.old → OutputIsSteady (O.fails_no_more sink.new) (O.state sink.old) (O.state sink.new) result }
+    ensures steady_input { S.fails_no_more source.old → ConnInputIsSteady (S.fails_no_more source.new) result }
+    ensures steady_output { O.fails_no_more sink.old → ConnOutputIsSteady (O.fails_no_more sink.new) (O.state sink.old) (O.state sink.new) result }
 {
     for count in 0..LAST {
         let request = match read_request(alloc, source, buffer) {
@@ -150,8 +150,8 @@ pub(crate) fn serve_with<T: Turns, G: Gate, S: Source, O: Sink>(
 ) -> (ConnEnd, Option<Tools>)
     ensures talks { TalksPast T.takes accounts.now turns.old turns.new (S.state conn.old.source) (S.state conn.new.source) (O.state conn.old.sink) (O.state conn.new.sink) (G.heard gate.old) (G.heard gate.new) result.0 }
     ensures cause { ConnCause (S.state conn.old.source) (S.state conn.new.source) (O.state conn.old.sink) (O.state conn.new.sink) result.0 }
-    ensures steady_input { S.fails_no_more conn.old.source → InputIsSteady (S.fails_no_more conn.new.source) result.0 }
-    ensures steady_output { O.fails_no_more conn.old.sink → OutputIsSteady (O.fails_no_more conn.new.sink) (O.state conn.old.sink) (O.state conn.new.sink) result.0 }
+    ensures steady_input { S.fails_no_more conn.old.source → ConnInputIsSteady (S.fails_no_more conn.new.source) result.0 }
+    ensures steady_output { O.fails_no_more conn.old.sink → ConnOutputIsSteady (O.fails_no_more conn.new.sink) (O.state conn.old.sink) (O.state conn.new.sink) result.0 }
 {
     let Ok(mut tools) = Tools::ready(alloc, tools) else {
         return (refuse_memory(&mut conn.sink, false), None);
@@ -180,8 +180,8 @@ pub fn serve_connection<T: Turns, G: Gate, S: Source, O: Sink>(
 ) -> ConnEnd
     ensures talks { TalksPast T.takes accounts.now turns.old turns.new (S.state conn.old.source) (S.state conn.new.source) (O.state conn.old.sink) (O.state conn.new.sink) (G.heard gate.old) (G.heard gate.new) result }
     ensures cause { ConnCause (S.state conn.old.source) (S.state conn.new.source) (O.state conn.old.sink) (O.state conn.new.sink) result }
-    ensures steady_input { S.fails_no_more conn.old.source → InputIsSteady (S.fails_no_more conn.new.source) result }
-    ensures steady_output { O.fails_no_more conn.old.sink → OutputIsSteady (O.fails_no_more conn.new.sink) (O.state conn.old.sink) (O.state conn.new.sink) result }
+    ensures steady_input { S.fails_no_more conn.old.source → ConnInputIsSteady (S.fails_no_more conn.new.source) result }
+    ensures steady_output { O.fails_no_more conn.old.sink → ConnOutputIsSteady (O.fails_no_more conn.new.sink) (O.state conn.old.sink) (O.state conn.new.sink) result }
 {
     let (end, _tools) = serve_with(alloc, turns, accounts, gate, None, conn);
     end

@@ -4,7 +4,7 @@ use rv_base::Memory;
 use rv_http::{Buffer, Routes};
 use std::alloc::Global;
 
-/// What serving a connection takes: the room for what is read ahead, and the routes. They are made once, and serve one connection
+/// What serving a connection takes: the space for what is read ahead, and the routes. They are made once, and serve one connection
 /// after the other.
 #[derive(Drop)]
 pub(crate) struct Tools {

@@ -9,7 +9,7 @@ use Rattle.rv_rows.specs.declared.row.Row.TheVariants as variants
 use Rattle.rv_rows.specs.Held.{Stored, rows_in}
 use Rattle.rv_rows.specs.Sharing.{is_list, owns, shares, sees}
 use Rattle.rv_sharing.proofs.OwnerLaws.{same_either_way}
-use Rattle.rv_sharing.specs.Texts.{AreInOrder, Adds}
+use Rattle.rv_sharing.specs.Texts.{AreInOrder, AddsText}
 use Rattle.rv_sharing.proofs.TextLaws.{or_moved, or_false}
 use Rattle.rv_sharing.specs.Opened.{opened, AreOpened}
 
@@ -81,7 +81,7 @@ pub record Opening (user : List ℕ) (rows : List Row) (lists : List (List ℕ))
 pub opening_begins : (user : List ℕ) (stored rest : List Stored) (lists : List (List ℕ)) → lists ≡ [] → rest ≡ stored → Opening user (rows_in stored) lists rest
 opening_begins user stored rest lists none all = rw (none, all) (record { order = tt; each = λ list. opens-sees user list (rows_in stored) })
 
-pub opening_more : (user : List ℕ) (rows : List Row) (rest next : List Stored) (s : Stored) (id : List ℕ) (before after : List (List ℕ)) → rest ≡ s ∷ next → Some id ≡ opened user rows s.0 → Adds id before after
+pub opening_more : (user : List ℕ) (rows : List Row) (rest next : List Stored) (s : Stored) (id : List ℕ) (before after : List (List ℕ)) → rest ≡ s ∷ next → Some id ≡ opened user rows s.0 → AddsText id before after
     → Opening user rows before rest → Opening user rows after next
 unfolding opens
 opening_more user rows rest next s id before after first is adds opening =

@@ -6,7 +6,7 @@ use Rattle.std.specs.Option.{is_some, option_map, option_map_or, option_and_then
 use Rattle.std.specs.Str.{bytes_eq}
 use Rattle.std.proofs.lemmas.Slice.Eq.{bytes_eq-Decides}
 use Rattle.rv_base.specs.Sorted.{Distinct}
-use Rattle.rv_base.specs.Places.{not_same}
+use Rattle.rv_base.specs.Positions.{not_same}
 use Rattle.rv_base.specs.Arranged.{find-map}
 use Rattle.rv_rows.specs.declared.key.Kind.TheVariants as kinds
 use Rattle.rv_rows.specs.declared.row.Row.{Row}

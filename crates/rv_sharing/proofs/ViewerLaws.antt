@@ -15,7 +15,7 @@ use Rattle.rv_rows.specs.Held.{Stored, rows_in, find, AreRows}
 use Rattle.rv_rows.specs.Sharing.{shares, sees, list_of}
 use Rattle.rv_sharing.specs.Owners.{owner_of}
 use Rattle.rv_sharing.proofs.OwnerLaws.{same_either_way, sees-owned, sees-absent}
-use Rattle.rv_sharing.specs.Texts.{AreInOrder, Adds}
+use Rattle.rv_sharing.specs.Texts.{AreInOrder, AddsText}
 use Rattle.rv_sharing.proofs.TextLaws.{or_moved, or_false}
 use Rattle.rv_sharing.specs.Opened.{list_passes, AreListsOf}
 use Rattle.rv_sharing.specs.Sharers.{sharer, AddsSharers}
@@ -50,7 +50,7 @@ pub adding_begins : (list : List ℕ) (stored rest : List Stored) (before users 
 adding_begins list stored rest before users order same own =
     rw (same, own) (record { order = order; each = λ user. ap (λ (b : Bool). list_any (bytes_eq user) before || b) (shares-own user list stored) })
 
-pub adding_more : (list : List ℕ) (rows : List Row) (rest next : List Stored) (s : Stored) (user : List ℕ) (before users after : List (List ℕ)) → rest ≡ s ∷ next → Some user ≡ sharer list s.0 → Adds user users after
+pub adding_more : (list : List ℕ) (rows : List Row) (rest next : List Stored) (s : Stored) (user : List ℕ) (before users after : List (List ℕ)) → rest ≡ s ∷ next → Some user ≡ sharer list s.0 → AddsText user users after
     → Adding list rows before users rest → Adding list rows before after next
 adding_more list rows rest next s user before users after first is adds adding =
     let adding = rw first at adding in
@@ -80,7 +80,7 @@ adding_ends list rows before users after rest none same adding =
     rw same (record { order = adding.order; each = λ u. or_false (list_any (bytes_eq u) users) ∙ adding.each u })
 
 -- the owner and the shares' users are those who see the list
-pub viewers_owned : (list owner : List ℕ) (stored : List Stored) (before owned after : List (List ℕ)) → AreRows stored → Some owner ≡ owner_of list (rows_in stored) → Adds owner before owned → AddsSharers (rows_in stored) list owned after
+pub viewers_owned : (list owner : List ℕ) (stored : List Stored) (before owned after : List (List ℕ)) → AreRows stored → Some owner ≡ owner_of list (rows_in stored) → AddsText owner before owned → AddsSharers (rows_in stored) list owned after
     → AddsViewers (rows_in stored) list before after
 viewers_owned list owner stored before owned after rows is adds shared = record {
   order = shared.order;
@@ -91,7 +91,7 @@ viewers_owned list owner stored before owned after rows is adds shared = record 
       ∙ ap (λ (b : Bool). list_any (bytes_eq u) before || b) (sym (sees-owned u list owner stored rows is));
 }
 
-pub viewers_shared : {E : Type 0} (list owner : List ℕ) (stored : List Stored) (before owned : List (List ℕ)) (r : Result (List (List ℕ)) E) → AreRows stored → Some owner ≡ owner_of list (rows_in stored) → Adds owner before owned
+pub viewers_shared : {E : Type 0} (list owner : List ℕ) (stored : List Stored) (before owned : List (List ℕ)) (r : Result (List (List ℕ)) E) → AreRows stored → Some owner ≡ owner_of list (rows_in stored) → AddsText owner before owned
     → IfOk r (AddsSharers (rows_in stored) list owned) → IfOk r (AddsViewers (rows_in stored) list before)
 viewers_shared list owner stored before owned (Ok after) rows is adds shared = viewers_owned list owner stored before owned after rows is adds shared
 viewers_shared list owner stored before owned (Err e) rows is adds shared = tt
@@ -110,7 +110,7 @@ swapped false true = refl
 swapped false false = refl
 
 pub lists_more : (stored : List Stored) (keys : List Key) (i : ℕ) (key : Key) (s : Stored) (list : List ℕ) (before after : List (List ℕ)) → i < length keys → key ≡ get_or keys i key
-    → Some s ≡ find (key_text key) stored → list ≡ list_of s.0 → Adds list before after → AreListsOf (rows_in stored) (take i keys) before → AreListsOf (rows_in stored) (take (i + 1) keys) after
+    → Some s ≡ find (key_text key) stored → list ≡ list_of s.0 → AddsText list before after → AreListsOf (rows_in stored) (take i keys) before → AreListsOf (rows_in stored) (take (i + 1) keys) after
 lists_more stored keys i key s list before after lt at is of adds lists = record {
   order = adds.order;
   each = λ p.

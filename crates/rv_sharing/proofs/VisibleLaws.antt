@@ -3,7 +3,7 @@ use Rattle.std.proofs.Common.{◌≡◌, ℕ, Bool, true, false, cond, List, [],
 use Rattle.std.specs.List.{filter, list_any}
 use Rattle.std.specs.Str.{bytes_eq}
 use Rattle.rv_base.specs.Sorted.{InOrder}
-use Rattle.rv_base.specs.Places.{Above, in_order-filter}
+use Rattle.rv_base.specs.Positions.{Above, in_order-filter}
 use Rattle.rv_rows.specs.declared.key.Key.{Key}
 use Rattle.rv_rows.specs.declared.row.Row.{Row}
 use Rattle.rv_rows.specs.Keys.{key_text, row_key}

@@ -7,6 +7,6 @@ abbrev pub AreInOrder : List (List ℕ) → Type 0
 AreInOrder = InOrder (λ text. text)
 
 -- the texts afterwards are those before and this one
-pub record Adds (text : List ℕ) (before after : List (List ℕ)) : Type 0 where
+pub record AddsText (text : List ℕ) (before after : List (List ℕ)) : Type 0 where
   pub order : AreInOrder after
   pub each : (p : List ℕ → Bool) → list_any p after ≡ (p text || list_any p before)

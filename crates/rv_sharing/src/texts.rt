@@ -4,20 +4,20 @@ ghost use Rattle.std.specs.List.{list_any};
 ghost use Rattle.std.specs.Str.{bytes_eq};
 ghost use Rattle.std.specs.Cmp.Lexicographic.{slice_cmp};
 ghost use Rattle.std.specs.Ordering.{nat_cmp};
-ghost use Rattle.rv_base.specs.Sorted.{Settles};
-ghost use Rattle.rv_sharing.specs.Texts.{AreInOrder, Adds};
+ghost use Rattle.rv_base.specs.Sorted.{IsPositionOf};
+ghost use Rattle.rv_sharing.specs.Texts.{AreInOrder, AddsText};
 
 use rv_base::{Bounded, Memory};
 use std::alloc::Global;
 use std::cmp::Ordering;
 
 // Where a text stands, or where it would go.
-fn place<const MIN: usize, const MAX: usize>(
+fn position_of<const MIN: usize, const MAX: usize>(
     texts: &[Bounded<MIN, MAX>],
     text: &Bounded<MIN, MAX>,
 ) -> Result<usize, usize>
     requires { AreInOrder texts.now }
-    ensures { Settles (λ text. text) text.now texts.now result }
+    ensures { IsPositionOf (λ text. text) text.now texts.now result }
 {
     texts.binary_search_by(
         |other| -> Ordering
@@ -34,7 +34,7 @@ pub(crate) fn holds<const MIN: usize, const MAX: usize>(
     requires { AreInOrder texts.now }
     ensures { result ≡ list_any (bytes_eq text.now) texts.now }
 {
-    match place(texts, text) {
+    match position_of(texts, text) {
         Ok(_) => true,
         Err(_) => false,
     }
@@ -47,9 +47,9 @@ pub(crate) fn add<const MIN: usize, const MAX: usize>(
     text: &Bounded<MIN, MAX>,
 ) -> Result<(), Memory>
     requires { AreInOrder texts.old.items }
-    ensures { OnOk result (Adds text.now texts.old.items texts.new.items) }
+    ensures { OnOk result (AddsText text.now texts.old.items texts.new.items) }
 {
-    match place(texts, text) {
+    match position_of(texts, text) {
         Ok(_) => Ok(()),
         Err(at) => {
             texts.insert(at, text.copy(alloc)?)?;

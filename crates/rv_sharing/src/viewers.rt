@@ -1,7 +1,7 @@
 // The users who see something of a table.
 ghost use Rattle.std.specs.Prelude.{◌≡◌, IfOk, option_map};
 ghost use Rattle.rv_rows.specs.Held.{rows_in};
-ghost use Rattle.rv_sharing.specs.Texts.{AreInOrder, Adds};
+ghost use Rattle.rv_sharing.specs.Texts.{AreInOrder, AddsText};
 ghost use Rattle.rv_sharing.specs.Opened.{AreListsOf};
 ghost use Rattle.rv_sharing.specs.Sharers.{sharer, AddsSharers};
 ghost use Rattle.rv_sharing.specs.Affected.{AddsViewers, AreAffected};
@@ -15,7 +15,7 @@ use std::alloc::Global;
 /// The users and this one. They stand in the order of their bytes, each once.
 pub fn add_user(alloc: Global, users: Users, user: &User) -> Result<Users, Memory>
     requires { AreInOrder users }
-    ensures { IfOk result (Adds user.now users) }
+    ensures { IfOk result (AddsText user.now users) }
 {
     let mut users = users.into_vec();
     add(alloc, &mut users, user)?;

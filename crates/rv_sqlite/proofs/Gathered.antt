@@ -7,7 +7,7 @@ use Rattle.rv_keeper.specs.Keeping.{holding}
 use Rattle.rv_sqlite.specs.declared.row_read.RowRead.{RowRead}
 use Rattle.rv_sqlite.specs.declared.row_read.RowRead.TheVariants as row_read
 use Rattle.rv_sqlite.specs.Rows.{Shows}
-use Rattle.rv_sqlite.specs.Loads.{AllShow, AreLoaded, IsTold, cells_among, generations_among}
+use Rattle.rv_sqlite.specs.Loads.{AllShow, AreLoaded, IsOnlyGeneration, cells_among, generations_among}
 
 AllShow-append : (rows : List Row) (reads : List RowRead) (row : Row) (read : RowRead) → AllShow rows reads → Shows row read → AllShow (rows ++ row ∷ []) (reads ++ read ∷ [])
 AllShow-append [] [] row read all shows = (shows, tt)
@@ -41,9 +41,9 @@ more_gathered rows cells now generation after row read so_far shows taken told =
   generation_is = told ∙ ap (λ xs. xs ++ generations_among (read ∷ [])) so_far.generation_is ∙ sym (generations_among-append so_far.reads (read ∷ []));
 }
 
-only_told : (generation : Option ℕ) → IsTold (option_to_list generation) (unwrap_or generation 0)
-only_told None = refl
-only_told (Some number) = refl
+only_generation : (generation : Option ℕ) → IsOnlyGeneration (option_to_list generation) (unwrap_or generation 0)
+only_generation None = refl
+only_generation (Some number) = refl
 
 pub all_gathered : (rows : List Row) (cells items : List Cell) (generation : Option ℕ) (number : ℕ) → HasGathered rows cells generation → items ≡ cells → number ≡ unwrap_or generation 0
     → AreLoaded rows (holding items number)
@@ -52,6 +52,6 @@ all_gathered rows cells items generation number all same told = record {
   shown = all.shown;
   cells = same ∙ all.cells_are;
   generation =
-      let P : List ℕ → ℕ → Type 0 = λ numbers one. IsTold numbers one in
-      subst₂ P all.generation_is (sym told) (only_told generation);
+      let P : List ℕ → ℕ → Type 0 = λ numbers one. IsOnlyGeneration numbers one in
+      subst₂ P all.generation_is (sym told) (only_generation generation);
 }

@@ -10,13 +10,13 @@ abbrev pub one_text : List ℕ
 one_text = codes "SELECT body FROM cell WHERE shelf = ?1 AND k = ?2"
 
 -- the generation's shelf, and its key, which is empty
-abbrev pub generation_place : Row
-generation_place = Int (pos 0) ∷ Blob [] ∷ []
+abbrev pub generation_key : Row
+generation_key = Int (pos 0) ∷ Blob [] ∷ []
 
 -- the row of the generation, if there is one
 abbrev pub FindsRow : State → State → Option Row → Type 0
-FindsRow old new (Some row) = QueriesRow one_text generation_place old new (Ok row)
-FindsRow old new None = QueriesRow one_text generation_place old new (Err QueryReturnedNoRows)
+FindsRow old new (Some row) = QueriesRow one_text generation_key old new (Ok row)
+FindsRow old new None = QueriesRow one_text generation_key old new (Err QueryReturnedNoRows)
 
 -- the number in the row of the generation, or 0 where there is none
 abbrev pub FindsGeneration : State → State → ℕ → Type 0

@@ -38,17 +38,17 @@ generations_among (row_read.Cell cell ∷ reads) = generations_among reads
 generations_among (row_read.Generation number ∷ reads) = number ∷ generations_among reads
 
 -- the generation by those that rows tell: 0 where none does, and else the only one
-abbrev pub IsTold : List ℕ → ℕ → Type 0
-IsTold [] generation = generation ≡ 0
-IsTold (number ∷ []) generation = generation ≡ number
-IsTold (number ∷ other ∷ more) generation = ⊥
+abbrev pub IsOnlyGeneration : List ℕ → ℕ → Type 0
+IsOnlyGeneration [] generation = generation ≡ 0
+IsOnlyGeneration (number ∷ []) generation = generation ≡ number
+IsOnlyGeneration (number ∷ other ∷ more) generation = ⊥
 
 -- the rows stand for these cells, in order, and for this generation, and for nothing else
 pub record AreLoaded (rows : List Row) (loaded : Loaded) : Type 0 where
   pub reads : List RowRead
   pub shown : AllShow rows reads
   pub cells : loaded.cells ≡ cells_among reads
-  pub generation : IsTold (generations_among reads) loaded.generation
+  pub generation : IsOnlyGeneration (generations_among reads) loaded.generation
 
 -- the table was made, or was there
 abbrev pub MakesTable : State → State → Type 0

@@ -8,7 +8,7 @@ use Rattle.rv_book.specs.Book.{Book, size, with_entry, empty_book}
 use Rattle.rv_book.specs.Kept.{falls_out, kept}
 use Rattle.rv_book.specs.LookLaws.{is_place}
 use Rattle.rv_views.specs.Viewed.{Viewed}
-use Rattle.rv_mutators.specs.Staging.{applied}
+use Rattle.rv_mutators.specs.Staging.{with_staged}
 use Rattle.rv_history.specs.Lawful.{IsLawful}
 use Rattle.rv_history.specs.LawfulBooks.{lawful_none, lawful_more}
 use Rattle.rv_history.specs.Replay.{IsReplay}
@@ -43,7 +43,7 @@ with_record book group viewed records = filter (λ r. not (is_place r.0 (falls_o
 abbrev pub left : Book → List ℕ → List Placed → List Placed
 left book group records = filter (λ r. kept r.0 (with_entry book (Retire group))) records
 
-after_act : (s : Standing) (act : PreparedAct) → Stands s.book s.rows s.records → IsPrepared s (prepared.Act act) → Stands (with_entry s.book (entry_of (prepared.Act act))) (applied (size s.book + 1) act.staged s.rows) s.records
+after_act : (s : Standing) (act : PreparedAct) → Stands s.book s.rows s.records → IsPrepared s (prepared.Act act) → Stands (with_entry s.book (entry_of (prepared.Act act))) (with_staged (size s.book + 1) act.staged s.rows) s.records
 after_act s act (lawful, replay, records, all) ready =
     let entry : Entry = Act act.user act.group act.client act.id act.call in (
       lawful_more s.book entry lawful ready.lawful,
@@ -74,7 +74,7 @@ module _ (t s : Standing) (p : Prepared) (same : t ≡ s) (stands : Stands t.boo
   ready : (q : Prepared) → p ≡ q → IsPrepared t q
   ready q is = subst (λ (v : Standing). IsPrepared v q) (sym same) (subst (λ (r : Prepared). IsPrepared s r) is is_prepared)
 
-  pub act_entered : (act : PreparedAct) → p ≡ prepared.Act act → Stands (with_entry t.book (entry_of (prepared.Act act))) (applied (size t.book + 1) act.staged t.rows) t.records
+  pub act_entered : (act : PreparedAct) → p ≡ prepared.Act act → Stands (with_entry t.book (entry_of (prepared.Act act))) (with_staged (size t.book + 1) act.staged t.rows) t.records
   act_entered act is = after_act t act stands (ready (prepared.Act act) is)
 
   pub look_entered : (look : PreparedLook) → p ≡ prepared.Look look → Stands (with_entry t.book (entry_of (prepared.Look look))) t.rows (with_record t.book look.group look.view t.records)

@@ -5,12 +5,12 @@ use Rattle.rv_book.specs.Book.{Book}
 use Rattle.rv_news.specs.Records.{Placed}
 
 -- the book with the most entries that it may have, its rows with their versions, and the records of its kept looks; and beside
--- each a lower bound of what has room
+-- each a lower bound of what has space
 pub record Standing : Type 0 where
   pub book : Book
   pub limit : ℕ
-  pub room : ℕ
+  pub spare_entries : ℕ
   pub rows : List Stored
-  pub row_room : ℕ
+  pub spare_rows : ℕ
   pub records : List Placed
-  pub record_room : ℕ
+  pub spare_records : ℕ

@@ -19,7 +19,7 @@ use std::marker::Model;
 /// The state of one server in memory: its book, and beside it the tables, which are the book's replay, and the view records of
 /// the looks that the book keeps.
 ///
-/// An entry comes in two steps. To prepare it takes all the memory that it needs, and changes nothing but the room that there
+/// An entry comes in two steps. To prepare it takes all the memory that it needs, and changes nothing but the space that there
 /// is; to enter it takes none and can't fail. It may be entered at any later time, while nothing else was.
 #[derive(Debug, Drop)]
 pub struct State {
@@ -39,15 +39,15 @@ impl Model for State {
 
     ghost Value = { Standing };
 
-    ghost view = { λ s. record { book = s.book.book; limit = s.book.limit; room = s.book.room; rows = s.tables.rows; row_room = s.tables.spare; records = s.records.records; record_room = s.records.spare } };
+    ghost view = { λ s. record { book = s.book.book; limit = s.book.limit; spare_entries = s.book.spare; rows = s.tables.rows; spare_rows = s.tables.spare; records = s.records.records; spare_records = s.records.spare } };
 
     ghost invariant = { λ s. IsLawful s.book.book × IsReplay s.book.book s.tables.rows × AreRecords s.book.book s.records.records × AllByRecursion EntryFits s.book.book.entries };
 }
 
-// Makes room for an entry.
+// Makes space for an entry.
 fn reserve(book: &mut Book) -> Result<(), Memory>
     requires { size book.old.book < book.old.limit }
-    ensures room { OnOk result (1 ≤ book.new.room) }
+    ensures spare_entries { OnOk result (1 ≤ book.new.spare) }
     ensures book { book.new.book ≡ book.old.book }
     ensures limit { book.new.limit ≡ book.old.limit }
 {
@@ -145,7 +145,7 @@ impl State {
         id: Num,
         call: Call,
     ) -> Result<Prepared, Memory>
-        requires room { size self.old.book < self.old.limit }
+        requires within_limit { size self.old.book < self.old.limit }
         requires lawful { IsLawfulAfter self.old.book (Act user.now group.now client.now id call) }
         ensures prepared { IfOk result (λ prepared. IsPrepared self.new prepared) }
         ensures entry { IfOk result (λ prepared. entry_of prepared ≡ Act user.now group.now client.now id call) }
@@ -164,7 +164,7 @@ impl State {
         order: Num,
         news: News,
     ) -> Result<(PullReply, Prepared), Memory>
-        requires room { size self.old.book < self.old.limit }
+        requires within_limit { size self.old.book < self.old.limit }
         requires order { order ≡ next_order request.now self.old.book }
         requires news { IsNews self.old.book user.now request.now news }
         requires lawful { IsLawfulAfter self.old.book (Look user.now request.now.group order news.base) }
@@ -197,7 +197,7 @@ impl State {
 
     /// Prepares the retirement of a client group.
     pub fn prepare_retirement(&mut self, group: &Id) -> Result<Prepared, Memory>
-        requires room { size self.old.book < self.old.limit }
+        requires within_limit { size self.old.book < self.old.limit }
         requires lawful { IsLawfulAfter self.old.book (Retire group.now) }
         ensures prepared { IfOk result (λ prepared. IsPrepared self.new prepared) }
         ensures entry { IfOk result (λ prepared. entry_of prepared ≡ Retire group.now) }
@@ -210,7 +210,7 @@ impl State {
 
     /// Prepares an entry that may stand next, as it was kept elsewhere.
     pub fn prepare(&mut self, entry: Entry) -> Result<Prepared, Memory>
-        requires room { size self.old.book < self.old.limit }
+        requires within_limit { size self.old.book < self.old.limit }
         requires lawful { IsLawfulAfter self.old.book entry }
         ensures prepared { IfOk result (λ prepared. IsPrepared self.new prepared) }
         ensures entry { IfOk result (λ prepared. entry_of prepared ≡ entry) }

@@ -7,7 +7,7 @@ use Rattle.std.specs.List.{filter_map, cons_option, fold}
 use Rattle.std.proofs.lemmas.List.{drop_more, drop_all}
 use Rattle.rv_base.specs.Sorted.{put_by, sorted_by}
 use Rattle.rv_book.specs.Book.{Book, size}
-use Rattle.rv_book.specs.Registers.{client_told, clients_of, group_told, groups_of}
+use Rattle.rv_book.specs.Registers.{client_info, clients_of, group_info, groups_of}
 use Rattle.rv_keeper.specs.declared.cell.Cell.{Cell}
 use Rattle.rv_record.specs.declared.fault.CellFault.{CellFault}
 use Rattle.rv_store.specs.OpeningSteps.{Departs}
@@ -52,10 +52,10 @@ length-register : {X Y : Type 0} (key : Y → List ℕ) (told : X → Option Y) 
 length-register key told xs = omega (arith, length-sorted_after key (filter_map told xs) [], length-told told xs)
 
 pub no_more_clients : (book : Book) (index : ℕ) → size book ≤ index → drop index (clients_of book) ≡ []
-no_more_clients book index all = drop_all index (clients_of book) (omega (arith, length-register (λ (c : List ℕ × List ℕ × ℕ). c.0) (client_told book) book.entries))
+no_more_clients book index all = drop_all index (clients_of book) (omega (arith, length-register (λ (c : List ℕ × List ℕ × ℕ). c.0) (client_info book) book.entries))
 
 pub no_more_groups : (book : Book) (index : ℕ) → size book ≤ index → drop index (groups_of book) ≡ []
-no_more_groups book index all = drop_all index (groups_of book) (omega (arith, length-register (λ (g : List ℕ × List ℕ × ℕ × Bool). g.0) (group_told book) book.entries))
+no_more_groups book index all = drop_all index (groups_of book) (omega (arith, length-register (λ (g : List ℕ × List ℕ × ℕ × Bool). g.0) (group_info book) book.entries))
 
 -- ---- one after another
 

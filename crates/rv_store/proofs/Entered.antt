@@ -8,7 +8,7 @@ use Rattle.std.specs.List.{AllByRecursion}
 use Rattle.std.proofs.lemmas.Bool.Decides.{nat_tests}
 use Rattle.std.proofs.lemmas.List.{take-append-drop, take_more, drop_more, drop_all, length-take-le}
 use Rattle.rv_base.specs.Sorted.{InOrder}
-use Rattle.rv_base.specs.Places.{Below, Above}
+use Rattle.rv_base.specs.Positions.{Below, Above}
 use Rattle.rv_book.specs.declared.entry.Entry.{Entry}
 use Rattle.rv_book.specs.Book.{Book, empty_book, size, with_entry}
 use Rattle.rv_book.specs.BookWords.{size-with_entry}
@@ -18,12 +18,12 @@ use Rattle.rv_keeper.specs.declared.cell.Cell.{Cell}
 use Rattle.rv_keeper.specs.declared.loaded.Loaded.{Loaded}
 use Rattle.rv_keeper.specs.Cells.{AreCells, cell_key}
 use Rattle.rv_record.specs.declared.fault.CellFault.{CellFault}
-use Rattle.rv_record.specs.declared.fault.CellFault.TheVariants.{Damaged, Memory}
+use Rattle.rv_record.specs.declared.fault.CellFault.TheVariants.{BadCell, Memory}
 use Rattle.rv_record.specs.declared.fault.Damage.{Damage}
 use Rattle.rv_record.specs.CellTexts.{entry_cell}
 use Rattle.rv_record.specs.PlaceOrder.{ten_digits-injective}
 use Rattle.rv_record.specs.EntryCells.{entry_body_injective}
-use Rattle.rv_record.specs.CellReading.{Blames, Reads}
+use Rattle.rv_record.specs.CellReading.{Blames, ReadsCell}
 use Rattle.rv_record.specs.EntryReading.{IsPlace, EntryFits, PlacedFits}
 use Rattle.rv_store.specs.StoreCells.{entry_cells}
 use Rattle.rv_store.specs.ShelfLaws.{all-append}
@@ -40,15 +40,15 @@ entry_cell-same place other e f small also fits fit same = (
 )
 
 -- the entry at this place may come next
-abbrev pub Follows : ℕ → Book → ℕ → Entry → Type 0
-Follows limit book place entry = (size book < limit) × (place ≡ size book + 1) × IsLawfulAfter book entry
+abbrev pub EntryFollows : ℕ → Book → ℕ → Entry → Type 0
+EntryFollows limit book place entry = (size book < limit) × (place ≡ size book + 1) × IsLawfulAfter book entry
 
 breaks_at : (limit : ℕ) (book : Book) (cell : Cell) (fault : CellFault) → IsBrokenEntry limit book cell → Blames cell fault → Breaks limit book cell fault
-breaks_at limit book cell (Damaged damage) broken is = (broken, is)
+breaks_at limit book cell (BadCell damage) broken is = (broken, is)
 breaks_at limit book cell Memory broken is = tt
 
 pub not_next : (limit : ℕ) (book : Book) (cell : Cell) (place : ℕ) (entry : Entry) (b : Bool) (fault : CellFault) → cell.shelf ≡ 1 → limit < 2 ^ 32 → IsPlace place → EntryFits entry → cell ≡ entry_cell place entry
-    → (IsTrue b ↔ Follows limit book place entry) → b ≡ false → Blames cell fault → Breaks limit book cell fault
+    → (IsTrue b ↔ EntryFollows limit book place entry) → b ≡ false → Blames cell fault → Breaks limit book cell fault
 not_next limit book cell place entry b fault shelf bound at fits is decides fails there = breaks_at limit book cell fault (record { shelf = shelf; none = none }) there
   where
     none : (other : Entry) → EntryFits other → cell ≡ entry_cell (size book + 1) other → size book < limit → IsLawfulAfter book other → ⊥
@@ -58,8 +58,8 @@ not_next limit book cell place entry b fault shelf bound at fits is decides fail
         let both : true ≡ false = sym holds ∙ fails in
         cc
 
-pub not_read : (limit : ℕ) (book : Book) (cell : Cell) (fault : CellFault) → cell.shelf ≡ 1 → limit < 2 ^ 32 → Reads (λ e. entry_cell e.0 e.1) PlacedFits cell (Err fault) → Breaks limit book cell fault
-not_read limit book cell (Damaged damage) on bound reads =
+pub not_read : (limit : ℕ) (book : Book) (cell : Cell) (fault : CellFault) → cell.shelf ≡ 1 → limit < 2 ^ 32 → ReadsCell (λ e. entry_cell e.0 e.1) PlacedFits cell (Err fault) → Breaks limit book cell fault
+not_read limit book cell (BadCell damage) on bound reads =
     (record { shelf = on; none = λ entry fits is below lawful. reads.1 (size book + 1, entry) ((omega arith, omega arith), fits) is }, reads.0)
 not_read limit book cell Memory on bound reads = tt
 
@@ -150,7 +150,7 @@ entered_first limit loaded cells index cell book are order below is apart entere
     has_entries limit loaded index book (omega arith) (subst (λ (t : List Cell). Entered limit t index book) are entered) (beside_from index loaded.cells cell order.order order.shelves within there apart)
 
 entered_broken : (limit most : ℕ) (loaded : Loaded) (cells : List Cell) (index : ℕ) (cell : Cell) (book : Book) (damage : Damage) → cells ≡ loaded.cells → most ≡ limit → index < length cells → cell ≡ get_or cells index cell
-    → Breaks most book cell (Damaged damage) → Entered limit cells index book → BreaksAt limit loaded damage
+    → Breaks most book cell (BadCell damage) → Entered limit cells index book → BreaksAt limit loaded damage
 entered_broken limit most loaded cells index cell book damage are same below is breaks entered = record {
   book = book;
   cell = cell;
@@ -165,6 +165,6 @@ entered_broken limit most loaded cells index cell book damage are same below is 
 pub entered_fails : (limit most : ℕ) (loaded : Loaded) (cells : List Cell) (index : ℕ) (cell : Cell) (book : Book) (fault : CellFault) (r : Result Standing CellFault) → IsErrAnd r (λ d. d ≡ fault) → cells ≡ loaded.cells → most ≡ limit → index < length cells
     → cell ≡ get_or cells index cell → Breaks most book cell fault → Entered limit cells index book → EntersAll limit loaded r
 entered_fails limit most loaded cells index cell book fault (Ok state) fails are same below is breaks entered = absurd fails
-entered_fails limit most loaded cells index cell book fault (Err (Damaged damage)) fails are same below is breaks entered =
+entered_fails limit most loaded cells index cell book fault (Err (BadCell damage)) fails are same below is breaks entered =
     entered_broken limit most loaded cells index cell book damage are same below is (subst (Breaks most book cell) (sym fails) breaks) entered
 entered_fails limit most loaded cells index cell book fault (Err Memory) fails are same below is breaks entered = tt

@@ -5,11 +5,11 @@ use Rattle.std.specs.Str.{bytes_eq}
 use Rattle.std.proofs.lemmas.Option.{none-some, same_Some}
 use Rattle.std.proofs.lemmas.Slice.Eq.{bytes_eq-Decides}
 use Rattle.rv_base.specs.Sorted.{find_by, InOrder}
-use Rattle.rv_base.specs.Places.{Below, Above, above_chain, find_above, equals}
+use Rattle.rv_base.specs.Positions.{Below, Above, above_chain, find_above, equals}
 use Rattle.rv_keeper.specs.declared.cell.Cell.{Cell}
 use Rattle.rv_keeper.specs.Cells.{cell_key}
 use Rattle.rv_record.specs.declared.fault.CellFault.{CellFault}
-use Rattle.rv_record.specs.declared.fault.CellFault.TheVariants.{Damaged, Memory}
+use Rattle.rv_record.specs.declared.fault.CellFault.TheVariants.{BadCell, Memory}
 use Rattle.rv_record.specs.declared.fault.Damage.{Damage}
 use Rattle.rv_record.specs.CellReading.{Blames, damage_at}
 use Rattle.rv_store.specs.Opening.{IsFirstDifference}
@@ -62,12 +62,12 @@ difference_behind x own loaded damage above also d = record {
 -- the same cells in front of both
 pub differs_behind : (front own loaded : List Cell) (fault : CellFault) → InOrder cell_key (front ++ own) → InOrder cell_key (front ++ loaded) → Differs own loaded fault → Differs (front ++ own) (front ++ loaded) fault
 differs_behind [] own loaded fault order also d = d
-differs_behind (x ∷ front) own loaded (Damaged damage) order also d =
-    difference_behind x (front ++ own) (front ++ loaded) damage order.0 also.0 (differs_behind front own loaded (Damaged damage) order.1 also.1 d)
+differs_behind (x ∷ front) own loaded (BadCell damage) order also d =
+    difference_behind x (front ++ own) (front ++ loaded) damage order.0 also.0 (differs_behind front own loaded (BadCell damage) order.1 also.1 d)
 differs_behind (x ∷ front) own loaded Memory order also d = tt
 
 differs_at : (own loaded : List Cell) (x : Cell) (fault : CellFault) → Blames x fault → IsFirstDifference own loaded (damage_at x) → Differs own loaded fault
-differs_at own loaded x (Damaged damage) is d = subst (IsFirstDifference own loaded) (sym is) d
+differs_at own loaded x (BadCell damage) is d = subst (IsFirstDifference own loaded) (sym is) d
 differs_at own loaded x Memory is d = tt
 
 -- The next cell of a book and the loaded cells from there on: none is left; the first is above it; it is another at the same

@@ -3,14 +3,14 @@ use Rattle.std.proofs.Common.{◌≡◌, ℕ, ◌+◌, ◌^◌, ◌<◌, ◌≤�
 use Rattle.std.specs.List.{AllByRecursion, filter}
 use Rattle.std.specs.Str.{bytes_eq}
 use Rattle.rv_base.specs.Sorted.{put_by, InOrder, Distinct}
-use Rattle.rv_base.specs.Places.{Below, differs, in_order-filter}
+use Rattle.rv_base.specs.Positions.{Below, differs, in_order-filter}
 use Rattle.rv_base.specs.Arranged.{distinct-in_order}
 use Rattle.rv_rows.specs.declared.call.Call.{Call}
 use Rattle.rv_rows.specs.Held.{Stored, rows_in}
 use Rattle.rv_rows.specs.HeldLaws.{distinct-rows}
 use Rattle.rv_rows.specs.Changes.{after}
 use Rattle.rv_mutators.specs.declared.staged.Staged.{Staged}
-use Rattle.rv_mutators.specs.Staging.{applied, staged}
+use Rattle.rv_mutators.specs.Staging.{with_staged, staged}
 use Rattle.rv_views.specs.Viewed.{Viewed}
 use Rattle.rv_book.specs.declared.entry.Entry.{Entry}
 use Rattle.rv_book.specs.declared.entry.Entry.TheVariants.{Act, Look, Retire}
@@ -142,16 +142,16 @@ module _ (book : Book) (stored : List Stored) (user group client : List ℕ) (id
       ∙ ap (λ (b : Bool). map (λ g. group_cell g.0 g.1 g.2 g.3) (put_by (λ (g : List ℕ × List ℕ × ℕ × Bool). g.0) (group, user, last_order group book, b) (groups_of book))) (sym lawful.0.stands)
       ∙ ap (map (λ g. group_cell g.0 g.1 g.2 g.3)) (sym (groups_after_act book user group client id call (none_but user (bound group book) lawful.0.own)))
 
-  act_leaves : (records : List Placed) → changed (cells_of book stored records) (act_changes book user group client id call change) ≡ cells_of (with_entry book act) (applied (size book + 1) change stored) records
+  act_leaves : (records : List Placed) → changed (cells_of book stored records) (act_changes book user group client id call change) ≡ cells_of (with_entry book act) (with_staged (size book + 1) change stored) records
   act_leaves records =
       five_leave (Put (entry_cell (size book + 1) act) ∷ []) (row_changes (size book + 1) change) (Put (client_cell client group id) ∷ []) (Put (group_cell group user (last_order group book) false) ∷ []) []
       (one_at 1 _ refl) act_rows (one_at 3 _ refl) (one_at 4 _ refl) (none_at 5) book stored records
       ∙ (λ i. entries-leave book act fits i ++ (rows-leave (size book + 1) change stored i ++ (act_clients i ++ (act_groups i ++ view_cells records))))
 
-  pub act_next : ((version : ℕ) → applied version change stored ≡ after stored user call version) → (cells : List Cell) → AreCellsOf book cells
+  pub act_next : ((version : ℕ) → with_staged version change stored ≡ after stored user call version) → (cells : List Cell) → AreCellsOf book cells
       → AreCellsOf (with_entry book act) (changed cells (act_changes book user group client id call change))
   act_next effect cells are = record {
-    rows = applied (size book + 1) change stored;
+    rows = with_staged (size book + 1) change stored;
     records = are.records;
     replay = subst (IsReplay (with_entry book act)) (sym (effect (size book + 1))) (replay_act book stored user group client id call replay);
     kept = records_act book user group client id call are.records are.kept;

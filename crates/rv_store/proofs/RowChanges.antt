@@ -6,7 +6,7 @@ use Rattle.std.specs.Str.{bytes_eq}
 use Rattle.std.proofs.lemmas.List.Sums.{fold-append}
 use Rattle.std.proofs.lemmas.Map.Entries.{option_filter}
 use Rattle.rv_base.specs.Sorted.{find_by, Distinct}
-use Rattle.rv_base.specs.Places.{found-sorted, none_found}
+use Rattle.rv_base.specs.Positions.{found-sorted, none_found}
 use Rattle.rv_base.specs.Arranged.{distinct-sorted, distinct-filter, find-filter, find-map}
 use Rattle.rv_rows.specs.declared.call.Call.{Call}
 use Rattle.rv_rows.specs.declared.key.Key.{Key}
@@ -16,7 +16,7 @@ use Rattle.rv_rows.specs.Held.{Stored, stored_key, put, remove}
 use Rattle.rv_rows.specs.Effects.{effect}
 use Rattle.rv_rows.specs.Changes.{is_new, is_gone, written, lost}
 use Rattle.rv_mutators.specs.declared.staged.Staged.{Staged}
-use Rattle.rv_mutators.specs.Staging.{applied, staged}
+use Rattle.rv_mutators.specs.Staging.{with_staged, staged}
 use Rattle.rv_keeper.specs.declared.cell.Cell.{Cell}
 use Rattle.rv_keeper.specs.declared.change.Change.{Change}
 use Rattle.rv_keeper.specs.declared.change.Change.TheVariants.{Put, Remove}
@@ -37,7 +37,7 @@ written-leave version [] rows = refl
 written-leave version (row ∷ new) rows =
     ap (λ (cells : List Cell). changed cells (written_rows version new)) (put-cells stored_key 2 (λ s. row_cell s.0 s.1) (λ s. refl) (row, version) rows) ∙ written-leave version new (put (row, version) rows)
 
-pub rows-leave : (version : ℕ) (change : Staged) (rows : List Stored) → changed (row_cells rows) (row_changes version change) ≡ row_cells (applied version change rows)
+pub rows-leave : (version : ℕ) (change : Staged) (rows : List Stored) → changed (row_cells rows) (row_changes version change) ≡ row_cells (with_staged version change rows)
 rows-leave version change rows =
     fold-append changed_by (row_cells rows) (removed_rows change.keys) (written_rows version change.rows)
     ∙ ap (λ (cells : List Cell). changed cells (written_rows version change.rows)) (removed-leave change.keys rows)

@@ -12,7 +12,7 @@ use Rattle.std.proofs.lemmas.Option.{same_Some}
 use Rattle.std.proofs.lemmas.List.Sums.{fold-append}
 use Rattle.std.proofs.lemmas.Slice.Eq.{bytes_eq-Decides}
 use Rattle.rv_base.specs.Sorted.{put_by, without, InOrder}
-use Rattle.rv_base.specs.Places.{Below, differs_back, equals, not_same, without_above}
+use Rattle.rv_base.specs.Positions.{Below, differs_back, equals, not_same, without_above}
 use Rattle.rv_views.specs.Viewed.{Viewed}
 use Rattle.rv_book.specs.declared.entry.Entry.TheVariants.{Retire}
 use Rattle.rv_book.specs.Book.{Book, size, with_entry, retired}

@@ -13,7 +13,7 @@ use Rattle.rv_keeper.specs.declared.cell.Cell.{Cell}
 use Rattle.rv_keeper.specs.declared.loaded.Loaded.{Loaded}
 use Rattle.rv_keeper.specs.Cells.{cell_key}
 use Rattle.rv_record.specs.declared.fault.CellFault.{CellFault}
-use Rattle.rv_record.specs.declared.fault.CellFault.TheVariants.{Damaged, Memory}
+use Rattle.rv_record.specs.declared.fault.CellFault.TheVariants.{BadCell, Memory}
 use Rattle.rv_record.specs.declared.fault.Damage.{Damage}
 use Rattle.rv_record.specs.CellReading.{damage_at}
 use Rattle.rv_record.specs.CellTexts.{entry_cell}
@@ -87,5 +87,5 @@ pub data IsDamaged (limit : ℕ) (loaded : Loaded) (damage : Damage) : Type 0 wh
 -- was refused, which may come at any store.
 abbrev pub Restores : ℕ → Loaded → Result Standing CellFault → Type 0
 Restores limit loaded (Ok state) = MayOpen limit state.book loaded × (state.limit ≡ limit)
-Restores limit loaded (Err (Damaged damage)) = IsDamaged limit loaded damage
+Restores limit loaded (Err (BadCell damage)) = IsDamaged limit loaded damage
 Restores limit loaded (Err Memory) = Unit {0}

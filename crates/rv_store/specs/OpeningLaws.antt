@@ -9,7 +9,7 @@ use Rattle.rv_keeper.specs.declared.cell.Cell.{Cell}
 use Rattle.rv_keeper.specs.declared.loaded.Loaded.{Loaded}
 use Rattle.rv_keeper.specs.Cells.{cell_key}
 use Rattle.rv_record.specs.declared.fault.CellFault.{CellFault}
-use Rattle.rv_record.specs.declared.fault.CellFault.TheVariants.{Damaged, Memory}
+use Rattle.rv_record.specs.declared.fault.CellFault.TheVariants.{BadCell, Memory}
 use Rattle.rv_record.specs.declared.fault.Damage.{Damage}
 use Rattle.rv_record.specs.CellTexts.{entry_cell}
 use Rattle.rv_record.specs.EntryReading.{EntryFits}
@@ -75,5 +75,5 @@ opens-not_damaged limit book loaded damage opens (another other) = none_of_anoth
 -- Where a book opens, opening answers its state, or that memory was refused.
 pub restores-opens : (limit : ℕ) (book : Book) (loaded : Loaded) (result : Result Standing CellFault) → MayOpen limit book loaded → Restores limit loaded result → MatchResult result (λ state. state.book ≡ book) (λ fault. fault ≡ Memory)
 restores-opens limit book loaded (Ok state) opens restores = opens_one limit state.book book loaded restores.0 opens
-restores-opens limit book loaded (Err (Damaged damage)) opens damaged = absurd (opens-not_damaged limit book loaded damage opens damaged)
+restores-opens limit book loaded (Err (BadCell damage)) opens damaged = absurd (opens-not_damaged limit book loaded damage opens damaged)
 restores-opens limit book loaded (Err Memory) opens memory = refl

@@ -9,7 +9,7 @@ use Rattle.rv_keeper.specs.declared.cell.Cell.{Cell}
 use Rattle.rv_keeper.specs.declared.loaded.Loaded.{Loaded}
 use Rattle.rv_keeper.specs.Cells.{cell_key}
 use Rattle.rv_record.specs.declared.fault.CellFault.{CellFault}
-use Rattle.rv_record.specs.declared.fault.CellFault.TheVariants.{Damaged, Memory}
+use Rattle.rv_record.specs.declared.fault.CellFault.TheVariants.{BadCell, Memory}
 use Rattle.rv_record.specs.CellReading.{damage_at}
 use Rattle.rv_record.specs.CellTexts.{entry_cell}
 use Rattle.rv_record.specs.EntryReading.{EntryFits}
@@ -26,7 +26,7 @@ pub record IsNext (limit : ℕ) (book : Book) (cell : Cell) (entry : Entry) : Ty
 
 -- the cell is that of no entry which may come next, and the damage is at its place; or memory was refused
 abbrev pub Breaks : ℕ → Book → Cell → CellFault → Type 0
-Breaks limit book cell (Damaged damage) = IsBrokenEntry limit book cell × (damage ≡ damage_at cell)
+Breaks limit book cell (BadCell damage) = IsBrokenEntry limit book cell × (damage ≡ damage_at cell)
 Breaks limit book cell Memory = Unit {0}
 
 -- what is answered of a cell of shelf 1: the entry which comes next, or why there is none
@@ -43,12 +43,12 @@ EntersNext limit book cell next (Err fault) = Breaks limit book cell fault
 -- the shelves from 2 on; or the cell that breaks off.
 abbrev pub EntersAll : ℕ → Loaded → Result Standing CellFault → Type 0
 EntersAll limit loaded (Ok state) = HasEntries limit state.book loaded (drop (size state.book) loaded.cells) × (state.limit ≡ limit)
-EntersAll limit loaded (Err (Damaged damage)) = BreaksAt limit loaded damage
+EntersAll limit loaded (Err (BadCell damage)) = BreaksAt limit loaded damage
 EntersAll limit loaded (Err Memory) = Unit {0}
 
 -- the damage is at the first place where the two hold not the same, or memory was refused
 abbrev pub Differs : List Cell → List Cell → CellFault → Type 0
-Differs own loaded (Damaged damage) = IsFirstDifference own loaded damage
+Differs own loaded (BadCell damage) = IsFirstDifference own loaded damage
 Differs own loaded Memory = Unit {0}
 
 -- However a book's cells go on after these in their order, they differ from the loaded ones, first where the damage is.

@@ -10,7 +10,7 @@ use Rattle.std.specs.Str.{bytes_eq}
 use Rattle.std.proofs.lemmas.List.Elements.{filter-append}
 use Rattle.std.proofs.lemmas.Map.Text.{is_eq-slice_cmp}
 use Rattle.rv_base.specs.Sorted.{find_by, without, put_by, InOrder, Distinct}
-use Rattle.rv_base.specs.Places.{Below, Above, all-put}
+use Rattle.rv_base.specs.Positions.{Below, Above, all-put}
 use Rattle.rv_keeper.specs.declared.cell.Cell.{Cell}
 use Rattle.rv_keeper.specs.declared.change.Change.{Change}
 use Rattle.rv_keeper.specs.declared.change.Change.TheVariants.{Put, Remove}

@@ -3,7 +3,7 @@
 use Rattle.std.proofs.Common.{ℕ, ◌+◌, ◌^◌, ◌<◌, ◌≤◌, List, [], ◌∷◌, ◌++◌, length, sym, subst, arith, refl, map, Bool}
 use Rattle.std.specs.List.{AllByRecursion}
 use Rattle.rv_base.specs.Sorted.{InOrder}
-use Rattle.rv_base.specs.Places.{Above}
+use Rattle.rv_base.specs.Positions.{Above}
 use Rattle.rv_rows.specs.Held.{Stored, stored_key, AreRows}
 use Rattle.rv_book.specs.declared.entry.Entry.{Entry}
 use Rattle.rv_book.specs.Book.{Book, size}

@@ -33,7 +33,7 @@ pub fn restore(alloc: Global, loaded: &Loaded, limit: u32) -> Result<State, Cell
     if loaded.generation == u64::from(count) {
         Ok(state)
     } else {
-        Err(CellFault::Damaged(Damage {
+        Err(CellFault::BadCell(Damage {
             shelf: 0,
             key: Bytes::new(alloc),
         }))

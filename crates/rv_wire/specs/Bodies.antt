@@ -33,12 +33,12 @@ GivesAll view (Ok answer) read = read ≡ Ok (view answer)
 GivesAll view (Err fault) read = Fails fault read
 
 -- the same of an answer that is seen as it is
-abbrev pub Gives : {X : Type 0} → Result X WireFault → Result X WireFault → Type 0
-Gives = GivesAll (λ answer. answer)
+abbrev pub GivesBody : {X : Type 0} → Result X WireFault → Result X WireFault → Type 0
+GivesBody = GivesAll (λ answer. answer)
 
 -- the schema version is among those that are served
-abbrev pub is_served : List (String Global) → List ℕ → Bool
-is_served schemas schema = list_any (λ served. bytes_eq (string_bytes served) schema) schemas
+abbrev pub is_schema_served : List (String Global) → List ℕ → Bool
+is_schema_served schemas schema = list_any (λ served. bytes_eq (string_bytes served) schema) schemas
 
 -- what both bodies begin with: an object, its version 1, a served schema, a profile, and the client group
 unfoldable pub group_in : VersionKind → FieldName → (List ℕ → Bool) → Data → Result (List ℕ) WireFault

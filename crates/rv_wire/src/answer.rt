@@ -2,7 +2,7 @@ ghost use Rattle.std.specs.Prelude.{◌≡◌, IfOk, map};
 ghost use Rattle.serde_json.specs.Data.{object, array};
 ghost use Rattle.serde_json.specs.View.{items_of};
 ghost use Rattle.rv_base.specs.Sorted.{InOrder};
-ghost use Rattle.rv_rows.specs.Additions.{Adds};
+ghost use Rattle.rv_rows.specs.Additions.{AddsValue};
 ghost use Rattle.rv_rows.specs.RowTexts.{row_data};
 ghost use Rattle.rv_views.specs.declared.cookie.Cookie.TheVariants.{Named};
 ghost use Rattle.rv_turns.specs.declared.op.Op.TheVariants.{Clear};
@@ -16,7 +16,7 @@ use rv_views::Cookie;
 use std::alloc::Global;
 
 fn write_named_cookie(out: &mut Writer, place_text: &Text, order: Num) -> Result<(), Memory>
-    ensures { Adds result out.old out.new (cookie_data (Named place_text.now order)) }
+    ensures { AddsValue result out.old out.new (cookie_data (Named place_text.now order)) }
 {
     out.begin_object()?;
     write_text_member(out, "cvrID", place_text.as_str())?;
@@ -26,7 +26,7 @@ fn write_named_cookie(out: &mut Writer, place_text: &Text, order: Num) -> Result
 }
 
 fn write_cookie(out: &mut Writer, cookie: &Cookie) -> Result<(), Memory>
-    ensures { Adds result out.old out.new (cookie_data cookie.now) }
+    ensures { AddsValue result out.old out.new (cookie_data cookie.now) }
 {
     match cookie {
         Cookie::Null => Ok(out.null()?),
@@ -36,7 +36,7 @@ fn write_cookie(out: &mut Writer, cookie: &Cookie) -> Result<(), Memory>
 }
 
 fn write_id_changes(out: &mut Writer, ids: &[(Id, Num)]) -> Result<(), Memory>
-    ensures { Adds result out.old out.new (object (id_members ids.now)) }
+    ensures { AddsValue result out.old out.new (object (id_members ids.now)) }
 {
     out.begin_object()?;
     for (id, last) in ids {
@@ -47,7 +47,7 @@ fn write_id_changes(out: &mut Writer, ids: &[(Id, Num)]) -> Result<(), Memory>
 }
 
 fn write_clear(out: &mut Writer) -> Result<(), Memory>
-    ensures { Adds result out.old out.new (op_data Clear) }
+    ensures { AddsValue result out.old out.new (op_data Clear) }
 {
     out.begin_object()?;
     write_text_member(out, "op", "clear")?;
@@ -56,7 +56,7 @@ fn write_clear(out: &mut Writer) -> Result<(), Memory>
 }
 
 fn write_del(out: &mut Writer, key: &str) -> Result<(), Memory>
-    ensures { Adds result out.old out.new (del_data key.now) }
+    ensures { AddsValue result out.old out.new (del_data key.now) }
 {
     out.begin_object()?;
     write_text_member(out, "key", key)?;
@@ -66,7 +66,7 @@ fn write_del(out: &mut Writer, key: &str) -> Result<(), Memory>
 }
 
 fn write_put(out: &mut Writer, key: &str, row: &Row) -> Result<(), Memory>
-    ensures { Adds result out.old out.new (put_data key.now (row_data row.now)) }
+    ensures { AddsValue result out.old out.new (put_data key.now (row_data row.now)) }
 {
     out.begin_object()?;
     write_text_member(out, "key", key)?;
@@ -79,7 +79,7 @@ fn write_put(out: &mut Writer, key: &str, row: &Row) -> Result<(), Memory>
 
 // Each key is spelled in the same buffer, so that no operation takes memory for it.
 fn write_op(out: &mut Writer, key_text: &mut String, op: &Op) -> Result<(), Memory>
-    ensures { Adds result out.old out.new (op_data op.now) }
+    ensures { AddsValue result out.old out.new (op_data op.now) }
 {
     match op {
         Op::Clear => write_clear(out),
@@ -95,7 +95,7 @@ fn write_op(out: &mut Writer, key_text: &mut String, op: &Op) -> Result<(), Memo
 }
 
 fn write_patch(out: &mut Writer, key_text: &mut String, ops: &[Op]) -> Result<(), Memory>
-    ensures { Adds result out.old out.new (array (items_of (map op_data ops.now))) }
+    ensures { AddsValue result out.old out.new (array (items_of (map op_data ops.now))) }
 {
     out.begin_array()?;
     for op in ops {
@@ -112,7 +112,7 @@ fn write_pull(
     ids: &Clients,
     ops: &Ops,
 ) -> Result<(), Memory>
-    ensures { Adds result out.old out.new (pull_data cookie.now ids.now ops.now) }
+    ensures { AddsValue result out.old out.new (pull_data cookie.now ids.now ops.now) }
 {
     out.begin_object()?;
     out.key("cookie")?;

@@ -1,7 +1,7 @@
 // What pushes and pulls begin with.
 ghost use Rattle.std.specs.Prelude.{◌≡◌};
 ghost use Rattle.serde_json.specs.View.{view};
-ghost use Rattle.rv_wire.specs.Bodies.{Gives, group_in};
+ghost use Rattle.rv_wire.specs.Bodies.{GivesBody, group_in};
 
 use crate::fault::{FieldName, VersionKind, WireFault};
 use crate::members::{num_member, string_member, text_member};
@@ -19,7 +19,7 @@ pub(crate) fn group_of_value<S: SchemaVersions>(
     version: FieldName,
     schemas: &S,
 ) -> Result<Id, WireFault>
-    ensures { Gives result (group_in kind version (S.serves schemas.now) (view value.now)) }
+    ensures { GivesBody result (group_in kind version (S.serves schemas.now) (view value.now)) }
 {
     if !value.is_object() {
         return Err(WireFault::NotJson);

@@ -1,6 +1,6 @@
 ghost use Rattle.std.specs.Prelude.{◌≡◌, IfOk, codes};
 ghost use Rattle.serde_json.specs.View.{view};
-ghost use Rattle.rv_wire.specs.Bodies.{Gives, is_served, named_cookie, cookie_at, cookie_in, pull_in, pull_body};
+ghost use Rattle.rv_wire.specs.Bodies.{GivesBody, is_schema_served, named_cookie, cookie_at, cookie_in, pull_in, pull_body};
 ghost use Rattle.rv_wire.specs.Members.{text_member, num_member};
 
 use crate::body::group_of_value;
@@ -41,7 +41,7 @@ fn cookie_at(alloc: Global, value: &Value) -> Result<Option<Cookie>, Memory>
 }
 
 fn cookie_of(alloc: Global, value: &Value) -> Result<Cookie, WireFault>
-    ensures { Gives result (cookie_in (view value.now)) }
+    ensures { GivesBody result (cookie_in (view value.now)) }
 {
     let Some(cookie) = value.get("cookie") else {
         return Ok(Cookie::Null);
@@ -59,7 +59,7 @@ pub fn pull_of_value<S: SchemaVersions>(
     value: &Value,
     schemas: &S,
 ) -> Result<PullRequest, WireFault>
-    ensures { Gives result (pull_in (S.serves schemas.now) (view value.now)) }
+    ensures { GivesBody result (pull_in (S.serves schemas.now) (view value.now)) }
 {
     let kind = VersionKind::Pull;
     let group = group_of_value(alloc, value, kind, FieldName::PullVersion, schemas)?;
@@ -73,7 +73,7 @@ pub fn read_pull<S: SchemaVersions>(
     body: &[u8],
     schemas: &S,
 ) -> Result<PullRequest, WireFault>
-    ensures { Gives result (pull_body (S.serves schemas.now) body.now) }
+    ensures { GivesBody result (pull_body (S.serves schemas.now) body.now) }
 {
     let value = read_json(alloc, body)?.ok_or(WireFault::NotJson)?;
     pull_of_value(alloc, &value, schemas)

@@ -3,7 +3,7 @@ ghost use Rattle.serde_json.specs.Data.{null};
 ghost use Rattle.serde_json.specs.Find.{get};
 ghost use Rattle.serde_json.specs.View.{view};
 ghost use Rattle.rv_base.specs.Chains.{each};
-ghost use Rattle.rv_wire.specs.Bodies.{Gives, GivesAll, is_served, mutation_in, mutations_in, push_in, push_body};
+ghost use Rattle.rv_wire.specs.Bodies.{GivesBody, GivesAll, is_schema_served, mutation_in, mutations_in, push_in, push_body};
 ghost use Rattle.rv_wire.specs.Calls.{call_in};
 
 use crate::body::group_of_value;
@@ -31,7 +31,7 @@ fn call_of_mutation(alloc: Global, name: &str, value: &Value) -> Result<Call, Me
 
 #[tactic(auto, unfolding(crate::specs::Bodies::mutation_in))]
 fn mutation_of(alloc: Global, value: &Value) -> Result<Mutation, WireFault>
-    ensures { Gives result (mutation_in (view value.now)) }
+    ensures { GivesBody result (mutation_in (view value.now)) }
 {
     if !value.is_object() {
         return Err(WireFault::Field(FieldName::Mutations));
@@ -80,7 +80,7 @@ pub fn push_of_value<S: SchemaVersions>(
     value: &Value,
     schemas: &S,
 ) -> Result<Push, WireFault>
-    ensures { Gives result (push_in (S.serves schemas.now) (view value.now)) }
+    ensures { GivesBody result (push_in (S.serves schemas.now) (view value.now)) }
 {
     let kind = VersionKind::Push;
     let group = group_of_value(alloc, value, kind, FieldName::PushVersion, schemas)?;
@@ -97,7 +97,7 @@ pub fn read_push<S: SchemaVersions>(
     body: &[u8],
     schemas: &S,
 ) -> Result<Push, WireFault>
-    ensures { Gives result (push_body (S.serves schemas.now) body.now) }
+    ensures { GivesBody result (push_body (S.serves schemas.now) body.now) }
 {
     let value = read_json(alloc, body)?.ok_or(WireFault::NotJson)?;
     push_of_value(alloc, &value, schemas)

@@ -1,5 +1,5 @@
 ghost use Rattle.std.specs.Prelude.{◌≡◌, ℕ, List, Bool};
-ghost use Rattle.rv_wire.specs.Bodies.{is_served};
+ghost use Rattle.rv_wire.specs.Bodies.{is_schema_served};
 
 use rv_base::Sequence;
 
@@ -17,7 +17,7 @@ pub trait SchemaVersions {
 pub type Schemas = Sequence<String>;
 
 impl SchemaVersions for Schemas {
-    ghost serves = { is_served };
+    ghost serves = { is_schema_served };
 
     fn is_served(&self, schema: &str) -> bool {
         self.as_slice()

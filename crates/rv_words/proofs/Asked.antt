@@ -4,7 +4,7 @@ use Rattle.std.specs.Prelude.{option_and_then, option_map}
 use Rattle.std.specs.Str.{bytes_eq}
 use Rattle.std.specs.Cmp.Lexicographic.{same_text}
 use Rattle.rv_words.specs.Words.{command_in, is_id, options_with, retire_group_in}
-use Rattle.rv_words.specs.Plain.{Part, asked_with, given, is_flag, on_store_with, parts_from, plainly_in, retire_with, serve_with, values_in}
+use Rattle.rv_words.specs.Plain.{Part, asked_with, the_value, is_flag, on_store_with, parts_from, plainly_in, retire_with, serve_with, values_in}
 use Rattle.rv_words.specs.Laws.{AskForNothing, EachGroupIsAsked, EachStoreIsAsked, GroupsAreIds, OthersAskForNothing, RetireIsAsked, StoresAreAsked, begins_with_hyphen}
 use Rattle.rv_words.specs.declared.command.Command.{Command}
 use Rattle.rv_words.specs.declared.command.Command.TheVariants.{Activity, Check, Feed, Lists, Retire, Serve}
@@ -137,15 +137,15 @@ by_values store group verb retire None is = absurd (cc)
 by_values store group verb true (Some values) is = by_retires store group values is
 by_values store group verb false (Some values) is = by_stores store group verb values is
 
-by_serve : (store group : List ℕ) (given : Option (List ℕ)) (options : Option ServeOptions)
-    → Names store group (option_and_then (λ s. option_map (λ o. Serve s o) options) given)
+by_serve : (store group : List ℕ) (the_value : Option (List ℕ)) (options : Option ServeOptions)
+    → Names store group (option_and_then (λ s. option_map (λ o. Serve s o) options) the_value)
 by_serve store group None options is = absurd (cc)
 by_serve store group (Some s) None is = absurd (cc)
 by_serve store group (Some s) (Some o) is = absurd (cc)
 
 by_parts : (store group : List ℕ) (parts : Option (List Part)) → Names store group (option_and_then serve_with parts)
 by_parts store group None is = absurd (cc)
-by_parts store group (Some ps) is = by_serve store group (given ps (codes "STORE")) (option_and_then (options_with (given ps)) (given ps (codes "accounts"))) is
+by_parts store group (Some ps) is = by_serve store group (the_value ps (codes "STORE")) (option_and_then (options_with (the_value ps)) (the_value ps (codes "accounts"))) is
 
 by_verb : (store group verb : List ℕ) (words : List (List ℕ)) (serve : Bool)
     → Names store group (cond serve (option_and_then serve_with (parts_from None words)) (option_and_then (asked_with verb) (values_in words)))

@@ -148,16 +148,16 @@ HasNoLetters s = (letter : ℕ) → arg_by_short s.rules letter ≡ None
 
 -- a flag, by its form: that of a long one, and that of short ones, which are refused
 module _ (s : Shape) (no_letters : HasNoLetters s) (rows : List Row) (pending : Option (Text × List Text)) (P : Text → Type 0) where
-  abbrev pub Fails : Text → Type 0
-  Fails word = is_taken (fault_at s rows pending word) ≡ false
+  abbrev pub FailsOn : Text → Type 0
+  FailsOn word = is_taken (fault_at s rows pending word) ≡ false
 
   abbrev LongHolds : Type 0
   LongHolds = (y : ℕ) (ys : Text) → P (45 ∷ 45 ∷ y ∷ ys)
 
   abbrev ShortHolds : Type 0
-  ShortHolds = (x : ℕ) (xs : Text) → (x == 45) ≡ false → Fails (45 ∷ x ∷ xs) → P (45 ∷ x ∷ xs)
+  ShortHolds = (x : ℕ) (xs : Text) → (x == 45) ≡ false → FailsOn (45 ∷ x ∷ xs) → P (45 ∷ x ∷ xs)
 
-  short_fails : (x : ℕ) (xs : Text) → (x == 45) ≡ false → is_some (slice_get (chars (x ∷ xs)) 0) ≡ true → Fails (45 ∷ x ∷ xs)
+  short_fails : (x : ℕ) (xs : Text) → (x == 45) ≡ false → is_some (slice_get (chars (x ∷ xs)) 0) ≡ true → FailsOn (45 ∷ x ∷ xs)
   unfolding flags_fault
   short_fails x xs other some =
       let word : Text = 45 ∷ x ∷ xs in

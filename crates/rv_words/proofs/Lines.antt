@@ -5,7 +5,7 @@ use Rattle.std.specs.List.{fold}
 use Rattle.std.specs.Option.{option_map_or}
 use Rattle.std.specs.Str.{bytes_eq}
 use Rattle.std.specs.Cmp.Lexicographic.{same_text}
-use Rattle.rv_base.specs.Places.{not_same}
+use Rattle.rv_base.specs.Positions.{not_same}
 use Rattle.clap.specs.Kinds.{Kinds, or_else}
 use Rattle.clap.specs.Walk.{Names, Row, Text, Walk, answers_to, finished, idle, nothing_held, settled, subcommand_met, subcommand_or_other, walk_from, walked}
 use Rattle.clap.specs.Simple.{App, Shape, built, entered, label_of, names_of, rows_at}
@@ -14,7 +14,7 @@ use Rattle.clap.proofs.WalkLemmas.{walk_stopped}
 use Rattle.clap.proofs.FaultLemmas.{stopped_fault}
 use Rattle.clap.proofs.OnLiterals.{clap_on_literals}
 use Rattle.rv_words.specs.Table.{bare_app, commands, rv_app, with_commands}
-use Rattle.rv_words.specs.Words.{command_in, is_taken, named_in, on_store_in, retire_in, serve_in}
+use Rattle.rv_words.specs.Words.{command_in, is_taken, command_named, on_store_in, retire_in, serve_in}
 use Rattle.rv_words.specs.Plain.{asked_with, is_flag, on_store_with, parts_from, plainly_in, serve_with, values_in}
 use Rattle.rv_words.specs.declared.command.Command.{Command}
 use Rattle.rv_words.proofs.Leaves.{HasNoFlags, at, flag_fails, more_fails, not_empty, plain_turn, read_from}
@@ -36,7 +36,7 @@ line_read end faults =
     let stop = end.stopped in
     cond (is_taken (or_else faults (or_else (entered_fault whole stop) (or_else (settle_fault top.rules top.args_override_self end.held)
     (or_else (defaults_fault (settled top.rules end.held).rows top.rules) (check_fault top (finished top.rules end.held) (is_some (entered whole stop))))))))
-    (option_and_then named_in (entered whole stop)) None
+    (option_and_then command_named (entered whole stop)) None
 
 abbrev begin : Walk
 begin = walk_from nothing_held
@@ -57,14 +57,14 @@ stopped_at verb words = record begin { stopped = Some (verb, words) }
 -- values are read so
 abbrev IsNamed : Text → Shape → (List Row → Option Command) → Type 0
 IsNamed verb s reads = (walked top.rules names begin verb ≡ stopped_at verb []) × (turn_fault top names begin verb ≡ [])
-    × (find (λ s. answers_to verb (label_of s)) whole.subs ≡ Some s) × ((rows : List Row) → named_in (s.name, rows) ≡ reads rows)
+    × (find (λ s. answers_to verb (label_of s)) whole.subs ≡ Some s) × ((rows : List Row) → command_named (s.name, rows) ≡ reads rows)
 
 -- what is asked for once a command was met, by the shape that is found for it
 abbrev found_read : List Text → Option Shape → Option Command
 found_read words o =
     let below = option_map (λ s. rows_at s words) o in
     cond (is_taken (or_else (option_map_or (λ s. level_fault s [] nothing_held words false []) o []) (check_fault top [] (is_some below))))
-    (option_and_then named_in below) None
+    (option_and_then command_named below) None
 
 named_line : (name verb : Text) (words : List Text) (s : Shape) (reads : List Row → Option Command) → IsNamed verb s reads
     → command_in (name ∷ verb ∷ words) ≡ read_from s reads (at [] None 1 false) words
@@ -83,7 +83,7 @@ store_line verb is name words = named_line name verb words (store_leaf verb) (on
 
 -- ---- a line that names no command
 
-pub record IsOther (verb : Text) : Type 0 where
+pub record IsOtherVerb (verb : Text) : Type 0 where
   pub feed : bytes_eq verb (codes "feed") ≡ false
   pub retire : bytes_eq verb (codes "retire") ≡ false
   pub lists : bytes_eq verb (codes "lists") ≡ false
@@ -98,7 +98,7 @@ line_fails : (name verb : Text) (words : List Text) → is_taken (turn_fault top
 unfolding walk_fault
 line_fails name verb words fails = line_is name verb words ∙ rw (more_fails (turn_fault top names begin verb) _ _ fails) refl
 
-not_named : (verb : Text) → IsOther verb → subcommand_met names idle verb ≡ None
+not_named : (verb : Text) → IsOtherVerb verb → subcommand_met names idle verb ≡ None
 not_named verb is =
     let no_feed : bytes_eq (codes "feed") verb ≡ false = not_same verb (codes "feed") is.feed in
     let no_retire : bytes_eq (codes "retire") verb ≡ false = not_same verb (codes "retire") is.retire in
@@ -117,7 +117,7 @@ unfolding clap_on_literals
 ended_line name [] = line_is name (codes "--") []
 ended_line name (word ∷ words) = line_is name (codes "--") (word ∷ words)
 
-pub other_line : (name verb : Text) (words : List Text) → IsOther verb → command_in (name ∷ verb ∷ words) ≡ None
+pub other_line : (name verb : Text) (words : List Text) → IsOtherVerb verb → command_in (name ∷ verb ∷ words) ≡ None
 other_line name verb words is = go (bytes_eq verb (codes "--")) refl (is_flag verb) refl
   where
     go : (ends : Bool) → bytes_eq verb (codes "--") ≡ ends → (flag : Bool) → is_flag verb ≡ flag → command_in (name ∷ verb ∷ words) ≡ None
@@ -129,12 +129,12 @@ other_line name verb words is = go (bytes_eq verb (codes "--")) refl (is_flag ve
         line_fails name verb words
         (ap is_taken (turn_alone verb (not_named verb is) ∙ plain_turn top [] None 1 verb (goes_on, is_it)))
 
-other_asks : (verb : Text) (values : List Text) → IsOther verb → asked_with verb values ≡ None
+other_asks : (verb : Text) (values : List Text) → IsOtherVerb verb → asked_with verb values ≡ None
 other_asks verb [] is = rw is.retire refl
 other_asks verb (store ∷ []) is = rw (is.retire, is.feed, is.lists, is.activity, is.check) refl
 other_asks verb (store ∷ more ∷ values) is = rw is.retire refl
 
-other_values : (verb : Text) (o : Option (List Text)) → IsOther verb → option_and_then (asked_with verb) o ≡ None
+other_values : (verb : Text) (o : Option (List Text)) → IsOtherVerb verb → option_and_then (asked_with verb) o ≡ None
 other_values verb None is = refl
 other_values verb (Some values) is = other_asks verb values is
 
@@ -162,7 +162,7 @@ verb_line name verb words =
     by_name P verb (codes "check") (store_line (codes "check") (refl, refl, refl, λ rows. refl) name words) (λ check.
     by_name P verb (codes "retire") (named_line name (codes "retire") words retire_leaf retire_in (refl, refl, refl, λ rows. refl) ∙ retire_1 words) (λ retire.
     by_name P verb (codes "serve") (serve_line name words) (λ serve.
-    let is : IsOther verb = record { feed = feed; retire = retire; lists = lists; activity = activity; check = check; serve = serve } in
+    let is : IsOtherVerb verb = record { feed = feed; retire = retire; lists = lists; activity = activity; check = check; serve = serve } in
     other_line name verb words is ∙ sym (ap (λ b. cond b (option_and_then serve_with (parts_from None words)) (option_and_then (asked_with verb) (values_in words))) serve ∙ other_values verb (values_in words) is)))))))
 
 pub line_is_plain : (words : List Text) → command_in words ≡ plainly_in words

@@ -10,11 +10,11 @@ use Rattle.clap.specs.Walk.{Row, Text, first_of, has_row}
 use Rattle.clap.specs.Takes.{is_given}
 use Rattle.clap.specs.declared.parser.matches.ValueSource.TheVariants.{CommandLine}
 use Rattle.clap.specs.declared.builder.value_parser.Reading.TheVariants.{AsWritten}
-use Rattle.rv_base.specs.Places.{equals}
+use Rattle.rv_base.specs.Positions.{equals}
 use Rattle.rv_base.specs.Options.{◌>>=◌}
 use Rattle.rv_words.specs.Numbers.{number_in}
 use Rattle.rv_words.specs.Words.{options_with, serve_by}
-use Rattle.rv_words.specs.Plain.{Part, given, serve_with, the_only, values_of, with_part}
+use Rattle.rv_words.specs.Plain.{Part, the_value, serve_with, the_only, part_values, with_part}
 use Rattle.rv_words.specs.declared.command.Command.{Command}
 use Rattle.rv_words.specs.declared.command.Command.TheVariants.{Serve}
 use Rattle.rv_words.specs.declared.serve_options.ServeOptions.{ServeOptions}
@@ -29,33 +29,33 @@ abbrev pub has_any : List Text → Bool
 has_any [] = false
 has_any (value ∷ values) = true
 
-pub values_append : (xs ys : List Part) (name : Text) → values_of (xs ++ ys) name ≡ values_of xs name ++ values_of ys name
+pub values_append : (xs ys : List Part) (name : Text) → part_values (xs ++ ys) name ≡ part_values xs name ++ part_values ys name
 values_append [] ys name = refl
 values_append (x ∷ xs) ys name = go (bytes_eq x.0 name) (values_append xs ys name)
   where
-    go : (b : Bool) → values_of (xs ++ ys) name ≡ values_of xs name ++ values_of ys name
-        → cond b (x.1 ∷ values_of (xs ++ ys) name) (values_of (xs ++ ys) name) ≡ cond b (x.1 ∷ values_of xs name) (values_of xs name) ++ values_of ys name
+    go : (b : Bool) → part_values (xs ++ ys) name ≡ part_values xs name ++ part_values ys name
+        → cond b (x.1 ∷ part_values (xs ++ ys) name) (part_values (xs ++ ys) name) ≡ cond b (x.1 ∷ part_values xs name) (part_values xs name) ++ part_values ys name
     go true e = ap (λ vs. x.1 ∷ vs) e
     go false e = e
 
 -- a name has a row where it has a value
-pub has_row_any : (parts : List Part) (name : Text) → has_row name (rows_with parts) ≡ has_any (values_of parts name)
+pub has_row_any : (parts : List Part) (name : Text) → has_row name (rows_with parts) ≡ has_any (part_values parts name)
 has_row_any [] name = refl
 has_row_any (x ∷ xs) name = go (bytes_eq x.0 name) (has_row_any xs name)
   where
-    go : (b : Bool) → has_row name (rows_with xs) ≡ has_any (values_of xs name)
-        → (b || has_row name (rows_with xs)) ≡ has_any (cond b (x.1 ∷ values_of xs name) (values_of xs name))
+    go : (b : Bool) → has_row name (rows_with xs) ≡ has_any (part_values xs name)
+        → (b || has_row name (rows_with xs)) ≡ has_any (cond b (x.1 ∷ part_values xs name) (part_values xs name))
     go true e = refl
     go false e = e
 
 -- the first value of a name
-pub first_is : (parts : List Part) (name : Text) → first_of name (rows_with parts) ≡ slice_get (values_of parts name) 0
+pub first_is : (parts : List Part) (name : Text) → first_of name (rows_with parts) ≡ slice_get (part_values parts name) 0
 first_is [] name = refl
 first_is (x ∷ xs) name = go (bytes_eq x.0 name) (first_is xs name)
   where
-    go : (b : Bool) → first_of name (rows_with xs) ≡ slice_get (values_of xs name) 0
+    go : (b : Bool) → first_of name (rows_with xs) ≡ slice_get (part_values xs name) 0
         → option_and_then (λ (r : Row). slice_get r.values 0) (cond b (Some (row x)) (find (λ r. bytes_eq r.id name) (rows_with xs)))
-        ≡ slice_get (cond b (x.1 ∷ values_of xs name) (values_of xs name)) 0
+        ≡ slice_get (cond b (x.1 ∷ part_values xs name) (part_values xs name)) 0
     go true e = refl
     go false e = e
 
@@ -72,7 +72,7 @@ given_is (x ∷ xs) name = go (bytes_eq x.0 name) (given_is xs name)
 -- ---- no name is given twice
 
 abbrev pub AreOnce : List Part → Type 0
-AreOnce parts = (name : Text) → given parts name ≡ first_of name (rows_with parts)
+AreOnce parts = (name : Text) → the_value parts name ≡ first_of name (rows_with parts)
 
 one_more : (values : List Text) (value : Text) → has_any values ≡ false → the_only (values ++ value ∷ []) ≡ slice_get (values ++ value ∷ []) 0
 one_more [] value none = refl
@@ -84,11 +84,11 @@ once_more parts part once new name =
     ∙ sym (ap (λ (vs : List Text). slice_get vs 0) (values_append parts (part ∷ []) name)) ∙ sym (first_is (parts ++ part ∷ []) name)
   where
     go : (b : Bool) → bytes_eq part.0 name ≡ b
-        → the_only (values_of parts name ++ cond b (part.1 ∷ []) []) ≡ slice_get (values_of parts name ++ cond b (part.1 ∷ []) []) 0
-    go true e = one_more (values_of parts name) part.1
+        → the_only (part_values parts name ++ cond b (part.1 ∷ []) []) ≡ slice_get (part_values parts name ++ cond b (part.1 ∷ []) []) 0
+    go true e = one_more (part_values parts name) part.1
         (sym (has_row_any parts name) ∙ subst (λ (n : Text). has_row n (rows_with parts) ≡ false) (same_text part.0 name (sym e)) new)
-    go false e = ap the_only (append-nil (values_of parts name)) ∙ once name ∙ first_is parts name
-        ∙ sym (ap (λ (vs : List Text). slice_get vs 0) (append-nil (values_of parts name)))
+    go false e = ap the_only (append-nil (part_values parts name)) ∙ once name ∙ first_is parts name
+        ∙ sym (ap (λ (vs : List Text). slice_get vs 0) (append-nil (part_values parts name)))
 
 -- ---- a name that is given twice has no value
 
@@ -97,16 +97,16 @@ two_more [] more value some = absurd (true≢false (sym some))
 two_more (v ∷ []) more value some = refl
 two_more (v ∷ u ∷ us) more value some = refl
 
-pub given_twice : (parts more : List Part) (part : Part) → has_row part.0 (rows_with parts) ≡ true → given (parts ++ part ∷ more) part.0 ≡ None
+pub given_twice : (parts more : List Part) (part : Part) → has_row part.0 (rows_with parts) ≡ true → the_value (parts ++ part ∷ more) part.0 ≡ None
 given_twice parts more part has =
     ap the_only (values_append parts (part ∷ more) part.0)
-    ∙ ap (λ b. the_only (values_of parts part.0 ++ cond b (part.1 ∷ values_of more part.0) (values_of more part.0))) (equals part.0)
-    ∙ two_more (values_of parts part.0) (values_of more part.0) part.1 (sym (has_row_any parts part.0) ∙ has)
+    ∙ ap (λ b. the_only (part_values parts part.0 ++ cond b (part.1 ∷ part_values more part.0) (part_values more part.0))) (equals part.0)
+    ∙ two_more (part_values parts part.0) (part_values more part.0) part.1 (sym (has_row_any parts part.0) ∙ has)
 
 -- ---- what lacks a name serves nothing
 
-abbrev pub IsNeeded : Text → Type 0
-IsNeeded name = (values : Text → Option Text) → values name ≡ None → serve_by values ≡ None
+abbrev pub NeedsWord : Text → Type 0
+NeedsWord name = (values : Text → Option Text) → values name ≡ None → serve_by values ≡ None
 
 no_value : {A B : Type 0} (o : Option A) → option_and_then {T = A} {U = B} (λ x. None) o ≡ None
 no_value None = refl
@@ -122,13 +122,13 @@ no_options values none = go (values (codes "STORE")) (values (codes "accounts"))
     go (Some s) None = refl
     go (Some s) (Some a) = ap (λ o. option_map (λ options. Serve s options) o) (none a)
 
-pub needs_store : IsNeeded (codes "STORE")
+pub needs_store : NeedsWord (codes "STORE")
 needs_store values none = rw none refl
 
-pub needs_accounts : IsNeeded (codes "accounts")
+pub needs_accounts : NeedsWord (codes "accounts")
 needs_accounts values none = rw none (no_value (values (codes "STORE")))
 
-pub needs_port : IsNeeded (codes "port")
+pub needs_port : NeedsWord (codes "port")
 unfolding options_with
 needs_port values none = no_options values lacks
   where
@@ -138,7 +138,7 @@ needs_port values none = no_options values lacks
 abbrev made : Text → ℕ → ℕ → Option ℕ → Option ServeOptions
 made accounts port workers connections = connections >>= (λ c. Some (record { accounts = accounts; port = port; workers = workers; connections = c }))
 
-pub needs_workers : IsNeeded (codes "workers")
+pub needs_workers : NeedsWord (codes "workers")
 unfolding options_with
 needs_workers values none = no_options values lacks
   where
@@ -152,7 +152,7 @@ needs_workers values none = no_options values lacks
         go None = refl
         go (Some p) = refl
 
-pub needs_connections : IsNeeded (codes "connections")
+pub needs_connections : NeedsWord (codes "connections")
 unfolding options_with
 needs_connections values none = no_options values lacks
   where
@@ -187,12 +187,12 @@ any_last (x ∷ xs) y = refl
 pub has_row_more : (parts more : List Part) (name : Text) → has_row name (rows_with parts) ≡ true → has_row name (rows_with (parts ++ more)) ≡ true
 has_row_more parts more name has =
     has_row_any (parts ++ more) name ∙ ap has_any (values_append parts more name)
-    ∙ any_left (values_of parts name) (values_of more name) (sym (has_row_any parts name) ∙ has)
+    ∙ any_left (part_values parts name) (part_values more name) (sym (has_row_any parts name) ∙ has)
 
 pub has_row_last : (parts : List Part) (part : Part) → has_row part.0 (rows_with (parts ++ part ∷ [])) ≡ true
 has_row_last parts part =
     has_row_any (parts ++ part ∷ []) part.0 ∙ ap has_any (values_append parts (part ∷ []) part.0)
-    ∙ ap (λ b. has_any (values_of parts part.0 ++ cond b (part.1 ∷ []) [])) (equals part.0) ∙ any_last (values_of parts part.0) part.1
+    ∙ ap (λ b. has_any (part_values parts part.0 ++ cond b (part.1 ∷ []) [])) (equals part.0) ∙ any_last (part_values parts part.0) part.1
 
 -- what parts ask for with those after them
 abbrev pub asked : List Part → Option (List Part) → Option Command
@@ -209,6 +209,6 @@ pub asks_nothing : (parts : List Part) (more : Option (List Part)) → ServesNot
 asks_nothing parts None none = refl
 asks_nothing parts (Some ps) none = none ps
 
-pub serves_twice : (parts : List Part) (part : Part) → IsNeeded part.0 → has_row part.0 (rows_with parts) ≡ true → ServesNothing (parts ++ part ∷ [])
+pub serves_twice : (parts : List Part) (part : Part) → NeedsWord part.0 → has_row part.0 (rows_with parts) ≡ true → ServesNothing (parts ++ part ∷ [])
 serves_twice parts part needed has more =
-    ap serve_with (append_assoc parts (part ∷ []) more) ∙ needed (given (parts ++ part ∷ more)) (given_twice parts more part has)
+    ap serve_with (append_assoc parts (part ∷ []) more) ∙ needed (the_value (parts ++ part ∷ more)) (given_twice parts more part has)

@@ -18,7 +18,7 @@ use Rattle.rv_words.specs.Words.{is_taken, serve_by, serve_in}
 use Rattle.rv_words.specs.Plain.{Part, option_names, parts_from, serve_with}
 use Rattle.rv_words.specs.declared.command.Command.{Command}
 use Rattle.rv_words.proofs.Leaves.{HasNoLetters, at, held, not_empty, read_from}
-use Rattle.rv_words.proofs.Parts.{AreOnce, IsNeeded, ServesNothing, asked, given_is, needs_accounts, needs_connections, needs_port, needs_store, needs_workers, once_more, row, rows_more, rows_with, serves_first, serves_twice}
+use Rattle.rv_words.proofs.Parts.{AreOnce, NeedsWord, ServesNothing, asked, given_is, needs_accounts, needs_connections, needs_port, needs_store, needs_workers, once_more, row, rows_more, rows_with, serves_first, serves_twice}
 use Rattle.rv_words.proofs.Verbs.{serve_leaf}
 
 abbrev pub rules : List Rule
@@ -41,7 +41,7 @@ pub record IsOnce (a : Rule) : Type 0 where
   pub adds : (v : Text) (rows : List Row) → has_row a.id rows ≡ false → used a (v ∷ []) rows ≡ rows ++ row (a.id, v) ∷ []
   pub fine : (v : Text) (rows : List Row) → has_row a.id rows ≡ false → use_fault false a (v ∷ []) rows ≡ []
   pub twice : (v : Text) (rows : List Row) → has_row a.id rows ≡ true → is_taken (use_fault false a (v ∷ []) rows) ≡ false
-  pub needed : IsNeeded a.id
+  pub needed : NeedsWord a.id
 
 pub at_row_missing : (id : Text) (change : Row → List Row) (missing : List Row) (rows : List Row) → has_row id rows ≡ false → at_row id change missing rows ≡ rows ++ missing
 at_row_missing id change missing [] none = refl
@@ -65,7 +65,7 @@ store_once = record {
   needed = needs_store;
 }
 
-pub option_once : (name : Text) → arg_by_id rules name ≡ Some (option_rule name) → IsNeeded name → IsOnce (option_rule name)
+pub option_once : (name : Text) → arg_by_id rules name ≡ Some (option_rule name) → NeedsWord name → IsOnce (option_rule name)
 option_once name by_id needed = record {
   by_id = by_id;
   adds = λ v rows none. adds_row name v rows none;
@@ -94,7 +94,7 @@ each_option = (
   ),
 )
   where
-    known_as : (name : Text) → arg_by_id rules name ≡ Some (option_rule name) → arg_by_long rules name ≡ Some (option_rule name) → IsNeeded name
+    known_as : (name : Text) → arg_by_id rules name ≡ Some (option_rule name) → arg_by_long rules name ≡ Some (option_rule name) → NeedsWord name
         → ((rows : List Row) (word : Text) → option_word (Some (option_rule name)) name word (held rows (Some (name, []))) ≡ (held rows (Some (name, word ∷ [])), idle))
         → bytes_eq store name ≡ false → IsOption name
     known_as name by_id by_long needed gets no_store =
@@ -166,8 +166,8 @@ pending_holds a is parts v once = go (has_row a.id (rows_with parts)) refl
 abbrev pub IsStored : Bool → List Part → Type 0
 IsStored stored parts = stored ≡ true → has_row store (rows_with parts) ≡ true
 
-abbrev pub place : Bool → ℕ
-place stored = cond stored 2 1
+abbrev pub position_for : Bool → ℕ
+position_for stored = cond stored 2 1
 
 -- where an option waits for its value
 abbrev pub waits_at : List Row → Text → ℕ → Bool → Walk
@@ -181,15 +181,15 @@ stores = map (λ v. (store, v))
 
 abbrev pub Idle : List Text → Type 0
 Idle words = (rows : List Row) (pending : Option (Text × List Text)) (parts : List Part) (stored : Bool) → Holds rows pending parts → IsStored stored parts
-    → reads (at rows pending (place stored) false) words ≡ asked parts (parts_from None words)
+    → reads (at rows pending (position_for stored) false) words ≡ asked parts (parts_from None words)
 
 abbrev pub Ended : List Text → Type 0
 Ended words = (rows : List Row) (pending : Option (Text × List Text)) (parts : List Part) (stored : Bool) → Holds rows pending parts → IsStored stored parts
-    → reads (at rows pending (place stored) true) words ≡ asked parts (Some (stores words))
+    → reads (at rows pending (position_for stored) true) words ≡ asked parts (Some (stores words))
 
-abbrev pub Waits : List Text → Type 0
-Waits words = (parts : List Part) (stored : Bool) (name : Text) → IsOption name → AreOnce parts → IsStored stored parts
-    → reads (waits_at (rows_with parts) name (place stored) false) words ≡ asked parts (parts_from (Some name) words)
+abbrev pub WaitsForWord : List Text → Type 0
+WaitsForWord words = (parts : List Part) (stored : Bool) (name : Text) → IsOption name → AreOnce parts → IsStored stored parts
+    → reads (waits_at (rows_with parts) name (position_for stored) false) words ≡ asked parts (parts_from (Some name) words)
 
 -- ---- no word is left
 
@@ -240,7 +240,7 @@ complete parts =
     (wants values (values store) (values (codes "accounts")) (values (codes "port")) (values (codes "workers")) (values (codes "connections")) refl refl refl refl refl)
 
 pub ends : (ended stored : Bool) (rows : List Row) (pending : Option (Text × List Text)) (parts : List Part) → Holds rows pending parts
-    → reads (at rows pending (place stored) ended) [] ≡ asked parts (Some [])
+    → reads (at rows pending (position_for stored) ended) [] ≡ asked parts (Some [])
 unfolding walk_fault
 ends ended stored rows pending parts (inl fine) =
     let h = held rows pending in

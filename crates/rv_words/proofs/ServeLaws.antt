@@ -9,10 +9,10 @@ use Rattle.std.specs.Char.{digit_value}
 use Rattle.std.specs.Str.Parse.{AllDigits}
 use Rattle.std.specs.Cmp.Lexicographic.{same_text}
 use Rattle.std.proofs.lemmas.Fmt.{decimal_is_IsNumeral}
-use Rattle.rv_base.specs.Places.{equals}
+use Rattle.rv_base.specs.Positions.{equals}
 use Rattle.rv_words.specs.Numbers.{number_in}
 use Rattle.rv_words.specs.Words.{command_in, options_with, serve_by}
-use Rattle.rv_words.specs.Plain.{Part, given, is_flag, is_option, option_name, option_value, parts_from, serve_with, the_only, values_of, with_part}
+use Rattle.rv_words.specs.Plain.{Part, the_value, is_flag, is_option, option_name, option_value, parts_from, serve_with, the_only, part_values, with_part}
 use Rattle.rv_words.specs.Laws.{begins_with_hyphen}
 use Rattle.rv_words.specs.ServeLaws.{EachOptionStandsOnce, NoOtherFlagStands, ServeIsAsked, before_hyphens, joined, namings}
 use Rattle.rv_words.specs.declared.command.Command.{Command}
@@ -118,13 +118,13 @@ options_joined accounts port workers connections rest parts is = ap (λ more.
 store_first : (store accounts : List ℕ) (port workers connections : ℕ) → IsInRange 1 65535 port → IsInRange 1 16 workers → IsInRange 1 1000000 connections
     → serve_with ((codes "STORE", store) ∷ option_parts accounts (decimal port) (decimal workers) (decimal connections) []) ≡ asks_to_serve store accounts port workers connections
 store_first store accounts port workers connections ports crew counts =
-    serves_values (given ((codes "STORE", store) ∷ option_parts accounts (decimal port) (decimal workers) (decimal connections) []))
+    serves_values (the_value ((codes "STORE", store) ∷ option_parts accounts (decimal port) (decimal workers) (decimal connections) []))
     store accounts port workers connections ports crew counts refl refl refl refl refl
 
 store_at_end : (store accounts : List ℕ) (port workers connections : ℕ) → IsInRange 1 65535 port → IsInRange 1 16 workers → IsInRange 1 1000000 connections
     → serve_with (option_parts accounts (decimal port) (decimal workers) (decimal connections) ((codes "STORE", store) ∷ [])) ≡ asks_to_serve store accounts port workers connections
 store_at_end store accounts port workers connections ports crew counts =
-    serves_values (given (option_parts accounts (decimal port) (decimal workers) (decimal connections) ((codes "STORE", store) ∷ [])))
+    serves_values (the_value (option_parts accounts (decimal port) (decimal workers) (decimal connections) ((codes "STORE", store) ∷ [])))
     store accounts port workers connections ports crew counts refl refl refl refl refl
 
 pub serve_asked : ServeIsAsked
@@ -207,8 +207,8 @@ no_other_flag name words some = line_is_plain (name ∷ codes "serve" ∷ words)
 
 -- ---- how often an option is given
 
-abbrev Counts : List ℕ → Option (List Part) → ℕ → Type 0
-Counts name parts n = IfSome parts (λ ps. length (values_of ps name) ≡ n)
+abbrev CountsOf : List ℕ → Option (List Part) → ℕ → Type 0
+CountsOf name parts n = IfSome parts (λ ps. length (part_values ps name) ≡ n)
 
 abbrev once_if : Bool → ℕ
 once_if b = cond b 1 0
@@ -218,23 +218,23 @@ abbrev waited : List ℕ → Option (List ℕ) → ℕ
 waited name None = 0
 waited name (Some waiting) = once_if (bytes_eq waiting name)
 
-counts_more : (name one v : List ℕ) (parts : Option (List Part)) (n : ℕ) → Counts name parts n → Counts name (with_part (one, v) parts) (once_if (bytes_eq one name) + n)
+counts_more : (name one v : List ℕ) (parts : Option (List Part)) (n : ℕ) → CountsOf name parts n → CountsOf name (with_part (one, v) parts) (once_if (bytes_eq one name) + n)
 counts_more name one v None n counts = tt
 counts_more name one v (Some ps) n counts = go (bytes_eq one name)
   where
-    go : (b : Bool) → length (cond b (v ∷ values_of ps name) (values_of ps name)) ≡ once_if b + n
+    go : (b : Bool) → length (cond b (v ∷ part_values ps name) (part_values ps name)) ≡ once_if b + n
     go true = omega (arith, counts)
     go false = omega (arith, counts)
 
-counts_as : (name : List ℕ) (parts other : Option (List Part)) (n m : ℕ) → parts ≡ other → n ≡ m → Counts name other m → Counts name parts n
-counts_as name parts other n m same is counts = subst (λ o. Counts name o n) (sym same) (subst (λ k. Counts name other k) (sym is) counts)
+counts_as : (name : List ℕ) (parts other : Option (List Part)) (n m : ℕ) → parts ≡ other → n ≡ m → CountsOf name other m → CountsOf name parts n
+counts_as name parts other n m same is counts = subst (λ o. CountsOf name o n) (sym same) (subst (λ k. CountsOf name other k) (sym is) counts)
 
-no_stores : (name : List ℕ) → bytes_eq (codes "STORE") name ≡ false → (words : List (List ℕ)) → values_of (stores words) name ≡ []
+no_stores : (name : List ℕ) → bytes_eq (codes "STORE") name ≡ false → (words : List (List ℕ)) → part_values (stores words) name ≡ []
 no_stores name other [] = refl
 no_stores name other (word ∷ words) = rw other (no_stores name other words)
 
-either_counts : (name one : List ℕ) (v : Option (List ℕ)) (now later : Option (List Part)) (n : ℕ) → Counts name now n → Counts name later (once_if (bytes_eq one name) + n)
-    → Counts name (option_map_or (λ x. with_part (one, x) now) v later) (once_if (bytes_eq one name) + n)
+either_counts : (name one : List ℕ) (v : Option (List ℕ)) (now later : Option (List Part)) (n : ℕ) → CountsOf name now n → CountsOf name later (once_if (bytes_eq one name) + n)
+    → CountsOf name (option_map_or (λ x. with_part (one, x) now) v later) (once_if (bytes_eq one name) + n)
 either_counts name one None now later n is_now is_later = is_later
 either_counts name one (Some x) now later n is_now is_later = counts_more name one x now n is_now
 
@@ -254,18 +254,18 @@ names_later : (name word : List ℕ) (words : List (List ℕ)) → bytes_eq word
 names_later name word words goes_on none = rw (goes_on, none) refl
 
 -- where nothing waits
-at_idle : (name : List ℕ) (words : List (List ℕ)) → Counts name (parts_from None words) (0 + namings name words) → Counts name (parts_from None words) (namings name words)
+at_idle : (name : List ℕ) (words : List (List ℕ)) → CountsOf name (parts_from None words) (0 + namings name words) → CountsOf name (parts_from None words) (namings name words)
 at_idle name words counts = counts_as name _ _ _ (0 + namings name words) refl (omega arith) counts
 
 counted : (name : List ℕ) → bytes_eq (codes "STORE") name ≡ false → (words : List (List ℕ)) (waiting : Option (List ℕ))
-    → Counts name (parts_from waiting words) (waited name waiting + namings name words)
+    → CountsOf name (parts_from waiting words) (waited name waiting + namings name words)
 counted name other [] None = refl
 counted name other [] (Some waiting) = tt
 counted name no_store (word ∷ words) None = go (bytes_eq word (codes "--")) refl (is_option word) refl (is_flag word) refl (counted name no_store words)
   where
     go : (closes : Bool) → bytes_eq word (codes "--") ≡ closes → (option : Bool) → is_option word ≡ option → (flag : Bool) → is_flag word ≡ flag
-        → ((w : Option (List ℕ)) → Counts name (parts_from w words) (waited name w + namings name words))
-        → Counts name (parts_from None (word ∷ words)) (0 + namings name (word ∷ words))
+        → ((w : Option (List ℕ)) → CountsOf name (parts_from w words) (waited name w + namings name words))
+        → CountsOf name (parts_from None (word ∷ words)) (0 + namings name (word ∷ words))
     go true closes option o flag f rest =
         let none : namings name (word ∷ words) ≡ 0 = rw closes refl in
         counts_as name _ _ _ 0 (closed word words closes) (omega (arith, none)) (ap length (no_stores name no_store words))
@@ -273,18 +273,18 @@ counted name no_store (word ∷ words) None = go (bytes_eq word (codes "--")) re
         counts_as name _ _ _ (once_if (bytes_eq (option_name word) name) + namings name words) (known word words goes_on o)
         (omega (arith, names_here name word words goes_on o))
         (either_counts name (option_name word) (option_value word) _ _ (namings name words) (at_idle name words (rest None)) (rest (Some (option_name word))))
-    go false goes_on false o true f rest = subst (λ p. Counts name p (0 + namings name (word ∷ words))) (sym (stray word words goes_on o f)) tt
+    go false goes_on false o true f rest = subst (λ p. CountsOf name p (0 + namings name (word ∷ words))) (sym (stray word words goes_on o f)) tt
     go false goes_on false o false f rest =
         counts_as name _ _ _ (once_if (bytes_eq (codes "STORE") name) + namings name words) (plain_store word words f)
         (omega (arith, names_later name word words goes_on o, ap once_if no_store))
         (counts_more name (codes "STORE") word _ (namings name words) (at_idle name words (rest None)))
 counted name no_store (word ∷ words) (Some waiting) = go (is_flag word) refl (counted name no_store words None)
   where
-    go : (flag : Bool) → is_flag word ≡ flag → Counts name (parts_from None words) (0 + namings name words)
-        → Counts name (parts_from (Some waiting) (word ∷ words)) (once_if (bytes_eq waiting name) + namings name (word ∷ words))
+    go : (flag : Bool) → is_flag word ≡ flag → CountsOf name (parts_from None words) (0 + namings name words)
+        → CountsOf name (parts_from (Some waiting) (word ∷ words)) (once_if (bytes_eq waiting name) + namings name (word ∷ words))
     go true f rest =
         let none : parts_from (Some waiting) (word ∷ words) ≡ None = rw f refl in
-        subst (λ p. Counts name p (once_if (bytes_eq waiting name) + namings name (word ∷ words))) (sym none) tt
+        subst (λ p. CountsOf name p (once_if (bytes_eq waiting name) + namings name (word ∷ words))) (sym none) tt
     go false f rest =
         counts_as name _ _ _ (once_if (bytes_eq waiting name) + namings name words) (plain_value waiting word words f)
         (ap (λ n. once_if (bytes_eq waiting name) + n) (names_later name word words (no_end word f) (no_option word f)))
@@ -299,6 +299,6 @@ pub each_option_once : EachOptionStandsOnce
 each_option_once name option words is_known other =
     line_is_plain (name ∷ codes "serve" ∷ words) ∙ go (parts_from None words) (counted option (known_option option is_known).no_store words None)
   where
-    go : (parts : Option (List Part)) → Counts option parts (0 + namings option words) → option_and_then serve_with parts ≡ None
+    go : (parts : Option (List Part)) → CountsOf option parts (0 + namings option words) → option_and_then serve_with parts ≡ None
     go None counts = refl
-    go (Some ps) counts = (known_option option is_known).once.needed (given ps) (not_one (values_of ps option) (λ one. other (omega (arith, one, counts))))
+    go (Some ps) counts = (known_option option is_known).once.needed (the_value ps) (not_one (part_values ps option) (λ one. other (omega (arith, one, counts))))

@@ -13,7 +13,7 @@ use Rattle.rv_words.specs.Plain.{Part, is_flag, is_option, option_name, option_v
 use Rattle.rv_words.proofs.Leaves.{hyphen_counts, at, by_form, fault_at, goes, held, not_empty, plain_met, plain_turn, plain_walk, refuses}
 use Rattle.rv_words.proofs.Parts.{AreOnce, asked, asked_more, asks_nothing, has_row_last, has_row_more, needs_store, once_more, rows_more, rows_with, serves_twice}
 use Rattle.rv_words.proofs.Verbs.{serve_leaf}
-use Rattle.rv_words.proofs.Rules.{Broken, Ended, Fine, Holds, Idle, IsOption, IsStored, Waits, ends, is_known, known_option, no_letters, option_rule, pending_holds, place, reads, rules, settled_holds, store, store_once, store_rule, stores, unknown_option, waits_at}
+use Rattle.rv_words.proofs.Rules.{Broken, Ended, Fine, Holds, Idle, IsOption, IsStored, WaitsForWord, ends, is_known, known_option, no_letters, option_rule, pending_holds, position_for, reads, rules, settled_holds, store, store_once, store_rule, stores, unknown_option, waits_at}
 
 -- ---- a word that is a STORE
 
@@ -31,12 +31,12 @@ IsTaken w word = (turn_fault serve_leaf [] w word ≡ step_fault serve_leaf w.po
     × (walked rules [] w word ≡ to_positional rules (arg_by_index rules w.position) word w w.held)
 
 -- the words after a STORE ask for this
-abbrev Follows : Bool → List Text → Option (List Part) → Type 0
-Follows ended words more = (rows : List Row) (pending : Option (Text × List Text)) (parts : List Part) → Holds rows pending parts → IsStored true parts
+abbrev FollowsFlag : Bool → List Text → Option (List Part) → Type 0
+FollowsFlag ended words more = (rows : List Row) (pending : Option (Text × List Text)) (parts : List Part) → Holds rows pending parts → IsStored true parts
     → reads (at rows pending 2 ended) words ≡ asked parts more
 
 first_store : (ended : Bool) (rows : List Row) (pending : Option (Text × List Text)) (parts : List Part) (word : Text) (words : List Text) (more : Option (List Part))
-    → Fine rows pending parts → IsTaken (at rows pending 1 ended) word → Follows ended words more
+    → Fine rows pending parts → IsTaken (at rows pending 1 ended) word → FollowsFlag ended words more
     → reads (at rows pending 1 ended) (word ∷ words) ≡ asked parts (with_part (store, word) more)
 first_store ended rows pending parts word words more fine taken follows =
     let h = held rows pending in
@@ -50,8 +50,8 @@ first_store ended rows pending parts word words more fine taken follows =
     ∙ sym (asked_more parts (store, word) more)
 
 a_store : (ended stored : Bool) (rows : List Row) (pending : Option (Text × List Text)) (parts : List Part) (word : Text) (words : List Text) (more : Option (List Part))
-    → Holds rows pending parts → IsStored stored parts → IsTaken (at rows pending (place stored) ended) word → Follows ended words more
-    → reads (at rows pending (place stored) ended) (word ∷ words) ≡ asked parts (with_part (store, word) more)
+    → Holds rows pending parts → IsStored stored parts → IsTaken (at rows pending (position_for stored) ended) word → FollowsFlag ended words more
+    → reads (at rows pending (position_for stored) ended) (word ∷ words) ≡ asked parts (with_part (store, word) more)
 a_store ended true rows pending parts word words more holds has taken follows =
     refuses serve_leaf serve_in (at rows pending 2 ended) word words (ap is_taken taken.0)
     ∙ sym (asked_more parts (store, word) more ∙ asks_nothing (parts ++ (store, word) ∷ []) more (serves_twice parts (store, word) needs_store (has refl)))
@@ -87,9 +87,9 @@ abbrev option_parts : Text → Option Text → List Text → Option (List Part)
 option_parts name v words = option_map_or (λ x. with_part (name, x) (parts_from None words)) v (parts_from (Some name) words)
 
 module _ (rows : List Row) (pending : Option (Text × List Text)) (parts : List Part) (stored : Bool) (has : IsStored stored parts)
-    (word : Text) (words : List Text) (idles : Idle words) (waits : Waits words) where
+    (word : Text) (words : List Text) (idles : Idle words) (waits : WaitsForWord words) where
   abbrev here : Walk
-  here = at rows pending (place stored) false
+  here = at rows pending (position_for stored) false
 
   abbrev h : Held
   h = held rows pending
@@ -110,9 +110,9 @@ module _ (rows : List Row) (pending : Option (Text × List Text)) (parts : List 
   -- an option whose value is in the next word
   bare : (name : Text) → Fine rows pending parts → IsOption name → IsLong here word name None → reads here (word ∷ words) ≡ asked parts (parts_from (Some name) words)
   bare name fine is long =
-      goes serve_leaf serve_in here (waits_at (rows_with parts) name (place stored) false) word words
+      goes serve_leaf serve_in here (waits_at (rows_with parts) name (position_for stored) false) word words
       (long.0 ∙ ap (λ a. long_turn here word a None) is.by_long ∙ ap (λ k. or_else k []) fine.settles)
-      (long.1 ∙ ap (λ a. long_walk here word a None) is.by_long ∙ ap (λ rs. waits_at rs name (place stored) false) fine.rows_are)
+      (long.1 ∙ ap (λ a. long_walk here word a None) is.by_long ∙ ap (λ rs. waits_at rs name (position_for stored) false) fine.rows_are)
       ∙ waits parts stored name is fine.once has
 
   -- an option with its value
@@ -134,11 +134,11 @@ module _ (rows : List Row) (pending : Option (Text × List Text)) (parts : List 
           ∙ sym (asked_more parts (name, v) (parts_from None words)
           ∙ asks_nothing (parts ++ (name, v) ∷ []) (parts_from None words) (serves_twice parts (name, v) is.once.needed twice))
       go false new =
-          goes serve_leaf serve_in here (at (rows_with (parts ++ (name, v) ∷ [])) None (place stored) false) word words
+          goes serve_leaf serve_in here (at (rows_with (parts ++ (name, v) ∷ [])) None (position_for stored) false) word words
           (turn_is ∙ ap (λ k. or_else k []) (is.once.fine v (rows_with parts) new))
           (long.1 ∙ ap (λ o. long_walk here word o (Some v)) is.by_long
-          ∙ ap (λ rs. at (used (option_rule name) (v ∷ []) rs) None (place stored) false) fine.rows_are
-          ∙ ap (λ rs. at rs None (place stored) false) (is.once.adds v (rows_with parts) new ∙ rows_more parts (name, v)))
+          ∙ ap (λ rs. at (used (option_rule name) (v ∷ []) rs) None (position_for stored) false) fine.rows_are
+          ∙ ap (λ rs. at rs None (position_for stored) false) (is.once.adds v (rows_with parts) new ∙ rows_more parts (name, v)))
           ∙ idles (rows_with (parts ++ (name, v) ∷ [])) None (parts ++ (name, v) ∷ []) stored
           (settled_holds (parts ++ (name, v) ∷ []) (once_more parts (name, v) fine.once new))
           (λ e. has_row_more parts ((name, v) ∷ []) store (has e))
@@ -172,47 +172,47 @@ unknown_long rows pending y ys unknown =
     ap (λ a. is_taken (long_fault rules false a (name_and_value (y ∷ ys)).1 (held rows pending))) (unknown_option (name_and_value (y ∷ ys)).0 unknown)
 
 module _ (rows : List Row) (pending : Option (Text × List Text)) (parts : List Part) (stored : Bool) (holds : Holds rows pending parts) (has : IsStored stored parts)
-    (words : List Text) (idles : Idle words) (waits : Waits words) (ended : Ended words) where
+    (words : List Text) (idles : Idle words) (waits : WaitsForWord words) (ended : Ended words) where
   abbrev at_flag : Text → Option (List Part)
   at_flag word = cond (is_option word) (option_parts (option_name word) (option_value word) words) None
 
   abbrev flag_is : Text → Type 0
-  flag_is word = reads (at rows pending (place stored) false) (word ∷ words) ≡ asked parts (at_flag word)
+  flag_is word = reads (at rows pending (position_for stored) false) (word ∷ words) ≡ asked parts (at_flag word)
 
   long_flag : (y : ℕ) (ys : Text) → flag_is (45 ∷ 45 ∷ y ∷ ys)
   unfolding walked
   long_flag y ys = go (is_known (name_and_value (y ∷ ys)).0) refl
     where
       go : (known : Bool) → is_known (name_and_value (y ∷ ys)).0 ≡ known
-          → reads (at rows pending (place stored) false) ((45 ∷ 45 ∷ y ∷ ys) ∷ words)
+          → reads (at rows pending (position_for stored) false) ((45 ∷ 45 ∷ y ∷ ys) ∷ words)
           ≡ asked parts (cond known (option_parts (name_and_value (y ∷ ys)).0 (name_and_value (y ∷ ys)).1 words) None)
       go true known = an_option rows pending parts stored has (45 ∷ 45 ∷ y ∷ ys) words idles waits (name_and_value (y ∷ ys)).0 (name_and_value (y ∷ ys)).1 holds
           (known_option (name_and_value (y ∷ ys)).0 known) (refl, refl)
-      go false unknown = refuses serve_leaf serve_in (at rows pending (place stored) false) (45 ∷ 45 ∷ y ∷ ys) words
+      go false unknown = refuses serve_leaf serve_in (at rows pending (position_for stored) false) (45 ∷ 45 ∷ y ∷ ys) words
           (not_empty (fault_at serve_leaf rows pending (45 ∷ 45 ∷ y ∷ ys)) _ (unknown_long rows pending y ys unknown))
 
   short_flag : (x : ℕ) (xs : Text) → (x == 45) ≡ false → is_taken (fault_at serve_leaf rows pending (45 ∷ x ∷ xs)) ≡ false → flag_is (45 ∷ x ∷ xs)
   short_flag x xs other fails =
       let none : is_option (45 ∷ x ∷ xs) ≡ false = rw other refl in
-      refuses serve_leaf serve_in (at rows pending (place stored) false) (45 ∷ x ∷ xs) words (not_empty (fault_at serve_leaf rows pending (45 ∷ x ∷ xs)) _ fails)
+      refuses serve_leaf serve_in (at rows pending (position_for stored) false) (45 ∷ x ∷ xs) words (not_empty (fault_at serve_leaf rows pending (45 ∷ x ∷ xs)) _ fails)
       ∙ sym (ap (λ b. asked parts (cond b (option_parts (option_name (45 ∷ x ∷ xs)) (option_value (45 ∷ x ∷ xs)) words) None)) none)
 
-  idle_word : (word : Text) → reads (at rows pending (place stored) false) (word ∷ words) ≡ asked parts (parts_from None (word ∷ words))
+  idle_word : (word : Text) → reads (at rows pending (position_for stored) false) (word ∷ words) ≡ asked parts (parts_from None (word ∷ words))
   unfolding walked
   idle_word word = go (bytes_eq word (codes "--")) refl (is_flag word) refl
     where
       go : (closes : Bool) → bytes_eq word (codes "--") ≡ closes → (flag : Bool) → is_flag word ≡ flag
-          → reads (at rows pending (place stored) false) (word ∷ words)
+          → reads (at rows pending (position_for stored) false) (word ∷ words)
           ≡ asked parts (cond closes (Some (stores words)) (cond (is_option word) (option_parts (option_name word) (option_value word) words) (cond flag None (with_part (store, word) (parts_from None words)))))
       go true closes flag is_it =
           let is : word ≡ codes "--" = same_text word (codes "--") (sym closes) in
-          subst (λ (w : Text). reads (at rows pending (place stored) false) (w ∷ words) ≡ asked parts (Some (stores words))) (sym is)
-          (goes serve_leaf serve_in (at rows pending (place stored) false) (at rows pending (place stored) true) (codes "--") words refl refl
+          subst (λ (w : Text). reads (at rows pending (position_for stored) false) (w ∷ words) ≡ asked parts (Some (stores words))) (sym is)
+          (goes serve_leaf serve_in (at rows pending (position_for stored) false) (at rows pending (position_for stored) true) (codes "--") words refl refl
           ∙ ended rows pending parts stored holds has)
       go false goes_on true is_it = by_form serve_leaf no_letters rows pending flag_is long_flag short_flag word goes_on is_it
       go false goes_on false is_it =
           a_store false stored rows pending parts word words (parts_from None words) holds has
-          (plain_turn serve_leaf rows pending (place stored) word (goes_on, is_it), plain_walk serve_leaf rows pending (place stored) word (goes_on, is_it))
+          (plain_turn serve_leaf rows pending (position_for stored) word (goes_on, is_it), plain_walk serve_leaf rows pending (position_for stored) word (goes_on, is_it))
           (λ rs p ps held_so is. idles rs p ps true held_so is)
           ∙ sym (ap (λ b. asked parts (cond b (option_parts (option_name word) (option_value word) words) (with_part (store, word) (parts_from None words)))) (no_option word is_it))
 
@@ -227,7 +227,7 @@ no_value_fault : (name : Text) → IsOption name → (rows : List Row) → is_ta
 no_value_fault name is rows = ap (λ o. is_taken (option_map_or (λ a. use_fault false a [] rows) o [])) is.once.by_id
 
 -- after `--` it gets none
-never_gets : (rows : List Row) (stored : Bool) (name : Text) → IsOption name → (words : List Text) → reads (waits_at rows name (place stored) true) words ≡ None
+never_gets : (rows : List Row) (stored : Bool) (name : Text) → IsOption name → (words : List Text) → reads (waits_at rows name (position_for stored) true) words ≡ None
 unfolding walk_fault
 never_gets rows stored name is [] = rw (not_empty (settle_fault rules false (held rows (Some (name, [])))) _ (no_value_fault name is rows)) refl
 never_gets rows true name is (word ∷ words) = refuses serve_leaf serve_in (waits_at rows name 2 true) word words refl
@@ -237,7 +237,7 @@ never_gets rows false name is (word ∷ words) =
 
 module _ (parts : List Part) (stored : Bool) (name : Text) (is : IsOption name) (once : AreOnce parts) (has : IsStored stored parts) where
   abbrev waiting : Walk
-  waiting = waits_at (rows_with parts) name (place stored) false
+  waiting = waits_at (rows_with parts) name (position_for stored) false
 
   no_next : reads waiting [] ≡ None
   unfolding walk_fault
@@ -268,18 +268,18 @@ module _ (parts : List Part) (stored : Bool) (name : Text) (is : IsOption name) 
           let closing : word ≡ codes "--" = same_text word (codes "--") (sym closes) in
           let flag_is : flag ≡ true = sym is_it ∙ ap is_flag closing ∙ closing_is_flag in
           ap (λ (w : Text). reads waiting (w ∷ words)) closing
-          ∙ goes serve_leaf serve_in waiting (waits_at (rows_with parts) name (place stored) true) (codes "--") words refl refl
+          ∙ goes serve_leaf serve_in waiting (waits_at (rows_with parts) name (position_for stored) true) (codes "--") words refl refl
           ∙ never_gets (rows_with parts) stored name is words
           ∙ sym (ap (λ b. asked parts (cond b None (with_part (name, word) (parts_from None words)))) flag_is)
       go false goes_on true is_it = refuses serve_leaf serve_in waiting word words
           (not_empty (fault_at serve_leaf (rows_with parts) (Some (name, [])) word) _
           (by_form serve_leaf no_letters (rows_with parts) (Some (name, [])) refused long_next (λ x xs other fails. fails) word goes_on is_it))
       go false goes_on false is_it =
-          let read = plain_met serve_leaf (rows_with parts) (Some (name, [])) (option name) (place stored) word (goes_on, is_it) in
+          let read = plain_met serve_leaf (rows_with parts) (Some (name, [])) (option name) (position_for stored) word (goes_on, is_it) in
           let gets = read.0 ∙ ap (λ o. ((option_word o name word (held (rows_with parts) (Some (name, [])))).0, next (option_word o name word (held (rows_with parts) (Some (name, [])))).1)) is.once.by_id
           ∙ ap (λ (m : Held × Waiting). (m.0, next m.1)) (is.gets (rows_with parts) word) in
-          goes serve_leaf serve_in waiting (at (rows_with parts) (Some (name, word ∷ [])) (place stored) false) word words
-          (ap₂ (λ (k : Kinds) (m : Held × Step). or_else k (step_fault serve_leaf (place stored) m.0 m.1)) read.1 gets)
+          goes serve_leaf serve_in waiting (at (rows_with parts) (Some (name, word ∷ [])) (position_for stored) false) word words
+          (ap₂ (λ (k : Kinds) (m : Held × Step). or_else k (step_fault serve_leaf (position_for stored) m.0 m.1)) read.1 gets)
           (ap (λ (m : Held × Step). after_step rules word waiting m.0 m.1) gets)
           ∙ idles (rows_with parts) (Some (name, word ∷ [])) (parts ++ (name, word) ∷ []) stored
           (pending_holds (option_rule name) is.once parts word once) (λ e. has_row_more parts ((name, word) ∷ []) store (has e))
@@ -289,7 +289,7 @@ module _ (parts : List Part) (stored : Bool) (name : Text) (is : IsOption name) 
 
 record Read (words : List Text) : Type 0 where
   idles : Idle words
-  waits : Waits words
+  waits : WaitsForWord words
   ended : Ended words
 
 all_read : (words : List Text) → Read words

@@ -72,20 +72,20 @@ parts_from None (word ∷ words) =
 parts_from (Some name) (word ∷ words) = if is_flag word then None else with_part (name, word) (parts_from None words)
 
 -- the values of a name, in order
-abbrev pub values_of : List Part → List ℕ → List (List ℕ)
-values_of [] name = []
-values_of (part ∷ parts) name = if bytes_eq part.0 name then part.1 ∷ values_of parts name else values_of parts name
+abbrev pub part_values : List Part → List ℕ → List (List ℕ)
+part_values [] name = []
+part_values (part ∷ parts) name = if bytes_eq part.0 name then part.1 ∷ part_values parts name else part_values parts name
 
 abbrev pub the_only : List (List ℕ) → Option (List ℕ)
 the_only (value ∷ []) = Some value
 the_only other = None
 
 -- the value of a name that is given exactly once
-abbrev pub given : List Part → List ℕ → Option (List ℕ)
-given parts name = the_only (values_of parts name)
+abbrev pub the_value : List Part → List ℕ → Option (List ℕ)
+the_value parts name = the_only (part_values parts name)
 
 abbrev pub serve_with : List Part → Option Command
-serve_with parts = serve_by (given parts)
+serve_with parts = serve_by (the_value parts)
 
 -- ---- every line
 

@@ -48,8 +48,8 @@ abbrev pub serve_in : List Row → Option Command
 serve_in rows = serve_by (λ name. first_of name rows)
 
 -- what the command that was named asks for with its values
-abbrev pub named_in : Text × List Row → Option Command
-named_in named =
+abbrev pub command_named : Text × List Row → Option Command
+command_named named =
     if bytes_eq named.0 (codes "retire") then retire_in named.1
     else if bytes_eq named.0 (codes "serve") then serve_in named.1
     else on_store_in named.0 named.1
@@ -62,7 +62,7 @@ is_taken (fault ∷ faults) = false
 -- what the words ask for, where clap's command takes them and their values spell something
 unfoldable pub command_in : List Text → Option Command
 command_in words =
-    if is_taken (fault_of rv_app words) then option_and_then named_in (subcommand_of rv_app words)
+    if is_taken (fault_of rv_app words) then option_and_then command_named (subcommand_of rv_app words)
     else None
 
 -- what clap finds in the words

@@ -3,7 +3,7 @@ ghost use Rattle.std.specs.Int.{IsInRange};
 ghost use Rattle.std.specs.Prelude.{◌≡◌, IfOk, IfSome, codes, map, option_and_then, option_map, string_bytes};
 ghost use Rattle.clap.specs.Words.{first_of, found_of, rows_of, subcommand_rows_of};
 ghost use Rattle.rv_words.specs.Numbers.{number_in};
-ghost use Rattle.rv_words.specs.Words.{command_in, named_in, on_store, on_store_in, options_with, retire_in, retire_group_in, serve_in, Parses};
+ghost use Rattle.rv_words.specs.Words.{command_in, command_named, on_store, on_store_in, options_with, retire_in, retire_group_in, serve_in, Parses};
 
 use crate::command::Command;
 use crate::name::Name;
@@ -151,7 +151,7 @@ fn serve(alloc: Global, matches: &ArgMatches<'_>) -> Result<Option<Command>, Mem
 
 // What the command of this name asks for, with what was found for it.
 fn named(alloc: Global, name: &str, matches: &ArgMatches<'_>) -> Result<Option<Command>, Memory>
-    ensures { IfOk result (λ command. command ≡ named_in (name.now, rows_of (found_of matches.now))) }
+    ensures { IfOk result (λ command. command ≡ command_named (name.now, rows_of (found_of matches.now))) }
 {
     match name {
         "retire" => retire(alloc, matches),
@@ -169,7 +169,7 @@ fn entered<'a, 'm>(matches: &'m ArgMatches<'a>) -> Option<(&'a str, &'m ArgMatch
 
 // What was found asks for.
 fn found(alloc: Global, matches: &ArgMatches<'_>) -> Result<Option<Command>, Memory>
-    ensures { IfOk result (λ command. command ≡ option_and_then named_in (subcommand_rows_of matches.now)) }
+    ensures { IfOk result (λ command. command ≡ option_and_then command_named (subcommand_rows_of matches.now)) }
 {
     match entered(matches) {
         Some((name, inner)) => named(alloc, name, inner),

@@ -1,3 +1,3 @@
-pub mod Places
+pub mod Positions
 pub mod Turned
 pub mod Nobody

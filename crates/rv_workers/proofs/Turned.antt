@@ -3,23 +3,23 @@ use Rattle.std.proofs.Common.{◌≡◌, ℕ, zero, suc, List, [], ◌∷◌, �
 use mathlib.Core.List.{map-append}
 use Rattle.std.specs.List.{AllByRecursion}
 use Rattle.rv_workers.specs.Jobs.{EachWorked}
-use Rattle.rv_workers.specs.Hiring.{turned}
+use Rattle.rv_workers.specs.Hiring.{reversed}
 use Rattle.rv_workers.specs.Serving.{EachServes}
 
 -- the last one comes first
-pub turned-snoc : {X Y : Type 0} (f : X → Y) (xs : List X) (x : X) → turned f (xs ++ x ∷ []) ≡ f x ∷ turned f xs
-turned-snoc f [] x = refl
-turned-snoc f (y ∷ xs) x = ap (λ l. l ++ f y ∷ []) (turned-snoc f xs x)
+pub reversed-snoc : {X Y : Type 0} (f : X → Y) (xs : List X) (x : X) → reversed f (xs ++ x ∷ []) ≡ f x ∷ reversed f xs
+reversed-snoc f [] x = refl
+reversed-snoc f (y ∷ xs) x = ap (λ l. l ++ f y ∷ []) (reversed-snoc f xs x)
 
 -- one is taken off the end of these, and one put at the end of those
-pub turned-moves : {X Y : Type 0} (f : X → Y) (all given rest : List Y) (y : Y) (xs : List X) (x : X) → given ++ turned f xs ≡ all → given ≡ rest ++ y ∷ [] → f x ≡ y → rest ++ turned f (xs ++ x ∷ []) ≡ all
-turned-moves f all given rest y xs x is taken same =
-    ap (λ l. rest ++ l) (turned-snoc f xs x ∙ ap (λ z. z ∷ turned f xs) same) ∙ (sym (append_assoc rest (y ∷ []) (turned f xs)) ∙ (ap (λ l. l ++ turned f xs) (sym taken) ∙ is))
+pub reversed-moves : {X Y : Type 0} (f : X → Y) (all given rest : List Y) (y : Y) (xs : List X) (x : X) → given ++ reversed f xs ≡ all → given ≡ rest ++ y ∷ [] → f x ≡ y → rest ++ reversed f (xs ++ x ∷ []) ≡ all
+reversed-moves f all given rest y xs x is taken same =
+    ap (λ l. rest ++ l) (reversed-snoc f xs x ∙ ap (λ z. z ∷ reversed f xs) same) ∙ (sym (append_assoc rest (y ∷ []) (reversed f xs)) ∙ (ap (λ l. l ++ reversed f xs) (sym taken) ∙ is))
 
 -- one is taken off the end of those, and what f gives of it put at the end of these
-pub turned-back : {X Y : Type 0} (f : X → Y) (all back : List Y) (xs rest : List X) (x : X) (y : Y) → back ++ turned f xs ≡ all → xs ≡ rest ++ x ∷ [] → y ≡ f x → (back ++ y ∷ []) ++ turned f rest ≡ all
-turned-back f all back xs rest x y is taken same =
-    ap (λ z. (back ++ z ∷ []) ++ turned f rest) same ∙ (append_assoc back (f x ∷ []) (turned f rest) ∙ (ap (λ l. back ++ l) (sym (turned-snoc f rest x) ∙ ap (turned f) (sym taken)) ∙ is))
+pub reversed-back : {X Y : Type 0} (f : X → Y) (all back : List Y) (xs rest : List X) (x : X) (y : Y) → back ++ reversed f xs ≡ all → xs ≡ rest ++ x ∷ [] → y ≡ f x → (back ++ y ∷ []) ++ reversed f rest ≡ all
+reversed-back f all back xs rest x y is taken same =
+    ap (λ z. (back ++ z ∷ []) ++ reversed f rest) same ∙ (append_assoc back (f x ∷ []) (reversed f rest) ∙ (ap (λ l. back ++ l) (sym (reversed-snoc f rest x) ∙ ap (reversed f) (sym taken)) ∙ is))
 
 pub all_snoc : {X : Type 0} (P : X → Type 0) (xs : List X) (x : X) → AllByRecursion P xs → P x → AllByRecursion P (xs ++ x ∷ [])
 all_snoc P [] x e p = (p, tt)
@@ -29,13 +29,13 @@ pub all_last : {X : Type 0} (P : X → Type 0) (xs : List X) (x : X) → AllByRe
 all_last P [] x e = (tt, e.0)
 all_last P (y ∷ xs) x e = let r = all_last P xs x e.1 in ((e.0, r.0), r.1)
 
-pub turned-length : {X Y : Type 0} (f : X → Y) (xs : List X) → length (turned f xs) ≡ length xs
-turned-length f [] = refl
-turned-length f (x ∷ xs) = let a = length-append (turned f xs) (f x ∷ []) in let r = turned-length f xs in omega arith
+pub reversed-length : {X Y : Type 0} (f : X → Y) (xs : List X) → length (reversed f xs) ≡ length xs
+reversed-length f [] = refl
+reversed-length f (x ∷ xs) = let a = length-append (reversed f xs) (f x ∷ []) in let r = reversed-length f xs in omega arith
 
-pub map-turned : {X Y Z : Type 0} (g : Y → Z) (f : X → Y) (xs : List X) → map g (turned f xs) ≡ turned (λ x. g (f x)) xs
-map-turned g f [] = refl
-map-turned g f (x ∷ xs) = map-append g (turned f xs) (f x ∷ []) ∙ ap (λ l. l ++ g (f x) ∷ []) (map-turned g f xs)
+pub map-reversed : {X Y Z : Type 0} (g : Y → Z) (f : X → Y) (xs : List X) → map g (reversed f xs) ≡ reversed (λ x. g (f x)) xs
+map-reversed g f [] = refl
+map-reversed g f (x ∷ xs) = map-append g (reversed f xs) (f x ∷ []) ∙ ap (λ l. l ++ g (f x) ∷ []) (map-reversed g f xs)
 
 -- the front of a list that was cut where it ends
 pub front : {X : Type 0} (ys zs : List X) (n : ℕ) → n ≡ length ys → take n (ys ++ zs) ≡ ys
@@ -73,8 +73,8 @@ serves-snoc Serves first (g ∷ gs) (l ∷ ls) [] given last back each one = abs
 -- the listeners of workers that were worked on
 pub each-serves : {W V L : Type 0} (worked : W → W → Type 0) (Serves : V → L → V → L → Type 0) (first : V) (listener : W → L) (view : W → V) (Hired : W → Type 0)
     → ((w w' : W) → Hired w → worked w w' → Serves first (listener w) (view w') (listener w')) → (ws ws' : List W) → AllByRecursion Hired ws → EachWorked worked ws ws'
-    → EachServes Serves first (turned listener ws) (turned view ws') (turned listener ws')
+    → EachServes Serves first (reversed listener ws) (reversed view ws') (reversed listener ws')
 each-serves worked Serves first listener view Hired go [] [] all e = tt
-each-serves worked Serves first listener view Hired go (w ∷ ws) (w' ∷ ws') all e = serves-snoc Serves first (turned listener ws) (turned view ws') (turned listener ws') (listener w) (view w') (listener w') (each-serves worked Serves first listener view Hired go ws ws' all.1 e.1) (go w w' all.0 e.0)
+each-serves worked Serves first listener view Hired go (w ∷ ws) (w' ∷ ws') all e = serves-snoc Serves first (reversed listener ws) (reversed view ws') (reversed listener ws') (listener w) (view w') (listener w') (each-serves worked Serves first listener view Hired go ws ws' all.1 e.1) (go w w' all.0 e.0)
 each-serves worked Serves first listener view Hired go [] (w' ∷ ws') all e = absurd e
 each-serves worked Serves first listener view Hired go (w ∷ ws) [] all e = absurd e

@@ -14,8 +14,8 @@ use Rattle.rv_room.specs.SeatTurns.{IsSeatTurn}
 module _ {R K L W I O : Type 0} (G : Ghosts K) (listen : ListenGhosts L I O) (source : SourceGhosts I) (sink : SinkGhosts O) (gate : GateGhosts W) where
   -- It is in the same room. Its listener's connections were served by turns of its seat, one after the other, and the listener said once
   -- that no more were to come. Its gate heard of all that was answered, and of nothing else.
-  abbrev pub HasServed : Worker R K L W I O G → Worker R K L W I O G → Type 0
-  HasServed old new =
+  abbrev pub WorkerHasServed : Worker R K L W I O G → Worker R K L W I O G → Type 0
+  WorkerHasServed old new =
       (new.turns.room.now ≡ old.turns.room.now)
       × (listen.tells new.listener → listen.tells old.listener)
       × (listen.ends new.listener ≡ counted (listen.ends old.listener))

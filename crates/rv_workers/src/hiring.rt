@@ -3,7 +3,7 @@ ghost use Rattle.std.specs.Prelude.{◌≡◌, ◌≤◌, [], vec_len, vec_capac
 ghost use Rattle.std.specs.List.{AllByRecursion};
 ghost use Rattle.rv_room.specs.Seats.{id_of, opened_of, view_of, AllNew, AllOf};
 ghost use Rattle.rv_room.specs.Views.{newcomer};
-ghost use Rattle.rv_workers.specs.Hiring.{turned};
+ghost use Rattle.rv_workers.specs.Hiring.{reversed};
 
 use crate::worker::Worker;
 use rv_accounts::Accounts;
@@ -32,7 +32,7 @@ pub(crate) fn hire_all<'x, R: Wait, K: Keeper, L: Listen, G: Gate>(
     requires fits { (workers.old.items ≡ []) × (vec_len listeners.old ≤ vec_capacity workers.old) }
     ensures listeners { (listeners.new.items ≡ []) × (vec_capacity listeners.new ≡ vec_capacity listeners.old) }
     ensures seats { (seats.new.list.items ≡ []) × (vec_capacity seats.new.list ≡ vec_capacity seats.old.list) }
-    ensures hired { listeners.old.items ≡ turned (λ worker. worker.listener) workers.new.items }
+    ensures hired { listeners.old.items ≡ reversed (λ worker. worker.listener) workers.new.items }
     ensures each { AllByRecursion (λ worker. (worker.turns.room.now ≡ room.now) × (worker.accounts.now ≡ accounts.now) × (view_of worker.turns.seat ≡ newcomer 1 (opened_of room.now))) workers.new.items }
 {
     while let Some(listener) = listeners.pop() {
@@ -56,9 +56,9 @@ pub(crate) fn dismiss_all<'x, R: Wait, K: Keeper, L: Listen, G: Gate>(
     requires room { AllByRecursion (λ worker. worker.turns.room.now ≡ room.now) workers.items }
     requires seats { (seats.old.list.items ≡ []) × (vec_len workers ≤ vec_capacity seats.old.list) }
     requires listeners { (listeners.old.items ≡ []) × (vec_len workers ≤ vec_capacity listeners.old) }
-    ensures seats { seats.new.list.items ≡ turned (λ worker. worker.turns.seat) workers.entry.items }
+    ensures seats { seats.new.list.items ≡ reversed (λ worker. worker.turns.seat) workers.entry.items }
     ensures of { AllOf (id_of room.now) seats.new.list.items }
-    ensures listeners { listeners.new.items ≡ turned (λ worker. worker.listener) workers.entry.items }
+    ensures listeners { listeners.new.items ≡ reversed (λ worker. worker.listener) workers.entry.items }
 {
     while let Some(worker) = workers.pop() {
         let (seat, listener) = worker.dismiss();

@@ -1,6 +1,6 @@
 // Jobs are run.
 ghost use Rattle.std.specs.Prelude.{◌<◌, All};
-ghost use Rattle.rv_workers.specs.Jobs.{EachWorked, WorkedByPlace};
+ghost use Rattle.rv_workers.specs.Jobs.{EachWorked, WorkedByPosition};
 
 use crate::crew::Crew;
 use crate::job::Job;
@@ -13,7 +13,7 @@ const MOST: usize = 16;
 // Runs jobs in threads, each of sixteen in one of its own. Where a thread can't be had, the job is done by who waits for it.
 fn run_threads<J: Job + Send, R: Threads + Sync>(runtime: &R, jobs: &mut [J])
     requires { All J.needs jobs.old }
-    ensures { WorkedByPlace J.worked jobs.old jobs.new }
+    ensures { WorkedByPosition J.worked jobs.old jobs.new }
 {
     thread::for_each_mut(
         runtime,
@@ -29,7 +29,7 @@ fn run_threads<J: Job + Send, R: Threads + Sync>(runtime: &R, jobs: &mut [J])
 // Runs jobs one after the other.
 fn run_serial<J: Job>(jobs: &mut [J])
     requires { All J.needs jobs.old }
-    ensures { WorkedByPlace J.worked jobs.old jobs.new }
+    ensures { WorkedByPosition J.worked jobs.old jobs.new }
 {
     for job in jobs.iter_mut() {
         job.work();
@@ -39,7 +39,7 @@ fn run_serial<J: Job>(jobs: &mut [J])
 // Runs jobs as the crew does.
 fn run_by<J: Job + Send, C: Crew>(crew: &C, jobs: &mut [J])
     requires { All J.needs jobs.old }
-    ensures { WorkedByPlace J.worked jobs.old jobs.new }
+    ensures { WorkedByPosition J.worked jobs.old jobs.new }
 {
     match crew.runtime() {
         Some(runtime) => run_threads(runtime, jobs),

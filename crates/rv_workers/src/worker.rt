@@ -68,11 +68,11 @@ where
     L::In: Send,
     L::Out: Send,
 {
-    ghost use Rattle.rv_workers.specs.Working.{HasServed};
+    ghost use Rattle.rv_workers.specs.Working.{WorkerHasServed};
 
     ghost needs = { λ worker. Unit {0} };
 
-    ghost worked = { λ old new. HasServed K.Keeper L.Listen L.In.Source L.Out.Sink G.Gate old new };
+    ghost worked = { λ old new. WorkerHasServed K.Keeper L.Listen L.In.Source L.Out.Sink G.Gate old new };
 
     fn work(&mut self) {
         serve_listener(

@@ -6,7 +6,7 @@ use std::alloc::Global;
 use std::sync::Wait;
 use std::thread::Threads;
 use trial_stage::Part::Text;
-use trial_stage::{Stage, text_of, told, words_at};
+use trial_stage::{Stage, joined, text_of, words_at};
 
 /// The words of a command line, an input, and the store that they run on.
 #[derive(Drop)]
@@ -80,7 +80,7 @@ impl Case {
 
     /// Takes one more word, which may have blanks.
     pub fn add_word(&mut self, alloc: Global, word: &str) -> Result<(), Memory> {
-        let word = told(alloc, &[Text(word)])?;
+        let word = joined(alloc, &[Text(word)])?;
         self.words.push(word)?;
         Ok(())
     }

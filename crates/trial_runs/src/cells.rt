@@ -3,7 +3,7 @@ use rv_base::{Bytes, Memory};
 use rv_keeper::{Cell, Change, Shelves};
 use std::alloc::Global;
 use trial_stage::Part::{Number, Text};
-use trial_stage::{first_word, number_in, text_of, told};
+use trial_stage::{first_word, joined, number_in, text_of};
 
 // The bytes of a text.
 fn bytes_of(alloc: Global, text: &str) -> Result<Bytes, Memory> {
@@ -56,7 +56,7 @@ pub fn copied(alloc: Global, shelves: &Shelves) -> Result<Shelves, Memory> {
 
 // A cell as `SHELF KEY BODY`.
 fn line_of(alloc: Global, cell: &Cell) -> Result<String, Memory> {
-    told(
+    joined(
         alloc,
         &[
             Number(u64::from(cell.shelf)),
@@ -75,7 +75,7 @@ pub fn store_text(alloc: Global, cells: &[Cell], generation: u64) -> Result<Stri
     for cell in cells {
         lines.push_str(line_of(alloc, cell)?.as_str())?;
     }
-    told(
+    joined(
         alloc,
         &[
             Text(lines.as_str()),

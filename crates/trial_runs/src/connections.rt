@@ -11,7 +11,7 @@ use std::fs;
 use std::sync::Wait;
 use std::thread::Threads;
 use trial_stage::Part::{Number, Text};
-use trial_stage::{Stage, first_word, named, number_in, told};
+use trial_stage::{Stage, first_word, joined, named, number_in};
 
 // The words that serve a store in memory with the folder's accounts.
 const SERVE: &str =
@@ -32,10 +32,10 @@ static COMMANDS: [(&str, Command); 3] = [
 
 // The bytes of the file NAME.END, none where it can't be read.
 fn bytes_of(rt: &HostRuntime, name: &str, end: &str) -> Result<Vec<u8>, Memory> {
-    let path = told(rt.alloc(), &[Text(name), Text(end)])?;
+    let path = joined(rt.alloc(), &[Text(name), Text(end)])?;
     match fs::read(rt, path.as_str()) {
         Ok(bytes) => Ok(bytes),
-        Err(_) => Ok(told(rt.alloc(), &[Text("no file "), Text(path.as_str())])?.into_bytes()),
+        Err(_) => Ok(joined(rt.alloc(), &[Text("no file "), Text(path.as_str())])?.into_bytes()),
     }
 }
 
@@ -67,7 +67,7 @@ fn compared<'x>(
     line: &'x str,
 ) -> Result<String, Memory> {
     let is_same = text == bytes_of(rt, name, ".out")?.as_slice();
-    told(
+    joined(
         rt.alloc(),
         &[
             Text(name),
@@ -110,7 +110,7 @@ fn run_words<R: Threads + Wait + Sync, P: Place>(
     let alloc = stage.host.alloc();
     let mut net = net_of(alloc, Vec::new(alloc), fails)?;
     let line = run_by_threads(stage, machine, line, &mut net)?;
-    told(alloc, &[Text(line.as_str()), Text("\n")])
+    joined(alloc, &[Text(line.as_str()), Text("\n")])
 }
 
 // What a command prints.

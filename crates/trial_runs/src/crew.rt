@@ -7,8 +7,8 @@ use std::sync::atomic::{AtomicU64, Ordering};
 use std::thread;
 use std::thread::Threads;
 
-// How often the first worker's gate looks whether the second has answered.
-const LOOKS: u32 = 1_000_000;
+// How often the first worker's gate spins until the second has answered.
+const SPINS: u32 = 1_000_000;
 
 /// What the gates of a run count.
 #[derive(Drop)]
@@ -52,7 +52,7 @@ impl WatchingGate<'_> {
 
     // Waits until the second worker has answered a request.
     fn hold(&self) {
-        for _ in 0..LOOKS {
+        for _ in 0..SPINS {
             if self.counts.answers.load(Ordering::SeqCst) > 0 {
                 return;
             }

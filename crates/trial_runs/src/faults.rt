@@ -6,7 +6,7 @@ use std::alloc::Global;
 use std::sync::Wait;
 use std::thread::Threads;
 use trial_stage::Part::{Number, Text};
-use trial_stage::{Stage, told};
+use trial_stage::{Stage, joined};
 
 // How many lines were written.
 fn lines_in(written: &[u8]) -> u64 {
@@ -31,7 +31,7 @@ fn line_of(alloc: Global, call: u64, whole: &Finished, some: &Finished) -> Resul
         " lines, no front, faults "
     };
     let (read, write) = some.faults;
-    told(
+    joined(
         alloc,
         &[
             Number(call),

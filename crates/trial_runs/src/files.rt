@@ -9,7 +9,7 @@ use std::sync::Wait;
 use std::thread::Threads;
 use std::{fs, mem};
 use trial_stage::Part::{Number, Text};
-use trial_stage::{Stage, first_word, named, text_of, told};
+use trial_stage::{Stage, first_word, joined, named, text_of};
 
 #[derive(Clone, Copy)]
 enum Command {
@@ -35,7 +35,7 @@ fn remember(rt: &HostRuntime, case: &mut Case, path: &str) -> Result<String, Mem
             case.remembered = bytes;
             Ok(String::new(rt.alloc()))
         }
-        Err(_) => told(rt.alloc(), &[Text("no file\n")]),
+        Err(_) => joined(rt.alloc(), &[Text("no file\n")]),
     }
 }
 
@@ -54,7 +54,7 @@ fn compare(rt: &HostRuntime, case: &Case, path: &str) -> Result<String, Memory> 
         Ok(bytes) => sameness(case, &bytes),
         Err(_) => "no file\n",
     };
-    told(rt.alloc(), &[Text(text)])
+    joined(rt.alloc(), &[Text(text)])
 }
 
 // `rv WORD ..`: runs these words over the lines since the last run, and prints what was written and the status.
@@ -67,7 +67,7 @@ fn run_words<R: Threads + Wait + Sync, P: Place>(
     let alloc = stage.host.alloc();
     case.say(alloc, line)?;
     let input = mem::replace(&mut case.input, Vec::new(alloc));
-    run_alone(stage, &case.words, place, &input, Pieces::of(100_000))?.told(alloc)
+    run_alone(stage, &case.words, place, &input, Pieces::of(100_000))?.joined(alloc)
 }
 
 // `while-open STORE`: feeds the store while another place has its keeper out.
@@ -78,14 +78,14 @@ fn run_beside<R: Threads + Wait + Sync, P: Place>(
     store: &str,
 ) -> Result<String, Memory> {
     let alloc = stage.host.alloc();
-    let line = told(alloc, &[Text("rv feed "), Text(store)])?;
+    let line = joined(alloc, &[Text("rv feed "), Text(store)])?;
     match machine.beside.open_keeper(store) {
         Ok(kept) => {
             let text = run_words(stage, case, &mut machine.place, line.as_str());
             machine.beside.close_keeper(store, kept);
             text
         }
-        Err(_) => told(alloc, &[Text("no keeper\n")]),
+        Err(_) => joined(alloc, &[Text("no keeper\n")]),
     }
 }
 
@@ -96,7 +96,7 @@ fn read_accounts<P: Place>(alloc: Global, place: &mut P, path: &str) -> Result<S
         Ok(bytes) => {
             let count = bytes.len() as u64;
             let text = text_of(bytes.as_slice());
-            told(alloc, &[Number(count), Text(" bytes\n"), Text(text)])
+            joined(alloc, &[Number(count), Text(" bytes\n"), Text(text)])
         }
         Err(fault) => {
             let faults = place.fault_count().saturating_sub(before);

@@ -82,7 +82,7 @@ pub fn answer<R: Threads + Wait + Sync>(
     let alloc = stage.host.alloc();
     let (word, rest) = first_word(line);
     match named(&ITEMS, word) {
-        Some(Item::Touched) => touched::told(alloc, lines, rest),
+        Some(Item::Touched) => touched::joined(alloc, lines, rest),
         Some(Item::Words) => worded(alloc, rest),
         Some(Item::Feed) => feeding::told_of_lines(stage, lines),
         Some(Item::Drawn) => feeding::generated(stage, rest),

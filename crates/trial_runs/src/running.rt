@@ -8,7 +8,7 @@ use std::alloc::Global;
 use std::sync::Wait;
 use std::thread::Threads;
 use trial_stage::Part::{Number, Text};
-use trial_stage::{Stage, text_of, told, words_at};
+use trial_stage::{Stage, joined, text_of, words_at};
 
 /// The most bytes of a read and of a write, and the read and the write that fail, by their numbers from 1; 0 is none.
 #[derive(Clone, Copy)]
@@ -45,9 +45,9 @@ pub struct Finished {
 
 impl Finished {
     /// What was written, and the status.
-    pub fn told(&self, alloc: Global) -> Result<String, Memory> {
+    pub fn joined(&self, alloc: Global) -> Result<String, Memory> {
         let status = u64::from(self.status);
-        told(
+        joined(
             alloc,
             &[
                 Text(self.text()),
@@ -72,7 +72,7 @@ impl Finished {
     pub fn line(&self, alloc: Global) -> Result<String, Memory> {
         let text = self.text().trim_end();
         let status = u64::from(self.status);
-        told(alloc, &[Text(text), Text(", status "), Number(status)])
+        joined(alloc, &[Text(text), Text(", status "), Number(status)])
     }
 
     /// Both runs wrote the same, and have the same status.

@@ -9,7 +9,7 @@ use std::alloc::Global;
 use std::sync::Wait;
 use std::thread::Threads;
 use trial_stage::Part::Text;
-use trial_stage::{Stage, first_word, named, number_in, told};
+use trial_stage::{Stage, first_word, joined, named, number_in};
 
 // What runs the case.
 #[derive(Clone, Copy)]
@@ -92,9 +92,9 @@ fn run_in_pieces<R: Threads + Wait + Sync>(
     let sevens = case.run(stage, Pieces::of(7))?;
     let ones = case.run(stage, Pieces::of(1))?;
     if whole.is_as(&sevens) && whole.is_as(&ones) {
-        whole.told(stage.host.alloc())
+        whole.joined(stage.host.alloc())
     } else {
-        told(stage.host.alloc(), &[Text("differs\n")])
+        joined(stage.host.alloc(), &[Text("differs\n")])
     }
 }
 
@@ -106,13 +106,13 @@ fn run_with_stops<R: Threads + Wait + Sync>(
     let alloc = stage.host.alloc();
     let stopped = case.with_more(alloc, After::Stop)?;
     case.run_on(stage, &stopped, Pieces::of(100_000))?
-        .told(alloc)
+        .joined(alloc)
 }
 
 // Runs the case.
 fn run_once<R: Threads + Wait + Sync>(stage: &Stage<'_, R>, case: &Case) -> Result<String, Memory> {
     case.run(stage, Pieces::of(100_000))?
-        .told(stage.host.alloc())
+        .joined(stage.host.alloc())
 }
 
 // Runs the case, and prints what it is asked for.

@@ -9,7 +9,7 @@ use std::fs;
 use std::sync::Wait;
 use std::thread::Threads;
 use trial_stage::Part::{Number, Text};
-use trial_stage::{Stage, told, words_at};
+use trial_stage::{Stage, joined, words_at};
 
 // The file that is compared with the store in memory.
 const FILE: &str = "beside-memory.db";
@@ -21,7 +21,7 @@ fn held_text(alloc: Global, place: &MemoryPlace, name: &str) -> Result<String, M
             let cells = store.shelves.cells(alloc)?;
             store_text(alloc, cells.as_slice(), store.generation)
         }
-        None => told(alloc, &[Text("no store\n")]),
+        None => joined(alloc, &[Text("no store\n")]),
     }
 }
 
@@ -68,7 +68,7 @@ pub fn length<R: Threads + Wait + Sync>(
 ) -> Result<String, Memory> {
     let left = run(stage, case, &case.input)?;
     let length = generation(&left.place, case.name());
-    told(
+    joined(
         stage.host.alloc(),
         &[Text("length "), Number(length), Text("\n")],
     )
@@ -96,7 +96,7 @@ pub fn keep<R: Threads + Wait + Sync>(
 
 // The words are to retire a group.
 fn say_retirement(alloc: Global, case: &mut Case, group: &str) -> Result<(), Memory> {
-    let words = told(
+    let words = joined(
         alloc,
         &[
             Text("rv retire "),
@@ -116,7 +116,7 @@ pub fn retire<R: Threads + Wait + Sync>(
 ) -> Result<String, Memory> {
     let alloc = stage.host.alloc();
     say_retirement(alloc, case, group)?;
-    run_and_keep(stage, case)?.told(alloc)
+    run_and_keep(stage, case)?.joined(alloc)
 }
 
 // Runs the case in pieces of 7 bytes over the place that stays.
@@ -139,7 +139,7 @@ pub fn next<R: Threads + Wait + Sync>(
     let alloc = stage.host.alloc();
     let finished = run_next(stage, case)?;
     case.input = Vec::new(alloc);
-    finished.told(alloc)
+    finished.joined(alloc)
 }
 
 /// `held NAME` prints the cells that the store of a name holds in the place that stays, as `cells` does.
@@ -174,13 +174,13 @@ fn in_memory<R: Threads + Wait + Sync>(
 // What a store of the machine holds.
 fn filed_text<P: Place>(alloc: Global, place: &mut P, name: &str) -> Result<String, Memory> {
     let Ok(mut keeper) = place.open_existing(name) else {
-        return told(alloc, &[Text("no store\n")]);
+        return joined(alloc, &[Text("no store\n")]);
     };
     let loaded = keeper.load();
     place.close_keeper(name, keeper);
     match loaded {
         Ok(loaded) => store_text(alloc, loaded.cells.as_slice(), loaded.generation),
-        Err(_) => told(alloc, &[Text("keeper\n")]),
+        Err(_) => joined(alloc, &[Text("keeper\n")]),
     }
 }
 
@@ -210,7 +210,7 @@ fn compared(alloc: Global, one: &Ended, other: &Ended) -> Result<String, Memory>
     } else {
         "other cells\n"
     };
-    told(alloc, &[Text(answers), Text(cells)])
+    joined(alloc, &[Text(answers), Text(cells)])
 }
 
 /// `sqlite` runs the case with a stop after each line, over the store in memory and over a SQLite file, and prints whether both wrote

@@ -11,7 +11,7 @@ use std::sync::Wait;
 use std::sync::atomic::Ordering;
 use std::thread::Threads;
 use trial_stage::Part::{Number, Text};
-use trial_stage::{Stage, first_word, named, number_in, told};
+use trial_stage::{Stage, first_word, joined, named, number_in};
 
 // The answer to a push that was taken.
 const GOOD: &str =
@@ -53,7 +53,7 @@ fn plan_of(words: &str) -> Plan {
 
 // The push of a mutation.
 fn push(alloc: Global, client: u64, id: u64) -> Result<String, Memory> {
-    let body = told(
+    let body = joined(
         alloc,
         &[
             Text(
@@ -65,7 +65,7 @@ fn push(alloc: Global, client: u64, id: u64) -> Result<String, Memory> {
             Text(",\"name\":\"paint\",\"args\":null}]}"),
         ],
     )?;
-    told(
+    joined(
         alloc,
         &[
             Text("POST /push HTTP/1.1\r\nAuthorization: k-ann\r\nContent-Length: "),
@@ -139,7 +139,7 @@ fn answers_in(net: &MemoryNet) -> (u64, u64) {
 
 // The words that serve a plan.
 fn words_of(alloc: Global, plan: Plan) -> Result<String, Memory> {
-    told(
+    joined(
         alloc,
         &[
             Text("rv serve memory --accounts accounts.toml --port 8080 --workers "),
@@ -161,7 +161,7 @@ fn played<R: Threads + Wait + Sync, P: Place>(
     let mut net = net_of(alloc, plan)?;
     let line = run_line(stage, words.as_str(), &mut machine.place, &mut net, crew)?;
     let (good, bad) = answers_in(&net);
-    told(
+    joined(
         alloc,
         &[
             Number(good),
@@ -176,11 +176,11 @@ fn played<R: Threads + Wait + Sync, P: Place>(
 // What was played, and what the gates counted where they held.
 fn counted(alloc: Global, played: &str, holds: bool, counts: &Counts) -> Result<String, Memory> {
     if !holds {
-        return told(alloc, &[Text(played), Text("\n")]);
+        return joined(alloc, &[Text(played), Text("\n")]);
     }
     let given_up = counts.given_up.load(Ordering::SeqCst);
     let misheard = counts.misheard.load(Ordering::SeqCst);
-    told(
+    joined(
         alloc,
         &[
             Text(played),

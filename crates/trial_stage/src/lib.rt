@@ -10,4 +10,4 @@ mod texts;
 pub use draws::Draws;
 pub use player::{Line, echoed, kind_of, print_answer, silent};
 pub use stage::Stage;
-pub use texts::{Part, first_word, named, number_in, tell, text_of, told, words_at};
+pub use texts::{Part, append_parts, first_word, joined, named, number_in, text_of, words_at};

@@ -1,6 +1,6 @@
 // How the lines of cases are read and answered.
 use crate::texts::Part::Text;
-use crate::texts::told;
+use crate::texts::joined;
 use rv_base::Memory;
 use std::alloc::Global;
 use std::io;
@@ -45,7 +45,7 @@ pub fn echoed(
     begun: Result<(), Memory>,
 ) -> Result<Option<String>, Memory> {
     begun?;
-    Ok(Some(told(alloc, &[Text(line), Text("\n")])?))
+    Ok(Some(joined(alloc, &[Text(line), Text("\n")])?))
 }
 
 /// What a line prints that tells nothing, unless memory was refused.

@@ -25,7 +25,7 @@ fn add_part(alloc: Global, text: &mut String, part: Part<'_>) -> Result<(), Memo
 }
 
 /// Adds these parts to a text, one after the other.
-pub fn tell(alloc: Global, text: &mut String, parts: &[Part<'_>]) -> Result<(), Memory> {
+pub fn append_parts(alloc: Global, text: &mut String, parts: &[Part<'_>]) -> Result<(), Memory> {
     for part in parts {
         add_part(alloc, text, *part)?;
     }
@@ -33,9 +33,9 @@ pub fn tell(alloc: Global, text: &mut String, parts: &[Part<'_>]) -> Result<(), 
 }
 
 /// These parts, one after the other.
-pub fn told(alloc: Global, parts: &[Part<'_>]) -> Result<String, Memory> {
+pub fn joined(alloc: Global, parts: &[Part<'_>]) -> Result<String, Memory> {
     let mut text = String::new(alloc);
-    tell(alloc, &mut text, parts)?;
+    append_parts(alloc, &mut text, parts)?;
     Ok(text)
 }
 

@@ -2,7 +2,7 @@
 use rv_base::Memory;
 use std::alloc::Global;
 use trial_stage::Part::{Number, Text};
-use trial_stage::{Draws, tell, told};
+use trial_stage::{Draws, append_parts, joined};
 
 /// How many users there are.
 pub const USERS: usize = 3;
@@ -34,7 +34,7 @@ fn add_list_call(
             Number(list),
             Text("\""),
         ];
-        return tell(alloc, text, &call);
+        return append_parts(alloc, text, &call);
     }
     let call = [
         Text("\"createList\",\"args\":{\"id\":\"l"),
@@ -43,7 +43,7 @@ fn add_list_call(
         Text(owner),
         Text("\"}"),
     ];
-    tell(alloc, text, &call)
+    append_parts(alloc, text, &call)
 }
 
 fn add_share_call(alloc: Global, text: &mut String, draws: &mut Draws) -> Result<(), Memory> {
@@ -55,7 +55,7 @@ fn add_share_call(alloc: Global, text: &mut String, draws: &mut Draws) -> Result
             Number(share),
             Text("\""),
         ];
-        return tell(alloc, text, &call);
+        return append_parts(alloc, text, &call);
     }
     let call = [
         Text("\"createShare\",\"args\":{\"id\":\"s"),
@@ -66,7 +66,7 @@ fn add_share_call(alloc: Global, text: &mut String, draws: &mut Draws) -> Result
         Text(name(draws.below(USERS))),
         Text("\"}"),
     ];
-    tell(alloc, text, &call)
+    append_parts(alloc, text, &call)
 }
 
 fn add_new_todo(alloc: Global, text: &mut String, draws: &mut Draws) -> Result<(), Memory> {
@@ -81,16 +81,16 @@ fn add_new_todo(alloc: Global, text: &mut String, draws: &mut Draws) -> Result<(
         Number(drawn(draws, 3)),
         Text("\",\"complete\":false}"),
     ];
-    tell(alloc, text, &call)
+    append_parts(alloc, text, &call)
 }
 
 // A field of a todo that is changed, and what it becomes.
 fn add_change(alloc: Global, text: &mut String, draws: &mut Draws) -> Result<(), Memory> {
     let number = drawn(draws, 3);
     match draws.below(4) {
-        0 => tell(alloc, text, &[Text("\"complete\":true")]),
-        1 => tell(alloc, text, &[Text("\"sort\":"), Number(number)]),
-        _ => tell(
+        0 => append_parts(alloc, text, &[Text("\"complete\":true")]),
+        1 => append_parts(alloc, text, &[Text("\"sort\":"), Number(number)]),
+        _ => append_parts(
             alloc,
             text,
             &[Text("\"text\":\"w"), Number(number), Text("\"")],
@@ -106,16 +106,16 @@ fn add_todo_change(alloc: Global, text: &mut String, draws: &mut Draws) -> Resul
             Number(todo),
             Text("\""),
         ];
-        return tell(alloc, text, &call);
+        return append_parts(alloc, text, &call);
     }
     let call = [
         Text("\"updateTodo\",\"args\":{\"id\":\"t"),
         Number(todo),
         Text("\","),
     ];
-    tell(alloc, text, &call)?;
+    append_parts(alloc, text, &call)?;
     add_change(alloc, text, draws)?;
-    tell(alloc, text, &[Text("}")])
+    append_parts(alloc, text, &[Text("}")])
 }
 
 // Adds a name and the arguments of a call of a user's, mostly in a list of its own.
@@ -135,8 +135,8 @@ fn add_call(
         7..=13 => add_share_call(alloc, text, draws),
         14..=18 => add_new_todo(alloc, text, draws),
         19..=23 => add_todo_change(alloc, text, draws),
-        24 => tell(alloc, text, &[Text("\"renameList\",\"args\":{}")]),
-        _ => tell(alloc, text, &[Text("\"createTodo\",\"args\":{}")]),
+        24 => append_parts(alloc, text, &[Text("\"renameList\",\"args\":{}")]),
+        _ => append_parts(alloc, text, &[Text("\"createTodo\",\"args\":{}")]),
     }
 }
 
@@ -156,14 +156,14 @@ pub fn add_mutation(
         Number(id),
         Text(",\"name\":"),
     ];
-    tell(alloc, text, &front)?;
+    append_parts(alloc, text, &front)?;
     add_call(alloc, text, draws, user)?;
-    tell(alloc, text, &[Text("}")])
+    append_parts(alloc, text, &[Text("}")])
 }
 
 /// The body of a push.
 pub fn push<'x>(alloc: Global, group: &'x str, mutations: &'x str) -> Result<String, Memory> {
-    told(
+    joined(
         alloc,
         &[
             Text(
@@ -179,7 +179,7 @@ pub fn push<'x>(alloc: Global, group: &'x str, mutations: &'x str) -> Result<Str
 
 /// The body of a pull.
 pub fn pull<'x>(alloc: Global, group: &'x str, cookie: &'x str) -> Result<String, Memory> {
-    told(
+    joined(
         alloc,
         &[
             Text(
@@ -201,7 +201,7 @@ pub fn add_line<'x>(
     word: &'x str,
     body: &'x str,
 ) -> Result<(), Memory> {
-    tell(
+    append_parts(
         alloc,
         text,
         &[

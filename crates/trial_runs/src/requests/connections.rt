@@ -4,7 +4,7 @@ use super::numbers::four_numbers;
 use rv_base::Memory;
 use std::alloc::Global;
 use trial_stage::Part::{Number, Text};
-use trial_stage::{Draws, told};
+use trial_stage::{Draws, joined};
 
 /// How many requests there are, and on how many connections.
 #[derive(Clone, Copy)]
@@ -138,7 +138,7 @@ fn make_connection(
     number: usize,
     many: usize,
 ) -> Result<Connection, Memory> {
-    let group = told(alloc, &[Text("g"), Number(number as u64)])?;
+    let group = joined(alloc, &[Text("g"), Number(number as u64)])?;
     let requests = requests(alloc, draws, number, group.as_str(), many)?;
     Ok(Connection {
         user: name(number % USERS),

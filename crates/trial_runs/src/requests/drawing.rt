@@ -6,7 +6,7 @@ use rv_base::{Id, Memory, TextRefusal};
 use rv_book::Entry;
 use std::alloc::Global;
 use trial_stage::Part::{Number, Text};
-use trial_stage::{tell, told};
+use trial_stage::{append_parts, joined};
 
 // The last mutation id of a client.
 fn last(alloc: Global, plain: &PlainServer, client: &str) -> Result<u64, Memory> {
@@ -31,14 +31,14 @@ fn add_mutations(
     if !story.draws.once_in(4) {
         return Ok(());
     }
-    tell(alloc, text, &[Text(",")])?;
+    append_parts(alloc, text, &[Text(",")])?;
     let next = id.saturating_add(1);
     calls::add_mutation(alloc, text, &mut story.draws, user, client, next)
 }
 
 // The name of a group or a client, by the letter of its kind and its number.
 fn name_of(alloc: Global, letter: &str, number: usize, age: usize) -> Result<String, Memory> {
-    told(
+    joined(
         alloc,
         &[
             Text(letter),
@@ -119,7 +119,7 @@ fn look_back(book: &[Entry], group: Option<&str>, many: usize) -> Option<(usize,
 // The cookie of a look, with so much added to its order, or null.
 fn cookie_text(alloc: Global, look: Option<(usize, u64)>, more: usize) -> Result<String, Memory> {
     match look {
-        Some((place, order)) => told(
+        Some((place, order)) => joined(
             alloc,
             &[
                 Text("{\"cvrID\":\""),
@@ -129,7 +129,7 @@ fn cookie_text(alloc: Global, look: Option<(usize, u64)>, more: usize) -> Result
                 Text("}"),
             ],
         ),
-        None => told(alloc, &[Text("null")]),
+        None => joined(alloc, &[Text("null")]),
     }
 }
 
@@ -148,7 +148,7 @@ fn cookie(
         11..=13 => cookie_text(alloc, look_back(book, Some(group), far), 0),
         14..=16 => cookie_text(alloc, look_back(book, None, far / 4), 0),
         17 => cookie_text(alloc, look_back(book, Some(group), 0), far),
-        18 => told(alloc, &[Number(far as u64)]),
+        18 => joined(alloc, &[Number(far as u64)]),
         _ => cookie_text(alloc, None, 0),
     }
 }
@@ -171,7 +171,7 @@ fn add_retirement(alloc: Global, text: &mut String, story: &mut Story) -> Result
     let group = story.draws.below(GROUPS);
     let name = group_name(alloc, story, group)?;
     story.retires(group)?;
-    tell(
+    append_parts(
         alloc,
         text,
         &[Text("{\"retire\":\""), Text(name.as_str()), Text("\"}\n")],

@@ -13,7 +13,7 @@ use std::alloc::Global;
 use std::sync::Wait;
 use std::thread::Threads;
 use trial_stage::Part::{Number, Text};
-use trial_stage::{Stage, tell, told};
+use trial_stage::{Stage, append_parts, joined};
 
 // Feeds lines to the store F of a place.
 fn fed<R: Threads + Wait + Sync>(
@@ -27,9 +27,9 @@ fn fed<R: Threads + Wait + Sync>(
 // What a run wrote, or how it differs from what the plain server answers.
 fn compared<'x>(alloc: Global, run: &'x Finished, plain: &'x str) -> Result<String, Memory> {
     if run.tells(plain) {
-        return told(alloc, &[Text(plain)]);
+        return joined(alloc, &[Text(plain)]);
     }
-    told(
+    joined(
         alloc,
         &[
             Text("differs: status "),
@@ -102,7 +102,7 @@ fn add_drawn(
     stops: usize,
 ) -> Result<(), Memory> {
     if stops > 0 && story.draws.once_in(stops) {
-        tell(alloc, text, &[Text("{\"stop\":true}\n")])
+        append_parts(alloc, text, &[Text("{\"stop\":true}\n")])
     } else {
         add_line(alloc, text, plain, story)
     }
@@ -146,7 +146,7 @@ fn count(text: &str, front: &str) -> u64 {
 // How many answers there are of each kind, how many entries are kept, and what a check tells.
 fn summary(alloc: Global, drawn: &Drawn, check: &str) -> Result<String, Memory> {
     let answers = drawn.answers.as_str();
-    told(
+    joined(
         alloc,
         &[
             Number(count(answers, "")),

@@ -7,10 +7,10 @@ use std::sync::atomic::{AtomicU64, Ordering};
 use std::thread;
 use std::thread::Threads;
 use trial_stage::Part::Text;
-use trial_stage::told;
+use trial_stage::joined;
 
 // How often the one looks whether the other is done.
-const LOOKS: u32 = 1_000_000;
+const SPINS: u32 = 1_000_000;
 
 // The first waits for the second.
 #[derive(Drop)]
@@ -30,7 +30,7 @@ impl<'a> Job for Hand<'a> {
             self.done.store(1, Ordering::SeqCst);
             return;
         }
-        for _ in 0..LOOKS {
+        for _ in 0..SPINS {
             if self.done.load(Ordering::SeqCst) == 1 {
                 return;
             }
@@ -59,5 +59,5 @@ fn gives_up<R: Threads + Sync>(crew: &TrialCrew<'_, R>) -> bool {
 /// Tells whether the first job waited in vain.
 pub fn met<R: Threads + Sync>(crew: &TrialCrew<'_, R>, alloc: Global) -> Result<String, Memory> {
     let text = if gives_up(crew) { "gave up\n" } else { "met\n" };
-    told(alloc, &[Text(text)])
+    joined(alloc, &[Text(text)])
 }

@@ -40,7 +40,7 @@ fn maker(alloc: Global, connections: &[Connection], cell: &Cell) -> Result<usize
     match entry_of_cell(alloc, cell) {
         Ok((_, entry)) => Ok(place_of(connections, group_of(&entry))),
         Err(CellFault::Memory) => Err(Memory),
-        Err(CellFault::Damaged(_)) => Ok(usize::MAX),
+        Err(CellFault::BadCell(_)) => Ok(usize::MAX),
     }
 }
 

@@ -5,13 +5,13 @@ use rv_base::{Memory, Sequence};
 use rv_wire::{ErrorBody, error_text};
 use std::alloc::Global;
 use trial_stage::Part::{Number, Text};
-use trial_stage::{tell, text_of};
+use trial_stage::{append_parts, text_of};
 
 fn add_refusal(alloc: Global, text: &mut String, refusal: &ErrorBody) -> Result<(), Memory> {
     let mut buffer = [0; 128];
     let length = error_text(refusal, &mut buffer);
     let status = u64::from(refusal.status());
-    tell(
+    append_parts(
         alloc,
         text,
         &[
@@ -25,15 +25,15 @@ fn add_refusal(alloc: Global, text: &mut String, refusal: &ErrorBody) -> Result<
 
 fn add_told(alloc: Global, text: &mut String, answer: &Answer) -> Result<(), Memory> {
     match answer {
-        Answer::Pushed => tell(alloc, text, &[Text("200 {}\n")]),
+        Answer::Pushed => append_parts(alloc, text, &[Text("200 {}\n")]),
         Answer::Pulled(reply) => {
             let reply = text_of(reply.text.as_slice());
-            tell(alloc, text, &[Text("200 "), Text(reply), Text("\n")])
+            append_parts(alloc, text, &[Text("200 "), Text(reply), Text("\n")])
         }
         Answer::Retired(place) => {
             let place = u64::from(*place);
-            let told = [Text("200 {\"retired\":"), Number(place), Text("}\n")];
-            tell(alloc, text, &told)
+            let joined = [Text("200 {\"retired\":"), Number(place), Text("}\n")];
+            append_parts(alloc, text, &joined)
         }
         Answer::Refused(refusal) => add_refusal(alloc, text, refusal),
     }
@@ -49,7 +49,7 @@ pub fn add_answer(
     match line_of(alloc, line.as_bytes())? {
         Some(Line::Asks(read)) => add_told(alloc, text, &serve_asked(plain, read)),
         Some(Line::Stop) => plain.stop(),
-        None => tell(alloc, text, &[Text("no line\n")]),
+        None => append_parts(alloc, text, &[Text("no line\n")]),
     }
 }
 

@@ -13,13 +13,13 @@ use rv_room::Room;
 use std::alloc::Global;
 use std::sync::Wait;
 use trial_stage::Part::{Number, Text};
-use trial_stage::{number_in, tell, told};
+use trial_stage::{append_parts, joined, number_in};
 use turns::Names;
 
 // What turns were answered, with the number of entries.
-fn counted(alloc: Global, told: Result<String, Memory>, entries: u64) -> Result<String, Memory> {
-    let mut text = told?;
-    tell(
+fn counted(alloc: Global, joined: Result<String, Memory>, entries: u64) -> Result<String, Memory> {
+    let mut text = joined?;
+    append_parts(
         alloc,
         &mut text,
         &[Text("entries "), Number(entries), Text("\n")],
@@ -39,11 +39,11 @@ fn played<R: Wait>(
 {
     match Room::open(alloc, desk, 2) {
         Ok((room, seats)) => {
-            let (told, seats) = turns::taken(rt, alloc, &room, seats, names, words);
+            let (joined, seats) = turns::taken(rt, alloc, &room, seats, names, words);
             let desk = room.close(seats);
             let entries = desk.book().len() as u64;
             let _keeper = desk.close();
-            counted(alloc, told, entries)
+            counted(alloc, joined, entries)
         }
         Err((_, desk)) => {
             let _keeper = desk.close();
@@ -63,7 +63,7 @@ fn opened<R: Wait>(
     match Desk::open(alloc, keeper, limit) {
         Ok(desk) => played(rt, alloc, desk, names, words),
         Err((OpenFault::Memory, _)) => Err(Memory),
-        Err(_) => told(alloc, &[Text("not opened\n")]),
+        Err(_) => joined(alloc, &[Text("not opened\n")]),
     }
 }
 

@@ -4,7 +4,7 @@ use rv_base::{Memory, MemorySink, MemorySource};
 use rv_net::{Conn, MemoryConn, MemoryListen, MemoryNet};
 use std::alloc::Global;
 use trial_stage::Part::{Number, Text};
-use trial_stage::tell;
+use trial_stage::append_parts;
 
 // Adds a request over HTTP.
 fn add_request<'x>(
@@ -14,7 +14,7 @@ fn add_request<'x>(
     word: &'x str,
     body: &'x str,
 ) -> Result<(), Memory> {
-    tell(
+    append_parts(
         alloc,
         text,
         &[
@@ -33,7 +33,7 @@ fn add_request<'x>(
 /// Adds the response that an answer line is over HTTP, where its status is 200.
 pub fn add_response(alloc: Global, text: &mut String, line: &str) -> Result<(), Memory> {
     let body = line.strip_prefix("200 ").unwrap_or("other");
-    tell(
+    append_parts(
         alloc,
         text,
         &[

@@ -14,7 +14,7 @@ use std::alloc::Global;
 use std::sync::Wait;
 use std::thread::Threads;
 use trial_stage::Part::{Number, Text};
-use trial_stage::{Stage, told};
+use trial_stage::{Stage, joined};
 
 // The accounts of the three users.
 const ACCOUNTS: &str =
@@ -30,7 +30,7 @@ fn new_place(alloc: Global) -> Result<MemoryPlace, Memory> {
 
 // The words that serve the store S by so many workers.
 fn words_of(alloc: Global, workers: usize) -> Result<String, Memory> {
-    told(
+    joined(
         alloc,
         &[
             Text("rv serve S --accounts A --port 8080 --workers "),
@@ -52,7 +52,7 @@ fn served<R: Threads + Wait + Sync>(
     let line = words_of(alloc, workers)?;
     let run = run_with(stage, crew, line.as_str(), place, b"", net)?;
     let check = run_whole(stage, "rv check S", place, b"")?;
-    told(
+    joined(
         alloc,
         &[
             Text(run.text().trim_end()),
@@ -164,7 +164,7 @@ fn history_told<'x>(
     answers: usize,
     fits: &'x str,
 ) -> Result<String, Memory> {
-    told(
+    joined(
         alloc,
         &[
             Text(served),

@@ -58,7 +58,7 @@ fn touched_by_ann(alloc: Global, lines: &str, call: &Call) -> Result<String, Mem
 }
 
 /// `LIST`: the users who see a row that goes where ann deletes the list after these lines, each with `;` after the name.
-pub fn told(alloc: Global, lines: &str, list: &str) -> Result<Option<String>, Memory> {
+pub fn joined(alloc: Global, lines: &str, list: &str) -> Result<Option<String>, Memory> {
     match Id::new(alloc, list) {
         Ok(list) => {
             let call = Call::DeleteList { id: list };

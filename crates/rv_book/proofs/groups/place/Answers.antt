@@ -2,7 +2,7 @@ use Rattle.std.proofs.Common.{rules}
 use Rattle.std.specs.Ordering.{nat_cmp}
 use Rattle.std.specs.Cmp.Lexicographic.{slice_cmp}
 use Rattle.std.proofs.lemmas.Fn.{always_returns_same}
-use Rattle.rv_base.specs.Places.{settles}
+use Rattle.rv_base.specs.Positions.{settles}
 use Rattle.rv_book.specs.Book.{size, with_entry, book_of}
 use Rattle.rv_book.specs.declared.groups.GroupRow.{GroupRow}
 use Rattle.rv_book.specs.Indexes.{group_of_row}

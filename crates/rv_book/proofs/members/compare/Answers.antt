@@ -11,7 +11,7 @@ use Rattle.rv_book.proofs.members.compare.Goals as goal
 
 -- an answer for the groups, and one for the clients, make that for the keys
 joined : (g h c d : List ℕ) (first answer : Ordering) → slice_cmp nat_cmp g h ≡ first → answer ≡ ordering_then first (slice_cmp nat_cmp c d) → answer ≡ slice_cmp nat_cmp (member_key g c) (member_key h d)
-joined g h c d first answer is told = told ∙ (λ i. ordering_then (sym is i) (slice_cmp nat_cmp c d)) ∙ sym (cmp-member_key g h c d)
+joined g h c d first answer is info = info ∙ (λ i. ordering_then (sym is i) (slice_cmp nat_cmp c d)) ∙ sym (cmp-member_key g h c d)
 
 pub returns-in-Less : goal.returns-in-Less
 returns-in-Less c = joined (group_of_member (book_of c.args.entries.now) c.args.row.now) c.args.other.now (client_of_row (book_of c.args.entries.now) c.args.row.now) c.args.client.now Less Less (cc) (cc)

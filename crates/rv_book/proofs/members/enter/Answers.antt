@@ -1,6 +1,6 @@
 use Rattle.std.proofs.Common.{◌≡◌, ◌∙◌, true, cond, Some, None, refl, sym}
 use Rattle.std.specs.Option.{option_or}
-use Rattle.rv_base.specs.Places.{equals}
+use Rattle.rv_base.specs.Positions.{equals}
 use Rattle.rv_book.specs.Entries.{is_act_of}
 use Rattle.rv_book.specs.Book.{group_of, book_of}
 use Rattle.rv_book.specs.Members.{acting_group}

@@ -1,7 +1,7 @@
 use Rattle.std.proofs.Common.{ℕ, List, inl, subst, sym}
 use Rattle.rv_keeper.specs.Stores.{OthersStay}
 use Rattle.rv_cli.specs.Promises.{WasFed, WasReported, WasRetired}
-use Rattle.rv_cli.specs.Headline.{TellsActivity, TellsLists, TellsSound}
+use Rattle.rv_cli.specs.Headline.{ReportsActivity, ReportsLists, ReportsSound}
 use Rattle.rv_cli.proofs.Named.{activity_same, checks_same, feeds_same, lists_same, names_activity, names_check, names_feed, names_lists, names_retire, names_serve, of_both, reports_activity, reports_check, reports_lists, retires_same}
 use Rattle.rv_cli.proofs.Sound.{activity_memory, check_memory, lists_memory, memory_sound, feeds_memory, retires_in_memory, serves_memory, serves_same}
 use Rattle.rv_cli.proofs.program.run.Goals as goal
@@ -123,17 +123,17 @@ returns-in-Ok-Some-Retire-clause-retire g c = λ store group asks.
 pub returns-in-Ok-Some-Lists-clause-lists : goal.returns-in-Ok-Some-Lists-clause-lists
 returns-in-Ok-Some-Lists-clause-lists g c = λ store asks.
     let is = rw (c.in-Ok-Some-Lists.field-0-is, c.in-Ok-Some-Lists.field-0-0-is) at c.in-Ok-Some-Lists.ensures in
-    inl (subst (λ (name : List ℕ). WasReported g.P.Place g.O.Sink name c.args.place.now c.run_lists.new.place TellsLists c.args.out.now c.run_lists.new.out c.run_lists.result) (lists_same _ _ _ store is c.as_str-in-Ok-Some-Lists.ensures asks) c.run_lists.ensures.report)
+    inl (subst (λ (name : List ℕ). WasReported g.P.Place g.O.Sink name c.args.place.now c.run_lists.new.place ReportsLists c.args.out.now c.run_lists.new.out c.run_lists.result) (lists_same _ _ _ store is c.as_str-in-Ok-Some-Lists.ensures asks) c.run_lists.ensures.report)
 
 pub returns-in-Ok-Some-Activity-clause-activity : goal.returns-in-Ok-Some-Activity-clause-activity
 returns-in-Ok-Some-Activity-clause-activity g c = λ store asks.
     let is = rw (c.in-Ok-Some-Activity.field-0-is, c.in-Ok-Some-Activity.field-0-0-is) at c.in-Ok-Some-Activity.ensures in
-    inl (subst (λ (name : List ℕ). WasReported g.P.Place g.O.Sink name c.args.place.now c.run_activity.new.place TellsActivity c.args.out.now c.run_activity.new.out c.run_activity.result) (activity_same _ _ _ store is c.as_str-in-Ok-Some-Activity.ensures asks) c.run_activity.ensures.report)
+    inl (subst (λ (name : List ℕ). WasReported g.P.Place g.O.Sink name c.args.place.now c.run_activity.new.place ReportsActivity c.args.out.now c.run_activity.new.out c.run_activity.result) (activity_same _ _ _ store is c.as_str-in-Ok-Some-Activity.ensures asks) c.run_activity.ensures.report)
 
 pub returns-in-Ok-Some-Check-clause-check : goal.returns-in-Ok-Some-Check-clause-check
 returns-in-Ok-Some-Check-clause-check g c = λ store asks.
     let is = rw (c.in-Ok-Some-Check.field-0-is, c.in-Ok-Some-Check.field-0-0-is) at c.in-Ok-Some-Check.ensures in
-    inl (subst (λ (name : List ℕ). WasReported g.P.Place g.O.Sink name c.args.place.now c.run_check.new.place TellsSound c.args.out.now c.run_check.new.out c.run_check.result) (checks_same _ _ _ store is c.as_str-in-Ok-Some-Check.ensures asks) c.run_check.ensures.report)
+    inl (subst (λ (name : List ℕ). WasReported g.P.Place g.O.Sink name c.args.place.now c.run_check.new.place ReportsSound c.args.out.now c.run_check.new.out c.run_check.result) (checks_same _ _ _ store is c.as_str-in-Ok-Some-Check.ensures asks) c.run_check.ensures.report)
 
 pub returns-in-Ok-Some-Lists-clause-none_made : goal.returns-in-Ok-Some-Lists-clause-none_made
 returns-in-Ok-Some-Lists-clause-none_made g c = λ store names told has.

@@ -19,18 +19,18 @@ returns-in-Err-open_desk-clause-serve g c =
 pub returns-clause-serve : goal.returns-clause-serve
 returns-clause-serve g c =
     let read = rw c.as_str.ensures at c.in-Ok.ensures.read in (
-      c.tell_served.result,
+      c.write_served.result,
       c.status-2.ensures,
       inr (inr (serve_ended g.P.Place g.P.Kept.Keeper c.args.store.now c.args.options.now.accounts
           c.args.place.now c.accounts_of.new.place c.open_desk.new.place c.close_keeper.new.self c.in-Ok.accounts c.in-Ok-open_desk.desk c.serve_net-served.result.1 c.close.result read c.in-Ok-open_desk.ensures.opens c.open_desk.ensures.told c.close.ensures.keeper c.close.ensures.held
           (record { lawful = c.close.ensures.lawful; within = c.close.ensures.within.0; next = c.close.ensures.next })
           (record { told = c.close_keeper.ensures.tells; held = c.close_keeper.ensures.kept; taken = c.close_keeper.ensures.faults })
-          _ _ _ _ _ _ _ _ _ _ c.serve_net-served.result.0 c.len-entries.result (g.O.Sink.state c.args.out.now) (g.O.Sink.state c.tell_served.new.out) c.tell_served.result
-          c.serve_net-served.ensures.serves (c.len-entries.ensures.value ∙ ap size c.book.ensures.book) c.tell_served.ensures.tells)),
+          _ _ _ _ _ _ _ _ _ _ c.serve_net-served.result.0 c.len-entries.result (g.O.Sink.state c.args.out.now) (g.O.Sink.state c.write_served.new.out) c.write_served.result
+          c.serve_net-served.ensures.serves (c.len-entries.ensures.value ∙ ap size c.book.ensures.book) c.write_served.ensures.writes)),
     )
 
 pub returns-clause-unserved : goal.returns-clause-unserved
-returns-clause-unserved g c = inr (unserved_by _ c.serve_net-served.result.0 c.len-entries.result (g.O.Sink.state c.args.out.now) (g.O.Sink.state c.tell_served.new.out) c.tell_served.result _ c.tell_served.ensures.tells c.status-2.ensures c.serve_net-served.ensures.unserved)
+returns-clause-unserved g c = inr (unserved_by _ c.serve_net-served.result.0 c.len-entries.result (g.O.Sink.state c.args.out.now) (g.O.Sink.state c.write_served.new.out) c.write_served.result _ c.write_served.ensures.writes c.status-2.ensures c.serve_net-served.ensures.unserved)
 
 pub returns-in-Err-clause-others : goal.returns-in-Err-clause-others
 returns-in-Err-clause-others g c = λ told. others_of g.P.Place.holds g.P.Place.is_out g.P.Place.has g.P.Place.accounts c.args.store.now c.args.place.now c.accounts_of.new.place (c.accounts_of.ensures.stays told)
@@ -62,11 +62,11 @@ pub returns-clause-steady_place : goal.returns-clause-steady_place
 returns-clause-steady_place g c = λ steady there.
     let (on, never) = c.accounts_of.ensures.steady steady (rw c.as_str.ensures there) in
     let (opened, same, desk) = c.open_desk.ensures.steady on in
-    (c.close_keeper.ensures.steady opened, λ is. serve_not_four c.tell_served.result (served_not_four c.serve_net-served.result.0 c.len-entries.result (g.O.Sink.state c.args.out.now) (g.O.Sink.state c.tell_served.new.out) c.tell_served.result c.tell_served.ensures.tells) (sym c.status-2.ensures ∙ is))
+    (c.close_keeper.ensures.steady opened, λ is. serve_not_four c.write_served.result (served_not_four c.serve_net-served.result.0 c.len-entries.result (g.O.Sink.state c.args.out.now) (g.O.Sink.state c.write_served.new.out) c.write_served.result c.write_served.ensures.writes) (sym c.status-2.ensures ∙ is))
 
 pub returns-in-Err-clause-steady_net : goal.returns-in-Err-clause-steady_net
 returns-in-Err-clause-steady_net g c = λ steady enough is.
-    serve_not_nine c.in-Err.ending (no_accounts_not_nine _ _ _ _ c.in-Err.ending c.in-Err.ensures.read.tells_so) (sym (rw c.tell.ensures.ending at c.status.ensures) ∙ is)
+    serve_not_nine c.in-Err.ending (no_accounts_not_nine _ _ _ _ c.in-Err.ending c.in-Err.ensures.read.gives_accounts) (sym (rw c.tell.ensures.ending at c.status.ensures) ∙ is)
 
 pub returns-in-Err-open_desk-clause-steady_net : goal.returns-in-Err-open_desk-clause-steady_net
 returns-in-Err-open_desk-clause-steady_net g c = λ steady enough is.
@@ -74,4 +74,4 @@ returns-in-Err-open_desk-clause-steady_net g c = λ steady enough is.
 
 pub returns-clause-steady_net : goal.returns-clause-steady_net
 returns-clause-steady_net g c = λ steady enough is.
-    serve_not_nine c.tell_served.result (served_not_nine c.serve_net-served.result.0 c.len-entries.result (g.O.Sink.state c.args.out.now) (g.O.Sink.state c.tell_served.new.out) c.tell_served.result c.tell_served.ensures.tells (c.serve_net-served.ensures.steady_net steady enough)) (sym c.status-2.ensures ∙ is)
+    serve_not_nine c.write_served.result (served_not_nine c.serve_net-served.result.0 c.len-entries.result (g.O.Sink.state c.args.out.now) (g.O.Sink.state c.write_served.new.out) c.write_served.result c.write_served.ensures.writes (c.serve_net-served.ensures.steady_net steady enough)) (sym c.status-2.ensures ∙ is)

@@ -7,7 +7,7 @@ invariant-loop-at g l = record {
   bytes : (read : List ℕ) × (take l.at l.body.items ≡ take l.fn.from l.fn.body.items ++ read) × (l.at ≡ l.fn.from + length read) × Consumes (g.S.Source.state l.fn.source).left (g.S.Source.state l.source).left read;
   idle : (l.fn.from < l.size) ⊎ (l.source ≡ l.fn.source);
   within : l.at ≤ length l.body.items;
-  room : length l.body.items ≤ l.size;
+  capacity : length l.body.items ≤ l.size;
   faults : (g.S.Source.state l.source).faults ≡ (g.S.Source.state l.fn.source).faults;
   ends : (g.S.Source.state l.source).ends ≡ (g.S.Source.state l.fn.source).ends;
   goes_on : g.S.Source.fails_no_more l.fn.source → g.S.Source.fails_no_more l.source;

@@ -2,7 +2,7 @@ use Rattle.std.proofs.Common.{rules, [], ◌∷◌}
 use Rattle.std.specs.Ordering.{nat_cmp}
 use Rattle.std.specs.Cmp.Lexicographic.{slice_cmp}
 use Rattle.std.proofs.lemmas.Fn.{always_returns_same}
-use Rattle.rv_base.specs.Places.{settles}
+use Rattle.rv_base.specs.Positions.{settles}
 use Rattle.rv_keeper.specs.Shelving.{shelf_key}
 use Rattle.rv_keeper.proofs.Joined.{ordering_then-Equal}
 use Rattle.rv_keeper.proofs.changing.place.Goals as goal

@@ -1,5 +1,5 @@
 use Rattle.std.proofs.Common.{refl, map, ◌∙◌}
-use Rattle.rv_news.proofs.Told.{put_more, put_same, seen_at}
+use Rattle.rv_news.proofs.Puts.{put_more, put_same, seen_at}
 use Rattle.rv_news.proofs.news.add_seen.Goals.{in-Some+in_ok-copy+in_ok-push, in_default}
 use Rattle.rv_news.proofs.news.add_seen.Goals as goal
 

@@ -1,7 +1,7 @@
 use Rattle.std.proofs.Common.{◌∙◌, sym, ap, ℕ, List}
 use Rattle.std.specs.Option.{option_map_or}
 use Rattle.rv_base.specs.Sorted.{put_by}
-use Rattle.rv_base.specs.Places.{sorted_more}
+use Rattle.rv_base.specs.Positions.{sorted_more}
 use Rattle.rv_book.specs.Book.{book_of, client_in}
 use Rattle.rv_plain.proofs.book.ids.Goals as goal
 

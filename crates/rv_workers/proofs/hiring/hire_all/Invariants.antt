@@ -3,11 +3,11 @@ use Rattle.std.specs.Prelude.{vec_capacity}
 use Rattle.std.specs.List.{AllByRecursion}
 use Rattle.rv_room.specs.Seats.{id_of, opened_of, view_of, AllNew}
 use Rattle.rv_room.specs.Views.{newcomer}
-use Rattle.rv_workers.specs.Hiring.{turned}
+use Rattle.rv_workers.specs.Hiring.{reversed}
 use Rattle.rv_workers.proofs.hiring.hire_all.Given as goal
 
 abbrev pub invariant-loop-listener : goal.invariant-loop-listener
-invariant-loop-listener g l = (l.listeners.items ++ turned (λ worker. worker.listener) l.workers.items ≡ l.fn.listeners.items)
+invariant-loop-listener g l = (l.listeners.items ++ reversed (λ worker. worker.listener) l.workers.items ≡ l.fn.listeners.items)
     × AllNew (id_of l.room) (opened_of l.room) l.seats.list.items
     × (vec_len l.seats.list ≡ vec_len l.listeners)
     × (vec_len l.workers + vec_len l.listeners ≤ vec_capacity l.workers)

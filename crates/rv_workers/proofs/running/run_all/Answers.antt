@@ -1,4 +1,4 @@
-use Rattle.rv_workers.proofs.Places.{each_worked}
+use Rattle.rv_workers.proofs.Positions.{each_worked}
 use Rattle.rv_workers.proofs.running.run_all.Goals as goal
 
 pub returns : goal.returns

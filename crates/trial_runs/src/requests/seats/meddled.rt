@@ -43,5 +43,5 @@ impl Keeper for Meddled {
 
     ghost steady_tells = { λ keeper steady. steady };
 
-    ghost holds_one = { λ keeper one two told is also. absurd told };
+    ghost holds_one = { λ keeper one two joined is also. absurd joined };
 }

@@ -10,7 +10,7 @@ use rv_turns::{Asked, Cookie, Outcome, PullRequest, Refusal, Turns};
 use std::alloc::Global;
 use std::sync::Wait;
 use trial_stage::Part::{Number, Text};
-use trial_stage::{number_in, told};
+use trial_stage::{joined, number_in};
 
 // A seat of the room that takes turns.
 type Player<'a, R> = SeatTurns<'a, R, Meddled>;
@@ -63,7 +63,7 @@ fn refusal_told(alloc: Global, refusal: &Refusal) -> Result<String, Memory> {
 
 fn cookie_told(alloc: Global, cookie: &Cookie) -> Result<String, Memory> {
     match cookie {
-        Cookie::Named { place_text, order } => told(
+        Cookie::Named { place_text, order } => joined(
             alloc,
             &[
                 Text("Pulled("),
@@ -73,7 +73,7 @@ fn cookie_told(alloc: Global, cookie: &Cookie) -> Result<String, Memory> {
                 Text(")"),
             ],
         ),
-        _ => told(alloc, &[Text("Pulled")]),
+        _ => joined(alloc, &[Text("Pulled")]),
     }
 }
 
@@ -180,8 +180,8 @@ pub fn taken<R: Wait>(
     };
     let mut first = SeatTurns::new(rt, room, first);
     let mut second = SeatTurns::new(rt, room, second);
-    let told = all_told(alloc, &mut first, &mut second, names, words);
+    let joined = all_told(alloc, &mut first, &mut second, names, words);
     seats.give(first.into_seat());
     seats.give(second.into_seat());
-    (told, seats)
+    (joined, seats)
 }

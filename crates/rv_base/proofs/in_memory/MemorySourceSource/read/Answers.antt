@@ -11,7 +11,7 @@ returns-clause-reads c =
     let f : take n piece ≡ take n (take (length items - at) (drop at items)) = search rules in
     let e : at ≡ min c.args.self.now.at (length items) = search rules in
     record {
-      bytes = (read_front items piece c.args.self.now.at at n e f, λ none room. read_none items at n none (λ some. search rules));
+      bytes = (read_front items piece c.args.self.now.at at n e f, λ none some_room. read_none items at n none (λ some. search rules));
       cause = search rules;
       ends = search rules;
     }

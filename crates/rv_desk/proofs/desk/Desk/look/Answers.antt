@@ -16,4 +16,4 @@ returns-in-Err-Failed-clause-stepped g c =
     let request = c.args.request.now in
     let book = c.args.self.now.book in
     not_kept {T = Unit {0}} (Ask.pull user request) (Pulled (reply_to pull_json user request book)) (Look user request.group (next_order request book) (base_of user request.cookie book)) (served g.K.Keeper.faults c.args.self.now) _ Failed
-    (c.requires.admits, (c.requires.changed, search rules, c.requires.room, refl, refl)) c.requires.admits (search rules)
+    (c.requires.admits, (c.requires.changed, search rules, c.requires.within_limit, refl, refl)) c.requires.admits (search rules)

@@ -4,21 +4,21 @@ use Rattle.rv_keeper.specs.declared.keeper.Keeper.{Ghosts}
 use Rattle.rv_room.specs.declared.seat.Seat.{Seat}
 use Rattle.rv_room.specs.declared.view.SeatView.{SeatView}
 use Rattle.rv_room.specs.Lists.{total}
-use Rattle.rv_room.specs.Rule.{parts_of}
+use Rattle.rv_room.specs.Rule.{seat_parts}
 use Rattle.rv_room.specs.Closing.{Closes}
 use Rattle.rv_room.specs.Seats.{view_of}
 use Rattle.rv_room.proofs.Ways.{shut, shut_at}
 use Rattle.rv_room.proofs.room.Room.close.Goals as goal
 
-all_one : {K : Type 0} {G : Ghosts K} (seats : List (Seat K G)) → total parts_of (map (view_of {K = K} {G = G}) seats) ≡ length seats
+all_one : {K : Type 0} {G : Ghosts K} (seats : List (Seat K G)) → total seat_parts (map (view_of {K = K} {G = G}) seats) ≡ length seats
 all_one [] = refl
 all_one (s ∷ ss) = let r = all_one ss in let o = s.one in omega arith
 
 views_are : {K : Type 0} {G : Ghosts K} (all rest : List (Seat K G)) (last : Seat K G) → all ≡ rest ++ last ∷ [] → map (view_of {K = K} {G = G}) all ≡ map (view_of {K = K} {G = G}) rest ++ view_of last ∷ []
 views_are {K} {G} all rest last e = ap (map (view_of {K = K} {G = G})) e ∙ map-append (view_of {K = K} {G = G}) rest (last ∷ [])
 
-all_parts : {K : Type 0} {G : Ghosts K} (all rest : List (Seat K G)) (last : Seat K G) (n : ℕ) → all ≡ rest ++ last ∷ [] → length all ≡ n → total parts_of (map (view_of {K = K} {G = G}) rest ++ view_of last ∷ []) ≡ n
-all_parts all rest last n e len = ap (total parts_of) (sym (views_are all rest last e)) ∙ all_one all ∙ len
+all_parts : {K : Type 0} {G : Ghosts K} (all rest : List (Seat K G)) (last : Seat K G) (n : ℕ) → all ≡ rest ++ last ∷ [] → length all ≡ n → total seat_parts (map (view_of {K = K} {G = G}) rest ++ view_of last ∷ []) ≡ n
+all_parts all rest last n e len = ap (total seat_parts) (sym (views_are all rest last e)) ∙ all_one all ∙ len
 
 pub unreachable-requires-in_default-slot : goal.unreachable-requires-in_default-slot
 unreachable-requires-in_default-slot g c =

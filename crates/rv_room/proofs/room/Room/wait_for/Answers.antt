@@ -5,12 +5,12 @@ use Rattle.rv_room.specs.Following.{FollowsAll}
 use Rattle.rv_room.specs.Plays.{Knows}
 use Rattle.rv_room.specs.Rule.{IsOf}
 use Rattle.rv_room.specs.Views.{on_turn}
-use Rattle.rv_room.proofs.Moves.{looks_as}
+use Rattle.rv_room.proofs.Moves.{checks_turn_as}
 use Rattle.rv_room.proofs.room.Room.wait_for.Goals as goal
 
 pub load-found-requires : goal.load-found-requires
 load-found-requires g c = let i = c.loop.invariant in let r = c.requires.waits in
-    (i.2 ∙ c.requires.table, omega (arith, c.args.self.now.sized.0), looks_as g.K.Keeper _ _ _ _ _ _ _ i.4 r.0 r.1)
+    (i.2 ∙ c.requires.table, omega (arith, c.args.self.now.sized.0), checks_turn_as g.K.Keeper _ _ _ _ _ _ _ i.4 r.0 r.1)
 
 pub returns-then-found-ticket-clause-turn : goal.returns-then-found-ticket-clause-turn
 returns-then-found-ticket-clause-turn g c = let i = c.loop.invariant in let r = c.requires.waits in

@@ -1,7 +1,0 @@
-use Rattle.std.proofs.Common.{◌∙◌}
-use Rattle.rv_book.specs.Book.{book_of}
-use Rattle.rv_book.proofs.GroupLaws.{bound-found}
-use Rattle.rv_book.proofs.groups.told.Goals as goal
-
-pub returns-clause-user : goal.returns-clause-user
-returns-clause-user c = c.user_of.ensures ∙ bound-found c.args.group.now (book_of c.args.entries.now) c.row-row.result.bound c.row-row.ensures.bound
