@@ -8,7 +8,8 @@ use Rattle.serde_json.specs.Data.{Data, Members, no_members, member}
 use Rattle.serde_json.specs.Find.{as_object, as_bool}
 use Rattle.rv_base.specs.Options.{◌>>=◌}
 use Rattle.rv_rows.specs.Members.{text_in}
-use Rattle.rv_wire.specs.Bodies.{push_in, pull_in, json_in}
+use Rattle.rv_rows.specs.JsonTexts.{json_in}
+use Rattle.rv_wire.specs.Bodies.{push_in, pull_in}
 use Rattle.rv_wire.specs.declared.fault.WireFault.{WireFault}
 use Rattle.rv_wire.specs.declared.push.Push as pushes
 use Rattle.rv_turns.specs.declared.pull.PullRequest.{PullRequest}

@@ -5,10 +5,11 @@ use Rattle.std.specs.Str.{IsUtf8, bytes_eq}
 use Rattle.rv_base.specs.Options.{◌>>=◌}
 use Rattle.rv_base.specs.Texts.{IsWithin}
 use Rattle.rv_keeper.specs.declared.cell.Cell.{Cell}
+use Rattle.rv_rows.specs.JsonTexts.{json_in}
 use Rattle.rv_record.specs.declared.fault.CellFault.{CellFault}
 use Rattle.rv_record.specs.declared.fault.CellFault.TheVariants.{BadCell, Memory}
 use Rattle.rv_record.specs.declared.fault.Damage.{Damage}
-use Rattle.rv_record.specs.ValueReading.{json_in, utf8_text_in, text_item, num_item, flag_item}
+use Rattle.rv_record.specs.ValueReading.{utf8_text_in, text_item, num_item, flag_item}
 
 -- the damage at the cell's own place
 abbrev pub damage_at : Cell → Damage

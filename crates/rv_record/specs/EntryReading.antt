@@ -6,13 +6,14 @@ use Rattle.serde_json.specs.Data.{Data}
 use Rattle.serde_json.specs.Find.{at, as_bool}
 use Rattle.rv_base.specs.Options.{◌>>=◌}
 use Rattle.rv_rows.specs.Members.{text_in, num_in}
+use Rattle.rv_rows.specs.JsonTexts.{json_in}
 use Rattle.rv_rows.specs.declared.call.Call.{Call}
 use Rattle.rv_rows.specs.declared.call.Call.TheVariants.{CreateList, DeleteList, CreateShare, DeleteShare, CreateTodo, UpdateTodo, DeleteTodo, Void}
 use Rattle.rv_rows.specs.declared.call.Reason.TheVariants.{UnknownName, BadArgs}
 use Rattle.rv_book.specs.declared.entry.Entry.{Entry}
 use Rattle.rv_book.specs.declared.entry.Entry.TheVariants.{Act, Look, Retire}
 use Rattle.rv_record.specs.CellReading.{IsText}
-use Rattle.rv_record.specs.ValueReading.{json_in, or_null, place_in, string_item, text_item, num_item, flag_item}
+use Rattle.rv_record.specs.ValueReading.{or_null, place_in, string_item, text_item, num_item, flag_item}
 
 -- a place is numbered from 1
 abbrev pub IsPlace : ℕ → Type 0

@@ -17,8 +17,7 @@ use Rattle.serde_json.specs.Read.{of_json, of_items, of_members, max_depth, read
 use Rattle.serde_json.specs.Written.{outline, items_outline, members_outline, comma_if, compact_text, items_text, members_text}
 use Rattle.serde_json.proofs.Numbers.{number_of-decimal}
 use Rattle.serde_json.proofs.Texts.{print-outline}
-use Rattle.rv_record.specs.ValueReading.{json_in}
-use Rattle.rv_record.specs.ReadTexts.{json_some}
+use Rattle.rv_rows.specs.JsonTexts.{json_in, json_some}
 
 -- the members put in one after another
 abbrev pub put_all : Members → Members → Members

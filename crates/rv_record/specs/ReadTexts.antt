@@ -1,21 +1,12 @@
--- What bytes are as text and as JSON, from what the readers say.
+-- What bytes are as text, from what the readers say; and what is read again as what was written.
 use Rattle.std.proofs.Common.{◌≡◌, ℕ, ◌<◌, ◌^◌, true, false, cond, List, Some, None, refl, arith}
 use Rattle.std.specs.Str.{IsUtf8, is_utf8}
 use Rattle.std.proofs.lemmas.Str.{IsUtf8-from_is_utf8, is_utf8-from_IsUtf8}
 use Rattle.std.proofs.lemmas.Bool.Decides.{nat_tests}
-use Rattle.serde_json.specs.Data.{Data, number, unsigned}
-use Rattle.serde_json.specs.Read.{read}
+use Rattle.serde_json.specs.Data.{number, unsigned}
 use Rattle.rv_base.specs.Texts.{IsWithin}
 use Rattle.rv_rows.specs.Members.{within, num_in}
-use Rattle.rv_record.specs.ValueReading.{json_in, utf8_text_in, place_in}
-
-pub json_some : (text : List ℕ) (d : Data) → IsUtf8 text → read text ≡ Some d → json_in text ≡ Some d
-unfolding json_in
-json_some text d valid e = rw (is_utf8-from_IsUtf8 text valid) e
-
-pub json_none : (text : List ℕ) → (IsUtf8 text → read text ≡ None) → json_in text ≡ None
-unfolding json_in
-json_none text none = elim (is_utf8 text) as (λ b. is_utf8 text ≡ b → cond b (read text) None ≡ None) [ true ↦ λ e. none (IsUtf8-from_is_utf8 text e) | false ↦ λ e. refl ] refl
+use Rattle.rv_record.specs.ValueReading.{utf8_text_in, place_in}
 
 pub text_some : (low high : ℕ) (bytes : List ℕ) → IsUtf8 bytes → utf8_text_in low high bytes ≡ within low high bytes
 unfolding utf8_text_in

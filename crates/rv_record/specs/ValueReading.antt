@@ -3,12 +3,7 @@ use Rattle.std.specs.Prelude.{ℕ, ◌^◌, Bool, List, Option, Some, None, opti
 use Rattle.std.specs.Str.{is_utf8}
 use Rattle.serde_json.specs.Data.{Data}
 use Rattle.serde_json.specs.Find.{at, as_null, as_bool, as_number, as_u64, as_str}
-use Rattle.serde_json.specs.Read.{read}
 use Rattle.rv_rows.specs.Members.{within, text_in, num_in}
-
--- the JSON value of a text that is UTF-8; JSON that nests deeper than 127 is none
-unfoldable pub json_in : List ℕ → Option Data
-json_in text = if is_utf8 text then read text else None
 
 -- bytes that are UTF-8, at least low and at most high of them
 unfoldable pub utf8_text_in : ℕ → ℕ → List ℕ → Option (List ℕ)

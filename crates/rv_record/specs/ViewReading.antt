@@ -8,13 +8,14 @@ use Rattle.serde_json.specs.Data.{Data, Items, no_items, item}
 use Rattle.serde_json.specs.Find.{at, as_array}
 use Rattle.rv_base.specs.Options.{◌>>=◌}
 use Rattle.rv_rows.specs.Keys.{prefix}
+use Rattle.rv_rows.specs.JsonTexts.{json_in}
 use Rattle.rv_rows.specs.declared.key.Key.{Key}
 use Rattle.rv_rows.specs.declared.key.Kind.{Kind}
 use Rattle.rv_rows.specs.declared.key.Kind.TheVariants as kinds
 use Rattle.rv_views.specs.Viewed.{Viewed, AreSeen, AreClients, seen_key, client_of_pair}
 use Rattle.rv_record.specs.CellReading.{IsText}
 use Rattle.rv_record.specs.EntryReading.{IsPlace}
-use Rattle.rv_record.specs.ValueReading.{json_in, utf8_text_in, string_item, text_item, num_item, place_item}
+use Rattle.rv_record.specs.ValueReading.{utf8_text_in, string_item, text_item, num_item, place_item}
 
 abbrev pub SeenFits : Key × ℕ → Type 0
 SeenFits pair = IsText 1 128 pair.0.id × (pair.1 < 2 ^ 32)

@@ -4,11 +4,11 @@ ghost use Rattle.rv_record.specs.CellReading.{ReadsCell, ClientFits, GroupFits, 
 
 use crate::cells::{cell_of_client, cell_of_group};
 use crate::fault::{CellFault, damaged};
-use crate::json_reading::read_json;
 use crate::same_cell::is_same;
 use crate::value_reading::{flag_item, num_item, text_item, text_of_bytes};
 use rv_base::{Id, Memory, Num, User};
 use rv_keeper::Cell;
+use rv_rows::read_json;
 use std::alloc::Global;
 
 // What the cell is of, if it is a client's.

@@ -9,13 +9,13 @@ ghost use Rattle.rv_record.specs.EntryReading.{PlacedFits, act_in, look_in, entr
 use crate::call_reading::call_of_value;
 use crate::cells::cell_of_entry;
 use crate::fault::{CellFault, damaged};
-use crate::json_reading::read_json;
 use crate::place_reading::place_of_key;
 use crate::same_cell::is_same;
 use crate::value_reading::{num_item, place_of_value, string_item, text_item};
 use rv_base::{Id, Memory};
 use rv_book::Entry;
 use rv_keeper::Cell;
+use rv_rows::read_json;
 use serde_json::Value;
 use std::alloc::Global;
 

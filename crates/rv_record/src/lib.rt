@@ -13,7 +13,6 @@ mod client_reading;
 mod entry_reading;
 mod entry_writing;
 mod fault;
-mod json_reading;
 mod key_reading;
 mod place_reading;
 mod places;

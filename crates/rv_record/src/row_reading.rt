@@ -7,12 +7,11 @@ ghost use Rattle.rv_record.specs.RowReading.{RowFits, row_cell_in};
 
 use crate::cells::cell_of_row;
 use crate::fault::{CellFault, damaged};
-use crate::json_reading::read_json;
 use crate::same_cell::is_same;
 use crate::value_reading::place_item;
 use rv_base::Memory;
 use rv_keeper::Cell;
-use rv_rows::{Row, read_row};
+use rv_rows::{Row, read_json, read_row};
 use serde_json::Value;
 use std::alloc::Global;
 

@@ -1,27 +1,12 @@
 // The items of a JSON array, and the text of a key.
 ghost use Rattle.std.specs.Prelude.{◌≡◌, IfOk, option_map};
 ghost use Rattle.serde_json.specs.View.{view};
-ghost use Rattle.rv_rows.specs.Members.{within};
 ghost use Rattle.rv_record.specs.ValueReading.{utf8_text_in, string_item, text_item, num_item, place_in, place_item, flag_item};
 
-use rv_base::{Bounded, Memory, Num, TextRefusal};
-use rv_rows::{num_of_value, text_of_value};
+use rv_base::{Bounded, Memory, Num};
+use rv_rows::{num_of_value, text_of_value, text_within};
 use serde_json::Value;
 use std::alloc::Global;
-
-// The text, where it is within the bounds.
-fn text_within<const MIN: usize, const MAX: usize>(
-    alloc: Global,
-    text: &str,
-) -> Result<Option<Bounded<MIN, MAX>>, Memory>
-    ensures { IfOk result (λ o. o ≡ within MIN MAX text.now) }
-{
-    match Bounded::new(alloc, text) {
-        Ok(text) => Ok(Some(text)),
-        Err(TextRefusal::Memory) => Err(Memory),
-        Err(_) => Ok(None),
-    }
-}
 
 // The text that the bytes are, where they are UTF-8 and it is within the bounds.
 #[tactic(auto, using(crate::specs::ReadTexts::text_some, crate::specs::ReadTexts::text_none))]

@@ -8,14 +8,13 @@ ghost use Rattle.rv_record.specs.ViewReading.{ViewFits, seen_in, pair_in, each_i
 
 use crate::cells::cell_of_view;
 use crate::fault::{CellFault, damaged};
-use crate::json_reading::read_json;
 use crate::key_reading::key_of_text;
 use crate::place_reading::place_of_key;
 use crate::same_cell::is_same;
 use crate::value_reading::{num_item, place_item, string_item, text_item};
 use rv_base::{Id, Memory, Num, Sequence};
 use rv_keeper::Cell;
-use rv_rows::{Clients, Key, Visible};
+use rv_rows::{Clients, Key, Visible, read_json};
 use rv_views::{ViewRecord, record_now};
 use serde_json::Value;
 use std::alloc::Global;

@@ -7,6 +7,7 @@ pub mod Slots
 pub mod Effects
 pub mod RowTexts
 pub mod Members
+pub mod JsonTexts
 pub mod Additions
 pub mod Changes
 pub mod EffectLaws

@@ -6,6 +6,7 @@
 #![tactic(auto)]
 
 mod call;
+mod json_reading;
 mod key;
 mod lists;
 mod member_writing;
@@ -18,10 +19,11 @@ mod row_writing;
 mod tables;
 
 pub use call::{Call, Reason};
+pub use json_reading::read_json;
 pub use key::{Key, Kind};
 pub use lists::{Clients, Keys, Rows, Users, Visible};
 pub use member_writing::{write_bool_member, write_num_member, write_text_member};
-pub use members::{next_named, num_of_value, text_of_value};
+pub use members::{next_named, num_of_value, text_of_value, text_within};
 pub use row::{ListRow, Row, ShareRow, TodoRow};
 pub use row_json::row_value;
 pub use row_reading::read_row;

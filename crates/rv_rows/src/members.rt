@@ -1,7 +1,7 @@
-// Members of JSON objects.
+// Members of JSON objects, and what their values are read as.
 ghost use Rattle.std.specs.Prelude.{◌≡◌, IfOk, IfSome, IfNone, Some, None};
 ghost use Rattle.serde_json.specs.View.{view, members_view};
-ghost use Rattle.rv_rows.specs.Members.{named, text_in, num_in};
+ghost use Rattle.rv_rows.specs.Members.{named, within, text_in, num_in};
 
 use rv_base::{Bounded, Memory, Num, TextRefusal};
 use serde_json::Value;
@@ -21,6 +21,20 @@ pub fn next_named<'a>(left: &mut Iter<'a, String, Value>, name: &str) -> Option<
     }
 }
 
+/// The text, where it is at least `MIN` and at most `MAX` bytes long.
+pub fn text_within<const MIN: usize, const MAX: usize>(
+    alloc: Global,
+    text: &str,
+) -> Result<Option<Bounded<MIN, MAX>>, Memory>
+    ensures { IfOk result (λ o. o ≡ within MIN MAX text.now) }
+{
+    match Bounded::new(alloc, text) {
+        Ok(text) => Ok(Some(text)),
+        Err(TextRefusal::Memory) => Err(Memory),
+        Err(_) => Ok(None),
+    }
+}
+
 /// The text that a value is, where it is one within the bounds.
 pub fn text_of_value<const MIN: usize, const MAX: usize>(
     alloc: Global,
@@ -30,11 +44,7 @@ pub fn text_of_value<const MIN: usize, const MAX: usize>(
 {
     match value.as_str() {
         None => Ok(None),
-        Some(text) => match Bounded::new(alloc, text) {
-            Ok(text) => Ok(Some(text)),
-            Err(TextRefusal::Memory) => Err(Memory),
-            Err(_) => Ok(None),
-        },
+        Some(text) => text_within(alloc, text),
     }
 }
 

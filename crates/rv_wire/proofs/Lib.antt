@@ -1,4 +1,3 @@
 pub mod Each
 pub mod ErrorTexts
-pub mod JsonTexts
 pub mod Writing

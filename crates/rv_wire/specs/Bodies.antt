@@ -1,9 +1,8 @@
 -- The body of a push and of a pull, version 1 of each: the checks in their order. Other members are ignored.
-use Rattle.std.specs.Prelude.{◌≡◌, ℕ, List, [], ◌∷◌, Bool, Option, Some, None, Result, Ok, Err, String, string_bytes, codes, unwrap_or, option_map, ◌==◌, if◌then◌else◌}
+use Rattle.std.specs.Prelude.{◌≡◌, ℕ, List, [], ◌∷◌, Bool, Option, Some, None, Result, Ok, Err, String, string_bytes, codes, unwrap_or, option_map, ◌==◌}
 use Rattle.std.specs.declared.alloc.Global.{Global}
 use Rattle.std.specs.List.{list_any}
-use Rattle.std.specs.Str.{bytes_eq, is_utf8}
-use Rattle.serde_json.specs.Read.{read}
+use Rattle.std.specs.Str.{bytes_eq}
 use Rattle.serde_json.specs.Data.{Data, null, boolean, number, string, array, object, Items, no_items, item}
 use Rattle.serde_json.specs.Find.{get, as_object}
 use Rattle.rv_base.specs.Chains.{◌>>=◌, need, hold, each}
@@ -20,6 +19,7 @@ use Rattle.rv_wire.specs.declared.push.Push.{Push}
 use Rattle.rv_turns.specs.declared.pull.PullRequest.{PullRequest}
 use Rattle.rv_wire.specs.Members.{field_text, text_member, string_member, num_member, array_member}
 use Rattle.rv_rows.specs.Members.{num_in}
+use Rattle.rv_rows.specs.JsonTexts.{json_in}
 use Rattle.rv_wire.specs.Calls.{call_in}
 
 -- what is read has this fault; want of memory may come at any body
@@ -102,10 +102,6 @@ pull_in served body = do
   group ← group_in versions.Pull fields.PullVersion served body
   cookie ← cookie_in body
   Ok (record { group = group; cookie = cookie })
-
--- the JSON value of a text that is UTF-8; JSON that nests deeper than 127 is none
-unfoldable pub json_in : List ℕ → Option Data
-json_in text = if is_utf8 text then read text else None
 
 -- the push and the pull of a body's bytes
 abbrev pub push_body : (List ℕ → Bool) → List ℕ → Result Push WireFault

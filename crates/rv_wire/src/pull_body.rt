@@ -5,11 +5,10 @@ ghost use Rattle.rv_wire.specs.Members.{text_member, num_member};
 
 use crate::body::group_of_value;
 use crate::fault::{FieldName, VersionKind, WireFault};
-use crate::json_reading::read_json;
 use crate::members::{num_member, text_member};
 use crate::schema_versions::SchemaVersions;
 use rv_base::Memory;
-use rv_rows::num_of_value;
+use rv_rows::{num_of_value, read_json};
 use rv_turns::PullRequest;
 use rv_views::Cookie;
 use serde_json::Value;

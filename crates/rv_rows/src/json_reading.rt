@@ -1,13 +1,13 @@
-ghost use Rattle.std.specs.Prelude.{◌≡◌, IfOk, IfSome, IfNone, option_map};
+ghost use Rattle.std.specs.Prelude.{◌≡◌, IfOk, option_map};
 ghost use Rattle.serde_json.specs.View.{view};
-ghost use Rattle.rv_wire.specs.Bodies.{json_in};
+ghost use Rattle.rv_rows.specs.JsonTexts.{json_in};
 
 use rv_base::Memory;
 use serde_json::Value;
 use std::alloc::Global;
 
 /// The JSON value of a text, where it is UTF-8, is JSON, and nests at most 127 deep.
-#[tactic(auto, using(crate::proofs::JsonTexts::json_none, crate::proofs::JsonTexts::json_some))]
+#[tactic(auto, using(crate::specs::JsonTexts::json_none, crate::specs::JsonTexts::json_some))]
 pub fn read_json(alloc: Global, text: &[u8]) -> Result<Option<Value>, Memory>
     ensures { IfOk result (λ o. option_map (λ v. view v) o ≡ json_in text.now) }
 {

@@ -1,10 +1,14 @@
--- What a text is as JSON, from what the reader says.
-use Rattle.std.proofs.Common.{◌≡◌, ℕ, true, false, cond, List, Some, None, refl}
+-- What a text is as JSON, and from what a reader says.
+use Rattle.std.proofs.Common.{◌≡◌, ℕ, true, false, cond, List, Option, Some, None, refl}
+use Rattle.std.specs.Prelude.{if◌then◌else◌}
 use Rattle.std.specs.Str.{IsUtf8, is_utf8}
 use Rattle.std.proofs.lemmas.Str.{IsUtf8-from_is_utf8, is_utf8-from_IsUtf8}
 use Rattle.serde_json.specs.Data.{Data}
 use Rattle.serde_json.specs.Read.{read}
-use Rattle.rv_wire.specs.Bodies.{json_in}
+
+-- the JSON value of a text that is UTF-8; JSON that nests deeper than 127 is none
+unfoldable pub json_in : List ℕ → Option Data
+json_in text = if is_utf8 text then read text else None
 
 pub json_some : (text : List ℕ) (d : Data) → IsUtf8 text → read text ≡ Some d → json_in text ≡ Some d
 unfolding json_in
