@@ -9,7 +9,7 @@ use Rattle.std.proofs.Math.Seq.{set-append_seam}
 use Rattle.rv_base.specs.InMemory.{fails_next}
 use Rattle.rv_base.specs.Positions.{equals}
 use Rattle.rv_keeper.specs.declared.accounts_file.AccountsFile.{AccountsFile}
-use Rattle.rv_keeper.specs.declared.fails.Fails.{Fails}
+use Rattle.rv_keeper.specs.declared.memory_keeper.Fails.{Fails}
 use Rattle.rv_keeper.specs.declared.fault.KeepFault.{KeepFault}
 use Rattle.rv_keeper.specs.declared.loaded.Loaded.{Loaded}
 use Rattle.rv_keeper.specs.declared.memory_keeper.MemoryKeeper.{MemoryKeeper}

@@ -5,8 +5,8 @@ use Rattle.std.specs.Prelude.{Result, Ok, Err, IsErrOf}
 use Rattle.std.specs.Result.{IsErr, IsErrAnd}
 use Rattle.rv_keeper.specs.declared.fault.KeepFault.{KeepFault}
 use Rattle.rv_keeper.specs.declared.fault.KeepFault.TheVariants.{Failed, Memory}
-use Rattle.rv_keeper.specs.declared.fails.Fails.{Fails}
-use Rattle.rv_keeper.specs.declared.fails.Fails.TheVariants.{Before, After, Load, Generation}
+use Rattle.rv_keeper.specs.declared.memory_keeper.Fails.{Fails}
+use Rattle.rv_keeper.specs.declared.memory_keeper.Fails.TheVariants.{Before, After, Load, Generation}
 use Rattle.rv_keeper.specs.Schedules.{fails_at, next_call, KeeperFailsNoMore}
 
 other_number : (n m : ℕ) → n < m → (n == m) ≡ false

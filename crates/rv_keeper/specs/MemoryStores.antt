@@ -6,7 +6,7 @@ use Rattle.std.specs.Option.{option_map}
 use Rattle.std.specs.Str.{bytes_eq}
 use Rattle.rv_keeper.specs.declared.accounts_file.AccountsFile.{AccountsFile}
 use Rattle.rv_keeper.specs.declared.cell.Cell.{Cell}
-use Rattle.rv_keeper.specs.declared.fails.Fails.{Fails}
+use Rattle.rv_keeper.specs.declared.memory_keeper.Fails.{Fails}
 use Rattle.rv_keeper.specs.declared.loaded.Loaded.{Loaded}
 use Rattle.rv_keeper.specs.declared.store.Store.{Store}
 use Rattle.rv_keeper.specs.Keeping.{holding}

@@ -1,8 +1,8 @@
 -- The calls at which a keeper in memory fails, and what it answers there.
 use Rattle.std.specs.Prelude.{◌≡◌, ℕ, ◌+◌, ◌-◌, ◌^◌, ◌<◌, ◌==◌, min, Bool, true, false, not, ◌||◌, ◌⊎◌, List, Result, Ok, Err, if◌then◌else◌}
 use Rattle.std.specs.List.{list_any, AllByRecursion}
-use Rattle.rv_keeper.specs.declared.fails.Fails.{Fails}
-use Rattle.rv_keeper.specs.declared.fails.Fails.TheVariants.{Before, After, Load, Generation}
+use Rattle.rv_keeper.specs.declared.memory_keeper.Fails.{Fails}
+use Rattle.rv_keeper.specs.declared.memory_keeper.Fails.TheVariants.{Before, After, Load, Generation}
 use Rattle.rv_keeper.specs.declared.change.Change.{Change}
 use Rattle.rv_keeper.specs.declared.fault.KeepFault.{KeepFault}
 use Rattle.rv_keeper.specs.declared.fault.KeepFault.TheVariants.{Failed, Memory}

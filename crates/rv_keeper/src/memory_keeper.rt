@@ -2,19 +2,50 @@
 ghost use Rattle.std.specs.Prelude.{◌≡◌, ◌≤◌, ◌<◌, ◌+◌, ◌-◌, ◌^◌, ◌||◌, ◌⊎◌, [], IfOk, IsOk, OnOk, OnErr, is_err, if◌then◌else◌};
 ghost use Rattle.std.proofs.Common.{sym, ◌∙◌};
 ghost use Rattle.rv_base.specs.Causes.{Rose};
-ghost use Rattle.rv_keeper.specs.declared.fails.Fails.TheVariants as calls;
+ghost use Rattle.rv_keeper.specs.declared.memory_keeper.Fails.TheVariants as calls;
 ghost use Rattle.rv_keeper.specs.Cells.{AreCells, AreChanges, changed};
 ghost use Rattle.rv_keeper.specs.Keeping.{Made, HasKeepCause, HasGenerationCause, KeepsSteady, holding};
-ghost use Rattle.rv_keeper.specs.Schedules.{fails_at, next_call, counted_fault, is_strange, has_failed, KeeperFailsNoMore, IsLoad, IsCommitBy};
+ghost use Rattle.rv_keeper.specs.Schedules.{same_fails, fails_at, next_call, counted_fault, is_strange, has_failed, KeeperFailsNoMore, IsLoad, IsCommitBy};
 
 use crate::change::Change;
-use crate::fails::{Fails, fails_at};
 use crate::fault::KeepFault;
 use crate::keeper::Keeper;
 use crate::loaded::Loaded;
 use crate::shelves::Shelves;
-use rv_base::{Failed, Memory};
+use rv_base::{Failed, Memory, Sequence};
 use std::alloc::Global;
+
+/// A call at which a keeper in memory fails. Calls are counted from 1, those of each kind apart. A commit that is to fail
+/// before its changes and after them fails before them.
+#[derive(Clone, Copy, Debug, PartialEq, Eq)]
+pub enum Fails {
+    /// This commit fails, and nothing is changed.
+    Before(u64),
+    /// This commit fails, and its changes are made all the same.
+    After(u64),
+    /// This load fails.
+    Load(u64),
+    /// This question for the generation fails.
+    Generation(u64),
+}
+
+/// The calls at which one keeper fails.
+pub type Schedule = Sequence<Fails>;
+
+impl Fails {
+    // Whether both name the same call.
+    fn is_same(self, other: Fails) -> bool
+        ensures { result ≡ same_fails self other }
+    {
+        match (self, other) {
+            (Fails::Before(one), Fails::Before(two)) => one == two,
+            (Fails::After(one), Fails::After(two)) => one == two,
+            (Fails::Load(one), Fails::Load(two)) => one == two,
+            (Fails::Generation(one), Fails::Generation(two)) => one == two,
+            _ => false,
+        }
+    }
+}
 
 /// Keeps cells and a generation in memory, and fails at the calls of a schedule. It tells what it holds.
 /// Its counts stand still at 2^64 - 1.
@@ -184,4 +215,11 @@ impl Keeper for MemoryKeeper {
     ghost steady_tells = { λ keeper steady. tt };
 
     ghost holds_one = { λ keeper one two told is also. is ∙ sym also };
+}
+
+// Whether the schedule names the call.
+fn fails_at(schedule: &[Fails], call: Fails) -> bool
+    ensures { result ≡ fails_at call schedule.now }
+{
+    schedule.iter().any(|fails| fails.is_same(call))
 }

@@ -15,9 +15,8 @@ ghost use Rattle.rv_keeper.specs.AbsentStores.{absent_holds};
 ghost use Rattle.rv_keeper.specs.Stores.{CallIsSteady, OpensWith, OthersStay, PlaceStays, TakesUp};
 
 use crate::accounts_file::{self, AccountsFile};
-use crate::fails::{Fails, Schedule};
 use crate::fault::KeepFault;
-use crate::memory_keeper::MemoryKeeper;
+use crate::memory_keeper::{Fails, MemoryKeeper, Schedule};
 use crate::place::Place;
 use crate::shelves::Shelves;
 use crate::store::Store;

@@ -5,7 +5,6 @@
 #![tactic(auto)]
 
 mod lists;
-mod lookups;
 mod readers;
 mod shares;
 mod staged;

@@ -9,7 +9,6 @@ ghost use Rattle.rv_rows.specs.declared.call.Call.TheVariants.{CreateList, Delet
 ghost use Rattle.rv_rows.specs.declared.key.Kind.TheVariants.{List as ListKind};
 ghost use Rattle.rv_mutators.specs.Staging.{staged};
 
-use crate::lookups::has_row;
 use crate::staged::Staged;
 use rv_base::{Id, Memory, Text, User};
 use rv_rows::{Keys, Kind, ListRow, Row, Rows, Tables};
@@ -77,4 +76,11 @@ fn keys_of(alloc: Global, tables: &Tables, list: &Id) -> Result<Keys, Memory>
         keys.push(row.key(alloc)?)?;
     }
     Ok(keys)
+}
+
+// Whether some row has the key of this kind and id.
+pub(crate) fn has_row(tables: &Tables, kind: Kind, id: &Id) -> bool
+    ensures { result ≡ has_row (key_text (record { kind = kind; id = id.now })) (rows_in tables.now.rows) }
+{
+    tables.row(kind, id).is_some()
 }

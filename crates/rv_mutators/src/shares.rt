@@ -5,7 +5,7 @@ ghost use Rattle.rv_rows.specs.Effects.{may_end, may_share};
 ghost use Rattle.rv_rows.specs.declared.call.Call.TheVariants.{CreateShare, DeleteShare};
 ghost use Rattle.rv_mutators.specs.Staging.{staged, removed_if};
 
-use crate::lookups::has_row;
+use crate::lists::has_row;
 use crate::staged::Staged;
 use rv_base::{Id, Memory, User};
 use rv_rows::{Kind, Row, ShareRow, Tables};

@@ -10,7 +10,7 @@ ghost use Rattle.rv_rows.specs.declared.row.Row.TheVariants.{Todo};
 ghost use Rattle.rv_rows.specs.declared.key.Kind.TheVariants.{Todo as TodoKind};
 ghost use Rattle.rv_mutators.specs.Staging.{staged, written_if, removed_if};
 
-use crate::lookups::has_row;
+use crate::lists::has_row;
 use crate::staged::Staged;
 use rv_base::{Id, Memory, Num, Text, User};
 use rv_rows::{Kind, Row, Tables, TodoRow};

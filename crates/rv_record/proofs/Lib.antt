@@ -1,4 +1,4 @@
-pub mod Writing
+pub mod WritingLaws
 pub mod Settling
 pub mod Again
 pub mod PlaceDigits

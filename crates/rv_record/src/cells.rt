@@ -4,12 +4,13 @@ ghost use Rattle.rv_rows.specs.Keys.{row_text};
 ghost use Rattle.rv_book.specs.declared.entry.Entry.TheVariants.{Act, Look, Retire};
 ghost use Rattle.rv_record.specs.EntryTexts.{entry_data};
 ghost use Rattle.rv_record.specs.CellTexts.{row_body, client_body, group_body, view_body, entry_cell, row_cell, client_cell, group_cell, view_cell};
+ghost use Rattle.rv_record.specs.CellReading.{same_cell};
 
-use crate::body_writing::{write_group_body, write_row_body};
-use crate::entry_writing::{write_act, write_look, write_retirement};
 use crate::places::ten_digits;
-use crate::value_writing::write_pair;
 use crate::view_writing::write_view;
+use crate::writing::{
+    write_act, write_group_body, write_look, write_pair, write_retirement, write_row_body,
+};
 use json::Writer;
 use rv_base::{Bytes, Id, Memory, Num, Sequence, User};
 use rv_book::Entry;
@@ -225,4 +226,13 @@ pub fn cell_of_view(alloc: Global, place: u32, view: &ViewRecord) -> Result<Cell
         key: ten_digits(alloc, place)?,
         body: view_text(alloc, view)?,
     })
+}
+
+// Whether the cells have the same shelf, key and body.
+pub(crate) fn is_same(cell: &Cell, other: &Cell) -> bool
+    ensures { result ≡ same_cell cell.now other.now }
+{
+    cell.shelf == other.shelf
+        && cell.key.as_slice() == other.key.as_slice()
+        && cell.body.as_slice() == other.body.as_slice()
 }

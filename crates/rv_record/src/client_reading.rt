@@ -2,9 +2,8 @@ ghost use Rattle.std.specs.Prelude.{◌≡◌, IfOk};
 ghost use Rattle.rv_record.specs.CellTexts.{client_cell, group_cell};
 ghost use Rattle.rv_record.specs.CellReading.{ReadsCell, ClientFits, GroupFits, client_in_cell, group_in_cell};
 
-use crate::cells::{cell_of_client, cell_of_group};
+use crate::cells::{cell_of_client, cell_of_group, is_same};
 use crate::fault::{CellFault, damaged};
-use crate::same_cell::is_same;
 use crate::value_reading::{flag_item, num_item, text_item, text_of_bytes};
 use rv_base::{Id, Memory, Num, User};
 use rv_keeper::Cell;

@@ -5,23 +5,17 @@
 //! A body is the compact text of a JSON value. The readers, `entry_of_cell` and its kin, take exactly these cells.
 #![tactic(auto)]
 
-mod body_writing;
 mod call_reading;
-mod call_writing;
 mod cells;
 mod client_reading;
 mod entry_reading;
-mod entry_writing;
 mod fault;
-mod key_reading;
-mod place_reading;
 mod places;
 mod row_reading;
-mod same_cell;
 mod value_reading;
-mod value_writing;
 mod view_reading;
 mod view_writing;
+mod writing;
 
 pub use cells::{
     cell_of_act, cell_of_client, cell_of_entry, cell_of_group, cell_of_look, cell_of_retirement,

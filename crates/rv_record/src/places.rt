@@ -1,6 +1,7 @@
 // Places as the keys of cells.
-ghost use Rattle.std.specs.Prelude.{◌≡◌, IfOk};
+ghost use Rattle.std.specs.Prelude.{◌≡◌, ◌≤◌, ℕ, IfOk, IfSome, Some};
 ghost use Rattle.rv_record.specs.CellTexts.{ten_digits};
+ghost use Rattle.rv_record.specs.EntryReading.{IsPlace};
 
 use itoa::Buffer;
 use rv_base::{Bytes, Memory, Sequence};
@@ -16,4 +17,26 @@ pub fn ten_digits(alloc: Global, place: u32) -> Result<Bytes, Memory>
     let mut key = vec![in alloc; b'0'; 10 - digits.len()]?;
     key.extend_from_slice(digits)?;
     Ok(Sequence::from_vec(key))
+}
+
+// The place that the digits write.
+fn place_of_digits(digits: &str) -> Option<u32>
+    ensures written { (place : ℕ) → IsPlace place → digits.now ≡ ten_digits place → result ≡ Some place }
+    ensures low { IfSome result (λ place. 1 ≤ place) }
+{
+    match digits.parse::<u32>() {
+        Ok(place) => { if place == 0 { None } else { Some(place) } }
+        Err(_) => None,
+    }
+}
+
+// The place that a key writes. Here it may write it in fewer or more digits than ten.
+pub(crate) fn place_of_key(key: &[u8]) -> Option<u32>
+    ensures written { (place : ℕ) → IsPlace place → key.now ≡ ten_digits place → result ≡ Some place }
+    ensures low { IfSome result (λ place. 1 ≤ place) }
+{
+    match str::from_utf8(key) {
+        Ok(digits) => place_of_digits(digits),
+        Err(_) => None,
+    }
 }

@@ -5,9 +5,8 @@ ghost use Rattle.rv_record.specs.CellTexts.{row_cell};
 ghost use Rattle.rv_record.specs.CellReading.{ReadsCell};
 ghost use Rattle.rv_record.specs.RowReading.{RowFits, row_cell_in};
 
-use crate::cells::cell_of_row;
+use crate::cells::{cell_of_row, is_same};
 use crate::fault::{CellFault, damaged};
-use crate::same_cell::is_same;
 use crate::value_reading::place_item;
 use rv_base::Memory;
 use rv_keeper::Cell;

@@ -1,24 +1,57 @@
 ghost use Rattle.std.specs.Prelude.{◌≡◌, ◌≤◌, IfOk, option_map, option_and_then};
 ghost use Rattle.serde_json.specs.Find.{at, as_array};
 ghost use Rattle.serde_json.specs.View.{view, items_view};
+ghost use Rattle.rv_rows.specs.Keys.{prefix};
 ghost use Rattle.rv_views.specs.Viewed.{seen_key, client_of_pair};
 ghost use Rattle.rv_record.specs.CellTexts.{view_cell};
 ghost use Rattle.rv_record.specs.CellReading.{ReadsCell};
-ghost use Rattle.rv_record.specs.ViewReading.{ViewFits, seen_in, pair_in, each_item, each_of, is_in_order, viewed, view_in, body_view};
+ghost use Rattle.rv_record.specs.ViewReading.{ViewFits, after_front, key_with, key_in, seen_in, pair_in, each_item, each_of, is_in_order, viewed, view_in, body_view};
 
-use crate::cells::cell_of_view;
+use crate::cells::{cell_of_view, is_same};
 use crate::fault::{CellFault, damaged};
-use crate::key_reading::key_of_text;
-use crate::place_reading::place_of_key;
-use crate::same_cell::is_same;
-use crate::value_reading::{num_item, place_item, string_item, text_item};
+use crate::places::place_of_key;
+use crate::value_reading::{num_item, place_item, string_item, text_item, text_of_bytes};
 use rv_base::{Id, Memory, Num, Sequence};
 use rv_keeper::Cell;
-use rv_rows::{Clients, Key, Visible, read_json};
+use rv_rows::{Clients, Key, Kind, Visible, read_json};
 use rv_views::{ViewRecord, record_now};
 use serde_json::Value;
 use std::alloc::Global;
 use std::cmp::Ordering;
+
+// What stands after the front of the kind's key texts.
+fn after_front(kind: Kind, text: &[u8]) -> Option<&[u8]>
+    ensures { option_map (λ s. s.now) result ≡ after_front (prefix kind) text.now }
+{
+    text.strip_prefix(kind.prefix().as_bytes())
+}
+
+// The key of a kind whose id is the bytes.
+fn key_with(alloc: Global, kind: Kind, bytes: &[u8]) -> Result<Option<Key>, Memory>
+    ensures { IfOk result (λ o. o ≡ key_with kind bytes.now) }
+{
+    match text_of_bytes(alloc, bytes)? {
+        Some(id) => Ok(Some(Key { kind, id })),
+        None => Ok(None),
+    }
+}
+
+// The key of a text: `list/ID`, `share/ID` or `todo/ID`.
+#[tactic(auto, unfolding(crate::specs::ViewReading::key_in))]
+fn key_of_text(alloc: Global, text: &[u8]) -> Result<Option<Key>, Memory>
+    ensures { IfOk result (λ o. o ≡ key_in text.now) }
+{
+    if let Some(id) = after_front(Kind::List, text) {
+        return key_with(alloc, Kind::List, id);
+    }
+    if let Some(id) = after_front(Kind::Share, text) {
+        return key_with(alloc, Kind::Share, id);
+    }
+    match after_front(Kind::Todo, text) {
+        Some(id) => key_with(alloc, Kind::Todo, id),
+        None => Ok(None),
+    }
+}
 
 // The key and the version that an item of the first list is.
 #[tactic(auto, unfolding(crate::specs::ViewReading::seen_in))]

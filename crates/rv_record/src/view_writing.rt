@@ -4,7 +4,7 @@ ghost use Rattle.rv_rows.specs.Additions.{AddsValue};
 ghost use Rattle.rv_record.specs.CallTexts.{array_of};
 ghost use Rattle.rv_record.specs.CellTexts.{seen_data, client_data, view_body};
 
-use crate::value_writing::write_pair;
+use crate::writing::write_pair;
 use json::Writer;
 use rv_base::{Id, Memory, Num};
 use rv_rows::Key;

@@ -1,10 +1,13 @@
-ghost use Rattle.std.specs.Prelude.{◌≡◌, IfOk, option_map};
-ghost use Rattle.serde_json.specs.View.{view};
+// JSON values of texts, members of objects, and what values are read as.
+ghost use Rattle.std.specs.Prelude.{◌≡◌, IfOk, IfSome, IfNone, Some, None, option_map};
+ghost use Rattle.serde_json.specs.View.{view, members_view};
 ghost use Rattle.rv_rows.specs.JsonTexts.{json_in};
+ghost use Rattle.rv_rows.specs.Members.{named, within, text_in, num_in};
 
-use rv_base::Memory;
+use rv_base::{Bounded, Memory, Num, TextRefusal};
 use serde_json::Value;
 use std::alloc::Global;
+use std::collections::btree_map::Iter;
 
 /// The JSON value of a text, where it is UTF-8, is JSON, and nests at most 127 deep.
 #[tactic(auto, using(crate::specs::JsonTexts::json_none, crate::specs::JsonTexts::json_some))]
@@ -21,4 +24,52 @@ pub fn read_json(alloc: Global, text: &[u8]) -> Result<Option<Value>, Memory>
             }
         }
     }
+}
+
+/// The value of the next member, where that member has this name.
+pub fn next_named<'a>(left: &mut Iter<'a, String, Value>, name: &str) -> Option<&'a Value>
+    ensures found { IfSome result (λ v. named name.now (members_view left.old) ≡ Some (view v.now, members_view left.new)) }
+    ensures none { IfNone result (named name.now (members_view left.old) ≡ None) }
+{
+    let (key, value) = left.next()?;
+    if key.as_str() == name {
+        Some(value)
+    } else {
+        None
+    }
+}
+
+/// The text, where it is at least `MIN` and at most `MAX` bytes long.
+pub fn text_within<const MIN: usize, const MAX: usize>(
+    alloc: Global,
+    text: &str,
+) -> Result<Option<Bounded<MIN, MAX>>, Memory>
+    ensures { IfOk result (λ o. o ≡ within MIN MAX text.now) }
+{
+    match Bounded::new(alloc, text) {
+        Ok(text) => Ok(Some(text)),
+        Err(TextRefusal::Memory) => Err(Memory),
+        Err(_) => Ok(None),
+    }
+}
+
+/// The text that a value is, where it is one within the bounds.
+pub fn text_of_value<const MIN: usize, const MAX: usize>(
+    alloc: Global,
+    value: &Value,
+) -> Result<Option<Bounded<MIN, MAX>>, Memory>
+    ensures { IfOk result (λ o. o ≡ text_in MIN MAX (view value.now)) }
+{
+    match value.as_str() {
+        None => Ok(None),
+        Some(text) => text_within(alloc, text),
+    }
+}
+
+/// The number that a value is, where it is a `Num`.
+pub fn num_of_value(value: &Value) -> Option<Num>
+    ensures { result ≡ num_in (view value.now) }
+{
+    let number = value.as_u64()?;
+    Num::new(number).ok()
 }

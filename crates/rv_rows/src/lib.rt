@@ -7,25 +7,21 @@
 
 mod call;
 mod json_reading;
+mod json_writing;
 mod key;
 mod lists;
-mod member_writing;
-mod members;
 mod positions;
 mod row;
 mod row_json;
 mod row_reading;
-mod row_writing;
 mod tables;
 
 pub use call::{Call, Reason};
-pub use json_reading::read_json;
+pub use json_reading::{next_named, num_of_value, read_json, text_of_value, text_within};
+pub use json_writing::{write_bool_member, write_num_member, write_row, write_text_member};
 pub use key::{Key, Kind};
 pub use lists::{Clients, Keys, Rows, Users, Visible};
-pub use member_writing::{write_bool_member, write_num_member, write_text_member};
-pub use members::{next_named, num_of_value, text_of_value, text_within};
 pub use row::{ListRow, Row, ShareRow, TodoRow};
 pub use row_json::row_value;
 pub use row_reading::read_row;
-pub use row_writing::write_row;
 pub use tables::{RowsInOrder, Tables};

@@ -3,7 +3,7 @@ ghost use Rattle.serde_json.specs.View.{view, members_view};
 ghost use Rattle.rv_rows.specs.declared.row.Row.{Row};
 ghost use Rattle.rv_rows.specs.RowTexts.{row_data, RowIsWithin, list_row_in, share_row_in, todo_row_in, members_row_in, row_in};
 
-use crate::members::{next_named, num_of_value, text_of_value};
+use crate::json_reading::{next_named, num_of_value, text_of_value};
 use crate::row::{ListRow, Row, ShareRow, TodoRow};
 use rv_base::Memory;
 use serde_json::Value;

@@ -5,7 +5,7 @@ ghost use Rattle.rv_rows.specs.Members.{text_in, num_in};
 ghost use Rattle.rv_wire.specs.Members.{optional};
 ghost use Rattle.rv_wire.specs.Calls.{call_in, call_with, create_list_in, create_share_in, create_todo_in, update_todo_in};
 
-use crate::members::{bool_member, text_member};
+use crate::body::{bool_member, text_member};
 use rv_base::{Id, Memory, Num, Text};
 use rv_rows::{Call, Reason, num_of_value, text_of_value};
 use serde_json::Value;

@@ -3,10 +3,8 @@ ghost use Rattle.serde_json.specs.View.{view};
 ghost use Rattle.rv_wire.specs.Bodies.{GivesBody, is_schema_served, named_cookie, cookie_at, cookie_in, pull_in, pull_body};
 ghost use Rattle.rv_wire.specs.Members.{text_member, num_member};
 
-use crate::body::group_of_value;
+use crate::body::{SchemaVersions, group_of_value, num_member, text_member};
 use crate::fault::{FieldName, VersionKind, WireFault};
-use crate::members::{num_member, text_member};
-use crate::schema_versions::SchemaVersions;
 use rv_base::Memory;
 use rv_rows::{num_of_value, read_json};
 use rv_turns::PullRequest;

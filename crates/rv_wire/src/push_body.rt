@@ -6,12 +6,12 @@ ghost use Rattle.rv_base.specs.Chains.{each};
 ghost use Rattle.rv_wire.specs.Bodies.{GivesBody, GivesAll, is_schema_served, mutation_in, mutations_in, push_in, push_body};
 ghost use Rattle.rv_wire.specs.Calls.{call_in};
 
-use crate::body::group_of_value;
+use crate::body::{
+    SchemaVersions, array_member, group_of_value, num_member, string_member, text_member,
+};
 use crate::calls::read_call;
 use crate::fault::{FieldName, VersionKind, WireFault};
-use crate::members::{array_member, num_member, string_member, text_member};
 use crate::push::Push;
-use crate::schema_versions::SchemaVersions;
 use rv_base::{Memory, Sequence};
 use rv_rows::{Call, read_json};
 use rv_turns::Mutation;

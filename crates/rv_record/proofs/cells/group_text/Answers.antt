@@ -1,6 +1,6 @@
 use Rattle.std.proofs.Common.{◌∙◌}
 use Rattle.rv_record.specs.CellTexts.{group_body}
-use Rattle.rv_record.proofs.Writing.{text_of}
+use Rattle.rv_record.proofs.WritingLaws.{text_of}
 use Rattle.rv_record.proofs.cells.group_text.Goals as goal
 
 pub returns : goal.returns

@@ -1,7 +1,7 @@
 use Rattle.std.proofs.Common.{◌∙◌}
 use Rattle.rv_book.specs.declared.entry.Entry.TheVariants.{Look}
 use Rattle.rv_record.specs.EntryTexts.{entry_data}
-use Rattle.rv_record.proofs.Writing.{text_of}
+use Rattle.rv_record.proofs.WritingLaws.{text_of}
 use Rattle.rv_record.proofs.cells.look_text.Goals as goal
 
 pub returns : goal.returns

@@ -1,5 +1,5 @@
 use Rattle.std.proofs.Common.{rules, append_assoc}
-use Rattle.rv_record.proofs.call_writing.write_create_share.Goals as goal
+use Rattle.rv_record.proofs.writing.write_create_list.Goals as goal
 
 pub returns : goal.returns
 returns c = (

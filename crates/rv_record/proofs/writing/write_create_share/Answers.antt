@@ -1,5 +1,5 @@
 use Rattle.std.proofs.Common.{rules, append_assoc}
-use Rattle.rv_record.proofs.call_writing.write_create_todo.Goals as goal
+use Rattle.rv_record.proofs.writing.write_create_share.Goals as goal
 
 pub returns : goal.returns
 returns c = (
@@ -7,7 +7,6 @@ returns c = (
   simp (
     append_assoc,
     c.in_ok-end_array.ensures.ok,
-    c.in_ok-boolean.ensures.ok,
     c.in_ok-string-2.ensures.ok,
     c.in_ok-string.ensures.ok,
     c.in_ok-begin_call.ensures.1,

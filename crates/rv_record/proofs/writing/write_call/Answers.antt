@@ -1,4 +1,4 @@
-use Rattle.rv_record.proofs.call_writing.write_call.Goals as goal
+use Rattle.rv_record.proofs.writing.write_call.Goals as goal
 
 pub returns-in-DeleteList : goal.returns-in-DeleteList
 returns-in-DeleteList c = rw c.in-DeleteList.is c.write_removal.ensures

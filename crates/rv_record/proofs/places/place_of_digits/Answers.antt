@@ -1,6 +1,6 @@
 use Rattle.std.proofs.Common.{◌≡◌, ℕ, ◌≤◌, Some, ap, arith}
 use Rattle.rv_record.proofs.PlaceDigits.{some_place, no_place}
-use Rattle.rv_record.proofs.place_reading.place_of_digits.Goals as goal
+use Rattle.rv_record.proofs.places.place_of_digits.Goals as goal
 
 pub returns-then-place-eq0-clause-written : goal.returns-then-place-eq0-clause-written
 returns-then-place-eq0-clause-written c = λ place fits is.

@@ -1,5 +1,5 @@
 use Rattle.std.proofs.Common.{rules, append_assoc}
-use Rattle.rv_rows.proofs.row_writing.write_share.Goals as goal
+use Rattle.rv_rows.proofs.json_writing.write_share.Goals as goal
 
 pub returns : goal.returns
 returns c = (
