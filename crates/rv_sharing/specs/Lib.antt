@@ -4,3 +4,4 @@ pub mod Opened
 pub mod Sharers
 pub mod Visible
 pub mod Affected
+pub mod SeenLaws
