@@ -42,6 +42,7 @@ impl<K: Keeper> Model for Desk<K> {
 impl<K: Keeper> Desk<K> {
     ghost use Rattle.std.specs.List.{AllByRecursion};
     ghost use Rattle.rv_history.specs.Lawful.{IsLawful};
+    ghost use Rattle.rv_history.specs.Marks.{IsMark};
     ghost use Rattle.rv_history.specs.Replay.{IsReplay};
     ghost use Rattle.rv_history.specs.Served.{MayStand};
     ghost use Rattle.rv_keeper.specs.declared.loaded.Loaded.{Loaded};
@@ -87,6 +88,14 @@ impl<K: Keeper> Desk<K> {
         ensures { AreRecords self.now.book result.now.records }
     {
         self.state.records()
+    }
+
+    /// The mark of a user in the book, without an entry in doubt: the greatest place of an act that is by the user, or after which what the
+    /// user sees is another; 0 where there is none. Takes no memory.
+    pub fn mark(&self, user: &User) -> u32
+        ensures { IsMark user.now self.now.book result }
+    {
+        self.state.mark(user)
     }
 
     /// The keeper, as it stands. Takes no memory.

@@ -16,3 +16,5 @@ pub mod TurnLaws
 pub mod Laws
 pub mod LookIds
 pub mod Clients
+pub mod Marks
+pub mod MarkLaws

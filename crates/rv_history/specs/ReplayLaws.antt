@@ -155,7 +155,7 @@ all_versions : (book : Book) (e : Entry) (stored : List Stored) (rows : List Row
 all_versions book e stored [] r all = tt
 all_versions book e stored (row ∷ rows) r all = (version_is book e stored row r all.0, all_versions book e stored rows r all.1)
 
-rows_kept : (version : ℕ) (stored : List Stored) (rows : List Row) → rows_in (map (λ row. (row, version_after version stored row)) rows) ≡ rows
+pub rows_kept : (version : ℕ) (stored : List Stored) (rows : List Row) → rows_in (map (λ row. (row, version_after version stored row)) rows) ≡ rows
 rows_kept version stored [] = refl
 rows_kept version stored (row ∷ rows) = ap (λ (t : List Row). row ∷ t) (rows_kept version stored rows)
 

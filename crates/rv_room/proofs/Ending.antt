@@ -12,6 +12,7 @@ use Rattle.rv_turns.specs.declared.refusal.Refusal.TheVariants as refusals
 use Rattle.rv_turns.specs.declared.refusal.Trouble.{Trouble}
 use Rattle.rv_turns.specs.declared.refusal.Trouble.TheVariants.{Keeper, Changed}
 use Rattle.rv_wire.specs.Answers.{pull_json}
+use Rattle.rv_history.specs.Marks.{IsMark}
 use Rattle.rv_history.specs.TurnLaws.{Adds, step_adds}
 use Rattle.rv_history.specs.Served.{Doubt, Served, Settles, TurnOf, TakesTurn}
 use Rattle.rv_keeper.specs.declared.keeper.Keeper.{Ghosts}
@@ -25,6 +26,7 @@ use Rattle.rv_room.specs.Views.{waiting, on_turn, grown, entered, option_items}
 use Rattle.rv_room.specs.Rule.{IsOf}
 use Rattle.rv_room.specs.Plays.{Knows}
 use Rattle.rv_room.specs.Ends.{end_view, held_view}
+use Rattle.rv_room.specs.SeatMarks.{IsSeatMark}
 use Rattle.rv_room.specs.SeatTurns.{IsSeatTurn}
 use Rattle.rv_room.proofs.Totals.{drop_self}
 
@@ -207,3 +209,32 @@ module _ {K : Type 0} (G : Ghosts K) where
       subst (IsSeatTurn G v ask (Refused (refusals.Trouble why))) (sym (view ∙ ap (λ (m : Knows K). held_view m.0 d'.keeper) taken.1))
       (seat_held G v taken.0 d d' why ask of begins later (subst (λ (r : Result (Unit {0}) Trouble). IsSettled (served G.faults d) r (served G.faults d')) err is)
       (subst (λ (r : Result (Unit {0}) Trouble). Assures G.tells G.fails_no_more d.keeper (settle_trouble r) d'.keeper) err assured))
+
+-- ---- All of a turn that leaves the desk as it is.
+
+module _ {K : Type 0} (G : Ghosts K) where
+  seat_mark : (v : SeatView K) (t : ℕ) (d : Seated K) (user : List ℕ) (mark : ℕ) → IsOf G v d → Extends d.book v.seen → FollowsAll G v.after d.keeper → IsMark user d.book mark
+      → IsSeatMark G v user mark (held_view (on_turn G.faults (waiting v t) d) d.keeper)
+  seat_mark v t d user mark of begins later is = record {
+    opened = of.0;
+    desk = d;
+    room = of.1;
+    keeps = of.2;
+    begins = begins;
+    follows = later;
+    marks = is;
+    stays = refl;
+    seen = refl;
+    ends = refl;
+    own = refl;
+    settled = refl;
+    left = refl;
+    before = refl;
+    after = refl;
+  }
+
+  pub marked_turn : (v : SeatView K) (d : Seated K) (m : Knows K) (user : List ℕ) (mark : ℕ) (w : SeatView K) → HasTaken G v d m → IsOf G v d → Extends d.book v.seen → FollowsAll G v.after d.keeper → IsMark user d.book mark
+      → w ≡ held_view m.0 d.keeper
+      → IsSeatMark G v user mark w
+  marked_turn v d m user mark w taken of begins later is view =
+      subst (IsSeatMark G v user mark) (sym (view ∙ ap (λ (m : Knows K). held_view m.0 d.keeper) taken.1)) (seat_mark v taken.0 d user mark of begins later is)

@@ -5,6 +5,7 @@ pub mod Rule
 pub mod Plays
 pub mod Ends
 pub mod SeatTurns
+pub mod SeatMarks
 pub mod Closing
 pub mod Seats
 pub mod SeatLaws

@@ -3,11 +3,12 @@ ghost use Rattle.rv_room.specs.Seats.{id_of, room_of};
 
 use crate::room::Room;
 use crate::seat::Seat;
+use rv_base::User;
 use rv_keeper::Keeper;
-use rv_turns::{Asked, Outcome, Turns};
+use rv_turns::{Asked, Marks, Outcome, Turns};
 use std::sync::Wait;
 
-/// A seat that takes turns in its room.
+/// A seat that takes turns in its room, and tells marks.
 #[derive(Drop)]
 pub struct SeatTurns<'a, R: Wait, K: Keeper> {
     rt: &'a R,
@@ -43,5 +44,17 @@ impl<'a, R: Wait, K: Keeper> Turns for SeatTurns<'a, R, K> {
     fn take(&mut self, asked: Asked<'_>) -> Outcome {
         let room = self.room;
         room.turn(self.rt, &mut self.seat, asked)
+    }
+}
+
+impl<'a, R: Wait, K: Keeper> Marks for SeatTurns<'a, R, K> {
+    ghost use Rattle.rv_room.specs.SeatMarks.{IsSeatMark};
+    ghost use Rattle.rv_room.specs.Seats.{view_of};
+
+    ghost marks = { λ old user mark new. IsSeatMark K.Keeper (view_of old.seat) user mark (view_of new.seat) × (new.room.now ≡ old.room.now) };
+
+    fn mark(&mut self, user: &User) -> u32 {
+        let room = self.room;
+        room.turn_mark(self.rt, &mut self.seat, user)
     }
 }

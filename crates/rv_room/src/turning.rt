@@ -1,6 +1,7 @@
 // The turns of a seat.
 ghost use Rattle.std.specs.Prelude.{◌≡◌, None};
 ghost use Rattle.rv_turns.specs.Asks.{Ask, ask_of};
+ghost use Rattle.rv_room.specs.SeatMarks.{IsSeatMark};
 ghost use Rattle.rv_room.specs.SeatTurns.{IsSeatTurn};
 ghost use Rattle.rv_room.specs.Seats.{id_of, room_of, view_of};
 
@@ -86,5 +87,18 @@ impl<K: Keeper> Room<K> {
         ensures turn { IsSeatTurn K.Keeper (view_of seat.old) (Ask.retirement group.now) result (view_of seat.new) }
     {
         self.turn(rt, seat, Asked::Retirement { group })
+    }
+
+    /// The mark of a user, in a turn of a seat, which leaves the desk as it is: an entry in doubt stays in doubt. Takes no memory.
+    pub fn turn_mark(&self, rt: &impl Wait, seat: &mut Seat<K>, user: &User) -> u32
+        requires { room_of seat.old ≡ id_of self.now }
+        ensures same { room_of seat.new ≡ room_of seat.old }
+        ensures mark { IsSeatMark K.Keeper (view_of seat.old) user.now result (view_of seat.new) }
+    {
+        let token = &mut seat.token;
+        let desk = self.begin(rt, token);
+        let mark = desk.mark(user);
+        self.end_held(token, desk);
+        mark
     }
 }

@@ -1,1 +1,3 @@
+pub mod Concerned
+pub mod Marking
 pub mod Entered

@@ -1,2 +1,3 @@
+pub mod UserMarks
 pub mod Standing
 pub mod Ready

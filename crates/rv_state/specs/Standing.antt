@@ -3,9 +3,10 @@ use Rattle.std.specs.Prelude.{ℕ, List}
 use Rattle.rv_rows.specs.Held.{Stored}
 use Rattle.rv_book.specs.Book.{Book}
 use Rattle.rv_news.specs.Records.{Placed}
+use Rattle.rv_state.specs.UserMarks.{UserMark}
 
--- the book with the most entries that it may have, its rows with their versions, and the records of its kept looks; and beside
--- each a lower bound of what has space
+-- the book with the most entries that it may have, its rows with their versions, the records of its kept looks, and its users' marks; and
+-- beside each a lower bound of what has space
 pub record Standing : Type 0 where
   pub book : Book
   pub limit : ℕ
@@ -14,3 +15,5 @@ pub record Standing : Type 0 where
   pub spare_rows : ℕ
   pub records : List Placed
   pub spare_records : ℕ
+  pub marks : List UserMark
+  pub spare_marks : ℕ

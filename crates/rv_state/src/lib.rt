@@ -1,4 +1,4 @@
-//! The state of one server: a book of entries, and the tables and view records that are its replay.
+//! The state of one server: a book of entries, the tables and view records that are its replay, and its users' marks.
 //!
 //! An entry comes into a [`State`] in two steps: it is prepared, which takes memory, and then entered, which can't fail.
 //! [`may_stand`] tells whether an entry may come next.
@@ -6,6 +6,7 @@
 
 mod fitting;
 mod lawful;
+mod marks;
 mod prepared;
 mod state;
 

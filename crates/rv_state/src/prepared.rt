@@ -1,6 +1,6 @@
 use rv_base::{Id, Num, User};
 use rv_mutators::Staged;
-use rv_rows::Call;
+use rv_rows::{Call, Users};
 use rv_views::ViewRecord;
 
 /// An act that is ready to be entered.
@@ -18,6 +18,8 @@ pub struct PreparedAct {
     pub call: Call,
     /// The rows that it writes and removes.
     pub staged: Staged,
+    /// The users whom it concerns: who sent it, and those for whom what they see is another after it.
+    pub concerned: Users,
 }
 
 /// A look that is ready to be entered.

@@ -4,6 +4,7 @@ ghost use Rattle.rv_book.specs.Book.{empty_book, size, with_entry};
 ghost use Rattle.rv_news.specs.News.{IsNews};
 
 use crate::fitting::{entry_fits, look_fits};
+use crate::marks::UserMarks;
 use crate::prepared::{Prepared, PreparedAct, PreparedLook};
 use rv_base::{Id, Memory, Num, User};
 use rv_book::{Book, BookFault, Entry};
@@ -11,13 +12,14 @@ use rv_history::entries;
 use rv_mutators::stage;
 use rv_news::{News, Records, is_unchanged, news_for, view_now};
 use rv_rows::{Call, Tables};
+use rv_sharing::add_user;
 use rv_turns::{PullReply, PullRequest};
 use rv_wire::look_reply;
 use std::alloc::Global;
 use std::marker::Model;
 
-/// The state of one server in memory: its book, and beside it the tables, which are the book's replay, and the view records of
-/// the looks that the book keeps.
+/// The state of one server in memory: its book, and beside it the tables, which are the book's replay, the view records of the
+/// looks that the book keeps, and the users' marks.
 ///
 /// An entry comes in two steps. To prepare it takes all the memory that it needs, and changes nothing but the space that there
 /// is; to enter it takes none and can't fail. It may be entered at any later time, while nothing else was.
@@ -26,6 +28,7 @@ pub struct State {
     book: Book,
     tables: Tables,
     records: Records,
+    marks: UserMarks,
     alloc: Global,
 }
 
@@ -36,12 +39,13 @@ impl Model for State {
     ghost use Rattle.rv_news.specs.Records.{AreRecords};
     ghost use Rattle.rv_record.specs.EntryReading.{EntryFits};
     ghost use Rattle.rv_state.specs.Standing.{Standing};
+    ghost use Rattle.rv_state.specs.UserMarks.{AreMarks};
 
     ghost Value = { Standing };
 
-    ghost view = { λ s. record { book = s.book.book; limit = s.book.limit; spare_entries = s.book.spare; rows = s.tables.rows; spare_rows = s.tables.spare; records = s.records.records; spare_records = s.records.spare } };
+    ghost view = { λ s. record { book = s.book.book; limit = s.book.limit; spare_entries = s.book.spare; rows = s.tables.rows; spare_rows = s.tables.spare; records = s.records.records; spare_records = s.records.spare; marks = s.marks.marks; spare_marks = s.marks.spare } };
 
-    ghost invariant = { λ s. IsLawful s.book.book × IsReplay s.book.book s.tables.rows × AreRecords s.book.book s.records.records × AllByRecursion EntryFits s.book.book.entries };
+    ghost invariant = { λ s. IsLawful s.book.book × IsReplay s.book.book s.tables.rows × AreRecords s.book.book s.records.records × AllByRecursion EntryFits s.book.book.entries × AreMarks s.book.book s.marks.marks };
 }
 
 // Makes space for an entry.
@@ -65,6 +69,7 @@ impl State {
     ghost use Rattle.rv_record.specs.EntryReading.{EntryFits};
     ghost use Rattle.std.specs.List.{AllByRecursion};
     ghost use Rattle.rv_history.specs.Machine.{IsUnchanged, next_order, reply_to};
+    ghost use Rattle.rv_history.specs.Marks.{IsMark};
     ghost use Rattle.rv_news.specs.Records.{AreRecords};
     ghost use Rattle.rv_wire.specs.Answers.{pull_json};
     ghost use Rattle.rv_state.specs.Ready.{IsPrepared, entry_of};
@@ -78,6 +83,7 @@ impl State {
             book: Book::new(alloc, limit),
             tables: Tables::new(alloc),
             records: Records::new(alloc),
+            marks: UserMarks::new(alloc),
             alloc,
         }
     }
@@ -105,6 +111,14 @@ impl State {
         ensures { AreRecords self.now.book result.now.records }
     {
         &self.records
+    }
+
+    /// The mark of a user: the greatest place of an act that is by the user, or after which what the user sees is another; 0 where there is
+    /// none. Takes no memory.
+    pub fn mark(&self, user: &User) -> u32
+        ensures { IsMark user.now self.now.book result }
+    {
+        self.marks.of(user)
     }
 
     /// Whether the record of a pull's base shows what its user sees now, so that there is nothing to tell. No key that is
@@ -228,6 +242,9 @@ impl State {
                 call,
             } => {
                 let staged = stage(self.alloc, &mut self.tables, &user, &call)?;
+                let touched = staged.affected(self.alloc, &self.tables)?;
+                let concerned = add_user(self.alloc, touched, &user)?;
+                self.marks.reserve(concerned.len())?;
                 Ok(Prepared::Act(PreparedAct {
                     user,
                     group,
@@ -235,6 +252,7 @@ impl State {
                     id,
                     call,
                     staged,
+                    concerned,
                 }))
             }
             Entry::Look {
@@ -274,6 +292,7 @@ impl State {
                     id,
                     call,
                     staged,
+                    concerned,
                 } = act;
                 self.book.push_entry(Entry::Act {
                     user,
@@ -283,6 +302,7 @@ impl State {
                     call,
                 });
                 staged.apply(&mut self.tables, place);
+                self.marks.set_all(concerned, place);
             }
             Prepared::Look(look) => {
                 let PreparedLook {
