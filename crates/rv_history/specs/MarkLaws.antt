@@ -1,24 +1,18 @@
 -- Laws of marks: what becomes of a mark when one more entry follows, and what is known of the entries behind it.
-use Rattle.std.proofs.Common.{◌≡◌, ◌⊎◌, ℕ, zero, suc, ◌+◌, ◌-◌, ◌<◌, ◌≤◌, ◌&&◌, Bool, true, false, List, [], ◌∷◌, Option, Some, None, refl, sym, ap, ◌∙◌, subst, arith, inl, inr}
+use Rattle.std.proofs.Common.{◌≡◌, ◌⊎◌, ℕ, ◌+◌, ◌-◌, ◌≤◌, true, false, List, Option, sym, ap, ◌∙◌, subst, arith, inl, inr}
 use Rattle.std.specs.Option.{option_map_or}
-use Rattle.std.specs.Str.{bytes_eq}
 use Rattle.std.proofs.lemmas.Bool.{cases_lt}
-use Rattle.std.proofs.lemmas.Slice.Eq.{bytes_eq-Decides}
-use Rattle.rv_rows.specs.declared.row.Row.{Row}
 use Rattle.rv_rows.specs.Sharing.{seen}
-use Rattle.rv_rows.specs.Changes.{same_row}
-use Rattle.rv_rows.specs.EffectLaws.{same_row-Decides}
 use Rattle.rv_book.specs.declared.entry.Entry.{Entry}
-use Rattle.rv_book.specs.declared.entry.Entry.TheVariants.{Act}
-use Rattle.rv_book.specs.Book.{Book, bound, empty_book, entry_at, size, up_to, with_entry}
-use Rattle.rv_book.specs.BookWords.{size-with_entry, up_to-with_entry, up_to-end, up_to-before, up_to-all, entry_at-with_entry, entry_at-end}
+use Rattle.rv_book.specs.Book.{Book, empty_book, entry_at, size, up_to, with_entry}
+use Rattle.rv_book.specs.BookWords.{size-with_entry, up_to-with_entry, up_to-end, up_to-before, entry_at-with_entry, entry_at-end}
 use Rattle.rv_history.specs.Replay.{rows_of}
 use Rattle.rv_history.specs.Marks.{is_act_by, SeesSame, Concerns, IsMark}
 
 -- nothing concerns anyone in the empty book
 pub mark_none : (user : List ℕ) → IsMark user empty_book 0
 mark_none user = record {
-  concerns = λ above. absurd (omega above);
+  concerns = λ above. absurd (omega (arith, above));
   last = λ later above is. absurd (omega (arith, is.first, is.within));
 }
 

@@ -3,3 +3,4 @@ pub mod RecordLaws
 pub mod KeptRecords
 pub mod Shows
 pub mod News
+pub mod SinceMark

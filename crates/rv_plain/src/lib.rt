@@ -11,4 +11,5 @@ mod rows;
 mod server;
 
 pub use book::{last, rows_of};
+pub use rows::seen;
 pub use server::PlainDesk;

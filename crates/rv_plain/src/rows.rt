@@ -362,7 +362,7 @@ fn in_key_order(alloc: Global, rows: &[Row]) -> Result<Vec<Row>, Memory>
 
 /// The rows that the user sees, in the order of their keys.
 #[tactic(auto, using(std::proofs::lemmas::List::Elements::filter_more))]
-pub(crate) fn seen(alloc: Global, rows: &[Row], user: &User) -> Result<Vec<Row>, Memory>
+pub fn seen(alloc: Global, rows: &[Row], user: &User) -> Result<Vec<Row>, Memory>
     ensures { IfOk result (λ v. v.items ≡ seen user.now rows.now) }
 {
     let sorted = in_key_order(alloc, rows)?;

@@ -238,7 +238,8 @@ find-seen user rows k h =
     let p : Row → Bool = λ row. sees user (list_of row) rows in
     find-filter row_text p k (in_key_order rows) (distinct-sorted row_text rows) ∙ ap (option_filter p) (find-sorted row_text k rows h)
 
-seen-found : (user : List ℕ) (rows : List Row) (k : List ℕ) (row : Row) → Distinct row_text rows → row_at k (seen user rows) ≡ Some row → (row_at k rows ≡ Some row) × (sees user (list_of row) rows ≡ true)
+-- what the user sees at a key stands there, and the user sees its list
+pub seen-found : (user : List ℕ) (rows : List Row) (k : List ℕ) (row : Row) → Distinct row_text rows → row_at k (seen user rows) ≡ Some row → (row_at k rows ≡ Some row) × (sees user (list_of row) rows ≡ true)
 seen-found user rows k row h e = passed (λ row. sees user (list_of row) rows) (row_at k rows) row (sym (find-seen user rows k h) ∙ e)
 
 found-seen : (user : List ℕ) (rows : List Row) (k : List ℕ) (row : Row) → Distinct row_text rows → row_at k rows ≡ Some row → sees user (list_of row) rows ≡ true → row_at k (seen user rows) ≡ Some row

@@ -30,6 +30,7 @@ fn act_changes(alloc: Global, state: &State, act: &PreparedAct) -> Result<Vec<Ch
         id,
         call,
         staged,
+        ..
     } = act;
     let book = state.book();
     let place = book.len() + 1;

@@ -7,6 +7,7 @@ mod connections;
 mod drawing;
 mod feeding;
 mod holding;
+mod marks;
 mod numbers;
 mod order;
 mod plain_answers;
@@ -34,16 +35,18 @@ enum Item {
     Touched,
     Feed,
     Drawn,
+    Marks,
     Seats,
     Threads,
     Serial,
 }
 
-static ITEMS: [(&str, Item); 7] = [
+static ITEMS: [(&str, Item); 8] = [
     ("touched", Item::Touched),
     ("words", Item::Words),
     ("feed", Item::Feed),
     ("drawn", Item::Drawn),
+    ("marks", Item::Marks),
     ("seats", Item::Seats),
     ("threads", Item::Threads),
     ("serial", Item::Serial),
@@ -86,6 +89,7 @@ pub fn answer<R: Threads + Wait + Sync>(
         Some(Item::Words) => worded(alloc, rest),
         Some(Item::Feed) => feeding::told_of_lines(stage, lines),
         Some(Item::Drawn) => feeding::generated(stage, rest),
+        Some(Item::Marks) => marks::compared(alloc, rest),
         Some(Item::Seats) => seats::taken(stage.threads, alloc, rest),
         Some(Item::Threads) => crewed(stage, &mut TrialCrew::threaded(stage.threads), rest),
         Some(Item::Serial) => crewed(stage, &mut TrialCrew::serial(), rest),

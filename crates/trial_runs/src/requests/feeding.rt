@@ -220,3 +220,14 @@ pub fn generated<R: Threads + Wait + Sync>(
         None => Ok(None),
     }
 }
+
+/// The plain server after so many lines that are drawn by the seed, over a keeper that fails at no call.
+pub fn drawn_server(alloc: Global, seed: u64, many: u64) -> Result<PlainServer, Memory> {
+    let plan = Plan {
+        seed,
+        many,
+        fails: 0,
+        stops: 0,
+    };
+    Ok(draw_all(alloc, plan)?.plain)
+}

@@ -6,7 +6,7 @@ use super::meddled::Meddled;
 use rv_base::{Id, Memory, Num, User};
 use rv_room::{Room, SeatTurns, Seats};
 use rv_rows::{Call, Reason};
-use rv_turns::{Asked, Cookie, Outcome, PullRequest, Refusal, Turns};
+use rv_turns::{Asked, Cookie, Marks, Outcome, PullRequest, Refusal, Turns};
 use std::alloc::Global;
 use std::sync::Wait;
 use trial_stage::Part::{Number, Text};
@@ -107,7 +107,7 @@ fn asked<'n>(names: &'n Names, word: &str) -> Asked<'n> {
     }
 }
 
-// The turn of a word, without its seat.
+// The mark of the user, or the turn of another word, without its seat.
 fn turned<R: Wait>(
     alloc: Global,
     turns: &mut Player<'_, R>,
@@ -116,6 +116,10 @@ fn turned<R: Wait>(
 ) -> Result<String, Memory>
     ensures { turns.new.room.now ≡ turns.old.room.now }
 {
+    if word == "m" {
+        let mark = turns.mark(&names.user);
+        return joined(alloc, &[Text("Mark("), Number(u64::from(mark)), Text(")")]);
+    }
     let outcome = turns.take(asked(names, word));
     outcome_told(alloc, &outcome)
 }
