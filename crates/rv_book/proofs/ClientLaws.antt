@@ -82,11 +82,6 @@ row_acts book c row is =
       | Some i ↦ λ h. let all : last c book ≡ row.acts = ap (λ (r : ClientRow). r.acts) (same_Some _ _ h) in omega (arith, count_by-le-length (is_act_of c) book.entries, all)
     ] is
 
-pub acts_bound : (book : Book) (c : List ℕ) (rows seen : List ClientRow) (at : ℕ) (row : ClientRow) → AreClientRows book rows → seen ≡ rows → IsPositionOf (client_of_row book) c seen (Ok at) → row ≡ get_or rows at row → row.acts ≤ size book
-acts_bound book c rows seen at row h same found read =
-    let settled = subst (λ (xs : List ClientRow). IsPositionOf (client_of_row book) c xs (Ok at)) same found in
-    row_acts book c row (sym (h.found c) ∙ settled.found row ∙ ap Some (sym read))
-
 pub none_yet : AreClientRows empty_book []
 unfolding client_row
 none_yet = record { order = tt; within = tt; found = λ k. refl }
@@ -163,3 +158,14 @@ gives_client book c row is = record {
 
 pub gives_none : (book : Book) (c : List ℕ) → None ≡ client_row book c → (None ≡ group_of c book) × (0 ≡ last c book)
 gives_none book c is = (sym (no_group c book (sym is)), acts_of book c None is)
+
+-- what stands, or doesn't, at the place of a client
+pub row_there : (book : Book) (c : List ℕ) (rows seen : List ClientRow) (at : ℕ) (row : ClientRow) → AreClientRows book rows → seen ≡ rows → IsPositionOf (client_of_row book) c seen (Ok at) → row ≡ get_or rows at row → GivesClient book c row
+row_there book c rows seen at row h same found read =
+    let settled = subst (λ (xs : List ClientRow). IsPositionOf (client_of_row book) c xs (Ok at)) same found in
+    gives_client book c row (ap Some read ∙ sym (settled.found row) ∙ h.found c)
+
+pub none_there : (book : Book) (c : List ℕ) (rows seen : List ClientRow) (at : ℕ) → AreClientRows book rows → seen ≡ rows → IsPositionOf (client_of_row book) c seen (Err at) → None ≡ group_of c book
+none_there book c rows seen at h same found =
+    let settled = subst (λ (xs : List ClientRow). IsPositionOf (client_of_row book) c xs (Err at)) same found in
+    (gives_none book c (sym settled.absent ∙ h.found c)).0

@@ -114,14 +114,14 @@ kept_is book place look number looks gone there parts all out =
 -- the indexes when one more entry follows; the entries as each of the calls saw them
 pub indexed-push : (entries one two three four new : List Entry) (e : Entry) (limit : ℕ) (marks more : List LookMark) (mark : LookMark) (groups : List GroupRow) (clients members : List ClientRow) → length entries < limit → limit < 2 ^ 32
     → one ≡ entries → two ≡ entries → three ≡ entries → four ≡ entries → new ≡ entries ++ e ∷ [] → AreMarks (book_of entries) marks → mark ≡ mark_at (length one) (with_entry (book_of one) e) → more ≡ marks ++ mark ∷ []
-    → AreGroupRows (with_entry (book_of two) e) groups → AreMemberRows (with_entry (book_of three) e) members → AreClientRows (with_entry (book_of four) e) clients → IsIndexed (book_of new) limit more groups clients members
-indexed-push entries one two three four new e limit marks more mark groups clients members lt small first second third fourth is h own all in_groups in_members in_clients =
+    → AreGroupRows (with_entry (book_of two) e) groups → AreClientRows (with_entry (book_of three) e) clients → AreMemberRows (with_entry (book_of four) e) members → IsIndexed (book_of new) limit more groups clients members
+indexed-push entries one two three four new e limit marks more mark groups clients members lt small first second third fourth is h own all in_groups in_clients in_members =
     subst (λ (xs : List Entry). IsIndexed (book_of xs) limit more groups clients members) (sym is)
     (record {
       within = omega (arith, length_push entries e);
       small = small;
       marks = subst (AreMarks (book_of (entries ++ e ∷ []))) (sym all) (marks-push (book_of entries) e marks mark (own ∙ ap (λ (xs : List Entry). mark_at (length xs) (with_entry (book_of xs) e)) first) h);
       groups = subst (λ (xs : List Entry). AreGroupRows (with_entry (book_of xs) e) groups) second in_groups;
-      clients = subst (λ (xs : List Entry). AreClientRows (with_entry (book_of xs) e) clients) fourth in_clients;
-      members = subst (λ (xs : List Entry). AreMemberRows (with_entry (book_of xs) e) members) third in_members;
+      clients = subst (λ (xs : List Entry). AreClientRows (with_entry (book_of xs) e) clients) third in_clients;
+      members = subst (λ (xs : List Entry). AreMemberRows (with_entry (book_of xs) e) members) fourth in_members;
     })

@@ -42,6 +42,10 @@ acting_client (Act user group client id call) = Some client
 acting_client (Look user group order base) = None
 acting_client (Retire group) = None
 
+-- of an act that follows the book: the group that its client is of already
+abbrev pub group_before : Book → Entry → Option (List ℕ)
+group_before book entry = option_and_then (λ client. group_of client book) (acting_client entry)
+
 -- of a row that names an act: its client, with its last mutation id
 abbrev pub info_by : Book → ClientRow → Option (List ℕ × ℕ)
 info_by book row = option_map (λ client. (client, row.acts)) (option_and_then acting_client (slice_get book.entries row.first))

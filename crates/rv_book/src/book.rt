@@ -238,8 +238,8 @@ impl Book {
             Err(_) => unreachable!(),
         }
         groups::enter(&self.entries, &mut self.groups, &entry);
-        members::enter(&self.entries, &self.clients, &mut self.members, &entry);
-        clients::enter(&self.entries, &mut self.clients, &entry);
+        let first_group = clients::enter(&self.entries, &mut self.clients, &entry);
+        members::enter(&self.entries, &mut self.members, &entry, first_group);
         match self.entries.push(entry) {
             Ok(()) => {}
             Err(_) => unreachable!(),

@@ -5,6 +5,7 @@ ghost use Rattle.rv_book.specs.declared.entry.Entry.{Entry};
 ghost use Rattle.rv_book.specs.Entries.{is_act_of};
 ghost use Rattle.rv_book.specs.Book.{book_of, group_of, last, with_entry};
 ghost use Rattle.rv_book.specs.Indexes.{acted_in, AreClientRows, client_of_row, client_row, first_where, info_by_client};
+ghost use Rattle.rv_book.specs.Members.{group_before};
 ghost use Rattle.rv_book.specs.Registers.{clients_of};
 
 use crate::entry::Entry;
@@ -165,40 +166,50 @@ pub(crate) fn info_at<'b>(
     info_by(entries, rows.get(index as usize)?)
 }
 
-// Enters an act of a client, which follows the entries.
-fn enter_act(entries: &[Entry], rows: &mut Vec<ClientRow>, client: &Id)
+// Enters an act of a client, which follows the entries, and answers the group of the client's first act among these.
+fn enter_act<'b>(entries: &'b [Entry], rows: &mut Vec<ClientRow>, client: &Id) -> Option<&'b Id>
     requires rows { AreClientRows (book_of entries.now) rows.old.items }
     requires spare { 1 ≤ vec_capacity rows.old - vec_len rows.old }
     requires length { length entries.now + 1 < 2 ^ 32 }
     ensures rows { (entry : Entry) → is_act_of client.now entry ≡ true → AreClientRows (with_entry (book_of entries.now) entry) rows.new.items }
     ensures spare { vec_capacity rows.old - vec_len rows.old ≤ (vec_capacity rows.new - vec_len rows.new) + 1 }
+    ensures group { option_map (λ group. group.now) result ≡ group_of client.now (book_of entries.now) }
 {
     match place(entries, rows, client) {
-        Ok(at) => rows[at].acts += 1,
+        Ok(at) => {
+            let row = &mut rows[at];
+            row.acts += 1;
+            group_at(entries, row.first)
+        }
         Err(at) => {
             let row = ClientRow {
                 first: entries.len() as u32,
                 acts: 1,
             };
             match rows.insert(at, row) {
-                Ok(()) => {}
+                Ok(()) => None,
                 Err(_) => unreachable!(),
             }
         }
     }
 }
 
-// Enters an entry, which follows the others.
-pub(crate) fn enter(entries: &[Entry], rows: &mut Vec<ClientRow>, entry: &Entry)
+// Enters an entry, which follows the others. Of an act it answers the group of its client's first act among these.
+pub(crate) fn enter<'b>(
+    entries: &'b [Entry],
+    rows: &mut Vec<ClientRow>,
+    entry: &Entry,
+) -> Option<&'b Id>
     requires rows { AreClientRows (book_of entries.now) rows.old.items }
     requires spare { 1 ≤ vec_capacity rows.old - vec_len rows.old }
     requires length { length entries.now + 1 < 2 ^ 32 }
     ensures rows { AreClientRows (with_entry (book_of entries.now) entry.now) rows.new.items }
     ensures spare { vec_capacity rows.old - vec_len rows.old ≤ (vec_capacity rows.new - vec_len rows.new) + 1 }
+    ensures group { option_map (λ group. group.now) result ≡ group_before (book_of entries.now) entry.now }
 {
     match entry {
         Entry::Act { client, .. } => enter_act(entries, rows, client),
-        Entry::Look { .. } => {}
-        Entry::Retire { .. } => {}
+        Entry::Look { .. } => None,
+        Entry::Retire { .. } => None,
     }
 }

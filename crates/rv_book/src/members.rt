@@ -1,15 +1,13 @@
 // The clients of each group: the rows of the clients in the order of the groups of their first acts, and then of the clients.
 ghost use Rattle.std.specs.Prelude.{◌≡◌, true, ◌≤◌, ◌<◌, ◌+◌, ◌-◌, ◌^◌, ◌++◌, length, Some, [], option_map, IfOk, OnOk, vec_len, vec_capacity};
 ghost use Rattle.std.specs.List.{cons_option, filter};
-ghost use Rattle.std.specs.Option.{option_or};
 ghost use Rattle.std.specs.Cmp.Lexicographic.{slice_cmp};
 ghost use Rattle.std.specs.Ordering.{nat_cmp};
 ghost use Rattle.rv_base.specs.Sorted.{InOrder, IsPositionOf};
 ghost use Rattle.rv_book.specs.declared.entry.Entry.{Entry};
 ghost use Rattle.rv_book.specs.Entries.{is_act_of};
 ghost use Rattle.rv_book.specs.Book.{book_of, group_of, ids, with_entry};
-ghost use Rattle.rv_book.specs.Indexes.{AreClientRows};
-ghost use Rattle.rv_book.specs.Members.{AreMemberRows, group_of_member, is_member, key_of_member, member_key, info_by};
+ghost use Rattle.rv_book.specs.Members.{AreMemberRows, group_before, group_of_member, is_member, key_of_member, member_key, info_by};
 
 use crate::clients;
 use crate::clients::ClientRow;
@@ -111,17 +109,6 @@ pub(crate) fn of_group(
     Ok(Sequence::from_vec(clients))
 }
 
-// The group that a client is of, where it acts in one.
-fn group_with<'b>(entries: &'b [Entry], rows: &[ClientRow], group: &'b Id, client: &Id) -> &'b Id
-    requires { AreClientRows (book_of entries.now) rows.now }
-    ensures { Some result.now ≡ option_or (group_of client.now (book_of entries.now)) (Some group.now) }
-{
-    match clients::group_of(entries, rows, client) {
-        Some(first) => first,
-        None => group,
-    }
-}
-
 // Enters an act of a client of a group, which follows the entries.
 fn enter_act(entries: &[Entry], rows: &mut Vec<ClientRow>, group: &Id, client: &Id)
     requires rows { AreMemberRows (book_of entries.now) rows.old.items }
@@ -145,14 +132,14 @@ fn enter_act(entries: &[Entry], rows: &mut Vec<ClientRow>, group: &Id, client: &
     }
 }
 
-// Enters an entry, which follows the others. The rows of the clients are those before it.
+// Enters an entry, which follows the others. Of an act the group of its client's first act among these is known.
 pub(crate) fn enter(
     entries: &[Entry],
-    clients: &[ClientRow],
     rows: &mut Vec<ClientRow>,
     entry: &Entry,
+    first_group: Option<&Id>,
 )
-    requires clients { AreClientRows (book_of entries.now) clients.now }
+    requires group { option_map (λ group. group.now) first_group ≡ group_before (book_of entries.now) entry.now }
     requires rows { AreMemberRows (book_of entries.now) rows.old.items }
     requires spare { 1 ≤ vec_capacity rows.old - vec_len rows.old }
     requires length { length entries.now + 1 < 2 ^ 32 }
@@ -163,7 +150,7 @@ pub(crate) fn enter(
         Entry::Act { group, client, .. } => enter_act(
             entries,
             rows,
-            group_with(entries, clients, group, client),
+            first_group.unwrap_or(group),
             client,
         ),
         Entry::Look { .. } => {}
