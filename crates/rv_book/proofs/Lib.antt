@@ -2,7 +2,7 @@ pub mod IndexLaws
 pub mod BookLaws
 pub mod ClientLaws
 pub mod GroupLaws
-pub mod MarkLaws
+pub mod LookRowLaws
 pub mod IdLaws
 pub mod MemberKeys
 pub mod MemberLaws

@@ -2,16 +2,16 @@
 use Rattle.std.specs.Prelude.{ℕ, ◌<◌, ◌≤◌, ◌^◌, List}
 use Rattle.rv_book.specs.declared.clients.ClientRow.{ClientRow}
 use Rattle.rv_book.specs.declared.groups.GroupRow.{GroupRow}
-use Rattle.rv_book.specs.declared.look.LookMark.{LookMark}
+use Rattle.rv_book.specs.declared.look.LookRow.{LookRow}
 use Rattle.rv_book.specs.Book.{Book, size}
-use Rattle.rv_book.specs.Indexes.{AreMarks, AreGroupRows, AreClientRows}
+use Rattle.rv_book.specs.Indexes.{AreLookRows, AreGroupRows, AreClientRows}
 use Rattle.rv_book.specs.Members.{AreMemberRows}
 
 -- the book is within its limit, and its indexes are those of its entries
-pub record IsIndexed (book : Book) (limit : ℕ) (look_marks : List LookMark) (group_rows : List GroupRow) (client_rows member_rows : List ClientRow) : Type 0 where
+pub record IsIndexed (book : Book) (limit : ℕ) (look_rows : List LookRow) (group_rows : List GroupRow) (client_rows member_rows : List ClientRow) : Type 0 where
   pub within : size book ≤ limit
   pub small : limit < 2 ^ 32
-  pub marks : AreMarks book look_marks
+  pub looks : AreLookRows book look_rows
   pub groups : AreGroupRows book group_rows
   pub clients : AreClientRows book client_rows
   pub members : AreMemberRows book member_rows

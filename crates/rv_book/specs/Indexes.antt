@@ -8,7 +8,7 @@ use Rattle.rv_book.specs.declared.entry.Entry.{Entry}
 use Rattle.rv_book.specs.declared.entry.Entry.TheVariants.{Act, Look, Retire}
 use Rattle.rv_book.specs.declared.clients.ClientRow.{ClientRow}
 use Rattle.rv_book.specs.declared.groups.GroupRow.{GroupRow}
-use Rattle.rv_book.specs.declared.look.LookMark.{LookMark}
+use Rattle.rv_book.specs.declared.look.LookRow.{LookRow}
 use Rattle.rv_book.specs.Entries.{is_act_of}
 use Rattle.rv_book.specs.Book.{Book, last, last_order, retired, size, up_to}
 use Rattle.rv_book.specs.Kept.{is_look_of, last_look, look_before, look_of}
@@ -119,10 +119,10 @@ unfoldable pub number_at : ℕ → Book → ℕ
 number_at index book = option_map_or (λ look. count_by (is_look_of look.1) (up_to (index + 1) book).entries) (option_and_then look_of (slice_get book.entries index)) 0
 
 -- of an entry at an index: its number, and where it is a look the place of its group's look before it
-unfoldable pub mark_at : ℕ → Book → LookMark
-mark_at index book = record { number = number_at index book; before = look_before (index + 1) book }
+unfoldable pub look_row_at : ℕ → Book → LookRow
+look_row_at index book = record { number = number_at index book; before = look_before (index + 1) book }
 
--- the marks are those of the entries, one of each
-pub record AreMarks (book : Book) (marks : List LookMark) : Type 0 where
-  pub one_each : length marks ≡ size book
-  pub each : (index : ℕ) → index < size book → slice_get marks index ≡ Some (mark_at index book)
+-- the look rows are those of the entries, one of each
+pub record AreLookRows (book : Book) (look_rows : List LookRow) : Type 0 where
+  pub one_each : length look_rows ≡ size book
+  pub each : (index : ℕ) → index < size book → slice_get look_rows index ≡ Some (look_row_at index book)

@@ -10,7 +10,7 @@ use crate::clients::{ClientInfo, ClientRef, ClientRow};
 use crate::entry::{Entry, entry_at};
 use crate::fault::BookFault;
 use crate::groups::{GroupInfo, GroupRef, GroupRow};
-use crate::look::{LookMark, LookRef, look_at};
+use crate::look::{LookRef, LookRow, look_at};
 use crate::{clients, groups, look, members};
 use rv_base::{Id, Memory, Num, User};
 use rv_rows::Clients;
@@ -21,8 +21,8 @@ use std::marker::Model;
 #[derive(Debug, Drop)]
 pub struct Book {
     entries: Vec<Entry>,
-    // Of each entry its mark, by which looks are counted and followed back.
-    marks: Vec<LookMark>,
+    // Of each entry its look row, by which looks are counted and followed back.
+    look_rows: Vec<LookRow>,
     groups: Vec<GroupRow>,
     clients: Vec<ClientRow>,
     // The same rows by group: in the order of the groups of the clients' first acts, and then of the clients.
@@ -39,9 +39,9 @@ impl Model for Book {
 
     ghost Value = { Recorded };
 
-    ghost view = { λ b. record { book = book_of b.entries.items; limit = b.limit; spare = min (min (free b.entries) (free b.marks)) (min (free b.groups) (min (free b.clients) (free b.members))) } };
+    ghost view = { λ b. record { book = book_of b.entries.items; limit = b.limit; spare = min (min (free b.entries) (free b.look_rows)) (min (free b.groups) (min (free b.clients) (free b.members))) } };
 
-    ghost invariant = { λ b. IsIndexed (book_of b.entries.items) b.limit b.marks.items b.groups.items b.clients.items b.members.items };
+    ghost invariant = { λ b. IsIndexed (book_of b.entries.items) b.limit b.look_rows.items b.groups.items b.clients.items b.members.items };
 }
 
 impl Book {
@@ -52,7 +52,7 @@ impl Book {
     {
         Book {
             entries: Vec::new(alloc),
-            marks: Vec::new(alloc),
+            look_rows: Vec::new(alloc),
             groups: Vec::new(alloc),
             clients: Vec::new(alloc),
             members: Vec::new(alloc),
@@ -180,7 +180,7 @@ impl Book {
     pub fn kept(&self, place: u32) -> bool
         ensures { result ≡ kept place self.now.book }
     {
-        look::kept(&self.entries, &self.groups, &self.marks, place)
+        look::kept(&self.entries, &self.groups, &self.look_rows, place)
     }
 
     /// The place of a group's last look.
@@ -194,7 +194,7 @@ impl Book {
     pub fn look_before(&self, place: u32) -> Option<u32>
         ensures { result ≡ look_before place self.now.book }
     {
-        look::before(&self.entries, &self.marks, place)
+        look::before(&self.entries, &self.look_rows, place)
     }
 
     /// The place of the look that falls out with a group's next look: it is of the group and kept, and would not be kept any
@@ -202,7 +202,7 @@ impl Book {
     pub fn falls_out(&self, group: &Id) -> Option<u32>
         ensures { result ≡ falls_out group.now self.now.book }
     {
-        look::falls_out(&self.entries, &self.groups, &self.marks, group)
+        look::falls_out(&self.entries, &self.groups, &self.look_rows, group)
     }
 
     /// Makes space for one more entry, and for what is looked up by it.
@@ -217,7 +217,7 @@ impl Book {
             return Err(BookFault::Full);
         }
         self.entries.reserve(1)?;
-        self.marks.reserve(1)?;
+        self.look_rows.reserve(1)?;
         self.groups.reserve(1)?;
         self.clients.reserve(1)?;
         self.members.reserve(1)?;
@@ -232,8 +232,8 @@ impl Book {
         ensures limit { self.new.limit ≡ self.old.limit }
         ensures spare { self.old.spare ≤ self.new.spare + 1 }
     {
-        let mark = look::mark(&self.entries, &self.groups, &entry);
-        match self.marks.push(mark) {
+        let look_row = look::look_row(&self.entries, &self.groups, &entry);
+        match self.look_rows.push(look_row) {
             Ok(()) => {}
             Err(_) => unreachable!(),
         }

@@ -1,7 +1,7 @@
 ghost use Rattle.std.specs.Prelude.{◌≡◌, ◌<◌, ◌+◌, ◌^◌, length, option_map};
 ghost use Rattle.rv_book.specs.Book.{book_of, with_entry};
 ghost use Rattle.rv_book.specs.Kept.{falls_out, kept, look_at, look_before};
-ghost use Rattle.rv_book.specs.Indexes.{AreGroupRows, AreMarks, mark_at};
+ghost use Rattle.rv_book.specs.Indexes.{AreGroupRows, AreLookRows, look_row_at};
 
 use crate::entry::{Entry, entry_at};
 use crate::groups;
@@ -44,30 +44,30 @@ pub(crate) fn look_at(entries: &[Entry], place: u32) -> Option<LookRef<'_>>
 
 // Of a look: its number among the looks of its group, from 1, and the place of the one before it; 0 and none of another entry.
 #[derive(Clone, Copy, Debug)]
-pub(crate) struct LookMark {
+pub(crate) struct LookRow {
     number: u32,
     before: Option<u32>,
 }
 
-// The mark of an entry that follows the entries.
-pub(crate) fn mark(entries: &[Entry], groups: &[GroupRow], entry: &Entry) -> LookMark
+// The look row of an entry that follows the entries.
+pub(crate) fn look_row(entries: &[Entry], groups: &[GroupRow], entry: &Entry) -> LookRow
     requires groups { AreGroupRows (book_of entries.now) groups.now }
     requires length { length entries.now + 1 < 2 ^ 32 }
-    ensures { result ≡ mark_at (length entries.now) (with_entry (book_of entries.now) entry.now) }
+    ensures { result ≡ look_row_at (length entries.now) (with_entry (book_of entries.now) entry.now) }
 {
     match entry {
-        Entry::Act { .. } => LookMark {
+        Entry::Act { .. } => LookRow {
             number: 0,
             before: None,
         },
         Entry::Look { group, .. } => {
             let row = groups::row(entries, groups, group);
-            LookMark {
+            LookRow {
                 number: row.looks + 1,
                 before: row.last_look,
             }
         }
-        Entry::Retire { .. } => LookMark {
+        Entry::Retire { .. } => LookRow {
             number: 0,
             before: None,
         },
@@ -75,15 +75,20 @@ pub(crate) fn mark(entries: &[Entry], groups: &[GroupRow], entry: &Entry) -> Loo
 }
 
 // Whether the look at a place is kept.
-pub(crate) fn kept(entries: &[Entry], groups: &[GroupRow], marks: &[LookMark], place: u32) -> bool
+pub(crate) fn kept(
+    entries: &[Entry],
+    groups: &[GroupRow],
+    look_rows: &[LookRow],
+    place: u32,
+) -> bool
     requires groups { AreGroupRows (book_of entries.now) groups.now }
-    requires marks { AreMarks (book_of entries.now) marks.now }
+    requires look_rows { AreLookRows (book_of entries.now) look_rows.now }
     ensures { result ≡ kept place (book_of entries.now) }
 {
     match look_at(entries, place) {
         Some(look) => {
             let row = groups::row(entries, groups, look.group);
-            let later = row.looks - marks[place as usize - 1].number;
+            let later = row.looks - look_rows[place as usize - 1].number;
             !row.retired && later < KEPT_LOOKS
         }
         None => false,
@@ -91,25 +96,25 @@ pub(crate) fn kept(entries: &[Entry], groups: &[GroupRow], marks: &[LookMark], p
 }
 
 // Of the look at a place: the place of its group's look before it.
-pub(crate) fn before(entries: &[Entry], marks: &[LookMark], place: u32) -> Option<u32>
-    requires { AreMarks (book_of entries.now) marks.now }
+pub(crate) fn before(entries: &[Entry], look_rows: &[LookRow], place: u32) -> Option<u32>
+    requires { AreLookRows (book_of entries.now) look_rows.now }
     ensures { result ≡ look_before place (book_of entries.now) }
 {
     if place == 0 || place as usize > entries.len() {
         return None;
     }
-    marks[place as usize - 1].before
+    look_rows[place as usize - 1].before
 }
 
 // The place of the look of a group that falls out with the group's next look.
 pub(crate) fn falls_out(
     entries: &[Entry],
     groups: &[GroupRow],
-    marks: &[LookMark],
+    look_rows: &[LookRow],
     group: &Id,
 ) -> Option<u32>
     requires groups { AreGroupRows (book_of entries.now) groups.now }
-    requires marks { AreMarks (book_of entries.now) marks.now }
+    requires look_rows { AreLookRows (book_of entries.now) look_rows.now }
     ensures { result ≡ falls_out group.now (book_of entries.now) }
 {
     let row = groups::row(entries, groups, group);
@@ -118,7 +123,7 @@ pub(crate) fn falls_out(
     }
     let mut place = row.last_look;
     for _step in 1..KEPT_LOOKS {
-        place = before(entries, marks, place?);
+        place = before(entries, look_rows, place?);
     }
     place
 }

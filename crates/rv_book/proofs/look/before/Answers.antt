@@ -1,7 +1,7 @@
 use Rattle.std.proofs.Common.{ap, sym, ℕ, None, arith}
 use Rattle.rv_book.specs.Book.{entry_at, book_of}
 use Rattle.rv_book.specs.BookWords.{entry_at-past}
-use Rattle.rv_book.proofs.MarkLaws.{before_read, none_before}
+use Rattle.rv_book.proofs.LookRowLaws.{before_read, none_before}
 use Rattle.rv_book.proofs.look.before.Goals as goal
 use Rattle.rv_book.proofs.look.before.Goals.{then-place-eq0-via-then-place-eq0, then-place-eq0-via-else-place-eq0+then-place-entries}
 
@@ -14,4 +14,4 @@ returns-then-place-eq0 c =
     ]
 
 pub returns : goal.returns
-returns c = before_read (book_of c.args.entries.now) c.args.marks.now c.args.place (record { number = 0; before = None }) (omega arith) c.if-place-entries.false c.requires
+returns c = before_read (book_of c.args.entries.now) c.args.look_rows.now c.args.place (record { number = 0; before = None }) (omega arith) c.if-place-entries.false c.requires
