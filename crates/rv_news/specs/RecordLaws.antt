@@ -1,11 +1,10 @@
 -- What becomes of kept looks and of their records when the book goes on.
-use Rattle.std.proofs.Common.{◌≡◌, ℕ, ◌+◌, ◌≤◌, Bool, true, false, cond, not, ◌&&◌, ◌||◌, nat_lt, List, [], ◌∷◌, Option, Some, None, refl, sym, ap, ◌∙◌, subst, arith}
-use Rattle.std.specs.Str.{bytes_eq}
+use Rattle.std.proofs.Common.{◌≡◌, ℕ, ◌+◌, ◌≤◌, Bool, true, false, cond, not, ◌&&◌, ◌||◌, nat_lt, List, Option, Some, None, refl, sym, ap, ◌∙◌, subst, arith}
 use Rattle.std.proofs.lemmas.Bool.Decides.{nat_tests}
 use Rattle.rv_rows.specs.declared.call.Call.{Call}
 use Rattle.rv_views.specs.Viewed.{Viewed}
 use Rattle.rv_book.specs.declared.entry.Entry.{Entry}
-use Rattle.rv_book.specs.declared.entry.Entry.TheVariants.{Act, Look, Retire}
+use Rattle.rv_book.specs.declared.entry.Entry.TheVariants.{Act, Look}
 use Rattle.rv_book.specs.Entries.{retires}
 use Rattle.rv_book.specs.Book.{Book, retired, size, with_entry}
 use Rattle.rv_book.specs.Kept.{look_at, is_look_of, later_looks, kept}

@@ -1,9 +1,10 @@
 -- What is known of the entries since a user's mark: the user sees the same, each row with the same version, and no client of the user's
 -- groups has acted.
-use Rattle.std.proofs.Common.{◌≡◌, ℕ, zero, suc, ◌+◌, ◌-◌, ◌<◌, ◌≤◌, ◌&&◌, Bool, true, false, List, [], ◌∷◌, Option, Some, None, refl, sym, ap, ◌∙◌, subst, arith, inl, inr}
+use Rattle.std.proofs.Common.{◌≡◌, ℕ, zero, suc, ◌+◌, ◌-◌, ◌<◌, ◌≤◌, ◌&&◌, Bool, true, false, List, [], ◌∷◌, Option, Some, refl, sym, ap, ◌∙◌, subst, arith, inl, inr}
 use Rattle.std.specs.Option.{option_map_or}
 use Rattle.std.specs.Str.{bytes_eq}
 use Rattle.std.proofs.lemmas.Bool.{cases_lt}
+use Rattle.std.proofs.lemmas.List.{length-take-le}
 use Rattle.std.proofs.lemmas.Slice.Eq.{bytes_eq-Decides}
 use Rattle.std.proofs.lemmas.Option.{same_Some}
 use Rattle.rv_rows.specs.declared.row.Row.{Row}
@@ -16,7 +17,7 @@ use Rattle.rv_sharing.specs.SeenLaws.{seen-found}
 use Rattle.rv_book.specs.declared.entry.Entry.{Entry}
 use Rattle.rv_book.specs.declared.entry.Entry.TheVariants.{Act}
 use Rattle.rv_book.specs.Book.{Book, bound, entry_at, since, size, up_to, with_entries}
-use Rattle.rv_book.specs.BookWords.{entry_at-within, since-entry, up_to-all, up_to-since, up_to-with_entries, size-with_entries}
+use Rattle.rv_book.specs.BookWords.{entry_at-within, since-entry, up_to-all, up_to-since}
 use Rattle.rv_history.specs.Lawful.{IsLawful}
 use Rattle.rv_history.specs.GroupLaws.{owner_is}
 use Rattle.rv_history.specs.Marks.{Concerns, IsMark, SeesSame, is_act_by}
@@ -24,7 +25,7 @@ use Rattle.rv_history.specs.Replay.{rows_of, IsLastWrite, Wrote}
 use Rattle.rv_history.specs.ReplayLaws.{distinct-rows_of, wrote_less, wrote_more}
 
 -- lists of rows that are not other than one another are the same
-same_rows : List Row → List Row → Bool
+abbrev same_rows : List Row → List Row → Bool
 same_rows [] [] = true
 same_rows [] (y ∷ ys) = false
 same_rows (x ∷ xs) [] = false
@@ -34,10 +35,13 @@ both_true : (a b : Bool) → (a && b) ≡ true → (a ≡ true) × (b ≡ true)
 both_true true b is = (refl, is)
 both_true false b is = absurd (cc)
 
+apart : false ≡ true → ⊥
+apart same = cc
+
 rows_are : (xs ys : List Row) → same_rows xs ys ≡ true → xs ≡ ys
 rows_are [] [] is = refl
-rows_are [] (y ∷ ys) is = absurd (cc)
-rows_are (x ∷ xs) [] is = absurd (cc)
+rows_are [] (y ∷ ys) is = absurd (apart is)
+rows_are (x ∷ xs) [] is = absurd (apart is)
 rows_are (x ∷ xs) (y ∷ ys) is =
     let two = both_true (same_row x y) (same_rows xs ys) is in
     let first : x ≡ y = (same_row-Decides x y).0 two.0 in
@@ -101,7 +105,7 @@ version_since user book mark place is low within key row version shown last = re
     whole = sym (up_to-since place book)
 
     length_up_to : size (up_to place book) ≡ place
-    length_up_to = omega (arith, within)
+    length_up_to = length-take-le place book.entries within
 
     shown_at : (at : ℕ) → mark ≤ at → at ≤ size book → row_at key (seen user (rows_of (up_to at book))) ≡ Some row
     shown_at at high le = ap (row_at key) (sym (seen_since user book mark at is high le)) ∙ shown
