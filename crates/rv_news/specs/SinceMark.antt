@@ -112,9 +112,9 @@ version_since user book mark place is low within key row version shown last = re
 
     early : version ≤ place
     early = elim (cases_lt place version) as (λ _. version ≤ place) [
-          | inl past ↦ absurd (is.last version (omega (arith, low, past)) (write_concerns user book key row version last.wrote (shown_at version (omega (arith, low, past)) last.wrote.within)))
-          | inr le ↦ le
-        ]
+      | inl past ↦ absurd (is.last version (omega (arith, low, past)) (write_concerns user book key row version last.wrote (shown_at version (omega (arith, low, past)) last.wrote.within)))
+      | inr le ↦ le
+    ]
 
 -- No client of a group of the user has acted since the mark.
 pub acts_since : (user : List ℕ) (book : Book) (mark place : ℕ) → IsLawful book → IsMark user book mark → mark < place

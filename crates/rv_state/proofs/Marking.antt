@@ -1,17 +1,16 @@
 -- The marks when one more entry is entered.
-use Rattle.std.proofs.Common.{◌≡◌, ℕ, ◌+◌, Bool, true, false, cond, List, [], ◌∷◌, ◌||◌, Option, Some, None, refl, sym, ap, ◌∙◌, subst}
+use Rattle.std.proofs.Common.{◌≡◌, ℕ, ◌+◌, Bool, true, false, cond, List, [], ◌∷◌, ◌||◌, Option, Some, refl, sym, ap, ◌∙◌, subst}
 use Rattle.std.specs.Prelude.{fold}
 use Rattle.std.specs.List.{list_any}
 use Rattle.std.specs.Option.{option_map_or}
 use Rattle.std.specs.Str.{bytes_eq}
-use Rattle.std.proofs.lemmas.Slice.Eq.{bytes_eq-Decides}
-use Rattle.rv_base.specs.Sorted.{find_by, put_by, InOrder}
+use Rattle.rv_base.specs.Sorted.{find_by, InOrder}
 use Rattle.rv_base.specs.Positions.{find_put, in_order-put}
 use Rattle.rv_book.specs.declared.entry.Entry.{Entry}
-use Rattle.rv_book.specs.declared.entry.Entry.TheVariants.{Act, Look, Retire}
+use Rattle.rv_book.specs.declared.entry.Entry.TheVariants.{Look, Retire}
 use Rattle.rv_book.specs.Book.{Book, empty_book, size, with_entry}
 use Rattle.rv_rows.specs.Sharing.{seen}
-use Rattle.rv_history.specs.Marks.{AreConcerned, Concerns, IsMark}
+use Rattle.rv_history.specs.Marks.{AreConcerned, IsMark}
 use Rattle.rv_history.specs.MarkLaws.{mark_none, mark_raised, mark_stays, nothing_concerns}
 use Rattle.rv_history.specs.ReplayLaws.{rows_of-with_entry}
 use Rattle.rv_state.specs.UserMarks.{UserMark, marked_user, mark_in, with_mark, AreMarks}
@@ -38,6 +37,9 @@ order_set : (mark : ℕ) (users : List (List ℕ)) (marks : List UserMark) → I
 order_set mark [] marks order = order
 order_set mark (user ∷ users) marks order = order_set mark users (with_mark mark marks user) (in_order-put marked_user (user, mark) marks order)
 
+apart : true ≡ false → ⊥
+apart same = cc
+
 pub marks_none : AreMarks empty_book []
 marks_none = record { order = tt; each = mark_none }
 
@@ -49,8 +51,8 @@ marks_act book entry users marks are old = record {
 }
   where
     go : (user : List ℕ) (b : Bool) → list_any (bytes_eq user) users ≡ b → IsMark user (with_entry book entry) (cond b (size book + 1) (mark_in user marks))
-    go user true yes = mark_raised user book entry ((are user).0 yes)
-    go user false no = mark_stays user book entry (mark_in user marks) (λ is. let both : true ≡ false = sym ((are user).1 is) ∙ no in cc) (old.each user)
+    go user true among = mark_raised user book entry ((are user).0 among)
+    go user false out = mark_stays user book entry (mark_in user marks) (λ is. apart (sym ((are user).1 is) ∙ out)) (old.each user)
 
 -- a look and a retirement concern nobody
 pub marks_look : (book : Book) (user group : List ℕ) (order : ℕ) (base : Option ℕ) (marks : List UserMark) → AreMarks book marks → AreMarks (with_entry book (Look user group order base)) marks

@@ -72,7 +72,7 @@ impl UserMarks {
         ensures spare { self.old.spare ≤ self.new.spare + 1 }
     {
         match position_of(&self.marks, &user) {
-            Ok(at) => self.marks[at].1 = place,
+            Ok(at) => self.marks[at] = (user, place),
             Err(at) => match self.marks.insert(at, (user, place)) {
                 Ok(()) => {}
                 Err(_) => unreachable!(),

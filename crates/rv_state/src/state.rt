@@ -1,4 +1,7 @@
-ghost use Rattle.std.specs.Prelude.{◌≡◌, ◌≤◌, ◌<◌, IsTrue, IfOk, OnOk};
+ghost use Rattle.std.specs.Prelude.{◌≡◌, ◌≤◌, ◌<◌, ℕ, List, length, IsTrue, IfOk, OnOk};
+ghost use Rattle.rv_rows.specs.Changes.{after};
+ghost use Rattle.rv_rows.specs.Held.{rows_in};
+ghost use Rattle.rv_mutators.specs.Staging.{staged, with_staged};
 ghost use Rattle.rv_book.specs.declared.entry.Entry.TheVariants.{Act, Look, Retire};
 ghost use Rattle.rv_book.specs.Book.{empty_book, size, with_entry};
 ghost use Rattle.rv_news.specs.News.{IsNews};
@@ -9,9 +12,9 @@ use crate::prepared::{Prepared, PreparedAct, PreparedLook};
 use rv_base::{Id, Memory, Num, User};
 use rv_book::{Book, BookFault, Entry};
 use rv_history::entries;
-use rv_mutators::stage;
+use rv_mutators::{Staged, stage};
 use rv_news::{News, Records, is_unchanged, news_for, view_now};
-use rv_rows::{Call, Tables};
+use rv_rows::{Call, Tables, Users};
 use rv_sharing::add_user;
 use rv_turns::{PullReply, PullRequest};
 use rv_wire::look_reply;
@@ -69,7 +72,7 @@ impl State {
     ghost use Rattle.rv_record.specs.EntryReading.{EntryFits};
     ghost use Rattle.std.specs.List.{AllByRecursion};
     ghost use Rattle.rv_history.specs.Machine.{IsUnchanged, next_order, reply_to};
-    ghost use Rattle.rv_history.specs.Marks.{IsMark};
+    ghost use Rattle.rv_history.specs.Marks.{AreConcerned, IsMark};
     ghost use Rattle.rv_news.specs.Records.{AreRecords};
     ghost use Rattle.rv_wire.specs.Answers.{pull_json};
     ghost use Rattle.rv_state.specs.Ready.{IsPrepared, entry_of};
@@ -222,6 +225,33 @@ impl State {
         self.prepare(entry)
     }
 
+    // The users whom an act of this call concerns, by what it stages.
+    fn concerned(&self, user: &User, call: &Call, changes: &Staged) -> Result<Users, Memory>
+        requires staged { changes.now ≡ staged (rows_in self.now.rows) user.now call.now }
+        requires effect { (version : ℕ) → with_staged version changes.now self.now.rows ≡ after self.now.rows user.now call.now version }
+        ensures { IfOk result (λ users. (group client : List ℕ) (id : ℕ) → AreConcerned self.now.book (Act user.now group client id call.now) users) }
+    {
+        let touched = changes.affected(self.alloc, &self.tables)?;
+        add_user(self.alloc, touched, user)
+    }
+
+    // What an act of this call writes and removes, and the users whom it concerns, with the space that both need.
+    fn stage_act(&mut self, user: &User, call: &Call) -> Result<(Staged, Users), Memory>
+        ensures rows { IfOk result (λ made. length made.0.rows ≤ self.new.spare_rows) }
+        ensures staged { IfOk result (λ made. made.0 ≡ staged (rows_in self.new.rows) user.now call.now) }
+        ensures effect { IfOk result (λ made. (version : ℕ) → with_staged version made.0 self.new.rows ≡ after self.new.rows user.now call.now version) }
+        ensures marks { IfOk result (λ made. length made.1 ≤ self.new.spare_marks) }
+        ensures concerned { IfOk result (λ made. (group client : List ℕ) (id : ℕ) → AreConcerned self.new.book (Act user.now group client id call.now) made.1) }
+        ensures book { self.new.book ≡ self.old.book }
+        ensures limit { self.new.limit ≡ self.old.limit }
+        ensures spare { self.old.spare_entries ≤ self.new.spare_entries }
+    {
+        let staged = stage(self.alloc, &mut self.tables, user, call)?;
+        let concerned = self.concerned(user, call, &staged)?;
+        self.marks.reserve(concerned.len())?;
+        Ok((staged, concerned))
+    }
+
     /// Prepares an entry that may stand next, as it was kept elsewhere.
     pub fn prepare(&mut self, entry: Entry) -> Result<Prepared, Memory>
         requires within_limit { size self.old.book < self.old.limit }
@@ -241,10 +271,7 @@ impl State {
                 id,
                 call,
             } => {
-                let staged = stage(self.alloc, &mut self.tables, &user, &call)?;
-                let touched = staged.affected(self.alloc, &self.tables)?;
-                let concerned = add_user(self.alloc, touched, &user)?;
-                self.marks.reserve(concerned.len())?;
+                let (staged, concerned) = self.stage_act(&user, &call)?;
                 Ok(Prepared::Act(PreparedAct {
                     user,
                     group,
