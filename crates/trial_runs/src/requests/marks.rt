@@ -145,19 +145,32 @@ fn opened(alloc: Global, keeper: MemoryKeeper) -> Result<Desk<MemoryKeeper>, Mem
     }
 }
 
-// What a desk tells of these entries, and what one tells that is opened from what the first has kept.
+// Adds what a desk tells otherwise of these entries, and what one does that is opened from what the first has kept.
+fn add_all(
+    alloc: Global,
+    text: &mut String,
+    all: &mut Vec<Plain>,
+    entries: &[Entry],
+) -> Result<(), Memory> {
+    let mut desk = opened(alloc, MemoryKeeper::new(alloc, Vec::new(alloc)))?;
+    let played = played(alloc, text, &mut desk, all, entries);
+    let keeper = desk.close();
+    played?;
+    let desk = opened(alloc, keeper)?;
+    let again = add_differences(alloc, text, &desk, all);
+    let _keeper = desk.close();
+    again
+}
+
+// The marks of these entries, and what desks tell otherwise.
 fn told(alloc: Global, entries: &[Entry]) -> Result<String, Memory> {
     let mut all = nobody_marked(alloc)?;
+    let mut differences = String::new(alloc);
+    add_all(alloc, &mut differences, &mut all, entries)?;
     let mut text = joined(
         alloc,
         &[Number(entries.len() as u64), Text(" entries, marks")],
     )?;
-    let mut differences = String::new(alloc);
-    let mut desk = opened(alloc, MemoryKeeper::new(alloc, Vec::new(alloc)))?;
-    played(alloc, &mut differences, &mut desk, &mut all, entries)?;
-    let desk = opened(alloc, desk.close())?;
-    add_differences(alloc, &mut differences, &desk, &all)?;
-    let _keeper = desk.close();
     for plain in &all {
         append_parts(
             alloc,
