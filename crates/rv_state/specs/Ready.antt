@@ -28,7 +28,7 @@ HasEffect s (Act act) =
     (length act.staged.rows ≤ s.spare_rows) × (act.staged ≡ staged (rows_in s.rows) act.user act.call)
     × ((version : ℕ) → with_staged version act.staged s.rows ≡ after s.rows act.user act.call version)
     × (length act.concerned ≤ s.spare_marks) × AreConcerned s.book (entry_of (Act act)) act.concerned
-HasEffect s (Look look) = (1 ≤ s.spare_records) × IsViewAt s.book look.user look.group look.view
+HasEffect s (Look look) = (1 ≤ s.spare_views) × IsViewAt s.book look.user look.group look.view
 HasEffect s (Retirement group) = Unit {0}
 
 -- it may be entered at the state

@@ -14,6 +14,6 @@ pub record Standing : Type 0 where
   pub rows : List Stored
   pub spare_rows : ℕ
   pub records : List Placed
-  pub spare_records : ℕ
+  pub spare_views : ℕ
   pub marks : List UserMark
   pub spare_marks : ℕ
