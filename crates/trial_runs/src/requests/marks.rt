@@ -18,7 +18,7 @@ const LIMIT: u32 = u32::MAX;
 struct Plain {
     user: User,
     sees: String,
-    mark: u32,
+    mark: u64,
 }
 
 // The users of drawn lines before the first entry.
@@ -63,7 +63,7 @@ fn mark_last(alloc: Global, all: &mut [Plain], entries: &[Entry]) -> Result<(), 
     for (number, plain) in all.iter_mut().enumerate() {
         let sees = shown(alloc, entries, number)?;
         if is_act_by(last, &plain.user) || sees != plain.sees {
-            plain.mark = entries.len() as u32;
+            plain.mark = entries.len() as u64;
         }
         plain.sees = sees;
     }
@@ -99,7 +99,7 @@ fn add_differences(
     all: &[Plain],
 ) -> Result<(), Memory> {
     for plain in all {
-        let mark = desk.mark(&plain.user);
+        let mark = u64::from(desk.mark(&plain.user));
         if mark != plain.mark {
             append_parts(
                 alloc,
@@ -110,9 +110,9 @@ fn add_differences(
                     Text(" the mark of "),
                     Text(plain.user.as_str()),
                     Text(" is "),
-                    Number(u64::from(mark)),
+                    Number(mark),
                     Text(" and not "),
-                    Number(u64::from(plain.mark)),
+                    Number(plain.mark),
                     Text("\n"),
                 ],
             )?;
@@ -179,7 +179,7 @@ fn told(alloc: Global, entries: &[Entry]) -> Result<String, Memory> {
                 Text(" "),
                 Text(plain.user.as_str()),
                 Text(" "),
-                Number(u64::from(plain.mark)),
+                Number(plain.mark),
             ],
         )?;
     }
