@@ -2,6 +2,7 @@ pub mod Tables
 pub mod Parses
 pub mod Numbers
 pub mod Parts
+pub mod Defaults
 pub mod Leaves
 pub mod Verbs
 pub mod Rules
@@ -9,3 +10,5 @@ pub mod Serving
 pub mod Lines
 pub mod Asked
 pub mod ServeLaws
+pub mod Pokes
+pub mod Bounds

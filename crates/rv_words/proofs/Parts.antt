@@ -14,7 +14,7 @@ use Rattle.rv_base.specs.Positions.{equals}
 use Rattle.rv_base.specs.Options.{◌>>=◌}
 use Rattle.rv_words.specs.Numbers.{number_in}
 use Rattle.rv_words.specs.Words.{options_with, serve_by}
-use Rattle.rv_words.specs.Plain.{Part, the_value, serve_with, the_only, part_values, with_part}
+use Rattle.rv_words.specs.Plain.{Part, defaults, the_value, serve_with, the_only, part_values, values_or, with_part}
 use Rattle.rv_words.specs.declared.command.Command.{Command}
 use Rattle.rv_words.specs.declared.command.Command.TheVariants.{Serve}
 use Rattle.rv_words.specs.declared.serve_options.ServeOptions.{ServeOptions}
@@ -72,7 +72,7 @@ given_is (x ∷ xs) name = go (bytes_eq x.0 name) (given_is xs name)
 -- ---- no name is given twice
 
 abbrev pub AreOnce : List Part → Type 0
-AreOnce parts = (name : Text) → the_value parts name ≡ first_of name (rows_with parts)
+AreOnce parts = (name : Text) → the_only (part_values parts name) ≡ first_of name (rows_with parts)
 
 one_more : (values : List Text) (value : Text) → has_any values ≡ false → the_only (values ++ value ∷ []) ≡ slice_get (values ++ value ∷ []) 0
 one_more [] value none = refl
@@ -92,16 +92,17 @@ once_more parts part once new name =
 
 -- ---- a name that is given twice has no value
 
-two_more : (values more : List Text) (value : Text) → has_any values ≡ true → the_only (values ++ value ∷ more) ≡ None
-two_more [] more value some = absurd (true≢false (sym some))
-two_more (v ∷ []) more value some = refl
-two_more (v ∷ u ∷ us) more value some = refl
+two_more : (values more others : List Text) (value : Text) → has_any values ≡ true → the_only (values_or (values ++ value ∷ more) others) ≡ None
+two_more [] more others value some = absurd (true≢false (sym some))
+two_more (v ∷ []) more others value some = refl
+two_more (v ∷ u ∷ us) more others value some = refl
 
 pub given_twice : (parts more : List Part) (part : Part) → has_row part.0 (rows_with parts) ≡ true → the_value (parts ++ part ∷ more) part.0 ≡ None
 given_twice parts more part has =
-    ap the_only (values_append parts (part ∷ more) part.0)
-    ∙ ap (λ b. the_only (part_values parts part.0 ++ cond b (part.1 ∷ part_values more part.0) (part_values more part.0))) (equals part.0)
-    ∙ two_more (part_values parts part.0) (part_values more part.0) part.1 (sym (has_row_any parts part.0) ∙ has)
+    let others : List Text = part_values defaults part.0 in
+    ap (λ vs. the_only (values_or vs others)) (values_append parts (part ∷ more) part.0)
+    ∙ ap (λ b. the_only (values_or (part_values parts part.0 ++ cond b (part.1 ∷ part_values more part.0) (part_values more part.0)) others)) (equals part.0)
+    ∙ two_more (part_values parts part.0) (part_values more part.0) others part.1 (sym (has_row_any parts part.0) ∙ has)
 
 -- ---- what lacks a name serves nothing
 
@@ -112,63 +113,97 @@ no_value : {A B : Type 0} (o : Option A) → option_and_then {T = A} {U = B} (λ
 no_value None = refl
 no_value (Some x) = refl
 
--- no options, no command
-no_options : (values : Text → Option Text) → ((accounts : Text) → options_with values accounts ≡ None) → serve_by values ≡ None
-no_options values none = go (values (codes "STORE")) (values (codes "accounts"))
-  where
-    go : (store accounts : Option Text)
-        → option_and_then (λ s. option_map (λ options. Serve s options) (option_and_then (options_with values) accounts)) store ≡ None
-    go None accounts = refl
-    go (Some s) None = refl
-    go (Some s) (Some a) = ap (λ o. option_map (λ options. Serve s options) o) (none a)
-
 pub needs_store : NeedsWord (codes "STORE")
 needs_store values none = rw none refl
 
 pub needs_accounts : NeedsWord (codes "accounts")
 needs_accounts values none = rw none (no_value (values (codes "STORE")))
 
-pub needs_port : NeedsWord (codes "port")
-unfolding options_with
-needs_port values none = no_options values lacks
-  where
-    lacks : (accounts : Text) → options_with values accounts ≡ None
-    lacks accounts = rw none refl
+-- ---- what has no number of a name, between the bounds, serves nothing
 
-abbrev made : Text → ℕ → ℕ → Option ℕ → Option ServeOptions
-made accounts port workers connections = connections >>= (λ c. Some (record { accounts = accounts; port = port; workers = workers; connections = c }))
+abbrev pub NeedsNumber : Text → ℕ → ℕ → Type 0
+NeedsNumber name least most = (values : Text → Option Text) → option_and_then (number_in least most) (values name) ≡ None → serve_by values ≡ None
 
-pub needs_workers : NeedsWord (codes "workers")
-unfolding options_with
-needs_workers values none = no_options values lacks
-  where
-    lacks : (accounts : Text) → options_with values accounts ≡ None
-    lacks accounts =
-        let connections = option_and_then (number_in 1 1000000) (values (codes "connections")) in
-        ap (λ w. option_and_then (number_in 1 65535) (values (codes "port")) >>= (λ port. option_and_then (number_in 1 16) w >>= (λ workers. made accounts port workers connections))) none
-        ∙ go (option_and_then (number_in 1 65535) (values (codes "port")))
-      where
-        go : (port : Option ℕ) → ◌>>=◌ {B = ServeOptions} port (λ p. None) ≡ None
-        go None = refl
-        go (Some p) = refl
+-- no number, no options
+abbrev pub made : Text → Option ℕ → Option ℕ → Option ℕ → Option ℕ → Option ℕ → Option ServeOptions
+made accounts ports crew counts poke_ports jobs = ports >>= (λ port. crew >>= (λ workers. counts >>= (λ connections. poke_ports >>= (λ poke_port. jobs >>= (λ pokes.
+    Some (record { accounts = accounts; port = port; workers = workers; connections = connections; poke_port = poke_port; pokes = pokes }))))))
 
-pub needs_connections : NeedsWord (codes "connections")
-unfolding options_with
-needs_connections values none = no_options values lacks
-  where
-    lacks : (accounts : Text) → options_with values accounts ≡ None
-    lacks accounts =
-        ap (λ c. option_and_then (number_in 1 65535) (values (codes "port")) >>= (λ port. option_and_then (number_in 1 16) (values (codes "workers")) >>= (λ workers. made accounts port workers (option_and_then (number_in 1 1000000) c)))) none
-        ∙ go (option_and_then (number_in 1 65535) (values (codes "port"))) (option_and_then (number_in 1 16) (values (codes "workers")))
-      where
-        go : (port workers : Option ℕ) → ◌>>=◌ {B = ServeOptions} port (λ p. workers >>= (λ w. None)) ≡ None
-        go None workers = refl
-        go (Some p) None = refl
-        go (Some p) (Some w) = refl
+no_crew : (accounts : Text) (a c d e : Option ℕ) → made accounts a None c d e ≡ None
+no_crew accounts None c d e = refl
+no_crew accounts (Some x) c d e = refl
 
--- what is given once serves what its first values do
-pub serves_first : (parts : List Part) → AreOnce parts → serve_with parts ≡ serve_by (λ name. first_of name (rows_with parts))
-serves_first parts once = ap serve_by (λ i name. once name i)
+no_counts : (accounts : Text) (a b d e : Option ℕ) → made accounts a b None d e ≡ None
+no_counts accounts None b d e = refl
+no_counts accounts (Some x) None d e = refl
+no_counts accounts (Some x) (Some y) d e = refl
+
+no_poke_ports : (accounts : Text) (a b c e : Option ℕ) → made accounts a b c None e ≡ None
+no_poke_ports accounts None b c e = refl
+no_poke_ports accounts (Some x) None c e = refl
+no_poke_ports accounts (Some x) (Some y) None e = refl
+no_poke_ports accounts (Some x) (Some y) (Some z) e = refl
+
+no_jobs : (accounts : Text) (a b c d : Option ℕ) → made accounts a b c d None ≡ None
+no_jobs accounts None b c d = refl
+no_jobs accounts (Some x) None c d = refl
+no_jobs accounts (Some x) (Some y) None d = refl
+no_jobs accounts (Some x) (Some y) (Some z) None = refl
+no_jobs accounts (Some x) (Some y) (Some z) (Some u) = refl
+
+module _ (values : Text → Option Text) where
+  abbrev pub ports : Option ℕ
+  ports = option_and_then (number_in 1 65535) (values (codes "port"))
+
+  abbrev pub crew : Option ℕ
+  crew = option_and_then (number_in 1 16) (values (codes "workers"))
+
+  abbrev pub counts : Option ℕ
+  counts = option_and_then (number_in 1 1000000) (values (codes "connections"))
+
+  abbrev pub poke_ports : Option ℕ
+  poke_ports = option_and_then (number_in 1 65535) (values (codes "poke-port"))
+
+  abbrev pub jobs : Option ℕ
+  jobs = option_and_then (number_in 0 16) (values (codes "pokes"))
+
+  -- no options, no command
+  no_options : ((accounts : Text) → made accounts ports crew counts poke_ports jobs ≡ None) → serve_by values ≡ None
+  unfolding options_with
+  no_options none = go (values (codes "STORE")) (values (codes "accounts"))
+    where
+      go : (store accounts : Option Text)
+          → option_and_then (λ s. option_map (λ options. Serve s options) (option_and_then (options_with values) accounts)) store ≡ None
+      go None accounts = refl
+      go (Some s) None = refl
+      go (Some s) (Some a) = ap (λ o. option_map (λ options. Serve s options) o) (none a)
+
+pub needs_port : NeedsNumber (codes "port") 1 65535
+needs_port values none = no_options values (λ accounts. ap (λ o. made accounts o (crew values) (counts values) (poke_ports values) (jobs values)) none)
+
+pub needs_workers : NeedsNumber (codes "workers") 1 16
+needs_workers values none = no_options values (λ accounts.
+    ap (λ o. made accounts (ports values) o (counts values) (poke_ports values) (jobs values)) none
+    ∙ no_crew accounts (ports values) (counts values) (poke_ports values) (jobs values))
+
+pub needs_connections : NeedsNumber (codes "connections") 1 1000000
+needs_connections values none = no_options values (λ accounts.
+    ap (λ o. made accounts (ports values) (crew values) o (poke_ports values) (jobs values)) none
+    ∙ no_counts accounts (ports values) (crew values) (poke_ports values) (jobs values))
+
+pub needs_poke_port : NeedsNumber (codes "poke-port") 1 65535
+needs_poke_port values none = no_options values (λ accounts.
+    ap (λ o. made accounts (ports values) (crew values) (counts values) o (jobs values)) none
+    ∙ no_poke_ports accounts (ports values) (crew values) (counts values) (jobs values))
+
+pub needs_pokes : NeedsNumber (codes "pokes") 0 16
+needs_pokes values none = no_options values (λ accounts.
+    ap (λ o. made accounts (ports values) (crew values) (counts values) (poke_ports values) o) none
+    ∙ no_jobs accounts (ports values) (crew values) (counts values) (poke_ports values))
+
+-- a name of a number is needed
+pub needs_word : (name : Text) (least most : ℕ) → NeedsNumber name least most → NeedsWord name
+needs_word name least most needed values none = needed values (ap (option_and_then (number_in least most)) none)
 
 -- ---- more parts
 

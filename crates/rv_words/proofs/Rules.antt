@@ -1,24 +1,25 @@
 -- What clap holds of the options of `serve` and of its STORE, and what that comes to at the end.
 use Rattle.std.proofs.Common.{◌≡◌, ◌∙◌, ◌||◌, ◌++◌, ap, ap₂, refl, subst, sym, inl, inr, List, [], ◌∷◌, Option, Some, None, Bool, cond, true, false, true≢false, append-nil, codes, is_some, map, not, ℕ}
-use Rattle.std.specs.Prelude.{◌⊎◌}
+use Rattle.std.specs.Prelude.{◌&&◌, ◌⊎◌, find}
 use Rattle.std.specs.List.{AllByRecursion, fold, list_all, list_any}
 use Rattle.std.specs.Option.{option_map_or}
 use Rattle.std.specs.Str.{bytes_eq}
 use Rattle.std.specs.Cmp.Lexicographic.{same_text}
 use Rattle.clap.specs.Kinds.{Kinds, check_kinds, or_else}
-use Rattle.clap.specs.Walk.{Row, Rule, Text, Walk, arg_by_id, arg_by_long, at_row, default_rows, first_of, has_row, idle, is_empty, more_values, option, option_word, reading_by, settled_rows, used, used_by_id, with_default, with_values, without}
-use Rattle.clap.specs.Simple.{filled, with_index}
+use Rattle.clap.specs.Walk.{Row, Rule, Text, Walk, arg_by_id, arg_by_long, at_row, default_rows, first_of, has_long, has_row, idle, is_empty, more_values, option, option_word, reading_by, settled_rows, used, used_by_id, with_default, with_values, without}
+use Rattle.clap.specs.Simple.{filled, new_rule, with_index}
 use Rattle.clap.specs.Faults.{check_fault, default_fault, defaults_fault, given_default_fault, settle_fault, use_fault, walk_fault}
 use Rattle.clap.proofs.WalkLemmas.{both}
 use Rattle.clap.proofs.SimpleLemmas.{is_nil}
-use Rattle.clap.specs.declared.parser.matches.ValueSource.TheVariants.{CommandLine}
+use Rattle.clap.specs.declared.parser.matches.ValueSource.TheVariants.{CommandLine, DefaultValue}
 use Rattle.clap.specs.declared.builder.value_parser.Reading.TheVariants.{AsWritten}
-use Rattle.rv_words.specs.Table.{required_option, required_value}
+use Rattle.rv_words.specs.Table.{required_value}
 use Rattle.rv_words.specs.Words.{is_taken, serve_by, serve_in}
-use Rattle.rv_words.specs.Plain.{Part, option_names, parts_from, serve_with}
+use Rattle.rv_words.specs.Plain.{Part, defaults, needed_names, option_names, part_values, parts_from, serve_with}
 use Rattle.rv_words.specs.declared.command.Command.{Command}
 use Rattle.rv_words.proofs.Leaves.{HasNoLetters, at, held, not_empty, read_from}
-use Rattle.rv_words.proofs.Parts.{AreOnce, NeedsWord, ServesNothing, asked, given_is, needs_accounts, needs_connections, needs_port, needs_store, needs_workers, once_more, row, rows_more, rows_with, serves_first, serves_twice}
+use Rattle.rv_words.proofs.Parts.{AreOnce, NeedsWord, ServesNothing, asked, has_any, needs_accounts, needs_connections, needs_poke_port, needs_pokes, needs_port, needs_store, needs_word, needs_workers, once_more, row, rows_more, rows_with, serves_twice}
+use Rattle.rv_words.proofs.Defaults.{completed, default_row, given_still, serves_completed, with_default_row}
 use Rattle.rv_words.proofs.Verbs.{serve_leaf}
 
 abbrev pub rules : List Rule
@@ -29,8 +30,11 @@ store = codes "STORE"
 
 -- ---- the rules of the table
 
+-- an option, by its name: it has its default value, and is required where it has none
 abbrev pub option_rule : Text → Rule
-option_rule name = filled (required_option name)
+option_rule name =
+    let values : List Text = part_values defaults name in
+    filled (record (new_rule name) { long = Some name; defaults = values; required = not (has_any values) })
 
 abbrev pub store_rule : Rule
 store_rule = with_index 1 (filled (required_value store))
@@ -86,10 +90,16 @@ pub each_option : AllByRecursion IsOption option_names
 each_option = (
   known_as (codes "accounts") refl refl needs_accounts (λ rows word. refl) refl,
   (
-    known_as (codes "port") refl refl needs_port (λ rows word. refl) refl,
+    known_as (codes "port") refl refl (needs_word (codes "port") 1 65535 needs_port) (λ rows word. refl) refl,
     (
-      known_as (codes "workers") refl refl needs_workers (λ rows word. refl) refl,
-      (known_as (codes "connections") refl refl needs_connections (λ rows word. refl) refl, tt),
+      known_as (codes "workers") refl refl (needs_word (codes "workers") 1 16 needs_workers) (λ rows word. refl) refl,
+      (
+        known_as (codes "connections") refl refl (needs_word (codes "connections") 1 1000000 needs_connections) (λ rows word. refl) refl,
+        (
+          known_as (codes "poke-port") refl refl (needs_word (codes "poke-port") 1 65535 needs_poke_port) (λ rows word. refl) refl,
+          (known_as (codes "pokes") refl refl (needs_word (codes "pokes") 0 16 needs_pokes) (λ rows word. refl) refl, tt),
+        ),
+      ),
     ),
   ),
 )
@@ -115,16 +125,17 @@ pub known_option : (name : Text) → is_known name ≡ true → IsOption name
 known_option name known = among IsOption name option_names each_option known
 
 pub unknown_option : (name : Text) → is_known name ≡ false → arg_by_long rules name ≡ None
-unknown_option name unknown = go (bytes_eq (codes "accounts") name) (bytes_eq (codes "port") name) (bytes_eq (codes "workers") name) (bytes_eq (codes "connections") name) unknown
+unknown_option name unknown = go option_names unknown
   where
-    go : (a p w c : Bool) → (a || (p || (w || (c || false)))) ≡ false
-        → cond (a || false) (Some (option_rule (codes "accounts"))) (cond (p || false) (Some (option_rule (codes "port")))
-        (cond (w || false) (Some (option_rule (codes "workers"))) (cond (c || false) (Some (option_rule (codes "connections"))) None))) ≡ None
-    go true p w c e = absurd (true≢false e)
-    go false true w c e = absurd (true≢false e)
-    go false false true c e = absurd (true≢false e)
-    go false false false true e = absurd (true≢false e)
-    go false false false false e = refl
+    go : (names : List Text) → list_any (λ o. bytes_eq o name) names ≡ false → find (λ a. not (is_some a.index) && has_long a name) (map option_rule names) ≡ None
+    go [] none = refl
+    go (o ∷ os) none = first (bytes_eq o name) none (go os)
+      where
+        first : (b : Bool) → (b || list_any (λ x. bytes_eq x name) os) ≡ false
+            → (list_any (λ x. bytes_eq x name) os ≡ false → find (λ a. not (is_some a.index) && has_long a name) (map option_rule os) ≡ None)
+            → cond (b || false) (Some (option_rule o)) (find (λ a. not (is_some a.index) && has_long a name) (map option_rule os)) ≡ None
+        first true none rest = absurd (true≢false none)
+        first false none rest = rest none
 
 pub no_letters : HasNoLetters serve_leaf
 no_letters letter = refl
@@ -193,33 +204,49 @@ WaitsForWord words = (parts : List Part) (stored : Bool) (name : Text) → IsOpt
 
 -- ---- no word is left
 
-pub no_default : (rows : List Row) (a : Rule) → is_empty a.defaults ≡ true → with_default rows a ≡ rows
+no_default : (rows : List Row) (a : Rule) → is_empty a.defaults ≡ true → with_default rows a ≡ rows
 no_default rows a none = ap (λ (vs : List Text). cond (has_row a.id rows) rows (default_rows a.id (reading_by a) vs rows)) (is_nil a.defaults none) ∙ go (has_row a.id rows)
   where
     go : (b : Bool) → cond b rows rows ≡ rows
     go true = refl
     go false = refl
 
-pub no_defaults : (more : List Rule) (rows : List Row) → list_all (λ a. is_empty a.defaults) more ≡ true → fold with_default rows more ≡ rows
+no_defaults : (more : List Rule) (rows : List Row) → list_all (λ a. is_empty a.defaults) more ≡ true → fold with_default rows more ≡ rows
 no_defaults [] rows none = refl
 no_defaults (a ∷ more) rows none =
     let parts = both (is_empty a.defaults) _ none in
     ap (λ (rs : List Row). fold with_default rs more) (no_default rows a parts.0) ∙ no_defaults more rows parts.1
 
-pub no_default_fault : (rows : List Row) (a : Rule) → is_empty a.defaults ≡ true → default_fault rows a ≡ []
-no_default_fault rows a none = ap (λ b. cond (has_row a.id rows || b) [] (given_default_fault a a.defaults)) none ∙ go (has_row a.id rows)
+a_default : (rows : List Row) (part : Part) → cond (has_row part.0 rows) rows (default_rows part.0 AsWritten (part.1 ∷ []) rows) ≡ with_default_row rows part
+a_default rows part = go (has_row part.0 rows) refl
   where
-    go : (b : Bool) → ◌≡◌ {A = Kinds} (cond (b || true) [] (given_default_fault a a.defaults)) []
+    go : (b : Bool) → has_row part.0 rows ≡ b → cond b rows (default_rows part.0 AsWritten (part.1 ∷ []) rows) ≡ cond b rows (rows ++ default_row part ∷ [])
+    go true has = refl
+    go false new = at_row_missing part.0 (more_values DefaultValue (part.1 ∷ [])) (default_row part ∷ []) rows new
+
+-- the STORE and the first four options have no default, and the other two have
+completes : (rows : List Row) → fold with_default rows rules ≡ completed rows
+completes rows =
+    ap (λ (rs : List Row). with_default (with_default rs (option_rule (codes "poke-port"))) (option_rule (codes "pokes")))
+    (no_defaults (store_rule ∷ map option_rule needed_names) rows refl)
+    ∙ ap (λ (rs : List Row). with_default rs (option_rule (codes "pokes"))) (a_default rows (codes "poke-port", codes "8091"))
+    ∙ a_default (with_default_row rows (codes "poke-port", codes "8091")) (codes "pokes", codes "0")
+
+-- each default is a value that clap takes
+abbrev HasFineDefault : Rule → Type 0
+HasFineDefault a = given_default_fault a a.defaults ≡ []
+
+fine_default : (rows : List Row) (a : Rule) → HasFineDefault a → default_fault rows a ≡ []
+fine_default rows a fine = ap (λ (k : Kinds). cond (has_row a.id rows || is_empty a.defaults) [] k) fine ∙ go (has_row a.id rows || is_empty a.defaults)
+  where
+    go : (b : Bool) → ◌≡◌ {A = Kinds} (cond b [] []) []
     go true = refl
     go false = refl
 
-pub no_defaults_fault : (more : List Rule) (rows : List Row) → list_all (λ a. is_empty a.defaults) more ≡ true → defaults_fault rows more ≡ []
+fine_defaults : (more : List Rule) (rows : List Row) → AllByRecursion HasFineDefault more → defaults_fault rows more ≡ []
 unfolding defaults_fault
-no_defaults_fault [] rows none = refl
-no_defaults_fault (a ∷ more) rows none =
-    let parts = both (is_empty a.defaults) _ none in
-    ap₂ or_else (no_default_fault rows a parts.0)
-    (ap (λ (rs : List Row). defaults_fault rs more) (no_default rows a parts.0) ∙ no_defaults_fault more rows parts.1)
+fine_defaults [] rows fine = refl
+fine_defaults (a ∷ more) rows fine = ap₂ or_else (fine_default rows a fine.0) (fine_defaults more (with_default rows a) fine.1)
 
 -- clap wants each of the five
 pub wants : (values : Text → Option Text) → (a b c d e : Option Text)
@@ -228,15 +255,22 @@ pub wants : (values : Text → Option Text) → (a b c d e : Option Text)
     (serve_by values) None ≡ serve_by values
 wants values None b c d e is_a is_b is_c is_d is_e = sym (needs_store values is_a)
 wants values (Some v) None c d e is_a is_b is_c is_d is_e = sym (needs_accounts values is_b)
-wants values (Some v) (Some w) None d e is_a is_b is_c is_d is_e = sym (needs_port values is_c)
-wants values (Some v) (Some w) (Some x) None e is_a is_b is_c is_d is_e = sym (needs_workers values is_d)
-wants values (Some v) (Some w) (Some x) (Some y) None is_a is_b is_c is_d is_e = sym (needs_connections values is_e)
+wants values (Some v) (Some w) None d e is_a is_b is_c is_d is_e = sym (needs_word (codes "port") 1 65535 needs_port values is_c)
+wants values (Some v) (Some w) (Some x) None e is_a is_b is_c is_d is_e = sym (needs_word (codes "workers") 1 16 needs_workers values is_d)
+wants values (Some v) (Some w) (Some x) (Some y) None is_a is_b is_c is_d is_e = sym (needs_word (codes "connections") 1 1000000 needs_connections values is_e)
 wants values (Some v) (Some w) (Some x) (Some y) (Some z) is_a is_b is_c is_d is_e = refl
 
-pub complete : (parts : List Part) → cond (is_taken (check_fault serve_leaf (rows_with parts) false)) (serve_in (rows_with parts)) None ≡ serve_in (rows_with parts)
+pub complete : (parts : List Part)
+    → cond (is_taken (check_fault serve_leaf (completed (rows_with parts)) false)) (serve_in (completed (rows_with parts))) None ≡ serve_in (completed (rows_with parts))
 complete parts =
-    let values : Text → Option Text = λ name. first_of name (rows_with parts) in
-    rw (given_is parts store, given_is parts (codes "accounts"), given_is parts (codes "port"), given_is parts (codes "workers"), given_is parts (codes "connections"))
+    let values : Text → Option Text = λ name. first_of name (completed (rows_with parts)) in
+    rw (
+      given_still parts store (refl, refl),
+      given_still parts (codes "accounts") (refl, refl),
+      given_still parts (codes "port") (refl, refl),
+      given_still parts (codes "workers") (refl, refl),
+      given_still parts (codes "connections") (refl, refl),
+    )
     (wants values (values store) (values (codes "accounts")) (values (codes "port")) (values (codes "workers")) (values (codes "connections")) refl refl refl refl refl)
 
 pub ends : (ended stored : Bool) (rows : List Row) (pending : Option (Text × List Text)) (parts : List Part) → Holds rows pending parts
@@ -248,8 +282,8 @@ ends ended stored rows pending parts (inl fine) =
     ap (λ (k : Kinds). cond (is_taken (or_else k (or_else (defaults_fault settled rules) (check_fault serve_leaf (fold with_default settled rules) false))))
     (serve_in (fold with_default settled rules)) None) fine.settles
     ∙ ap (λ (k : Kinds). cond (is_taken (or_else k (check_fault serve_leaf (fold with_default settled rules) false))) (serve_in (fold with_default settled rules)) None)
-    (no_defaults_fault rules settled refl)
-    ∙ ap (λ (rs : List Row). cond (is_taken (check_fault serve_leaf rs false)) (serve_in rs) None) (no_defaults rules settled refl ∙ fine.rows_are)
-    ∙ complete parts ∙ sym (serves_first parts fine.once) ∙ sym (ap serve_with (append-nil parts))
+    (fine_defaults rules settled (refl, (refl, (refl, (refl, (refl, (refl, (refl, tt))))))))
+    ∙ ap (λ (rs : List Row). cond (is_taken (check_fault serve_leaf rs false)) (serve_in rs) None) (completes settled ∙ ap completed fine.rows_are)
+    ∙ complete parts ∙ sym (serves_completed parts fine.once) ∙ sym (ap serve_with (append-nil parts))
 ends ended stored rows pending parts (inr broken) =
     rw (not_empty (settle_fault rules false (held rows pending)) _ broken.fails) (sym (broken.serves []))

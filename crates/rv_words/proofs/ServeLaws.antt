@@ -6,19 +6,20 @@ use Rattle.std.specs.List.{list_any}
 use Rattle.std.specs.Option.{option_map_or}
 use Rattle.std.specs.Str.{bytes_eq}
 use Rattle.std.specs.Char.{digit_value}
+use Rattle.std.specs.Fmt.{digits}
 use Rattle.std.specs.Str.Parse.{AllDigits}
 use Rattle.std.specs.Cmp.Lexicographic.{same_text}
 use Rattle.std.proofs.lemmas.Fmt.{decimal_is_IsNumeral}
 use Rattle.rv_base.specs.Positions.{equals}
 use Rattle.rv_words.specs.Numbers.{number_in}
 use Rattle.rv_words.specs.Words.{command_in, options_with, serve_by}
-use Rattle.rv_words.specs.Plain.{Part, the_value, is_flag, is_option, option_name, option_value, parts_from, serve_with, the_only, part_values, with_part}
+use Rattle.rv_words.specs.Plain.{Part, defaults, the_value, is_flag, is_option, needed_names, option_name, option_value, parts_from, serve_with, the_only, part_values, values_or, with_part}
 use Rattle.rv_words.specs.Laws.{begins_with_hyphen}
 use Rattle.rv_words.specs.ServeLaws.{EachOptionStandsOnce, NoOtherFlagStands, ServeIsAsked, before_hyphens, joined, namings}
 use Rattle.rv_words.specs.declared.command.Command.{Command}
 use Rattle.rv_words.specs.declared.command.Command.TheVariants.{Serve}
 use Rattle.rv_words.proofs.Numbers.{number_read}
-use Rattle.rv_words.proofs.Rules.{known_option, stores}
+use Rattle.rv_words.proofs.Rules.{IsOption, among, known_option, stores}
 use Rattle.rv_words.proofs.Serving.{closing_is_flag, no_option}
 use Rattle.rv_words.proofs.Lines.{line_is_plain}
 
@@ -36,10 +37,10 @@ no_end word plain = go (bytes_eq word (codes "--")) refl
     go false is = refl
 
 -- a plain word is a STORE where nothing waits, and the value of what waits
-plain_store : (word : List ℕ) (words : List (List ℕ)) → is_flag word ≡ false → parts_from None (word ∷ words) ≡ with_part (codes "STORE", word) (parts_from None words)
+pub plain_store : (word : List ℕ) (words : List (List ℕ)) → is_flag word ≡ false → parts_from None (word ∷ words) ≡ with_part (codes "STORE", word) (parts_from None words)
 plain_store word words plain = rw (no_end word plain, no_option word plain, plain) refl
 
-plain_value : (name word : List ℕ) (words : List (List ℕ)) → is_flag word ≡ false → parts_from (Some name) (word ∷ words) ≡ with_part (name, word) (parts_from None words)
+pub plain_value : (name word : List ℕ) (words : List (List ℕ)) → is_flag word ≡ false → parts_from (Some name) (word ∷ words) ≡ with_part (name, word) (parts_from None words)
 plain_value name word words plain = rw plain refl
 
 digit_is_plain : (digits : List ℕ) → AllDigits 10 digits → begins_with_hyphen digits ≡ false
@@ -50,36 +51,40 @@ digit_is_plain (d ∷ ds) all = go (d == 45) refl
     go true is = absurd (omega (arith, subst (λ (x : ℕ). digit_value x < 10) (eqb-true d 45 is) all.0))
     go false is = refl
 
-decimal_is_plain : (number : ℕ) → number ≤ 1000000 → is_flag (decimal number) ≡ false
+pub decimal_is_plain : (number : ℕ) → number ≤ 1000000 → is_flag (decimal number) ≡ false
 decimal_is_plain number most = no_flag (decimal number) (digit_is_plain (decimal number) (decimal_is_IsNumeral number (omega (arith, most))).0.1)
 
 -- ---- numbers in bounds
 
-in_bounds : (least most number : ℕ) → most ≤ 1000000 → IsInRange least most number → number_in least most (decimal number) ≡ Some number
+pub in_bounds : (least most number : ℕ) → most ≤ 1000000 → IsInRange least most number → number_in least most (decimal number) ≡ Some number
 in_bounds least most number small range = sym (number_read least most number (decimal number) (omega (arith, small)) (equals (decimal number)) range.0 range.1)
+
+abbrev asks_to_serve : List ℕ → List ℕ → ℕ → ℕ → ℕ → Option Command
+asks_to_serve store accounts port workers connections =
+    Some (Serve store (record { accounts = accounts; port = port; workers = workers; connections = connections; poke_port = 8091; pokes = 0 }))
 
 serves_values : (values : List ℕ → Option (List ℕ)) (store accounts : List ℕ) (port workers connections : ℕ)
     → IsInRange 1 65535 port → IsInRange 1 16 workers → IsInRange 1 1000000 connections
     → values (codes "STORE") ≡ Some store → values (codes "accounts") ≡ Some accounts → values (codes "port") ≡ Some (decimal port)
     → values (codes "workers") ≡ Some (decimal workers) → values (codes "connections") ≡ Some (decimal connections)
-    → serve_by values ≡ Some (Serve store (record { accounts = accounts; port = port; workers = workers; connections = connections }))
-unfolding options_with
-serves_values values store accounts port workers connections ports crew counts is_store is_accounts is_port is_workers is_connections =
+    → values (codes "poke-port") ≡ Some (codes "8091") → values (codes "pokes") ≡ Some (codes "0")
+    → serve_by values ≡ asks_to_serve store accounts port workers connections
+unfolding options_with digits
+serves_values values store accounts port workers connections ports crew counts is_store is_accounts is_port is_workers is_connections is_poke_port is_pokes =
     rw (
       is_store,
       is_accounts,
       is_port,
       is_workers,
       is_connections,
+      is_poke_port,
+      is_pokes,
       in_bounds 1 65535 port (omega arith) ports,
       in_bounds 1 16 workers (omega arith) crew,
       in_bounds 1 1000000 connections (omega arith) counts,
     ) refl
 
 -- ---- lines that ask to serve
-
-abbrev asks_to_serve : List ℕ → List ℕ → ℕ → ℕ → ℕ → Option Command
-asks_to_serve store accounts port workers connections = Some (Serve store (record { accounts = accounts; port = port; workers = workers; connections = connections }))
 
 -- a line of these parts
 by_parts : (name : List ℕ) (words : List (List ℕ)) (parts : List Part) → parts_from None words ≡ Some parts → command_in (name ∷ codes "serve" ∷ words) ≡ serve_with parts
@@ -119,13 +124,13 @@ store_first : (store accounts : List ℕ) (port workers connections : ℕ) → I
     → serve_with ((codes "STORE", store) ∷ option_parts accounts (decimal port) (decimal workers) (decimal connections) []) ≡ asks_to_serve store accounts port workers connections
 store_first store accounts port workers connections ports crew counts =
     serves_values (the_value ((codes "STORE", store) ∷ option_parts accounts (decimal port) (decimal workers) (decimal connections) []))
-    store accounts port workers connections ports crew counts refl refl refl refl refl
+    store accounts port workers connections ports crew counts refl refl refl refl refl refl refl
 
 store_at_end : (store accounts : List ℕ) (port workers connections : ℕ) → IsInRange 1 65535 port → IsInRange 1 16 workers → IsInRange 1 1000000 connections
     → serve_with (option_parts accounts (decimal port) (decimal workers) (decimal connections) ((codes "STORE", store) ∷ [])) ≡ asks_to_serve store accounts port workers connections
 store_at_end store accounts port workers connections ports crew counts =
     serves_values (the_value (option_parts accounts (decimal port) (decimal workers) (decimal connections) ((codes "STORE", store) ∷ [])))
-    store accounts port workers connections ports crew counts refl refl refl refl refl
+    store accounts port workers connections ports crew counts refl refl refl refl refl refl refl
 
 pub serve_asked : ServeIsAsked
 serve_asked = record {
@@ -154,16 +159,16 @@ serve_asked = record {
 -- ---- what the first word comes to, where nothing waits
 
 module _ (word : List ℕ) (words : List (List ℕ)) where
-  abbrev known_parts : Option (List Part)
+  abbrev pub known_parts : Option (List Part)
   known_parts = option_map_or (λ v. with_part (option_name word, v) (parts_from None words)) (option_value word) (parts_from (Some (option_name word)) words)
 
   closed : bytes_eq word (codes "--") ≡ true → parts_from None (word ∷ words) ≡ Some (stores words)
   closed is = rw is refl
 
-  known : bytes_eq word (codes "--") ≡ false → is_option word ≡ true → parts_from None (word ∷ words) ≡ known_parts
+  pub known : bytes_eq word (codes "--") ≡ false → is_option word ≡ true → parts_from None (word ∷ words) ≡ known_parts
   known no_end is = rw (no_end, is) refl
 
-  stray : bytes_eq word (codes "--") ≡ false → is_option word ≡ false → is_flag word ≡ true → parts_from None (word ∷ words) ≡ None
+  pub stray : bytes_eq word (codes "--") ≡ false → is_option word ≡ false → is_flag word ≡ true → parts_from None (word ∷ words) ≡ None
   stray no_end no_option is = rw (no_end, no_option, is) refl
 
 -- ---- other flags
@@ -207,7 +212,7 @@ no_other_flag name words some = line_is_plain (name ∷ codes "serve" ∷ words)
 
 -- ---- how often an option is given
 
-abbrev CountsOf : List ℕ → Option (List Part) → ℕ → Type 0
+abbrev pub CountsOf : List ℕ → Option (List Part) → ℕ → Type 0
 CountsOf name parts n = IfSome parts (λ ps. length (part_values ps name) ≡ n)
 
 abbrev once_if : Bool → ℕ
@@ -257,7 +262,7 @@ names_later name word words goes_on none = rw (goes_on, none) refl
 at_idle : (name : List ℕ) (words : List (List ℕ)) → CountsOf name (parts_from None words) (0 + namings name words) → CountsOf name (parts_from None words) (namings name words)
 at_idle name words counts = counts_as name _ _ _ (0 + namings name words) refl (omega arith) counts
 
-counted : (name : List ℕ) → bytes_eq (codes "STORE") name ≡ false → (words : List (List ℕ)) (waiting : Option (List ℕ))
+pub counted : (name : List ℕ) → bytes_eq (codes "STORE") name ≡ false → (words : List (List ℕ)) (waiting : Option (List ℕ))
     → CountsOf name (parts_from waiting words) (waited name waiting + namings name words)
 counted name other [] None = refl
 counted name other [] (Some waiting) = tt
@@ -290,15 +295,42 @@ counted name no_store (word ∷ words) (Some waiting) = go (is_flag word) refl (
         (ap (λ n. once_if (bytes_eq waiting name) + n) (names_later name word words (no_end word f) (no_option word f)))
         (counts_more name waiting word _ (namings name words) (at_idle name words rest))
 
-not_one : (values : List (List ℕ)) → length values ≢ 1 → the_only values ≡ None
-not_one [] other = refl
-not_one (v ∷ []) other = absurd (other refl)
-not_one (v ∷ w ∷ more) other = refl
+not_one : (values others : List (List ℕ)) → length values ≢ 1 → others ≡ [] → the_only (values_or values others) ≡ None
+not_one [] others other none = ap the_only none
+not_one (v ∷ []) others other none = absurd (other refl)
+not_one (v ∷ w ∷ more) others other none = refl
 
-pub each_option_once : EachOptionStandsOnce
-each_option_once name option words is_known other =
-    line_is_plain (name ∷ codes "serve" ∷ words) ∙ go (parts_from None words) (counted option (known_option option is_known).no_store words None)
+not_many : (values others : List (List ℕ)) → 1 < length values → the_only (values_or values others) ≡ None
+not_many [] others many = absurd (omega (arith, many))
+not_many (v ∷ []) others many = absurd (omega (arith, many))
+not_many (v ∷ w ∷ more) others many = refl
+
+-- an option that has no default
+abbrev IsNeeded : List ℕ → Type 0
+IsNeeded name = IsOption name × (part_values defaults name ≡ [])
+
+needed_option : (name : List ℕ) → list_any (λ o. bytes_eq o name) needed_names ≡ true → IsNeeded name
+needed_option name is_needed = among IsNeeded name needed_names (
+  (known_option (codes "accounts") refl, refl),
+  ((known_option (codes "port") refl, refl), ((known_option (codes "workers") refl, refl), ((known_option (codes "connections") refl, refl), tt))),
+) is_needed
+
+-- where what the words give an option is no value, they ask for nothing
+lacks_value : (name option : List ℕ) (words : List (List ℕ)) → IsOption option
+    → ((parts : List Part) → length (part_values parts option) ≡ namings option words → the_value parts option ≡ None)
+    → command_in (name ∷ codes "serve" ∷ words) ≡ None
+lacks_value name option words is lacks = line_is_plain (name ∷ codes "serve" ∷ words) ∙ go (parts_from None words) (counted option is.no_store words None)
   where
     go : (parts : Option (List Part)) → CountsOf option parts (0 + namings option words) → option_and_then serve_with parts ≡ None
     go None counts = refl
-    go (Some ps) counts = (known_option option is_known).once.needed (the_value ps) (not_one (part_values ps option) (λ one. other (omega (arith, one, counts))))
+    go (Some ps) counts = is.once.needed (the_value ps) (lacks ps (omega (arith, counts)))
+
+pub each_option_once : EachOptionStandsOnce
+each_option_once = record {
+  needed = λ name option words is_needed other.
+      let is : IsNeeded option = needed_option option is_needed in
+      lacks_value name option words is.0 (λ parts counts. not_one (part_values parts option) (part_values defaults option) (λ one. other (omega (arith, one, counts))) is.1);
+  doubled = λ name option words is_known many.
+      lacks_value name option words (known_option option is_known)
+      (λ parts counts. not_many (part_values parts option) (part_values defaults option) (omega (arith, counts, many)));
+}

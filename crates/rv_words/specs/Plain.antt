@@ -1,5 +1,5 @@
 -- What the words ask for, said without clap.
-use Rattle.std.specs.Prelude.{ℕ, ◌==◌, ◌&&◌, List, [], ◌∷◌, Option, Some, None, Bool, false, codes, drop, is_some, map, slice_get, take, if◌then◌else◌, option_and_then, option_map}
+use Rattle.std.specs.Prelude.{ℕ, ◌==◌, ◌&&◌, ◌++◌, List, [], ◌∷◌, Option, Some, None, Bool, false, codes, drop, is_some, map, slice_get, take, if◌then◌else◌, option_and_then, option_map}
 use Rattle.std.specs.List.{after_first, before_first, list_any}
 use Rattle.std.specs.Option.{option_map_or}
 use Rattle.std.specs.Str.{bytes_eq, chars}
@@ -39,8 +39,16 @@ asked_with verb values =
 abbrev pub Part : Type 0
 Part = List ℕ × List ℕ
 
+-- the options that must be given
+abbrev pub needed_names : List (List ℕ)
+needed_names = codes "accounts" ∷ codes "port" ∷ codes "workers" ∷ codes "connections" ∷ []
+
+-- the options that may be left out, with the values that they then have
+abbrev pub defaults : List Part
+defaults = (codes "poke-port", codes "8091") ∷ (codes "pokes", codes "0") ∷ []
+
 abbrev pub option_names : List (List ℕ)
-option_names = codes "accounts" ∷ codes "port" ∷ codes "workers" ∷ codes "connections" ∷ []
+option_names = needed_names ++ map (λ part. part.0) defaults
 
 -- the NAME in `--NAME` or `--NAME=VALUE`, which ends before the first `=` (61), and the VALUE if there is one
 abbrev pub option_name : List ℕ → List ℕ
@@ -80,9 +88,14 @@ abbrev pub the_only : List (List ℕ) → Option (List ℕ)
 the_only (value ∷ []) = Some value
 the_only other = None
 
--- the value of a name that is given exactly once
+-- the values, or these others where there are none
+abbrev pub values_or : List (List ℕ) → List (List ℕ) → List (List ℕ)
+values_or [] others = others
+values_or (value ∷ values) others = value ∷ values
+
+-- the value of a name that is given exactly once, or that is left out and has a default
 abbrev pub the_value : List Part → List ℕ → Option (List ℕ)
-the_value parts name = the_only (part_values parts name)
+the_value parts name = the_only (values_or (part_values parts name) (part_values defaults name))
 
 abbrev pub serve_with : List Part → Option Command
 serve_with parts = serve_by (the_value parts)

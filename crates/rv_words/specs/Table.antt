@@ -11,6 +11,10 @@ required_value name = record (new_rule name) { required = true }
 abbrev pub required_option : Text → Rule
 required_option name = record (new_rule name) { long = Some name; required = true }
 
+-- an option that may be left out, and then has this value
+abbrev pub option_with_default : Text → Text → Rule
+option_with_default name value = record (new_rule name) { long = Some name; defaults = value ∷ [] }
+
 -- VERB STORE
 abbrev pub store_app : Text → App
 store_app verb = with_rule (new_app verb) (required_value (codes "STORE"))
@@ -19,9 +23,15 @@ store_app verb = with_rule (new_app verb) (required_value (codes "STORE"))
 abbrev pub retire_app : App
 retire_app = with_rule (store_app (codes "retire")) (required_value (codes "GROUP"))
 
--- serve STORE --accounts FILE --port PORT --workers WORKERS --connections CONNECTIONS
+-- the options of serve: --accounts FILE --port PORT --workers WORKERS --connections CONNECTIONS [--poke-port PORT] [--pokes POKES]
+abbrev pub serve_options : List Rule
+serve_options =
+    required_option (codes "accounts") ∷ required_option (codes "port") ∷ required_option (codes "workers") ∷ required_option (codes "connections")
+    ∷ option_with_default (codes "poke-port") (codes "8091") ∷ option_with_default (codes "pokes") (codes "0") ∷ []
+
+-- serve STORE and its options
 abbrev pub serve_app : App
-serve_app = fold (λ app name. with_rule app (required_option name)) (store_app (codes "serve")) (codes "accounts" ∷ codes "port" ∷ codes "workers" ∷ codes "connections" ∷ [])
+serve_app = fold with_rule (store_app (codes "serve")) serve_options
 
 -- one of the commands must be named, and nothing asks for help or for the version
 abbrev pub bare_app : App

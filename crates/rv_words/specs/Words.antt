@@ -32,13 +32,16 @@ retire_group_in store group = if is_id group then Some (Retire store group) else
 abbrev pub retire_in : List Row → Option Command
 retire_in rows = option_and_then (λ store. option_and_then (retire_group_in store) (first_of (codes "GROUP") rows)) (first_of (codes "STORE") rows)
 
--- how requests are served, by the values of the names: a port, a number of workers, and one of connections
+-- how requests are served, by the values of the names: a port, a number of workers, one of connections, a port for
+-- pokes, and a number of poke jobs
 unfoldable pub options_with : (Text → Option Text) → Text → Option ServeOptions
 options_with given accounts = do
   port ← option_and_then (number_in 1 65535) (given (codes "port"))
   workers ← option_and_then (number_in 1 16) (given (codes "workers"))
   connections ← option_and_then (number_in 1 1000000) (given (codes "connections"))
-  Some (record { accounts = accounts; port = port; workers = workers; connections = connections })
+  poke_port ← option_and_then (number_in 1 65535) (given (codes "poke-port"))
+  pokes ← option_and_then (number_in 0 16) (given (codes "pokes"))
+  Some (record { accounts = accounts; port = port; workers = workers; connections = connections; poke_port = poke_port; pokes = pokes })
 
 -- what `serve` asks for, by the values of its names
 abbrev pub serve_by : (Text → Option Text) → Option Command

@@ -1,5 +1,5 @@
 //! What follows of what the words ask for, as contracts of functions that do nothing: a check of the crate proves them.
-ghost use Rattle.rv_words.specs.ServeLaws.{EachOptionStandsOnce, NoOtherFlagStands, ServeIsAsked};
+ghost use Rattle.rv_words.specs.ServeLaws.{EachOptionStandsOnce, NoOtherFlagStands, NumbersAreInBounds, PokesAreAsked, PokesHaveDefaults, ServeIsAsked};
 ghost use Rattle.rv_words.specs.Laws.{
   AskForNothing,
   EachGroupIsAsked,
@@ -54,14 +54,34 @@ pub fn others_ask_for_nothing()
     ensures { OthersAskForNothing }
 {}
 
-/// The words `serve STORE` and the four options, in this order, with the store last, or with `--NAME=VALUE` for each,
-/// ask to serve the store with these: for each text that doesn't begin with `-`, and each port, number of workers and
-/// number of connections in bounds. After `=` any accounts file is taken, and after `--` any store.
+/// The words `serve STORE` and the four options that must be given, in this order, with the store last, or with
+/// `--NAME=VALUE` for each, ask to serve the store with these, with 8091 as the port for pokes, and with no poke job: for
+/// each text that doesn't begin with `-`, and each port, number of workers and number of connections in bounds. After `=`
+/// any accounts file is taken, and after `--` any store.
 pub fn serve_is_asked()
     ensures { ServeIsAsked }
 {}
 
-/// A line of `serve` where an option is missing or doubled asks for nothing.
+/// Words that ask to serve and don't give it take `--poke-port` with a number from 1 to 65,535, and `--pokes` with one from
+/// 0 to 16, at any place before a first `--` where no option waits for its value, as `--NAME=VALUE` too. They set the port
+/// for pokes and the number of poke jobs, and nothing else.
+pub fn pokes_are_asked()
+    ensures { PokesAreAsked }
+{}
+
+/// A line that asks to serve without `--poke-port` asks for 8091, and one without `--pokes` for 0.
+pub fn pokes_have_defaults()
+    ensures { PokesHaveDefaults }
+{}
+
+/// A line of `serve` where an option has a value that is no number within its bounds asks for nothing: 1 to 65,535 of
+/// `--port` and `--poke-port`, 1 to 16 of `--workers`, 1 to 1,000,000 of `--connections`, and 0 to 16 of `--pokes`.
+pub fn numbers_are_in_bounds()
+    ensures { NumbersAreInBounds }
+{}
+
+/// A line of `serve` where one of the four options that must be given is missing, or where any option is doubled, asks
+/// for nothing.
 pub fn each_option_stands_once()
     ensures { EachOptionStandsOnce }
 {}

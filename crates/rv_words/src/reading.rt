@@ -119,11 +119,15 @@ fn options_with(matches: &ArgMatches<'_>, accounts: Name) -> Option<ServeOptions
     let port = number_at(matches, "port", 1, 65_535)?;
     let workers = number_at(matches, "workers", 1, 16)?;
     let connections = number_at(matches, "connections", 1, 1_000_000)?;
+    let poke_port = number_at(matches, "poke-port", 1, 65_535)?;
+    let pokes = number_at(matches, "pokes", 0, 16)?;
     Some(ServeOptions {
         accounts,
         port: port as u16,
         workers,
         connections,
+        poke_port: poke_port as u16,
+        pokes,
     })
 }
 

@@ -2,7 +2,7 @@
 ghost use Rattle.std.specs.Prelude.{◌≡◌, IfOk, false};
 ghost use Rattle.clap.specs.Words.{app_of, with_rule};
 ghost use Rattle.clap.specs.declared.builder.command.Command.TheViews.{out-Command};
-ghost use Rattle.rv_words.specs.Table.{bare_app, required_option, required_value, retire_app, rv_app, serve_app, store_app};
+ghost use Rattle.rv_words.specs.Table.{bare_app, option_with_default, required_option, required_value, retire_app, rv_app, serve_app, store_app};
 
 use clap::{Arg, Command};
 use std::alloc::{AllocError, Global};
@@ -31,6 +31,19 @@ fn with_option<'a>(
     command.arg(Arg::new(alloc, name).long(name).required(true))
 }
 
+// The command with one more option, which may be left out and then has this value.
+fn with_default<'a>(
+    alloc: Global,
+    command: Command<'a>,
+    name: &'a str,
+    value: &'a str,
+) -> Result<Command<'a>, AllocError>
+    ensures app { IfOk result (λ r. app_of r ≡ with_rule (app_of command.entry) (option_with_default name.entry.now value.entry.now)) }
+    ensures local { IfOk result (λ r. (out-Command command.entry).has_globals ≡ false → (out-Command r).has_globals ≡ false) }
+{
+    command.arg(Arg::new(alloc, name).long(name).default_value(value))
+}
+
 // The command of this name, of one STORE.
 fn of_store<'a>(alloc: Global, name: &'a str) -> Result<Command<'a>, AllocError>
     ensures app { IfOk result (λ r. app_of r ≡ store_app name.entry.now) }
@@ -54,7 +67,9 @@ fn serve<'a>(alloc: Global) -> Result<Command<'a>, AllocError>
     let command = with_option(alloc, command, "accounts")?;
     let command = with_option(alloc, command, "port")?;
     let command = with_option(alloc, command, "workers")?;
-    with_option(alloc, command, "connections")
+    let command = with_option(alloc, command, "connections")?;
+    let command = with_default(alloc, command, "poke-port", "8091")?;
+    with_default(alloc, command, "pokes", "0")
 }
 
 // No command yet, and no call for help.
