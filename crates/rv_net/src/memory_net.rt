@@ -1,91 +1,104 @@
 // A net in memory, which fails at the calls of a list.
-ghost use Rattle.std.specs.Prelude.{◌≡◌, ◌+◌, ◌≤◌, ◌++◌, ◌||◌, [], length, nat_lt, vec_len, vec_capacity, Some, None, IfOk, IsErrOf};
+ghost use Rattle.std.specs.Prelude.{◌≡◌, ◌≤◌, ◌||◌, length, nat_lt, vec_len, IfOk, IsErrOf};
 ghost use Rattle.rv_base.specs.Causes.{Counts, Rose};
 ghost use Rattle.rv_base.specs.InMemory.{FailsNoMore, fails_next};
 ghost use Rattle.rv_base.specs.Outside.{counted, counted_if};
 ghost use Rattle.rv_net.specs.declared.net_fault.NetFault.TheVariants as NetFault;
-ghost use Rattle.rv_net.specs.Giving.{GivesListeners, has_failed};
+ghost use Rattle.rv_net.specs.Giving.{Gives, TakesBack, has_failed};
+ghost use Rattle.rv_net.specs.Stocks.{giving_of};
 
+use crate::conn::MemoryConn;
 use crate::listeners::Listeners;
 use crate::memory_listen::MemoryListen;
+use crate::memory_stock::MemoryStock;
 use crate::net::Net;
 use crate::net_fault::NetFault;
 use crate::wanted::Wanted;
 use rv_base::Memory;
+use rv_poke::MemoryLink;
 use std::alloc::Global;
-use std::mem;
 
-/// Gives the listeners of a list, and keeps those that come back. It tells which, and what it was asked for. It fails at
+/// A listener in memory for links.
+pub type MemoryPokes = MemoryListen<MemoryLink>;
+
+/// Gives the listeners of two lists, and keeps those that come back. It tells which, and what it was asked for. It fails at
 /// the calls of a list, and where fewer listeners are left than are asked for. Its counts of calls and faults stand still
 /// at 2^64 - 1.
 #[derive(Drop)]
 pub struct MemoryNet {
-    /// The listeners that it has to give, the next one first.
-    pub to_give: Vec<MemoryListen>,
-    /// The listeners that came back, in order.
-    pub came_back: Vec<MemoryListen>,
-    /// How many listeners were given and have not come back.
-    pub out: usize,
-    /// What the last call of `listen` asked for.
-    pub wanted: Option<Wanted>,
-    /// The numbers of the calls of `listen` that fail, from 1.
+    /// The listeners for connections.
+    pub listeners: MemoryStock<MemoryListen<MemoryConn>>,
+    /// The listeners for links.
+    pub pokes: MemoryStock<MemoryPokes>,
+    /// The numbers of the calls of `listen` and `listen_pokes` that fail, from 1; both are counted together.
     pub failing: Vec<u64>,
-    /// How many calls of `listen` there were.
+    /// How many of these calls there were.
     pub calls: u64,
     /// How many of them failed, but for want of memory.
     pub faults: u64,
-    // Whatever was given or is to give has a slot to come back to.
-    ghost capacity: { vec_len came_back + out + vec_len to_give ≤ vec_capacity came_back },
 }
 
 impl MemoryNet {
     /// A net that has these listeners to give, the next one first. It makes the space for those that come back.
-    pub fn new(alloc: Global, to_give: Vec<MemoryListen>, failing: Vec<u64>) -> Result<Self, Memory>
-        ensures to_give { IfOk result (λ made. made.to_give ≡ to_give) }
-        ensures came_back { IfOk result (λ made. made.came_back.items ≡ []) }
+    pub fn new(
+        alloc: Global,
+        listeners: Vec<MemoryListen<MemoryConn>>,
+        pokes: Vec<MemoryPokes>,
+        failing: Vec<u64>,
+    ) -> Result<Self, Memory>
+        ensures listeners { IfOk result (λ made. made.listeners.to_give ≡ listeners) }
+        ensures pokes { IfOk result (λ made. made.pokes.to_give ≡ pokes) }
         ensures failing { IfOk result (λ made. made.failing ≡ failing) }
-        ensures wanted { IfOk result (λ made. made.wanted ≡ None) }
-        ensures counts { IfOk result (λ made. (made.out ≡ 0) × (made.calls ≡ 0) × (made.faults ≡ 0)) }
+        ensures counts { IfOk result (λ made. (made.calls ≡ 0) × (made.faults ≡ 0)) }
     {
-        let came_back = Vec::with_capacity(alloc, to_give.len())?;
+        let listeners = MemoryStock::new(alloc, listeners)?;
+        let pokes = MemoryStock::new(alloc, pokes)?;
         Ok(MemoryNet {
-            to_give,
-            came_back,
-            out: 0,
-            wanted: None,
+            listeners,
+            pokes,
             failing,
             calls: 0,
             faults: 0,
         })
     }
 
-    // Counts a fault.
-    fn count_fault(&mut self)
-        ensures faults { self.new.faults ≡ counted self.old.faults }
-        ensures calls { self.new.calls ≡ self.old.calls }
-        ensures to_give { self.new.to_give ≡ self.old.to_give }
-        ensures back { self.new.came_back ≡ self.old.came_back }
-        ensures out { self.new.out ≡ self.old.out }
-        ensures wanted { self.new.wanted ≡ self.old.wanted }
-        ensures failing { self.new.failing ≡ self.old.failing }
+    // Counts a call, and tells whether it is to fail.
+    fn fails(&mut self) -> bool
+        ensures fails { result ≡ fails_next self.old.calls self.old.failing.items }
+        ensures after { self.new ≡ record self.old { calls = counted self.old.calls } }
     {
-        self.faults = self.faults.saturating_add(1);
+        self.calls = self.calls.saturating_add(1);
+        self.failing.contains(&self.calls)
+    }
+
+    // Counts a fault where a call has failed.
+    fn told<T>(&mut self, given: Result<T, NetFault>) -> Result<T, NetFault>
+        ensures same { result ≡ given }
+        ensures counts { Counts self.old.faults self.new.faults result }
+        ensures after { self.new ≡ record self.old { faults = counted_if (has_failed given) self.old.faults } }
+    {
+        match given {
+            Ok(given) => Ok(given),
+            Err(NetFault::Memory) => Err(NetFault::Memory),
+            Err(NetFault::Failed) => {
+                self.faults = self.faults.saturating_add(1);
+                Err(NetFault::Failed)
+            }
+        }
     }
 }
 
 impl Net for MemoryNet {
-    type Listen = MemoryListen;
+    type Listen = MemoryListen<MemoryConn>;
+
+    type Pokes = MemoryPokes;
 
     // It tells whatever comes.
     ghost tells = { λ s. Unit {0} };
 
-    ghost to_give = { λ s. s.to_give.items };
+    ghost listeners = { λ s. giving_of s.listeners };
 
-    ghost came_back = { λ s. s.came_back.items };
-
-    ghost out = { λ s. s.out };
-
-    ghost wanted = { λ s. s.wanted };
+    ghost pokes = { λ s. giving_of s.pokes };
 
     ghost faults = { λ s. s.faults };
 
@@ -98,48 +111,60 @@ impl Net for MemoryNet {
         port: u16,
         count: u32,
         most: u32,
-    ) -> Result<Listeners<MemoryListen>, NetFault>
+    ) -> Result<Listeners<MemoryListen<MemoryConn>>, NetFault>
         ensures count { IfOk result (λ given. length given.listeners ≡ count) }
-        ensures given { GivesListeners self.old.to_give.items self.old.out self.new.to_give.items self.new.out result }
-        ensures back { self.new.came_back ≡ self.old.came_back }
-        ensures wanted { self.new.wanted ≡ Some (record { port = port; count = count; most = most }) }
+        ensures gives { Gives (record { port = port; count = count; most = most }) (giving_of self.old.listeners) (giving_of self.new.listeners) result }
+        ensures others { self.new.pokes ≡ self.old.pokes }
         ensures faults { Counts self.old.faults self.new.faults result }
         ensures failed { IsErrOf result NetFault.Failed → Rose self.old.faults self.new.faults }
-        ensures fails { has_failed result ≡ (fails_next self.old.calls self.old.failing.items || nat_lt (vec_len self.old.to_give) count) }
+        ensures fails { has_failed result ≡ (fails_next self.old.calls self.old.failing.items || nat_lt (vec_len self.old.listeners.to_give) count) }
         ensures failing { self.new.failing ≡ self.old.failing }
         ensures calls { self.new.calls ≡ counted self.old.calls }
         ensures counted { self.new.faults ≡ counted_if (has_failed result) self.old.faults }
-        ensures steady { FailsNoMore self.old.calls self.old.failing.items → FailsNoMore self.new.calls self.new.failing.items × (count ≤ vec_len self.old.to_give → ¬ IsErrOf result NetFault.Failed) }
+        ensures steady { FailsNoMore self.old.calls self.old.failing.items → FailsNoMore self.new.calls self.new.failing.items × (count ≤ vec_len self.old.listeners.to_give → ¬ IsErrOf result NetFault.Failed) }
     {
-        self.calls = self.calls.saturating_add(1);
-        self.wanted = Some(Wanted { port, count, most });
-        let count = count as usize;
-        if self.failing.contains(&self.calls) || self.to_give.len() < count {
-            self.count_fault();
-            return Err(NetFault::Failed);
-        }
-        let left = self.to_give.split_off(count)?;
-        let given = mem::replace(&mut self.to_give, left);
-        self.out += count;
-        Ok(Listeners::from_vec(given))
+        let fails = self.fails();
+        let given = self.listeners.give(Wanted { port, count, most }, fails);
+        self.told(given)
     }
 
-    fn done(&mut self, listeners: Listeners<MemoryListen>)
-        requires { length listeners.listeners ≤ self.old.out }
-        ensures back { self.new.came_back.items ≡ self.old.came_back.items ++ listeners.listeners }
-        ensures out { self.old.out ≡ self.new.out + length listeners.listeners }
-        ensures to_give { self.new.to_give ≡ self.old.to_give }
+    #[tactic(auto, using(rv_base::specs::InMemoryLaws::not_next, rv_base::specs::InMemoryLaws::fails_no_more_later))]
+    fn listen_pokes(
+        &mut self,
+        port: u16,
+        count: u32,
+        most: u32,
+    ) -> Result<Listeners<MemoryPokes>, NetFault>
+        ensures count { IfOk result (λ given. length given.listeners ≡ count) }
+        ensures gives { Gives (record { port = port; count = count; most = most }) (giving_of self.old.pokes) (giving_of self.new.pokes) result }
+        ensures others { self.new.listeners ≡ self.old.listeners }
+        ensures faults { Counts self.old.faults self.new.faults result }
+        ensures failed { IsErrOf result NetFault.Failed → Rose self.old.faults self.new.faults }
+        ensures fails { has_failed result ≡ (fails_next self.old.calls self.old.failing.items || nat_lt (vec_len self.old.pokes.to_give) count) }
         ensures failing { self.new.failing ≡ self.old.failing }
-        ensures wanted { self.new.wanted ≡ self.old.wanted }
-        ensures counts { (self.new.calls ≡ self.old.calls) × (self.new.faults ≡ self.old.faults) }
-        ensures steady { FailsNoMore self.old.calls self.old.failing.items → FailsNoMore self.new.calls self.new.failing.items }
+        ensures calls { self.new.calls ≡ counted self.old.calls }
+        ensures counted { self.new.faults ≡ counted_if (has_failed result) self.old.faults }
+        ensures steady { FailsNoMore self.old.calls self.old.failing.items → FailsNoMore self.new.calls self.new.failing.items × (count ≤ vec_len self.old.pokes.to_give → ¬ IsErrOf result NetFault.Failed) }
     {
-        let mut listeners = listeners.into_vec();
-        self.out -= listeners.len();
-        match self.came_back.append(&mut listeners) {
-            Ok(()) => {}
-            Err(_) => unreachable!(),
-        }
+        let fails = self.fails();
+        let given = self.pokes.give(Wanted { port, count, most }, fails);
+        self.told(given)
+    }
+
+    fn done(&mut self, returned: Listeners<MemoryListen<MemoryConn>>)
+        requires { length returned.listeners ≤ self.old.listeners.out }
+        ensures back { TakesBack (giving_of self.old.listeners) (giving_of self.new.listeners) returned.listeners }
+        ensures others { self.new ≡ record self.old { listeners = self.new.listeners } }
+    {
+        self.listeners.take_back(returned);
+    }
+
+    fn done_pokes(&mut self, returned: Listeners<MemoryPokes>)
+        requires { length returned.listeners ≤ self.old.pokes.out }
+        ensures back { TakesBack (giving_of self.old.pokes) (giving_of self.new.pokes) returned.listeners }
+        ensures others { self.new ≡ record self.old { pokes = self.new.pokes } }
+    {
+        self.pokes.take_back(returned);
     }
 
     ghost steady_tells = { λ net steady. tt };

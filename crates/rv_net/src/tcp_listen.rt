@@ -1,25 +1,33 @@
 // A listener over TCP.
 ghost use Rattle.std.specs.Prelude.{◌≡◌, []};
-ghost use Rattle.rv_base.specs.Outside.{counted_if};
-ghost use Rattle.rv_net.specs.Accepting.{GivesFewer, TakesOne, is_end};
+ghost use Rattle.rv_base.specs.Outside.{counted, counted_if};
+ghost use Rattle.rv_net.specs.Accepting.{GivesFewer, TakesOne, TakesOneLink, is_end, is_last, is_nobody};
 
 use crate::accepted::Accepted;
+use crate::awaited::Awaited;
 use crate::conn::Conn;
 use crate::listen::Listen;
+use crate::poke_listen::PokeListen;
+use crate::tcp_link::TcpLink;
 use rv_base::{Reading, Writing};
 use std::io;
 use std::net::{TcpListener, TcpStream};
+use std::sync::Wait;
+use std::sync::atomic::AtomicU64;
 use std::time::Duration;
 
 /// How long one read or one write of a connection waits, in seconds. A client that sends or takes nothing for so long is
 /// told as a read or a write that failed, so it can't hold a worker for good.
 pub const IDLE_SECONDS: u64 = 30;
 
+// How long a listener for links waits for one, in milliseconds, before it answers that none came.
+const PAUSE_MILLISECONDS: u64 = 20;
+
 /// A connection over TCP.
 pub type TcpConn = Conn<Reading<TcpStream>, Writing<TcpStream>>;
 
-/// Accepts connections at a socket of this machine, until it has accepted so many, or one can't be had. What the
-/// connections are is not told, and one that comes back is closed.
+/// Accepts connections at a socket of this machine, or links, until it has accepted so many, or one can't be had. What they are is not
+/// told, and one that comes back is closed. For links, its socket is to be one that doesn't block.
 #[derive(Drop)]
 pub struct TcpListen {
     listener: TcpListener,
@@ -47,6 +55,26 @@ impl TcpListen {
         let (stream, _address) = self.listener.accept()?;
         connect(stream)
     }
+
+    // The next link, if one waits.
+    fn next_link(&self) -> io::Result<TcpLink> {
+        let (stream, _address) = self.listener.accept()?;
+        TcpLink::new(stream)
+    }
+
+    // Counts that no more are to come.
+    fn end(&mut self)
+        ensures left { self.new.left ≡ 0 }
+        ensures ends { self.new.ends ≡ counted self.old.ends }
+    {
+        self.left = 0;
+        self.ends = self.ends.saturating_add(1);
+    }
+}
+
+// Sleeps for so long: nobody wakes the word.
+fn pause<R: Wait>(rt: &R) {
+    AtomicU64::new(0).park_timeout(rt, 0, Duration::from_millis(PAUSE_MILLISECONDS));
 }
 
 // The two halves of a stream. What is written is sent at once, and no read or write waits for good.
@@ -95,12 +123,57 @@ impl Listen for TcpListen {
                 return Accepted::Conn(conn);
             }
         }
-        self.left = 0;
-        self.ends = self.ends.saturating_add(1);
+        self.end();
         Accepted::End
     }
 
     fn done(&mut self, _conn: TcpConn)
+        ensures { self.new ≡ self.old }
+    {}
+}
+
+impl PokeListen for TcpListen {
+    ghost use Rattle.std.specs.Prelude.{true, false};
+
+    type Link = TcpLink;
+
+    // Of real links nothing is told.
+    ghost tells = { λ s. ⊥ };
+
+    ghost to_come = { λ s. [] };
+
+    ghost came_back = { λ s. [] };
+
+    ghost out = { λ s. 0 };
+
+    ghost ends = { λ s. s.ends };
+
+    fn accept<R: Wait>(&mut self, rt: &R, is_over: bool) -> Awaited<TcpLink>
+        ensures ends { self.new.ends ≡ counted_if (is_last result) self.old.ends }
+        ensures left { TakesOneLink self.old.left self.new.left result }
+        ensures over { is_over ≡ true → is_nobody result ≡ false }
+    {
+        if is_over || self.left == 0 {
+            self.end();
+            return Awaited::End;
+        }
+        match self.next_link() {
+            Ok(link) => {
+                self.left -= 1;
+                Awaited::Link(link)
+            }
+            Err(error) if error.kind() == io::ErrorKind::WouldBlock => {
+                pause(rt);
+                Awaited::Nobody
+            }
+            Err(_) => {
+                self.end();
+                Awaited::End
+            }
+        }
+    }
+
+    fn done(&mut self, _link: TcpLink)
         ensures { self.new ≡ self.old }
     {}
 }

@@ -1,5 +1,5 @@
 // A net over TCP.
-ghost use Rattle.std.specs.Prelude.{◌≡◌, [], None, IfOk, All, IsErrOf, length, vec_len};
+ghost use Rattle.std.specs.Prelude.{◌≡◌, [], None, Err, IfOk, All, IsErrOf, MatchResult, length, vec_len};
 ghost use Rattle.rv_base.specs.Causes.{Counts, Rose};
 ghost use Rattle.rv_net.specs.declared.net_fault.NetFault.TheVariants as NetFault;
 
@@ -8,6 +8,7 @@ use crate::net::Net;
 use crate::net_fault::NetFault;
 use crate::tcp_listen::TcpListen;
 use std::alloc::Global;
+use std::io;
 use std::net::{Ipv4Addr, TcpListener};
 
 /// Gives listeners at the ports of this machine's loopback address, 127.0.0.1. Listeners of one call share one socket.
@@ -26,6 +27,25 @@ impl<'a> TcpNet<'a> {
         ensures { result.faults ≡ 0 }
     {
         TcpNet { rt, faults: 0 }
+    }
+
+    // Listeners that were opened; a fault is counted.
+    fn told(
+        &mut self,
+        opened: Result<Vec<TcpListen>, NetFault>,
+    ) -> Result<Listeners<TcpListen>, NetFault>
+        ensures given { MatchResult opened (λ opened. IfOk result (λ given. given.listeners ≡ opened.items)) (λ fault. result ≡ Err fault) }
+        ensures faults { Counts self.old.faults self.new.faults result }
+        ensures failed { IsErrOf result NetFault.Failed → Rose self.old.faults self.new.faults }
+    {
+        match opened {
+            Ok(given) => Ok(Listeners::from_vec(given)),
+            Err(NetFault::Memory) => Err(NetFault::Memory),
+            Err(NetFault::Failed) => {
+                self.faults = self.faults.saturating_add(1);
+                Err(NetFault::Failed)
+            }
+        }
     }
 }
 
@@ -49,30 +69,52 @@ fn share(
     Ok(given)
 }
 
-// So many listeners at a port.
+// So many listeners at a port, for links.
+fn open_pokes(
+    rt: &HostRuntime,
+    port: u16,
+    count: u32,
+    most: u32,
+) -> Result<Vec<TcpListen>, NetFault>
+    ensures count { IfOk result (λ given. vec_len given ≡ count) }
+    ensures left { IfOk result (λ given. All (λ listener. listener.left ≡ most) given.items) }
+{
+    match bind(rt, port) {
+        Ok(socket) => match socket.set_nonblocking(true) {
+            Ok(()) => share(rt.alloc(), &socket, count, most),
+            Err(_) => Err(NetFault::Failed),
+        },
+        Err(_) => Err(NetFault::Failed),
+    }
+}
+
+// So many listeners at a port, for connections.
 fn open(rt: &HostRuntime, port: u16, count: u32, most: u32) -> Result<Vec<TcpListen>, NetFault>
     ensures count { IfOk result (λ given. vec_len given ≡ count) }
     ensures left { IfOk result (λ given. All (λ listener. listener.left ≡ most) given.items) }
 {
-    match TcpListener::bind(rt, (Ipv4Addr::LOCALHOST, port)) {
+    match bind(rt, port) {
         Ok(socket) => share(rt.alloc(), &socket, count, most),
         Err(_) => Err(NetFault::Failed),
     }
 }
 
+// A socket that listens at a port.
+fn bind(rt: &HostRuntime, port: u16) -> io::Result<TcpListener> {
+    TcpListener::bind(rt, (Ipv4Addr::LOCALHOST, port))
+}
+
 impl Net for TcpNet<'_> {
     type Listen = TcpListen;
+
+    type Pokes = TcpListen;
 
     // Of a real net nothing is told.
     ghost tells = { λ s. ⊥ };
 
-    ghost to_give = { λ s. [] };
+    ghost listeners = { λ s. record { to_give = []; came_back = []; out = 0; wanted = None } };
 
-    ghost came_back = { λ s. [] };
-
-    ghost out = { λ s. 0 };
-
-    ghost wanted = { λ s. None };
+    ghost pokes = { λ s. record { to_give = []; came_back = []; out = 0; wanted = None } };
 
     ghost faults = { λ s. s.faults };
 
@@ -84,17 +126,30 @@ impl Net for TcpNet<'_> {
         ensures faults { Counts self.old.faults self.new.faults result }
         ensures failed { IsErrOf result NetFault.Failed → Rose self.old.faults self.new.faults }
     {
-        match open(self.rt, port, count, most) {
-            Ok(given) => Ok(Listeners::from_vec(given)),
-            Err(NetFault::Memory) => Err(NetFault::Memory),
-            Err(NetFault::Failed) => {
-                self.faults = self.faults.saturating_add(1);
-                Err(NetFault::Failed)
-            }
-        }
+        let opened = open(self.rt, port, count, most);
+        self.told(opened)
     }
 
-    fn done(&mut self, _listeners: Listeners<TcpListen>)
+    fn listen_pokes(
+        &mut self,
+        port: u16,
+        count: u32,
+        most: u32,
+    ) -> Result<Listeners<TcpListen>, NetFault>
+        ensures count { IfOk result (λ given. length given.listeners ≡ count) }
+        ensures left { IfOk result (λ given. All (λ listener. listener.left ≡ most) given.listeners) }
+        ensures faults { Counts self.old.faults self.new.faults result }
+        ensures failed { IsErrOf result NetFault.Failed → Rose self.old.faults self.new.faults }
+    {
+        let opened = open_pokes(self.rt, port, count, most);
+        self.told(opened)
+    }
+
+    fn done(&mut self, _returned: Listeners<TcpListen>)
+        ensures { self.new ≡ self.old }
+    {}
+
+    fn done_pokes(&mut self, _returned: Listeners<TcpListen>)
         ensures { self.new ≡ self.old }
     {}
 

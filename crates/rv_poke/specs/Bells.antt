@@ -9,6 +9,10 @@ pub record BellState : Type 0 where
   pub rungs : ℕ
   pub overs : ℕ
 
+-- no wait has ended yet
+abbrev pub unasked : BellState
+unasked = record { rungs = 0; overs = 0 }
+
 -- a count of so many more, which stands still at its type's end
 abbrev pub counted_by : ℕ → ℕ → ℕ
 counted_by zero n = n

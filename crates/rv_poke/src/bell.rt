@@ -11,4 +11,7 @@ pub trait Bell {
     /// Waits until the bell is rung, or all is over.
     fn wait<R: Wait>(&mut self, rt: &R) -> Waited
         ensures { HasWaited (state self.old) (state self.new) result };
+
+    /// Whether all is over by now: a hint too.
+    fn is_over(&self) -> bool;
 }

@@ -29,7 +29,7 @@ impl MemoryBell {
 }
 
 impl Bell for MemoryBell {
-    ghost use Rattle.std.specs.Prelude.{◌≡◌, ◌<◌, ◌-◌};
+    ghost use Rattle.std.specs.Prelude.{◌≡◌, ◌<◌, ◌-◌, nat_eq};
     ghost use Rattle.rv_poke.specs.Bells.{HasWaited};
     ghost use Rattle.rv_poke.specs.InMemory.{bell_state};
     ghost use Rattle.rv_poke.specs.declared.waited.Waited.TheVariants.{Rung, Over};
@@ -51,5 +51,11 @@ impl Bell for MemoryBell {
         self.left -= 1;
         self.rungs = self.rungs.saturating_add(1);
         Waited::Rung
+    }
+
+    fn is_over(&self) -> bool
+        ensures { result ≡ nat_eq self.now.left 0 }
+    {
+        self.left == 0
     }
 }

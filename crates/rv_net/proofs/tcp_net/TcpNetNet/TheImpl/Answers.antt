@@ -6,9 +6,19 @@ pub listen-tells : goal.listen-tells
 listen-tells g c = record {
   count = c.ensures.count;
   tells = λ told. told;
-  given = λ told. absurd told;
-  back = λ told. refl;
-  wanted = λ told. absurd told;
+  gives = λ told. absurd told;
+  others = λ told. refl;
+  faults = c.ensures.faults;
+  failed = c.ensures.failed;
+  steady = λ steady. absurd steady;
+}
+
+pub listen_pokes-tells : goal.listen_pokes-tells
+listen_pokes-tells g c = record {
+  count = c.ensures.count;
+  tells = λ told. told;
+  gives = λ told. absurd told;
+  others = λ told. refl;
   faults = c.ensures.faults;
   failed = c.ensures.failed;
   steady = λ steady. absurd steady;
@@ -18,9 +28,16 @@ pub done-tells : goal.done-tells
 done-tells g c = record {
   tells = λ told. absurd told;
   back = λ told. absurd told;
-  out = λ told. absurd told;
-  to_give = λ told. refl;
-  wanted = λ told. refl;
+  others = λ told. refl;
+  faults = ap (λ s. s.faults) c.ensures;
+  steady = λ steady. absurd steady;
+}
+
+pub done_pokes-tells : goal.done_pokes-tells
+done_pokes-tells g c = record {
+  tells = λ told. absurd told;
+  back = λ told. absurd told;
+  others = λ told. refl;
   faults = ap (λ s. s.faults) c.ensures;
   steady = λ steady. absurd steady;
 }

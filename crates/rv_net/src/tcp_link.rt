@@ -1,0 +1,103 @@
+// A link over TCP.
+ghost use Rattle.rv_base.specs.Causes.{HasCause};
+
+use rv_base::Failed;
+use rv_link::SocketLink;
+use rv_poke::{First, LinkFault, PokeLink};
+use std::alloc::Global;
+use std::io;
+use std::net::TcpStream;
+use std::time::Duration;
+
+/// How long one read of a client's handshake and of its first message waits, in seconds.
+pub const KEY_SECONDS: u64 = 60;
+
+/// How long one write of a poke or a close waits, in seconds.
+const WRITE_SECONDS: u64 = 30;
+
+// The first byte of a client's close (RFC 6455, section 5.2): a last frame, with the opcode 8.
+const CLOSE: u8 = 0x88;
+
+/// A link over TCP, which speaks WebSocket as [`SocketLink`] says. Neither what comes nor what is sent is told.
+///
+/// Before it sends a poke it looks, without waiting, whether the client has left: it has where its stream has ended, or the next that it
+/// sent is a close. Then the poke fails. Nothing else that the client sends is looked at.
+#[derive(Drop)]
+pub struct TcpLink {
+    // The same stream as that of the link.
+    stream: TcpStream,
+    link: SocketLink<TcpStream>,
+    /// How often a call has failed. It stands still at 2^64 - 1.
+    pub faults: u64,
+}
+
+// Whether the client of a stream has left, as far as it can be seen without waiting.
+fn has_left(stream: &TcpStream) -> io::Result<bool> {
+    let mut next = [0; 1];
+    stream.set_nonblocking(true)?;
+    let peeked = stream.peek(&mut next);
+    stream.set_nonblocking(false)?;
+    Ok(match peeked {
+        Ok(0) => true,
+        Ok(_) => next[0] == CLOSE,
+        Err(error) => error.kind() != io::ErrorKind::WouldBlock,
+    })
+}
+
+impl TcpLink {
+    /// A link over a stream whose handshake is still to come.
+    pub fn new(stream: TcpStream) -> io::Result<TcpLink> {
+        stream.set_read_timeout(Some(Duration::from_secs(KEY_SECONDS)))?;
+        stream.set_write_timeout(Some(Duration::from_secs(WRITE_SECONDS)))?;
+        stream.set_nodelay(true)?;
+        let link = SocketLink::new(stream.try_clone()?);
+        Ok(TcpLink {
+            stream,
+            link,
+            faults: 0,
+        })
+    }
+
+    // Counts a fault where a call has failed.
+    fn told(&mut self, told: Result<(), Failed>) -> Result<(), Failed>
+        ensures { HasCause self.old.faults self.new.faults result }
+    {
+        if told.is_err() {
+            self.faults = self.faults.saturating_add(1);
+        }
+        told
+    }
+}
+
+impl PokeLink for TcpLink {
+    ghost use Rattle.std.specs.Prelude.{None};
+    ghost use Rattle.rv_poke.specs.Links.{Says, Takes};
+    ghost use Rattle.rv_poke.specs.declared.sent.Sent.TheVariants.{Close, Poke};
+
+    // Nothing is told of a real client.
+    ghost state = { λ s. record { coming = None; sent = None; faults = s.faults } };
+
+    fn first(&mut self, alloc: Global) -> Result<First, LinkFault> {
+        match self.link.first(alloc) {
+            Ok(first) => Ok(first),
+            Err(LinkFault::Memory) => Err(LinkFault::Memory),
+            Err(LinkFault::Failed) => {
+                self.faults = self.faults.saturating_add(1);
+                Err(LinkFault::Failed)
+            }
+        }
+    }
+
+    fn send_poke(&mut self) -> Result<(), Failed> {
+        let sent = match has_left(&self.stream) {
+            Ok(false) => self.link.send_poke(),
+            _ => Err(Failed),
+        };
+        self.told(sent)
+    }
+
+    fn close(&mut self, code: u16) -> Result<(), Failed> {
+        let closed = self.link.close(code);
+        self.told(closed)
+    }
+}
