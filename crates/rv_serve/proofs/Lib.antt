@@ -4,3 +4,4 @@ pub mod Talking
 pub mod Asked
 pub mod Conns
 pub mod Hearing
+pub mod Links

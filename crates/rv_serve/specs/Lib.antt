@@ -10,3 +10,5 @@ pub mod Listening
 pub mod Laws
 pub mod TalkLaws
 pub mod RunLaws
+pub mod Poking
+pub mod PokingLaws

@@ -1,9 +1,9 @@
-/// Where the requests of one worker pass. It may hold a request, and hears of its answer.
+/// Where the requests of one worker pass. It may hold a request, and hears of its answer, and that the worker leaves.
 pub trait Gate: Drop {
     ghost use Rattle.std.specs.Prelude.{List, [], ◌∷◌, Option};
     ghost use Rattle.rv_serve.specs.Hearing.{Hears};
     ghost use Rattle.rv_serve.specs.declared.heard.Heard.{Heard};
-    ghost use Rattle.rv_serve.specs.declared.heard.Heard.TheVariants.{Before, After};
+    ghost use Rattle.rv_serve.specs.declared.heard.Heard.TheVariants.{Before, After, Left};
 
     /// What it has heard, in order, where it tells.
     ghost heard: { Self → Option (List Heard) };
@@ -15,6 +15,10 @@ pub trait Gate: Drop {
     /// The request was answered with this status, and a mutation was run for it, or none was.
     fn after(&mut self, status: u16, acted: bool)
         ensures { Hears (heard self.old) (heard self.new) (After status acted ∷ []) };
+
+    /// The worker has served all its connections, and leaves.
+    fn leave(&mut self)
+        ensures { Hears (heard self.old) (heard self.new) (Left ∷ []) };
 }
 
 /// A gate that holds no request, and tells nothing.
@@ -29,4 +33,6 @@ impl Gate for OpenGate {
     fn before(&mut self, _number: u32) {}
 
     fn after(&mut self, _status: u16, _acted: bool) {}
+
+    fn leave(&mut self) {}
 }

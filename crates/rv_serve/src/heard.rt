@@ -5,4 +5,6 @@ pub enum Heard {
     Before(u32),
     /// The request was answered with this status, and a mutation was run for it, or none was.
     After(u16, bool),
+    /// The worker has served all its connections, and leaves.
+    Left,
 }

@@ -58,4 +58,8 @@ impl Gate for MemoryGate {
     fn after(&mut self, status: u16, acted: bool) {
         self.keep(Heard::After(status, acted));
     }
+
+    fn leave(&mut self) {
+        self.keep(Heard::Left);
+    }
 }
