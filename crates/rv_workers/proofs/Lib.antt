@@ -1,3 +1,4 @@
 pub mod Positions
 pub mod Turned
 pub mod Nobody
+pub mod Fronts

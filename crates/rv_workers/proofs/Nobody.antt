@@ -1,5 +1,5 @@
 -- A room of no seats.
-use Rattle.std.proofs.Common.{◌≡◌, List, [], ◌∷◌, length, Some, None, refl, sym, ◌∙◌, arith}
+use Rattle.std.proofs.Common.{◌≡◌, ◌+◌, List, [], ◌∷◌, length, Some, None, refl, sym, ◌∙◌, arith}
 use Rattle.rv_book.specs.declared.entry.Entry.{Entry}
 use Rattle.rv_book.specs.BookWords.{extends_same}
 use Rattle.rv_keeper.specs.declared.keeper.Keeper.{Ghosts}
@@ -7,7 +7,7 @@ use Rattle.rv_desk.specs.Seated.{Seated}
 use Rattle.rv_room.specs.declared.view.SeatView.{SeatView}
 use Rattle.rv_room.specs.Closing.{Closes}
 use Rattle.rv_room.specs.Following.{follows_same}
-use Rattle.rv_workers.specs.Serving.{ServesTogether}
+use Rattle.rv_workers.specs.Serving.{ServesBothKinds}
 
 none_some : (e : Entry) → None ≡ Some e → ⊥
 none_some e is = absurd (cc)
@@ -26,7 +26,8 @@ closes_none G desk settled = record {
 }
 
 -- no listener is served by nobody
-pub serves_none : {K L : Type 0} (G : Ghosts K) (Serves : SeatView K → L → SeatView K → L → Type 0) (desk : Seated K) (listeners : List L) → desk.doubt ≡ None → length listeners ≡ 0
-    → ServesTogether G Serves desk listeners desk listeners
-serves_none G Serves desk [] settled none = record { views = []; serves = tt; closes = closes_none G desk settled }
-serves_none G Serves desk (listener ∷ listeners) settled some = absurd (omega arith)
+pub serves_none : {K L P : Type 0} (G : Ghosts K) (Serves : SeatView K → L → SeatView K → L → Type 0) (Pokes : SeatView K → P → SeatView K → P → Type 0) (desk : Seated K) (listeners : List L) (pokes : List P)
+    → desk.doubt ≡ None → length listeners + length pokes ≡ 0 → ServesBothKinds G Serves Pokes desk listeners pokes desk listeners pokes
+serves_none G Serves Pokes desk [] [] settled none = record { conns = record { views = []; serves = tt; closes = closes_none G desk settled }; lookers = []; pokes = tt; looks = tt }
+serves_none G Serves Pokes desk [] (poke ∷ pokes) settled some = absurd (omega (arith, some))
+serves_none G Serves Pokes desk (listener ∷ listeners) pokes settled some = absurd (omega (arith, some))

@@ -29,6 +29,11 @@ pub all_last : {X : Type 0} (P : X → Type 0) (xs : List X) (x : X) → AllByRe
 all_last P [] x e = (tt, e.0)
 all_last P (y ∷ xs) x e = let r = all_last P xs x e.1 in ((e.0, r.0), r.1)
 
+-- what holds of f of each holds of each of these
+pub all_reversed : {X Y : Type 0} (P : Y → Type 0) (f : X → Y) (xs : List X) → AllByRecursion (λ x. P (f x)) xs → AllByRecursion P (reversed f xs)
+all_reversed P f [] all = tt
+all_reversed P f (x ∷ xs) (one, rest) = all_snoc P (reversed f xs) (f x) (all_reversed P f xs rest) one
+
 pub reversed-length : {X Y : Type 0} (f : X → Y) (xs : List X) → length (reversed f xs) ≡ length xs
 reversed-length f [] = refl
 reversed-length f (x ∷ xs) = let a = length-append (reversed f xs) (f x ∷ []) in let r = reversed-length f xs in omega arith

@@ -1,5 +1,5 @@
 -- A worker that has served its listener.
-use Rattle.std.specs.Prelude.{◌≡◌}
+use Rattle.std.specs.Prelude.{◌≡◌, [], ◌∷◌}
 use Rattle.rv_base.specs.Outside.{counted}
 use Rattle.rv_base.specs.declared.outside.Source.{Ghosts as SourceGhosts}
 use Rattle.rv_base.specs.declared.outside.Sink.{Ghosts as SinkGhosts}
@@ -7,7 +7,16 @@ use Rattle.rv_keeper.specs.declared.keeper.Keeper.{Ghosts}
 use Rattle.rv_net.specs.declared.listen.Listen.{Ghosts as ListenGhosts}
 use Rattle.rv_room.specs.Seats.{view_of}
 use Rattle.rv_serve.specs.declared.gate.Gate.{Ghosts as GateGhosts}
+use Rattle.rv_serve.specs.Hearing.{Hears}
 use Rattle.rv_serve.specs.Listening.{ServesPast}
+use Rattle.rv_serve.specs.Poking.{ServesLinks}
+use Rattle.rv_serve.specs.declared.heard.Heard.TheVariants.{Left}
+use Rattle.rv_net.specs.declared.poke_listen.PokeListen.{Ghosts as PokeListenGhosts}
+use Rattle.rv_poke.specs.declared.bell.Bell.{Ghosts as BellGhosts}
+use Rattle.rv_poke.specs.declared.poke_link.PokeLink.{Ghosts as LinkGhosts}
+use Rattle.rv_room.specs.SeatMarks.{IsSeatMark}
+use Rattle.rv_workers.specs.Looking.{HasEnteredNothing}
+use Rattle.rv_workers.specs.declared.poke_job.PokeJob.{PokeJob}
 use Rattle.rv_workers.specs.declared.worker.Worker.{Worker}
 use Rattle.rv_room.specs.SeatTurns.{IsSeatTurn}
 
@@ -19,4 +28,16 @@ module _ {R K L W I O : Type 0} (G : Ghosts K) (listen : ListenGhosts L I O) (so
       (new.turns.room.now ≡ old.turns.room.now)
       × (listen.tells new.listener → listen.tells old.listener)
       × (listen.ends new.listener ≡ counted (listen.ends old.listener))
-      × ServesPast (IsSeatTurn G) listen source sink old.accounts.now gate (view_of old.turns.seat) old.listener old.gate (view_of new.turns.seat) new.listener new.gate
+      × (then : W) × ServesPast (IsSeatTurn G) listen source sink old.accounts.now gate (view_of old.turns.seat) old.listener old.gate (view_of new.turns.seat) new.listener then
+      × Hears (gate.heard then) (gate.heard new.gate) (Left ∷ [])
+
+module _ {R K P B C : Type 0} (G : Ghosts K) (listen : PokeListenGhosts P C) (link : LinkGhosts C) (bell : BellGhosts B) where
+  -- It is in the same room. Its listener's links were served by looks of its seat, one after the other, and the listener said once that no
+  -- more were to come. The seat has entered nothing.
+  abbrev pub PokeJobHasServed : PokeJob R K P B C G → PokeJob R K P B C G → Type 0
+  PokeJobHasServed old new =
+      (new.turns.room.now ≡ old.turns.room.now)
+      × (listen.tells new.listener → listen.tells old.listener)
+      × (listen.ends new.listener ≡ counted (listen.ends old.listener))
+      × HasEnteredNothing (view_of old.turns.seat) (view_of new.turns.seat)
+      × ServesLinks (IsSeatMark G) listen link old.accounts.now.accounts (view_of old.turns.seat) (bell.state old.bell) old.listener (view_of new.turns.seat) (bell.state new.bell) new.listener

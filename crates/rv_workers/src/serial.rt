@@ -1,10 +1,11 @@
 use crate::crew::Crew;
 use rv_base::Memory;
+use rv_poke::MemoryBell;
 use rv_serve::OpenGate;
 use std::marker::PhantomData;
 use std::thread::Threads;
 
-/// Runs jobs one after the other. Its gates hold no request.
+/// Runs jobs one after the other, the workers first. Its gates hold no request, and to its bells all is over.
 #[derive(Drop)]
 pub struct Serial<R: Threads + Sync> {
     runtime: PhantomData<R>,
@@ -24,11 +25,17 @@ impl<R: Threads + Sync> Crew for Serial<R> {
 
     type Gate = OpenGate;
 
+    type Bell = MemoryBell;
+
     fn runtime(&self) -> Option<&R> {
         None
     }
 
     fn gate(&mut self, _worker: u32) -> Result<OpenGate, Memory> {
         Ok(OpenGate)
+    }
+
+    fn bell(&mut self, _workers: u32) -> Result<MemoryBell, Memory> {
+        Ok(MemoryBell::new(0))
     }
 }

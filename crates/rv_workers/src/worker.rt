@@ -10,7 +10,7 @@ use rv_serve::{Gate, serve_listener};
 use std::alloc::Global;
 use std::sync::Wait;
 
-/// One worker, which serves the connections of its listener by the turns of its seat. Each request passes its gate.
+/// One worker, which serves the connections of its listener by the turns of its seat, and then leaves. Each request passes its gate.
 pub struct Worker<'a, R: Wait, K: Keeper, L: Listen, G: Gate> {
     alloc: Global,
     turns: SeatTurns<'a, R, K>,
@@ -82,5 +82,6 @@ where
             &mut self.gate,
             &mut self.listener,
         );
+        self.gate.leave();
     }
 }

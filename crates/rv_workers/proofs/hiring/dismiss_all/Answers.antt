@@ -29,4 +29,5 @@ loop-worker-preserved g c =
       omega arith,
       l.0,
       subst (AllOf _) (sym c.give.ensures.list) (more_of _ c.loop-worker.seats.list.items c.dismiss-seat.result.0 i.5 (c.dismiss-seat.ensures.at ∙ ap id_of l.1)),
+      c.give.ensures.capacity ∙ i.6,
     )

@@ -12,6 +12,7 @@ invariant-loop-worker g l = (l.seats.list.items ++ reversed (λ worker. worker.t
     × (vec_len l.workers + vec_len l.listeners ≤ vec_capacity l.listeners)
     × AllByRecursion (λ worker. worker.turns.room.now ≡ l.room) l.workers.items
     × AllOf (id_of l.room) l.seats.list.items
+    × (vec_capacity l.seats.list ≡ vec_capacity l.fn.seats.list)
 
 abbrev pub decreases-loop-worker : goal.decreases-loop-worker
 decreases-loop-worker g l = vec_len l.workers

@@ -9,7 +9,7 @@ use Rattle.rv_workers.proofs.hiring.hire_all.Given as goal
 abbrev pub invariant-loop-listener : goal.invariant-loop-listener
 invariant-loop-listener g l = (l.listeners.items ++ reversed (λ worker. worker.listener) l.workers.items ≡ l.fn.listeners.items)
     × AllNew (id_of l.room) (opened_of l.room) l.seats.list.items
-    × (vec_len l.seats.list ≡ vec_len l.listeners)
+    × (vec_len l.seats.list + vec_len l.fn.listeners ≡ vec_len l.fn.seats.list + vec_len l.listeners)
     × (vec_len l.workers + vec_len l.listeners ≤ vec_capacity l.workers)
     × (vec_capacity l.listeners ≡ vec_capacity l.fn.listeners)
     × (vec_capacity l.seats.list ≡ vec_capacity l.fn.seats.list)
