@@ -14,7 +14,7 @@ use Rattle.rv_book.specs.Book.{Book, size}
 use Rattle.rv_base.specs.declared.memory.Memory.{Memory as MemoryFault}
 use Rattle.rv_room.specs.declared.view.SeatView.{SeatView}
 use Rattle.rv_room.specs.Views.{newcomer}
-use Rattle.rv_workers.specs.Serving.{EachServes, ServesTogether}
+use Rattle.rv_workers.specs.Serving.{EachServes, ServesBothKinds}
 use Rattle.std.specs.Prelude.{MatchResult, IfErr}
 use Rattle.rv_cli.specs.declared.ending.Ending.{Ending}
 use Rattle.rv_cli.specs.declared.serve_ending.ServeEnding.{ServeEnding}
@@ -22,8 +22,8 @@ use Rattle.rv_cli.specs.declared.serve_ending.ServeEnding.TheVariants.{Done, Bad
 use Rattle.rv_cli.specs.Texts.{serve_status, serve_text, status_of}
 use Rattle.rv_cli.specs.Change.{StoreChange, change}
 use Rattle.rv_cli.specs.Headline.{Begins, IsLeftAs, IsNotOpened, Leaves, WritesOnly, KeptSound}
-use Rattle.rv_cli.specs.Serving.{FileSays, HasNoAccounts, HasNoNet, HasNoStore, HasServed, IsNoNet, NetServes, RunsServe, WritesEntries}
-use Rattle.rv_cli.specs.ServingSteps.{AccountsRead, NetServed, WritesCount, WritesServed, count_text}
+use Rattle.rv_cli.specs.Serving.{FileSays, HasNoAccounts, HasNoNet, HasNoStore, HasServed, IsNoNet, RunsServe, WritesEntries}
+use Rattle.rv_cli.specs.ServingSteps.{AccountsRead, NetResult, WritesCount, WritesServed, count_text}
 use Rattle.rv_cli.specs.Storing.{HasOpened}
 use Rattle.rv_cli.proofs.Sound.{refused_sound}
 use Rattle.rv_cli.proofs.Storing.{WentBack, begins, leaves}
@@ -148,17 +148,23 @@ each_back Serves first [] (last ∷ lasts) backs never = absurd never
 each_back Serves first (given ∷ givens) [] backs never = absurd never
 each_back Serves first (given ∷ givens) (last ∷ lasts) [] never = absurd never
 
-pub all_back : {K L : Type 0} (G : Ghosts K) (Serves : SeatView K → L → SeatView K → L → Type 0) (opened desk : Seated K) (givens backs : List L) (result : Result (Unit {0}) MemoryFault)
-    → MatchResult result (λ done. ServesTogether G Serves opened givens desk backs) (λ refused. (desk ≡ opened) × (backs ≡ givens)) → length backs ≡ length givens
-all_back G Serves opened desk givens backs (Ok done) together = each_back Serves (newcomer 1 opened) givens together.views backs together.serves
-all_back G Serves opened desk givens backs (Err refused) (same, is) = ap length is
+-- what comes of serving listeners
+abbrev pub Comes : {K L P : Type 0} (G : Ghosts K) (Serves : SeatView K → L → SeatView K → L → Type 0) (Pokes : SeatView K → P → SeatView K → P → Type 0) (opened desk : Seated K) (givens : List L) (poked : List P) (backs : List L) (poked_back : List P) → Result (Unit {0}) MemoryFault → Type 0
+Comes G Serves Pokes opened desk givens poked backs poked_back result =
+    MatchResult result (λ done. ServesBothKinds G Serves Pokes opened givens poked desk backs poked_back) (λ refused. (desk ≡ opened) × (backs ≡ givens) × (poked_back ≡ poked))
+
+pub all_back : {K L P : Type 0} (G : Ghosts K) (Serves : SeatView K → L → SeatView K → L → Type 0) (Pokes : SeatView K → P → SeatView K → P → Type 0) (opened desk : Seated K) (givens : List L) (poked : List P) (backs : List L) (poked_back : List P) (result : Result (Unit {0}) MemoryFault)
+    → Comes G Serves Pokes opened desk givens poked backs poked_back result → (length backs ≡ length givens) × (length poked_back ≡ length poked)
+all_back G Serves Pokes opened desk givens poked backs poked_back (Ok done) together =
+    (each_back Serves (newcomer 1 opened) givens together.conns.views backs together.conns.serves, each_back Pokes (newcomer 1 opened) poked together.lookers poked_back together.pokes)
+all_back G Serves Pokes opened desk givens poked backs poked_back (Err refused) (same, is, are) = (ap length is, ap length are)
 
 -- where the desk's keeper tells at the end, it told at the beginning
-pub net_before : {L K : Type 0} (Told : Type 0) (kept_tells : K → Type 0) (tells : L → Type 0) (Serves : List L → List L → Type 0) (workers : ℕ) (to_give left came_back back : List L) (before after : ℕ) (old new : Seated K) (result : Result (Unit {0}) NetFault)
-    → NetServed Told kept_tells tells Serves workers to_give left came_back back before after old new result → kept_tells new.keeper → kept_tells old.keeper
-net_before Told kept_tells tells Serves workers to_give left came_back back before after old new (Ok done) (serves, told, same) = told
-net_before Told kept_tells tells Serves workers to_give left came_back back before after old new (Err nets.Failed) (same, rose) = λ t. subst (λ (desk : Seated _). kept_tells desk.keeper) same t
-net_before Told kept_tells tells Serves workers to_give left came_back back before after old new (Err nets.Memory) same = λ t. subst (λ (desk : Seated _). kept_tells desk.keeper) same t
+pub net_before : {K : Type 0} (Is : Type 0) (kept_tells : K → Type 0) (before after : ℕ) (old new : Seated K) (result : Result (Unit {0}) NetFault)
+    → NetResult Is kept_tells before after old new result → kept_tells new.keeper → kept_tells old.keeper
+net_before Is kept_tells before after old new (Ok done) (serves, told, same) = told
+net_before Is kept_tells before after old new (Err nets.Failed) (same, rose) = λ t. subst (λ (desk : Seated _). kept_tells desk.keeper) same t
+net_before Is kept_tells before after old new (Err nets.Memory) same = λ t. subst (λ (desk : Seated _). kept_tells desk.keeper) same t
 
 module _ {P K : Type 0} (place : PlaceGhosts P K) (G : Ghosts K) (store name : List ℕ) where
   -- the store was opened, the net was served or not, and what is told of it
@@ -166,30 +172,27 @@ module _ {P K : Type 0} (place : PlaceGhosts P K) (G : Ghosts K) (store name : L
       → HasOpened place G store mid first opened → (place.tells opened → place.tells mid) → keeper ≡ last.keeper
       → (G.tells last.keeper → HoldsBook (G.holds last.keeper) last.book last.doubt) → IsSound (served G.faults last)
       → WentBack place G store opened new keeper
-      → {L : Type 0} (Told : Type 0) (listener_tells : L → Type 0) (Serves : AccountsServed → Seated K → Seated K → List L → List L → Type 0) (workers : ℕ) (to_give left came_back back : List L) (net net' : ℕ)
-      (result : Result (Unit {0}) NetFault) (entries : ℕ) (out out' : OutputState) (ending : ServeEnding)
-      → NetServed Told G.tells listener_tells (Serves said first last) workers to_give left came_back back net net' first last result
+      → (Serves : AccountsServed → Seated K → Seated K → Type 0) (net net' : ℕ) (result : Result (Unit {0}) NetFault) (entries : ℕ) (out out' : OutputState) (ending : ServeEnding)
+      → NetResult (Serves said first last) G.tells net net' first last result
       → entries ≡ size last.book → WritesServed result entries out out' ending
       → HasNoNet G (change place store old new) (place.accounts old name) net net' out out' ending
-      ⊎ HasServed G (change place store old new) (place.accounts old name)
-      (λ a f n. NetServes Told listener_tells (Serves a f n) workers to_give left came_back back) out out' ending
-  serve_ended old mid opened new said first last keeper read opens before is held sound home Told listener_tells Serves workers to_give left came_back back net net' result entries out out' ending net_served count told =
+      ⊎ HasServed G (change place store old new) (place.accounts old name) Serves out out' ending
+  serve_ended old mid opened new said first last keeper read opens before is held sound home Serves net net' result entries out out' ending net_served count told =
       by_result result net_served told
     where
       kept : G.tells last.keeper → G.tells first.keeper
-      kept = net_before Told G.tells listener_tells (Serves said first last) workers to_give left came_back back net net' first last result net_served
+      kept = net_before (Serves said first last) G.tells net net' first last result net_served
 
       no_net : (other : ServeEnding) → last ≡ first → IsNoNet net net' other → WritesOnly out out' (serve_text other)
           → HasNoNet G (change place store old new) (place.accounts old name) net net' out out' other
       no_net other same why text = has_no_net place G store name old mid opened new said first last keeper read opens before is held kept home net net' out out' other same why text
 
-      by_result : (r : Result (Unit {0}) NetFault) → NetServed Told G.tells listener_tells (Serves said first last) workers to_give left came_back back net net' first last r
+      by_result : (r : Result (Unit {0}) NetFault) → NetResult (Serves said first last) G.tells net net' first last r
           → WritesServed r entries out out' ending
           → HasNoNet G (change place store old new) (place.accounts old name) net net' out out' ending
-          ⊎ HasServed G (change place store old new) (place.accounts old name)
-          (λ a f n. NetServes Told listener_tells (Serves a f n) workers to_give left came_back back) out out' ending
+          ⊎ HasServed G (change place store old new) (place.accounts old name) Serves out out' ending
       by_result (Ok done) (serves, on, same) gives_accounts = inr (has_served place G store name old mid opened new said first last keeper read opens before is held kept home
-          (λ a f n. NetServes Told listener_tells (Serves a f n) workers to_give left came_back back) entries out out' ending serves sound count gives_accounts)
+          Serves entries out out' ending serves sound count gives_accounts)
       by_result (Err nets.Failed) (same, rose) (ends, text) = inl (subst (λ (e : ServeEnding). HasNoNet G (change place store old new) (place.accounts old name) net net' out out' e) (sym ends) (no_net Net same rose text))
       by_result (Err nets.Memory) same (ends, text) = inl (subst (λ (e : ServeEnding). HasNoNet G (change place store old new) (place.accounts old name) net net' out out' e) (sym ends) (no_net Memory same tt text))
 

@@ -6,17 +6,19 @@ use Rattle.rv_keeper.specs.declared.place.Place.{Ghosts as PlaceGhosts}
 use Rattle.rv_keeper.specs.declared.keeper.Keeper.{Ghosts as KeeperGhosts}
 use Rattle.rv_net.specs.declared.listen.Listen.{Ghosts as ListenGhosts}
 use Rattle.rv_net.specs.declared.net.Net.{Ghosts as NetGhosts}
+use Rattle.rv_net.specs.declared.poke_listen.PokeListen.{Ghosts as PokeListenGhosts}
+use Rattle.rv_poke.specs.declared.poke_link.PokeLink.{Ghosts as LinkGhosts}
 use Rattle.rv_book.specs.Book.{Book}
 use Rattle.rv_answering.specs.declared.request.Request.TheVariants.{Retire}
 use Rattle.rv_words.specs.declared.command.Command.{Command}
 use Rattle.rv_words.specs.declared.command.Command.TheVariants.{Serve}
 use Rattle.rv_words.specs.declared.serve_options.ServeOptions.{ServeOptions}
-use Rattle.rv_workers.specs.Serving.{IsServed, ServesTogether}
 use Rattle.rv_cli.specs.declared.ending.Ending.TheVariants.{Memory}
 use Rattle.rv_cli.specs.Change.{change}
 use Rattle.rv_cli.specs.Texts.{status_text}
 use Rattle.rv_cli.specs.Headline.{RunsFeed, RunsOne, RunsReport, WritesOnly}
-use Rattle.rv_cli.specs.Serving.{NetServes, RunsServe, Unserved}
+use Rattle.rv_cli.specs.Serving.{IsNetServed, RunsServe, Unserved, listeners_wanted}
+use Rattle.rv_cli.specs.ServingSteps.{MayWantPokes}
 
 module _ {P Kept O : Type 0} (place : PlaceGhosts P Kept) (output : SinkGhosts O) (store : List ℕ) (old new : P) where
   -- Of `feed`: what is written are the answers of a run from the book that the store kept over the lines that were read, and the store
@@ -43,25 +45,25 @@ module _ {P Kept O : Type 0} (place : PlaceGhosts P Kept) (output : SinkGhosts O
   abbrev pub WasReportedOrNot : (Book → List ℕ → Type 0) → O → O → ℕ → Type 0
   WasReportedOrNot Reports out out' status = WasReported Reports out out' status ⊎ ((status ≡ 8) × (new ≡ old) × WritesOnly (output.state out) (output.state out') (status_text Memory))
 
-module _ {N L I O : Type 0} (net : NetGhosts N L I O) (old new : N) where
-  -- what the net was asked for, if it was: at the port of the options as many listeners as workers, each for as many connections
+module _ {N L P I O C : Type 0} (net : NetGhosts N L P I O C) (old new : N) where
+  -- What the net was asked for, if it was: at the port of the options as many listeners as workers, each for as many connections; and, where
+  -- those were given, at the port for pokes as many as poke jobs, if there are to be some.
   abbrev pub WasWanted : ServeOptions → Type 0
-  WasWanted options = (new ≡ old) ⊎ (net.tells new → net.wanted new ≡ Some (record { port = options.port; count = options.workers; most = options.connections }))
+  WasWanted options = (new ≡ old) ⊎ (net.tells new → ((net.listeners new).wanted ≡ Some (listeners_wanted options)) × MayWantPokes options (net.pokes old).wanted (net.pokes new).wanted)
 
   -- at other statuses than 0 and 7 nothing was served
   abbrev pub WasUnserved : ℕ → Type 0
-  WasUnserved status = (new ≡ old) ⊎ (status ≡ 0) ⊎ (status ≡ 7) ⊎ (net.tells new → Unserved (net.to_give old) (net.to_give new) (net.came_back old) (net.came_back new))
+  WasUnserved status = (new ≡ old) ⊎ (status ≡ 0) ⊎ (status ≡ 7) ⊎ (net.tells new → Unserved (net.listeners old) (net.listeners new) × Unserved (net.pokes old) (net.pokes new))
 
-module _ {P K N L I O Out : Type 0} (place : PlaceGhosts P K) (keeper : KeeperGhosts K) (net : NetGhosts N L I O) (listen : ListenGhosts L I O) (source : SourceGhosts I) (sink : SinkGhosts O) (output : SinkGhosts Out) where
+module _ {Pl K N L P I O C Out : Type 0} (place : PlaceGhosts Pl K) (keeper : KeeperGhosts K) (net : NetGhosts N L P I O C) (listen : ListenGhosts L I O) (source : SourceGhosts I) (sink : SinkGhosts O) (pokes : PokeListenGhosts P C) (link : LinkGhosts C) (output : SinkGhosts Out) where
   -- Of `serve`: what is written to connections are the answers to their requests, over turns of seats at one book from the one that the
-  -- store kept, and the store keeps the book that they leave.
-  abbrev pub WasServed : List ℕ → ServeOptions → P → P → N → N → Out → Out → ℕ → Type 0
+  -- store kept, and the store keeps the book that they leave; what is sent over links are pokes, by looks of seats at that book.
+  abbrev pub WasServed : List ℕ → ServeOptions → Pl → Pl → N → N → Out → Out → ℕ → Type 0
   WasServed store options old new before after out out' =
-      RunsServe keeper (change place store old new) (place.accounts old options.accounts)
-      (λ accounts first now. NetServes (net.tells after) listen.tells (λ given returned. ServesTogether keeper (IsServed keeper listen source sink accounts) first given now returned) options.workers (net.to_give before) (net.to_give after) (net.came_back before) (net.came_back after))
+      RunsServe keeper (change place store old new) (place.accounts old options.accounts) (IsNetServed keeper net listen source sink pokes link options before after)
       (net.faults before) (net.faults after) (output.state out) (output.state out')
 
   -- The same, where the words ask for it; or memory was refused in reading the words.
-  abbrev pub ServesAsAsked : Option Command → P → P → N → N → Out → Out → ℕ → Type 0
+  abbrev pub ServesAsAsked : Option Command → Pl → Pl → N → N → Out → Out → ℕ → Type 0
   ServesAsAsked asked old new before after out out' status = (store : List ℕ) (options : ServeOptions) → asked ≡ Some (Serve store options)
       → WasServed store options old new before after out out' status ⊎ ((status ≡ 8) × (new ≡ old) × (after ≡ before) × WritesOnly (output.state out) (output.state out') (status_text Memory))

@@ -1,5 +1,6 @@
 -- What `run` promises of `serve`. The accounts file is read, then the store is opened, then the net is listened to; the listeners are
--- served side by side, each by the turns of a seat; and at the end the length of the book is written.
+-- served side by side, those of connections each by the turns of a seat, and those of links by the looks of one; and at the end the length
+-- of the book is written.
 use Rattle.std.specs.Prelude.{ℕ, ◌≡◌, ◌-◌, ◌^◌, ◌<◌, ◌⊎◌, List, ◌∷◌, ◌++◌, [], length, Some, Result, Ok, Err, codes, decimal}
 use Rattle.std.specs.List.{flat_map, AllByRecursion}
 use Rattle.std.specs.Io.KnownBytes.{Appends}
@@ -19,11 +20,17 @@ use Rattle.rv_answering.specs.declared.answer.Answer.{Answer}
 use Rattle.rv_answering.specs.declared.answer.Answer.TheVariants.{Pulled}
 use Rattle.rv_answering.specs.Requests.{Parsed}
 use Rattle.rv_answering.specs.Steps.{Handles}
+use Rattle.rv_net.specs.Giving.{Giving}
 use Rattle.rv_net.specs.declared.listen.Listen.{Ghosts as ListenGhosts}
+use Rattle.rv_net.specs.declared.net.Net.{Ghosts as NetGhosts}
+use Rattle.rv_net.specs.declared.poke_listen.PokeListen.{Ghosts as PokeListenGhosts}
+use Rattle.rv_net.specs.declared.wanted.Wanted.{Wanted}
+use Rattle.rv_poke.specs.declared.poke_link.PokeLink.{Ghosts as LinkGhosts}
+use Rattle.rv_words.specs.declared.serve_options.ServeOptions.{ServeOptions}
 use Rattle.rv_room.specs.declared.view.SeatView.{SeatView}
 use Rattle.rv_room.specs.Views.{newcomer}
 use Rattle.rv_serve.specs.Laws.{turns_of}
-use Rattle.rv_workers.specs.Serving.{EachServes, IsServed, ServesTogether}
+use Rattle.rv_workers.specs.Serving.{EachServes, IsServed, ServesAtDesk, ServesTogether}
 use Rattle.rv_cli.specs.declared.ending.Ending.{Ending}
 use Rattle.rv_cli.specs.declared.serve_ending.ServeEnding.{ServeEnding}
 use Rattle.rv_cli.specs.declared.serve_ending.ServeEnding.TheVariants.{Done, BadAccounts, TwiceAccounts, NotOpened, Net, Memory, Write}
@@ -61,22 +68,45 @@ IsNoNet before after Net = Rose before after
 IsNoNet before after Memory = Unit {0}
 IsNoNet before after ending = ⊥
 
--- As many listeners were served as there are workers. Where the net tells, so does each of them; they were the first that the net had
--- to give, and they came back, in order.
-pub record NetServes {L : Type 0} (Told : Type 0) (tells : L → Type 0) (Serves : List L → List L → Type 0) (workers : ℕ) (to_give left came_back back : List L) : Type 0 where
+-- what the options ask a net for: the listeners of connections, and those of links
+abbrev pub listeners_wanted : ServeOptions → Wanted
+listeners_wanted options = record { port = options.port; count = options.workers; most = options.connections }
+
+abbrev pub pokes_wanted : ServeOptions → Wanted
+pokes_wanted options = record { port = options.poke_port; count = options.pokes; most = options.connections }
+
+-- As many listeners of one kind were given as are wanted. Where the net tells, it was asked for them, if there are to be some, and so does
+-- each of them; they were the first that the net had to give, and they came back, in order.
+pub record GivenBack {L : Type 0} (Told : Type 0) (tells : L → Type 0) (wanted : Wanted) (old new : Giving L) (given returned : List L) : Type 0 where
+  pub count : length given ≡ wanted.count
+  pub asked : Told → 0 < wanted.count → new.wanted ≡ Some wanted
+  pub told : Told → AllByRecursion tells returned
+  pub first : Told → old.to_give ≡ given ++ new.to_give
+  pub last : Told → new.came_back ≡ old.came_back ++ returned
+
+-- Listeners of both kinds were given, were served, and came back.
+pub record NetServes {L P : Type 0} (Told : Type 0) (tells : L → Type 0) (poke_tells : P → Type 0) (Serves : List L → List P → List L → List P → Type 0) (options : ServeOptions) (listeners listeners' : Giving L) (pokes pokes' : Giving P) : Type 0 where
   pub given : List L
   pub returned : List L
-  pub count : length given ≡ workers
-  pub serves : Serves given returned
-  pub told : Told → AllByRecursion tells returned
-  pub first : Told → to_give ≡ given ++ left
-  pub last : Told → back ≡ came_back ++ returned
+  pub poked : List P
+  pub poked_back : List P
+  pub serves : Serves given poked returned poked_back
+  pub conns : GivenBack Told tells (listeners_wanted options) listeners listeners' given returned
+  pub links : GivenBack Told poke_tells (pokes_wanted options) pokes pokes' poked poked_back
 
--- Nothing was served: the listeners that were given, if some were, came back as they were.
-pub record Unserved {L : Type 0} (to_give left came_back back : List L) : Type 0 where
+-- The net was served at a desk: its listeners side by side, as many of each kind as the options say.
+module _ {K N L P I O C : Type 0} (keeper : Ghosts K) (net : NetGhosts N L P I O C) (listen : ListenGhosts L I O) (source : SourceGhosts I) (sink : SinkGhosts O) (pokes : PokeListenGhosts P C) (link : LinkGhosts C) where
+  abbrev pub IsNetServed : ServeOptions → N → N → AccountsServed → Seated K → Seated K → Type 0
+  IsNetServed options before after accounts first now =
+      NetServes (net.tells after) listen.tells pokes.tells
+      (λ given poked returned poked_back. ServesAtDesk keeper listen source sink pokes link accounts first given poked now returned poked_back)
+      options (net.listeners before) (net.listeners after) (net.pokes before) (net.pokes after)
+
+-- Nothing was served: the listeners of one kind that were given, if some were, came back as they were.
+pub record Unserved {L : Type 0} (old new : Giving L) : Type 0 where
   pub given : List L
-  pub first : to_give ≡ given ++ left
-  pub last : back ≡ came_back ++ given
+  pub first : old.to_give ≡ given ++ new.to_give
+  pub last : new.came_back ≡ old.came_back ++ given
 
 -- ---- The length of the book at the end.
 

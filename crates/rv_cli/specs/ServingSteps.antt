@@ -1,5 +1,5 @@
 -- The steps of `serve`: the accounts, the net, and what is written at the end, before they are put together.
-use Rattle.std.specs.Prelude.{ℕ, ◌≡◌, List, ◌++◌, Result, Ok, Err, codes, decimal}
+use Rattle.std.specs.Prelude.{ℕ, ◌≡◌, ◌+◌, ◌<◌, ◌⊎◌, List, ◌++◌, length, Option, Some, Result, Ok, Err, codes, decimal}
 use Rattle.std.specs.Io.KnownBytes.{Appends}
 use Rattle.rv_base.specs.Causes.{Rose}
 use Rattle.rv_base.specs.Outside.{OutputState}
@@ -15,14 +15,18 @@ use Rattle.rv_cli.specs.declared.serve_ending.ServeEnding.TheVariants.{Done, Bad
 use Rattle.rv_cli.specs.Texts.{serve_text}
 use Rattle.rv_cli.specs.Headline.{WritesOnly}
 use Rattle.rv_desk.specs.Seated.{Seated}
-use Rattle.rv_cli.specs.Serving.{FileSays, HasNoAccounts, NetServes}
+use Rattle.rv_cli.specs.Serving.{FileSays, HasNoAccounts, IsNetServed, pokes_wanted}
 use Rattle.rv_base.specs.declared.outside.Source.{Ghosts as SourceGhosts}
 use Rattle.rv_base.specs.declared.outside.Sink.{Ghosts as SinkGhosts}
 use Rattle.rv_keeper.specs.declared.keeper.Keeper.{Ghosts as KeeperGhosts}
 use Rattle.rv_keeper.specs.declared.place.Place.{Ghosts as PlaceGhosts}
+use Rattle.rv_net.specs.Giving.{Giving}
+use Rattle.rv_net.specs.declared.poke_listen.PokeListen.{Ghosts as PokeListenGhosts}
+use Rattle.rv_net.specs.declared.wanted.Wanted.{Wanted}
+use Rattle.rv_poke.specs.declared.poke_link.PokeLink.{Ghosts as LinkGhosts}
+use Rattle.rv_words.specs.declared.serve_options.ServeOptions.{ServeOptions}
 use Rattle.rv_net.specs.declared.listen.Listen.{Ghosts as ListenGhosts}
 use Rattle.rv_net.specs.declared.net.Net.{Ghosts as NetGhosts}
-use Rattle.rv_workers.specs.Serving.{IsServed, ServesTogether}
 
 -- what an accounts file of these bytes says, as it is told
 abbrev pub ReadsAccounts : List ℕ → Result AccountsServed ServeEnding → Type 0
@@ -43,12 +47,25 @@ pub record AccountsRead {P K : Type 0} (place : PlaceGhosts P K) (name : List �
   pub stays : place.tells new → (store : List ℕ) (held : Loaded) → place.holds old store held → place.holds new store held
   pub gives_accounts : GivesAccounts (place.tells new) (place.accounts old name) (place.faults old) (place.faults new) result
 
+-- Of one kind of listeners these were given, the first that were to be, and none has come back.
+pub record HasGiven {L : Type 0} (old new : Giving L) (given : List L) : Type 0 where
+  pub first : old.to_give ≡ given ++ new.to_give
+  pub out : new.out ≡ old.out + length given
+  pub back : new.came_back ≡ old.came_back
+
+-- What a net was asked for of listeners for links: nothing where there is to be none, and else what the options say.
+abbrev pub WantsPokes : ServeOptions → Option Wanted → Option Wanted → Type 0
+WantsPokes options before now = ((options.pokes ≡ 0) × (now ≡ before)) ⊎ ((0 < options.pokes) × (now ≡ Some (pokes_wanted options)))
+
+-- The same, or nothing, since those of connections could not be had.
+abbrev pub MayWantPokes : ServeOptions → Option Wanted → Option Wanted → Type 0
+MayWantPokes options before now = (now ≡ before) ⊎ ((0 < options.pokes) × (now ≡ Some (pokes_wanted options)))
+
 -- The net was served at a desk, or nothing was served and the desk is as it was.
-abbrev pub NetServed : {L K : Type 0} → Type 0 → (K → Type 0) → (L → Type 0) → (List L → List L → Type 0) → ℕ → List L → List L → List L → List L → ℕ → ℕ → Seated K → Seated K → Result (Unit {0}) NetFault → Type 0
-NetServed Told kept_tells tells Serves workers to_give left came_back back before after old new (Ok done) =
-    NetServes Told tells Serves workers to_give left came_back back × (kept_tells new.keeper → kept_tells old.keeper) × (after ≡ before)
-NetServed Told kept_tells tells Serves workers to_give left came_back back before after old new (Err nets.Failed) = (new ≡ old) × Rose before after
-NetServed Told kept_tells tells Serves workers to_give left came_back back before after old new (Err nets.Memory) = new ≡ old
+abbrev pub NetResult : {K : Type 0} → Type 0 → (K → Type 0) → ℕ → ℕ → Seated K → Seated K → Result (Unit {0}) NetFault → Type 0
+NetResult Served kept_tells before after old new (Ok done) = Served × (kept_tells new.keeper → kept_tells old.keeper) × (after ≡ before)
+NetResult Served kept_tells before after old new (Err nets.Failed) = (new ≡ old) × Rose before after
+NetResult Served kept_tells before after old new (Err nets.Memory) = new ≡ old
 
 -- all of a count and its label was written, or a front, and a write failed
 abbrev pub WritesCount : List ℕ → OutputState → OutputState → ServeEnding → Type 0
@@ -65,9 +82,8 @@ WritesServed (Ok done) entries old new ending = WritesCount (count_text entries)
 WritesServed (Err nets.Failed) entries old new ending = (ending ≡ Net) × WritesOnly old new (serve_text Net)
 WritesServed (Err nets.Memory) entries old new ending = (ending ≡ Memory) × WritesOnly old new (serve_text Memory)
 
--- The listeners of a net were served side by side at a desk, with these accounts, as many as workers were asked for.
-module _ {K N L I O : Type 0} (keeper : KeeperGhosts K) (net : NetGhosts N L I O) (listen : ListenGhosts L I O) (source : SourceGhosts I) (sink : SinkGhosts O) where
-  abbrev pub ServesNet : AccountsServed → ℕ → N → N → Seated K → Seated K → Result (Unit {0}) NetFault → Type 0
-  ServesNet accounts workers old new desk now result =
-      NetServed (net.tells new) keeper.tells listen.tells (λ given returned. ServesTogether keeper (IsServed keeper listen source sink accounts) desk given now returned)
-      workers (net.to_give old) (net.to_give new) (net.came_back old) (net.came_back new) (net.faults old) (net.faults new) desk now result
+-- The listeners of a net were served side by side at a desk, with these accounts, as the options say.
+module _ {K N L P I O C : Type 0} (keeper : KeeperGhosts K) (net : NetGhosts N L P I O C) (listen : ListenGhosts L I O) (source : SourceGhosts I) (sink : SinkGhosts O) (pokes : PokeListenGhosts P C) (link : LinkGhosts C) where
+  abbrev pub ServesNet : AccountsServed → ServeOptions → N → N → Seated K → Seated K → Result (Unit {0}) NetFault → Type 0
+  ServesNet accounts options old new desk now result =
+      NetResult (IsNetServed keeper net listen source sink pokes link options old new accounts desk now) keeper.tells (net.faults old) (net.faults new) desk now result

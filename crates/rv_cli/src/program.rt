@@ -23,7 +23,8 @@ use rv_answering::{Answer, retire_group};
 use rv_base::{Failed, Id, Memory, Sink, Source};
 use rv_desk::Desk;
 use rv_keeper::{Keeper, Place};
-use rv_net::{Listen, Net};
+use rv_net::{Listen, Net, PokeListen};
+use rv_poke::PokeLink;
 use rv_words::{Command, command_of};
 use rv_workers::Crew;
 use std::alloc::Global;
@@ -138,7 +139,7 @@ fn give_up<O: Sink>(out: &mut O) -> u8
 /// Does what the words say, and answers the status of the process.
 ///
 /// The first word is the program's name and is not read. `feed STORE` answers the lines of the input, each as it was read, from the
-/// book that the store keeps; `serve STORE` answers the requests of connections so, which workers serve side by side;
+/// book that the store keeps; `serve STORE` answers the requests of connections so, which workers serve side by side, and pokes clients;
 /// `retire STORE GROUP` retires a client group there; `lists STORE`, `activity STORE` and `check STORE` are reports of the store,
 /// which stays as it is. STORE is `memory`, which begins empty, or the name of a store of the place.
 ///
@@ -160,6 +161,7 @@ pub fn run<R: Wait + Sync, P: Place, S: Source, O: Sink, N: Net, C: Crew>(
 where
     <N::Listen as Listen>::In: Send,
     <N::Listen as Listen>::Out: Send,
+    <N::Pokes as PokeListen>::Link: PokeLink + Send,
     // The words are no line of the set exactly at 2, unless memory was refused in reading them. Then, and for every command
     // but `feed`, the input is not read.
     ensures usage { result ≡ 2 → asked_by words.now ≡ None }
@@ -181,14 +183,15 @@ where
         → WasRetiredOrNot P.Place O.Sink store place.old place.new group out.old out.new result }
 
     // What is written to connections are the answers to their requests, over turns of seats at one book from the one that the store
-    // kept, and the store keeps the book that they leave.
-    ensures serve { ServesAsAsked P.Place P.Kept.Keeper N.Net N.Listen.Listen N.Listen.In.Source N.Listen.Out.Sink O.Sink (asked_by words.now) place.old place.new net.old net.new out.old out.new result }
+    // kept, and the store keeps the book that they leave. What is sent over links are pokes, by looks of seats at that book.
+    ensures serve { ServesAsAsked P.Place P.Kept.Keeper N.Net N.Listen.Listen N.Listen.In.Source N.Listen.Out.Sink N.Pokes.PokeListen N.Pokes.Link.PokeLink O.Sink (asked_by words.now) place.old place.new net.old net.new out.old out.new result }
 
     // At other statuses than 0 and 7 nothing was served.
     ensures unserved { (store : List ℕ) (options : ServeOptions) → asked_by words.now ≡ Some (commands.Serve store options)
         → WasUnserved N.Net net.old net.new result }
 
-    // What the net was asked for, if it was: at the port of the words as many listeners as workers, each for as many connections.
+    // What the net was asked for, if it was: at the port of the words as many listeners as workers, each for as many connections; and at
+    // the port for pokes as many as poke jobs, where there are some.
     ensures wanted { (store : List ℕ) (options : ServeOptions) → asked_by words.now ≡ Some (commands.Serve store options)
         → WasWanted N.Net net.old net.new options }
 
@@ -246,14 +249,14 @@ where
     ensures steady_output { O.fails_no_more out.old → O.fails_no_more out.new × (Rose (O.state out.old).refusals (O.state out.new).refusals ⊎ (result ≢ 7)) }
 
     // Over a place and a net that fail no more it is no fault of theirs, where the store of a report and the accounts file are there, and
-    // there are as many listeners as workers.
+    // there are as many listeners as workers and as poke jobs.
     ensures steady_feed { (store : List ℕ) → asked_by words.now ≡ Some (commands.Feed store) → P.fails_no_more place.old → PlaceIsSteady P.fails_no_more P.faults place.old place.new result }
     ensures steady_retire { (store group : List ℕ) → asked_by words.now ≡ Some (commands.Retire store group) → P.fails_no_more place.old → PlaceIsSteady P.fails_no_more P.faults place.old place.new result }
     ensures steady_reports { (store : List ℕ) → IsReportOf store (asked_by words.now) → P.fails_no_more place.old → P.has place.old store → PlaceIsSteady P.fails_no_more P.faults place.old place.new result }
     ensures steady_serve { (store : List ℕ) (options : ServeOptions) → asked_by words.now ≡ Some (commands.Serve store options)
         → P.fails_no_more place.old → HasFile (P.accounts place.old) options.accounts → P.fails_no_more place.new × (result ≢ 4) }
     ensures steady_net { (store : List ℕ) (options : ServeOptions) → asked_by words.now ≡ Some (commands.Serve store options)
-        → N.fails_no_more net.old → options.workers ≤ length (N.to_give net.old) → result ≢ 9 }
+        → N.fails_no_more net.old → options.workers ≤ length (N.listeners net.old).to_give → options.pokes ≤ length (N.pokes net.old).to_give → result ≢ 9 }
 
     // The stores that the words do not name are as they were, and so are the accounts files.
     ensures others { (store : List ℕ) → IsOfStore store (asked_by words.now) → P.tells place.new → OthersStay P.holds P.is_out P.has P.accounts store place.old place.new }

@@ -9,6 +9,8 @@ use Rattle.rv_keeper.specs.declared.place.Place.{Ghosts as PlaceGhosts}
 use Rattle.rv_book.specs.Book.{size}
 use Rattle.rv_net.specs.declared.listen.Listen.{Ghosts as ListenGhosts}
 use Rattle.rv_net.specs.declared.net.Net.{Ghosts as NetGhosts}
+use Rattle.rv_net.specs.declared.poke_listen.PokeListen.{Ghosts as PokeListenGhosts}
+use Rattle.rv_poke.specs.declared.poke_link.PokeLink.{Ghosts as LinkGhosts}
 use Rattle.rv_cli.specs.declared.ending.Ending.{Ending}
 use Rattle.rv_cli.specs.declared.ending.Ending.TheVariants as endings
 use Rattle.rv_cli.specs.declared.serve_ending.ServeEnding.{ServeEnding}
@@ -55,15 +57,15 @@ no_net before after ending why of = absurd why
 
 -- ---- The run.
 
-module _ {P N K L I O : Type 0} (place : PlaceGhosts P K) (G : Ghosts K) (net : NetGhosts N L I O) (listen : ListenGhosts L I O) (source : SourceGhosts I) (sink : SinkGhosts O) where
-  pub serves_are_runs : {Out : Type 0} (output : SinkGhosts Out) → ServesAreRuns place G net listen source sink output
-  serves_are_runs output old new before after store options out out' status (ending, is, inl refused) at =
+module _ {P N K L W I O C : Type 0} (place : PlaceGhosts P K) (G : Ghosts K) (net : NetGhosts N L W I O C) (listen : ListenGhosts L I O) (source : SourceGhosts I) (sink : SinkGhosts O) where
+  pub serves_are_runs : {Out : Type 0} (pokes : PokeListenGhosts W C) (link : LinkGhosts C) (output : SinkGhosts Out) → ServesAreRuns place G net listen source sink pokes link output
+  serves_are_runs pokes link output old new before after store options out out' status (ending, is, inl refused) at =
       absurd (no_accounts (place.tells new) (place.accounts old options.accounts) (place.faults old) (place.faults new) ending refused.why (subst (λ (n : ℕ). IsOf n) is at))
-  serves_are_runs output old new before after store options out out' status (ending, is, inr (inl closed)) at =
+  serves_are_runs pokes link output old new before after store options out out' status (ending, is, inr (inl closed)) at =
       absurd (no_store (change place store old new) closed.other closed.why (subst (λ (n : ℕ). IsOf n) (is ∙ ap serve_status closed.is) at))
-  serves_are_runs output old new before after store options out out' status (ending, is, inr (inr (inl idle))) at =
+  serves_are_runs pokes link output old new before after store options out out' status (ending, is, inr (inr (inl idle))) at =
       absurd (no_net (net.faults before) (net.faults after) ending idle.why (subst (λ (n : ℕ). IsOf n) is at))
-  serves_are_runs output old new before after store options out out' status (ending, is, inr (inr (inr ran))) at =
+  serves_are_runs pokes link output old new before after store options out out' status (ending, is, inr (inr (inr ran))) at =
       let serves = ran.serves in
       record {
         accounts = ran.accounts;
@@ -72,13 +74,13 @@ module _ {P N K L I O : Type 0} (place : PlaceGhosts P K) (G : Ghosts K) (net : 
         givens = serves.given;
         backs = serves.returned;
         begins = ran.begins;
-        together = serves.serves;
+        together = serves.serves.conns;
         sound = ran.sound;
         told = ran.told;
         leaves = ran.leaves;
-        count = serves.count;
-        first = serves.first;
-        last = serves.last;
+        count = serves.conns.count;
+        first = serves.conns.first;
+        last = serves.conns.last;
       }
 
   pub books_are_lawful : ((accounts : AccountsServed) → ServedBooksAreLawful G listen source sink accounts)

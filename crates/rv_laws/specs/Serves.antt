@@ -17,6 +17,8 @@ use Rattle.rv_answering.specs.declared.request.Request.TheVariants.{Push, Pull}
 use Rattle.rv_answering.specs.Requests.{Parsed}
 use Rattle.rv_net.specs.declared.listen.Listen.{Ghosts as ListenGhosts}
 use Rattle.rv_net.specs.declared.net.Net.{Ghosts as NetGhosts}
+use Rattle.rv_net.specs.declared.poke_listen.PokeListen.{Ghosts as PokeListenGhosts}
+use Rattle.rv_poke.specs.declared.poke_link.PokeLink.{Ghosts as LinkGhosts}
 use Rattle.rv_cli.specs.Change.{change}
 use Rattle.rv_cli.specs.Headline.{Begins, IsLawfulRun, Leaves, AnswersChange, AnswersTrouble}
 use Rattle.rv_cli.specs.Serving.{ShowsIn}
@@ -25,7 +27,7 @@ use Rattle.rv_laws.specs.Listeners.{FollowsIn, Together, turns_in}
 use Rattle.rv_wire.specs.declared.push.Push as pushes
 
 -- A run of `serve` on a store of a place and over a net, which are these before and these after.
-module _ {P N K L I O : Type 0} (place : PlaceGhosts P K) (G : Ghosts K) (net : NetGhosts N L I O) (listen : ListenGhosts L I O) (source : SourceGhosts I) (sink : SinkGhosts O) where
+module _ {P N K L W I O C : Type 0} (place : PlaceGhosts P K) (G : Ghosts K) (net : NetGhosts N L W I O C) (listen : ListenGhosts L I O) (source : SourceGhosts I) (sink : SinkGhosts O) where
   -- these listeners were served side by side
   abbrev pub AreServed : AccountsServed → Seated K → List L → Seated K → List L → Type 0
   AreServed accounts = Together G listen source sink accounts
@@ -45,13 +47,13 @@ module _ {P N K L I O : Type 0} (place : PlaceGhosts P K) (G : Ghosts K) (net : 
     pub told : place.tells new → G.tells now.keeper
     pub leaves : Leaves (change place store old new) (served G.faults now)
     pub count : length givens ≡ options.workers
-    pub first : net.tells after → net.to_give before ≡ givens ++ net.to_give after
-    pub last : net.tells after → net.came_back after ≡ net.came_back before ++ backs
+    pub first : net.tells after → (net.listeners before).to_give ≡ givens ++ (net.listeners after).to_give
+    pub last : net.tells after → (net.listeners after).came_back ≡ (net.listeners before).came_back ++ backs
 
   -- At status 0 and 7 there was such a run.
-  abbrev pub ServesAreRuns : {Out : Type 0} → SinkGhosts Out → Type 0
-  ServesAreRuns {Out} output = (old new : P) (before after : N) (store : List ℕ) (options : ServeOptions) (out out' : Out) (status : ℕ)
-      → WasServed place G net listen source sink output store options old new before after out out' status → (status ≡ 0) ⊎ (status ≡ 7) → ServeRun old new before after store options
+  abbrev pub ServesAreRuns : {Out : Type 0} → PokeListenGhosts W C → LinkGhosts C → SinkGhosts Out → Type 0
+  ServesAreRuns {Out} pokes link output = (old new : P) (before after : N) (store : List ℕ) (options : ServeOptions) (out out' : Out) (status : ℕ)
+      → WasServed place G net listen source sink pokes link output store options old new before after out out' status → (status ≡ 0) ⊎ (status ≡ 7) → ServeRun old new before after store options
 
   -- something holds of all such runs
   abbrev pub OfAllServes : ((old new : P) (before after : N) (store : List ℕ) (options : ServeOptions) → ServeRun old new before after store options → Type 0) → Type 0

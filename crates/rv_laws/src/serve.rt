@@ -3,12 +3,19 @@ ghost use Rattle.rv_laws.specs.Serves.{ServesAreRuns, ServeBooksAreLawful, Serve
 
 use rv_base::Sink;
 use rv_keeper::{Keeper, Place};
-use rv_net::{Listen, Net};
+use rv_net::{Listen, Net, PokeListen};
 
 /// A run of `serve` that ended with status 0 or 7 served the listeners of its net side by side, at a desk that was opened with the book
 /// that the store kept and closed with the one that it keeps.
-pub fn serves_are_runs<K: Keeper, P: Place<Kept = K>, L: Listen, N: Net<Listen = L>, O: Sink>()
-    ensures { ServesAreRuns P.Place K.Keeper N.Net L.Listen L.In.Source L.Out.Sink O.Sink }
+pub fn serves_are_runs<
+    K: Keeper,
+    P: Place<Kept = K>,
+    L: Listen,
+    W: PokeListen,
+    N: Net<Listen = L, Pokes = W>,
+    O: Sink,
+>()
+    ensures { ServesAreRuns P.Place K.Keeper N.Net L.Listen L.In.Source L.Out.Sink W.PokeListen W.Link.PokeLink O.Sink }
 {}
 
 /// The book of such a run is lawful and goes on from the one that the store kept: each client's acts have the ids 1, 2, 3 and so on, and

@@ -103,10 +103,10 @@ returns-in-Ok-Some-Serve-clause-steady_serve g c = λ store options asks steady 
     c.run_serve.ensures.steady_place steady (rw chosen there)
 
 pub returns-in-Ok-Some-Serve-clause-steady_net : goal.returns-in-Ok-Some-Serve-clause-steady_net
-returns-in-Ok-Some-Serve-clause-steady_net g c = λ store options asks steady enough.
+returns-in-Ok-Some-Serve-clause-steady_net g c = λ store options asks steady enough some.
     let is = rw (c.in-Ok-Some-Serve.field-0-is, c.in-Ok-Some-Serve.field-0-0-is) at c.in-Ok-Some-Serve.ensures in
     let (named, chosen) = serves_same _ _ store _ options is asks in
-    c.run_serve.ensures.steady_net steady (rw chosen enough)
+    c.run_serve.ensures.steady_net steady (rw chosen enough) (rw chosen some)
 
 pub returns-in-Ok-Some-Feed-clause-feed : goal.returns-in-Ok-Some-Feed-clause-feed
 returns-in-Ok-Some-Feed-clause-feed g c = λ store asks.

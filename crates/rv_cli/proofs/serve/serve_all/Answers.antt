@@ -25,7 +25,7 @@ returns-clause-serve g c =
           c.args.place.now c.accounts_of.new.place c.open_desk.new.place c.close_keeper.new.self c.in-Ok.accounts c.in-Ok-open_desk.desk c.serve_net-served.result.1 c.close.result read c.in-Ok-open_desk.ensures.opens c.open_desk.ensures.told c.close.ensures.keeper c.close.ensures.held
           (record { lawful = c.close.ensures.lawful; within = c.close.ensures.within.0; next = c.close.ensures.next })
           (record { told = c.close_keeper.ensures.tells; held = c.close_keeper.ensures.kept; taken = c.close_keeper.ensures.faults })
-          _ _ _ _ _ _ _ _ _ _ c.serve_net-served.result.0 c.len-entries.result (g.O.Sink.state c.args.out.now) (g.O.Sink.state c.write_served.new.out) c.write_served.result
+          _ _ _ c.serve_net-served.result.0 c.len-entries.result (g.O.Sink.state c.args.out.now) (g.O.Sink.state c.write_served.new.out) c.write_served.result
           c.serve_net-served.ensures.serves (c.len-entries.ensures.value ∙ ap size c.book.ensures.book) c.write_served.ensures.writes)),
     )
 
@@ -65,13 +65,13 @@ returns-clause-steady_place g c = λ steady there.
     (c.close_keeper.ensures.steady opened, λ is. serve_not_four c.write_served.result (served_not_four c.serve_net-served.result.0 c.len-entries.result (g.O.Sink.state c.args.out.now) (g.O.Sink.state c.write_served.new.out) c.write_served.result c.write_served.ensures.writes) (sym c.status-2.ensures ∙ is))
 
 pub returns-in-Err-clause-steady_net : goal.returns-in-Err-clause-steady_net
-returns-in-Err-clause-steady_net g c = λ steady enough is.
+returns-in-Err-clause-steady_net g c = λ steady enough some is.
     serve_not_nine c.in-Err.ending (no_accounts_not_nine _ _ _ _ c.in-Err.ending c.in-Err.ensures.read.gives_accounts) (sym (rw c.tell.ensures.ending at c.status.ensures) ∙ is)
 
 pub returns-in-Err-open_desk-clause-steady_net : goal.returns-in-Err-open_desk-clause-steady_net
-returns-in-Err-open_desk-clause-steady_net g c = λ steady enough is.
+returns-in-Err-open_desk-clause-steady_net g c = λ steady enough some is.
     serve_not_nine (NotOpened c.in-Err-open_desk.ending) (no_store_not_nine c.in-Err-open_desk.ending) (sym (rw c.tell-in-Err-open_desk.ensures.ending at c.status-in-Err-open_desk.ensures) ∙ is)
 
 pub returns-clause-steady_net : goal.returns-clause-steady_net
-returns-clause-steady_net g c = λ steady enough is.
-    serve_not_nine c.write_served.result (served_not_nine c.serve_net-served.result.0 c.len-entries.result (g.O.Sink.state c.args.out.now) (g.O.Sink.state c.write_served.new.out) c.write_served.result c.write_served.ensures.writes (c.serve_net-served.ensures.steady_net steady enough)) (sym c.status-2.ensures ∙ is)
+returns-clause-steady_net g c = λ steady enough some is.
+    serve_not_nine c.write_served.result (served_not_nine c.serve_net-served.result.0 c.len-entries.result (g.O.Sink.state c.args.out.now) (g.O.Sink.state c.write_served.new.out) c.write_served.result c.write_served.ensures.writes (c.serve_net-served.ensures.steady_net steady enough some)) (sym c.status-2.ensures ∙ is)
