@@ -7,6 +7,7 @@ use crate::running::run_line;
 use rv_base::Memory;
 use rv_keeper::Place;
 use rv_net::MemoryNet;
+use rv_workers::Bells;
 use std::fs;
 use std::sync::Wait;
 use std::thread::Threads;
@@ -46,7 +47,8 @@ fn run_by_threads<R: Threads + Wait + Sync, P: Place>(
     line: &str,
     net: &mut MemoryNet,
 ) -> Result<String, Memory> {
-    let mut crew = TrialCrew::threaded(stage.threads);
+    let bells = Bells::new();
+    let mut crew = TrialCrew::threaded(stage.threads, &bells);
     run_line(stage, line, &mut machine.place, net, &mut crew)
 }
 

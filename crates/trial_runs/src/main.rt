@@ -3,10 +3,11 @@
 //! The subject `scripts` feeds and reports over an input, an output and a place in memory, and over a SQLite file: a case begins with
 //! the words `rv feed memory`, no input, and a keeper that fails at no call. Once what a store holds is stated or kept, that store is
 //! `kept`, and the words are `rv feed kept`. `files` runs words over the files of the folder, `connections` serves connections in
-//! memory, and `workers` serves them by several workers. `requests` compares answers with those of a plain slow server. A line that
-//! begins with `{` is a line of the input.
+//! memory, and `workers` serves them by several workers. `requests` compares answers with those of a plain slow server. `pokes` serves
+//! links in memory beside connections, and rings bells. A line that begins with `{` is a line of the input.
 #![tactic(auto)]
 
+mod bells;
 mod case;
 mod cells;
 mod connections;
@@ -15,6 +16,7 @@ mod faults;
 mod files;
 mod machine;
 mod nets;
+mod pokes;
 mod requests;
 mod running;
 mod scripts;
@@ -40,14 +42,16 @@ enum Subject {
     Connections,
     Workers,
     Requests,
+    Pokes,
 }
 
-static SUBJECTS: [(&str, Subject); 5] = [
+static SUBJECTS: [(&str, Subject); 6] = [
     ("scripts", Subject::Scripts),
     ("files", Subject::Files),
     ("connections", Subject::Connections),
     ("workers", Subject::Workers),
     ("requests", Subject::Requests),
+    ("pokes", Subject::Pokes),
 ];
 
 // The case that is played, and the stores of the machine.
@@ -83,6 +87,7 @@ impl<P: Place> Runs<P> {
             Subject::Connections => connections::answer(stage, &mut self.machine, line),
             Subject::Workers => workers::answer(stage, &mut self.machine, line),
             Subject::Requests => requests::answer(stage, text_of(&self.case.input), line),
+            Subject::Pokes => pokes::answer(stage, &mut self.case, &mut self.machine, line),
         }
     }
 

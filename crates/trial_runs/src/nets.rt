@@ -3,6 +3,30 @@ use crate::running::failing;
 use rv_base::{Memory, MemorySink, MemorySource};
 use rv_net::{Conn, MemoryConn, MemoryListen, MemoryNet};
 use std::alloc::Global;
+use trial_stage::Part::{Number, Text};
+use trial_stage::joined;
+
+/// The text of a request with this key, at this path without its slash, with this body.
+pub fn request<'x>(
+    alloc: Global,
+    key: &'x str,
+    path: &'x str,
+    body: &'x str,
+) -> Result<String, Memory> {
+    joined(
+        alloc,
+        &[
+            Text("POST /"),
+            Text(path),
+            Text(" HTTP/1.1\r\nAuthorization: "),
+            Text(key),
+            Text("\r\nContent-Length: "),
+            Number(body.len() as u64),
+            Text("\r\n\r\n"),
+            Text(body),
+        ],
+    )
+}
 
 /// A connection that sends these bytes, and whose reads and writes are of at most so many.
 pub fn conn(alloc: Global, bytes: Vec<u8>, most: usize) -> MemoryConn {
@@ -12,16 +36,16 @@ pub fn conn(alloc: Global, bytes: Vec<u8>, most: usize) -> MemoryConn {
     }
 }
 
-/// A net of one listener, to which these connections are to come. The call of `listen` with this number fails, from 1; 0 is none.
+/// A net of one listener, to which these connections are to come. The call with this number fails, from 1; 0 is none.
 pub fn net_of(alloc: Global, conns: Vec<MemoryConn>, fails: u64) -> Result<MemoryNet, Memory> {
     let mut listeners = Vec::new(alloc);
     listeners.push(MemoryListen::new(alloc, conns)?)?;
-    MemoryNet::new(alloc, listeners, failing(alloc, fails)?)
+    MemoryNet::new(alloc, listeners, Vec::new(alloc), failing(alloc, fails)?)
 }
 
 // The first connection that was served and came back.
 fn served(net: &MemoryNet) -> Option<&MemoryConn> {
-    net.came_back.first()?.came_back.first()
+    net.listeners.came_back.first()?.came_back.first()
 }
 
 /// What was written to the first connection.

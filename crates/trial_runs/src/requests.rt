@@ -23,6 +23,7 @@ mod touched;
 use crate::crew::TrialCrew;
 use rv_base::Memory;
 use rv_words::{Command, command_of};
+use rv_workers::Bells;
 use std::alloc::Global;
 use std::sync::Wait;
 use std::thread::Threads;
@@ -64,6 +65,19 @@ fn worded(alloc: Global, line: &str) -> Result<Option<String>, Memory> {
     Ok(Some(format!(in alloc; "{command:?}\n")?))
 }
 
+// What the crew by threads does.
+fn threaded<R: Threads + Wait + Sync>(
+    stage: &Stage<'_, R>,
+    words: &str,
+) -> Result<Option<String>, Memory> {
+    let bells = Bells::new();
+    crewed(
+        stage,
+        &mut TrialCrew::threaded(stage.threads, &bells),
+        words,
+    )
+}
+
 // What a crew does: `holds`, or it serves drawn requests.
 fn crewed<R: Threads + Wait + Sync>(
     stage: &Stage<'_, R>,
@@ -91,7 +105,7 @@ pub fn answer<R: Threads + Wait + Sync>(
         Some(Item::Drawn) => feeding::generated(stage, rest),
         Some(Item::Marks) => marks::compared(alloc, rest),
         Some(Item::Seats) => seats::taken(stage.threads, alloc, rest),
-        Some(Item::Threads) => crewed(stage, &mut TrialCrew::threaded(stage.threads), rest),
+        Some(Item::Threads) => threaded(stage, rest),
         Some(Item::Serial) => crewed(stage, &mut TrialCrew::serial(), rest),
         None => Ok(None),
     }

@@ -155,7 +155,7 @@ pub fn run_alone<R: Threads + Wait + Sync, P: Place>(
     pieces: Pieces,
 ) -> Result<Finished, Memory> {
     let alloc = stage.host.alloc();
-    let mut net = MemoryNet::new(alloc, Vec::new(alloc), Vec::new(alloc))?;
+    let mut net = MemoryNet::new(alloc, Vec::new(alloc), Vec::new(alloc), Vec::new(alloc))?;
     let mut crew = TrialCrew::serial();
     run_over(stage, words, place, bytes, pieces, &mut net, &mut crew)
 }

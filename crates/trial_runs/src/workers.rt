@@ -1,11 +1,11 @@
 // `serve` over listeners in memory, by workers side by side.
 use crate::crew::{Counts, TrialCrew};
 use crate::machine::Machine;
-use crate::nets::conn;
+use crate::nets::{conn, request};
 use crate::running::run_line;
 use rv_base::Memory;
 use rv_keeper::Place;
-use rv_net::{MemoryListen, MemoryNet};
+use rv_net::{MemoryConn, MemoryListen, MemoryNet};
 use std::alloc::Global;
 use std::sync::Wait;
 use std::sync::atomic::Ordering;
@@ -65,15 +65,7 @@ fn push(alloc: Global, client: u64, id: u64) -> Result<String, Memory> {
             Text(",\"name\":\"paint\",\"args\":null}]}"),
         ],
     )?;
-    joined(
-        alloc,
-        &[
-            Text("POST /push HTTP/1.1\r\nAuthorization: k-ann\r\nContent-Length: "),
-            Number(body.len() as u64),
-            Text("\r\n\r\n"),
-            Text(body.as_str()),
-        ],
-    )
+    request(alloc, "k-ann", "push", body.as_str())
 }
 
 // What a connection asks, by the numbers of its listener and of its own.
@@ -92,7 +84,7 @@ fn asked(alloc: Global, plan: Plan, listener: u64, conn: u64) -> Result<Vec<u8>,
 }
 
 // A listener with its connections.
-fn listener(alloc: Global, plan: Plan, number: u64) -> Result<MemoryListen, Memory> {
+fn listener(alloc: Global, plan: Plan, number: u64) -> Result<MemoryListen<MemoryConn>, Memory> {
     let mut conns = Vec::new(alloc);
     for of_listener in 0..plan.conns {
         let bytes = asked(alloc, plan, number, of_listener)?;
@@ -107,7 +99,7 @@ fn net_of(alloc: Global, plan: Plan) -> Result<MemoryNet, Memory> {
     for number in 0..plan.listeners {
         listeners.push(listener(alloc, plan, number)?)?;
     }
-    MemoryNet::new(alloc, listeners, Vec::new(alloc))
+    MemoryNet::new(alloc, listeners, Vec::new(alloc), Vec::new(alloc))
 }
 
 // How many answers there are, if all are that of a push that was taken; else none.
@@ -126,7 +118,7 @@ fn good_answers(bytes: &[u8]) -> Option<u64> {
 fn answers_in(net: &MemoryNet) -> (u64, u64) {
     let mut good: u64 = 0;
     let mut bad: u64 = 0;
-    for listener in &net.came_back {
+    for listener in &net.listeners.came_back {
         for conn in &listener.came_back {
             match good_answers(&conn.sink.bytes) {
                 Some(answers) => good = good.saturating_add(answers),
@@ -216,7 +208,8 @@ fn played_by<R: Threads + Wait + Sync, P: Place>(
 /// and each connection goes on from the one before. Printed are the answers of status 200, other answers, and what the program wrote,
 /// with its status. After `held-` the first worker's gate holds each request until the second worker has answered one, and gives up
 /// after 1,000,000 looks; printed is then also how often, and how often a gate heard what should not come then: a number that is
-/// neither 1 nor the next one, a request before the last one's end, or an end without one.
+/// neither 1 nor the next one, a request before the last one's end, an end without one, that the worker leaves before the last one's
+/// end, or anything after that.
 pub fn answer<R: Threads + Wait + Sync, P: Place>(
     stage: &Stage<'_, R>,
     machine: &mut Machine<P>,

@@ -52,7 +52,8 @@ fn made<'x>(done: &'x AtomicU64, is_first: bool) -> Hand<'x> {
 fn gives_up<R: Threads + Sync>(crew: &TrialCrew<'_, R>) -> bool {
     let done = AtomicU64::new(0);
     let mut hands = [made(&done, true), made(&done, false)];
-    run_all(crew, &mut hands);
+    let mut none: [Hand<'_>; 0] = [];
+    run_all(crew, &mut hands, &mut none);
     hands[0].has_given_up
 }
 

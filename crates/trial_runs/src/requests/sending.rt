@@ -64,7 +64,7 @@ fn listener(
     plan: &Plan,
     connections: &[Connection],
     place: usize,
-) -> Result<MemoryListen, Memory> {
+) -> Result<MemoryListen<MemoryConn>, Memory> {
     let from = place.wrapping_mul(plan.connections);
     let mut conns = Vec::new(alloc);
     for after in 0..plan.connections {
@@ -81,13 +81,13 @@ pub fn net(alloc: Global, plan: &Plan, connections: &[Connection]) -> Result<Mem
     for place in 0..plan.workers {
         listeners.push(listener(alloc, plan, connections, place)?)?;
     }
-    MemoryNet::new(alloc, listeners, Vec::new(alloc))
+    MemoryNet::new(alloc, listeners, Vec::new(alloc), Vec::new(alloc))
 }
 
 /// Whether the connections that came back were answered so, each in its place.
 pub fn are_answered(net: &MemoryNet, responses: &[String]) -> bool {
     let mut left = responses.iter();
-    for listener in &net.came_back {
+    for listener in &net.listeners.came_back {
         for conn in &listener.came_back {
             match left.next() {
                 Some(text) if text.as_bytes() == conn.sink.bytes.as_slice() => {}
