@@ -1,5 +1,5 @@
 pub mod RowLaws
-pub mod ListedLaws
+pub mod FiledLaws
 pub mod SlotLaws
 pub mod RowSlots
-pub mod ListSlots
+pub mod FiledSlots

@@ -1,26 +1,28 @@
--- Rows in slots, and the two orders of the slots, as rows come and go.
-use Rattle.std.proofs.Common.{◌≡◌, ◌≢◌, ℕ, zero, suc, ◌+◌, ◌-◌, ◌<◌, Bool, true, false, cond, ◌||◌, not, eqb, List, [], ◌∷◌, ◌++◌, map, length, get_or, set, Result, Some, None, Ok, refl, sym, ap, ◌∙◌, subst, arith, nat_lt, get_or-set_same, get_or-set_other}
+-- Rows in slots, and the three orders of the slots, as rows come and go.
+use Rattle.std.proofs.Common.{◌≡◌, ◌≢◌, ℕ, zero, suc, ◌+◌, ◌-◌, ◌<◌, Bool, true, false, cond, ◌||◌, not, eqb, List, [], ◌∷◌, ◌++◌, map, length, get_or, set, Option, Result, Some, None, Ok, refl, sym, ap, ◌∙◌, subst, arith, nat_lt, get_or-set_same, get_or-set_other}
 use Rattle.std.specs.Ordering.{nat_cmp}
 use Rattle.std.specs.Cmp.Lexicographic.{slice_cmp}
 use Rattle.std.specs.List.{AllByRecursion, list_any, filter, insert, remove}
 use Rattle.std.specs.declared.cmp.Ordering.TheVariants.{Less}
 use Rattle.std.proofs.lemmas.Bool.Decides.{nat_tests, Decides-eqb}
-use Rattle.std.specs.Option.{option_map, is_some}
+use Rattle.std.specs.Option.{option_map}
 use Rattle.std.specs.Str.{bytes_eq}
 use Rattle.std.proofs.lemmas.Slice.Eq.{bytes_eq-Decides}
 use Rattle.std.proofs.Math.ListN.{length-set}
 use Rattle.std.proofs.lemmas.List.{get_or_append_left, length-append, length-map, get_or-map}
 use Rattle.std.proofs.lemmas.Option.{none-some}
 use Rattle.std.proofs.Math.Seq.{get_or-append_seam}
-use Rattle.rv_base.specs.Sorted.{find_by, InOrder, IsPositionOf}
-use Rattle.rv_base.specs.Positions.{in_order-filter, find_without, equals}
-use Rattle.rv_base.specs.Arranged.{find-map}
+use Rattle.rv_base.specs.Sorted.{find_by, without, InOrder, IsPositionOf}
+use Rattle.rv_base.specs.Positions.{in_order-filter, in_order-put, in_order-without, find_put, find_without, equals}
+use Rattle.rv_base.specs.Arranged.{find-map, in_order-same}
 use Rattle.rv_rows.specs.Keys.{row_text}
-use Rattle.rv_rows.specs.Held.{Stored, stored_key, AreRows}
-use Rattle.rv_rows.specs.Sharing.{list_of}
-use Rattle.rv_rows.specs.Listed.{listed, list_key}
-use Rattle.rv_rows.specs.Slots.{no_row, row_of, standing, by_slot, AreSlots, AreSame, HasOrders, relabelled, renamed, Vacates}
-use Rattle.rv_rows.proofs.ListedLaws.{listed-key}
+use Rattle.rv_rows.specs.Held.{Stored, stored_key, put, AreRows}
+use Rattle.rv_rows.specs.declared.filing.Filing.{Filing}
+use Rattle.rv_rows.specs.declared.filing.Filing.TheVariants as filings
+use Rattle.rv_rows.specs.Sharing.{list_of, user_of}
+use Rattle.rv_rows.specs.Filed.{filed, under, filed_key}
+use Rattle.rv_rows.specs.Slots.{no_row, row_of, standing, by_slot, AreSlots, AreSame, IsFiled, HasOrders, relabelled, renamed, Vacates}
+use Rattle.rv_rows.proofs.FiledLaws.{filed-key}
 use Rattle.rv_rows.proofs.SlotLaws.{by_flag, by_found, any_default, found_key, renamed_settled, struck, rewritten, member_found, found_item, in_order-slots, in_order-items, same-filter, same-map, all-to, all-map, all-insert, others-filter, alike, alike-moved, map-insert, map-remove, same-insert}
 
 pub slot_at : (n : ℕ) (os : List ℕ) (j : ℕ) → AreSlots n os → j < length os → get_or os j 0 < n
@@ -40,16 +42,16 @@ pub slot_held : (n s : ℕ) (os : List ℕ) → AreSlots n os → list_any (eqb 
 slot_held n s [] all e = absurd (let f : false ≡ true = e in cc)
 slot_held n s (o ∷ os) all e = by_flag (λ b. (b || list_any (eqb s) os) ≡ true → s < n) (eqb s o) (λ t f. subst (λ (i : ℕ). i < n) (sym ((Decides-eqb s o).0 t)) all.0) (λ t f. slot_held n s os all.1 f) e
 
--- a key that no row has is not among the rows by their lists either
-pub absent_too : (slots : List Stored) (by_key by_list : List ℕ) (list key : List ℕ) → HasOrders slots by_key by_list → find_by stored_key key (standing slots by_key) ≡ None → find_by list_key (listed list key) (standing slots by_list) ≡ None
-absent_too slots by_key by_list list key indexed none =
-    sym (find-map list_key (row_of slots) (listed list key) by_list)
-    ∙ by_found (λ o. option_map (row_of slots) o ≡ None) (find_by (λ i. list_key (row_of slots i)) (listed list key) by_list)
+-- a key that no row has is not among the rows by what they are filed under either
+pub absent_too : (by : Filing) (slots : List Stored) (by_key order : List ℕ) (text key : List ℕ) → AreRows (standing slots by_key) → IsFiled by slots by_key order → find_by stored_key key (standing slots by_key) ≡ None → find_by (filed_key by) (filed text key) (standing slots order) ≡ None
+absent_too by slots by_key order text key sorted is none =
+    sym (find-map (filed_key by) (row_of slots) (filed text key) order)
+    ∙ by_found (λ o. option_map (row_of slots) o ≡ None) (find_by (λ i. filed_key by (row_of slots i)) (filed text key) order)
     (λ e. refl)
     (λ i e.
-    let at = member_found (λ i. list_key (row_of slots i)) (listed list key) by_list i e in
-    let same : key ≡ stored_key (row_of slots i) = listed-key list (list_of (row_of slots i).0) key (row_text (row_of slots i).0) at.1 in
-    absurd (none-some (row_of slots i) (sym none ∙ ap (λ (k : List ℕ). find_by stored_key k (standing slots by_key)) same ∙ found_item stored_key (row_of slots) by_key i indexed.key_order (indexed.same (eqb i) ∙ at.0))))
+    let at = member_found (λ i. filed_key by (row_of slots i)) (filed text key) order i e in
+    let same : key ≡ stored_key (row_of slots i) = filed-key text (under by (row_of slots i).0) key (row_text (row_of slots i).0) at.1 in
+    absurd (none-some (row_of slots i) (sym none ∙ ap (λ (k : List ℕ). find_by stored_key k (standing slots by_key)) same ∙ found_item stored_key (row_of slots) by_key i sorted (is.same (eqb i) ∙ at.0))))
 
 -- a row in a new slot
 standing_old : (slots : List Stored) (x : Stored) (os : List ℕ) → AreSlots (length slots) os → standing (slots ++ x ∷ []) os ≡ standing slots os
@@ -60,20 +62,29 @@ standing_new slots x os j all =
     map-insert (row_of (slots ++ x ∷ [])) os j (length slots)
     ∙ rw (standing_old slots x os all, get_or-append_seam slots x [] no_row) refl
 
-pub pushed : (slots new : List Stored) (by_key keys by_list lists : List ℕ) (x : Stored) (i j n : ℕ) → HasOrders slots by_key by_list → AreRows (insert (standing slots by_key) i x) → InOrder list_key (insert (standing slots by_list) j x)
-    → new ≡ slots ++ x ∷ [] → n ≡ length slots → keys ≡ insert by_key i n → lists ≡ insert by_list j n → HasOrders new keys lists
-pushed slots new by_key keys by_list lists x i j n indexed rows order new_is n_is keys_are lists_are =
-    rw (keys_are, lists_are, n_is, new_is)
+more_slots : (slots : List Stored) (x : Stored) (os : List ℕ) (j : ℕ) → AreSlots (length slots) os → AreSlots (length (slots ++ x ∷ [])) (insert os j (length slots))
+more_slots slots x os j all = rw (length-append slots (x ∷ [])) (all-insert (λ i. i < length slots + 1) (length slots) os j (omega arith) (all-to (λ i. i < length slots) (λ i. i < length slots + 1) os (λ i lt. omega arith) all))
+
+pub pushed_filed : (by : Filing) (slots : List Stored) (by_key order : List ℕ) (x : Stored) (i j : ℕ) → IsFiled by slots by_key order → InOrder (filed_key by) (insert (standing slots order) j x)
+    → IsFiled by (slots ++ x ∷ []) (insert by_key i (length slots)) (insert order j (length slots))
+pushed_filed by slots by_key order x i j is sorted =
+    record {
+      in_slots = more_slots slots x order j is.in_slots;
+      in_order = subst (InOrder (filed_key by)) (sym (standing_new slots x order j is.in_slots)) sorted;
+      same = same-insert by_key order i j (length slots) is.same;
+    }
+
+pub pushed : (slots new : List Stored) (by_key keys by_list lists by_user users : List ℕ) (x : Stored) (i j k n : ℕ) → HasOrders slots by_key by_list by_user → AreRows (insert (standing slots by_key) i x)
+    → InOrder (filed_key filings.List) (insert (standing slots by_list) j x) → InOrder (filed_key filings.User) (insert (standing slots by_user) k x)
+    → new ≡ slots ++ x ∷ [] → n ≡ length slots → keys ≡ insert by_key i n → lists ≡ insert by_list j n → users ≡ insert by_user k n → HasOrders new keys lists users
+pushed slots new by_key keys by_list lists by_user users x i j k n indexed rows list_order user_order new_is n_is keys_are lists_are users_are =
+    rw (keys_are, lists_are, users_are, n_is, new_is)
     (record {
-      key_slots = more by_key i indexed.key_slots;
-      list_slots = more by_list j indexed.list_slots;
+      key_slots = more_slots slots x by_key i indexed.key_slots;
       key_order = subst AreRows (sym (standing_new slots x by_key i indexed.key_slots)) rows;
-      list_order = subst (InOrder list_key) (sym (standing_new slots x by_list j indexed.list_slots)) order;
-      same = same-insert by_key by_list i j (length slots) indexed.same;
+      lists = pushed_filed filings.List slots by_key by_list x i j indexed.lists list_order;
+      users = pushed_filed filings.User slots by_key by_user x i k indexed.users user_order;
     })
-  where
-    more : (os : List ℕ) (j : ℕ) → AreSlots (length slots) os → AreSlots (length (slots ++ x ∷ [])) (insert os j (length slots))
-    more os j all = rw (length-append slots (x ∷ [])) (all-insert (λ i. i < length slots + 1) (length slots) os j (omega arith) (all-to (λ i. i < length slots) (λ i. i < length slots + 1) os (λ i lt. omega arith) all))
 
 -- a row that goes
 moved_in : (n s m i : ℕ) → m + 1 ≡ n → s < n → i < n → i ≢ s → relabelled (n - 1) s i < m
@@ -108,24 +119,38 @@ slots_left key slots left os j s all sorted lt is gone =
     let there : s < length slots = subst (λ (i : ℕ). i < length slots) is (slot_at (length slots) os j all lt) in
     all-map (λ i. (i < length slots) × (i ≢ s)) (λ i. i < length left) (relabelled (length slots - 1) s) (remove os j) (λ i h. moved_in (length slots) s (length left) i gone.one_less there h.0 h.1) (left_slots key slots os j s all sorted lt is)
 
-pub vacated : (slots left : List Stored) (by_key keys by_list lists : List ℕ) (i j s last : ℕ) → HasOrders slots by_key by_list → i < length by_key → get_or by_key i 0 ≡ s → j < length by_list → get_or by_list j 0 ≡ s → Vacates slots s left
-    → last ≡ length slots - 1 → keys ≡ map (relabelled last s) (remove by_key i) → lists ≡ map (relabelled last s) (remove by_list j) → HasOrders left keys lists × (standing left keys ≡ remove (standing slots by_key) i)
-vacated slots left by_key keys by_list lists i j s last indexed i_in i_is j_in j_is gone last_is keys_are lists_are =
-    rw (keys_are, lists_are, last_is) (
-      record {
-        key_slots = slots_left stored_key slots left by_key i s indexed.key_slots indexed.key_order i_in i_is gone;
-        list_slots = slots_left list_key slots left by_list j s indexed.list_slots indexed.list_order j_in j_is gone;
-        key_order = order_left stored_key slots left by_key i s indexed.key_slots indexed.key_order i_in i_is gone;
-        list_order = order_left list_key slots left by_list j s indexed.list_slots indexed.list_order j_in j_is gone;
-        same = same-map (relabelled (length slots - 1) s) (remove by_key i) (remove by_list j) (same_left (remove by_key i) (remove by_list j) (sym (left_over stored_key slots by_key i s indexed.key_order i_in i_is)) (sym (left_over list_key slots by_list j s indexed.list_order j_in j_is)));
-      },
-      standing_left stored_key slots left by_key i s indexed.key_slots indexed.key_order i_in i_is gone,
-    )
+pub vacated_filed : (by : Filing) (slots left : List Stored) (by_key order : List ℕ) (i j s : ℕ) → AreRows (standing slots by_key) → IsFiled by slots by_key order → i < length by_key → get_or by_key i 0 ≡ s → j < length order → get_or order j 0 ≡ s → Vacates slots s left
+    → IsFiled by left (map (relabelled (length slots - 1) s) (remove by_key i)) (map (relabelled (length slots - 1) s) (remove order j))
+vacated_filed by slots left by_key order i j s sorted is i_in i_is j_in j_is gone =
+    record {
+      in_slots = slots_left (filed_key by) slots left order j s is.in_slots is.in_order j_in j_is gone;
+      in_order = order_left (filed_key by) slots left order j s is.in_slots is.in_order j_in j_is gone;
+      same = same-map (relabelled (length slots - 1) s) (remove by_key i) (remove order j) (same_left (remove by_key i) (remove order j) (sym (left_over stored_key slots by_key i s sorted i_in i_is)) (sym (left_over (filed_key by) slots order j s is.in_order j_in j_is)));
+    }
   where
-    same_left : (xs ys : List ℕ) → filter (λ i. not (eqb s i)) by_key ≡ xs → filter (λ i. not (eqb s i)) by_list ≡ ys → AreSame xs ys
-    same_left xs ys e f = subst (λ (xs : List ℕ). AreSame xs ys) e (subst (λ (ys : List ℕ). AreSame (filter (λ i. not (eqb s i)) by_key) ys) f (same-filter (λ i. not (eqb s i)) by_key by_list indexed.same))
+    same_left : (xs ys : List ℕ) → filter (λ i. not (eqb s i)) by_key ≡ xs → filter (λ i. not (eqb s i)) order ≡ ys → AreSame xs ys
+    same_left xs ys e f = subst (λ (xs : List ℕ). AreSame xs ys) e (subst (λ (ys : List ℕ). AreSame (filter (λ i. not (eqb s i)) by_key) ys) f (same-filter (λ i. not (eqb s i)) by_key order is.same))
 
--- another row with the same key, in a list as before
+-- where a slot stands in an order
+pub record StandsAt (order : List ℕ) (j s : ℕ) : Type 0 where
+  pub within : j < length order
+  pub is : get_or order j 0 ≡ s
+
+pub vacated : (slots left : List Stored) (by_key keys by_list lists by_user users : List ℕ) (i j k s last : ℕ) → HasOrders slots by_key by_list by_user → StandsAt by_key i s → StandsAt by_list j s → StandsAt by_user k s → Vacates slots s left
+    → last ≡ length slots - 1 → keys ≡ map (relabelled last s) (remove by_key i) → lists ≡ map (relabelled last s) (remove by_list j) → users ≡ map (relabelled last s) (remove by_user k)
+    → HasOrders left keys lists users × (standing left keys ≡ remove (standing slots by_key) i)
+vacated slots left by_key keys by_list lists by_user users i j k s last indexed at_key at_list at_user gone last_is keys_are lists_are users_are =
+    rw (keys_are, lists_are, users_are, last_is) (
+      record {
+        key_slots = slots_left stored_key slots left by_key i s indexed.key_slots indexed.key_order at_key.within at_key.is gone;
+        key_order = order_left stored_key slots left by_key i s indexed.key_slots indexed.key_order at_key.within at_key.is gone;
+        lists = vacated_filed filings.List slots left by_key by_list i j s indexed.key_order indexed.lists at_key.within at_key.is at_list.within at_list.is gone;
+        users = vacated_filed filings.User slots left by_key by_user i k s indexed.key_order indexed.users at_key.within at_key.is at_user.within at_user.is gone;
+      },
+      standing_left stored_key slots left by_key i s indexed.key_slots indexed.key_order at_key.within at_key.is gone,
+    )
+
+-- another row with the same key, filed as before
 module _ (slots : List Stored) (s : ℕ) (x : Stored) (at : s < length slots) where
   new_row : row_of (set slots s x) s ≡ x
   new_row = get_or-set_same slots s x no_row at
@@ -145,17 +170,24 @@ module _ (slots : List Stored) (s : ℕ) (x : Stored) (at : s < length slots) wh
   order_stays : (key : Stored → List ℕ) (os : List ℕ) → key x ≡ key (row_of slots s) → InOrder key (standing slots os) → InOrder key (standing (set slots s x) os)
   order_stays key os same sorted = in_order-items key (row_of (set slots s x)) os (subst (λ (g : ℕ → List ℕ). InOrder g os) (keys_stay key same) (in_order-slots key (row_of slots) os sorted))
 
-pub written : (slots new : List Stored) (by_key by_list : List ℕ) (i s : ℕ) (x : Stored) → HasOrders slots by_key by_list → i < length by_key → get_or by_key i 0 ≡ s → stored_key x ≡ stored_key (row_of slots s) → list_of x.0 ≡ list_of (row_of slots s).0
-    → new ≡ set slots s x → HasOrders new by_key by_list × (standing new by_key ≡ set (standing slots by_key) i x)
-written slots new by_key by_list i s x indexed lt is key list new_is =
+written_filed : (by : Filing) (slots : List Stored) (by_key order : List ℕ) (s : ℕ) (x : Stored) → s < length slots → stored_key x ≡ stored_key (row_of slots s) → under by x.0 ≡ under by (row_of slots s).0 → IsFiled by slots by_key order → IsFiled by (set slots s x) by_key order
+written_filed by slots by_key order s x at key text is =
+    record {
+      in_slots = rw (length-set slots s x) is.in_slots;
+      in_order = order_stays slots s x at (filed_key by) order (λ i. filed (text i) (key i)) is.in_order;
+      same = is.same;
+    }
+
+pub written : (slots new : List Stored) (by_key by_list by_user : List ℕ) (i s : ℕ) (x : Stored) → HasOrders slots by_key by_list by_user → i < length by_key → get_or by_key i 0 ≡ s → stored_key x ≡ stored_key (row_of slots s)
+    → list_of x.0 ≡ list_of (row_of slots s).0 → user_of x.0 ≡ user_of (row_of slots s).0 → new ≡ set slots s x → HasOrders new by_key by_list by_user × (standing new by_key ≡ set (standing slots by_key) i x)
+written slots new by_key by_list by_user i s x indexed lt is key list user new_is =
     let at : s < length slots = subst (λ (i : ℕ). i < length slots) is (slot_at (length slots) by_key i indexed.key_slots lt) in
     rw new_is (
       record {
         key_slots = rw (length-set slots s x) indexed.key_slots;
-        list_slots = rw (length-set slots s x) indexed.list_slots;
         key_order = order_stays slots s x at stored_key by_key key indexed.key_order;
-        list_order = order_stays slots s x at list_key by_list (λ i. listed (list i) (key i)) indexed.list_order;
-        same = indexed.same;
+        lists = written_filed filings.List slots by_key by_list s x at key list indexed.lists;
+        users = written_filed filings.User slots by_key by_user s x at key user indexed.users;
       },
       rewritten (λ i. stored_key (row_of slots i)) (row_of slots) (row_of (set slots s x)) by_key i s x (new_row slots s x at) (old_row slots s x at) (in_order-slots stored_key (row_of slots) by_key indexed.key_order) lt is,
     )
@@ -164,70 +196,71 @@ written slots new by_key by_list i s x indexed lt is key list new_is =
 pub read_at : {X : Type 0} (xs : List X) (j : ℕ) (x d : X) → j < length xs → x ≡ get_or xs j x → get_or xs j d ≡ x
 read_at xs j x d lt is = any_default xs j d x lt ∙ sym is
 
-position_in : (slots : List Stored) (os : List ℕ) (at : ℕ) → at < length (standing slots os) → at < length os
-position_in slots os at lt = rw (length-map os (row_of slots)) at lt
+pub in_standing : (slots : List Stored) (os : List ℕ) (at : ℕ) → at < length (standing slots os) → at < length os
+in_standing slots os at lt = rw (length-map os (row_of slots)) at lt
 
 -- the row at a position of an order is that of the slot there
 row_at_slot : (slots : List Stored) (os : List ℕ) (at s : ℕ) (d : Stored) → at < length (standing slots os) → s ≡ get_or os at s → get_or (standing slots os) at d ≡ row_of slots s
-row_at_slot slots os at s d lt is = get_or-map (row_of slots) os at s d (position_in slots os at lt) ∙ ap (row_of slots) (sym is)
+row_at_slot slots os at s d lt is = get_or-map (row_of slots) os at s d (in_standing slots os at lt) ∙ ap (row_of slots) (sym is)
 
-pub row_found : (slots seen : List Stored) (os order : List ℕ) (rows : List Stored) (k : List ℕ) (at s : ℕ) (x : Stored) → seen ≡ slots → order ≡ os → standing slots os ≡ rows → AreSlots (length slots) os
-    → IsPositionOf stored_key k (standing seen order) (Ok at) → s ≡ get_or os at s → x ≡ get_or slots s x → Some x ≡ find_by stored_key k rows
-row_found slots seen os order rows k at s x seen_is order_is rows_are all there slot_is x_is =
-    let here : IsPositionOf stored_key k (standing slots os) (Ok at) = subst (λ (o : List ℕ). IsPositionOf stored_key k (standing slots o) (Ok at)) order_is (subst (λ (t : List Stored). IsPositionOf stored_key k (standing t order) (Ok at)) seen_is there) in
-    let low : s < length slots = subst (λ (i : ℕ). i < length slots) (read_at os at s 0 (position_in slots os at here.in_range) slot_is) (slot_at (length slots) os at all (position_in slots os at here.in_range)) in
-    sym (
-    ap (find_by stored_key k) (sym rows_are)
-    ∙ here.found no_row
-    ∙ ap (λ (y : Stored). Some y) (row_at_slot slots os at s no_row here.in_range slot_is ∙ read_at slots s x no_row low x_is)
-    )
+-- what is read of the slot at a position is the row there
+pub row_read : (slots : List Stored) (os : List ℕ) (at s : ℕ) (x : Stored) → AreSlots (length slots) os → at < length os → s ≡ get_or os at s → x ≡ get_or slots s x → x ≡ get_or (standing slots os) at no_row
+row_read slots os at s x all lt slot_is x_is =
+    let low : s < length slots = subst (λ (i : ℕ). i < length slots) (read_at os at s 0 lt slot_is) (slot_at (length slots) os at all lt) in
+    sym (row_at_slot slots os at s no_row (rw (length-map os (row_of slots)) lt) slot_is ∙ read_at slots s x no_row low x_is)
 
-pub row_there : (slots seen : List Stored) (os order : List ℕ) (rows : List Stored) (k : List ℕ) (at : ℕ) → seen ≡ slots → order ≡ os → standing slots os ≡ rows → IsPositionOf stored_key k (standing seen order) (Ok at) → true ≡ is_some (find_by stored_key k rows)
-row_there slots seen os order rows k at seen_is order_is rows_are there =
-    let here : IsPositionOf stored_key k (standing slots os) (Ok at) = subst (λ (o : List ℕ). IsPositionOf stored_key k (standing slots o) (Ok at)) order_is (subst (λ (t : List Stored). IsPositionOf stored_key k (standing t order) (Ok at)) seen_is there) in
-    sym (ap (λ (rs : List Stored). is_some (find_by stored_key k rs)) (sym rows_are) ∙ ap is_some (here.found no_row))
+-- the slot at a position is there
+pub slot_there : (slots : List Stored) (os : List ℕ) (at s : ℕ) → AreSlots (length slots) os → at < length os → s ≡ get_or os at s → s < length slots
+slot_there slots os at s all lt is = subst (λ (i : ℕ). i < length slots) (read_at os at s 0 lt is) (slot_at (length slots) os at all lt)
 
-pub written_at : (slots new : List Stored) (by_key by_list : List ℕ) (rows : List Stored) (at s : ℕ) (x old : Stored) (l m : List ℕ) → HasOrders slots by_key by_list → standing slots by_key ≡ rows → IsPositionOf stored_key (stored_key x) rows (Ok at)
-    → s ≡ get_or by_key at s → old ≡ get_or slots s old → true ≡ bytes_eq l m → l ≡ list_of old.0 → m ≡ list_of x.0 → new ≡ set slots s x → HasOrders new by_key by_list × (standing new by_key ≡ set rows at x)
-written_at slots new by_key by_list rows at s x old l m indexed rows_are there slot_is old_is same l_is m_is new_is =
-    let here : IsPositionOf stored_key (stored_key x) (standing slots by_key) (Ok at) = subst (λ (rs : List Stored). IsPositionOf stored_key (stored_key x) rs (Ok at)) (sym rows_are) there in
-    let lt : at < length by_key = position_in slots by_key at here.in_range in
-    let read : get_or by_key at 0 ≡ s = read_at by_key at s 0 lt slot_is in
-    let low : s < length slots = subst (λ (i : ℕ). i < length slots) read (slot_at (length slots) by_key at indexed.key_slots lt) in
-    let key : stored_key x ≡ stored_key (row_of slots s) = found_key stored_key (stored_key x) (standing slots by_key) (get_or (standing slots by_key) at no_row) (here.found no_row) ∙ ap stored_key (row_at_slot slots by_key at s no_row here.in_range slot_is) in
-    let list : list_of x.0 ≡ list_of (row_of slots s).0 = sym m_is ∙ sym ((bytes_eq-Decides l m).0 (sym same)) ∙ l_is ∙ ap (λ (y : Stored). list_of y.0) (sym (read_at slots s old no_row low old_is)) in
-    let both = written slots new by_key by_list at s x indexed lt read key list new_is in
-    (both.0, both.1 ∙ ap (λ (rs : List Stored). set rs at x) rows_are)
+pub written_at : (slots new : List Stored) (by_key by_list by_user : List ℕ) (at s : ℕ) (x : Stored) → HasOrders slots by_key by_list by_user → IsPositionOf stored_key (stored_key x) (standing slots by_key) (Ok at) → s ≡ get_or by_key at s
+    → list_of (get_or (standing slots by_key) at no_row).0 ≡ list_of x.0 → user_of (get_or (standing slots by_key) at no_row).0 ≡ user_of x.0 → new ≡ set slots s x → HasOrders new by_key by_list by_user × (standing new by_key ≡ set (standing slots by_key) at x)
+written_at slots new by_key by_list by_user at s x indexed there slot_is list user new_is =
+    let lt : at < length by_key = in_standing slots by_key at there.in_range in
+    let is : get_or (standing slots by_key) at no_row ≡ row_of slots s = row_at_slot slots by_key at s no_row there.in_range slot_is in
+    let key : stored_key x ≡ stored_key (row_of slots s) = found_key stored_key (stored_key x) (standing slots by_key) (get_or (standing slots by_key) at no_row) (there.found no_row) ∙ ap stored_key is in
+    written slots new by_key by_list by_user at s x indexed lt (read_at by_key at s 0 lt slot_is) key (sym list ∙ ap (λ (y : Stored). list_of y.0) is) (sym user ∙ ap (λ (y : Stored). user_of y.0) is) new_is
 
--- a row that leaves its position and another that takes it
-reinserted : {X : Type 0} (xs : List X) (i : ℕ) (x : X) → i < length xs → insert (remove xs i) i x ≡ set xs i x
-reinserted [] i x lt = absurd (omega arith)
-reinserted (y ∷ ys) zero x lt = refl
-reinserted (y ∷ ys) (suc i) x lt = ap (λ t. y ∷ t) (reinserted ys i x (omega arith))
-
+-- a row whose key has left its place, and a row with that key that is put
 pub again_absent : (rows left : List Stored) (k : List ℕ) (at : ℕ) → IsPositionOf stored_key k rows (Ok at) → left ≡ remove rows at → find_by stored_key k left ≡ None
 again_absent rows left k at there is = ap (find_by stored_key k) (is ∙ sym there.removed) ∙ find_without stored_key k k rows ∙ ap (λ (b : Bool). cond b None (find_by stored_key k rows)) (equals k)
 
-pub again_there : (rows left : List Stored) (x : Stored) (at : ℕ) → IsPositionOf stored_key (stored_key x) rows (Ok at) → left ≡ remove rows at → insert left at x ≡ set rows at x
-again_there rows left x at there is = ap (λ (rs : List Stored). insert rs at x) is ∙ reinserted rows at x there.in_range
+pub again_put : (rows left : List Stored) (x : Stored) (at : ℕ) → AreRows rows → IsPositionOf stored_key (stored_key x) rows (Ok at) → left ≡ remove rows at → put x left ≡ put x rows
+again_put rows left x at order there is =
+    ap (put x) (is ∙ sym there.removed)
+    ∙ in_order-same stored_key (put x (without stored_key (stored_key x) rows)) (put x rows) (in_order-put stored_key x (without stored_key (stored_key x) rows) (in_order-without stored_key (stored_key x) rows order)) (in_order-put stored_key x rows order) each
+  where
+    shadowed : (b c : Bool) (o : Option Stored) → (c ≡ true → b ≡ true) → cond b (Some x) (cond c None o) ≡ cond b (Some x) o
+    shadowed true c o so = refl
+    shadowed false true o so = absurd (let both : false ≡ true = so refl in cc)
+    shadowed false false o so = refl
 
-pub again_in_order : (rows left : List Stored) (x : Stored) (at : ℕ) → IsPositionOf stored_key (stored_key x) rows (Ok at) → left ≡ remove rows at → AreRows (insert left at x)
-again_in_order rows left x at there is = subst AreRows (sym (again_there rows left x at there is)) (there.written_order x refl)
+    each : (k : List ℕ) → find_by stored_key k (put x (without stored_key (stored_key x) rows)) ≡ find_by stored_key k (put x rows)
+    each k =
+        find_put stored_key k x (without stored_key (stored_key x) rows)
+        ∙ ap (λ (o : Option Stored). cond (bytes_eq k (stored_key x)) (Some x) o) (find_without stored_key k (stored_key x) rows)
+        ∙ shadowed (bytes_eq k (stored_key x)) (bytes_eq (stored_key x) k) (find_by stored_key k rows) (λ e. (bytes_eq-Decides k (stored_key x)).1 (sym ((bytes_eq-Decides (stored_key x) k).0 e)))
+        ∙ sym (find_put stored_key k x rows)
 
-pub removed_at : (slots left : List Stored) (by_key keys by_list order lists : List ℕ) (rows : List Stored) (i j s last : ℕ) → HasOrders slots by_key by_list → standing slots by_key ≡ rows → i < length rows → s ≡ get_or by_key i s
-    → order ≡ by_list → j < length order → get_or order j 0 ≡ s → Vacates slots s left → last ≡ length slots - 1 → keys ≡ map (relabelled last s) (remove by_key i) → lists ≡ map (relabelled last s) (remove by_list j)
-    → HasOrders left keys lists × (standing left keys ≡ remove rows i)
-removed_at slots left by_key keys by_list order lists rows i j s last indexed rows_are i_in slot_is order_is j_in j_is gone last_is keys_are lists_are =
-    let i_low : i < length by_key = position_in slots by_key i (subst (λ (rs : List Stored). i < length rs) (sym rows_are) i_in) in
-    let j_low : j < length by_list = subst (λ (o : List ℕ). j < length o) order_is j_in in
-    let j_reads : get_or by_list j 0 ≡ s = subst (λ (o : List ℕ). get_or o j 0 ≡ s) order_is j_is in
-    let both = vacated slots left by_key keys by_list lists i j s last indexed i_low (read_at by_key i s 0 i_low slot_is) j_low j_reads gone last_is keys_are lists_are in
-    (both.0, both.1 ∙ ap (λ (rs : List Stored). remove rs i) rows_are)
+pub removed_at : (slots left : List Stored) (by_key keys by_list lists by_user users : List ℕ) (i j k s last : ℕ) → HasOrders slots by_key by_list by_user → i < length by_key → s ≡ get_or by_key i s
+    → StandsAt by_list j s → StandsAt by_user k s → Vacates slots s left → last ≡ length slots - 1 → keys ≡ map (relabelled last s) (remove by_key i) → lists ≡ map (relabelled last s) (remove by_list j) → users ≡ map (relabelled last s) (remove by_user k)
+    → HasOrders left keys lists users × (standing left keys ≡ remove (standing slots by_key) i)
+removed_at slots left by_key keys by_list lists by_user users i j k s last indexed i_in slot_is at_list at_user gone last_is keys_are lists_are users_are =
+    let at_key : StandsAt by_key i s = record { within = i_in; is = read_at by_key i s 0 i_in slot_is } in
+    vacated slots left by_key keys by_list lists by_user users i j k s last indexed at_key at_list at_user gone last_is keys_are lists_are users_are
 
 -- an order in which the last slot was looked for, by the key of its row
-pub struck_from : (key : Stored → List ℕ) (slots seen : List Stored) (os order new : List ℕ) (k : List ℕ) (r : Result ℕ ℕ) (j s last : ℕ) → seen ≡ slots → order ≡ os → k ≡ key (row_of slots last) → InOrder key (standing slots os) → IsPositionOf key k (standing seen order) r
+pub struck_from : (key : Stored → List ℕ) (slots : List Stored) (os new : List ℕ) (k : List ℕ) (r : Result ℕ ℕ) (j s last : ℕ) → k ≡ key (row_of slots last) → InOrder key (standing slots os) → IsPositionOf key k (standing slots os) r
     → new ≡ remove (renamed r last s os) j → new ≡ map (relabelled last s) (remove os j)
-struck_from key slots seen os order new k r j s last seen_is order_is k_is sorted there new_is =
-    let here : IsPositionOf key (key (row_of slots last)) (standing slots os) r =
-    subst (λ (k : List ℕ). IsPositionOf key k (standing slots os) r) k_is (subst (λ (o : List ℕ). IsPositionOf key k (standing slots o) r) order_is (subst (λ (t : List Stored). IsPositionOf key k (standing t order) r) seen_is there)) in
+struck_from key slots os new k r j s last k_is sorted there new_is =
+    let here : IsPositionOf key (key (row_of slots last)) (standing slots os) r = subst (λ (k : List ℕ). IsPositionOf key k (standing slots os) r) k_is there in
     new_is ∙ ap (λ (o : List ℕ). remove o j) (renamed_settled key (row_of slots) os last s r sorted here) ∙ sym (map-remove (relabelled last s) os j)
+
+-- the slot at a position is among the slots, and so in another order of them
+pub held_at : (os order : List ℕ) (i s : ℕ) → AreSame os order → i < length os → s ≡ get_or os i s → list_any (eqb s) order ≡ true
+held_at os order i s same lt is = sym (same (eqb s)) ∙ among os i lt is
+  where
+    among : (os : List ℕ) (i : ℕ) → i < length os → s ≡ get_or os i s → list_any (eqb s) os ≡ true
+    among [] i lt is = absurd (omega arith)
+    among (o ∷ os) zero lt is = ap (λ (b : Bool). b || list_any (eqb s) os) ((Decides-eqb s o).1 is)
+    among (o ∷ os) (suc i) lt is = by_flag (λ b. (b || list_any (eqb s) os) ≡ true) (eqb s o) (λ _. refl) (λ _. among os i (omega arith) is)

@@ -2,7 +2,7 @@ pub mod Keys
 pub mod Held
 pub mod HeldLaws
 pub mod Sharing
-pub mod Listed
+pub mod Filed
 pub mod Slots
 pub mod Effects
 pub mod RowTexts

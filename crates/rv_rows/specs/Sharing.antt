@@ -1,6 +1,6 @@
 -- Who sees what. A user sees a list exactly where the list is there and the user owns it or a share of that list names the
 -- user. A user sees each such list with its shares and its todos, and may add, change and remove todos of it.
-use Rattle.std.specs.Prelude.{ℕ, Bool, false, List, ◌&&◌, ◌||◌}
+use Rattle.std.specs.Prelude.{ℕ, Bool, false, List, [], ◌&&◌, ◌||◌}
 use Rattle.std.specs.List.{filter, list_any}
 use Rattle.std.specs.Str.{bytes_eq}
 use Rattle.rv_rows.specs.declared.row.Row.{Row}
@@ -34,6 +34,12 @@ abbrev pub list_of : Row → List ℕ
 list_of (variants.List row) = row.id
 list_of (variants.Share row) = row.list
 list_of (variants.Todo row) = row.list
+
+-- the user whom a row names: a list its owner, a share the user that it is shared with; a todo names none
+abbrev pub user_of : Row → List ℕ
+user_of (variants.List row) = row.owner
+user_of (variants.Share row) = row.user
+user_of (variants.Todo row) = []
 
 -- the rows that the user sees, those of the lists that the user sees, in the order of their keys
 abbrev pub seen : List ℕ → List Row → List Row

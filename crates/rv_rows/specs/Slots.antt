@@ -9,8 +9,10 @@ use Rattle.std.specs.Str.{bytes_eq}
 use Rattle.rv_base.specs.Sorted.{InOrder}
 use Rattle.rv_rows.specs.declared.row.Row.TheVariants.{List as ListRow}
 use Rattle.rv_rows.specs.Held.{Stored, AreRows}
-use Rattle.rv_rows.specs.Sharing.{list_of}
-use Rattle.rv_rows.specs.Listed.{list_key}
+use Rattle.rv_pages.specs.Paging.{items}
+use Rattle.rv_rows.specs.declared.filing.Filing.{Filing}
+use Rattle.rv_rows.specs.declared.filing.Filing.TheVariants as filings
+use Rattle.rv_rows.specs.Filed.{under, filed_key}
 
 -- what stands for the row of a slot that is not there
 abbrev pub no_row : Stored
@@ -32,13 +34,30 @@ AreSlots n order = AllByRecursion (λ i. i < n) order
 abbrev pub AreSame : List ℕ → List ℕ → Type 0
 AreSame order other = (test : ℕ → Bool) → list_any test order ≡ list_any test other
 
--- two orders of the same slots: one by the keys of the rows, one by their lists and then by their keys
-pub record HasOrders (slots : List Stored) (by_key by_list : List ℕ) : Type 0 where
+-- an order of the slots that another order has, by what the rows are filed under and then by their keys
+pub record IsFiled (by : Filing) (slots : List Stored) (by_key order : List ℕ) : Type 0 where
+  pub in_slots : AreSlots (length slots) order
+  pub in_order : InOrder (filed_key by) (standing slots order)
+  pub same : AreSame by_key order
+
+-- three orders of the same slots: by the keys of the rows, by their lists, and by the users whom they name
+pub record HasOrders (slots : List Stored) (by_key by_list by_user : List ℕ) : Type 0 where
   pub key_slots : AreSlots (length slots) by_key
-  pub list_slots : AreSlots (length slots) by_list
   pub key_order : AreRows (standing slots by_key)
-  pub list_order : InOrder list_key (standing slots by_list)
-  pub same : AreSame by_key by_list
+  pub lists : IsFiled filings.List slots by_key by_list
+  pub users : IsFiled filings.User slots by_key by_user
+
+-- rows in slots, with the pages of the three orders of the slots, and the space that there is beside
+pub record Slotted : Type 0 where
+  pub slots : List Stored
+  pub by_key : List (List ℕ)
+  pub by_list : List (List ℕ)
+  pub by_user : List (List ℕ)
+  pub spare : ℕ
+
+-- the rows in the order of their keys
+abbrev pub rows_of : Slotted → List Stored
+rows_of slotted = standing slotted.slots (items slotted.by_key)
 
 -- the vector has space for so many more items
 abbrev pub HasSpare : {X Z : Type 0} → Vec X Z → ℕ → Type 0
@@ -48,9 +67,9 @@ HasSpare items more = vec_len items + more ≤ vec_capacity items
 abbrev pub by_slot : (Stored → List ℕ) → List ℕ → List Stored → ℕ → Ordering
 by_slot key k slots i = if nat_lt i (length slots) then slice_cmp nat_cmp (key (row_of slots i)) k else Less
 
--- the row in the slot is the list, or belongs to it
-abbrev pub in_list : List ℕ → List Stored → ℕ → Bool
-in_list list slots i = bytes_eq (list_of (row_of slots i).0) list
+-- the row in the slot is filed under the text
+abbrev pub is_under : Filing → List ℕ → List Stored → ℕ → Bool
+is_under by text slots i = bytes_eq (under by (row_of slots i).0) text
 
 -- the slot, under the number `to` where it had the number `from`
 abbrev pub relabelled : ℕ → ℕ → ℕ → ℕ

@@ -6,6 +6,8 @@
 #![tactic(auto)]
 
 mod call;
+mod filing;
+mod indexed;
 mod json_reading;
 mod json_writing;
 mod key;
@@ -14,6 +16,8 @@ mod positions;
 mod row;
 mod row_json;
 mod row_reading;
+mod rows_in_order;
+mod sought;
 mod tables;
 
 pub use call::{Call, Reason};
@@ -24,4 +28,5 @@ pub use lists::{Clients, Keys, Rows, Users, Visible};
 pub use row::{ListRow, Row, ShareRow, TodoRow};
 pub use row_json::row_value;
 pub use row_reading::read_row;
-pub use tables::{RowsInOrder, Tables};
+pub use rows_in_order::RowsInOrder;
+pub use tables::Tables;

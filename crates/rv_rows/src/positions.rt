@@ -1,117 +1,91 @@
 // Rows in slots, and positions in orders of slots.
-ghost use Rattle.std.specs.Prelude.{◌≡◌, ◌≤◌, ◌<◌, ◌+◌, nat_eq, ◌∷◌, ◌++◌, [], length, true, slice_index_or, slice_set, vec_len, vec_capacity};
-ghost use Rattle.std.specs.List.{list_any, filter, insert, remove};
-ghost use Rattle.std.specs.List.Sorted.{IsSearchInRange};
+ghost use Rattle.std.specs.Prelude.{◌≡◌, ◌≤◌, ◌<◌, ◌+◌, None, nat_eq, ◌∷◌, ◌++◌, [], length, true, slice_index_or, slice_set, vec_len, vec_capacity, MatchResult, Err};
+ghost use Rattle.std.specs.List.{list_any, filter, remove};
 ghost use Rattle.rv_base.specs.Sorted.{IsPositionOf, InOrder, find_by};
+ghost use Rattle.rv_pages.specs.Paging.{items, index_of, place, IsItem, IsGap};
 ghost use Rattle.rv_rows.specs.Keys.{key_text, row_text};
 ghost use Rattle.rv_rows.specs.Held.{AreRows, stored_key};
-ghost use Rattle.rv_rows.specs.Sharing.{list_of};
-ghost use Rattle.rv_rows.specs.Listed.{listed, list_key};
-ghost use Rattle.rv_rows.specs.Slots.{standing, AreSlots, by_slot, in_list, relabelled, renamed, Vacates};
+ghost use Rattle.rv_rows.specs.Filed.{filed, filed_key, under};
+ghost use Rattle.rv_rows.specs.Slots.{standing, AreSlots, is_under, relabelled, renamed, Vacates};
 
+use crate::filing::Filing;
 use crate::key::Kind;
 use crate::row::Row;
+use crate::sought::{SoughtKey, SoughtRow, SoughtText};
 use rv_base::Id;
-use std::cmp::Ordering;
-
-// How the row of the slot stands to this key. A slot that is not there stands below.
-fn compare_key(slots: &[(Row, u32)], slot: u32, kind: Kind, id: &Id) -> Ordering
-    ensures { result ≡ by_slot stored_key (key_text (record { kind = kind; id = id.now })) slots.now slot }
-{
-    if (slot as usize) < slots.len() {
-        slots[slot as usize].0.compare_key(kind, id)
-    } else {
-        Ordering::Less
-    }
-}
-
-// How the row of the slot stands to another, by the lists and within a list by the keys. A slot that is not there stands
-// below.
-fn compare_listed(slots: &[(Row, u32)], slot: u32, row: &Row) -> Ordering
-    ensures { result ≡ by_slot list_key (listed (list_of row.now) (row_text row.now)) slots.now slot }
-{
-    if (slot as usize) < slots.len() {
-        slots[slot as usize].0.compare_listed(row)
-    } else {
-        Ordering::Less
-    }
-}
+use rv_pages::{At, Pages, Walk};
 
 // Where the row of a key stands in the order of the keys, or where it would go.
 pub(crate) fn position_by_key(
     slots: &[(Row, u32)],
-    order: &[u32],
+    order: &Pages,
     kind: Kind,
     id: &Id,
-) -> Result<usize, usize>
-    requires slots { AreSlots (length slots.now) order.now }
-    requires order { AreRows (standing slots.now order.now) }
-    ensures { IsPositionOf stored_key (key_text (record { kind = kind; id = id.now })) (standing slots.now order.now) result }
+) -> Result<At, At>
+    requires slots { AreSlots (length slots.now) (items order.now.pages) }
+    requires order { AreRows (standing slots.now (items order.now.pages)) }
+    ensures position { IsPositionOf stored_key (key_text (record { kind = kind; id = id.now })) (standing slots.now (items order.now.pages)) (place order.now.pages result) }
+    ensures at { MatchResult result (IsItem order.now.pages) (IsGap order.now.pages) }
 {
-    order.binary_search_by(|slot| compare_key(slots, *slot, kind, id))
+    order.position(&SoughtKey { slots, kind, id })
 }
 
-// Where a row with the list and the key of this one stands in the order of the lists, or where it would go.
-pub(crate) fn position_by_list(
+// Where a row that is filed as this one and has its key stands in an order, or where it would go.
+pub(crate) fn position_filed(
     slots: &[(Row, u32)],
-    order: &[u32],
+    order: &Pages,
+    by: Filing,
     row: &Row,
-) -> Result<usize, usize>
-    requires slots { AreSlots (length slots.now) order.now }
-    requires order { InOrder list_key (standing slots.now order.now) }
-    ensures { IsPositionOf list_key (listed (list_of row.now) (row_text row.now)) (standing slots.now order.now) result }
+) -> Result<At, At>
+    requires slots { AreSlots (length slots.now) (items order.now.pages) }
+    requires order { InOrder (filed_key by) (standing slots.now (items order.now.pages)) }
+    ensures position { IsPositionOf (filed_key by) (filed (under by row.now) (row_text row.now)) (standing slots.now (items order.now.pages)) (place order.now.pages result) }
+    ensures at { MatchResult result (IsItem order.now.pages) (IsGap order.now.pages) }
 {
-    order.binary_search_by(|slot| compare_listed(slots, *slot, row))
+    order.position(&SoughtRow { slots, by, row })
 }
 
-// Where the row would go in the order of the lists.
-pub(crate) fn gap_by_list(slots: &[(Row, u32)], order: &[u32], row: &Row) -> usize
-    requires slots { AreSlots (length slots.now) order.now }
-    requires order { InOrder list_key (standing slots.now order.now) }
-    requires absent { find_by list_key (listed (list_of row.now) (row_text row.now)) (standing slots.now order.now) ≡ None }
-    ensures { IsPositionOf list_key (listed (list_of row.now) (row_text row.now)) (standing slots.now order.now) (Err result) }
+// Where the row would go in an order.
+pub(crate) fn gap_filed(slots: &[(Row, u32)], order: &Pages, by: Filing, row: &Row) -> At
+    requires slots { AreSlots (length slots.now) (items order.now.pages) }
+    requires order { InOrder (filed_key by) (standing slots.now (items order.now.pages)) }
+    requires absent { find_by (filed_key by) (filed (under by row.now) (row_text row.now)) (standing slots.now (items order.now.pages)) ≡ None }
+    ensures position { IsPositionOf (filed_key by) (filed (under by row.now) (row_text row.now)) (standing slots.now (items order.now.pages)) (Err (index_of order.now.pages result)) }
+    ensures gap { IsGap order.now.pages result }
 {
-    match position_by_list(slots, order, row) {
+    match position_filed(slots, order, by, row) {
         Ok(_) => unreachable!(),
         Err(at) => at,
     }
 }
 
-// Where the slot stands in the order of the lists.
-pub(crate) fn position_by_slot(slots: &[(Row, u32)], order: &[u32], slot: u32) -> usize
-    requires slots { AreSlots (length slots.now) order.now }
-    requires order { InOrder list_key (standing slots.now order.now) }
-    requires held { list_any (nat_eq slot) order.now ≡ true }
-    ensures in_range { result < length order.now }
-    ensures found { slice_index_or order.now result 0 ≡ slot }
+// Where the slot stands in an order.
+pub(crate) fn position_by_slot(slots: &[(Row, u32)], order: &Pages, by: Filing, slot: u32) -> At
+    requires slots { AreSlots (length slots.now) (items order.now.pages) }
+    requires order { InOrder (filed_key by) (standing slots.now (items order.now.pages)) }
+    requires held { list_any (nat_eq slot) (items order.now.pages) ≡ true }
+    ensures item { IsItem order.now.pages result }
+    ensures in_range { index_of order.now.pages result < length (items order.now.pages) }
+    ensures found { slice_index_or (items order.now.pages) (index_of order.now.pages result) 0 ≡ slot }
 {
-    match position_by_list(slots, order, &slots[slot as usize].0) {
+    match position_filed(slots, order, by, &slots[slot as usize].0) {
         Ok(at) => at,
         Err(_) => unreachable!(),
     }
 }
 
-// How the list of the slot's row stands to this one. A slot that is not there stands below.
-fn compare_list(slots: &[(Row, u32)], slot: u32, list: &Id) -> Ordering
-    ensures { result ≡ by_slot (λ s. list_of s.0) list.now slots.now slot }
+// The slots of the rows that are filed under a text, which stand together in the order.
+pub(crate) fn slots_under<'o>(
+    slots: &[(Row, u32)],
+    order: &'o Pages,
+    by: Filing,
+    text: &str,
+) -> Walk<'o>
+    requires slots { AreSlots (length slots.now) (items order.now.pages) }
+    requires order { InOrder (filed_key by) (standing slots.now (items order.now.pages)) }
+    ensures { result ≡ filter (is_under by text.now slots.now) (items order.now.pages) }
 {
-    if (slot as usize) < slots.len() {
-        slots[slot as usize].0.list().cmp(list)
-    } else {
-        Ordering::Less
-    }
-}
-
-// The slots of the rows of a list, which stand together in the order of the lists.
-pub(crate) fn slots_of<'o>(slots: &[(Row, u32)], order: &'o [u32], list: &Id) -> &'o [u32]
-    requires slots { AreSlots (length slots.now) order.now }
-    requires order { InOrder list_key (standing slots.now order.now) }
-    ensures { result.now ≡ filter (in_list list.now slots.now) order.now }
-{
-    let below = order.partition_point(|slot| compare_list(slots, *slot, list).is_lt());
-    let rest = &order[below..];
-    let own = rest.partition_point(|slot| compare_list(slots, *slot, list).is_le());
-    &rest[..own]
+    order.ties(&SoughtText { slots, by, text })
 }
 
 // The slot, under the number `to` where it has the number `from`.
@@ -121,30 +95,29 @@ fn relabelled(slot: u32, from: u32, to: u32) -> u32
     if slot == from { to } else { slot }
 }
 
-// Gives a slot another number in an order, at the position where it was looked for.
-fn rename(order: &mut [u32], found: Result<usize, usize>, from: u32, to: u32)
-    requires { IsSearchInRange found (length order.old) }
-    ensures { order.new ≡ renamed found from to order.old }
+// Gives a slot another number in an order, at the position where it was looked for. Each slot stands where it stood.
+fn rename(order: &mut Pages, found: Result<At, At>, from: u32, to: u32)
+    requires { MatchResult found (IsItem order.old.pages) (IsGap order.old.pages) }
+    ensures slots { items order.new.pages ≡ renamed (place order.old.pages found) from to (items order.old.pages) }
+    ensures index { (at : At) → index_of order.new.pages at ≡ index_of order.old.pages at }
+    ensures stays { (at : At) → IsItem order.old.pages at → IsItem order.new.pages at }
+    ensures spare { order.new.spare ≡ order.old.spare }
 {
     match found {
-        Ok(at) => order[at] = relabelled(order[at], from, to),
+        Ok(at) => {
+            let slot = order.get(at);
+            order.set(at, relabelled(slot, from, to));
+        }
         Err(_) => {}
     }
 }
 
 // Takes the slot at this position out of the order, and gives another slot its number, at the position where that was looked for.
-pub(crate) fn strike(
-    order: &mut Vec<u32>,
-    at: usize,
-    found: Result<usize, usize>,
-    from: u32,
-    to: u32,
-)
-    requires position { at < vec_len order.old }
-    requires found { IsSearchInRange found (length order.old.items) }
-    ensures slots { order.new.items ≡ remove (renamed found from to order.old.items) at }
-    ensures len { vec_len order.new + 1 ≡ vec_len order.old }
-    ensures capacity { vec_capacity order.new ≡ vec_capacity order.old }
+pub(crate) fn strike(order: &mut Pages, at: At, found: Result<At, At>, from: u32, to: u32)
+    requires item { IsItem order.old.pages at }
+    requires found { MatchResult found (IsItem order.old.pages) (IsGap order.old.pages) }
+    ensures slots { items order.new.pages ≡ remove (renamed (place order.old.pages found) from to (items order.old.pages)) (index_of order.old.pages at) }
+    ensures spare { order.old.spare ≤ order.new.spare }
 {
     rename(order, found, from, to);
     order.remove(at);
@@ -178,20 +151,6 @@ pub(crate) fn push(slots: &mut Vec<(Row, u32)>, row: Row, version: u32)
     ensures capacity { vec_capacity slots.old ≤ vec_capacity slots.new }
 {
     match slots.push((row, version)) {
-        Ok(()) => {}
-        Err(_) => unreachable!(),
-    }
-}
-
-// Puts a slot into an order that has space for it.
-pub(crate) fn insert(order: &mut Vec<u32>, at: usize, slot: u32)
-    requires position { at ≤ vec_len order.old }
-    requires spare { vec_len order.old < vec_capacity order.old }
-    ensures slots { order.new.items ≡ insert order.old.items at slot }
-    ensures len { vec_len order.new ≡ vec_len order.old + 1 }
-    ensures capacity { vec_capacity order.old ≤ vec_capacity order.new }
-{
-    match order.insert(at, slot) {
         Ok(()) => {}
         Err(_) => unreachable!(),
     }

@@ -1,12 +1,13 @@
-ghost use Rattle.std.specs.Prelude.{◌≡◌, IfOk};
+ghost use Rattle.std.specs.Prelude.{◌≡◌, ◌↔◌, IsTrue, IfOk};
 ghost use Rattle.std.specs.Cmp.Lexicographic.{slice_cmp};
 ghost use Rattle.std.specs.Ordering.{nat_cmp};
 ghost use Rattle.rv_rows.specs.Keys.{key_text, row_key, row_text};
-ghost use Rattle.rv_rows.specs.Sharing.{list_of, shares};
-ghost use Rattle.rv_rows.specs.Listed.{listed};
+ghost use Rattle.rv_rows.specs.Sharing.{list_of, shares, user_of};
+ghost use Rattle.rv_rows.specs.Filed.{filed, under};
 ghost use Rattle.rv_rows.specs.Effects.{sort_after, sort_in, with_fields};
 ghost use Rattle.rv_rows.specs.declared.row.Row.TheVariants.{Todo};
 
+use crate::filing::Filing;
 use crate::key::{Key, Kind, compare_keys};
 use rv_base::{Id, Memory, Num, Text, User};
 use std::alloc::Global;
@@ -111,11 +112,39 @@ impl Row {
         compare_keys(self.kind(), self.id(), kind, id)
     }
 
-    // How the row stands to another: by the lists, and within a list by the texts of the keys.
-    pub(crate) fn compare_listed(&self, other: &Row) -> Ordering
-        ensures { result ≡ slice_cmp nat_cmp (listed (list_of self.now) (row_text self.now)) (listed (list_of other.now) (row_text other.now)) }
+    // The user whom the row names; a todo names none.
+    fn user(&self) -> &str
+        ensures { result.now ≡ user_of self.now }
     {
-        match self.list().cmp(other.list()) {
+        match self {
+            Row::List(row) => row.owner.as_str(),
+            Row::Share(row) => row.user.as_str(),
+            Row::Todo(_) => "",
+        }
+    }
+
+    // What the row is filed under.
+    pub(crate) fn under(&self, by: Filing) -> &str
+        ensures { result.now ≡ under by self.now }
+    {
+        match by {
+            Filing::List => self.list().as_str(),
+            Filing::User => self.user(),
+        }
+    }
+
+    // Whether the row is filed under the same list and the same user as another.
+    pub(crate) fn is_filed_as(&self, other: &Row) -> bool
+        ensures { IsTrue result ↔ ((list_of self.now ≡ list_of other.now) × (user_of self.now ≡ user_of other.now)) }
+    {
+        self.list() == other.list() && self.user() == other.user()
+    }
+
+    // How the row stands to another: by what they are filed under, and where that is the same by the texts of the keys.
+    pub(crate) fn compare_filed(&self, by: Filing, other: &Row) -> Ordering
+        ensures { result ≡ slice_cmp nat_cmp (filed (under by self.now) (row_text self.now)) (filed (under by other.now) (row_text other.now)) }
+    {
+        match self.under(by).cmp(other.under(by)) {
             Ordering::Less => Ordering::Less,
             Ordering::Equal => self.compare_key(other.kind(), other.id()),
             Ordering::Greater => Ordering::Greater,

@@ -1,10 +1,9 @@
-use Rattle.std.proofs.Common.{ap}
+use Rattle.std.proofs.Common.{sym, ap, ◌∙◌}
+use Rattle.std.specs.Option.{is_some}
 use Rattle.rv_rows.specs.Keys.{key_text}
-use Rattle.rv_rows.specs.Held.{Held}
-use Rattle.rv_rows.proofs.RowSlots.{row_there}
+use Rattle.rv_rows.specs.Held.{Held, find}
+use Rattle.rv_rows.specs.Slots.{no_row}
 use Rattle.rv_rows.proofs.tables.Tables.remove.Goals as goal
 
 pub returns-in-Ok-clause-found : goal.returns-in-Ok-clause-found
-returns-in-Ok-clause-found c =
-    let rows = ap (λ (h : Held). h.rows) c.self.view_is in
-    row_there c.self.inside.slots.items c.deref.result.now c.self.inside.by_key.items c.deref-2.result.now c.args.self.now.rows (key_text c.args.key.now) c.in-Ok.at c.deref.ensures.value c.deref-2.ensures.value rows c.in-Ok.ensures
+returns-in-Ok-clause-found c = sym (ap (λ (h : Held). is_some (find (key_text c.args.key.now) h.rows)) (sym c.self.view_is) ∙ ap is_some (c.in-Ok.ensures.position.found no_row))

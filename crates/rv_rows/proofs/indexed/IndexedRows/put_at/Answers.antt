@@ -1,0 +1,59 @@
+use Rattle.std.proofs.Common.{◌≡◌, List, None, ap, ◌∙◌, refl, subst, sym, arith, length}
+use Rattle.std.specs.List.{insert}
+use Rattle.rv_base.specs.Sorted.{find_by, InOrder}
+use Rattle.rv_pages.specs.Paging.{items, index_of}
+use Rattle.rv_rows.specs.Keys.{row_text}
+use Rattle.rv_rows.specs.Held.{Stored, stored_key, put, AreRows}
+use Rattle.rv_rows.specs.Sharing.{list_of, user_of}
+use Rattle.rv_rows.specs.Filed.{filed_key}
+use Rattle.rv_rows.specs.declared.filing.Filing.TheVariants as filings
+use Rattle.rv_rows.specs.Slots.{standing, Slotted, rows_of}
+use Rattle.rv_rows.proofs.RowSlots.{absent_too, pushed, standing_new}
+use Rattle.rv_rows.proofs.indexed.IndexedRows.put_at.Goals as goal
+
+pub gap_filed-in_list-requires-clause-absent : goal.gap_filed-in_list-requires-clause-absent
+gap_filed-in_list-requires-clause-absent c =
+    let inside = c.self.inside in
+    let none = subst (λ (v : Slotted). find_by stored_key (row_text c.args.row) (rows_of v) ≡ None) (sym c.self.view_is) c.requires.position.absent in
+    rw c.deref.ensures.value (absent_too filings.List inside.slots.items (items inside.by_key.pages) (items inside.by_list.pages) (list_of c.args.row) (row_text c.args.row) c.self.invariant.0.key_order c.self.invariant.0.lists none)
+
+pub gap_filed-of_user-requires-clause-absent : goal.gap_filed-of_user-requires-clause-absent
+gap_filed-of_user-requires-clause-absent c =
+    let inside = c.self.inside in
+    let none = subst (λ (v : Slotted). find_by stored_key (row_text c.args.row) (rows_of v) ≡ None) (sym c.self.view_is) c.requires.position.absent in
+    rw c.deref-2.ensures.value (absent_too filings.User inside.slots.items (items inside.by_key.pages) (items inside.by_user.pages) (user_of c.args.row) (row_text c.args.row) c.self.invariant.0.key_order c.self.invariant.0.users none)
+
+pub invariant_of-self : goal.invariant_of-self
+invariant_of-self c =
+    let inside = c.self.inside in
+    let x : Stored = (c.args.row, c.args.version) in
+    let room = ap (λ (v : Slotted). v.spare) c.self.view_is in
+    let slots = inside.slots.items in
+    let i = index_of inside.by_key.pages c.args.at in
+    let j = index_of inside.by_list.pages c.gap_filed-in_list.result in
+    let k = index_of inside.by_user.pages c.gap_filed-of_user.result in
+    let last : c.len-slot.result ≡ length slots = omega (arith, inside.slots.ok.0) in
+    let sorted : AreRows (insert (standing slots (items inside.by_key.pages)) i x) = subst (λ (v : Slotted). AreRows (insert (rows_of v) (index_of v.by_key c.args.at) x)) (sym c.self.view_is) (c.requires.position.inserted_order x refl) in
+    let listed : InOrder (filed_key filings.List) (insert (standing slots (items inside.by_list.pages)) j x) =
+    subst (λ (t : List Stored). InOrder (filed_key filings.List) (insert (standing t (items inside.by_list.pages)) j x)) c.deref.ensures.value (c.gap_filed-in_list.ensures.position.inserted_order x refl) in
+    let named : InOrder (filed_key filings.User) (insert (standing slots (items inside.by_user.pages)) k x) =
+    subst (λ (t : List Stored). InOrder (filed_key filings.User) (insert (standing t (items inside.by_user.pages)) k x)) c.deref-2.ensures.value (c.gap_filed-of_user.ensures.position.inserted_order x refl) in (
+      pushed slots c.push.new.slots.items (items inside.by_key.pages) (items c.insert.new.self.pages) (items inside.by_list.pages) (items c.insert-2.new.self.pages) (items inside.by_user.pages) (items c.insert-3.new.self.pages) x i j k c.len-slot.result
+          c.self.invariant.0 sorted listed named c.push.ensures.rows last c.insert.ensures.items c.insert-2.ensures.items c.insert-3.ensures.items,
+      omega arith,
+      omega arith,
+      omega arith,
+      omega arith,
+      omega arith,
+    )
+
+pub returns-clause-rows : goal.returns-clause-rows
+returns-clause-rows c =
+    let inside = c.self.inside in
+    let x : Stored = (c.args.row, c.args.version) in
+    let slots = inside.slots.items in
+    let i = index_of inside.by_key.pages c.args.at in
+    let last : c.len-slot.result ≡ length slots = omega (arith, inside.slots.ok.0) in
+    let puts : put x (standing slots (items inside.by_key.pages)) ≡ insert (standing slots (items inside.by_key.pages)) i x = subst (λ (v : Slotted). put x (rows_of v) ≡ insert (rows_of v) (index_of v.by_key c.args.at) x) (sym c.self.view_is) (c.requires.position.inserted x refl) in
+    rw (c.push.ensures.rows, c.insert.ensures.items, last)
+    (standing_new slots x (items inside.by_key.pages) i c.self.invariant.0.key_slots ∙ sym puts ∙ ap (λ (v : Slotted). put x (rows_of v)) c.self.view_is)

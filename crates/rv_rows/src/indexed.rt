@@ -1,0 +1,227 @@
+ghost use Rattle.std.specs.Prelude.{◌≡◌, ◌≤◌, ◌<◌, ◌+◌, [], length, OnOk, MatchResult, Ok, Err, None, slice_index_or, slice_set};
+ghost use Rattle.std.specs.List.{filter, insert, remove as removed};
+ghost use Rattle.std.specs.Str.{bytes_eq};
+ghost use Rattle.rv_base.specs.Sorted.{IsPositionOf};
+ghost use Rattle.rv_pages.specs.Paging.{index_of, place, IsItem, IsGap};
+ghost use Rattle.rv_rows.specs.Keys.{key_text, row_text};
+ghost use Rattle.rv_rows.specs.Held.{find, put, AreRows, stored_key};
+ghost use Rattle.rv_rows.specs.Sharing.{list_of, user_of};
+ghost use Rattle.rv_rows.specs.Filed.{under};
+ghost use Rattle.rv_rows.specs.Slots.{rows_of, no_row};
+
+use crate::filing::Filing;
+use crate::key::Kind;
+use crate::positions::{
+    gap_filed, position_by_key, position_by_slot, position_filed, push, rewrite, slots_under,
+    strike, vacate,
+};
+use crate::row::Row;
+use crate::rows_in_order::RowsInOrder;
+use rv_base::{Id, Memory};
+use rv_pages::{At, Pages};
+use std::alloc::Global;
+use std::marker::Model;
+
+// Rows with their versions, found by their keys, by their lists and by the users whom they name.
+#[derive(Debug, Drop)]
+pub(crate) struct IndexedRows {
+    // the rows, each in a slot of its own, in no order
+    slots: Vec<(Row, u32)>,
+    // the slots in the order of their rows' keys
+    by_key: Pages,
+    // the slots in the order of their rows' lists, and within a list in that of their keys
+    by_list: Pages,
+    // the slots in the order of the users whom their rows name, and of one user in that of their keys
+    by_user: Pages,
+    // the slots and each of the three orders have space for so many more
+    spare: usize,
+}
+
+impl Model for IndexedRows {
+    ghost use Rattle.std.specs.Prelude.{◌≤◌, ◌<◌, ◌+◌, ◌^◌, vec_len};
+    ghost use Rattle.rv_pages.specs.Paging.{items};
+    ghost use Rattle.rv_rows.specs.Slots.{Slotted, HasOrders, HasSpare};
+
+    ghost Value = { Slotted };
+
+    ghost view = { λ t. record { slots = t.slots.items; by_key = t.by_key.pages; by_list = t.by_list.pages; by_user = t.by_user.pages; spare = t.spare } };
+
+    ghost invariant = { λ t. HasOrders t.slots.items (items t.by_key.pages) (items t.by_list.pages) (items t.by_user.pages) × HasSpare t.slots t.spare × (t.spare ≤ t.by_key.spare) × (t.spare ≤ t.by_list.spare) × (t.spare ≤ t.by_user.spare) × (vec_len t.slots + t.spare < 2 ^ 32) };
+}
+
+impl IndexedRows {
+    // No row.
+    pub(crate) fn new(alloc: Global) -> IndexedRows
+        ensures { rows_of result ≡ [] }
+    {
+        IndexedRows {
+            slots: Vec::new(alloc),
+            by_key: Pages::new(alloc),
+            by_list: Pages::new(alloc),
+            by_user: Pages::new(alloc),
+            spare: 0,
+        }
+    }
+
+    // Makes space for so many more rows.
+    pub(crate) fn reserve(&mut self, more: usize) -> Result<(), Memory>
+        ensures rows { rows_of self.new ≡ rows_of self.old }
+        ensures ok { OnOk result (more ≤ self.new.spare) }
+        ensures spare { self.old.spare ≤ self.new.spare }
+    {
+        if more <= self.spare {
+            return Ok(());
+        }
+        // a slot's number is a `u32`
+        if more > u32::MAX as usize - self.slots.len() {
+            return Err(Memory);
+        }
+        self.slots.reserve(more)?;
+        self.by_key.reserve(more)?;
+        self.by_list.reserve(more)?;
+        self.by_user.reserve(more)?;
+        self.spare = more;
+        Ok(())
+    }
+
+    // Where the row of a key stands in the order of the keys, or where it would go.
+    pub(crate) fn position(&self, kind: Kind, id: &Id) -> Result<At, At>
+        ensures position { IsPositionOf stored_key (key_text (record { kind = kind; id = id.now })) (rows_of self.now) (place self.now.by_key result) }
+        ensures at { MatchResult result (IsItem self.now.by_key) (IsGap self.now.by_key) }
+        ensures order { AreRows (rows_of self.now) }
+    {
+        position_by_key(&self.slots, &self.by_key, kind, id)
+    }
+
+    // The row that stands there, with its version.
+    pub(crate) fn row_at(&self, at: At) -> (&Row, u32)
+        requires { IsItem self.now.by_key at }
+        ensures row { (result.0.now, result.1) ≡ slice_index_or (rows_of self.now) (index_of self.now.by_key at) no_row }
+        ensures order { AreRows (rows_of self.now) }
+    {
+        let stored = &self.slots[self.by_key.get(at) as usize];
+        (&stored.0, stored.1)
+    }
+
+    // Writes a row, in the place of the one that has its key. It can't fail, and takes no memory.
+    pub(crate) fn put(&mut self, row: Row, version: u32)
+        requires { 1 ≤ self.old.spare }
+        ensures rows { rows_of self.new ≡ put (row, version) (rows_of self.old) }
+        ensures spare { self.old.spare ≤ self.new.spare + 1 }
+    {
+        match self.position(row.kind(), row.id()) {
+            Ok(at) => self.write_at(at, row, version),
+            Err(at) => self.put_at(at, row, version),
+        }
+    }
+
+    // Writes a row in the place of the one that has its key, which stands there.
+    fn write_at(&mut self, at: At, row: Row, version: u32)
+        requires spare { 1 ≤ self.old.spare }
+        requires item { IsItem self.old.by_key at }
+        requires position { IsPositionOf stored_key (row_text row) (rows_of self.old) (Ok (index_of self.old.by_key at)) }
+        ensures rows { rows_of self.new ≡ put (row, version) (rows_of self.old) }
+        ensures spare { self.old.spare ≤ self.new.spare + 1 }
+    {
+        if self.row_at(at).0.is_filed_as(&row) {
+            self.rewrite_at(at, row, version);
+        } else {
+            self.remove_at(at);
+            self.put_absent(row, version);
+        }
+    }
+
+    // Writes a row in the place of one with its key that is filed as it is.
+    fn rewrite_at(&mut self, at: At, row: Row, version: u32)
+        requires item { IsItem self.old.by_key at }
+        requires position { IsPositionOf stored_key (row_text row) (rows_of self.old) (Ok (index_of self.old.by_key at)) }
+        requires list { list_of (slice_index_or (rows_of self.old) (index_of self.old.by_key at) no_row).0 ≡ list_of row }
+        requires user { user_of (slice_index_or (rows_of self.old) (index_of self.old.by_key at) no_row).0 ≡ user_of row }
+        ensures rows { rows_of self.new ≡ slice_set (rows_of self.old) (index_of self.old.by_key at) (row, version) }
+        ensures spare { self.new.spare ≡ self.old.spare }
+    {
+        let slot = self.by_key.get(at);
+        rewrite(&mut self.slots, slot, row, version);
+    }
+
+    // Puts a row whose key no row has.
+    fn put_absent(&mut self, row: Row, version: u32)
+        requires spare { 1 ≤ self.old.spare }
+        requires absent { find (row_text row) (rows_of self.old) ≡ None }
+        ensures rows { rows_of self.new ≡ put (row, version) (rows_of self.old) }
+        ensures spare { self.old.spare ≤ self.new.spare + 1 }
+    {
+        match self.position(row.kind(), row.id()) {
+            Ok(_) => unreachable!(),
+            Err(at) => self.put_at(at, row, version),
+        }
+    }
+
+    // Puts a row whose key no row has there, where it goes in the order of the keys.
+    fn put_at(&mut self, at: At, row: Row, version: u32)
+        requires spare { 1 ≤ self.old.spare }
+        requires gap { IsGap self.old.by_key at }
+        requires position { IsPositionOf stored_key (row_text row) (rows_of self.old) (Err (index_of self.old.by_key at)) }
+        ensures rows { rows_of self.new ≡ put (row, version) (rows_of self.old) }
+        ensures spare { self.old.spare ≤ self.new.spare + 1 }
+    {
+        let slot = self.slots.len() as u32;
+        let in_list = gap_filed(&self.slots, &self.by_list, Filing::List, &row);
+        let of_user = gap_filed(&self.slots, &self.by_user, Filing::User, &row);
+        push(&mut self.slots, row, version);
+        self.by_key.insert(at, slot);
+        self.by_list.insert(in_list, slot);
+        self.by_user.insert(of_user, slot);
+        self.spare -= 1;
+    }
+
+    // Removes the row that stands there. The row of the last slot moves to the slot that it leaves.
+    pub(crate) fn remove_at(&mut self, at: At)
+        requires { IsItem self.old.by_key at }
+        ensures rows { rows_of self.new ≡ removed (rows_of self.old) (index_of self.old.by_key at) }
+        ensures spare { self.new.spare ≡ self.old.spare }
+    {
+        let slot = self.by_key.get(at);
+        let in_list = position_by_slot(&self.slots, &self.by_list, Filing::List, slot);
+        let of_user = position_by_slot(&self.slots, &self.by_user, Filing::User, slot);
+        let last = (self.slots.len() - 1) as u32;
+        let moved = &self.slots[last as usize].0;
+        let moved_by_key = position_by_key(&self.slots, &self.by_key, moved.kind(), moved.id());
+        let moved_by_list = position_filed(&self.slots, &self.by_list, Filing::List, moved);
+        let moved_by_user = position_filed(&self.slots, &self.by_user, Filing::User, moved);
+        strike(&mut self.by_key, at, moved_by_key, last, slot);
+        strike(&mut self.by_list, in_list, moved_by_list, last, slot);
+        strike(&mut self.by_user, of_user, moved_by_user, last, slot);
+        vacate(&mut self.slots, slot);
+    }
+
+    // The rows in the order of their keys.
+    pub(crate) fn iter(&self) -> RowsInOrder<'_>
+        ensures rows { result ≡ rows_of self.now }
+        ensures order { AreRows (rows_of self.now) }
+    {
+        RowsInOrder::new(&self.slots, self.by_key.iter())
+    }
+
+    // The rows that are filed under a text by their lists, in the order of their keys.
+    pub(crate) fn of_list(&self, list: &str) -> RowsInOrder<'_>
+        ensures rows { result ≡ filter (λ s. bytes_eq (list_of s.0) list.now) (rows_of self.now) }
+        ensures order { AreRows (rows_of self.now) }
+    {
+        RowsInOrder::new(
+            &self.slots,
+            slots_under(&self.slots, &self.by_list, Filing::List, list),
+        )
+    }
+
+    // The rows that are filed under a text by the users whom they name, in the order of their keys.
+    pub(crate) fn of_user(&self, user: &str) -> RowsInOrder<'_>
+        ensures rows { result ≡ filter (λ s. bytes_eq (user_of s.0) user.now) (rows_of self.now) }
+        ensures order { AreRows (rows_of self.now) }
+    {
+        RowsInOrder::new(
+            &self.slots,
+            slots_under(&self.slots, &self.by_user, Filing::User, user),
+        )
+    }
+}
