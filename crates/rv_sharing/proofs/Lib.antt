@@ -3,4 +3,4 @@ pub mod TextLaws
 pub mod OpenedLaws
 pub mod VisibleLaws
 pub mod ViewerLaws
-pub mod Matching
+pub mod GatheredLaws

@@ -1,13 +1,13 @@
 -- Laws of the lists that a user sees, collected row by row.
 use Rattle.std.proofs.Common.{◌≡◌, ℕ, Bool, true, false, cond, List, [], ◌∷◌, Option, Some, None, refl, ap, ◌∙◌, subst, ◌||◌, ◌&&◌}
-use Rattle.std.specs.List.{list_any}
+use Rattle.std.specs.List.{filter, list_any}
 use Rattle.std.specs.Option.{option_map_or}
 use Rattle.std.specs.Str.{bytes_eq}
 use Rattle.std.proofs.lemmas.Slice.Eq.{bytes_eq-Decides}
 use Rattle.rv_rows.specs.declared.row.Row.{Row}
 use Rattle.rv_rows.specs.declared.row.Row.TheVariants as variants
 use Rattle.rv_rows.specs.Held.{Stored, rows_in}
-use Rattle.rv_rows.specs.Sharing.{is_list, owns, shares, sees}
+use Rattle.rv_rows.specs.Sharing.{is_list, owns, shares, sees, user_of}
 use Rattle.rv_sharing.proofs.OwnerLaws.{same_either_way}
 use Rattle.rv_sharing.specs.Texts.{AreInOrder, AddsText}
 use Rattle.rv_sharing.proofs.TextLaws.{or_moved, or_false}
@@ -78,8 +78,23 @@ pub record Opening (user : List ℕ) (rows : List Row) (lists : List (List ℕ))
   pub order : AreInOrder lists
   pub each : (list : List ℕ) → (list_any (bytes_eq list) lists || list_any (opens user rows list) (rows_in rest)) ≡ sees user list rows
 
-pub opening_begins : (user : List ℕ) (stored rest : List Stored) (lists : List (List ℕ)) → lists ≡ [] → rest ≡ stored → Opening user (rows_in stored) lists rest
-opening_begins user stored rest lists none all = rw (none, all) (record { order = tt; each = λ list. opens-sees user list (rows_in stored) })
+-- a row that names another lets the user see nothing
+names_another : (user : List ℕ) (rows : List Row) (list : List ℕ) (row : Row) → bytes_eq (user_of row) user ≡ false → opens user rows list row ≡ false
+unfolding opens
+names_another user rows list (variants.List row) e = rw e refl
+names_another user rows list (variants.Share row) e = rw e refl
+names_another user rows list (variants.Todo row) e = refl
+
+opens-named : (user : List ℕ) (rows : List Row) (list : List ℕ) (stored : List Stored) → list_any (opens user rows list) (rows_in (filter (λ s. bytes_eq (user_of s.0) user) stored)) ≡ list_any (opens user rows list) (rows_in stored)
+opens-named user rows list [] = refl
+opens-named user rows list (s ∷ stored) =
+    elim (bytes_eq (user_of s.0) user) as (λ b. bytes_eq (user_of s.0) user ≡ b → list_any (opens user rows list) (rows_in (cond b (s ∷ filter (λ s. bytes_eq (user_of s.0) user) stored) (filter (λ s. bytes_eq (user_of s.0) user) stored))) ≡ (opens user rows list s.0 || list_any (opens user rows list) (rows_in stored))) [
+      | true ↦ λ e. ap (λ (b : Bool). opens user rows list s.0 || b) (opens-named user rows list stored)
+      | false ↦ λ e. rw (names_another user rows list s.0 e) (opens-named user rows list stored)
+    ] refl
+
+pub opening_begins : (user : List ℕ) (stored rest : List Stored) (lists : List (List ℕ)) → lists ≡ [] → rest ≡ filter (λ s. bytes_eq (user_of s.0) user) stored → Opening user (rows_in stored) lists rest
+opening_begins user stored rest lists none all = rw (none, all) (record { order = tt; each = λ list. opens-named user (rows_in stored) list stored ∙ opens-sees user list (rows_in stored) })
 
 pub opening_more : (user : List ℕ) (rows : List Row) (rest next : List Stored) (s : Stored) (id : List ℕ) (before after : List (List ℕ)) → rest ≡ s ∷ next → Some id ≡ opened user rows s.0 → AddsText id before after
     → Opening user rows before rest → Opening user rows after next

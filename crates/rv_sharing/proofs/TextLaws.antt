@@ -4,11 +4,10 @@ use Rattle.std.specs.declared.cmp.Ordering.TheVariants.{Less, Equal, Greater}
 use Rattle.std.specs.Ordering.{nat_cmp, match_ordering}
 use Rattle.std.specs.Cmp.Lexicographic.{slice_cmp}
 use Rattle.std.specs.List.{list_any}
-use Rattle.std.specs.Option.{is_some}
 use Rattle.std.specs.Str.{bytes_eq}
 use Rattle.std.proofs.lemmas.Slice.Eq.{bytes_eq-Decides}
 use Rattle.rv_base.specs.Sorted.{find_by, put_by, IsPositionOf}
-use Rattle.rv_base.specs.Positions.{found-any, same_from, in_order-put}
+use Rattle.rv_base.specs.Positions.{same_from, in_order-put}
 use Rattle.rv_sharing.specs.Texts.{AreInOrder, AddsText}
 
 abbrev pub text_key : List ℕ → List ℕ
@@ -50,17 +49,11 @@ module _ (p : List ℕ → Bool) where
         | false ↦ λ e f. ap (λ (b : Bool). p y || b) (any-kept x z ys f) ∙ or_swap (p y) (p x) (list_any p ys)
       ] refl h
 
--- a text that is found is among the texts, and is kept
-pub held : (k : List ℕ) (xs : List (List ℕ)) (i : ℕ) → IsPositionOf text_key k xs (Ok i) → true ≡ list_any (bytes_eq k) xs
-held k xs i s = sym (ap is_some (s.found k)) ∙ found-any text_key k xs
-
+-- a text that is found is kept
 pub kept : (k : List ℕ) (xs ys : List (List ℕ)) (i : ℕ) → ys ≡ xs → AreInOrder xs → IsPositionOf text_key k ys (Ok i) → AddsText k xs xs
 kept k xs ys i same order s = record { order = order; each = λ p. any-kept p k _ xs (subst (λ (zs : List (List ℕ)). find_by text_key k zs ≡ Some (get_or ys i k)) same (s.found k)) }
 
--- one that is not found is not among them, and comes to its place
-pub not_held : (k : List ℕ) (xs : List (List ℕ)) (i : ℕ) → IsPositionOf text_key k xs (Err i) → false ≡ list_any (bytes_eq k) xs
-not_held k xs i s = sym (ap is_some s.absent) ∙ found-any text_key k xs
-
+-- one that is not found comes to its place
 pub added : (k : List ℕ) (xs ys zs : List (List ℕ)) (i : ℕ) → ys ≡ xs → AreInOrder xs → IsPositionOf text_key k ys (Err i) → zs ≡ take i xs ++ k ∷ drop i xs → AddsText k xs zs
 added k xs ys zs i same order s is =
     subst (λ (vs : List (List ℕ)). AddsText k xs vs) (ap (λ (ws : List (List ℕ)). put_by text_key k ws) (sym same) ∙ s.inserted k refl ∙ ap (λ (ws : List (List ℕ)). take i ws ++ k ∷ drop i ws) same ∙ sym is)

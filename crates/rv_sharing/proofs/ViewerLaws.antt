@@ -1,18 +1,21 @@
 -- Laws of the users who see a list, collected row by row and list by list.
-use Rattle.std.proofs.Common.{◌≡◌, ℕ, ◌+◌, ◌<◌, ◌≤◌, Bool, true, false, cond, List, [], ◌∷◌, take, get_or, length, Option, Some, None, Result, Ok, Err, refl, sym, ap, ◌∙◌, ◌||◌, ◌&&◌}
+use Rattle.std.proofs.Common.{◌≡◌, ℕ, ◌+◌, ◌<◌, ◌≤◌, Bool, true, false, cond, List, [], ◌∷◌, take, get_or, length, Option, Some, None, Result, Ok, Err, refl, sym, subst, ap, ◌∙◌, ◌||◌, ◌&&◌}
 use Rattle.std.specs.Prelude.{IfOk}
+use Rattle.std.specs.declared.cmp.Ordering.TheVariants.{Less, Greater}
 use Rattle.std.specs.List.{filter, list_any}
 use Rattle.std.specs.Option.{option_map, option_map_or}
 use Rattle.std.specs.Str.{bytes_eq}
 use Rattle.std.proofs.lemmas.List.{take_all}
 use Rattle.std.proofs.lemmas.List.Folds.{list_any_more}
+use Rattle.rv_base.specs.Positions.{Above, in_order-filter}
 use Rattle.rv_base.specs.Arranged.{find-map}
 use Rattle.rv_rows.specs.declared.key.Key.{Key}
 use Rattle.rv_rows.specs.declared.row.Row.{Row}
+use Rattle.rv_rows.specs.declared.row.TodoRow.{TodoRow}
 use Rattle.rv_rows.specs.declared.row.Row.TheVariants as variants
 use Rattle.rv_rows.specs.Keys.{key_text, row_text}
-use Rattle.rv_rows.specs.Held.{Stored, rows_in, find, AreRows}
-use Rattle.rv_rows.specs.Sharing.{shares, sees, list_of}
+use Rattle.rv_rows.specs.Held.{Stored, rows_in, find, stored_key, AreRows}
+use Rattle.rv_rows.specs.Sharing.{shares, sees, list_of, user_of}
 use Rattle.rv_sharing.specs.Owners.{owner_of}
 use Rattle.rv_sharing.proofs.OwnerLaws.{same_either_way, sees-owned, sees-absent}
 use Rattle.rv_sharing.specs.Texts.{AreInOrder, AddsText}
@@ -24,6 +27,7 @@ use Rattle.rv_sharing.specs.Affected.{AreAffected, AddsViewers}
 -- the users so far, with those whom the rest of the rows names
 pub record Adding (list : List ℕ) (rows : List Row) (before users : List (List ℕ)) (rest : List Stored) : Type 0 where
   pub order : AreInOrder users
+  pub rest_order : AreRows rest
   pub each : (user : List ℕ) → (list_any (bytes_eq user) users || list_any (shares user list) (rows_in rest)) ≡ (list_any (bytes_eq user) before || list_any (shares user list) rows)
 
 sharer_is : (user list : List ℕ) (row : Row) → option_map_or (bytes_eq user) (sharer list row) false ≡ shares user list row
@@ -38,7 +42,7 @@ not_sharing user list (variants.List row) e = refl
 not_sharing user list (variants.Share row) e = ap (λ (b : Bool). b && bytes_eq row.user user) e
 not_sharing user list (variants.Todo row) e = refl
 
-pub shares-own : (user list : List ℕ) (stored : List Stored) → list_any (shares user list) (rows_in (filter (λ s. bytes_eq (list_of s.0) list) stored)) ≡ list_any (shares user list) (rows_in stored)
+shares-own : (user list : List ℕ) (stored : List Stored) → list_any (shares user list) (rows_in (filter (λ s. bytes_eq (list_of s.0) list) stored)) ≡ list_any (shares user list) (rows_in stored)
 shares-own user list [] = refl
 shares-own user list (s ∷ stored) =
     elim (bytes_eq (list_of s.0) list) as (λ b. bytes_eq (list_of s.0) list ≡ b → list_any (shares user list) (rows_in (cond b (s ∷ filter (λ s. bytes_eq (list_of s.0) list) stored) (filter (λ s. bytes_eq (list_of s.0) list) stored))) ≡ (shares user list s.0 || list_any (shares user list) (rows_in stored))) [
@@ -46,9 +50,34 @@ shares-own user list (s ∷ stored) =
       | false ↦ λ e. shares-own user list stored ∙ ap (λ (b : Bool). b || list_any (shares user list) (rows_in stored)) (sym (not_sharing user list s.0 e))
     ] refl
 
-pub adding_begins : (list : List ℕ) (stored rest : List Stored) (before users : List (List ℕ)) → AreInOrder before → users ≡ before → rest ≡ filter (λ s. bytes_eq (list_of s.0) list) stored → Adding list (rows_in stored) before users rest
-adding_begins list stored rest before users order same own =
-    rw (same, own) (record { order = order; each = λ user. ap (λ (b : Bool). list_any (bytes_eq user) before || b) (shares-own user list stored) })
+-- and so have the rows that name the user
+not_naming : (user list : List ℕ) (row : Row) → bytes_eq (user_of row) user ≡ false → shares user list row ≡ false
+not_naming user list (variants.List row) e = refl
+not_naming user list (variants.Share row) e = rw e (neither (bytes_eq row.list list))
+  where
+    neither : (b : Bool) → (b && false) ≡ false
+    neither true = refl
+    neither false = refl
+not_naming user list (variants.Todo row) e = refl
+
+pub shares-named : (user list : List ℕ) (stored : List Stored) → list_any (shares user list) (rows_in (filter (λ s. bytes_eq (user_of s.0) user) stored)) ≡ list_any (shares user list) (rows_in stored)
+shares-named user list [] = refl
+shares-named user list (s ∷ stored) =
+    elim (bytes_eq (user_of s.0) user) as (λ b. bytes_eq (user_of s.0) user ≡ b → list_any (shares user list) (rows_in (cond b (s ∷ filter (λ s. bytes_eq (user_of s.0) user) stored) (filter (λ s. bytes_eq (user_of s.0) user) stored))) ≡ (shares user list s.0 || list_any (shares user list) (rows_in stored))) [
+      | true ↦ λ e. ap (λ (b : Bool). shares user list s.0 || b) (shares-named user list stored)
+      | false ↦ λ e. shares-named user list stored ∙ ap (λ (b : Bool). b || list_any (shares user list) (rows_in stored)) (sym (not_naming user list s.0 e))
+    ] refl
+
+-- after a todo come no shares, since rows stand in the order of their keys
+no_shares : (user list : List ℕ) (todo : TodoRow) (rest : List Stored) → Above stored_key (row_text (variants.Todo todo)) rest → list_any (shares user list) (rows_in rest) ≡ false
+no_shares user list todo [] all = refl
+no_shares user list todo ((variants.List row, version) ∷ rest) all = absurd (let below : Less ≡ Greater = sym all.0 in cc)
+no_shares user list todo ((variants.Share row, version) ∷ rest) all = absurd (let below : Less ≡ Greater = sym all.0 in cc)
+no_shares user list todo ((variants.Todo row, version) ∷ rest) all = no_shares user list todo rest all.1
+
+pub adding_begins : (list : List ℕ) (stored rest : List Stored) (before users : List (List ℕ)) → AreRows stored → AreInOrder before → users ≡ before → rest ≡ filter (λ s. bytes_eq (list_of s.0) list) stored → Adding list (rows_in stored) before users rest
+adding_begins list stored rest before users rows order same own =
+    rw (same, own) (record { order = order; rest_order = in_order-filter stored_key (λ s. bytes_eq (list_of s.0) list) stored rows; each = λ user. ap (λ (b : Bool). list_any (bytes_eq user) before || b) (shares-own user list stored) })
 
 pub adding_more : (list : List ℕ) (rows : List Row) (rest next : List Stored) (s : Stored) (user : List ℕ) (before users after : List (List ℕ)) → rest ≡ s ∷ next → Some user ≡ sharer list s.0 → AddsText user users after
     → Adding list rows before users rest → Adding list rows before after next
@@ -56,6 +85,7 @@ adding_more list rows rest next s user before users after first is adds adding =
     let adding = rw first at adding in
     record {
       order = adds.order;
+      rest_order = adding.rest_order.1;
       each = λ u.
           ap (λ (b : Bool). b || list_any (shares u list) (rows_in next)) (adds.each (bytes_eq u))
           ∙ or_moved (bytes_eq u user) (list_any (bytes_eq u) users) (list_any (shares u list) (rows_in next))
@@ -69,6 +99,7 @@ adding_same list rows rest next s before users first is adding =
     let adding = rw first at adding in
     record {
       order = adding.order;
+      rest_order = adding.rest_order.1;
       each = λ u.
           ap (λ (b : Bool). list_any (bytes_eq u) users || (b || list_any (shares u list) (rows_in next))) (ap (λ (o : Option (List ℕ)). option_map_or (bytes_eq u) o false) is ∙ sharer_is u list s.0)
           ∙ adding.each u;
@@ -78,6 +109,17 @@ pub adding_ends : (list : List ℕ) (rows : List Row) (before users after : List
 adding_ends list rows before users after rest none same adding =
     let adding = rw none at adding in
     rw same (record { order = adding.order; each = λ u. or_false (list_any (bytes_eq u) users) ∙ adding.each u })
+
+pub adding_stops : (list : List ℕ) (rows : List Row) (before users after : List (List ℕ)) (rest next : List Stored) (s : Stored) (todo : TodoRow) → rest ≡ s ∷ next → s.0 ≡ variants.Todo todo → after ≡ users → Adding list rows before users rest → AddsSharers rows list before after
+adding_stops list rows before users after rest next s todo first is same adding =
+    let adding = rw first at adding in
+    rw same (record {
+      order = adding.order;
+      each = λ u. or_false (list_any (bytes_eq u) users) ∙ ap (λ (b : Bool). list_any (bytes_eq u) users || b) (sym (nothing u s is adding.rest_order)) ∙ adding.each u;
+    })
+  where
+    nothing : (u : List ℕ) (s : Stored) → s.0 ≡ variants.Todo todo → AreRows (s ∷ next) → (shares u list s.0 || list_any (shares u list) (rows_in next)) ≡ false
+    nothing u s is order = rw is (no_shares u list todo next (subst (λ (row : Row). Above stored_key (row_text row) next) is order.0))
 
 -- the owner and the shares' users are those who see the list
 pub viewers_owned : (list owner : List ℕ) (stored : List Stored) (before owned after : List (List ℕ)) → AreRows stored → Some owner ≡ owner_of list (rows_in stored) → AddsText owner before owned → AddsSharers (rows_in stored) list owned after

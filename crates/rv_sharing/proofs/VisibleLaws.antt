@@ -1,7 +1,9 @@
 -- Laws of the keys that a user sees, collected row by row.
-use Rattle.std.proofs.Common.{◌≡◌, ℕ, Bool, true, false, cond, List, [], ◌∷◌, ◌++◌, map, refl, sym, ap, ◌∙◌, append_assoc, append-nil}
+use Rattle.std.proofs.Common.{◌≡◌, ◌↔◌, ℕ, zero, suc, ◌+◌, ◌<◌, ◌≤◌, List, [], ◌∷◌, ◌++◌, map, length, get_or, take, drop, refl, sym, ap, ◌∙◌, arith, add-one}
 use Rattle.std.specs.List.{filter, list_any}
 use Rattle.std.specs.Str.{bytes_eq}
+use Rattle.std.specs.Borrow.{Bor}
+use Rattle.std.proofs.lemmas.List.{take_more, take_all}
 use Rattle.rv_base.specs.Sorted.{InOrder}
 use Rattle.rv_base.specs.Positions.{Above, in_order-filter}
 use Rattle.rv_rows.specs.declared.key.Key.{Key}
@@ -10,54 +12,59 @@ use Rattle.rv_rows.specs.Keys.{key_text, row_key}
 use Rattle.rv_rows.specs.Held.{Stored, AreRows, stored_key, rows_in}
 use Rattle.rv_rows.specs.Sharing.{list_of, sees}
 use Rattle.rv_sharing.specs.Opened.{AreOpened}
-use Rattle.rv_sharing.specs.Visible.{visible}
+use Rattle.rv_sharing.specs.Gathered.{rows_at, keys_at}
+use Rattle.rv_sharing.specs.Visible.{visible, BeginsOtherwise}
 
--- the keys that the user sees among the rest of the rows
-abbrev pub shown : List ℕ → List Row → List Stored → List (Key × ℕ)
-shown user rows rest = map (λ s. (row_key s.0, s.1)) (filter (λ s. sees user (list_of s.0) rows) rest)
+-- rows behind references
+abbrev Item : Type 0
+Item = Bor Row × ℕ
 
--- the keys so far, with those of the rest, are all that the user sees
-pub record Showing (user : List ℕ) (stored : List Stored) (lists : List (List ℕ)) (keys : List (Key × ℕ)) (rest : List Stored) : Type 0 where
-  pub lists_are : AreOpened user (rows_in stored) lists
-  pub keys_are : keys ++ shown user (rows_in stored) rest ≡ visible user stored
+keys_at-rows : (rows : List Item) → keys_at rows ≡ map (λ (s : Stored). (row_key s.0, s.1)) (rows_at rows)
+keys_at-rows [] = refl
+keys_at-rows (x ∷ xs) = ap (λ (t : List (Key × ℕ)). (row_key x.0.now, x.1) ∷ t) (keys_at-rows xs)
 
--- among the lists that the user sees is a row's exactly where the user sees the row
-pub seen_so : (user : List ℕ) (rows : List Row) (lists : List (List ℕ)) (row : Row) → AreOpened user rows lists → sees user (list_of row) rows ≡ list_any (bytes_eq (list_of row)) lists
-seen_so user rows lists row are = sym (are.each (list_of row))
+-- the rows of the lists that a user sees are those that the user sees
+pub seen_rows : (user : List ℕ) (stored : List Stored) (held lists : List (List ℕ)) (rows : List Item) → held ≡ lists → AreOpened user (rows_in stored) lists → rows_at rows ≡ filter (λ s. list_any (bytes_eq (list_of s.0)) held) stored → keys_at rows ≡ visible user stored
+seen_rows user stored held lists rows same are is =
+    keys_at-rows rows
+    ∙ ap (map (λ (s : Stored). (row_key s.0, s.1))) (is ∙ (λ k. filter (λ s. list_any (bytes_eq (list_of s.0)) (same k)) stored) ∙ (λ k. filter (λ s. are.each (list_of s.0) k) stored))
 
--- what the look-up says of the row's list
-pub found : (b r : Bool) (l k : List ℕ) (xs ys : List (List ℕ)) → r ≡ b → r ≡ list_any (bytes_eq l) xs → l ≡ k → xs ≡ ys → b ≡ list_any (bytes_eq k) ys
-found b r l k xs ys is held same all = sym is ∙ held ∙ ap (λ (m : List ℕ). list_any (bytes_eq m) xs) same ∙ ap (λ (zs : List (List ℕ)). list_any (bytes_eq k) zs) all
+-- one more key
+keys_at-append : (rows more : List Item) → keys_at (rows ++ more) ≡ keys_at rows ++ keys_at more
+keys_at-append [] more = refl
+keys_at-append (x ∷ xs) more = ap (λ (t : List (Key × ℕ)). (row_key x.0.now, x.1) ∷ t) (keys_at-append xs more)
 
-pub showing_begins : (user : List ℕ) (stored rest : List Stored) (lists : List (List ℕ)) (keys : List (Key × ℕ)) → AreOpened user (rows_in stored) lists → keys ≡ [] → rest ≡ stored → Showing user stored lists keys rest
-showing_begins user stored rest lists keys are none all = rw (none, all) (record { lists_are = are; keys_are = refl })
+pub keys_more : (rows : List Item) (i : ℕ) (item : Item) (keys new : List (Key × ℕ)) (key : Key) → i < length rows → item ≡ get_or rows i item → key ≡ row_key item.0.now → new ≡ keys ++ (key, item.1) ∷ [] → keys ≡ keys_at (take i rows) → new ≡ keys_at (take (i + 1) rows)
+keys_more rows i item keys new key lt is key_is new_is so_far =
+    new_is ∙ (λ k. so_far k ++ (key_is k, item.1) ∷ []) ∙ sym (keys_at-append (take i rows) (item ∷ [])) ∙ ap keys_at (sym (take_more rows i item lt ∙ ap (λ (y : Item). take i rows ++ y ∷ []) (sym is)))
 
-pub showing_more : (user : List ℕ) (stored rest next : List Stored) (lists : List (List ℕ)) (keys new : List (Key × ℕ)) (row : Row) (version : ℕ) (key : Key) → rest ≡ (row, version) ∷ next
-    → true ≡ list_any (bytes_eq (list_of row)) lists → key ≡ row_key row → new ≡ keys ++ (key, version) ∷ [] → Showing user stored lists keys rest → Showing user stored lists new next
-showing_more user stored rest next lists keys new row version key first holds is pushed showing =
-    let showing = rw first at showing in
+pub keys_end : (rows : List Item) (i : ℕ) (keys : List (Key × ℕ)) → length rows ≤ i → keys ≡ keys_at (take i rows) → keys ≡ keys_at rows
+keys_end rows i keys le so_far = so_far ∙ ap keys_at (take_all i rows le)
+
+-- the rest of the keys is that of the rest of the rows exactly where all of them are those of all of the rows
+pub record Matching (rows : List Item) (keys rest : List (Key × ℕ)) (i : ℕ) : Type 0 where
+  pub exactly : (rest ≡ keys_at (drop i rows)) ↔ (keys ≡ keys_at rows)
+
+next_key : (rows : List Item) (i : ℕ) (item : Item) → i < length rows → item ≡ get_or rows i item → keys_at (drop i rows) ≡ (row_key item.0.now, item.1) ∷ keys_at (drop (i + 1) rows)
+next_key [] i item lt is = absurd (omega arith)
+next_key (x ∷ xs) zero item lt is = λ k. (row_key (sym is k).0.now, (sym is k).1) ∷ keys_at xs
+next_key (x ∷ xs) (suc i) item lt is = rw add-one (rw add-one at (next_key xs i item (omega arith) is))
+
+pub matching_begins : (rows : List Item) (keys : List (Key × ℕ)) → Matching rows keys keys 0
+matching_begins rows keys = record { exactly = ((λ is. is), (λ is. is)) }
+
+pub matching_more : (rows : List Item) (keys rest others : List (Key × ℕ)) (i : ℕ) (item : Item) → i < length rows → item ≡ get_or rows i item → rest ≡ (row_key item.0.now, item.1) ∷ others → Matching rows keys rest i → Matching rows keys others (i + 1)
+matching_more rows keys rest others i item lt is begins m =
+    let next = next_key rows i item lt is in
     record {
-      lists_are = showing.lists_are;
-      keys_are =
-          ap (λ (ks : List (Key × ℕ)). ks ++ shown user (rows_in stored) next) (pushed ∙ ap (λ (k : Key). keys ++ (k, version) ∷ []) is)
-          ∙ append_assoc keys ((row_key row, version) ∷ []) (shown user (rows_in stored) next)
-          ∙ ap (λ (b : Bool). keys ++ map (λ (s : Stored). (row_key s.0, s.1)) (cond b ((row, version) ∷ filter (λ s. sees user (list_of s.0) (rows_in stored)) next) (filter (λ s. sees user (list_of s.0) (rows_in stored)) next))) (holds ∙ sym (seen_so user (rows_in stored) lists row showing.lists_are))
-          ∙ showing.keys_are;
+      exactly = (
+        (λ same. m.exactly.0 (begins ∙ ap (λ (ks : List (Key × ℕ)). (row_key item.0.now, item.1) ∷ ks) same ∙ sym next)),
+        (λ same. let both : (row_key item.0.now, item.1) ∷ others ≡ (row_key item.0.now, item.1) ∷ keys_at (drop (i + 1) rows) = sym begins ∙ m.exactly.1 same ∙ next in cc),
+      );
     }
 
-pub showing_same : (user : List ℕ) (stored rest next : List Stored) (lists : List (List ℕ)) (keys : List (Key × ℕ)) (row : Row) (version : ℕ) → rest ≡ (row, version) ∷ next
-    → false ≡ list_any (bytes_eq (list_of row)) lists → Showing user stored lists keys rest → Showing user stored lists keys next
-showing_same user stored rest next lists keys row version first holds showing =
-    let showing = rw first at showing in
-    record {
-      lists_are = showing.lists_are;
-      keys_are =
-          ap (λ (b : Bool). keys ++ map (λ (s : Stored). (row_key s.0, s.1)) (cond b ((row, version) ∷ filter (λ s. sees user (list_of s.0) (rows_in stored)) next) (filter (λ s. sees user (list_of s.0) (rows_in stored)) next))) (holds ∙ sym (seen_so user (rows_in stored) lists row showing.lists_are))
-          ∙ showing.keys_are;
-    }
-
-pub showing_ends : (user : List ℕ) (stored rest : List Stored) (lists : List (List ℕ)) (keys : List (Key × ℕ)) → rest ≡ [] → Showing user stored lists keys rest → keys ≡ visible user stored
-showing_ends user stored rest lists keys none showing = let showing = rw none at showing in sym (append-nil keys) ∙ showing.keys_are
+pub matching_fails : (rows : List Item) (keys rest : List (Key × ℕ)) (i : ℕ) (item : Item) → i < length rows → item ≡ get_or rows i item → BeginsOtherwise (row_key item.0.now, item.1) rest → Matching rows keys rest i → ¬ (keys ≡ keys_at rows)
+matching_fails rows keys rest i item lt is otherwise m = λ same. otherwise (keys_at (drop (i + 1) rows)) (m.exactly.1 same ∙ next_key rows i item lt is)
 
 -- keys with versions, of stored rows in the order of their keys
 abbrev pair : Stored → Key × ℕ

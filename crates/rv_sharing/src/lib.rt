@@ -4,6 +4,7 @@
 //! user sees each such list, with its shares and its todos. The calls here are that rule over [`Tables`](rv_rows::Tables).
 #![tactic(auto)]
 
+mod gathering;
 mod lists;
 mod texts;
 mod viewers;

@@ -47,11 +47,11 @@ pub fn owns(tables: &Tables, user: &User, list: &Id) -> bool
     }
 }
 
-/// Whether a share of the list names the user. Takes no memory.
+/// Whether a share of the list names the user: among the rows that name the user. Takes no memory.
 pub fn has_share(tables: &Tables, user: &User, list: &Id) -> bool
     ensures { result ≡ list_any (shares user.now list.now) (rows_in tables.now.rows) }
 {
-    for (row, _version) in tables.of_list(list) {
+    for (row, _version) in tables.of_user(user) {
         if row.shares(user, list) {
             return true;
         }

@@ -1,7 +1,5 @@
 // Ids or users in the order of their bytes, each once.
 ghost use Rattle.std.specs.Prelude.{◌≡◌, OnOk};
-ghost use Rattle.std.specs.List.{list_any};
-ghost use Rattle.std.specs.Str.{bytes_eq};
 ghost use Rattle.std.specs.Cmp.Lexicographic.{slice_cmp};
 ghost use Rattle.std.specs.Ordering.{nat_cmp};
 ghost use Rattle.rv_base.specs.Sorted.{IsPositionOf};
@@ -24,20 +22,6 @@ fn position_of<const MIN: usize, const MAX: usize>(
             ensures { result ≡ slice_cmp nat_cmp other.now text.entry.now }
         { other.cmp(text) },
     )
-}
-
-// Whether the text is among the texts.
-pub(crate) fn holds<const MIN: usize, const MAX: usize>(
-    texts: &[Bounded<MIN, MAX>],
-    text: &Bounded<MIN, MAX>,
-) -> bool
-    requires { AreInOrder texts.now }
-    ensures { result ≡ list_any (bytes_eq text.now) texts.now }
-{
-    match position_of(texts, text) {
-        Ok(_) => true,
-        Err(_) => false,
-    }
 }
 
 // Puts a text in its place, where it is not there yet.

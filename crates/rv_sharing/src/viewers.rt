@@ -1,6 +1,8 @@
 // The users who see something of a table.
-ghost use Rattle.std.specs.Prelude.{◌≡◌, IfOk, option_map};
+ghost use Rattle.std.specs.Prelude.{◌≡◌, IsTrue, IfOk, option_map};
 ghost use Rattle.rv_rows.specs.Held.{rows_in};
+ghost use Rattle.rv_rows.specs.declared.row.TodoRow.{TodoRow};
+ghost use Rattle.rv_rows.specs.declared.row.Row.TheVariants.{Todo};
 ghost use Rattle.rv_sharing.specs.Texts.{AreInOrder, AddsText};
 ghost use Rattle.rv_sharing.specs.Opened.{AreListsOf};
 ghost use Rattle.rv_sharing.specs.Sharers.{sharer, AddsSharers};
@@ -37,13 +39,28 @@ fn sharer<'r>(row: &'r Row, list: &Id) -> Option<&'r User>
     }
 }
 
-/// The users and those whom a share of the list names. They stand in the order of their bytes, each once.
+// Whether the row is a todo.
+fn is_todo(row: &Row) -> bool
+    ensures { IsTrue result → (todo : TodoRow) × (row.now ≡ Todo todo) }
+{
+    match row {
+        Row::List(_) => false,
+        Row::Share(_) => false,
+        Row::Todo(_) => true,
+    }
+}
+
+/// The users and those whom a share of the list names. They stand in the order of their bytes, each once. The list's todos,
+/// which come after its shares, are not looked at.
 pub fn add_sharers(alloc: Global, users: Users, tables: &Tables, list: &Id) -> Result<Users, Memory>
     requires { AreInOrder users }
     ensures { IfOk result (AddsSharers (rows_in tables.now.rows) list.now users) }
 {
     let mut users = users.into_vec();
     for (row, _version) in tables.of_list(list) {
+        if is_todo(row) {
+            return Ok(Sequence::from_vec(users));
+        }
         if let Some(user) = sharer(row, list) {
             add(alloc, &mut users, user)?;
         }

@@ -1,13 +1,15 @@
 // What a user sees of a table.
-ghost use Rattle.std.specs.Prelude.{◌≡◌, ◌∷◌, ◌↔◌, IsTrue, IfOk, OnOk, MatchOption, option_map};
+ghost use Rattle.std.specs.Prelude.{◌≡◌, ◌∷◌, ◌↔◌, IsTrue, IfOk, MatchOption, option_map};
 ghost use Rattle.rv_base.specs.Sorted.{InOrder};
 ghost use Rattle.rv_rows.specs.Keys.{key_text, row_key};
-ghost use Rattle.rv_rows.specs.Held.{rows_in};
+ghost use Rattle.rv_rows.specs.Held.{rows_in, AreRows};
 ghost use Rattle.rv_sharing.specs.Opened.{opened, AreOpened};
+ghost use Rattle.rv_sharing.specs.Gathered.{keys_at};
 ghost use Rattle.rv_sharing.specs.Visible.{visible, BeginsOtherwise};
 
+use crate::gathering::rows_of;
 use crate::lists::has_list;
-use crate::texts::{add, holds};
+use crate::texts::add;
 use rv_base::{Id, Memory, Sequence, User};
 use rv_rows::{Key, Row, Tables, Visible};
 use std::alloc::Global;
@@ -33,12 +35,13 @@ fn opened<'r>(tables: &Tables, user: &User, row: &'r Row) -> Option<&'r Id>
     }
 }
 
-// The lists that the user sees, in order, each once.
+// The lists that the user sees, in order, each once: those that a row lets the user see that names the user.
 fn lists_opened(alloc: Global, tables: &Tables, user: &User) -> Result<Vec<Id>, Memory>
-    ensures { IfOk result (λ lists. AreOpened user.now (rows_in tables.now.rows) lists.items) }
+    ensures lists { IfOk result (λ lists. AreOpened user.now (rows_in tables.now.rows) lists.items) }
+    ensures order { AreRows tables.now.rows }
 {
     let mut lists = Vec::new(alloc);
-    for (row, _version) in tables.iter() {
+    for (row, _version) in tables.of_user(user) {
         if let Some(list) = opened(tables, user, row) {
             add(alloc, &mut lists, list)?;
         }
@@ -46,17 +49,29 @@ fn lists_opened(alloc: Global, tables: &Tables, user: &User) -> Result<Vec<Id>, 
     Ok(lists)
 }
 
+// The rows that the user sees, with their versions, in the order of their keys. No row of a list that the user does not see
+// is looked at.
+fn rows_seen<'t>(
+    alloc: Global,
+    tables: &'t Tables,
+    user: &User,
+) -> Result<Vec<(&'t Row, u32)>, Memory>
+    ensures seen { IfOk result (λ rows. keys_at rows.items ≡ visible user.now tables.now.rows) }
+    ensures order { AreRows tables.now.rows }
+{
+    let lists = lists_opened(alloc, tables, user)?;
+    rows_of(alloc, tables, &lists)
+}
+
 /// The keys that the user sees, in order, each with the version of its row.
 pub fn visible(alloc: Global, tables: &Tables, user: &User) -> Result<Visible, Memory>
     ensures visible { IfOk result (λ v. v ≡ visible user.now tables.now.rows) }
     ensures order { IfOk result (λ v. InOrder (λ pair. key_text pair.0) v) }
 {
-    let lists = lists_opened(alloc, tables, user)?;
+    let rows = rows_seen(alloc, tables, user)?;
     let mut keys = Sequence::new(alloc);
-    for (row, version) in tables.iter() {
-        if holds(&lists, row.list()) {
-            keys.push((row.key(alloc)?, version))?;
-        }
+    for (row, version) in &rows {
+        keys.push((row.key(alloc)?, *version))?;
     }
     Ok(keys)
 }
@@ -70,14 +85,12 @@ pub fn sees_exactly(
 ) -> Result<bool, Memory>
     ensures { IfOk result (λ same. IsTrue same ↔ (keys.now ≡ visible user.now tables.now.rows)) }
 {
-    let lists = lists_opened(alloc, tables, user)?;
+    let rows = rows_seen(alloc, tables, user)?;
     let mut rest = keys;
-    for (row, version) in tables.iter() {
-        if holds(&lists, row.list()) {
-            match after_row(rest, row, version) {
-                Some(others) => rest = others,
-                None => return Ok(false),
-            }
+    for (row, version) in &rows {
+        match after_row(rest, row, *version) {
+            Some(others) => rest = others,
+            None => return Ok(false),
         }
     }
     Ok(rest.is_empty())

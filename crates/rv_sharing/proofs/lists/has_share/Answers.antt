@@ -2,7 +2,7 @@ use Rattle.std.proofs.Common.{List, ap, ◌∙◌}
 use Rattle.std.specs.List.{list_any}
 use Rattle.rv_rows.specs.Held.{Stored, rows_in}
 use Rattle.rv_rows.specs.Sharing.{shares}
-use Rattle.rv_sharing.proofs.ViewerLaws.{shares-own}
+use Rattle.rv_sharing.proofs.ViewerLaws.{shares-named}
 use Rattle.rv_sharing.proofs.lists.has_share.Goals as goal
 
 pub loop-row-init : goal.loop-row-init
@@ -10,6 +10,6 @@ loop-row-init c = record {
   can_next = tt;
   is_finite = tt;
   same =
-      ap (λ (rest : List Stored). list_any (shares c.args.user.now c.args.list.now) (rows_in rest)) (c.into_iter-row-iterator.ensures.into_iter_gives ∙ c.of_list-row-items.ensures.rows)
-      ∙ shares-own c.args.user.now c.args.list.now c.args.tables.now.rows;
+      ap (λ (rest : List Stored). list_any (shares c.args.user.now c.args.list.now) (rows_in rest)) (c.into_iter-row-iterator.ensures.into_iter_gives ∙ c.of_user-row-items.ensures.rows)
+      ∙ shares-named c.args.user.now c.args.list.now c.args.tables.now.rows;
 }

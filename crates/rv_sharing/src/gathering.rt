@@ -1,0 +1,86 @@
+// The rows of several lists, in the order of their keys.
+ghost use Rattle.std.specs.Prelude.{◌≡◌, IfOk};
+ghost use Rattle.std.specs.List.{filter, list_any};
+ghost use Rattle.std.specs.Str.{bytes_eq};
+ghost use Rattle.rv_rows.specs.Held.{AreRows};
+ghost use Rattle.rv_rows.specs.Sharing.{list_of};
+ghost use Rattle.rv_sharing.specs.Gathered.{rows_at, merged};
+
+use rv_base::{Id, Memory};
+use rv_rows::{Row, Tables};
+use std::alloc::Global;
+use std::cmp::Ordering;
+
+/// The rows of these lists, with their versions, in the order of their keys. A list's own rows stand in that order; those of
+/// several are merged, half by half, so each row is compared as often as the number of lists can be halved.
+pub(crate) fn rows_of<'t>(
+    alloc: Global,
+    tables: &'t Tables,
+    lists: &[Id],
+) -> Result<Vec<(&'t Row, u32)>, Memory>
+    requires { AreRows tables.now.rows }
+    ensures { IfOk result (λ rows. rows_at rows.items ≡ filter (λ s. list_any (bytes_eq (list_of s.0)) lists.now) tables.now.rows) }
+{
+    match lists {
+        [] => Ok(Vec::new(alloc)),
+        [list] => rows_of_one(alloc, tables, list),
+        _ => {
+            let (front, back) = lists.split_at(lists.len() / 2);
+            let left = rows_of(alloc, tables, front)?;
+            let right = rows_of(alloc, tables, back)?;
+            merged(alloc, &left, &right)
+        }
+    }
+}
+
+// The rows of a list, with their versions, in the order of their keys.
+fn rows_of_one<'t>(
+    alloc: Global,
+    tables: &'t Tables,
+    list: &Id,
+) -> Result<Vec<(&'t Row, u32)>, Memory>
+    ensures { IfOk result (λ rows. rows_at rows.items ≡ filter (λ s. bytes_eq (list_of s.0) list.now) tables.now.rows) }
+{
+    let mut rows = Vec::new(alloc);
+    for item in tables.of_list(list) {
+        rows.push(item)?;
+    }
+    Ok(rows)
+}
+
+// Two lists of rows in the order of their keys as one. Of two rows with one key that of the left stands in it.
+fn merged<'t>(
+    alloc: Global,
+    left: &[(&'t Row, u32)],
+    right: &[(&'t Row, u32)],
+) -> Result<Vec<(&'t Row, u32)>, Memory>
+    requires left { AreRows (rows_at left.now) }
+    requires right { AreRows (rows_at right.now) }
+    ensures { IfOk result (λ rows. rows_at rows.items ≡ merged (rows_at left.now) (rows_at right.now)) }
+{
+    let mut rows = Vec::new(alloc);
+    let mut i = 0;
+    let mut j = 0;
+    while i < left.len() && j < right.len() {
+        let one = left[i];
+        let other = right[j];
+        match one.0.compare_key(other.0.kind(), other.0.id()) {
+            Ordering::Less => {
+                rows.push(one)?;
+                i += 1;
+            }
+            Ordering::Equal => {
+                rows.push(one)?;
+                i += 1;
+                j += 1;
+            }
+            Ordering::Greater => {
+                rows.push(other)?;
+                j += 1;
+            }
+        }
+    }
+    rows.extend_from_slice(&left[i..])?;
+    rows.extend_from_slice(&right[j..])?;
+    Ok(rows)
+}
