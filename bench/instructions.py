@@ -4,20 +4,23 @@
 PROGRAM is the program `rv` as it was built (after `rt ci`, `crates/rv/out/rv`). Needs valgrind, whose
 callgrind counts the same on a busy machine. Each count is the difference of two runs, by the pulls that one has more.
 """
+import os
 import re
 import subprocess
 import sys
+import tempfile
 
-from feed import anew, looks, one_changed, pull, rows, strangers, unchanged, voids
+import reports
+from feed import anew, looks, one_changed, pull, push, rows, strangers, unchanged, voids
 
 
 STOP = '{"stop":true}'
 
 
-def instructions(program, lines):
+def instructions(program, lines, store="memory"):
     """The instructions of one run over the lines."""
     text = "".join(line + "\n" for line in lines).encode()
-    words = ["valgrind", "--tool=callgrind", "--callgrind-out-file=/dev/null", program, "feed", "memory"]
+    words = ["valgrind", "--tool=callgrind", "--callgrind-out-file=/dev/null", program, "feed", store]
     run = subprocess.run(words, input=text, stdout=subprocess.PIPE, stderr=subprocess.PIPE, check=True)
     assert run.stdout.count(b"\n") == sum(line != STOP for line in lines)
     assert all(line.startswith(b"200 ") for line in run.stdout.splitlines())
@@ -62,6 +65,23 @@ def print_table(program, count=1000, pulls=20, turns=100):
         print(f"a line with a todo for a list of 10 to {10 + turns} rows, beside {lists * 100} rows of others: {more // turns} instructions")
 
 
+def fed(program, path, text):
+    """Runs the lines over a file, unmeasured."""
+    subprocess.run([program, "feed", path], input=text.encode(), stdout=subprocess.DEVNULL, check=True)
+
+
+def print_unchanged(program, pulls=20):
+    """Prints what a pull costs with nothing changed: as the user's mark tells, and where the user has acted since."""
+    for count in (10, 1000, 100000):
+        with tempfile.TemporaryDirectory(dir="/dev/shm" if os.path.isdir("/dev/shm") else None) as folder:
+            path = os.path.join(folder, "lists.db")
+            fed(program, path, "".join(reports.lines(count, count // 10)) + pull() + "\n")
+            for label, acts in (("as the mark tells", ""), ("after an act without effect", push("c9", 1, "paint", None, "ann", "g9") + "\n")):
+                fed(program, path, acts)
+                one, more = (instructions(program, unchanged(count + 1, each), path) for each in (1, pulls + 1))
+                print(f"a pull of {count} rows with nothing changed, {label}: {(more - one) // pulls} instructions")
+
+
 def print_stores(program, turns=100):
     """Prints what a turn costs over a store of many entries, and what it costs to open such a store."""
     for count in (1000, 10000, 100000):
@@ -76,6 +96,7 @@ def main():
     program = sys.argv[1]
     print_table(program)
     print_stores(program)
+    print_unchanged(program)
     for count in (0, 1000, 100000):
         print_pulls(program, f"{count:6} other clients", strangers(count), count)
     for count in (1000, 10000):

@@ -16,14 +16,15 @@ ROWS = 100_000
 COMMANDS = ("feed", "check", "lists", "activity")
 
 
-def lines():
+def lines(rows=ROWS, lists=LISTS):
+    """Lines that leave so many rows of ann's: so many lists, and todos spread over them."""
     push = {"pushVersion": 1, "clientGroupID": "g1", "profileID": "p", "schemaVersion": ""}
-    for first in range(1, ROWS + 1, 500):
+    for first in range(1, rows + 1, 500):
         mutations = []
-        for number in range(first, first + 500):
+        for number in range(first, min(first + 500, rows + 1)):
             name, args = "createList", {"id": f"l{number}", "name": "Home", "ownerID": "ann"}
-            if number > LISTS:
-                name, args = "createTodo", {"id": f"t{number}", "listID": f"l{number % LISTS + 1}", "text": "milk", "complete": False}
+            if number > lists:
+                name, args = "createTodo", {"id": f"t{number}", "listID": f"l{number % lists + 1}", "text": "milk", "complete": False}
             mutations.append({"clientID": "c1", "id": number, "name": name, "args": args})
         yield json.dumps({"user": "ann", "push": {**push, "mutations": mutations}}) + "\n"
 

@@ -1,5 +1,5 @@
 -- Laws of marks: what becomes of a mark when one more entry follows, and what is known of the entries behind it.
-use Rattle.std.proofs.Common.{◌≡◌, ◌⊎◌, ℕ, ◌+◌, ◌-◌, ◌≤◌, true, false, List, Option, sym, ap, ◌∙◌, subst, arith, inl, inr}
+use Rattle.std.proofs.Common.{◌≡◌, ◌⊎◌, ℕ, ◌+◌, ◌-◌, ◌<◌, ◌≤◌, true, false, List, Option, sym, ap, ◌∙◌, subst, arith, inl, inr}
 use Rattle.std.specs.Option.{option_map_or}
 use Rattle.std.proofs.lemmas.Bool.{cases_lt}
 use Rattle.rv_rows.specs.Sharing.{seen}
@@ -15,6 +15,20 @@ mark_none user = record {
   concerns = λ above. absurd (omega (arith, above));
   last = λ later above is. absurd (omega (arith, is.first, is.within));
 }
+
+-- A user has one mark.
+mark_above : (user : List ℕ) (book : Book) (mark other : ℕ) → IsMark user book mark → IsMark user book other → mark < other → ⊥
+mark_above user book mark other is also above = is.last other above (also.concerns (omega (arith, above)))
+
+pub mark_same : (user : List ℕ) (book : Book) (mark other : ℕ) → IsMark user book mark → IsMark user book other → mark ≡ other
+mark_same user book mark other is also =
+    elim (cases_lt mark other) as (λ _. mark ≡ other) [
+      | inl above ↦ absurd (mark_above user book mark other is also above)
+      | inr le ↦ (elim (cases_lt other mark) as (λ _. mark ≡ other) [
+        | inl above ↦ absurd (mark_above user book other mark also is above)
+        | inr ge ↦ omega (arith, le, ge)
+      ])
+    ]
 
 -- One more entry leaves what concerned the user before.
 concerns_more : (user : List ℕ) (book : Book) (entry : Entry) (place : ℕ) → Concerns user book place → Concerns user (with_entry book entry) place

@@ -9,5 +9,5 @@ mod records;
 
 pub use base::base_of;
 pub use news::{News, news_since, view_now};
-pub use pull::{is_unchanged, news_for};
+pub use pull::{is_base_since, is_unchanged, news_for};
 pub use records::Records;

@@ -1,16 +1,19 @@
 // What a pull is told at a book, by the book's rows and records.
 ghost use Rattle.std.specs.Prelude.{◌≡◌, ◌↔◌, IsTrue, Some, option_map, option_and_then, IfOk};
+ghost use Rattle.rv_history.specs.Lawful.{IsLawful};
+ghost use Rattle.rv_history.specs.Marks.{IsMark};
 ghost use Rattle.rv_history.specs.Replay.{IsReplay};
 ghost use Rattle.rv_news.specs.Records.{AreRecords, Rise, record_at};
 ghost use Rattle.rv_history.specs.Machine.{IsUnchanged};
 ghost use Rattle.rv_book.specs.Book.{ids};
+ghost use Rattle.rv_book.specs.Kept.{is_look_at};
 ghost use Rattle.rv_sharing.specs.Visible.{visible};
-ghost use Rattle.rv_news.specs.News.{IsNews, ShowsSame, found_for};
+ghost use Rattle.rv_news.specs.News.{IsNews, ShowsSame, found_for, is_base_since};
 
 use crate::base::base_of;
 use crate::news::{News, news_since, view_now};
 use crate::records::Records;
-use rv_base::{Memory, User};
+use rv_base::{Id, Memory, User};
 use rv_book::Book;
 use rv_rows::Tables;
 use rv_sharing::sees_exactly;
@@ -42,6 +45,30 @@ fn base_record(records: &Records, base: Option<u32>) -> Option<&ViewRecord>
     ensures { option_map (λ r. r.now) result ≡ option_and_then (λ place. record_at place records.now.records) base }
 {
     records.get(base?)
+}
+
+// Whether the look at a place is of a group.
+fn is_look_of(book: &Book, group: &Id, place: u32) -> bool
+    ensures { result ≡ is_look_at group.now book.now.book place }
+{
+    match book.look(place) {
+        Some(look) => look.group == group,
+        None => false,
+    }
+}
+
+/// Whether the base of a pull is a look of the pull's own group, at the user's mark or after it: then the user sees the same
+/// as there, no client of the group has acted since, and there is nothing to tell. Takes no memory, and no walk.
+pub fn is_base_since(book: &Book, user: &User, request: &PullRequest, mark: u32) -> bool
+    requires lawful { IsLawful book.now.book }
+    requires mark { IsMark user.now book.now.book mark }
+    ensures value { result ≡ is_base_since mark user.now request.now book.now.book }
+    ensures unchanged { IsTrue result → IsUnchanged user.now request.now book.now.book }
+{
+    match base_of(book, user, &request.cookie) {
+        Some(place) => mark <= place && is_look_of(book, &request.group, place),
+        None => false,
+    }
 }
 
 /// Whether the record of the base shows just what the user sees now, and has each last mutation id of the group, so that

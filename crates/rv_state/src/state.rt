@@ -1,10 +1,10 @@
-ghost use Rattle.std.specs.Prelude.{◌≡◌, ◌≤◌, ◌<◌, ℕ, List, length, IsTrue, IfOk, OnOk};
+ghost use Rattle.std.specs.Prelude.{◌≡◌, ◌≤◌, ◌<◌, ℕ, List, length, true, IsTrue, IfOk, OnOk};
 ghost use Rattle.rv_rows.specs.Changes.{after};
 ghost use Rattle.rv_rows.specs.Held.{rows_in};
 ghost use Rattle.rv_mutators.specs.Staging.{staged, with_staged};
 ghost use Rattle.rv_book.specs.declared.entry.Entry.TheVariants.{Act, Look, Retire};
 ghost use Rattle.rv_book.specs.Book.{empty_book, size, with_entry};
-ghost use Rattle.rv_news.specs.News.{IsNews};
+ghost use Rattle.rv_news.specs.News.{IsNews, is_base_since};
 
 use crate::fitting::{entry_fits, look_fits};
 use crate::marks::UserMarks;
@@ -13,7 +13,7 @@ use rv_base::{Id, Memory, Num, User};
 use rv_book::{Book, BookFault, Entry};
 use rv_history::entries;
 use rv_mutators::{Staged, stage};
-use rv_news::{News, Records, is_unchanged, news_for, view_now};
+use rv_news::{News, Records, is_base_since, is_unchanged, news_for, view_now};
 use rv_rows::{Call, Tables, Users};
 use rv_sharing::add_user;
 use rv_turns::{PullReply, PullRequest};
@@ -124,11 +124,16 @@ impl State {
         self.marks.of(user)
     }
 
-    /// Whether the record of a pull's base shows what its user sees now, so that there is nothing to tell. No key that is
-    /// seen is copied for it; what is found otherwise is told by [`State::news`].
+    /// Whether there is nothing to tell to a pull. Where its base is a look of its own group at its user's mark or after it, that is
+    /// known from the mark, without a walk; else its base's record is held against what its user sees now. No key that is seen
+    /// is copied for it; what is found otherwise is told by [`State::news`].
     pub fn is_unchanged(&self, user: &User, request: &PullRequest) -> Result<bool, Memory>
-        ensures { IfOk result (λ same. IsTrue same → IsUnchanged user.now request.now self.now.book) }
+        ensures unchanged { IfOk result (λ same. IsTrue same → IsUnchanged user.now request.now self.now.book) }
+        ensures since { (mark : ℕ) → IsMark user.now self.now.book mark → IsTrue (is_base_since mark user.now request.now self.now.book) → result ≡ Ok true }
     {
+        if is_base_since(&self.book, user, request, self.mark(user)) {
+            return Ok(true);
+        }
         is_unchanged(
             self.alloc,
             &self.book,
