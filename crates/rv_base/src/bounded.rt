@@ -11,12 +11,13 @@ use crate::memory::Memory;
 use std::alloc::Global;
 use std::cmp::Ordering;
 use std::marker::Model;
+use std::sync::ArcStr;
 use thiserror::Error;
 
 /// A text of at least `MIN` and at most `MAX` bytes. Texts are compared by their bytes.
 #[derive(Debug, Drop)]
 pub struct Bounded<const MIN: usize, const MAX: usize> {
-    text: String,
+    text: ArcStr,
 }
 
 /// The name of a row, a client or a client group: 1 to 128 bytes.
@@ -29,13 +30,14 @@ pub type User = Bounded<1, 64>;
 pub type Text = Bounded<0, 16384>;
 
 impl<const MIN: usize, const MAX: usize> Model for Bounded<MIN, MAX> {
-    ghost use Rattle.std.specs.Prelude.{List, ℕ, ◌≤◌, string_bytes, length};
+    ghost use Rattle.std.specs.Prelude.{List, ℕ, ◌≤◌, length};
+    ghost use Rattle.std.specs.Arc.{arc_str_bytes};
 
     ghost Value = { List ℕ };
 
-    ghost view = { λ a. string_bytes a.text };
+    ghost view = { λ a. arc_str_bytes a.text };
 
-    ghost invariant = { λ a. (MIN ≤ length (string_bytes a.text)) × (length (string_bytes a.text) ≤ MAX) };
+    ghost invariant = { λ a. (MIN ≤ length (arc_str_bytes a.text)) × (length (arc_str_bytes a.text) ≤ MAX) };
 }
 
 /// Why a text was not taken.
@@ -63,7 +65,7 @@ impl<const MIN: usize, const MAX: usize> Bounded<MIN, MAX> {
         if text.len() > MAX {
             return Err(TextRefusal::TooLong(text.len()));
         }
-        match String::from_str(alloc, text) {
+        match ArcStr::from_str(alloc, text) {
             Ok(text) => Ok(Bounded { text }),
             Err(_) => Err(TextRefusal::Memory),
         }
@@ -78,11 +80,12 @@ impl<const MIN: usize, const MAX: usize> Bounded<MIN, MAX> {
         self.text.as_str()
     }
 
-    /// The same text, in memory of its own.
-    pub fn copy(&self, alloc: Global) -> Result<Self, Memory>
+    /// The same text, which both share. It takes no memory: the allocator is that of its signature, and what may be refused is one
+    /// more owner of a text that has 2^63 already.
+    pub fn copy(&self, _alloc: Global) -> Result<Self, Memory>
         ensures { IfOk result (λ copy. copy ≡ self.now) }
     {
-        let text = String::from_str(alloc, self.text.as_str())?;
+        let text = self.text.clone()?;
         Ok(Bounded { text })
     }
 }

@@ -13,6 +13,7 @@ mod memory;
 mod number;
 mod outside;
 mod sequence;
+mod steps;
 mod writing;
 
 pub use adapter::{Reading, Writing};
@@ -22,4 +23,5 @@ pub use memory::Memory;
 pub use number::{Num, TooBig};
 pub use outside::{Failed, Sink, Source};
 pub use sequence::{Bytes, Sequence};
+pub use steps::Steps;
 pub use writing::write_all;
