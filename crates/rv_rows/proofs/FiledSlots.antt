@@ -1,5 +1,5 @@
 -- The slots of the rows that are filed under one text stand together in an order by what rows are filed under, and are in the
--- order of their keys.
+-- order of their keys where those come then.
 use Rattle.std.proofs.Common.{◌≡◌, ℕ, zero, suc, ◌<◌, ◌≤◌, Bool, true, false, cond, List, [], ◌∷◌, length, get_or, refl, sym, ap, ◌∙◌, subst, arith, nat_lt}
 use Rattle.std.specs.declared.cmp.Ordering.{Ordering}
 use Rattle.std.specs.declared.cmp.Ordering.TheVariants.{Less, Equal, Greater}
@@ -17,7 +17,9 @@ use Rattle.rv_base.specs.Positions.{Below, Above, same_from, in_order-filter}
 use Rattle.rv_pages.specs.Paging.{Rises}
 use Rattle.rv_rows.specs.Held.{Stored, stored_key, AreRows}
 use Rattle.rv_rows.specs.declared.filing.Filing.{Filing}
-use Rattle.rv_rows.specs.Filed.{filed, under, filed_key}
+use Rattle.rv_rows.specs.declared.row.Row.{Row}
+use Rattle.rv_rows.specs.Keys.{row_text}
+use Rattle.rv_rows.specs.Filed.{filed, under, then_by, filed_key}
 use Rattle.rv_rows.specs.Slots.{row_of, standing, by_slot, is_under, AreSlots, IsFiled}
 use Rattle.rv_rows.proofs.FiledLaws.{filed-below, filed-rises}
 use Rattle.rv_rows.proofs.SlotLaws.{by_flag, same_orders, same-filter, in_order-slots, all-filter}
@@ -57,7 +59,7 @@ module _ (by : Filing) (f : ℕ → Stored) where
   above_later : (s : Stored) (os : List ℕ) (j d : ℕ) → j < length os → Above (λ i. filed_key by (f i)) (filed_key by s) os → NotAbove (under by s.0) (under by (f (get_or os j d)).0)
   unfolding NotAbove
   above_later s [] j d lt all = absurd (omega arith)
-  above_later s (x ∷ os) zero d lt all = filed-rises (under by s.0) (under by (f x).0) (stored_key s) (stored_key (f x)) all.0
+  above_later s (x ∷ os) zero d lt all = filed-rises (under by s.0) (under by (f x).0) (then_by by s.0) (then_by by (f x).0) all.0
   above_later s (x ∷ os) (suc j) d lt all = above_later s os j d (omega arith) all.1
 
   not_itself : (a : List ℕ) → NotAbove a a
@@ -121,16 +123,24 @@ rises_under by slots text os all sorted i j d le lt =
     let h : InOrder (λ i. filed_key by (row_of slots i)) os = in_order-slots (filed_key by) (row_of slots) os sorted in
     no_later (stands by slots text (get_or os i d)) (stands by slots text (get_or os j d)) (parted_below by slots text os all h i j d le lt) (parted_above by slots text os all h i j d le lt)
 
+-- an order goes by the keys under each text
+abbrev pub GoesByKeys : Filing → Type 0
+GoesByKeys by = (row : Row) → then_by by row ≡ row_text row
+
 -- filed under one text, in the order of the keys and so in that of what they are filed under
-within_text : (by : Filing) (f : ℕ → Stored) (text : List ℕ) (os : List ℕ) → AllByRecursion (λ i. under by (f i).0 ≡ text) os → InOrder (λ i. stored_key (f i)) os → InOrder (λ i. filed_key by (f i)) os
-within_text by f text [] all h = tt
-within_text by f text (x ∷ os) all h = (each os all.1 h.0, within_text by f text os all.1 h.1)
+within_text : (by : Filing) (f : ℕ → Stored) (text : List ℕ) (os : List ℕ) → GoesByKeys by → AllByRecursion (λ i. under by (f i).0 ≡ text) os → InOrder (λ i. stored_key (f i)) os → InOrder (λ i. filed_key by (f i)) os
+within_text by f text [] plain all h = tt
+within_text by f text (x ∷ os) plain all h = (each os all.1 h.0, within_text by f text os plain all.1 h.1)
   where
+    keys_tell : (y : ℕ) → Below (stored_key (f x)) (stored_key (f y)) → Below (then_by by (f x).0) (then_by by (f y).0)
+    keys_tell y low = subst (λ (k : List ℕ). Below k (then_by by (f y).0)) (sym (plain (f x).0)) (subst (λ (k : List ℕ). Below (stored_key (f x)) k) (sym (plain (f y).0)) low)
+
     each : (os : List ℕ) → AllByRecursion (λ i. under by (f i).0 ≡ text) os → Above (λ i. stored_key (f i)) (stored_key (f x)) os → Above (λ i. filed_key by (f i)) (filed_key by (f x)) os
     each [] of low = tt
-    each (y ∷ ys) of low = (subst (λ (l : List ℕ). Below (filed l (stored_key (f x))) (filed_key by (f y))) (of.0 ∙ sym all.0) (filed-below (under by (f y).0) (stored_key (f x)) (stored_key (f y)) low.0), each ys of.1 low.1)
+    each (y ∷ ys) of low =
+        (subst (λ (l : List ℕ). Below (filed l (then_by by (f x).0)) (filed_key by (f y))) (of.0 ∙ sym all.0) (filed-below (under by (f y).0) (then_by by (f x).0) (then_by by (f y).0) (keys_tell y low.0)), each ys of.1 low.1)
 
-all_under : (by : Filing) (text : List ℕ) (slots : List Stored) (os : List ℕ) → AllByRecursion (λ i. under by (row_of slots i).0 ≡ text) (filter (is_under by text slots) os)
+pub all_under : (by : Filing) (text : List ℕ) (slots : List Stored) (os : List ℕ) → AllByRecursion (λ i. under by (row_of slots i).0 ≡ text) (filter (is_under by text slots) os)
 all_under by text slots [] = tt
 all_under by text slots (x ∷ os) =
     by_flag (λ b. AllByRecursion (λ i. under by (row_of slots i).0 ≡ text) (cond b (x ∷ filter (is_under by text slots) os) (filter (is_under by text slots) os))) (is_under by text slots x)
@@ -145,14 +155,18 @@ filter-standing p slots (x ∷ os) =
       | false ↦ filter-standing p slots os
     ]
 
+-- the slots of a text are in the order that they were in
+pub filed_under : (by : Filing) (slots : List Stored) (order : List ℕ) (text : List ℕ) → InOrder (filed_key by) (standing slots order) → InOrder (λ i. filed_key by (row_of slots i)) (filter (is_under by text slots) order)
+filed_under by slots order text sorted = in_order-filter (λ (i : ℕ). filed_key by (row_of slots i)) (is_under by text slots) order (in_order-slots (filed_key by) (row_of slots) order sorted)
+
 -- the rows that are filed under a text in the one order are those in the other
-pub filed_rows : (by : Filing) (slots : List Stored) (by_key order found : List ℕ) (rows : List Stored) (text : List ℕ) → AreRows (standing slots by_key) → IsFiled by slots by_key order → standing slots by_key ≡ rows → found ≡ filter (is_under by text slots) order
+pub filed_rows : (by : Filing) (slots : List Stored) (by_key order found : List ℕ) (rows : List Stored) (text : List ℕ) → GoesByKeys by → AreRows (standing slots by_key) → IsFiled by slots by_key order → standing slots by_key ≡ rows → found ≡ filter (is_under by text slots) order
     → standing slots found ≡ filter (λ s. bytes_eq (under by s.0) text) rows
-filed_rows by slots by_key order found rows text sorted is rows_are found_is =
+filed_rows by slots by_key order found rows text plain sorted is rows_are found_is =
     let own : ℕ → Bool = is_under by text slots in
     let keys : InOrder (λ i. stored_key (row_of slots i)) (filter own by_key) = in_order-filter (λ (i : ℕ). stored_key (row_of slots i)) own by_key (in_order-slots stored_key (row_of slots) by_key sorted) in
-    let filed : InOrder (λ i. filed_key by (row_of slots i)) (filter own order) = in_order-filter (λ (i : ℕ). filed_key by (row_of slots i)) own order (in_order-slots (filed_key by) (row_of slots) order is.in_order) in
-    let same : filter own order ≡ filter own by_key = same_orders (λ i. filed_key by (row_of slots i)) (filter own order) (filter own by_key) filed (within_text by (row_of slots) text (filter own by_key) (all_under by text slots by_key) keys) (same-filter own order by_key (λ p. sym (is.same p))) in
+    let filed : InOrder (λ i. filed_key by (row_of slots i)) (filter own order) = filed_under by slots order text is.in_order in
+    let same : filter own order ≡ filter own by_key = same_orders (λ i. filed_key by (row_of slots i)) (filter own order) (filter own by_key) filed (within_text by (row_of slots) text (filter own by_key) plain (all_under by text slots by_key) keys) (same-filter own order by_key (λ p. sym (is.same p))) in
     ap (standing slots) (found_is ∙ same)
     ∙ sym (filter-standing (λ s. bytes_eq (under by s.0) text) slots by_key)
     ∙ ap (filter (λ s. bytes_eq (under by s.0) text)) rows_are

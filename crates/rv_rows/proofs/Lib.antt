@@ -3,3 +3,4 @@ pub mod FiledLaws
 pub mod SlotLaws
 pub mod RowSlots
 pub mod FiledSlots
+pub mod SortSlots

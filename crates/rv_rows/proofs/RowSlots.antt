@@ -1,4 +1,4 @@
--- Rows in slots, and the three orders of the slots, as rows come and go.
+-- Rows in slots, and the four orders of the slots, as rows come and go.
 use Rattle.std.proofs.Common.{◌≡◌, ◌≢◌, ℕ, zero, suc, ◌+◌, ◌-◌, ◌<◌, Bool, true, false, cond, ◌||◌, not, eqb, List, [], ◌∷◌, ◌++◌, map, length, get_or, set, Option, Result, Some, None, Ok, refl, sym, ap, ◌∙◌, subst, arith, nat_lt, get_or-set_same, get_or-set_other}
 use Rattle.std.specs.Ordering.{nat_cmp}
 use Rattle.std.specs.Cmp.Lexicographic.{slice_cmp}
@@ -20,7 +20,8 @@ use Rattle.rv_rows.specs.Held.{Stored, stored_key, put, AreRows}
 use Rattle.rv_rows.specs.declared.filing.Filing.{Filing}
 use Rattle.rv_rows.specs.declared.filing.Filing.TheVariants as filings
 use Rattle.rv_rows.specs.Sharing.{list_of, user_of}
-use Rattle.rv_rows.specs.Filed.{filed, under, filed_key}
+use Rattle.rv_rows.specs.declared.row.Row.{Row}
+use Rattle.rv_rows.specs.Filed.{filed, falling, sort_of, filed_text, filed_key}
 use Rattle.rv_rows.specs.Slots.{no_row, row_of, standing, by_slot, AreSlots, AreSame, IsFiled, HasOrders, relabelled, renamed, Vacates}
 use Rattle.rv_rows.proofs.FiledLaws.{filed-key}
 use Rattle.rv_rows.proofs.SlotLaws.{by_flag, by_found, any_default, found_key, renamed_settled, struck, rewritten, member_found, found_item, in_order-slots, in_order-items, same-filter, same-map, all-to, all-map, all-insert, others-filter, alike, alike-moved, map-insert, map-remove, same-insert}
@@ -42,15 +43,15 @@ pub slot_held : (n s : ℕ) (os : List ℕ) → AreSlots n os → list_any (eqb 
 slot_held n s [] all e = absurd (let f : false ≡ true = e in cc)
 slot_held n s (o ∷ os) all e = by_flag (λ b. (b || list_any (eqb s) os) ≡ true → s < n) (eqb s o) (λ t f. subst (λ (i : ℕ). i < n) (sym ((Decides-eqb s o).0 t)) all.0) (λ t f. slot_held n s os all.1 f) e
 
--- a key that no row has is not among the rows by what they are filed under either
-pub absent_too : (by : Filing) (slots : List Stored) (by_key order : List ℕ) (text key : List ℕ) → AreRows (standing slots by_key) → IsFiled by slots by_key order → find_by stored_key key (standing slots by_key) ≡ None → find_by (filed_key by) (filed text key) (standing slots order) ≡ None
-absent_too by slots by_key order text key sorted is none =
-    sym (find-map (filed_key by) (row_of slots) (filed text key) order)
-    ∙ by_found (λ o. option_map (row_of slots) o ≡ None) (find_by (λ i. filed_key by (row_of slots i)) (filed text key) order)
+-- a row whose key no row has is not among the rows by what they are filed under either
+pub absent_too : (by : Filing) (slots : List Stored) (by_key order : List ℕ) (row : Row) → AreRows (standing slots by_key) → IsFiled by slots by_key order → find_by stored_key (row_text row) (standing slots by_key) ≡ None → find_by (filed_key by) (filed_text by row) (standing slots order) ≡ None
+absent_too by slots by_key order row sorted is none =
+    sym (find-map (filed_key by) (row_of slots) (filed_text by row) order)
+    ∙ by_found (λ o. option_map (row_of slots) o ≡ None) (find_by (λ i. filed_key by (row_of slots i)) (filed_text by row) order)
     (λ e. refl)
     (λ i e.
-    let at = member_found (λ i. filed_key by (row_of slots i)) (filed text key) order i e in
-    let same : key ≡ stored_key (row_of slots i) = filed-key text (under by (row_of slots i).0) key (row_text (row_of slots i).0) at.1 in
+    let at = member_found (λ i. filed_key by (row_of slots i)) (filed_text by row) order i e in
+    let same : row_text row ≡ stored_key (row_of slots i) = filed-key by row (row_of slots i).0 at.1 in
     absurd (none-some (row_of slots i) (sym none ∙ ap (λ (k : List ℕ). find_by stored_key k (standing slots by_key)) same ∙ found_item stored_key (row_of slots) by_key i sorted (is.same (eqb i) ∙ at.0))))
 
 -- a row in a new slot
@@ -74,16 +75,17 @@ pushed_filed by slots by_key order x i j is sorted =
       same = same-insert by_key order i j (length slots) is.same;
     }
 
-pub pushed : (slots new : List Stored) (by_key keys by_list lists by_user users : List ℕ) (x : Stored) (i j k n : ℕ) → HasOrders slots by_key by_list by_user → AreRows (insert (standing slots by_key) i x)
-    → InOrder (filed_key filings.List) (insert (standing slots by_list) j x) → InOrder (filed_key filings.User) (insert (standing slots by_user) k x)
-    → new ≡ slots ++ x ∷ [] → n ≡ length slots → keys ≡ insert by_key i n → lists ≡ insert by_list j n → users ≡ insert by_user k n → HasOrders new keys lists users
-pushed slots new by_key keys by_list lists by_user users x i j k n indexed rows list_order user_order new_is n_is keys_are lists_are users_are =
-    rw (keys_are, lists_are, users_are, n_is, new_is)
+pub pushed : (slots new : List Stored) (by_key keys by_list lists by_user users by_sort sorts : List ℕ) (x : Stored) (i j k l n : ℕ) → HasOrders slots by_key by_list by_user by_sort → AreRows (insert (standing slots by_key) i x)
+    → InOrder (filed_key filings.List) (insert (standing slots by_list) j x) → InOrder (filed_key filings.User) (insert (standing slots by_user) k x) → InOrder (filed_key filings.Sort) (insert (standing slots by_sort) l x)
+    → new ≡ slots ++ x ∷ [] → n ≡ length slots → keys ≡ insert by_key i n → lists ≡ insert by_list j n → users ≡ insert by_user k n → sorts ≡ insert by_sort l n → HasOrders new keys lists users sorts
+pushed slots new by_key keys by_list lists by_user users by_sort sorts x i j k l n indexed rows list_order user_order sort_order new_is n_is keys_are lists_are users_are sorts_are =
+    rw (keys_are, lists_are, users_are, sorts_are, n_is, new_is)
     (record {
       key_slots = more_slots slots x by_key i indexed.key_slots;
       key_order = subst AreRows (sym (standing_new slots x by_key i indexed.key_slots)) rows;
       lists = pushed_filed filings.List slots by_key by_list x i j indexed.lists list_order;
       users = pushed_filed filings.User slots by_key by_user x i k indexed.users user_order;
+      sorts = pushed_filed filings.Sort slots by_key by_sort x i l indexed.sorts sort_order;
     })
 
 -- a row that goes
@@ -136,16 +138,18 @@ pub record StandsAt (order : List ℕ) (j s : ℕ) : Type 0 where
   pub within : j < length order
   pub is : get_or order j 0 ≡ s
 
-pub vacated : (slots left : List Stored) (by_key keys by_list lists by_user users : List ℕ) (i j k s last : ℕ) → HasOrders slots by_key by_list by_user → StandsAt by_key i s → StandsAt by_list j s → StandsAt by_user k s → Vacates slots s left
-    → last ≡ length slots - 1 → keys ≡ map (relabelled last s) (remove by_key i) → lists ≡ map (relabelled last s) (remove by_list j) → users ≡ map (relabelled last s) (remove by_user k)
-    → HasOrders left keys lists users × (standing left keys ≡ remove (standing slots by_key) i)
-vacated slots left by_key keys by_list lists by_user users i j k s last indexed at_key at_list at_user gone last_is keys_are lists_are users_are =
-    rw (keys_are, lists_are, users_are, last_is) (
+pub vacated : (slots left : List Stored) (by_key keys by_list lists by_user users by_sort sorts : List ℕ) (i j k l s last : ℕ) → HasOrders slots by_key by_list by_user by_sort
+    → StandsAt by_key i s → StandsAt by_list j s → StandsAt by_user k s → StandsAt by_sort l s → Vacates slots s left
+    → last ≡ length slots - 1 → keys ≡ map (relabelled last s) (remove by_key i) → lists ≡ map (relabelled last s) (remove by_list j) → users ≡ map (relabelled last s) (remove by_user k) → sorts ≡ map (relabelled last s) (remove by_sort l)
+    → HasOrders left keys lists users sorts × (standing left keys ≡ remove (standing slots by_key) i)
+vacated slots left by_key keys by_list lists by_user users by_sort sorts i j k l s last indexed at_key at_list at_user at_sort gone last_is keys_are lists_are users_are sorts_are =
+    rw (keys_are, lists_are, users_are, sorts_are, last_is) (
       record {
         key_slots = slots_left stored_key slots left by_key i s indexed.key_slots indexed.key_order at_key.within at_key.is gone;
         key_order = order_left stored_key slots left by_key i s indexed.key_slots indexed.key_order at_key.within at_key.is gone;
         lists = vacated_filed filings.List slots left by_key by_list i j s indexed.key_order indexed.lists at_key.within at_key.is at_list.within at_list.is gone;
         users = vacated_filed filings.User slots left by_key by_user i k s indexed.key_order indexed.users at_key.within at_key.is at_user.within at_user.is gone;
+        sorts = vacated_filed filings.Sort slots left by_key by_sort i l s indexed.key_order indexed.sorts at_key.within at_key.is at_sort.within at_sort.is gone;
       },
       standing_left stored_key slots left by_key i s indexed.key_slots indexed.key_order at_key.within at_key.is gone,
     )
@@ -170,24 +174,32 @@ module _ (slots : List Stored) (s : ℕ) (x : Stored) (at : s < length slots) wh
   order_stays : (key : Stored → List ℕ) (os : List ℕ) → key x ≡ key (row_of slots s) → InOrder key (standing slots os) → InOrder key (standing (set slots s x) os)
   order_stays key os same sorted = in_order-items key (row_of (set slots s x)) os (subst (λ (g : ℕ → List ℕ). InOrder g os) (keys_stay key same) (in_order-slots key (row_of slots) os sorted))
 
-written_filed : (by : Filing) (slots : List Stored) (by_key order : List ℕ) (s : ℕ) (x : Stored) → s < length slots → stored_key x ≡ stored_key (row_of slots s) → under by x.0 ≡ under by (row_of slots s).0 → IsFiled by slots by_key order → IsFiled by (set slots s x) by_key order
-written_filed by slots by_key order s x at key text is =
+written_filed : (by : Filing) (slots : List Stored) (by_key order : List ℕ) (s : ℕ) (x : Stored) → s < length slots → filed_key by x ≡ filed_key by (row_of slots s) → IsFiled by slots by_key order → IsFiled by (set slots s x) by_key order
+written_filed by slots by_key order s x at same is =
     record {
       in_slots = rw (length-set slots s x) is.in_slots;
-      in_order = order_stays slots s x at (filed_key by) order (λ i. filed (text i) (key i)) is.in_order;
+      in_order = order_stays slots s x at (filed_key by) order same is.in_order;
       same = is.same;
     }
 
-pub written : (slots new : List Stored) (by_key by_list by_user : List ℕ) (i s : ℕ) (x : Stored) → HasOrders slots by_key by_list by_user → i < length by_key → get_or by_key i 0 ≡ s → stored_key x ≡ stored_key (row_of slots s)
-    → list_of x.0 ≡ list_of (row_of slots s).0 → user_of x.0 ≡ user_of (row_of slots s).0 → new ≡ set slots s x → HasOrders new by_key by_list by_user × (standing new by_key ≡ set (standing slots by_key) i x)
-written slots new by_key by_list by_user i s x indexed lt is key list user new_is =
+-- a row with the key of another, that is filed as it is
+pub record IsFiledAs (row other : Row) : Type 0 where
+  pub key : row_text row ≡ row_text other
+  pub list : list_of row ≡ list_of other
+  pub user : user_of row ≡ user_of other
+  pub sort : sort_of row ≡ sort_of other
+
+pub written : (slots new : List Stored) (by_key by_list by_user by_sort : List ℕ) (i s : ℕ) (x : Stored) → HasOrders slots by_key by_list by_user by_sort → i < length by_key → get_or by_key i 0 ≡ s → IsFiledAs x.0 (row_of slots s).0
+    → new ≡ set slots s x → HasOrders new by_key by_list by_user by_sort × (standing new by_key ≡ set (standing slots by_key) i x)
+written slots new by_key by_list by_user by_sort i s x indexed lt is alike new_is =
     let at : s < length slots = subst (λ (i : ℕ). i < length slots) is (slot_at (length slots) by_key i indexed.key_slots lt) in
     rw new_is (
       record {
         key_slots = rw (length-set slots s x) indexed.key_slots;
-        key_order = order_stays slots s x at stored_key by_key key indexed.key_order;
-        lists = written_filed filings.List slots by_key by_list s x at key list indexed.lists;
-        users = written_filed filings.User slots by_key by_user s x at key user indexed.users;
+        key_order = order_stays slots s x at stored_key by_key alike.key indexed.key_order;
+        lists = written_filed filings.List slots by_key by_list s x at (λ i. filed (alike.list i) (alike.key i)) indexed.lists;
+        users = written_filed filings.User slots by_key by_user s x at (λ i. filed (alike.user i) (alike.key i)) indexed.users;
+        sorts = written_filed filings.Sort slots by_key by_sort s x at (λ i. filed (alike.list i) (falling (alike.sort i) ++ alike.key i)) indexed.sorts;
       },
       rewritten (λ i. stored_key (row_of slots i)) (row_of slots) (row_of (set slots s x)) by_key i s x (new_row slots s x at) (old_row slots s x at) (in_order-slots stored_key (row_of slots) by_key indexed.key_order) lt is,
     )
@@ -213,13 +225,20 @@ row_read slots os at s x all lt slot_is x_is =
 pub slot_there : (slots : List Stored) (os : List ℕ) (at s : ℕ) → AreSlots (length slots) os → at < length os → s ≡ get_or os at s → s < length slots
 slot_there slots os at s all lt is = subst (λ (i : ℕ). i < length slots) (read_at os at s 0 lt is) (slot_at (length slots) os at all lt)
 
-pub written_at : (slots new : List Stored) (by_key by_list by_user : List ℕ) (at s : ℕ) (x : Stored) → HasOrders slots by_key by_list by_user → IsPositionOf stored_key (stored_key x) (standing slots by_key) (Ok at) → s ≡ get_or by_key at s
-    → list_of (get_or (standing slots by_key) at no_row).0 ≡ list_of x.0 → user_of (get_or (standing slots by_key) at no_row).0 ≡ user_of x.0 → new ≡ set slots s x → HasOrders new by_key by_list by_user × (standing new by_key ≡ set (standing slots by_key) at x)
-written_at slots new by_key by_list by_user at s x indexed there slot_is list user new_is =
+pub written_at : (slots new : List Stored) (by_key by_list by_user by_sort : List ℕ) (at s : ℕ) (x : Stored) → HasOrders slots by_key by_list by_user by_sort → IsPositionOf stored_key (stored_key x) (standing slots by_key) (Ok at) → s ≡ get_or by_key at s
+    → list_of (get_or (standing slots by_key) at no_row).0 ≡ list_of x.0 → user_of (get_or (standing slots by_key) at no_row).0 ≡ user_of x.0 → sort_of (get_or (standing slots by_key) at no_row).0 ≡ sort_of x.0
+    → new ≡ set slots s x → HasOrders new by_key by_list by_user by_sort × (standing new by_key ≡ set (standing slots by_key) at x)
+written_at slots new by_key by_list by_user by_sort at s x indexed there slot_is list user sort new_is =
     let lt : at < length by_key = in_standing slots by_key at there.in_range in
     let is : get_or (standing slots by_key) at no_row ≡ row_of slots s = row_at_slot slots by_key at s no_row there.in_range slot_is in
-    let key : stored_key x ≡ stored_key (row_of slots s) = found_key stored_key (stored_key x) (standing slots by_key) (get_or (standing slots by_key) at no_row) (there.found no_row) ∙ ap stored_key is in
-    written slots new by_key by_list by_user at s x indexed lt (read_at by_key at s 0 lt slot_is) key (sym list ∙ ap (λ (y : Stored). list_of y.0) is) (sym user ∙ ap (λ (y : Stored). user_of y.0) is) new_is
+    let alike : IsFiledAs x.0 (row_of slots s).0 =
+    record {
+      key = found_key stored_key (stored_key x) (standing slots by_key) (get_or (standing slots by_key) at no_row) (there.found no_row) ∙ ap stored_key is;
+      list = sym list ∙ ap (λ (y : Stored). list_of y.0) is;
+      user = sym user ∙ ap (λ (y : Stored). user_of y.0) is;
+      sort = sym sort ∙ ap (λ (y : Stored). sort_of y.0) is;
+    } in
+    written slots new by_key by_list by_user by_sort at s x indexed lt (read_at by_key at s 0 lt slot_is) alike new_is
 
 -- a row whose key has left its place, and a row with that key that is put
 pub again_absent : (rows left : List Stored) (k : List ℕ) (at : ℕ) → IsPositionOf stored_key k rows (Ok at) → left ≡ remove rows at → find_by stored_key k left ≡ None
@@ -242,12 +261,13 @@ again_put rows left x at order there is =
         ∙ shadowed (bytes_eq k (stored_key x)) (bytes_eq (stored_key x) k) (find_by stored_key k rows) (λ e. (bytes_eq-Decides k (stored_key x)).1 (sym ((bytes_eq-Decides (stored_key x) k).0 e)))
         ∙ sym (find_put stored_key k x rows)
 
-pub removed_at : (slots left : List Stored) (by_key keys by_list lists by_user users : List ℕ) (i j k s last : ℕ) → HasOrders slots by_key by_list by_user → i < length by_key → s ≡ get_or by_key i s
-    → StandsAt by_list j s → StandsAt by_user k s → Vacates slots s left → last ≡ length slots - 1 → keys ≡ map (relabelled last s) (remove by_key i) → lists ≡ map (relabelled last s) (remove by_list j) → users ≡ map (relabelled last s) (remove by_user k)
-    → HasOrders left keys lists users × (standing left keys ≡ remove (standing slots by_key) i)
-removed_at slots left by_key keys by_list lists by_user users i j k s last indexed i_in slot_is at_list at_user gone last_is keys_are lists_are users_are =
+pub removed_at : (slots left : List Stored) (by_key keys by_list lists by_user users by_sort sorts : List ℕ) (i j k l s last : ℕ) → HasOrders slots by_key by_list by_user by_sort → i < length by_key → s ≡ get_or by_key i s
+    → StandsAt by_list j s → StandsAt by_user k s → StandsAt by_sort l s → Vacates slots s left
+    → last ≡ length slots - 1 → keys ≡ map (relabelled last s) (remove by_key i) → lists ≡ map (relabelled last s) (remove by_list j) → users ≡ map (relabelled last s) (remove by_user k) → sorts ≡ map (relabelled last s) (remove by_sort l)
+    → HasOrders left keys lists users sorts × (standing left keys ≡ remove (standing slots by_key) i)
+removed_at slots left by_key keys by_list lists by_user users by_sort sorts i j k l s last indexed i_in slot_is at_list at_user at_sort gone last_is keys_are lists_are users_are sorts_are =
     let at_key : StandsAt by_key i s = record { within = i_in; is = read_at by_key i s 0 i_in slot_is } in
-    vacated slots left by_key keys by_list lists by_user users i j k s last indexed at_key at_list at_user gone last_is keys_are lists_are users_are
+    vacated slots left by_key keys by_list lists by_user users by_sort sorts i j k l s last indexed at_key at_list at_user at_sort gone last_is keys_are lists_are users_are sorts_are
 
 -- an order in which the last slot was looked for, by the key of its row
 pub struck_from : (key : Stored → List ℕ) (slots : List Stored) (os new : List ℕ) (k : List ℕ) (r : Result ℕ ℕ) (j s last : ℕ) → k ≡ key (row_of slots last) → InOrder key (standing slots os) → IsPositionOf key k (standing slots os) r

@@ -65,10 +65,14 @@ above_fold n list most (row ∷ rows) =
 same_by_above : (a b : ℕ) → ((n : ℕ) → nat_lt n a ≡ nat_lt n b) → a ≡ b
 same_by_above a b same = grind (arith, nat_tests, same a, same b)
 
+-- so it does not depend on the order of the rows
+pub greatest_sort-same : (list : List ℕ) (rows others : List Row) → ((test : Row → Bool) → list_any test rows ≡ list_any test others) → greatest_sort list rows ≡ greatest_sort list others
+greatest_sort-same list rows others same =
+    same_by_above (greatest_sort list rows) (greatest_sort list others)
+    (λ n. above_fold n list 0 rows ∙ ap (λ (b : Bool). nat_lt n 0 || b) (same (λ row. nat_lt n (sort_in list row))) ∙ sym (above_fold n list 0 others))
+
 greatest_sort-sorted : (list : List ℕ) (rows : List Row) → Distinct row_text rows → greatest_sort list (in_key_order rows) ≡ greatest_sort list rows
-greatest_sort-sorted list rows h =
-    same_by_above (greatest_sort list (in_key_order rows)) (greatest_sort list rows)
-    (λ n. above_fold n list 0 (in_key_order rows) ∙ ap (λ (b : Bool). nat_lt n 0 || b) (list_any-sorted row_text (λ row. nat_lt n (sort_in list row)) rows h) ∙ sym (above_fold n list 0 rows))
+greatest_sort-sorted list rows h = greatest_sort-same list (in_key_order rows) rows (λ test. list_any-sorted row_text test rows h)
 
 next_sort-sorted : (list : List ℕ) (rows : List Row) → Distinct row_text rows → next_sort list (in_key_order rows) ≡ next_sort list rows
 next_sort-sorted list rows h = ap sort_after (greatest_sort-sorted list rows h)

@@ -1,22 +1,44 @@
--- The orders of rows by a text that each is filed under, and among those of one text by the texts of their keys, as the
--- order of single texts.
-use Rattle.std.specs.Prelude.{ℕ, suc, List, ◌∷◌, ◌++◌, map}
+-- The orders of rows by a text that each is filed under, and among those of one text by the texts of their keys, or by their
+-- sorts and then by those texts, as the order of single texts.
+use Rattle.std.specs.Prelude.{ℕ, zero, suc, List, [], ◌∷◌, ◌++◌, map}
 use Rattle.rv_rows.specs.declared.filing.Filing.{Filing}
 use Rattle.rv_rows.specs.declared.filing.Filing.TheVariants as filings
 use Rattle.rv_rows.specs.declared.row.Row.{Row}
+use Rattle.rv_rows.specs.declared.row.Row.TheVariants as variants
 use Rattle.rv_rows.specs.Keys.{row_text}
 use Rattle.rv_rows.specs.Held.{Stored}
 use Rattle.rv_rows.specs.Sharing.{list_of, user_of}
 
--- a text for what a row is filed under and its key: a text's bytes, each one higher, are above the 0 that ends them, so what
--- rows are filed under comes first
+-- a text for what a row is filed under and for what comes then: a text's bytes, each one higher, are above the 0 that ends
+-- them, so what rows are filed under comes first
 abbrev pub filed : List ℕ → List ℕ → List ℕ
-filed text key = map suc text ++ 0 ∷ key
+filed text then = map suc text ++ 0 ∷ then
 
 -- what a row is filed under: its list, or the user whom it names
 abbrev pub under : Filing → Row → List ℕ
 under filings.List row = list_of row
 under filings.User row = user_of row
+under filings.Sort row = list_of row
+
+-- the sort of a todo, and 0 of any other row
+abbrev pub sort_of : Row → ℕ
+sort_of (variants.Todo row) = row.sort
+sort_of (variants.List row) = 0
+sort_of (variants.Share row) = 0
+
+-- a sort, so that a greater one comes before: as many times 0, and then 1
+abbrev pub falling : ℕ → List ℕ
+falling zero = 1 ∷ []
+falling (suc sort) = 0 ∷ falling sort
+
+-- what comes then: the row's key, and before it the sort in the order by sorts
+abbrev pub then_by : Filing → Row → List ℕ
+then_by filings.List row = row_text row
+then_by filings.User row = row_text row
+then_by filings.Sort row = falling (sort_of row) ++ row_text row
+
+abbrev pub filed_text : Filing → Row → List ℕ
+filed_text by row = filed (under by row) (then_by by row)
 
 abbrev pub filed_key : Filing → Stored → List ℕ
-filed_key by s = filed (under by s.0) (row_text s.0)
+filed_key by s = filed_text by s.0

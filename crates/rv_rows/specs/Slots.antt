@@ -1,5 +1,5 @@
 -- Rows with their versions in slots, and orders of slots: lists of slots' numbers.
-use Rattle.std.specs.Prelude.{◌≡◌, ◌≢◌, ℕ, ◌+◌, ◌-◌, ◌≤◌, ◌<◌, ◌==◌, nat_lt, Bool, List, Vec, [], map, length, slice_index_or, slice_index, slice_set, Result, Ok, Err, if◌then◌else◌, vec_len, vec_capacity}
+use Rattle.std.specs.Prelude.{◌≡◌, ◌≢◌, ℕ, ◌+◌, ◌-◌, ◌≤◌, ◌<◌, ◌^◌, ◌==◌, nat_lt, Bool, List, Vec, [], map, length, slice_index_or, slice_index, slice_set, Result, Ok, Err, if◌then◌else◌, vec_len, vec_capacity}
 use Rattle.std.specs.List.{AllByRecursion, list_any}
 use Rattle.std.specs.declared.cmp.Ordering.{Ordering}
 use Rattle.std.specs.declared.cmp.Ordering.TheVariants.{Less}
@@ -34,25 +34,27 @@ AreSlots n order = AllByRecursion (λ i. i < n) order
 abbrev pub AreSame : List ℕ → List ℕ → Type 0
 AreSame order other = (test : ℕ → Bool) → list_any test order ≡ list_any test other
 
--- an order of the slots that another order has, by what the rows are filed under and then by their keys
+-- an order of the slots that another order has, by what the rows are filed under and by what comes then
 pub record IsFiled (by : Filing) (slots : List Stored) (by_key order : List ℕ) : Type 0 where
   pub in_slots : AreSlots (length slots) order
   pub in_order : InOrder (filed_key by) (standing slots order)
   pub same : AreSame by_key order
 
--- three orders of the same slots: by the keys of the rows, by their lists, and by the users whom they name
-pub record HasOrders (slots : List Stored) (by_key by_list by_user : List ℕ) : Type 0 where
+-- four orders of the same slots: by the keys of the rows, by their lists, by the users whom they name, and by their lists and sorts
+pub record HasOrders (slots : List Stored) (by_key by_list by_user by_sort : List ℕ) : Type 0 where
   pub key_slots : AreSlots (length slots) by_key
   pub key_order : AreRows (standing slots by_key)
   pub lists : IsFiled filings.List slots by_key by_list
   pub users : IsFiled filings.User slots by_key by_user
+  pub sorts : IsFiled filings.Sort slots by_key by_sort
 
--- rows in slots, with the pages of the three orders of the slots, and the space that there is beside
+-- rows in slots, with the pages of the four orders of the slots, and the space that there is beside
 pub record Slotted : Type 0 where
   pub slots : List Stored
   pub by_key : List (List ℕ)
   pub by_list : List (List ℕ)
   pub by_user : List (List ℕ)
+  pub by_sort : List (List ℕ)
   pub spare : ℕ
 
 -- the rows in the order of their keys
@@ -62,6 +64,15 @@ rows_of slotted = standing slotted.slots (items slotted.by_key)
 -- the vector has space for so many more items
 abbrev pub HasSpare : {X Z : Type 0} → Vec X Z → ℕ → Type 0
 HasSpare items more = vec_len items + more ≤ vec_capacity items
+
+-- the slots and each of the four orders have space for so many more, and there are numbers for as many slots
+pub record HaveSpace {X Z : Type 0} (slots : Vec X Z) (by_key by_list by_user by_sort more : ℕ) : Type 0 where
+  pub slot_space : HasSpare slots more
+  pub key_space : more ≤ by_key
+  pub list_space : more ≤ by_list
+  pub user_space : more ≤ by_user
+  pub sort_space : more ≤ by_sort
+  pub numbers : vec_len slots + more < 2 ^ 32
 
 -- how the row in the slot stands to the key k; a slot that is not there stands below
 abbrev pub by_slot : (Stored → List ℕ) → List ℕ → List Stored → ℕ → Ordering

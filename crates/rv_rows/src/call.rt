@@ -84,7 +84,7 @@ fn text_copy(alloc: Global, text: &Option<Text>) -> Result<Option<Text>, Memory>
 }
 
 impl Call {
-    /// The same call, in memory of its own.
+    /// The same call, which shares its texts.
     pub fn copy(&self, alloc: Global) -> Result<Call, Memory>
         ensures { IfOk result (λ copy. copy ≡ self.now) }
     {

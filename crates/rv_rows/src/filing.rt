@@ -5,4 +5,6 @@ pub(crate) enum Filing {
     List,
     /// The user whom a row names: a list its owner, a share the user that it is shared with; a todo names none.
     User,
+    /// The list that a row is or belongs to, and within it the sort, from the greatest down; a list and a share have sort 0.
+    Sort,
 }

@@ -1,12 +1,13 @@
-ghost use Rattle.std.specs.Prelude.{◌≡◌, ◌≤◌, ◌<◌, ◌+◌, [], length, OnOk, MatchResult, Ok, Err, None, slice_index_or, slice_set};
+ghost use Rattle.std.specs.Prelude.{◌≡◌, ◌≤◌, ◌+◌, [], length, OnOk, MatchResult, Ok, Err, None, slice_index_or, slice_set};
 ghost use Rattle.std.specs.List.{filter, insert, remove as removed};
 ghost use Rattle.std.specs.Str.{bytes_eq};
 ghost use Rattle.rv_base.specs.Sorted.{IsPositionOf};
 ghost use Rattle.rv_pages.specs.Paging.{index_of, place, IsItem, IsGap};
 ghost use Rattle.rv_rows.specs.Keys.{key_text, row_text};
-ghost use Rattle.rv_rows.specs.Held.{find, put, AreRows, stored_key};
+ghost use Rattle.rv_rows.specs.Held.{find, put, rows_in, AreRows, stored_key};
 ghost use Rattle.rv_rows.specs.Sharing.{list_of, user_of};
-ghost use Rattle.rv_rows.specs.Filed.{under};
+ghost use Rattle.rv_rows.specs.Filed.{sort_of, under};
+ghost use Rattle.rv_rows.specs.Effects.{greatest_sort};
 ghost use Rattle.rv_rows.specs.Slots.{rows_of, no_row};
 
 use crate::filing::Filing;
@@ -22,7 +23,7 @@ use rv_pages::{At, Pages};
 use std::alloc::Global;
 use std::marker::Model;
 
-// Rows with their versions, found by their keys, by their lists and by the users whom they name.
+// Rows with their versions, found by their keys, by their lists, by the users whom they name, and by their sorts in their lists.
 #[derive(Debug, Drop)]
 pub(crate) struct IndexedRows {
     // the rows, each in a slot of its own, in no order
@@ -33,20 +34,22 @@ pub(crate) struct IndexedRows {
     by_list: Pages,
     // the slots in the order of the users whom their rows name, and of one user in that of their keys
     by_user: Pages,
-    // the slots and each of the three orders have space for so many more
+    // the slots in the order of their rows' lists, within a list by their sorts from the greatest down, and of one sort in the
+    // order of their keys
+    by_sort: Pages,
+    // the slots and each of the four orders have space for so many more
     spare: usize,
 }
 
 impl Model for IndexedRows {
-    ghost use Rattle.std.specs.Prelude.{◌≤◌, ◌<◌, ◌+◌, ◌^◌, vec_len};
     ghost use Rattle.rv_pages.specs.Paging.{items};
-    ghost use Rattle.rv_rows.specs.Slots.{Slotted, HasOrders, HasSpare};
+    ghost use Rattle.rv_rows.specs.Slots.{Slotted, HasOrders, HaveSpace};
 
     ghost Value = { Slotted };
 
-    ghost view = { λ t. record { slots = t.slots.items; by_key = t.by_key.pages; by_list = t.by_list.pages; by_user = t.by_user.pages; spare = t.spare } };
+    ghost view = { λ t. record { slots = t.slots.items; by_key = t.by_key.pages; by_list = t.by_list.pages; by_user = t.by_user.pages; by_sort = t.by_sort.pages; spare = t.spare } };
 
-    ghost invariant = { λ t. HasOrders t.slots.items (items t.by_key.pages) (items t.by_list.pages) (items t.by_user.pages) × HasSpare t.slots t.spare × (t.spare ≤ t.by_key.spare) × (t.spare ≤ t.by_list.spare) × (t.spare ≤ t.by_user.spare) × (vec_len t.slots + t.spare < 2 ^ 32) };
+    ghost invariant = { λ t. HasOrders t.slots.items (items t.by_key.pages) (items t.by_list.pages) (items t.by_user.pages) (items t.by_sort.pages) × HaveSpace t.slots t.by_key.spare t.by_list.spare t.by_user.spare t.by_sort.spare t.spare };
 }
 
 impl IndexedRows {
@@ -59,6 +62,7 @@ impl IndexedRows {
             by_key: Pages::new(alloc),
             by_list: Pages::new(alloc),
             by_user: Pages::new(alloc),
+            by_sort: Pages::new(alloc),
             spare: 0,
         }
     }
@@ -80,6 +84,7 @@ impl IndexedRows {
         self.by_key.reserve(more)?;
         self.by_list.reserve(more)?;
         self.by_user.reserve(more)?;
+        self.by_sort.reserve(more)?;
         self.spare = more;
         Ok(())
     }
@@ -137,6 +142,7 @@ impl IndexedRows {
         requires position { IsPositionOf stored_key (row_text row) (rows_of self.old) (Ok (index_of self.old.by_key at)) }
         requires list { list_of (slice_index_or (rows_of self.old) (index_of self.old.by_key at) no_row).0 ≡ list_of row }
         requires user { user_of (slice_index_or (rows_of self.old) (index_of self.old.by_key at) no_row).0 ≡ user_of row }
+        requires sort { sort_of (slice_index_or (rows_of self.old) (index_of self.old.by_key at) no_row).0 ≡ sort_of row }
         ensures rows { rows_of self.new ≡ slice_set (rows_of self.old) (index_of self.old.by_key at) (row, version) }
         ensures spare { self.new.spare ≡ self.old.spare }
     {
@@ -168,10 +174,12 @@ impl IndexedRows {
         let slot = self.slots.len() as u32;
         let in_list = gap_filed(&self.slots, &self.by_list, Filing::List, &row);
         let of_user = gap_filed(&self.slots, &self.by_user, Filing::User, &row);
+        let of_sort = gap_filed(&self.slots, &self.by_sort, Filing::Sort, &row);
         push(&mut self.slots, row, version);
         self.by_key.insert(at, slot);
         self.by_list.insert(in_list, slot);
         self.by_user.insert(of_user, slot);
+        self.by_sort.insert(of_sort, slot);
         self.spare -= 1;
     }
 
@@ -184,14 +192,17 @@ impl IndexedRows {
         let slot = self.by_key.get(at);
         let in_list = position_by_slot(&self.slots, &self.by_list, Filing::List, slot);
         let of_user = position_by_slot(&self.slots, &self.by_user, Filing::User, slot);
+        let of_sort = position_by_slot(&self.slots, &self.by_sort, Filing::Sort, slot);
         let last = (self.slots.len() - 1) as u32;
         let moved = &self.slots[last as usize].0;
         let moved_by_key = position_by_key(&self.slots, &self.by_key, moved.kind(), moved.id());
         let moved_by_list = position_filed(&self.slots, &self.by_list, Filing::List, moved);
         let moved_by_user = position_filed(&self.slots, &self.by_user, Filing::User, moved);
+        let moved_by_sort = position_filed(&self.slots, &self.by_sort, Filing::Sort, moved);
         strike(&mut self.by_key, at, moved_by_key, last, slot);
         strike(&mut self.by_list, in_list, moved_by_list, last, slot);
         strike(&mut self.by_user, of_user, moved_by_user, last, slot);
+        strike(&mut self.by_sort, of_sort, moved_by_sort, last, slot);
         vacate(&mut self.slots, slot);
     }
 
@@ -223,5 +234,14 @@ impl IndexedRows {
             &self.slots,
             slots_under(&self.slots, &self.by_user, Filing::User, user),
         )
+    }
+    // The greatest sort of the rows that are filed under a text by their lists, and 0 where there is none.
+    pub(crate) fn greatest_sort(&self, list: &str) -> u64
+        ensures { result ≡ greatest_sort list.now (rows_in (rows_of self.now)) }
+    {
+        match slots_under(&self.slots, &self.by_sort, Filing::Sort, list).next() {
+            Some(slot) => self.slots[slot as usize].0.sort(),
+            None => 0,
+        }
     }
 }

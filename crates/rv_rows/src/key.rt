@@ -84,7 +84,7 @@ impl Key {
         compare_keys(self.kind, &self.id, other.kind, &other.id)
     }
 
-    /// The same key, in memory of its own.
+    /// The same key, which shares its text.
     pub fn copy(&self, alloc: Global) -> Result<Key, Memory>
         ensures { IfOk result (λ copy. copy ≡ self.now) }
     {

@@ -3,9 +3,9 @@ ghost use Rattle.std.specs.Prelude.{◌≡◌, ◌≤◌, ◌<◌, ◌+◌, None
 ghost use Rattle.std.specs.List.{list_any, filter, remove};
 ghost use Rattle.rv_base.specs.Sorted.{IsPositionOf, InOrder, find_by};
 ghost use Rattle.rv_pages.specs.Paging.{items, index_of, place, IsItem, IsGap};
-ghost use Rattle.rv_rows.specs.Keys.{key_text, row_text};
+ghost use Rattle.rv_rows.specs.Keys.{key_text};
 ghost use Rattle.rv_rows.specs.Held.{AreRows, stored_key};
-ghost use Rattle.rv_rows.specs.Filed.{filed, filed_key, under};
+ghost use Rattle.rv_rows.specs.Filed.{filed_key, filed_text};
 ghost use Rattle.rv_rows.specs.Slots.{standing, AreSlots, is_under, relabelled, renamed, Vacates};
 
 use crate::filing::Filing;
@@ -39,7 +39,7 @@ pub(crate) fn position_filed(
 ) -> Result<At, At>
     requires slots { AreSlots (length slots.now) (items order.now.pages) }
     requires order { InOrder (filed_key by) (standing slots.now (items order.now.pages)) }
-    ensures position { IsPositionOf (filed_key by) (filed (under by row.now) (row_text row.now)) (standing slots.now (items order.now.pages)) (place order.now.pages result) }
+    ensures position { IsPositionOf (filed_key by) (filed_text by row.now) (standing slots.now (items order.now.pages)) (place order.now.pages result) }
     ensures at { MatchResult result (IsItem order.now.pages) (IsGap order.now.pages) }
 {
     order.position(&SoughtRow { slots, by, row })
@@ -49,8 +49,8 @@ pub(crate) fn position_filed(
 pub(crate) fn gap_filed(slots: &[(Row, u32)], order: &Pages, by: Filing, row: &Row) -> At
     requires slots { AreSlots (length slots.now) (items order.now.pages) }
     requires order { InOrder (filed_key by) (standing slots.now (items order.now.pages)) }
-    requires absent { find_by (filed_key by) (filed (under by row.now) (row_text row.now)) (standing slots.now (items order.now.pages)) ≡ None }
-    ensures position { IsPositionOf (filed_key by) (filed (under by row.now) (row_text row.now)) (standing slots.now (items order.now.pages)) (Err (index_of order.now.pages result)) }
+    requires absent { find_by (filed_key by) (filed_text by row.now) (standing slots.now (items order.now.pages)) ≡ None }
+    ensures position { IsPositionOf (filed_key by) (filed_text by row.now) (standing slots.now (items order.now.pages)) (Err (index_of order.now.pages result)) }
     ensures gap { IsGap order.now.pages result }
 {
     match position_filed(slots, order, by, row) {

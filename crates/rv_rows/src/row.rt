@@ -3,7 +3,7 @@ ghost use Rattle.std.specs.Cmp.Lexicographic.{slice_cmp};
 ghost use Rattle.std.specs.Ordering.{nat_cmp};
 ghost use Rattle.rv_rows.specs.Keys.{key_text, row_key, row_text};
 ghost use Rattle.rv_rows.specs.Sharing.{list_of, shares, user_of};
-ghost use Rattle.rv_rows.specs.Filed.{filed, under};
+ghost use Rattle.rv_rows.specs.Filed.{filed_text, sort_of, then_by, under};
 ghost use Rattle.rv_rows.specs.Effects.{sort_after, sort_in, with_fields};
 ghost use Rattle.rv_rows.specs.declared.row.Row.TheVariants.{Todo};
 
@@ -95,7 +95,7 @@ impl Row {
         }
     }
 
-    /// The row's key, in memory of its own.
+    /// The row's key, which shares its text.
     pub fn key(&self, alloc: Global) -> Result<Key, Memory>
         ensures { IfOk result (λ key. key ≡ row_key self.now) }
     {
@@ -130,24 +130,38 @@ impl Row {
         match by {
             Filing::List => self.list().as_str(),
             Filing::User => self.user(),
+            Filing::Sort => self.list().as_str(),
         }
     }
 
-    // Whether the row is filed under the same list and the same user as another.
+    // Whether the row is filed as another in each order: under the same list and the same user, and with the same sort.
     pub(crate) fn is_filed_as(&self, other: &Row) -> bool
-        ensures { IsTrue result ↔ ((list_of self.now ≡ list_of other.now) × (user_of self.now ≡ user_of other.now)) }
+        ensures { IsTrue result ↔ ((list_of self.now ≡ list_of other.now) × (user_of self.now ≡ user_of other.now) × (sort_of self.now ≡ sort_of other.now)) }
     {
-        self.list() == other.list() && self.user() == other.user()
+        self.list() == other.list() && self.user() == other.user() && self.sort() == other.sort()
     }
 
-    // How the row stands to another: by what they are filed under, and where that is the same by the texts of the keys.
+    // How the row stands to another: by what they are filed under, and where that is the same by what comes then.
     pub(crate) fn compare_filed(&self, by: Filing, other: &Row) -> Ordering
-        ensures { result ≡ slice_cmp nat_cmp (filed (under by self.now) (row_text self.now)) (filed (under by other.now) (row_text other.now)) }
+        ensures { result ≡ slice_cmp nat_cmp (filed_text by self.now) (filed_text by other.now) }
     {
         match self.under(by).cmp(other.under(by)) {
             Ordering::Less => Ordering::Less,
-            Ordering::Equal => self.compare_key(other.kind(), other.id()),
+            Ordering::Equal => self.compare_then(by, other),
             Ordering::Greater => Ordering::Greater,
+        }
+    }
+
+    // How the row stands to another that is filed under the same: by the keys, and in the order by sorts first by those, from
+    // the greatest down.
+    fn compare_then(&self, by: Filing, other: &Row) -> Ordering
+        ensures { result ≡ slice_cmp nat_cmp (then_by by self.now) (then_by by other.now) }
+    {
+        let by_key = self.compare_key(other.kind(), other.id());
+        match by {
+            Filing::List => by_key,
+            Filing::User => by_key,
+            Filing::Sort => other.sort().cmp(&self.sort()).then(by_key),
         }
     }
 
@@ -162,6 +176,17 @@ impl Row {
         }
     }
 
+    // The sort of a todo, and 0 of any other row.
+    pub(crate) fn sort(&self) -> u64
+        ensures { result ≡ sort_of self.now }
+    {
+        match self {
+            Row::List(_) => 0,
+            Row::Share(_) => 0,
+            Row::Todo(row) => row.sort.get(),
+        }
+    }
+
     /// The sort of a todo of the list, and 0 of any other row.
     pub fn sort_in(&self, list: &Id) -> u64
         ensures { result ≡ sort_in list.now self.now }
@@ -173,7 +198,7 @@ impl Row {
         }
     }
 
-    /// The same row, in memory of its own.
+    /// The same row, which shares its texts.
     pub fn copy(&self, alloc: Global) -> Result<Row, Memory>
         ensures { IfOk result (λ copy. copy ≡ self.now) }
     {
@@ -186,7 +211,7 @@ impl Row {
 }
 
 impl ListRow {
-    /// The same row, in memory of its own.
+    /// The same row, which shares its texts.
     pub fn copy(&self, alloc: Global) -> Result<ListRow, Memory>
         ensures { IfOk result (λ copy. copy ≡ self.now) }
     {
@@ -199,7 +224,7 @@ impl ListRow {
 }
 
 impl ShareRow {
-    /// The same row, in memory of its own.
+    /// The same row, which shares its texts.
     pub fn copy(&self, alloc: Global) -> Result<ShareRow, Memory>
         ensures { IfOk result (λ copy. copy ≡ self.now) }
     {
@@ -212,7 +237,7 @@ impl ShareRow {
 }
 
 impl TodoRow {
-    /// The same row, in memory of its own.
+    /// The same row, which shares its texts.
     pub fn copy(&self, alloc: Global) -> Result<TodoRow, Memory>
         ensures { IfOk result (λ copy. copy ≡ self.now) }
     {
@@ -225,7 +250,7 @@ impl TodoRow {
         })
     }
 
-    /// The todo with the fields that are named, in memory of its own.
+    /// The todo with the fields that are named; it shares the texts of the others.
     pub fn with_fields(
         &self,
         alloc: Global,

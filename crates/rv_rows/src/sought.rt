@@ -1,8 +1,8 @@
 // What is looked for in an order of slots, and how the row of each slot stands to it. A slot that is not there stands below.
 ghost use Rattle.std.specs.Prelude.{◌≡◌};
-ghost use Rattle.rv_rows.specs.Keys.{key_text, row_text};
+ghost use Rattle.rv_rows.specs.Keys.{key_text};
 ghost use Rattle.rv_rows.specs.Held.{stored_key};
-ghost use Rattle.rv_rows.specs.Filed.{filed, filed_key, under};
+ghost use Rattle.rv_rows.specs.Filed.{filed_key, filed_text, under};
 ghost use Rattle.rv_rows.specs.Slots.{by_slot};
 
 use crate::filing::Filing;
@@ -48,16 +48,16 @@ pub(crate) struct SoughtRow<'a> {
 }
 
 impl<'a> Compare for SoughtRow<'a> {
-    ghost order = { λ sought slot. by_slot (filed_key sought.by) (filed (under sought.by sought.row.now) (row_text sought.row.now)) sought.slots.now slot };
+    ghost order = { λ sought slot. by_slot (filed_key sought.by) (filed_text sought.by sought.row.now) sought.slots.now slot };
 
     fn compare(&self, slot: u32) -> Ordering {
         compare_filed(self.slots, slot, self.by, self.row)
     }
 }
 
-// How the row of the slot stands to another, by what they are filed under and then by the keys.
+// How the row of the slot stands to another, by what they are filed under and by what comes then.
 fn compare_filed(slots: &[(Row, u32)], slot: u32, by: Filing, row: &Row) -> Ordering
-    ensures { result ≡ by_slot (filed_key by) (filed (under by row.now) (row_text row.now)) slots.now slot }
+    ensures { result ≡ by_slot (filed_key by) (filed_text by row.now) slots.now slot }
 {
     if (slot as usize) < slots.len() {
         slots[slot as usize].0.compare_filed(by, row)

@@ -2,8 +2,9 @@ ghost use Rattle.std.specs.Prelude.{◌≡◌, ◌≤◌, ◌+◌, [], option_ma
 ghost use Rattle.std.specs.List.{filter};
 ghost use Rattle.std.specs.Str.{bytes_eq};
 ghost use Rattle.rv_rows.specs.Keys.{key_text};
-ghost use Rattle.rv_rows.specs.Held.{find, put, remove, AreRows};
+ghost use Rattle.rv_rows.specs.Held.{find, put, remove, rows_in, AreRows};
 ghost use Rattle.rv_rows.specs.Sharing.{list_of, user_of};
+ghost use Rattle.rv_rows.specs.Effects.{greatest_sort};
 
 use crate::indexed::IndexedRows;
 use crate::key::{Key, Kind};
@@ -115,5 +116,11 @@ impl Tables {
         ensures order { AreRows self.now.rows }
     {
         self.rows.of_user(user.as_str())
+    }
+    /// The greatest sort of the todos of a list, and 0 where it has none. Takes no memory, and walks no rows.
+    pub fn greatest_sort(&self, list: &Id) -> u64
+        ensures { result ≡ greatest_sort list.now (rows_in self.now.rows) }
+    {
+        self.rows.greatest_sort(list.as_str())
     }
 }

@@ -26,5 +26,5 @@ returns-clause-rows c =
     let inside = c.self.inside in
     c.new.ensures
     ∙ ap (λ (slots : List Stored). standing slots c.slots_under.result) c.deref.ensures.value
-    ∙ filed_rows filings.List inside.slots.items (items inside.by_key.pages) (items inside.by_list.pages) c.slots_under.result (standing inside.slots.items (items inside.by_key.pages)) c.args.list.now c.self.invariant.0.key_order c.self.invariant.0.lists refl (found_then c)
+    ∙ filed_rows filings.List inside.slots.items (items inside.by_key.pages) (items inside.by_list.pages) c.slots_under.result (standing inside.slots.items (items inside.by_key.pages)) c.args.list.now (λ _. refl) c.self.invariant.0.key_order c.self.invariant.0.lists refl (found_then c)
     ∙ ap (λ (v : Slotted). filter (λ (s : Stored). bytes_eq (list_of s.0) c.args.list.now) (rows_of v)) c.self.view_is

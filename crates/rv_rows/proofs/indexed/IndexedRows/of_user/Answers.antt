@@ -26,5 +26,5 @@ returns-clause-rows c =
     let inside = c.self.inside in
     c.new.ensures
     ∙ ap (λ (slots : List Stored). standing slots c.slots_under.result) c.deref.ensures.value
-    ∙ filed_rows filings.User inside.slots.items (items inside.by_key.pages) (items inside.by_user.pages) c.slots_under.result (standing inside.slots.items (items inside.by_key.pages)) c.args.user.now c.self.invariant.0.key_order c.self.invariant.0.users refl (found_then c)
+    ∙ filed_rows filings.User inside.slots.items (items inside.by_key.pages) (items inside.by_user.pages) c.slots_under.result (standing inside.slots.items (items inside.by_key.pages)) c.args.user.now (λ _. refl) c.self.invariant.0.key_order c.self.invariant.0.users refl (found_then c)
     ∙ ap (λ (v : Slotted). filter (λ (s : Stored). bytes_eq (user_of s.0) c.args.user.now) (rows_of v)) c.self.view_is

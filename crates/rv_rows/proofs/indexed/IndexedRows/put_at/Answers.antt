@@ -4,7 +4,6 @@ use Rattle.rv_base.specs.Sorted.{find_by, InOrder}
 use Rattle.rv_pages.specs.Paging.{items, index_of}
 use Rattle.rv_rows.specs.Keys.{row_text}
 use Rattle.rv_rows.specs.Held.{Stored, stored_key, put, AreRows}
-use Rattle.rv_rows.specs.Sharing.{list_of, user_of}
 use Rattle.rv_rows.specs.Filed.{filed_key}
 use Rattle.rv_rows.specs.declared.filing.Filing.TheVariants as filings
 use Rattle.rv_rows.specs.Slots.{standing, Slotted, rows_of}
@@ -15,13 +14,19 @@ pub gap_filed-in_list-requires-clause-absent : goal.gap_filed-in_list-requires-c
 gap_filed-in_list-requires-clause-absent c =
     let inside = c.self.inside in
     let none = subst (λ (v : Slotted). find_by stored_key (row_text c.args.row) (rows_of v) ≡ None) (sym c.self.view_is) c.requires.position.absent in
-    rw c.deref.ensures.value (absent_too filings.List inside.slots.items (items inside.by_key.pages) (items inside.by_list.pages) (list_of c.args.row) (row_text c.args.row) c.self.invariant.0.key_order c.self.invariant.0.lists none)
+    rw c.deref.ensures.value (absent_too filings.List inside.slots.items (items inside.by_key.pages) (items inside.by_list.pages) c.args.row c.self.invariant.0.key_order c.self.invariant.0.lists none)
 
 pub gap_filed-of_user-requires-clause-absent : goal.gap_filed-of_user-requires-clause-absent
 gap_filed-of_user-requires-clause-absent c =
     let inside = c.self.inside in
     let none = subst (λ (v : Slotted). find_by stored_key (row_text c.args.row) (rows_of v) ≡ None) (sym c.self.view_is) c.requires.position.absent in
-    rw c.deref-2.ensures.value (absent_too filings.User inside.slots.items (items inside.by_key.pages) (items inside.by_user.pages) (user_of c.args.row) (row_text c.args.row) c.self.invariant.0.key_order c.self.invariant.0.users none)
+    rw c.deref-2.ensures.value (absent_too filings.User inside.slots.items (items inside.by_key.pages) (items inside.by_user.pages) c.args.row c.self.invariant.0.key_order c.self.invariant.0.users none)
+
+pub gap_filed-of_sort-requires-clause-absent : goal.gap_filed-of_sort-requires-clause-absent
+gap_filed-of_sort-requires-clause-absent c =
+    let inside = c.self.inside in
+    let none = subst (λ (v : Slotted). find_by stored_key (row_text c.args.row) (rows_of v) ≡ None) (sym c.self.view_is) c.requires.position.absent in
+    rw c.deref-3.ensures.value (absent_too filings.Sort inside.slots.items (items inside.by_key.pages) (items inside.by_sort.pages) c.args.row c.self.invariant.0.key_order c.self.invariant.0.sorts none)
 
 pub invariant_of-self : goal.invariant_of-self
 invariant_of-self c =
@@ -32,19 +37,25 @@ invariant_of-self c =
     let i = index_of inside.by_key.pages c.args.at in
     let j = index_of inside.by_list.pages c.gap_filed-in_list.result in
     let k = index_of inside.by_user.pages c.gap_filed-of_user.result in
+    let l = index_of inside.by_sort.pages c.gap_filed-of_sort.result in
     let last : c.len-slot.result ≡ length slots = omega (arith, inside.slots.ok.0) in
     let sorted : AreRows (insert (standing slots (items inside.by_key.pages)) i x) = subst (λ (v : Slotted). AreRows (insert (rows_of v) (index_of v.by_key c.args.at) x)) (sym c.self.view_is) (c.requires.position.inserted_order x refl) in
     let listed : InOrder (filed_key filings.List) (insert (standing slots (items inside.by_list.pages)) j x) =
     subst (λ (t : List Stored). InOrder (filed_key filings.List) (insert (standing t (items inside.by_list.pages)) j x)) c.deref.ensures.value (c.gap_filed-in_list.ensures.position.inserted_order x refl) in
     let named : InOrder (filed_key filings.User) (insert (standing slots (items inside.by_user.pages)) k x) =
-    subst (λ (t : List Stored). InOrder (filed_key filings.User) (insert (standing t (items inside.by_user.pages)) k x)) c.deref-2.ensures.value (c.gap_filed-of_user.ensures.position.inserted_order x refl) in (
-      pushed slots c.push.new.slots.items (items inside.by_key.pages) (items c.insert.new.self.pages) (items inside.by_list.pages) (items c.insert-2.new.self.pages) (items inside.by_user.pages) (items c.insert-3.new.self.pages) x i j k c.len-slot.result
-          c.self.invariant.0 sorted listed named c.push.ensures.rows last c.insert.ensures.items c.insert-2.ensures.items c.insert-3.ensures.items,
-      omega arith,
-      omega arith,
-      omega arith,
-      omega arith,
-      omega arith,
+    subst (λ (t : List Stored). InOrder (filed_key filings.User) (insert (standing t (items inside.by_user.pages)) k x)) c.deref-2.ensures.value (c.gap_filed-of_user.ensures.position.inserted_order x refl) in
+    let ranked : InOrder (filed_key filings.Sort) (insert (standing slots (items inside.by_sort.pages)) l x) =
+    subst (λ (t : List Stored). InOrder (filed_key filings.Sort) (insert (standing t (items inside.by_sort.pages)) l x)) c.deref-3.ensures.value (c.gap_filed-of_sort.ensures.position.inserted_order x refl) in (
+      pushed slots c.push.new.slots.items (items inside.by_key.pages) (items c.insert.new.self.pages) (items inside.by_list.pages) (items c.insert-2.new.self.pages) (items inside.by_user.pages) (items c.insert-3.new.self.pages) (items inside.by_sort.pages) (items c.insert-4.new.self.pages)
+          x i j k l c.len-slot.result c.self.invariant.0 sorted listed named ranked c.push.ensures.rows last c.insert.ensures.items c.insert-2.ensures.items c.insert-3.ensures.items c.insert-4.ensures.items,
+      record {
+        slot_space = omega arith;
+        key_space = omega arith;
+        list_space = omega arith;
+        user_space = omega arith;
+        sort_space = omega arith;
+        numbers = omega arith;
+      },
     )
 
 pub returns-clause-rows : goal.returns-clause-rows

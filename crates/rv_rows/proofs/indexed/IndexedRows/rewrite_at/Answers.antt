@@ -4,24 +4,36 @@ use Rattle.rv_pages.specs.Paging.{items, index_of}
 use Rattle.rv_rows.specs.Keys.{row_text}
 use Rattle.rv_rows.specs.Held.{stored_key}
 use Rattle.rv_rows.specs.Sharing.{list_of, user_of}
+use Rattle.rv_rows.specs.Filed.{sort_of}
 use Rattle.rv_rows.specs.Slots.{standing, HasOrders, Slotted, rows_of, no_row}
 use Rattle.rv_rows.proofs.RowSlots.{written_at}
 use Rattle.rv_rows.proofs.indexed.IndexedRows.rewrite_at.Goals as goal
 
-rewritten : (c : goal.After-rewrite) → HasOrders c.rewrite.new.slots.items (items c.self.inside.by_key.pages) (items c.self.inside.by_list.pages) (items c.self.inside.by_user.pages)
+rewritten : (c : goal.After-rewrite) → HasOrders c.rewrite.new.slots.items (items c.self.inside.by_key.pages) (items c.self.inside.by_list.pages) (items c.self.inside.by_user.pages) (items c.self.inside.by_sort.pages)
     × (standing c.rewrite.new.slots.items (items c.self.inside.by_key.pages) ≡ set (standing c.self.inside.slots.items (items c.self.inside.by_key.pages)) (index_of c.self.inside.by_key.pages c.args.at) (c.args.row, c.args.version))
 rewritten c =
     let inside = c.self.inside in
     let back = sym c.self.view_is in
-    written_at inside.slots.items c.rewrite.new.slots.items (items inside.by_key.pages) (items inside.by_list.pages) (items inside.by_user.pages) (index_of inside.by_key.pages c.args.at) c.get-slot.result (c.args.row, c.args.version) c.self.invariant.0
+    written_at inside.slots.items c.rewrite.new.slots.items (items inside.by_key.pages) (items inside.by_list.pages) (items inside.by_user.pages) (items inside.by_sort.pages) (index_of inside.by_key.pages c.args.at) c.get-slot.result (c.args.row, c.args.version) c.self.invariant.0
     (subst (λ (v : Slotted). IsPositionOf stored_key (row_text c.args.row) (rows_of v) (Ok (index_of v.by_key c.args.at))) back c.requires.position)
     (c.get-slot.ensures.lookup c.get-slot.result)
     (subst (λ (v : Slotted). list_of (get_or (rows_of v) (index_of v.by_key c.args.at) no_row).0 ≡ list_of c.args.row) back c.requires.list)
     (subst (λ (v : Slotted). user_of (get_or (rows_of v) (index_of v.by_key c.args.at) no_row).0 ≡ user_of c.args.row) back c.requires.user)
+    (subst (λ (v : Slotted). sort_of (get_or (rows_of v) (index_of v.by_key c.args.at) no_row).0 ≡ sort_of c.args.row) back c.requires.sort)
     c.rewrite.ensures.rows
 
 pub invariant_of-self : goal.invariant_of-self
-invariant_of-self c = ((rewritten c).0, omega arith, omega arith, omega arith, omega arith, omega arith)
+invariant_of-self c = (
+  (rewritten c).0,
+  record {
+    slot_space = omega arith;
+    key_space = omega arith;
+    list_space = omega arith;
+    user_space = omega arith;
+    sort_space = omega arith;
+    numbers = omega arith;
+  },
+)
 
 pub returns-clause-rows : goal.returns-clause-rows
 returns-clause-rows c = (rewritten c).1 ∙ ap (λ (v : Slotted). set (rows_of v) (index_of v.by_key c.args.at) (c.args.row, c.args.version)) c.self.view_is
