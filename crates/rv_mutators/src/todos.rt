@@ -3,7 +3,7 @@ ghost use Rattle.std.specs.Prelude.{◌≡◌, IfOk, ◌&&◌, not};
 ghost use Rattle.rv_rows.specs.Held.{rows_in, AreRows};
 ghost use Rattle.rv_rows.specs.Keys.{key_text, has_row};
 ghost use Rattle.rv_rows.specs.Sharing.{sees};
-ghost use Rattle.rv_rows.specs.Effects.{greatest_sort, with_fields};
+ghost use Rattle.rv_rows.specs.Effects.{with_fields};
 ghost use Rattle.rv_rows.specs.Changes.{same_row};
 ghost use Rattle.rv_rows.specs.declared.call.Call.TheVariants.{CreateTodo, UpdateTodo, DeleteTodo};
 ghost use Rattle.rv_rows.specs.declared.row.Row.TheVariants.{Todo};
@@ -36,7 +36,7 @@ pub(crate) fn create_todo(
             list: list.copy(alloc)?,
             text: text.copy(alloc)?,
             complete,
-            sort: TodoRow::sort_after(greatest_sort(tables, list)),
+            sort: TodoRow::sort_after(tables.greatest_sort(list)),
         };
         Staged::writes(alloc, Row::Todo(row))
     } else {
@@ -49,20 +49,6 @@ fn may_create(tables: &Tables, user: &User, id: &Id, list: &Id) -> bool
     ensures { result ≡ (not (has_row (key_text (record { kind = TodoKind; id = id.now })) (rows_in tables.now.rows)) && sees user.now list.now (rows_in tables.now.rows)) }
 {
     !has_row(tables, Kind::Todo, id) && sees(tables, user, list)
-}
-
-// The greatest sort in a list, and 0 where it has no todo.
-fn greatest_sort(tables: &Tables, list: &Id) -> u64
-    ensures { result ≡ greatest_sort list.now (rows_in tables.now.rows) }
-{
-    let mut most = 0;
-    for (row, _version) in tables.of_list(list) {
-        let sort = row.sort_in(list);
-        if most < sort {
-            most = sort;
-        }
-    }
-    most
 }
 
 // The fields that are named, of a todo whose list the user sees.
