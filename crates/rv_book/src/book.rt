@@ -9,10 +9,11 @@ ghost use Rattle.rv_book.specs.declared.fault.BookFault.TheVariants as BookFault
 use crate::clients::{ClientInfo, ClientRef, ClientRow};
 use crate::entry::{Entry, entry_at};
 use crate::fault::BookFault;
+use crate::group_clients::GroupClients;
 use crate::groups::{GroupInfo, GroupRef, GroupRow};
 use crate::look::{LookRef, LookRow, look_at};
 use crate::{clients, groups, look, members};
-use rv_base::{Id, Memory, Num, User};
+use rv_base::{Id, Memory, Num, Sequence, User};
 use rv_rows::Clients;
 use std::alloc::Global;
 use std::marker::Model;
@@ -160,12 +161,24 @@ impl Book {
         groups::info_at(&self.entries, &self.groups, index)
     }
 
-    /// The clients of a group with their last mutation ids, in the order of the clients' bytes.
+    /// The clients of a group with their last mutation ids, in the order of the clients' bytes. Takes no memory.
+    pub fn clients_of(&self, group: &Id) -> GroupClients<'_>
+        ensures ids { result ≡ ids group.now self.now.book }
+        ensures order { InOrder (λ pair. pair.0) (ids group.now self.now.book) }
+    {
+        members::of_group(&self.entries, &self.members, group)
+    }
+
+    /// The same as a list.
     pub fn clients(&self, group: &Id) -> Result<Clients, Memory>
         ensures ids { IfOk result (λ v. v ≡ ids group.now self.now.book) }
         ensures order { IfOk result (λ v. InOrder (λ pair. pair.0) v) }
     {
-        members::of_group(self.alloc, &self.entries, &self.members, group)
+        let mut clients = Sequence::new(self.alloc);
+        for (client, last) in self.clients_of(group) {
+            clients.push((client.copy(self.alloc)?, last))?;
+        }
+        Ok(clients)
     }
 
     /// The look at a place.

@@ -40,7 +40,7 @@ pub enum Entry {
 }
 
 impl Entry {
-    /// The same entry, in memory of its own.
+    /// The same entry, which shares its texts.
     pub fn copy(&self, alloc: Global) -> Result<Entry, Memory>
         ensures { IfOk result (λ copy. copy ≡ self.now) }
     {

@@ -1,6 +1,6 @@
 // The clients of each group: the rows of the clients in the order of the groups of their first acts, and then of the clients.
-ghost use Rattle.std.specs.Prelude.{◌≡◌, true, ◌≤◌, ◌<◌, ◌+◌, ◌-◌, ◌^◌, ◌++◌, length, Some, [], option_map, IfOk, OnOk, vec_len, vec_capacity};
-ghost use Rattle.std.specs.List.{cons_option, filter};
+ghost use Rattle.std.specs.Prelude.{◌≡◌, true, ◌≤◌, ◌<◌, ◌+◌, ◌-◌, ◌^◌, length, Some, option_map, vec_len, vec_capacity};
+ghost use Rattle.std.specs.List.{filter};
 ghost use Rattle.std.specs.Cmp.Lexicographic.{slice_cmp};
 ghost use Rattle.std.specs.Ordering.{nat_cmp};
 ghost use Rattle.rv_base.specs.Sorted.{InOrder, IsPositionOf};
@@ -12,9 +12,8 @@ ghost use Rattle.rv_book.specs.Members.{AreMemberRows, group_before, group_of_me
 use crate::clients;
 use crate::clients::ClientRow;
 use crate::entry::Entry;
-use rv_base::{Id, Memory, Num, Sequence};
-use rv_rows::Clients;
-use std::alloc::Global;
+use crate::group_clients::GroupClients;
+use rv_base::{Id, Num};
 use std::cmp::Ordering;
 
 // The group of a row: that of the act that it names, and an empty text where it names no act.
@@ -62,7 +61,7 @@ fn of<'r>(entries: &[Entry], rows: &'r [ClientRow], other: &Id) -> &'r [ClientRo
 }
 
 // The client of a row, with its last mutation id.
-fn info<'b>(entries: &'b [Entry], row: &ClientRow) -> Option<(&'b Id, Num)>
+pub(crate) fn info<'b>(entries: &'b [Entry], row: &ClientRow) -> Option<(&'b Id, Num)>
     ensures { option_map (λ pair. (pair.0.now, pair.1)) result ≡ info_by (book_of entries.now) row.now }
 {
     match entries.get(row.first as usize)? {
@@ -72,41 +71,17 @@ fn info<'b>(entries: &'b [Entry], row: &ClientRow) -> Option<(&'b Id, Num)>
     }
 }
 
-// Adds the client of a row.
-fn add(
-    alloc: Global,
-    clients: &mut Vec<(Id, Num)>,
-    entries: &[Entry],
-    row: &ClientRow,
-) -> Result<(), Memory>
-    ensures { OnOk result (clients.new.items ≡ clients.old.items ++ cons_option (info_by (book_of entries.now) row.now) []) }
-{
-    match info(entries, row) {
-        Some((client, last)) => {
-            clients.push((client.copy(alloc)?, last))?;
-            Ok(())
-        }
-        None => Ok(()),
-    }
-}
-
 // The clients of a group with their last mutation ids, in the order of the clients' bytes.
-pub(crate) fn of_group(
-    alloc: Global,
-    entries: &[Entry],
-    rows: &[ClientRow],
+pub(crate) fn of_group<'b>(
+    entries: &'b [Entry],
+    rows: &'b [ClientRow],
     group: &Id,
-) -> Result<Clients, Memory>
+) -> GroupClients<'b>
     requires { AreMemberRows (book_of entries.now) rows.now }
-    ensures ids { IfOk result (λ v. v ≡ ids group.now (book_of entries.now)) }
-    ensures order { IfOk result (λ v. InOrder (λ pair. pair.0) v) }
+    ensures ids { result ≡ ids group.now (book_of entries.now) }
+    ensures order { InOrder (λ pair. pair.0) (ids group.now (book_of entries.now)) }
 {
-    let members = of(entries, rows, group);
-    let mut clients = Vec::with_capacity(alloc, members.len())?;
-    for row in members {
-        add(alloc, &mut clients, entries, row)?;
-    }
-    Ok(Sequence::from_vec(clients))
+    GroupClients::new(entries, of(entries, rows, group))
 }
 
 // Enters an act of a client of a group, which follows the entries.
