@@ -4,3 +4,4 @@ pub mod OpenedLaws
 pub mod VisibleLaws
 pub mod ViewerLaws
 pub mod GatheredLaws
+pub mod ReadLaws

@@ -1,19 +1,19 @@
 -- Laws of the keys that a user sees, collected row by row.
-use Rattle.std.proofs.Common.{◌≡◌, ◌↔◌, ℕ, zero, suc, ◌+◌, ◌<◌, ◌≤◌, List, [], ◌∷◌, ◌++◌, map, length, get_or, take, drop, refl, sym, ap, ◌∙◌, arith, add-one}
-use Rattle.std.specs.List.{filter, list_any}
+use Rattle.std.proofs.Common.{◌≡◌, ℕ, ◌+◌, ◌<◌, ◌≤◌, Bool, true, false, cond, List, [], ◌∷◌, ◌++◌, map, length, get_or, take, Some, refl, sym, ap, ◌∙◌, subst}
+use Rattle.std.specs.List.{AllByRecursion, filter, list_any}
 use Rattle.std.specs.Str.{bytes_eq}
 use Rattle.std.specs.Borrow.{Bor}
 use Rattle.std.proofs.lemmas.List.{take_more, take_all}
 use Rattle.rv_base.specs.Sorted.{InOrder}
-use Rattle.rv_base.specs.Positions.{Above, in_order-filter}
+use Rattle.rv_base.specs.Positions.{Above, differs_back, equals, in_order-filter}
 use Rattle.rv_rows.specs.declared.key.Key.{Key}
 use Rattle.rv_rows.specs.declared.row.Row.{Row}
 use Rattle.rv_rows.specs.Keys.{key_text, row_key}
-use Rattle.rv_rows.specs.Held.{Stored, AreRows, stored_key, rows_in}
+use Rattle.rv_rows.specs.Held.{Stored, AreRows, find, stored_key, rows_in}
 use Rattle.rv_rows.specs.Sharing.{list_of, sees}
 use Rattle.rv_sharing.specs.Opened.{AreOpened}
-use Rattle.rv_sharing.specs.Gathered.{rows_at, keys_at}
-use Rattle.rv_sharing.specs.Visible.{visible, BeginsOtherwise}
+use Rattle.rv_sharing.specs.Gathered.{rows_at, keys_at, Stand}
+use Rattle.rv_sharing.specs.Visible.{visible}
 
 -- rows behind references
 abbrev Item : Type 0
@@ -41,30 +41,22 @@ keys_more rows i item keys new key lt is key_is new_is so_far =
 pub keys_end : (rows : List Item) (i : ℕ) (keys : List (Key × ℕ)) → length rows ≤ i → keys ≡ keys_at (take i rows) → keys ≡ keys_at rows
 keys_end rows i keys le so_far = so_far ∙ ap keys_at (take_all i rows le)
 
--- the rest of the keys is that of the rest of the rows exactly where all of them are those of all of the rows
-pub record Matching (rows : List Item) (keys rest : List (Key × ℕ)) (i : ℕ) : Type 0 where
-  pub exactly : (rest ≡ keys_at (drop i rows)) ↔ (keys ≡ keys_at rows)
+-- each row of some lists stands under its key
+all_filter : (P : Stored → Type 0) (p : Stored → Bool) (xs : List Stored) → AllByRecursion P xs → AllByRecursion P (filter p xs)
+all_filter P p [] all = tt
+all_filter P p (x ∷ xs) all = elim (p x) as (λ b. AllByRecursion P (cond b (x ∷ filter p xs) (filter p xs))) [ true ↦ (all.0, all_filter P p xs all.1) | false ↦ all_filter P p xs all.1 ]
 
-next_key : (rows : List Item) (i : ℕ) (item : Item) → i < length rows → item ≡ get_or rows i item → keys_at (drop i rows) ≡ (row_key item.0.now, item.1) ∷ keys_at (drop (i + 1) rows)
-next_key [] i item lt is = absurd (omega arith)
-next_key (x ∷ xs) zero item lt is = λ k. (row_key (sym is k).0.now, (sym is k).1) ∷ keys_at xs
-next_key (x ∷ xs) (suc i) item lt is = rw add-one (rw add-one at (next_key xs i item (omega arith) is))
+found_own : (xs : List Stored) → AreRows xs → AllByRecursion (λ s. find (stored_key s) xs ≡ Some s) xs
+found_own [] h = tt
+found_own (x ∷ xs) h = (rw (equals (stored_key x)) refl, behind xs h.0 (found_own xs h.1))
+  where
+    behind : (ys : List Stored) → Above stored_key (stored_key x) ys → AllByRecursion (λ s. find (stored_key s) xs ≡ Some s) ys → AllByRecursion (λ s. find (stored_key s) (x ∷ xs) ≡ Some s) ys
+    behind [] low all = tt
+    behind (y ∷ ys) low all = (rw (differs_back (stored_key x) (stored_key y) low.0) all.0, behind ys low.1 all.1)
 
-pub matching_begins : (rows : List Item) (keys : List (Key × ℕ)) → Matching rows keys keys 0
-matching_begins rows keys = record { exactly = ((λ is. is), (λ is. is)) }
-
-pub matching_more : (rows : List Item) (keys rest others : List (Key × ℕ)) (i : ℕ) (item : Item) → i < length rows → item ≡ get_or rows i item → rest ≡ (row_key item.0.now, item.1) ∷ others → Matching rows keys rest i → Matching rows keys others (i + 1)
-matching_more rows keys rest others i item lt is begins m =
-    let next = next_key rows i item lt is in
-    record {
-      exactly = (
-        (λ same. m.exactly.0 (begins ∙ ap (λ (ks : List (Key × ℕ)). (row_key item.0.now, item.1) ∷ ks) same ∙ sym next)),
-        (λ same. let both : (row_key item.0.now, item.1) ∷ others ≡ (row_key item.0.now, item.1) ∷ keys_at (drop (i + 1) rows) = sym begins ∙ m.exactly.1 same ∙ next in cc),
-      );
-    }
-
-pub matching_fails : (rows : List Item) (keys rest : List (Key × ℕ)) (i : ℕ) (item : Item) → i < length rows → item ≡ get_or rows i item → BeginsOtherwise (row_key item.0.now, item.1) rest → Matching rows keys rest i → ¬ (keys ≡ keys_at rows)
-matching_fails rows keys rest i item lt is otherwise m = λ same. otherwise (keys_at (drop (i + 1) rows)) (m.exactly.1 same ∙ next_key rows i item lt is)
+pub all_stand : (stored : List Stored) (lists : List (List ℕ)) (rows : List Stored) → rows ≡ filter (λ s. list_any (bytes_eq (list_of s.0)) lists) stored → AreRows stored → Stand stored rows
+all_stand stored lists rows is h =
+    subst (Stand stored) (sym is) (all_filter (λ (s : Stored). find (stored_key s) stored ≡ Some s) (λ s. list_any (bytes_eq (list_of s.0)) lists) stored (found_own stored h))
 
 -- keys with versions, of stored rows in the order of their keys
 abbrev pair : Stored → Key × ℕ

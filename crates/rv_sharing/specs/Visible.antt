@@ -1,5 +1,5 @@
 -- The keys that a user sees in a table, in order, each with the version of its row.
-use Rattle.std.specs.Prelude.{◌≡◌, ℕ, List, ◌∷◌, map}
+use Rattle.std.specs.Prelude.{ℕ, List, map}
 use Rattle.std.specs.List.{filter}
 use Rattle.rv_rows.specs.declared.key.Key.{Key}
 use Rattle.rv_rows.specs.Keys.{row_key}
@@ -8,7 +8,3 @@ use Rattle.rv_rows.specs.Sharing.{sees, list_of}
 
 abbrev pub visible : List ℕ → List Stored → List (Key × ℕ)
 visible user stored = map (λ s. (row_key s.0, s.1)) (filter (λ s. sees user (list_of s.0) (rows_in stored)) stored)
-
--- the list does not begin with this
-abbrev pub BeginsOtherwise : {X : Type 0} → X → List X → Type 0
-BeginsOtherwise x xs = (others : List _) → ¬ (xs ≡ x ∷ others)

@@ -1,48 +1,56 @@
-// The rows of several lists, in the order of their keys.
-ghost use Rattle.std.specs.Prelude.{◌≡◌, IfOk};
+// The rows of several lists, in the order of their keys. Each row that is read of a list is a step.
+ghost use Rattle.std.specs.Prelude.{◌≡◌, ◌≤◌, ◌+◌, length, IfOk, OnOk};
 ghost use Rattle.std.specs.List.{filter, list_any};
 ghost use Rattle.std.specs.Str.{bytes_eq};
 ghost use Rattle.rv_rows.specs.Held.{AreRows};
 ghost use Rattle.rv_rows.specs.Sharing.{list_of};
-ghost use Rattle.rv_sharing.specs.Gathered.{rows_at, merged};
+ghost use Rattle.rv_sharing.specs.Gathered.{rows_at, merged, of_list, rows_in_lists};
 
-use rv_base::{Id, Memory};
+use rv_base::{Id, Memory, Steps};
 use rv_rows::{Row, Tables};
 use std::alloc::Global;
 use std::cmp::Ordering;
+use std::sync::ledger::Ledger;
 
 /// The rows of these lists, with their versions, in the order of their keys. A list's own rows stand in that order; those of
 /// several are merged, half by half, so each row is compared as often as the number of lists can be halved.
-pub(crate) fn rows_of<'t>(
+pub(crate) fn rows_of<'t, L: Ledger>(
     alloc: Global,
     tables: &'t Tables,
     lists: &[Id],
+    steps: &mut Steps<L>,
 ) -> Result<Vec<(&'t Row, u32)>, Memory>
     requires { AreRows tables.now.rows }
-    ensures { IfOk result (λ rows. rows_at rows.items ≡ filter (λ s. list_any (bytes_eq (list_of s.0)) lists.now) tables.now.rows) }
+    ensures rows { IfOk result (λ rows. rows_at rows.items ≡ filter (λ s. list_any (bytes_eq (list_of s.0)) lists.now) tables.now.rows) }
+    ensures read { OnOk result (steps.new ≡ steps.old + rows_in_lists lists.now tables.now.rows) }
+    ensures most { steps.new ≤ steps.old + rows_in_lists lists.now tables.now.rows }
 {
     match lists {
         [] => Ok(Vec::new(alloc)),
-        [list] => rows_of_one(alloc, tables, list),
+        [list] => rows_of_one(alloc, tables, list, steps),
         _ => {
             let (front, back) = lists.split_at(lists.len() / 2);
-            let left = rows_of(alloc, tables, front)?;
-            let right = rows_of(alloc, tables, back)?;
+            let left = rows_of(alloc, tables, front, steps)?;
+            let right = rows_of(alloc, tables, back, steps)?;
             merged(alloc, &left, &right)
         }
     }
 }
 
 // The rows of a list, with their versions, in the order of their keys.
-fn rows_of_one<'t>(
+fn rows_of_one<'t, L: Ledger>(
     alloc: Global,
     tables: &'t Tables,
     list: &Id,
+    steps: &mut Steps<L>,
 ) -> Result<Vec<(&'t Row, u32)>, Memory>
-    ensures { IfOk result (λ rows. rows_at rows.items ≡ filter (λ s. bytes_eq (list_of s.0) list.now) tables.now.rows) }
+    ensures rows { IfOk result (λ rows. rows_at rows.items ≡ of_list list.now tables.now.rows) }
+    ensures read { OnOk result (steps.new ≡ steps.old + length (of_list list.now tables.now.rows)) }
+    ensures most { steps.new ≤ steps.old + length (of_list list.now tables.now.rows) }
 {
     let mut rows = Vec::new(alloc);
     for item in tables.of_list(list) {
+        steps.tick();
         rows.push(item)?;
     }
     Ok(rows)

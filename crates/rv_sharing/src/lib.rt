@@ -12,4 +12,4 @@ mod views;
 
 pub use lists::{has_list, has_share, owner_of, owns, sees};
 pub use viewers::{add_sharers, add_user, add_viewers, affected};
-pub use views::{sees_exactly, visible};
+pub use views::{keys_of, rows_seen, visible};

@@ -1,18 +1,20 @@
 // What a user sees of a table.
-ghost use Rattle.std.specs.Prelude.{◌≡◌, ◌∷◌, ◌↔◌, IsTrue, IfOk, MatchOption, option_map};
+ghost use Rattle.std.specs.Prelude.{◌≡◌, ◌≤◌, ◌<◌, ◌+◌, length, IfOk, OnOk, option_map};
 ghost use Rattle.rv_base.specs.Sorted.{InOrder};
-ghost use Rattle.rv_rows.specs.Keys.{key_text, row_key};
+ghost use Rattle.rv_rows.specs.Keys.{key_text};
 ghost use Rattle.rv_rows.specs.Held.{rows_in, AreRows};
 ghost use Rattle.rv_sharing.specs.Opened.{opened, AreOpened};
-ghost use Rattle.rv_sharing.specs.Gathered.{keys_at};
-ghost use Rattle.rv_sharing.specs.Visible.{visible, BeginsOtherwise};
+ghost use Rattle.rv_sharing.specs.Gathered.{keys_at, rows_at, Stand};
+ghost use Rattle.rv_sharing.specs.Visible.{visible};
 
 use crate::gathering::rows_of;
 use crate::lists::has_list;
 use crate::texts::add;
-use rv_base::{Id, Memory, Sequence, User};
-use rv_rows::{Key, Row, Tables, Visible};
+use rv_base::{Id, Memory, Sequence, Steps, User};
+use rv_rows::{Row, Tables, Visible};
 use std::alloc::Global;
+use std::marker::Brand;
+use std::sync::ledger::{Blank, Ledger};
 
 // The list that the row lets the user see: one that the user owns, or one that is there and shared with the user.
 fn opened<'r>(tables: &Tables, user: &User, row: &'r Row) -> Option<&'r Id>
@@ -49,18 +51,33 @@ fn lists_opened(alloc: Global, tables: &Tables, user: &User) -> Result<Vec<Id>, 
     Ok(lists)
 }
 
-// The rows that the user sees, with their versions, in the order of their keys. No row of a list that the user does not see
-// is looked at.
-fn rows_seen<'t>(
+/// The rows that the user sees, with their versions, in the order of their keys. No row of a list that the user does not see is
+/// read, and each that is read is a step: there are as many as the user sees, and where memory is refused no more than that.
+pub fn rows_seen<'t, L: Ledger>(
     alloc: Global,
     tables: &'t Tables,
     user: &User,
+    steps: &mut Steps<L>,
 ) -> Result<Vec<(&'t Row, u32)>, Memory>
     ensures seen { IfOk result (λ rows. keys_at rows.items ≡ visible user.now tables.now.rows) }
-    ensures order { AreRows tables.now.rows }
+    ensures order { IfOk result (λ rows. InOrder (λ pair. key_text pair.0) (keys_at rows.items)) }
+    ensures stand { IfOk result (λ rows. Stand tables.now.rows (rows_at rows.items)) }
+    ensures read { OnOk result (steps.new ≡ steps.old + length (visible user.now tables.now.rows)) }
+    ensures most { steps.new ≤ steps.old + length (visible user.now tables.now.rows) }
 {
     let lists = lists_opened(alloc, tables, user)?;
-    rows_of(alloc, tables, &lists)
+    rows_of(alloc, tables, &lists, steps)
+}
+
+/// The keys of rows, each with the version of its row.
+pub fn keys_of(alloc: Global, rows: &[(&Row, u32)]) -> Result<Visible, Memory>
+    ensures { IfOk result (λ keys. keys ≡ keys_at rows.now) }
+{
+    let mut keys = Sequence::new(alloc);
+    for (row, version) in rows {
+        keys.push((row.key(alloc)?, *version))?;
+    }
+    Ok(keys)
 }
 
 /// The keys that the user sees, in order, each with the version of its row.
@@ -68,42 +85,22 @@ pub fn visible(alloc: Global, tables: &Tables, user: &User) -> Result<Visible, M
     ensures visible { IfOk result (λ v. v ≡ visible user.now tables.now.rows) }
     ensures order { IfOk result (λ v. InOrder (λ pair. key_text pair.0) v) }
 {
-    let rows = rows_seen(alloc, tables, user)?;
-    let mut keys = Sequence::new(alloc);
-    for (row, version) in &rows {
-        keys.push((row.key(alloc)?, *version))?;
-    }
-    Ok(keys)
+    visible_from::<Brand>(alloc, tables, user, Blank::new(1))
 }
 
-/// Whether these are the keys that the user sees, in order, each with the version of its row. No key is copied for it.
-pub fn sees_exactly(
+// The same, with a count of its own.
+fn visible_from<L: Ledger>(
     alloc: Global,
     tables: &Tables,
     user: &User,
-    keys: &[(Key, u32)],
-) -> Result<bool, Memory>
-    ensures { IfOk result (λ same. IsTrue same ↔ (keys.now ≡ visible user.now tables.now.rows)) }
+    blank: Blank,
+) -> Result<Visible, Memory>
+    requires name { blank.name ≡ L.name }
+    requires parts { (blank.parts ≡ L.parts) × (0 < L.parts) }
+    ensures visible { IfOk result (λ v. v ≡ visible user.now tables.now.rows) }
+    ensures order { IfOk result (λ v. InOrder (λ pair. key_text pair.0) v) }
 {
-    let rows = rows_seen(alloc, tables, user)?;
-    let mut rest = keys;
-    for (row, version) in &rows {
-        match after_row(rest, row, *version) {
-            Some(others) => rest = others,
-            None => return Ok(false),
-        }
-    }
-    Ok(rest.is_empty())
-}
-
-// The keys after the first, where that is the row's with this version.
-fn after_row<'k>(keys: &'k [(Key, u32)], row: &Row, version: u32) -> Option<&'k [(Key, u32)]>
-    ensures { MatchOption result (BeginsOtherwise (row_key row.now, version) keys.now) (λ others. keys.now ≡ (row_key row.now, version) ∷ others.now) }
-{
-    let (first, others) = keys.split_first()?;
-    if first.1 == version && first.0.kind == row.kind() && first.0.id == *row.id() {
-        Some(others)
-    } else {
-        None
-    }
+    let mut steps = Steps::<L>::new(blank);
+    let rows = rows_seen(alloc, tables, user, &mut steps)?;
+    keys_of(alloc, &rows)
 }

@@ -20,7 +20,7 @@ pub enum Cookie {
 }
 
 impl Cookie {
-    /// The same cookie, in memory of its own.
+    /// The same cookie, which shares its text.
     pub fn copy(&self, alloc: Global) -> Result<Cookie, Memory>
         ensures { IfOk result (λ cookie. cookie ≡ self.now) }
     {

@@ -1,36 +1,42 @@
-// What changes between two views, by walks along both in the order of their keys.
-ghost use Rattle.std.specs.Prelude.{◌≡◌, ◌==◌, ◌&&◌, if◌then◌else◌, [], ◌∷◌, ◌++◌, IfOk, map, drop, take_while, option_map};
+// What changes between two views, by walks along both in the order of their keys. Each row and each client of the base that is
+// passed is a step.
+ghost use Rattle.std.specs.Prelude.{◌≡◌, ◌≤◌, ◌+◌, ◌==◌, ◌&&◌, if◌then◌else◌, [], ◌∷◌, ◌++◌, length, IfOk, OnOk, map, drop, take_while, option_map};
+ghost use Rattle.std.specs.Option.{option_map_or};
 ghost use Rattle.std.specs.Cmp.Lexicographic.{slice_cmp};
 ghost use Rattle.std.specs.Ordering.{nat_cmp, is_lt};
 ghost use Rattle.std.specs.Str.{bytes_eq};
 ghost use Rattle.rv_rows.specs.Keys.{key_text};
-ghost use Rattle.rv_views.specs.Viewed.{AreSeen, AreClients, seen_key, client_of_pair};
+ghost use Rattle.rv_views.specs.Viewed.{AreSeen, AreClients, seen_key, client_of_pair, view_size};
 ghost use Rattle.rv_views.specs.Difference.{Arranged, lost_keys, touched_keys, changed_ids, difference};
 ghost use Rattle.rv_views.specs.Walks.{rest_from, begins_with};
 
 use crate::diff::Diff;
 use crate::record::ViewRecord;
-use rv_base::{Id, Memory, Num, Sequence};
+use rv_base::{Id, Memory, Num, Sequence, Steps};
 use rv_rows::{Clients, Key, Keys};
 use std::alloc::Global;
+use std::sync::ledger::Ledger;
 
-/// What has changed since a base, each list in order. Without a base everything goes, and all that is seen now is put.
-pub fn difference(
+/// What has changed since a base, each list in order. Without a base everything goes, and all that is seen now is put. It takes at
+/// most as many steps as the base has rows and clients, and none without a base.
+pub fn difference<L: Ledger>(
     alloc: Global,
     base: Option<&ViewRecord>,
     now: &ViewRecord,
+    steps: &mut Steps<L>,
 ) -> Result<Diff, Memory>
     ensures difference { IfOk result (λ d. d ≡ difference (option_map (λ r. r.now) base.entry) now.now) }
     ensures arranged { IfOk result (λ d. Arranged d) }
+    ensures most { steps.new ≤ steps.old + option_map_or (λ r. view_size r.now) base.entry 0 }
 {
     match base {
         Some(base) => {
-            let RowChanges { dels, puts } = rows_changed(alloc, base.rows(), now.rows())?;
+            let RowChanges { dels, puts } = rows_changed(alloc, base.rows(), now.rows(), steps)?;
             Ok(Diff {
                 clear: false,
                 dels,
                 puts,
-                ids: changed(alloc, base.clients(), now.clients())?,
+                ids: changed(alloc, base.clients(), now.clients(), steps)?,
             })
         }
         None => Ok(Diff {
@@ -43,14 +49,6 @@ pub fn difference(
 }
 
 impl ViewRecord {
-    /// The clients that were not there, or had another last mutation id, in order.
-    pub fn ids_since(&self, alloc: Global, clients: &Clients) -> Result<Clients, Memory>
-        requires { AreClients clients.now }
-        ensures { IfOk result (λ ids. ids ≡ changed_ids self.now.clients clients.now) }
-    {
-        changed(alloc, self.clients(), clients.as_slice())
-    }
-
     /// The group's clients, in memory of their own.
     pub fn copy_clients(&self, alloc: Global) -> Result<Clients, Memory>
         ensures { IfOk result (λ copy. copy ≡ self.now.clients) }
@@ -69,43 +67,50 @@ struct RowChanges {
 }
 
 // What has changed of the rows, by one walk along both.
-fn rows_changed(
+fn rows_changed<L: Ledger>(
     alloc: Global,
     base: &[(Key, u32)],
     now: &[(Key, u32)],
+    steps: &mut Steps<L>,
 ) -> Result<RowChanges, Memory>
     requires base { AreSeen base.now }
     requires now { AreSeen now.now }
     ensures dels { IfOk result (λ c. c.dels ≡ lost_keys base.now now.now) }
     ensures puts { IfOk result (λ c. c.puts ≡ touched_keys base.now now.now) }
+    ensures read { OnOk result (steps.new ≡ steps.old + length base.now) }
+    ensures most { steps.new ≤ steps.old + length base.now }
 {
     let mut dels = Sequence::new(alloc);
     let mut puts = Sequence::new(alloc);
     let mut rest = base;
     for row in now {
-        rest = add_below(alloc, &mut dels, rest, &row.0)?;
+        rest = add_below(alloc, &mut dels, rest, &row.0, steps)?;
         add_touched(alloc, &mut puts, rest, row)?;
-        rest = after_key(rest, &row.0);
+        rest = after_key(rest, &row.0, steps);
     }
-    add_keys(alloc, &mut dels, rest)?;
+    add_rest(alloc, &mut dels, rest, steps)?;
     Ok(RowChanges { dels, puts })
 }
 
 // Adds the keys of the rows before the first whose key is not below this one, and gives the rows from there on.
-fn add_below<'r>(
+fn add_below<'r, L: Ledger>(
     alloc: Global,
     keys: &mut Keys,
     rows: &'r [(Key, u32)],
     key: &Key,
+    steps: &mut Steps<L>,
 ) -> Result<&'r [(Key, u32)], Memory>
     ensures rest { IfOk result (λ rest. rest.now ≡ rest_from seen_key (key_text key.now) rows.now) }
     ensures keys { IfOk result (λ rest. keys.new ≡ keys.old ++ map (λ pair. pair.0) (take_while (λ other. is_lt (slice_cmp nat_cmp (seen_key other) (key_text key.now))) rows.now)) }
+    ensures read { IfOk result (λ rest. steps.new + length rest.now ≡ steps.old + length rows.now) }
+    ensures most { steps.new ≤ steps.old + length rows.now }
 {
     let mut rest = rows;
     while let Some((first, others)) = rest.split_first() {
         if !first.0.compare(key).is_lt() {
             return Ok(rest);
         }
+        steps.tick();
         keys.push(first.0.copy(alloc)?)?;
         rest = others;
     }
@@ -129,12 +134,18 @@ fn add_touched(
 
 // The rows without the first, where that has this key.
 #[tactic(auto, using(crate::proofs::Merges::same_text))]
-fn after_key<'r>(rows: &'r [(Key, u32)], key: &Key) -> &'r [(Key, u32)]
-    ensures { result.now ≡ (if begins_with (λ other. bytes_eq (seen_key other) (key_text key.now)) rows.now then drop 1 rows.now else rows.now) }
+fn after_key<'r, L: Ledger>(
+    rows: &'r [(Key, u32)],
+    key: &Key,
+    steps: &mut Steps<L>,
+) -> &'r [(Key, u32)]
+    ensures rest { result.now ≡ (if begins_with (λ other. bytes_eq (seen_key other) (key_text key.now)) rows.now then drop 1 rows.now else rows.now) }
+    ensures read { steps.new + length result.now ≡ steps.old + length rows.now }
 {
     match rows.split_first() {
         Some((first, others)) => {
             if first.0.compare(key).is_eq() {
+                steps.tick();
                 others
             } else {
                 rows
@@ -145,15 +156,21 @@ fn after_key<'r>(rows: &'r [(Key, u32)], key: &Key) -> &'r [(Key, u32)]
 }
 
 // The clients that are there now and were not, or had another last mutation id.
-fn changed(alloc: Global, base: &[(Id, Num)], now: &[(Id, Num)]) -> Result<Clients, Memory>
+fn changed<L: Ledger>(
+    alloc: Global,
+    base: &[(Id, Num)],
+    now: &[(Id, Num)],
+    steps: &mut Steps<L>,
+) -> Result<Clients, Memory>
     requires base { AreClients base.now }
     requires now { AreClients now.now }
-    ensures { IfOk result (λ ids. ids ≡ changed_ids base.now now.now) }
+    ensures ids { IfOk result (λ ids. ids ≡ changed_ids base.now now.now) }
+    ensures most { steps.new ≤ steps.old + length base.now }
 {
     let mut ids = Sequence::new(alloc);
     let mut rest = base;
     for client in now {
-        rest = clients_from(rest, &client.0);
+        rest = clients_from(rest, &client.0, steps);
         if !begins_with_client(rest, client) {
             ids.push((client.0.copy(alloc)?, client.1))?;
         }
@@ -162,14 +179,20 @@ fn changed(alloc: Global, base: &[(Id, Num)], now: &[(Id, Num)]) -> Result<Clien
 }
 
 // The clients from the first on whose id is not below this one.
-fn clients_from<'c>(clients: &'c [(Id, Num)], id: &Id) -> &'c [(Id, Num)]
-    ensures { result.now ≡ rest_from client_of_pair id.now clients.now }
+fn clients_from<'c, L: Ledger>(
+    clients: &'c [(Id, Num)],
+    id: &Id,
+    steps: &mut Steps<L>,
+) -> &'c [(Id, Num)]
+    ensures rest { result.now ≡ rest_from client_of_pair id.now clients.now }
+    ensures read { steps.new + length result.now ≡ steps.old + length clients.now }
 {
     let mut rest = clients;
     while let Some((first, others)) = rest.split_first() {
         if !first.0.cmp(id).is_lt() {
             return rest;
         }
+        steps.tick();
         rest = others;
     }
     rest
@@ -197,20 +220,31 @@ fn begins_with_client(clients: &[(Id, Num)], client: &(Id, Num)) -> bool
 }
 
 // The keys of rows.
+#[tactic(auto, using(std::proofs::lemmas::List::map_more))]
 fn keys_of(alloc: Global, rows: &[(Key, u32)]) -> Result<Keys, Memory>
     ensures { IfOk result (λ keys. keys ≡ map (λ pair. pair.0) rows.now) }
 {
     let mut keys = Sequence::new(alloc);
-    add_keys(alloc, &mut keys, rows)?;
+    for row in rows {
+        keys.push(row.0.copy(alloc)?)?;
+    }
     Ok(keys)
 }
 
-// Adds the keys of rows.
+// Adds the keys of the rows that are left.
 #[tactic(auto, using(std::proofs::lemmas::List::map_more))]
-fn add_keys(alloc: Global, keys: &mut Keys, rows: &[(Key, u32)]) -> Result<(), Memory>
-    ensures { IfOk result (λ _. keys.new ≡ keys.old ++ map (λ pair. pair.0) rows.now) }
+fn add_rest<L: Ledger>(
+    alloc: Global,
+    keys: &mut Keys,
+    rows: &[(Key, u32)],
+    steps: &mut Steps<L>,
+) -> Result<(), Memory>
+    ensures keys { IfOk result (λ _. keys.new ≡ keys.old ++ map (λ pair. pair.0) rows.now) }
+    ensures read { OnOk result (steps.new ≡ steps.old + length rows.now) }
+    ensures most { steps.new ≤ steps.old + length rows.now }
 {
     for row in rows {
+        steps.tick();
         keys.push(row.0.copy(alloc)?)?;
     }
     Ok(())

@@ -1,6 +1,4 @@
-use Rattle.std.proofs.Common.{◌≡◌, take}
-use Rattle.rv_sharing.specs.Gathered.{keys_at}
 use Rattle.rv_sharing.proofs.views.visible.Given as goal
 
-abbrev pub invariant-loop-row : goal.invariant-loop-row
-invariant-loop-row l = l.keys ≡ keys_at (take l.row-index l.row-items)
+abbrev pub ghosts-visible_from : goal.ghosts-visible_from
+ghosts-visible_from a = record { name = a.blank.name; parts = a.blank.parts }

@@ -1,4 +1,4 @@
-use Rattle.std.proofs.Common.{◌≡◌, ◌++◌, length, map}
+use Rattle.std.proofs.Common.{◌≡◌, ◌+◌, ◌++◌, length, map}
 use Rattle.std.specs.Prelude.{take_while}
 use Rattle.std.specs.Cmp.Lexicographic.{slice_cmp}
 use Rattle.std.specs.Ordering.{nat_cmp, is_lt}
@@ -8,11 +8,12 @@ use Rattle.rv_views.specs.Walks.{rest_from}
 use Rattle.rv_views.proofs.walks.add_below.Given as goal
 
 abbrev pub invariant-loop-first : goal.invariant-loop-first
-invariant-loop-first l = record {
+invariant-loop-first g l = record {
   rest : rest_from seen_key (key_text l.key) l.rest ≡ rest_from seen_key (key_text l.key) l.rows;
   keys : l.keys ++ map (λ pair. pair.0) (take_while (λ other. is_lt (slice_cmp nat_cmp (seen_key other) (key_text l.key))) l.rest)
       ≡ l.fn.keys ++ map (λ pair. pair.0) (take_while (λ other. is_lt (slice_cmp nat_cmp (seen_key other) (key_text l.key))) l.rows);
+  read : l.steps + length l.rest ≡ l.initial.steps + length l.rows;
 }
 
 abbrev pub decreases-loop-first : goal.decreases-loop-first
-decreases-loop-first l = length l.rest
+decreases-loop-first g l = length l.rest

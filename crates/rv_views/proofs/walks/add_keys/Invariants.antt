@@ -1,5 +1,0 @@
-use Rattle.std.proofs.Common.{◌≡◌, ◌++◌, take, map}
-use Rattle.rv_views.proofs.walks.add_keys.Given as goal
-
-abbrev pub invariant-loop-row : goal.invariant-loop-row
-invariant-loop-row l = l.keys ≡ l.fn.keys ++ map (λ pair. pair.0) (take l.row-index l.rows)
