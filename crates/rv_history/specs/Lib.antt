@@ -6,6 +6,7 @@ pub mod Lawful
 pub mod LawfulBooks
 pub mod GroupLaws
 pub mod Bases
+pub mod Reading
 pub mod Based
 pub mod History
 pub mod Patches

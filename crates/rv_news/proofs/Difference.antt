@@ -1,5 +1,5 @@
 -- The patch since a place is told by the keys that the user sees there and now, with the versions of their rows.
-use Rattle.std.proofs.Common.{◌≡◌, ℕ, Bool, true, false, cond, not, ◌&&◌, ◌||◌, ◌==◌, List, [], ◌∷◌, ◌++◌, map, Option, Some, None, refl, sym, ap, ◌∙◌, subst}
+use Rattle.std.proofs.Common.{◌≡◌, ℕ, suc, length, Bool, true, false, cond, not, ◌&&◌, ◌||◌, ◌==◌, List, [], ◌∷◌, ◌++◌, map, Option, Some, None, refl, sym, ap, ◌∙◌, subst}
 use Rattle.std.specs.List.{AllByRecursion, filter, filter_map, list_any}
 use Rattle.std.specs.Option.{option_map, option_map_or}
 use Rattle.std.specs.Str.{bytes_eq}
@@ -66,6 +66,19 @@ sighted_rows user book stored r =
     rows_filter (λ row. sees_list user (list_of row) (rows_in stored)) stored
     ∙ ap (λ (rows : List Row). filter (λ row. sees_list user (list_of row) rows) rows) r.rows
     ∙ (λ i. filter (λ row. sees-sorted user (list_of row) (rows_of book) (distinct-rows_of book) i) (in_key_order (rows_of book)))
+
+-- as many as the keys that the user sees
+pub visible_size : (user : List ℕ) (book : Book) (stored : List Stored) → IsReplay book stored → length (visible user stored) ≡ length (seen user (rows_of book))
+visible_size user book stored r =
+    pairs (sighted user stored) ∙ sym (rows (sighted user stored)) ∙ ap length (sighted_rows user book stored r)
+  where
+    pairs : (xs : List Stored) → length (map pair xs) ≡ length xs
+    pairs [] = refl
+    pairs (x ∷ xs) = ap suc (pairs xs)
+
+    rows : (xs : List Stored) → length (rows_in xs) ≡ length xs
+    rows [] = refl
+    rows (x ∷ xs) = ap suc (rows xs)
 
 -- the keys of stored rows that pass a test, told by their pairs or by their rows
 keys_filter : (p : Key × ℕ → Bool) (q : Row → Bool) (xs : List Stored) → AllByRecursion (λ s. p (pair s) ≡ q s.0) xs → map (λ x. x.0) (filter p (map pair xs)) ≡ map row_key (filter q (rows_in xs))

@@ -5,3 +5,4 @@ pub mod RecordLaws
 pub mod Searched
 pub mod Puts
 pub mod Versions
+pub mod ReadLaws

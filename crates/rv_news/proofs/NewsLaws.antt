@@ -1,5 +1,5 @@
 -- What is news to a pull is told by the record of its base and by what is seen now.
-use Rattle.std.proofs.Common.{◌≡◌, ◌↔◌, IsTrue, Bool, ℕ, List, [], ◌∷◌, ◌++◌, map, Option, Some, None, Result, Ok, Err, refl, sym, ap, ◌∙◌, subst}
+use Rattle.std.proofs.Common.{◌≡◌, ℕ, List, [], ◌∷◌, ◌++◌, map, Option, Some, None, Result, Ok, Err, refl, sym, ap, ◌∙◌, subst}
 use Rattle.std.specs.List.{filter_map}
 use Rattle.std.specs.Option.{option_map, option_and_then}
 use Rattle.std.specs.Result.{IfOk}
@@ -20,10 +20,8 @@ use Rattle.rv_history.specs.Replay.{IsReplay}
 use Rattle.rv_history.specs.Bases.{base_of, base_group}
 use Rattle.rv_history.specs.History.{patch_since, ids_since}
 use Rattle.rv_news.specs.Records.{IsRecord, Placed, record_at, AreRecords}
-use Rattle.rv_news.specs.News.{IsBaseRecord, IsNews, ShowsSame, found_for}
+use Rattle.rv_news.specs.News.{IsBaseRecord, IsNews}
 use Rattle.rv_history.specs.Machine.{IsUnchanged}
-use Rattle.rv_views.specs.declared.diff.Diff.{Diff}
-use Rattle.rv_views.specs.DifferenceLaws.{difference-same}
 use Rattle.rv_news.specs.Shows.{put_of, ops_of}
 use Rattle.rv_history.specs.Based.{base_look}
 use Rattle.rv_news.proofs.Difference.{patch_anew_by_keys}
@@ -31,7 +29,7 @@ use Rattle.rv_news.proofs.RecordLaws.{record_difference, record_ids}
 use Rattle.rv_news.specs.KeptRecords.{record_found}
 
 -- a record is of its look's user
-record_user : (book : Book) (place : ℕ) (viewed : Viewed) (user group : List ℕ) (order : ℕ) (r : IsRecord book place viewed) → look_at place book ≡ Some (user, group, order) → r.user ≡ user
+pub record_user : (book : Book) (place : ℕ) (viewed : Viewed) (user group : List ℕ) (order : ℕ) (r : IsRecord book place viewed) → look_at place book ≡ Some (user, group, order) → r.user ≡ user
 record_user book place viewed user group order r there = ap (λ (look : List ℕ × List ℕ × ℕ). look.0) (same_Some (r.user, r.group, r.order) (user, group, order) (sym r.looked ∙ there))
 
 -- the operations tell the patch
@@ -56,7 +54,7 @@ ops_shown user request book stored (Some place) found now replay named record_is
     ∙ ops_since user book place viewed now stored r (record_user book place viewed user look.0 _ r look.1) replay rows
 
 -- the last mutation ids
-group_at : (book : Book) (place : ℕ) (viewed : Viewed) (r : IsRecord book place viewed) → base_group book place ≡ Some (place, r.group)
+pub group_at : (book : Book) (place : ℕ) (viewed : Viewed) (r : IsRecord book place viewed) → base_group book place ≡ Some (place, r.group)
 group_at book place viewed r = ap (option_map (λ (look : List ℕ × List ℕ × ℕ). (place, look.1))) r.looked
 
 ids_shown : (user : List ℕ) (request : PullRequest) (book : Book) (base : Option ℕ) (found : Option Viewed) (now : Viewed) → base_of user request.cookie book ≡ base → IsBaseRecord book base found → now.clients ≡ ids request.group book
@@ -96,31 +94,9 @@ pub base_found : (book : Book) (records : List Placed) (base : Option ℕ) (foun
 base_found book records None found are is = is
 base_found book records (Some place) found are is = λ stays. let (viewed, at, r) = record_found book records place are stays in (viewed, is ∙ at, r)
 
--- where the record shows what is seen now, the patch is empty
-same_ops : (stored : List Stored) (viewed now : Viewed) → viewed.rows ≡ now.rows → ops_of stored (difference (Some viewed) now) ≡ []
-same_ops stored viewed now rows =
-    ap (λ (keys : List (Key × ℕ)). map (λ key. Del key) (lost_keys viewed.rows keys) ++ filter_map (put_of stored) (touched_keys viewed.rows keys)) (sym rows)
-    ∙ ap (λ (diff : Diff). map (λ key. Del key) diff.dels ++ filter_map (put_of stored) diff.puts) (difference-same viewed)
+-- where there is neither an operation nor an id there is nothing to tell, and else there is something
+pub told_nothing : (user : List ℕ) (request : PullRequest) (book : Book) (news : News) → IsNews book user request news → ((news.ops ≡ []) × (news.ids ≡ [])) → IsUnchanged user request book
+told_nothing user request book news is empty = (sym is.ops ∙ empty.0, sym is.ids ∙ empty.1)
 
--- so a pull whose record shows what is seen now, and has each last mutation id, has nothing to tell
-pub same_unchanged : (user : List ℕ) (request : PullRequest) (book : Book) (stored : List Stored) (records : List Placed) → IsReplay book stored → AreRecords book records
-    → ShowsSame (found_for user request book records) (visible user stored) (ids request.group book) → IsUnchanged user request book
-same_unchanged user request book stored records replay are same =
-    go (base_of user request.cookie book) refl (found_for user request book records) (base_found book records (base_of user request.cookie book) (found_for user request book records) are refl) same
-  where
-    now : Viewed
-    now = record { rows = visible user stored; clients = ids request.group book }
-
-    go : (base : Option ℕ) → base_of user request.cookie book ≡ base → (found : Option Viewed) → IsBaseRecord book (base_of user request.cookie book) found → ShowsSame found (visible user stored) (ids request.group book) → IsUnchanged user request book
-    go base named None record_is shows = absurd shows
-    go base named (Some viewed) record_is shows =
-        let base_is : Option ℕ = base_of user request.cookie book in (
-          sym (ops_shown user request book stored base_is (Some viewed) now replay refl record_is refl) ∙ same_ops stored viewed now shows.0,
-          sym (ids_shown user request book base_is (Some viewed) now refl record_is refl) ∙ shows.1,
-        )
-
-pub shown_unchanged : (user : List ℕ) (request : PullRequest) (book : Book) (stored : List Stored) (records : List Placed) (viewed : Viewed) (result : Result Bool Memory) → IsReplay book stored → AreRecords book records → found_for user request book records ≡ Some viewed
-    → IfOk result (λ same. IsTrue same ↔ ShowsSame (Some viewed) (visible user stored) (ids request.group book)) → IfOk result (λ same. IsTrue same → IsUnchanged user request book)
-shown_unchanged user request book stored records viewed (Ok same) replay are is told = λ yes.
-    same_unchanged user request book stored records replay are (subst (λ (o : Option Viewed). ShowsSame o (visible user stored) (ids request.group book)) (sym is) (told.0 yes))
-shown_unchanged user request book stored records viewed (Err refused) replay are is told = tt
+pub told_something : (user : List ℕ) (request : PullRequest) (book : Book) (news : News) → IsNews book user request news → ¬ ((news.ops ≡ []) × (news.ids ≡ [])) → ¬ IsUnchanged user request book
+told_something user request book news is some same = some (is.ops ∙ same.0, is.ids ∙ same.1)

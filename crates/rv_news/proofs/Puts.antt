@@ -1,11 +1,15 @@
 -- The puts of keys, one after another.
-use Rattle.std.proofs.Common.{◌≡◌, ℕ, zero, suc, ◌+◌, ◌<◌, get_or, take, map, arith, ◌++◌, List, [], ◌∷◌, Option, Some, None, length, sym, ap, ◌∙◌, append_assoc, append-nil}
+use Rattle.std.proofs.Common.{◌≡◌, ℕ, ◌+◌, ◌<◌, get_or, take, map, arith, ◌++◌, List, [], ◌∷◌, Option, Some, None, length, refl, sym, ap, ◌∙◌, append_assoc, append-nil}
 use Rattle.std.specs.List.{filter_map, cons_option}
 use Rattle.std.proofs.lemmas.List.{take_more}
 use Rattle.std.proofs.lemmas.List.Elements.{filter_map-append}
+use Rattle.std.specs.Borrow.{Bor}
 use Rattle.rv_rows.specs.declared.key.Key.{Key}
+use Rattle.rv_rows.specs.declared.row.Row.{Row}
 use Rattle.rv_rows.specs.Held.{Stored}
 use Rattle.rv_turns.specs.declared.op.Op.{Op}
+use Rattle.rv_turns.specs.declared.op.Op.TheVariants.{Put}
+use Rattle.rv_sharing.specs.Gathered.{keys_at, rows_at, Stand}
 use Rattle.rv_news.specs.Shows.{put_of}
 
 -- the puts of some keys go on by one key
@@ -25,8 +29,7 @@ pub put_same : (stored : List Stored) (keys : List Key) (i : ℕ) (x : Key) (sta
 put_same stored keys i x start ops new lt is before same put =
     same ∙ before ∙ ap (λ (t : List Op). start ++ t) (sym (append-nil (filter_map (put_of stored) (take i keys))) ∙ ap (λ (o : Option Op). filter_map (put_of stored) (take i keys) ++ cons_option o []) (sym put) ∙ sym (puts_more stored keys i x lt is))
 
--- a key that is seen is one of the keys
-pub seen_at : (seen : List (Key × ℕ)) (i : ℕ) (x : Key × ℕ) → i < length seen → x ≡ get_or seen i x → (i < length (map (λ pair. pair.0) seen)) × (x.0 ≡ get_or (map (λ pair. pair.0) seen) i x.0)
-seen_at [] i x lt is = absurd (omega (arith, lt))
-seen_at (y ∷ seen) zero x lt is = (omega arith, ap (λ (pair : Key × ℕ). pair.0) is)
-seen_at (y ∷ seen) (suc i) x lt is = let rest = seen_at seen i x (omega (arith, lt)) is in (omega (arith, rest.0), rest.1)
+-- the puts of the keys of rows that stand are the puts of the rows
+pub puts_stand : (stored : List Stored) (rows : List (Bor Row × ℕ)) → Stand stored (rows_at rows) → filter_map (put_of stored) (map (λ pair. pair.0) (keys_at rows)) ≡ map (λ (row : Bor Row × ℕ). Put row.0.now) rows
+puts_stand stored [] stand = refl
+puts_stand stored (row ∷ rows) stand = rw stand.0 (ap (λ (t : List Op). Put row.0.now ∷ t) (puts_stand stored rows stand.1))

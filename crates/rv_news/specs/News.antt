@@ -1,8 +1,6 @@
 -- What a pull is told, and where that comes from.
-use Rattle.std.specs.Prelude.{◌≡◌, ◌&&◌, ℕ, nat_le, List, [], Bool, true, false, Option, Some, None, option_and_then}
+use Rattle.std.specs.Prelude.{◌≡◌, ◌&&◌, ℕ, nat_le, List, Bool, true, false, Option, Some, None}
 use Rattle.std.specs.Option.{option_map_or}
-use Rattle.rv_rows.specs.declared.key.Key.{Key}
-use Rattle.rv_views.specs.Difference.{changed_ids}
 use Rattle.rv_base.specs.Sorted.{InOrder}
 use Rattle.rv_turns.specs.declared.pull.PullRequest.{PullRequest}
 use Rattle.rv_views.specs.Viewed.{Viewed}
@@ -10,8 +8,8 @@ use Rattle.rv_book.specs.Book.{Book}
 use Rattle.rv_book.specs.Kept.{is_look_at, kept}
 use Rattle.rv_news.specs.declared.news.News.{News}
 use Rattle.rv_history.specs.Bases.{base_of}
-use Rattle.rv_news.specs.Records.{IsViewAt, IsRecord, Placed, record_at}
-use Rattle.rv_history.specs.Machine.{patch_for, ids_for}
+use Rattle.rv_news.specs.Records.{IsViewAt, IsRecord}
+use Rattle.rv_history.specs.Machine.{IsUnchanged, patch_for, ids_for}
 
 -- what is found for a base: the record of its look, where the look is kept
 abbrev pub IsBaseRecord : Book → Option ℕ → Option Viewed → Type 0
@@ -26,15 +24,11 @@ pub record IsNews (book : Book) (user : List ℕ) (request : PullRequest) (news 
   pub ids : news.ids ≡ ids_for user request book
   pub order : InOrder (λ pair. pair.0) news.ids
 
--- the record of the look that a pull's cookie names
-abbrev pub found_for : List ℕ → PullRequest → Book → List Placed → Option Viewed
-found_for user request book records = option_and_then (λ place. record_at place records) (base_of user request.cookie book)
-
 -- the pull's base is at this place or after it, and is a look of the pull's own group
 abbrev pub is_base_since : ℕ → List ℕ → PullRequest → Book → Bool
 is_base_since mark user request book = option_map_or (λ place. nat_le mark place && is_look_at request.group book place) (base_of user request.cookie book) false
 
--- there is a record, it shows these rows, and has each of these last mutation ids
-abbrev pub ShowsSame : Option Viewed → List (Key × ℕ) → List (List ℕ × ℕ) → Type 0
-ShowsSame None rows ids = ⊥
-ShowsSame (Some viewed) rows ids = (viewed.rows ≡ rows) × (changed_ids viewed.clients ids ≡ [])
+-- What a pull is told: nothing where there is nothing to tell, and else what is news.
+abbrev pub IsTold : Book → List ℕ → PullRequest → Option News → Type 0
+IsTold book user request None = IsUnchanged user request book
+IsTold book user request (Some news) = IsNews book user request news × ¬ IsUnchanged user request book

@@ -8,6 +8,6 @@ mod pull;
 mod records;
 
 pub use base::base_of;
-pub use news::{News, news_since, view_now};
-pub use pull::{is_base_since, is_unchanged, news_for};
+pub use news::{News, view_now};
+pub use pull::news_for;
 pub use records::Records;

@@ -1,20 +1,24 @@
 // What a pull is told: the operations and the last mutation ids that are news since its base.
-ghost use Rattle.std.specs.Prelude.{◌≡◌, ◌++◌, ◌∷◌, [], ◌↔◌, IsTrue, IfOk, OnOk, map, option_map, Some, None};
+ghost use Rattle.std.specs.Prelude.{◌≡◌, ◌≤◌, ◌+◌, ◌++◌, ◌∷◌, [], ◌↔◌, length, IsTrue, IfOk, OnOk, map, option_map, Some, None};
 ghost use Rattle.std.specs.List.{filter_map};
+ghost use Rattle.std.specs.Option.{option_map_or};
 ghost use Rattle.rv_base.specs.Sorted.{InOrder};
-ghost use Rattle.rv_turns.specs.declared.op.Op.TheVariants.{Del};
+ghost use Rattle.rv_turns.specs.declared.op.Op.TheVariants.{Clear, Del, Put};
+ghost use Rattle.rv_sharing.specs.Gathered.{keys_at, rows_at, Stand};
 ghost use Rattle.rv_sharing.specs.Visible.{visible};
 ghost use Rattle.rv_book.specs.Book.{ids};
 ghost use Rattle.rv_views.specs.Difference.{difference};
+ghost use Rattle.rv_views.specs.Viewed.{view_size};
 ghost use Rattle.rv_news.specs.Shows.{put_of, clears, ops_of};
 
-use rv_base::{Id, Memory, Sequence, User};
+use rv_base::{Id, Memory, Sequence, Steps, User};
 use rv_book::Book;
-use rv_rows::{Clients, Key, Keys, Tables};
+use rv_rows::{Clients, Key, Keys, Row, Tables};
 use rv_sharing::visible;
 use rv_turns::{Op, Ops};
 use rv_views::{Diff, ViewRecord, difference, record_now};
 use std::alloc::Global;
+use std::sync::ledger::Ledger;
 
 // What a pull is told, with the place of its base and what its user and its group see now.
 #[derive(Debug, Drop)]
@@ -34,6 +38,26 @@ impl News {
     }
 }
 
+/// The clients of a group, with their last mutation ids, in order. Each that is read is a step.
+pub(crate) fn clients_read<L: Ledger>(
+    alloc: Global,
+    book: &Book,
+    group: &Id,
+    steps: &mut Steps<L>,
+) -> Result<Clients, Memory>
+    ensures clients { IfOk result (λ clients. clients ≡ ids group.now book.now.book) }
+    ensures order { IfOk result (λ clients. InOrder (λ pair. pair.0) clients) }
+    ensures read { OnOk result (steps.new ≡ steps.old + length (ids group.now book.now.book)) }
+    ensures most { steps.new ≤ steps.old + length (ids group.now book.now.book) }
+{
+    let mut clients = Sequence::new(alloc);
+    for (client, last) in book.clients_of(group) {
+        steps.tick();
+        clients.push((client.copy(alloc)?, last))?;
+    }
+    Ok(clients)
+}
+
 /// What a user and a group see now.
 pub fn view_now(
     alloc: Global,
@@ -49,46 +73,54 @@ pub fn view_now(
     record_now(visible(alloc, tables, user)?, clients)
 }
 
-/// What is news in a view since the record of a base, or without one.
-pub fn news_since(
+/// What is news in a view of these rows since the record of a base, or without one. It takes at most as many steps as the record has
+/// rows and clients.
+pub(crate) fn news_since<L: Ledger>(
     alloc: Global,
     tables: &Tables,
     base: Option<u32>,
     found: Option<&ViewRecord>,
+    rows: &[(&Row, u32)],
     view: ViewRecord,
+    steps: &mut Steps<L>,
 ) -> Result<News, Memory>
+    requires keys { view.rows ≡ keys_at rows.now }
+    requires stand { Stand tables.now.rows (rows_at rows.now) }
     ensures base { IfOk result (λ news. news.base ≡ base) }
     ensures view { IfOk result (λ news. news.view ≡ view) }
     ensures ops { IfOk result (λ news. news.ops ≡ ops_of tables.now.rows (difference (option_map (λ r. r.now) found.entry) view)) }
     ensures ids { IfOk result (λ news. news.ids ≡ (difference (option_map (λ r. r.now) found.entry) view).ids) }
     ensures order { IfOk result (λ news. InOrder (λ pair. pair.0) news.ids) }
+    ensures most { steps.new ≤ steps.old + option_map_or (λ r. view_size r.now) found.entry 0 }
 {
     match found {
-        Some(found) => news_of(alloc, tables, base, found, view),
-        None => news_anew(alloc, tables, base, view),
+        Some(found) => news_of(alloc, tables, base, found, view, steps),
+        None => news_anew(alloc, base, rows, view),
     }
 }
 
 // What is news in a view since the record of a base.
-fn news_of(
+fn news_of<L: Ledger>(
     alloc: Global,
     tables: &Tables,
     base: Option<u32>,
     found: &ViewRecord,
     view: ViewRecord,
+    steps: &mut Steps<L>,
 ) -> Result<News, Memory>
     ensures base { IfOk result (λ news. news.base ≡ base) }
     ensures view { IfOk result (λ news. news.view ≡ view) }
     ensures ops { IfOk result (λ news. news.ops ≡ ops_of tables.now.rows (difference (Some found.now) view)) }
     ensures ids { IfOk result (λ news. news.ids ≡ (difference (Some found.now) view).ids) }
     ensures order { IfOk result (λ news. InOrder (λ pair. pair.0) news.ids) }
+    ensures most { steps.new ≤ steps.old + view_size found.now }
 {
     let Diff {
         clear,
         dels,
         puts,
         ids,
-    } = difference(alloc, Some(found), &view)?;
+    } = difference(alloc, Some(found), &view, steps)?;
     let ops = operations(alloc, tables, clear, dels, puts.as_slice())?;
     Ok(News {
         base,
@@ -98,22 +130,22 @@ fn news_of(
     })
 }
 
-// What is news in a view without a base: everything goes, and the row of each key that is seen is put.
+// What is news in a view of these rows without a base: everything goes, and each row is put.
 fn news_anew(
     alloc: Global,
-    tables: &Tables,
     base: Option<u32>,
+    rows: &[(&Row, u32)],
     view: ViewRecord,
 ) -> Result<News, Memory>
     ensures base { IfOk result (λ news. news.base ≡ base) }
     ensures view { IfOk result (λ news. news.view ≡ view) }
-    ensures ops { IfOk result (λ news. news.ops ≡ ops_of tables.now.rows (difference None view)) }
+    ensures ops { IfOk result (λ news. news.ops ≡ Clear ∷ map (λ row. Put row.0.now) rows.now) }
     ensures ids { IfOk result (λ news. news.ids ≡ (difference None view).ids) }
     ensures order { IfOk result (λ news. InOrder (λ pair. pair.0) news.ids) }
 {
     let mut ops = Sequence::new(alloc);
     ops.push(Op::Clear)?;
-    add_seen(alloc, &mut ops, tables, view.rows())?;
+    put_all(alloc, &mut ops, rows)?;
     let ids = view.copy_clients(alloc)?;
     Ok(News {
         base,
@@ -123,19 +155,12 @@ fn news_anew(
     })
 }
 
-// Adds the put of each row that is seen.
-fn add_seen(
-    alloc: Global,
-    ops: &mut Ops,
-    tables: &Tables,
-    seen: &[(Key, u32)],
-) -> Result<(), Memory>
-    ensures { OnOk result (ops.new ≡ ops.old ++ filter_map (put_of tables.now.rows) (map (λ pair. pair.0) seen.now)) }
+// Adds the put of each row.
+fn put_all(alloc: Global, ops: &mut Ops, rows: &[(&Row, u32)]) -> Result<(), Memory>
+    ensures { OnOk result (ops.new ≡ ops.old ++ map (λ row. Put row.0.now) rows.now) }
 {
-    for (key, _version) in seen {
-        if let Some((row, _)) = tables.get(key) {
-            ops.push(Op::Put(row.copy(alloc)?))?;
-        }
+    for (row, _version) in rows {
+        ops.push(Op::Put(row.copy(alloc)?))?;
     }
     Ok(())
 }

@@ -1,3 +1,4 @@
 pub mod Concerned
 pub mod Marking
 pub mod Entered
+pub mod Looks

@@ -1,4 +1,8 @@
+ghost use Rattle.std.specs.Prelude.{◌≡◌};
+ghost use Rattle.rv_book.specs.declared.entry.Entry.TheVariants.{Act};
+
 use rv_base::{Id, Num, User};
+use rv_book::Entry;
 use rv_mutators::Staged;
 use rv_rows::{Call, Users};
 use rv_views::ViewRecord;
@@ -20,6 +24,31 @@ pub struct PreparedAct {
     pub staged: Staged,
     /// The users whom it concerns: who sent it, and those for whom what they see is another after it.
     pub concerned: Users,
+}
+
+impl PreparedAct {
+    // The entry, the rows that it writes and removes, and the users whom it concerns.
+    pub(crate) fn into_parts(self) -> (Entry, Staged, Users)
+        ensures { result ≡ (Act self.user self.group self.client self.id self.call, self.staged, self.concerned) }
+    {
+        let PreparedAct {
+            user,
+            group,
+            client,
+            id,
+            call,
+            staged,
+            concerned,
+        } = self;
+        let entry = Entry::Act {
+            user,
+            group,
+            client,
+            id,
+            call,
+        };
+        (entry, staged, concerned)
+    }
 }
 
 /// A look that is ready to be entered.

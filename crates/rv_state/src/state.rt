@@ -1,25 +1,26 @@
-ghost use Rattle.std.specs.Prelude.{◌≡◌, ◌≤◌, ◌<◌, ℕ, List, length, true, IsTrue, IfOk, OnOk};
+ghost use Rattle.std.specs.Prelude.{◌≡◌, ◌≤◌, ◌<◌, ◌+◌, ℕ, List, length, IsTrue, IfOk, OnOk, None, Ok};
 ghost use Rattle.rv_rows.specs.Changes.{after};
 ghost use Rattle.rv_rows.specs.Held.{rows_in};
 ghost use Rattle.rv_mutators.specs.Staging.{staged, with_staged};
 ghost use Rattle.rv_book.specs.declared.entry.Entry.TheVariants.{Act, Look, Retire};
 ghost use Rattle.rv_book.specs.Book.{empty_book, size, with_entry};
-ghost use Rattle.rv_news.specs.News.{IsNews, is_base_since};
+ghost use Rattle.rv_news.specs.News.{IsNews, IsTold, is_base_since};
 
 use crate::fitting::{entry_fits, look_fits};
 use crate::marks::UserMarks;
 use crate::prepared::{Prepared, PreparedAct, PreparedLook};
-use rv_base::{Id, Memory, Num, User};
+use rv_base::{Id, Memory, Num, Steps, User};
 use rv_book::{Book, BookFault, Entry};
 use rv_history::entries;
 use rv_mutators::{Staged, stage};
-use rv_news::{News, Records, is_base_since, is_unchanged, news_for, view_now};
+use rv_news::{News, Records, news_for, view_now};
 use rv_rows::{Call, Tables, Users};
 use rv_sharing::add_user;
 use rv_turns::{PullReply, PullRequest};
 use rv_wire::look_reply;
 use std::alloc::Global;
 use std::marker::Model;
+use std::sync::ledger::Ledger;
 
 /// The state of one server in memory: its book, and beside it the tables, which are the book's replay, the view records of the
 /// looks that the book keeps, and the users' marks.
@@ -67,11 +68,12 @@ fn reserve(book: &mut Book) -> Result<(), Memory>
 
 impl State {
     ghost use Rattle.rv_history.specs.Lawful.{IsLawful, IsLawfulAfter};
+    ghost use Rattle.rv_history.specs.Reading.{pull_entries};
     ghost use Rattle.rv_history.specs.Replay.{IsReplay};
     ghost use Rattle.rv_history.specs.Bases.{base_of};
     ghost use Rattle.rv_record.specs.EntryReading.{EntryFits};
     ghost use Rattle.std.specs.List.{AllByRecursion};
-    ghost use Rattle.rv_history.specs.Machine.{IsUnchanged, next_order, reply_to};
+    ghost use Rattle.rv_history.specs.Machine.{next_order, reply_to};
     ghost use Rattle.rv_history.specs.Marks.{AreConcerned, IsMark};
     ghost use Rattle.rv_news.specs.Records.{AreRecords};
     ghost use Rattle.rv_wire.specs.Answers.{pull_json};
@@ -124,37 +126,28 @@ impl State {
         self.marks.of(user)
     }
 
-    /// Whether there is nothing to tell to a pull. Where its base is a look of its own group at its user's mark or after it, that is
-    /// known from the mark, without a walk; else its base's record is held against what its user sees now. No key that is seen
-    /// is copied for it; what is found otherwise is told by [`State::news`].
-    pub fn is_unchanged(&self, user: &User, request: &PullRequest) -> Result<bool, Memory>
-        ensures unchanged { IfOk result (λ same. IsTrue same → IsUnchanged user.now request.now self.now.book) }
-        ensures since { (mark : ℕ) → IsMark user.now self.now.book mark → IsTrue (is_base_since mark user.now request.now self.now.book) → result ≡ Ok true }
-    {
-        if is_base_since(&self.book, user, request, self.mark(user)) {
-            return Ok(true);
-        }
-        is_unchanged(
-            self.alloc,
-            &self.book,
-            &self.tables,
-            &self.records,
-            user,
-            request,
-        )
-    }
-
-    /// What a pull is told.
-    pub fn news(&self, user: &User, request: &PullRequest) -> Result<News, Memory>
-        ensures { IfOk result (λ news. IsNews self.now.book user.now request.now news) }
+    /// What a pull is told, or `None` where there is nothing to tell. Where its base is a look of its own group at its user's mark or
+    /// after it, that is known from the mark, without a walk; else each row and each client that is read of its base's record and
+    /// of what is seen now is a step.
+    pub fn news<L: Ledger>(
+        &self,
+        user: &User,
+        request: &PullRequest,
+        steps: &mut Steps<L>,
+    ) -> Result<Option<News>, Memory>
+        ensures told { IfOk result (IsTold self.now.book user.now request.now) }
+        ensures since { (mark : ℕ) → IsMark user.now self.now.book mark → IsTrue (is_base_since mark user.now request.now self.now.book) → (result ≡ Ok None) × (steps.new ≡ steps.old) }
+        ensures most { steps.new ≤ steps.old + pull_entries user.now request.now self.now.book }
     {
         news_for(
             self.alloc,
             &self.book,
             &self.tables,
             &self.records,
+            self.mark(user),
             user,
             request,
+            steps,
         )
     }
 
@@ -317,22 +310,8 @@ impl State {
         let place = self.book.len() + 1;
         match prepared {
             Prepared::Act(act) => {
-                let PreparedAct {
-                    user,
-                    group,
-                    client,
-                    id,
-                    call,
-                    staged,
-                    concerned,
-                } = act;
-                self.book.push_entry(Entry::Act {
-                    user,
-                    group,
-                    client,
-                    id,
-                    call,
-                });
+                let (entry, staged, concerned) = act.into_parts();
+                self.book.push_entry(entry);
                 staged.apply(&mut self.tables, place);
                 self.marks.set_all(concerned, place);
             }

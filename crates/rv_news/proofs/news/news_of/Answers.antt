@@ -1,4 +1,4 @@
 use Rattle.rv_news.proofs.news.news_of.Goals as goal
 
 pub returns-clause-order : goal.returns-clause-order
-returns-clause-order c = c.in_ok-clear.ensures.arranged.ids
+returns-clause-order g c = c.in_ok-clear.ensures.arranged.ids

@@ -2,7 +2,7 @@ use Rattle.rv_state.proofs.Entered.{act_entered, look_entered, retirement_entere
 use Rattle.rv_state.proofs.state.State.enter.Goals as goal
 
 pub invariant_of-self : goal.invariant_of-self
-invariant_of-self c = rw (c.set_all.ensures, c.apply.ensures, c.push_entry.ensures.book, c.len-place.ensures.value) (act_entered _ _ c.args.prepared c.self.view_is c.self.invariant c.requires c.in-Act.act c.in-Act.is)
+invariant_of-self c = rw (c.set_all.ensures, c.apply.ensures, c.push_entry.ensures.book, c.into_parts-entry.ensures, c.len-place.ensures.value) (act_entered _ _ c.args.prepared c.self.view_is c.self.invariant c.requires c.in-Act.act c.in-Act.is)
 
 pub invariant_of-self-in-Look : goal.invariant_of-self-in-Look
 invariant_of-self-in-Look c =
