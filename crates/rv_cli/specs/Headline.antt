@@ -40,6 +40,9 @@ use Rattle.rv_turns.specs.declared.pull.PullReply.{PullReply}
 use Rattle.rv_turns.specs.declared.refusal.Refusal.TheVariants as refusals
 use Rattle.rv_wire.specs.declared.error_body.ErrorBody.TheVariants as errors
 use Rattle.rv_answering.specs.Steps as steps
+-- A pull reads at most as many rows and clients as the view at its base and the view now have: a clause of `pull` of a desk and of
+-- `turn_pull` of a room, and of `take_counted` and `turn_counted`, by which lines and requests are answered.
+pub use Rattle.rv_history.specs.Reading.{pull_entries, turn_entries}
 
 -- ---- A line.
 

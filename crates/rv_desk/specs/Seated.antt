@@ -1,11 +1,12 @@
 -- A desk over a keeper, as contracts see it.
-use Rattle.std.specs.Prelude.{ℕ, Option, IfSome, option_map}
+use Rattle.std.specs.Prelude.{ℕ, ◌+◌, ◌≤◌, Option, IfSome, option_map}
 use Rattle.rv_book.specs.Book.{Book}
 use Rattle.rv_turns.specs.Asks.{Ask}
 use Rattle.rv_turns.specs.Outcomes.{trouble_of}
 use Rattle.rv_turns.specs.declared.outcome.Outcome.{Outcome}
 use Rattle.rv_turns.specs.declared.refusal.Trouble.{Trouble}
 use Rattle.rv_wire.specs.Answers.{pull_json}
+use Rattle.rv_history.specs.Reading.{turn_entries}
 use Rattle.rv_history.specs.Served.{Doubt, IsAssured, Served, TakesTurn}
 use Rattle.rv_keeper.specs.declared.keeper.Keeper.{Ghosts}
 use Rattle.rv_keeper.specs.declared.loaded.Loaded.{Loaded}
@@ -34,6 +35,11 @@ module _ {K : Type 0} (tells fails_no_more : K → Type 0) where
 pub record DeskTakes {K : Type 0} (G : Ghosts K) (old : Seated K) (ask : Ask) (outcome : Outcome) (new : Seated K) : Type 0 where
   pub turn : TakesTurn pull_json (served G.faults old) ask outcome (served G.faults new)
   pub assured : Assures G.tells G.fails_no_more old.keeper (trouble_of outcome) new.keeper
+
+-- The same with the steps that were counted before it and after: at most as many were taken as the walks of what is asked have entries
+-- at the book as it settled.
+abbrev pub DeskTakesWithin : {K : Type 0} → Ghosts K → Seated K → Ask → Outcome → Seated K → ℕ → ℕ → Type 0
+DeskTakesWithin G old ask outcome new before after = (taken : DeskTakes G old ask outcome new) × (after ≤ before + turn_entries ask taken.turn.settled)
 
 -- what the keeper holds, where it tells, are the cells of the book, or of the book with what is in doubt
 abbrev pub HoldsBook : (Loaded → Type 0) → Book → Doubt → Type 0

@@ -2,9 +2,11 @@ ghost use Rattle.std.specs.Prelude.{◌≡◌, ◌≤◌, ◌<◌, ◌^◌, IfSo
 ghost use Rattle.rv_book.specs.Book.{size};
 ghost use Rattle.rv_keeper.specs.Cells.{AreCells};
 ghost use Rattle.rv_desk.specs.Opened.{OpensOrNot, OpensLoaded};
+ghost use Rattle.rv_desk.specs.Seated.{DeskTakes};
+ghost use Rattle.rv_turns.specs.Asks.{ask_of};
 
 use crate::open_fault::OpenFault;
-use rv_base::{Id, Num, User};
+use rv_base::{Id, Num, Steps, User};
 use rv_book::Book;
 use rv_keeper::{KeepFault, Keeper, Loaded};
 use rv_news::Records;
@@ -14,7 +16,8 @@ use rv_state::{Prepared, State};
 use rv_store::restore;
 use rv_turns::{Asked, Outcome, PullRequest, Refusal, Turns};
 use std::alloc::Global;
-use std::marker::Model;
+use std::marker::{Brand, Model};
+use std::sync::ledger::{Blank, Ledger};
 
 /// One sequential server over what keeps it.
 ///
@@ -155,16 +158,33 @@ impl<K: Keeper> Turns for Desk<K> {
     ghost takes = { DeskTakes K.Keeper };
 
     fn take(&mut self, asked: Asked<'_>) -> Outcome {
-        match self.settle() {
-            Ok(()) => self.take_settled(asked),
-            Err(trouble) => Outcome::Refused(Refusal::Trouble(trouble)),
-        }
+        take_from::<K, Brand>(self, asked, Blank::new(1))
     }
 }
 
+// A turn, with a count of its own.
+fn take_from<K: Keeper, L: Ledger>(desk: &mut Desk<K>, asked: Asked<'_>, blank: Blank) -> Outcome
+    requires name { blank.name ≡ L.name }
+    requires parts { (blank.parts ≡ L.parts) × (0 < L.parts) }
+    ensures { DeskTakes K.Keeper desk.old (ask_of asked.entry) result desk.new }
+{
+    let mut steps = Steps::<L>::new(blank);
+    desk.take_counted(asked, &mut steps)
+}
+
 impl<K: Keeper> Desk<K> {
-    ghost use Rattle.rv_turns.specs.Asks.{Ask};
-    ghost use Rattle.rv_desk.specs.Seated.{DeskTakes};
+    ghost use Rattle.rv_turns.specs.Asks.{Ask, ask_of};
+    ghost use Rattle.rv_desk.specs.Seated.{DeskTakes, DeskTakesWithin};
+
+    /// Takes a turn. Of a pull each row and each client that is read of its base's record and of what is seen now is a step.
+    pub fn take_counted<L: Ledger>(&mut self, asked: Asked<'_>, steps: &mut Steps<L>) -> Outcome
+        ensures { DeskTakesWithin K.Keeper self.old (ask_of asked.entry) result self.new steps.old steps.new }
+    {
+        match self.settle() {
+            Ok(()) => self.take_settled(asked, steps),
+            Err(trouble) => Outcome::Refused(Refusal::Trouble(trouble)),
+        }
+    }
 
     /// One mutation of a client. Takes no memory unless it is run, and after every refusal but `Trouble::Keeper` all is as before, once
     /// what was in doubt is settled.
@@ -180,11 +200,17 @@ impl<K: Keeper> Desk<K> {
         })
     }
 
-    /// One pull. After every refusal but `Trouble::Keeper` all is as before, once what was in doubt is settled.
-    pub fn pull(&mut self, user: &User, request: &PullRequest) -> Outcome
-        ensures { DeskTakes K.Keeper self.old (Ask.pull user.now request.now) result self.new }
+    /// One pull. After every refusal but `Trouble::Keeper` all is as before, once what was in doubt is settled. It takes at most as many
+    /// steps as its base's record and what is seen now have rows and clients.
+    pub fn pull<L: Ledger>(
+        &mut self,
+        user: &User,
+        request: &PullRequest,
+        steps: &mut Steps<L>,
+    ) -> Outcome
+        ensures { DeskTakesWithin K.Keeper self.old (Ask.pull user.now request.now) result self.new steps.old steps.new }
     {
-        self.take(Asked::Pull { user, request })
+        self.take_counted(Asked::Pull { user, request }, steps)
     }
 
     /// Retires a client group, for good. After every refusal but `Trouble::Keeper` all is as before, once what was in doubt is settled.

@@ -1,10 +1,11 @@
 // Pulls where nothing is in doubt.
-ghost use Rattle.std.specs.Prelude.{◌≡◌, ◌<◌, None};
+ghost use Rattle.std.specs.Prelude.{◌≡◌, ◌<◌, ◌≤◌, ◌+◌, None};
 ghost use Rattle.rv_book.specs.Book.{size};
 ghost use Rattle.rv_book.specs.declared.entry.Entry.TheVariants.{Look};
 ghost use Rattle.rv_history.specs.Groups.{Admits};
 ghost use Rattle.rv_history.specs.Lawful.{IsLawfulAfter};
 ghost use Rattle.rv_history.specs.Machine.{IsUnchanged, next_order};
+ghost use Rattle.rv_history.specs.Reading.{pull_entries};
 ghost use Rattle.rv_news.specs.News.{IsNews};
 ghost use Rattle.rv_turns.specs.Asks.{Ask};
 ghost use Rattle.rv_desk.specs.Keeping.{keep_trouble};
@@ -13,45 +14,50 @@ ghost use Rattle.rv_desk.specs.Stepping.{HasStepped};
 
 use crate::desk::Desk;
 use crate::keeping::keep;
-use rv_base::{Num, User};
+use rv_base::{Num, Steps, User};
 use rv_history::{Admission, admits, next_order};
 use rv_keeper::{KeepFault, Keeper};
 use rv_news::News;
 use rv_turns::{Outcome, PullRequest, Refusal, Which};
 use rv_wire::same_reply;
+use std::sync::ledger::Ledger;
 
 impl<K: Keeper> Desk<K> {
     // A pull.
-    pub(crate) fn answer(
+    pub(crate) fn answer<L: Ledger>(
         &mut self,
         user: &User,
         request: &PullRequest,
+        steps: &mut Steps<L>,
     ) -> Result<Outcome, KeepFault>
         requires settled { self.old.doubt ≡ None }
         ensures stepped { HasStepped (served K.faults self.old) (Ask.pull user.now request.now) result (served K.faults self.new) }
         ensures assured { Assures K.tells K.fails_no_more self.old.keeper (keep_trouble result) self.new.keeper }
+        ensures most { steps.new ≤ steps.old + pull_entries user.now request.now self.old.book }
     {
         match admits(self.state.book(), user, &request.group) {
             Admission::OfOther => Ok(Outcome::Refused(Refusal::GroupOfOther)),
             Admission::Retired => Ok(Outcome::Refused(Refusal::NotFound)),
-            Admission::Open => self.answer_admitted(user, request),
+            Admission::Open => self.answer_admitted(user, request, steps),
         }
     }
 
     // A pull of a group that its user may use: tells what is news since the base that the cookie names, if there is anything to tell.
-    fn answer_admitted(&mut self, user: &User, request: &PullRequest) -> Result<Outcome, KeepFault>
+    fn answer_admitted<L: Ledger>(
+        &mut self,
+        user: &User,
+        request: &PullRequest,
+        steps: &mut Steps<L>,
+    ) -> Result<Outcome, KeepFault>
         requires settled { self.old.doubt ≡ None }
         requires admits { Admits user.now request.now.group self.old.book }
         ensures stepped { HasStepped (served K.faults self.old) (Ask.pull user.now request.now) result (served K.faults self.new) }
         ensures assured { Assures K.tells K.fails_no_more self.old.keeper (keep_trouble result) self.new.keeper }
+        ensures most { steps.new ≤ steps.old + pull_entries user.now request.now self.old.book }
     {
-        if self.state.is_unchanged(user, request)? {
+        let Some(news) = self.state.news(user, request, steps)? else {
             return Ok(Outcome::Pulled(same_reply(self.alloc, request)?));
-        }
-        let news = self.state.news(user, request)?;
-        if news.is_empty() {
-            return Ok(Outcome::Pulled(same_reply(self.alloc, request)?));
-        }
+        };
         let book = self.state.book();
         let order = next_order(&request.cookie, book.last_order(&request.group));
         if order > Num::MAX {

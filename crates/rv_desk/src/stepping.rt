@@ -1,21 +1,26 @@
 // Turns where nothing is in doubt.
-ghost use Rattle.std.specs.Prelude.{◌≡◌, None};
+ghost use Rattle.std.specs.Prelude.{◌≡◌, ◌≤◌, ◌+◌, None};
+ghost use Rattle.rv_history.specs.Reading.{turn_entries};
 ghost use Rattle.rv_turns.specs.Asks.{ask_of};
 ghost use Rattle.rv_desk.specs.Keeping.{keep_trouble};
 ghost use Rattle.rv_desk.specs.Seated.{Assures, DeskTakes, served};
 ghost use Rattle.rv_desk.specs.Stepping.{HasStepped};
 
 use crate::desk::Desk;
+use rv_base::Steps;
 use rv_keeper::{KeepFault, Keeper};
 use rv_turns::{Asked, Outcome, Refusal, Trouble};
+use std::sync::ledger::Ledger;
 
 impl<K: Keeper> Desk<K> {
-    /// A turn where nothing is in doubt.
-    pub fn take_settled(&mut self, asked: Asked<'_>) -> Outcome
+    /// A turn where nothing is in doubt. Of a pull each row and each client that is read of its base's record and of what is seen
+    /// now is a step.
+    pub fn take_settled<L: Ledger>(&mut self, asked: Asked<'_>, steps: &mut Steps<L>) -> Outcome
         requires { self.old.doubt ≡ None }
-        ensures { DeskTakes K.Keeper self.old (ask_of asked.entry) result self.new }
+        ensures turn { DeskTakes K.Keeper self.old (ask_of asked.entry) result self.new }
+        ensures most { steps.new ≤ steps.old + turn_entries (ask_of asked.entry) self.old.book }
     {
-        match self.step(asked) {
+        match self.step(asked, steps) {
             Ok(outcome) => outcome,
             Err(KeepFault::Failed) => Outcome::Refused(Refusal::Trouble(Trouble::Keeper)),
             Err(KeepFault::Memory) => Outcome::Refused(Refusal::Memory),
@@ -23,10 +28,15 @@ impl<K: Keeper> Desk<K> {
     }
 
     // A step where nothing is in doubt.
-    fn step(&mut self, asked: Asked<'_>) -> Result<Outcome, KeepFault>
+    fn step<L: Ledger>(
+        &mut self,
+        asked: Asked<'_>,
+        steps: &mut Steps<L>,
+    ) -> Result<Outcome, KeepFault>
         requires settled { self.old.doubt ≡ None }
         ensures stepped { HasStepped (served K.faults self.old) (ask_of asked.entry) result (served K.faults self.new) }
         ensures assured { Assures K.tells K.fails_no_more self.old.keeper (keep_trouble result) self.new.keeper }
+        ensures most { steps.new ≤ steps.old + turn_entries (ask_of asked.entry) self.old.book }
     {
         match asked {
             Asked::Mutation {
@@ -36,7 +46,7 @@ impl<K: Keeper> Desk<K> {
                 id,
                 call,
             } => self.run(user, group, client, id, call),
-            Asked::Pull { user, request } => self.answer(user, request),
+            Asked::Pull { user, request } => self.answer(user, request, steps),
             Asked::Retirement { group } => self.end_group(group),
         }
     }

@@ -14,6 +14,7 @@ use Rattle.rv_turns.specs.declared.refusal.Trouble.TheVariants.{Keeper, Changed}
 use Rattle.rv_wire.specs.Answers.{pull_json}
 use Rattle.rv_history.specs.Marks.{IsMark}
 use Rattle.rv_history.specs.TurnLaws.{Adds, step_adds}
+use Rattle.rv_history.specs.Reading.{turn_entries}
 use Rattle.rv_history.specs.Served.{Doubt, Served, Settles, TurnOf, TakesTurn}
 use Rattle.rv_keeper.specs.declared.keeper.Keeper.{Ghosts}
 use Rattle.rv_desk.specs.Seated.{Assures, DeskTakes, Seated, served}
@@ -27,7 +28,7 @@ use Rattle.rv_room.specs.Rule.{IsOf}
 use Rattle.rv_room.specs.Plays.{Knows}
 use Rattle.rv_room.specs.Ends.{end_view, held_view}
 use Rattle.rv_room.specs.SeatMarks.{IsSeatMark}
-use Rattle.rv_room.specs.SeatTurns.{IsSeatTurn}
+use Rattle.rv_room.specs.SeatTurns.{IsSeatTurn, IsSeatTurnWithin}
 use Rattle.rv_room.proofs.Totals.{drop_self}
 
 -- ---- Which way a book settled, and whether a step made an entry.
@@ -192,23 +193,29 @@ module _ {K : Type 0} (G : Ghosts K) where
   taken_settles v d m s taken is = subst (λ (m : Knows K). Settles m.0.book m.0.doubt s) (sym taken.1) is
 
 module _ {K : Type 0} (G : Ghosts K) where
-  pub ended_turn : (v : SeatView K) (d mid d' : Seated K) (m : Knows K) (ask : Ask) (outcome : Outcome) (w : SeatView K) → HasTaken G v d m → IsOf G v d → Extends d.book v.seen → FollowsAll G v.after d.keeper
+  pub ended_within : (v : SeatView K) (d mid d' : Seated K) (m : Knows K) (ask : Ask) (outcome : Outcome) (w : SeatView K) → HasTaken G v d m → IsOf G v d → Extends d.book v.seen → FollowsAll G v.after d.keeper
       → (settled : Result (Unit {0}) Trouble) → settled ≡ Ok tt → IsSettled (served G.faults d) settled (served G.faults mid) → Assures G.tells G.fails_no_more d.keeper (settle_trouble settled) mid.keeper → DeskTakes G mid ask outcome d'
       → w ≡ end_view m.0 mid.book d'.book d'.doubt d'.keeper
-      → IsSeatTurn G v ask outcome w
-  ended_turn v d mid d' m ask outcome w taken of begins later settled ok is assured takes view =
-      subst (IsSeatTurn G v ask outcome) (sym (view ∙ ap (λ (m : Knows K). end_view m.0 mid.book d'.book d'.doubt d'.keeper) taken.1))
-      (seat_turn G v taken.0 d mid d' ask outcome of begins later (subst (λ (r : Result (Unit {0}) Trouble). IsSettled (served G.faults d) r (served G.faults mid)) ok is)
-      (subst (λ (r : Result (Unit {0}) Trouble). Assures G.tells G.fails_no_more d.keeper (settle_trouble r) mid.keeper) ok assured) takes)
+      → (before after : ℕ) → after ≤ before + turn_entries ask mid.book
+      → IsSeatTurnWithin G v ask outcome w before after
+  unfolding seat_turn
+  ended_within v d mid d' m ask outcome w taken of begins later settled ok is assured takes view before after within =
+      subst (λ (s : SeatView K). IsSeatTurnWithin G v ask outcome s before after) (sym (view ∙ ap (λ (m : Knows K). end_view m.0 mid.book d'.book d'.doubt d'.keeper) taken.1)) (
+        seat_turn G v taken.0 d mid d' ask outcome of begins later (subst (λ (r : Result (Unit {0}) Trouble). IsSettled (served G.faults d) r (served G.faults mid)) ok is)
+            (subst (λ (r : Result (Unit {0}) Trouble). Assures G.tells G.fails_no_more d.keeper (settle_trouble r) mid.keeper) ok assured) takes,
+        within,
+      )
 
-  pub held_turn : (v : SeatView K) (d d' : Seated K) (m : Knows K) (ask : Ask) (w : SeatView K) (why : Trouble) → HasTaken G v d m → IsOf G v d → Extends d.book v.seen → FollowsAll G v.after d.keeper
+  pub held_within : (v : SeatView K) (d d' : Seated K) (m : Knows K) (ask : Ask) (w : SeatView K) (why : Trouble) → HasTaken G v d m → IsOf G v d → Extends d.book v.seen → FollowsAll G v.after d.keeper
       → (settled : Result (Unit {0}) Trouble) → settled ≡ Err why → IsSettled (served G.faults d) settled (served G.faults d') → Assures G.tells G.fails_no_more d.keeper (settle_trouble settled) d'.keeper
       → w ≡ held_view m.0 d'.keeper
-      → IsSeatTurn G v ask (Refused (refusals.Trouble why)) w
-  held_turn v d d' m ask w why taken of begins later settled err is assured view =
-      subst (IsSeatTurn G v ask (Refused (refusals.Trouble why))) (sym (view ∙ ap (λ (m : Knows K). held_view m.0 d'.keeper) taken.1))
-      (seat_held G v taken.0 d d' why ask of begins later (subst (λ (r : Result (Unit {0}) Trouble). IsSettled (served G.faults d) r (served G.faults d')) err is)
-      (subst (λ (r : Result (Unit {0}) Trouble). Assures G.tells G.fails_no_more d.keeper (settle_trouble r) d'.keeper) err assured))
+      → (before : ℕ) → IsSeatTurnWithin G v ask (Refused (refusals.Trouble why)) w before before
+  held_within v d d' m ask w why taken of begins later settled err is assured view before =
+      subst (λ (s : SeatView K). IsSeatTurnWithin G v ask (Refused (refusals.Trouble why)) s before before) (sym (view ∙ ap (λ (m : Knows K). held_view m.0 d'.keeper) taken.1)) (
+        seat_held G v taken.0 d d' why ask of begins later (subst (λ (r : Result (Unit {0}) Trouble). IsSettled (served G.faults d) r (served G.faults d')) err is)
+            (subst (λ (r : Result (Unit {0}) Trouble). Assures G.tells G.fails_no_more d.keeper (settle_trouble r) d'.keeper) err assured),
+        omega arith,
+      )
 
 -- ---- All of a turn that leaves the desk as it is.
 

@@ -1,8 +1,9 @@
 -- What a turn of a seat is.
-use Rattle.std.specs.Prelude.{◌≡◌, [], ◌∷◌, ◌++◌, Some}
+use Rattle.std.specs.Prelude.{◌≡◌, ℕ, ◌+◌, ◌≤◌, [], ◌∷◌, ◌++◌, Some}
 use Rattle.rv_book.specs.Book.{size, since, Extends}
 use Rattle.rv_turns.specs.Asks.{Ask}
 use Rattle.rv_turns.specs.declared.outcome.Outcome.{Outcome}
+use Rattle.rv_history.specs.Reading.{turn_entries}
 use Rattle.rv_keeper.specs.declared.keeper.Keeper.{Ghosts}
 use Rattle.rv_desk.specs.Seated.{DeskTakes, Seated}
 use Rattle.rv_room.specs.declared.view.SeatView.{SeatView}
@@ -33,3 +34,8 @@ pub record IsSeatTurn {K : Type 0} (G : Ghosts K) (old : SeatView K) (ask : Ask)
   pub left : new.left ≡ old.left ++ option_items takes.turn.left
   pub before : new.before ≡ old.before ++ G.faults desk.keeper ∷ []
   pub after : new.after ≡ old.after ++ now.keeper ∷ []
+
+-- The same with the steps that were counted before it and after: at most as many were taken as the walks of what is asked have entries
+-- at the book as it settled.
+abbrev pub IsSeatTurnWithin : {K : Type 0} → Ghosts K → SeatView K → Ask → Outcome → SeatView K → ℕ → ℕ → Type 0
+IsSeatTurnWithin G old ask outcome new before after = (taken : IsSeatTurn G old ask outcome new) × (after ≤ before + turn_entries ask taken.takes.turn.settled)

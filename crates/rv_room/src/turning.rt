@@ -1,17 +1,19 @@
 // The turns of a seat.
-ghost use Rattle.std.specs.Prelude.{◌≡◌, None};
+ghost use Rattle.std.specs.Prelude.{◌≡◌, ◌<◌, None};
 ghost use Rattle.rv_turns.specs.Asks.{Ask, ask_of};
 ghost use Rattle.rv_room.specs.SeatMarks.{IsSeatMark};
-ghost use Rattle.rv_room.specs.SeatTurns.{IsSeatTurn};
+ghost use Rattle.rv_room.specs.SeatTurns.{IsSeatTurn, IsSeatTurnWithin};
 ghost use Rattle.rv_room.specs.Seats.{id_of, room_of, view_of};
 
 use crate::room::Room;
 use crate::seat::Seat;
-use rv_base::{Id, Num, User};
+use rv_base::{Id, Num, Steps, User};
 use rv_keeper::Keeper;
 use rv_rows::Call;
 use rv_turns::{Asked, Outcome, PullRequest, Refusal};
+use std::marker::Brand;
 use std::sync::Wait;
+use std::sync::ledger::{Blank, Ledger};
 
 impl<K: Keeper> Room<K> {
     /// A turn of a seat: it waits for the turn, and then the desk takes one.
@@ -20,13 +22,28 @@ impl<K: Keeper> Room<K> {
         ensures same { room_of seat.new ≡ room_of seat.old }
         ensures turn { IsSeatTurn K.Keeper (view_of seat.old) (ask_of asked.entry) result (view_of seat.new) }
     {
+        turn_from::<_, K, Brand>(rt, self, seat, asked, Blank::new(1))
+    }
+
+    /// The same. Of a pull each row and each client that is read of its base's record and of what is seen now is a step.
+    pub fn turn_counted<L: Ledger>(
+        &self,
+        rt: &impl Wait,
+        seat: &mut Seat<K>,
+        asked: Asked<'_>,
+        steps: &mut Steps<L>,
+    ) -> Outcome
+        requires { room_of seat.old ≡ id_of self.now }
+        ensures same { room_of seat.new ≡ room_of seat.old }
+        ensures turn { IsSeatTurnWithin K.Keeper (view_of seat.old) (ask_of asked.entry) result (view_of seat.new) steps.old steps.new }
+    {
         let token = &mut seat.token;
         let mut desk = self.begin(rt, token);
         let began = desk.book().len();
         match desk.settle() {
             Ok(()) => {
                 let settled = desk.book().len();
-                let outcome = desk.take_settled(asked);
+                let outcome = desk.take_settled(asked, steps);
                 self.end(token, desk, began, settled);
                 outcome
             }
@@ -65,19 +82,20 @@ impl<K: Keeper> Room<K> {
         )
     }
 
-    /// One pull, as a turn of a seat.
-    pub fn turn_pull(
+    /// One pull, as a turn of a seat. It takes at most as many steps as its base's record and what is seen now have rows and clients.
+    pub fn turn_pull<L: Ledger>(
         &self,
         rt: &impl Wait,
         seat: &mut Seat<K>,
         user: &User,
         request: &PullRequest,
+        steps: &mut Steps<L>,
     ) -> Outcome
         requires { room_of seat.old ≡ id_of self.now }
         ensures same { room_of seat.new ≡ room_of seat.old }
-        ensures turn { IsSeatTurn K.Keeper (view_of seat.old) (Ask.pull user.now request.now) result (view_of seat.new) }
+        ensures turn { IsSeatTurnWithin K.Keeper (view_of seat.old) (Ask.pull user.now request.now) result (view_of seat.new) steps.old steps.new }
     {
-        self.turn(rt, seat, Asked::Pull { user, request })
+        self.turn_counted(rt, seat, Asked::Pull { user, request }, steps)
     }
 
     /// One retirement of a client group, as a turn of a seat.
@@ -101,4 +119,22 @@ impl<K: Keeper> Room<K> {
         self.end_held(token, desk);
         mark
     }
+}
+
+// A turn of a seat, with a count of its own.
+fn turn_from<R: Wait, K: Keeper, L: Ledger>(
+    rt: &R,
+    room: &Room<K>,
+    seat: &mut Seat<K>,
+    asked: Asked<'_>,
+    blank: Blank,
+) -> Outcome
+    requires room { room_of seat.old ≡ id_of room.now }
+    requires name { blank.name ≡ L.name }
+    requires parts { (blank.parts ≡ L.parts) × (0 < L.parts) }
+    ensures same { room_of seat.new ≡ room_of seat.old }
+    ensures turn { IsSeatTurn K.Keeper (view_of seat.old) (ask_of asked.entry) result (view_of seat.new) }
+{
+    let mut steps = Steps::<L>::new(blank);
+    room.turn_counted(rt, seat, asked, &mut steps)
 }

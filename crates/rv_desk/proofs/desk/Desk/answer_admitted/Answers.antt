@@ -8,4 +8,4 @@ look-requires-clause-lawful g c =
     let request = c.args.request.now in
     let book = c.args.self.now.book in
     let order : c.from_u64-2.result ≡ next_order request book = search rules in
-    may_look c.args.user.now request book c.from_u64-2.result c.in_ok-news.news.base c.requires.admits order (omega arith) (search rules)
+    may_look c.args.user.now request book c.from_u64-2.result c.in-Some.news.base c.requires.admits order (omega arith) (search rules)

@@ -6,20 +6,20 @@ use Rattle.rv_turns.specs.Asks.{ask_of}
 use Rattle.rv_room.specs.Ends.{end_view}
 use Rattle.rv_room.specs.Following.{follows_on}
 use Rattle.rv_room.specs.Plays.{Knows}
-use Rattle.rv_room.proofs.Ending.{goes_with, turn_adds, taken_of, taken_follows, taken_settles, ended_turn, held_turn}
-use Rattle.rv_room.proofs.room.Room.turn.Goals as goal
+use Rattle.rv_room.proofs.Ending.{goes_with, turn_adds, taken_of, taken_follows, taken_settles, ended_within, held_within}
+use Rattle.rv_room.proofs.room.Room.turn_counted.Goals as goal
 
 pub end-requires-clause-of : goal.end-requires-clause-of
 end-requires-clause-of g c =
     let now = c.take_settled-outcome.new.self in
-    taken_of g.K.Keeper c.args.seat.now.token.me.0 c.begin-desk.result now c.begin-desk.new.token.me c.begin-desk.ensures.view c.begin-desk.ensures.of (c.take_settled-outcome.ensures.turn.limit ∙ c.settle.ensures.settled.limit)
-    (follows_on g.K.Keeper _ _ _ (goes_with g.K.Keeper _ _ _ c.settle.ensures.assured c.settle.ensures.settled.later) (goes_with g.K.Keeper _ _ _ c.take_settled-outcome.ensures.assured c.take_settled-outcome.ensures.turn.later))
+    taken_of g.K.Keeper c.args.seat.now.token.me.0 c.begin-desk.result now c.begin-desk.new.token.me c.begin-desk.ensures.view c.begin-desk.ensures.of (c.take_settled-outcome.ensures.turn.turn.limit ∙ c.settle.ensures.settled.limit)
+    (follows_on g.K.Keeper _ _ _ (goes_with g.K.Keeper _ _ _ c.settle.ensures.assured c.settle.ensures.settled.later) (goes_with g.K.Keeper _ _ _ c.take_settled-outcome.ensures.turn.assured c.take_settled-outcome.ensures.turn.turn.later))
 
 pub end-requires-clause-follows : goal.end-requires-clause-follows
 end-requires-clause-follows g c =
     let now = c.take_settled-outcome.new.self in
     taken_follows g.K.Keeper c.args.seat.now.token.me.0 c.begin-desk.result c.begin-desk.new.token.me now.keeper c.begin-desk.ensures.view
-    (follows_on g.K.Keeper _ _ _ (goes_with g.K.Keeper _ _ _ c.settle.ensures.assured c.settle.ensures.settled.later) (goes_with g.K.Keeper _ _ _ c.take_settled-outcome.ensures.assured c.take_settled-outcome.ensures.turn.later))
+    (follows_on g.K.Keeper _ _ _ (goes_with g.K.Keeper _ _ _ c.settle.ensures.assured c.settle.ensures.settled.later) (goes_with g.K.Keeper _ _ _ c.take_settled-outcome.ensures.turn.assured c.take_settled-outcome.ensures.turn.turn.later))
 
 pub end-requires-clause-settled : goal.end-requires-clause-settled
 end-requires-clause-settled g c =
@@ -29,7 +29,7 @@ end-requires-clause-settled g c =
       mid.book,
       c.len-settled.ensures.value ∙ ap size c.book-in-Ok.ensures.book,
       taken_settles g.K.Keeper c.args.seat.now.token.me.0 c.begin-desk.result c.begin-desk.new.token.me mid.book c.begin-desk.ensures.view st.0,
-      turn_adds (served g.K.Keeper.faults mid) (ask_of c.args.asked) c.take_settled-outcome.result (served g.K.Keeper.faults now) st.1 c.take_settled-outcome.ensures.turn,
+      turn_adds (served g.K.Keeper.faults mid) (ask_of c.args.asked) c.take_settled-outcome.result (served g.K.Keeper.faults now) st.1 c.take_settled-outcome.ensures.turn.turn,
     )
 
 pub end_held-requires-clause-of : goal.end_held-requires-clause-of
@@ -49,15 +49,15 @@ returns-in-Ok-clause-turn g c =
     let m = c.begin-desk.new.token.me in
     let eq : c.end.new.token.me ≡ (end_view m.0 mid.book now.book now.doubt now.keeper, []) =
     c.end.ensures.ended mid.book (c.len-settled.ensures.value ∙ ap size c.book-in-Ok.ensures.book) (taken_settles g.K.Keeper c.args.seat.now.token.me.0 c.begin-desk.result m mid.book c.begin-desk.ensures.view st.0)
-    (turn_adds (served g.K.Keeper.faults mid) (ask_of c.args.asked) c.take_settled-outcome.result (served g.K.Keeper.faults now) st.1 c.take_settled-outcome.ensures.turn) in
-    ended_turn g.K.Keeper c.args.seat.now.token.me.0 c.begin-desk.result mid now m (ask_of c.args.asked) c.take_settled-outcome.result c.end.new.token.me.0 c.begin-desk.ensures.view c.begin-desk.ensures.of c.begin-desk.ensures.begins c.begin-desk.ensures.later
-    c.settle.result c.in-Ok.is c.settle.ensures.settled c.settle.ensures.assured c.take_settled-outcome.ensures (ap (λ (m : M). m.0) eq)
+    (turn_adds (served g.K.Keeper.faults mid) (ask_of c.args.asked) c.take_settled-outcome.result (served g.K.Keeper.faults now) st.1 c.take_settled-outcome.ensures.turn.turn) in
+    ended_within g.K.Keeper c.args.seat.now.token.me.0 c.begin-desk.result mid now m (ask_of c.args.asked) c.take_settled-outcome.result c.end.new.token.me.0 c.begin-desk.ensures.view c.begin-desk.ensures.of c.begin-desk.ensures.begins c.begin-desk.ensures.later
+    c.settle.result c.in-Ok.is c.settle.ensures.settled c.settle.ensures.assured c.take_settled-outcome.ensures.turn (ap (λ (m : M). m.0) eq) c.args.steps.now c.take_settled-outcome.new.steps c.take_settled-outcome.ensures.most
 
 pub returns-in-Err-clause-turn : goal.returns-in-Err-clause-turn
 returns-in-Err-clause-turn g c =
     let M : Type 0 = Knows g.row.K.Denot in
-    held_turn g.K.Keeper c.args.seat.now.token.me.0 c.begin-desk.result c.settle.new.self c.begin-desk.new.token.me (ask_of c.args.asked) c.end_held.new.token.me.0 c.in-Err.trouble c.begin-desk.ensures.view c.begin-desk.ensures.of c.begin-desk.ensures.begins c.begin-desk.ensures.later
-    c.settle.result c.in-Err.is c.settle.ensures.settled c.settle.ensures.assured (ap (λ (m : M). m.0) c.end_held.ensures.ended)
+    held_within g.K.Keeper c.args.seat.now.token.me.0 c.begin-desk.result c.settle.new.self c.begin-desk.new.token.me (ask_of c.args.asked) c.end_held.new.token.me.0 c.in-Err.trouble c.begin-desk.ensures.view c.begin-desk.ensures.of c.begin-desk.ensures.begins c.begin-desk.ensures.later
+    c.settle.result c.in-Err.is c.settle.ensures.settled c.settle.ensures.assured (ap (λ (m : M). m.0) c.end_held.ensures.ended) c.args.steps.now
 
 pub invariant_of-seat : goal.invariant_of-seat
 invariant_of-seat g c =
@@ -68,7 +68,7 @@ invariant_of-seat g c =
     let m = c.begin-desk.new.token.me in
     let eq : c.end.new.token.me ≡ (end_view m.0 mid.book now.book now.doubt now.keeper, []) =
     c.end.ensures.ended mid.book (c.len-settled.ensures.value ∙ ap size c.book-in-Ok.ensures.book) (taken_settles g.K.Keeper c.args.seat.now.token.me.0 c.begin-desk.result m mid.book c.begin-desk.ensures.view st.0)
-    (turn_adds (served g.K.Keeper.faults mid) (ask_of c.args.asked) c.take_settled-outcome.result (served g.K.Keeper.faults now) st.1 c.take_settled-outcome.ensures.turn) in record {
+    (turn_adds (served g.K.Keeper.faults mid) (ask_of c.args.asked) c.take_settled-outcome.result (served g.K.Keeper.faults now) st.1 c.take_settled-outcome.ensures.turn.turn) in record {
       idle = (ap (λ (m : M). m.0.waits) eq, ap (λ (m : M). m.0.turns) eq);
       one = ap (λ (m : M). m.0.parts) eq ∙ (ap (λ (m : M). m.0.parts) c.begin-desk.ensures.view.1 ∙ c.args.seat.now.one);
       bare = ap (λ (m : M). m.1) eq;
