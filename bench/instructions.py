@@ -52,9 +52,8 @@ def print_table(program, count=1000, pulls=20, turns=100):
     """Prints what a row costs in a pull, and what a mutation costs."""
     before = rows(count) + [pull()]
     start = instructions(program, before)
-    for name, lines in (("without a base", anew(pulls)), ("with nothing changed", unchanged(count + 1, pulls))):
-        each = (instructions(program, before + lines) - start) // (pulls * count)
-        print(f"a pull {name}, a row of {count}: {each} instructions")
+    each = (instructions(program, before + anew(pulls)) - start) // (pulls * count)
+    print(f"a pull without a base, a row of {count}: {each} instructions")
     each = (instructions(program, voids(turns + 1)) - instructions(program, voids(1))) // turns
     print(f"a line with a mutation that has no effect: {each} instructions")
     for lists in (0, 100):
