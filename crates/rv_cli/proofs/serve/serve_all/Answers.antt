@@ -32,6 +32,9 @@ returns-clause-serve g c =
 pub returns-clause-unserved : goal.returns-clause-unserved
 returns-clause-unserved g c = inr (unserved_by _ c.serve_net-served.result.0 c.len-entries.result (g.O.Sink.state c.args.out.now) (g.O.Sink.state c.write_served.new.out) c.write_served.result _ c.write_served.ensures.writes c.status-2.ensures c.serve_net-served.ensures.unserved)
 
+pub returns-clause-wanted : goal.returns-clause-wanted
+returns-clause-wanted g c = inr (λ told. (c.serve_net-served.ensures.wanted told, c.serve_net-served.ensures.wanted_pokes told))
+
 pub returns-in-Err-clause-others : goal.returns-in-Err-clause-others
 returns-in-Err-clause-others g c = λ told. others_of g.P.Place.holds g.P.Place.is_out g.P.Place.has g.P.Place.accounts c.args.store.now c.args.place.now c.accounts_of.new.place (c.accounts_of.ensures.stays told)
 
