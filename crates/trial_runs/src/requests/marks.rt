@@ -5,7 +5,7 @@ use rv_base::{Memory, User};
 use rv_book::Entry;
 use rv_desk::{Desk, OpenFault};
 use rv_keeper::{Keeper, MemoryKeeper};
-use rv_turns::{Cookie, Outcome, PullRequest};
+use rv_turns::{Asked, Cookie, Outcome, PullRequest, Turns};
 use std::alloc::Global;
 use trial_stage::Part::{Number, Text};
 use trial_stage::{append_parts, first_word, joined, number_in};
@@ -85,7 +85,10 @@ fn take(alloc: Global, desk: &mut Desk<MemoryKeeper>, entry: &Entry) -> Result<O
                 group: group.copy(alloc)?,
                 cookie: Cookie::Null,
             };
-            Ok(desk.pull(user, &request))
+            Ok(desk.take(Asked::Pull {
+                user,
+                request: &request,
+            }))
         }
         Entry::Retire { group } => Ok(desk.retire(group)),
     }
