@@ -84,67 +84,72 @@ fn rows_changed<L: Ledger>(
     let mut puts = Sequence::new(alloc);
     let mut rest = base;
     for row in now {
-        rest = add_below(alloc, &mut dels, rest, &row.0, steps)?;
-        add_touched(alloc, &mut puts, rest, row)?;
-        rest = after_key(rest, &row.0, steps);
+        let (from, has_key) = add_below(alloc, &mut dels, rest, &row.0, steps)?;
+        add_touched(alloc, &mut puts, from, has_key, row)?;
+        rest = after_key(from, has_key, steps);
     }
     add_rest(alloc, &mut dels, rest, steps)?;
     Ok(RowChanges { dels, puts })
 }
 
-// Adds the keys of the rows before the first whose key is not below this one, and gives the rows from there on.
+// Adds the keys of the rows before the first whose key is not below this one, and gives the rows from there on, and whether the first
+// of them has this key.
+#[tactic(auto, using(crate::proofs::Merges::same_text))]
 fn add_below<'r, L: Ledger>(
     alloc: Global,
     keys: &mut Keys,
     rows: &'r [(Key, u32)],
     key: &Key,
     steps: &mut Steps<L>,
-) -> Result<&'r [(Key, u32)], Memory>
-    ensures rest { IfOk result (λ rest. rest.now ≡ rest_from seen_key (key_text key.now) rows.now) }
-    ensures keys { IfOk result (λ rest. keys.new ≡ keys.old ++ map (λ pair. pair.0) (take_while (λ other. is_lt (slice_cmp nat_cmp (seen_key other) (key_text key.now))) rows.now)) }
-    ensures read { IfOk result (λ rest. steps.new + length rest.now ≡ steps.old + length rows.now) }
+) -> Result<(&'r [(Key, u32)], bool), Memory>
+    ensures rest { IfOk result (λ found. found.0.now ≡ rest_from seen_key (key_text key.now) rows.now) }
+    ensures key { IfOk result (λ found. found.1 ≡ begins_with (λ other. bytes_eq (seen_key other) (key_text key.now)) found.0.now) }
+    ensures keys { IfOk result (λ found. keys.new ≡ keys.old ++ map (λ pair. pair.0) (take_while (λ other. is_lt (slice_cmp nat_cmp (seen_key other) (key_text key.now))) rows.now)) }
+    ensures read { IfOk result (λ found. steps.new + length found.0.now ≡ steps.old + length rows.now) }
     ensures most { steps.new ≤ steps.old + length rows.now }
 {
     let mut rest = rows;
     while let Some((first, others)) = rest.split_first() {
-        if !first.0.compare(key).is_lt() {
-            return Ok(rest);
+        let order = first.0.compare(key);
+        if !order.is_lt() {
+            return Ok((rest, order.is_eq()));
         }
         steps.tick();
         keys.push(first.0.copy(alloc)?)?;
         rest = others;
     }
-    Ok(rest)
+    Ok((rest, false))
 }
 
-// Adds the key of the row, unless the first of the others has this key and this version.
+// Adds the key of the row, unless the first of the others has this key, as is told, and this version.
 fn add_touched(
     alloc: Global,
     keys: &mut Keys,
     others: &[(Key, u32)],
+    has_key: bool,
     row: &(Key, u32),
 ) -> Result<(), Memory>
+    requires key { has_key ≡ begins_with (λ other. bytes_eq (seen_key other) (seen_key row.now)) others.now }
     ensures { IfOk result (λ _. keys.new ≡ keys.old ++ (if begins_with (λ other. bytes_eq (seen_key other) (seen_key row.now) && (other.1 == row.now.1)) others.now then [] else row.now.0 ∷ [])) }
 {
-    if !begins_with_row(others, row) {
+    if !(has_key && begins_with_version(others, row.1)) {
         keys.push(row.0.copy(alloc)?)?;
     }
     Ok(())
 }
 
-// The rows without the first, where that has this key.
-#[tactic(auto, using(crate::proofs::Merges::same_text))]
+// The rows without the first, where that has the key.
 fn after_key<'r, L: Ledger>(
     rows: &'r [(Key, u32)],
-    key: &Key,
+    has_key: bool,
     steps: &mut Steps<L>,
 ) -> &'r [(Key, u32)]
-    ensures rest { result.now ≡ (if begins_with (λ other. bytes_eq (seen_key other) (key_text key.now)) rows.now then drop 1 rows.now else rows.now) }
+    ensures rest { result.now ≡ (if has_key then drop 1 rows.now else rows.now) }
     ensures read { steps.new + length result.now ≡ steps.old + length rows.now }
 {
     match rows.split_first() {
-        Some((first, others)) => {
-            if first.0.compare(key).is_eq() {
+        Some((_first, others)) => {
+            if has_key {
                 steps.tick();
                 others
             } else {
@@ -152,6 +157,16 @@ fn after_key<'r, L: Ledger>(
             }
         }
         None => rows,
+    }
+}
+
+// Whether the first row has this version.
+fn begins_with_version(rows: &[(Key, u32)], version: u32) -> bool
+    ensures { result ≡ begins_with (λ other. other.1 == version) rows.now }
+{
+    match rows.first() {
+        Some(first) => first.1 == version,
+        None => false,
     }
 }
 
@@ -196,17 +211,6 @@ fn clients_from<'c, L: Ledger>(
         rest = others;
     }
     rest
-}
-
-// Whether the first row has the key of this one, and its version.
-#[tactic(auto, using(crate::proofs::Merges::same_text))]
-fn begins_with_row(rows: &[(Key, u32)], row: &(Key, u32)) -> bool
-    ensures { result ≡ begins_with (λ other. bytes_eq (seen_key other) (seen_key row.now) && (other.1 == row.now.1)) rows.now }
-{
-    match rows.first() {
-        Some(first) => first.0.compare(&row.0).is_eq() && first.1 == row.1,
-        None => false,
-    }
 }
 
 // Whether the first client is this one, with its last mutation id.

@@ -9,19 +9,19 @@ use Rattle.rv_views.proofs.walks.rows_changed.Goals as goal
 pub loop-row-preserved : goal.loop-row-preserved
 unfolding is_absent is_untouched
 loop-row-preserved g c =
-    let step : IsStep seen_key c.args.now.now c.loop-row.rest.now c.in_ok-rest.rest.now c.after_key-rest.result.now c.loop-row.row-index c.row-item.result = record {
+    let step : IsStep seen_key c.args.now.now c.loop-row.rest.now c.in_ok-from.from.now c.after_key-rest.result.now c.loop-row.row-index c.row-item.result = record {
       in_range = omega arith;
       item = c.row-item.is;
       order = c.requires.now;
       rest_order = c.loop-row.invariant.order;
-      rest_is = c.in_ok-rest.ensures.rest;
-      next_is = c.after_key-rest.ensures.rest;
+      rest_is = c.in_ok-from.ensures.rest;
+      next_is = rw c.in_ok-from.ensures.key at c.after_key-rest.ensures.rest;
     } in
     record {
-      dels = rw (c.in_ok-rest.ensures.keys) (lost_step seen_key (λ pair. pair.0) c.loop-row.dels _ step c.loop-row.invariant.dels);
+      dels = rw (c.in_ok-from.ensures.keys) (lost_step seen_key (λ pair. pair.0) c.loop-row.dels _ step c.loop-row.invariant.dels);
       puts = rw (c.in_ok-add_touched.ensures) (touched_step seen_key (λ other pair. bytes_eq (seen_key other) (seen_key pair) && (other.1 == pair.1)) (λ y x apart. rw apart refl) (λ pair. pair.0) c.loop-row.puts _ step c.loop-row.invariant.puts);
       order = next_order seen_key step;
-      read = omega (arith, c.in_ok-rest.ensures.read);
+      read = omega (arith, c.in_ok-from.ensures.read);
     }
 
 pub returns-clause-dels : goal.returns-clause-dels
