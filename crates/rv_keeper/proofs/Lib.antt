@@ -1,6 +1,4 @@
-pub mod Joined
-pub mod Leaving
 pub mod Schedule
-pub mod Shelving
+pub mod Changed
 pub mod Named
 pub mod MemoryStores

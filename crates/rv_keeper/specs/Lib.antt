@@ -3,7 +3,7 @@ pub mod Keeping
 pub mod Schedules
 pub mod Stores
 pub mod StoreLaws
-pub mod Shelving
+pub mod Puts
 pub mod Named
 pub mod MemoryStores
 pub mod PlaceStates

@@ -17,7 +17,6 @@ mod loaded;
 mod memory_keeper;
 mod memory_place;
 mod place;
-mod shelf;
 mod shelves;
 mod store;
 

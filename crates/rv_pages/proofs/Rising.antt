@@ -1,11 +1,11 @@
--- Numbers in an order that never falls, in parts.
+-- Items in an order that never falls, in parts.
 use Rattle.std.proofs.Common.{◌≡◌, ℕ, zero, suc, ◌<◌, ◌≤◌, Bool, true, false, List, [], ◌∷◌, ◌++◌, length, get_or, take, drop, refl, sym, ◌∙◌, arith}
 use Rattle.std.specs.declared.cmp.Ordering.{Ordering}
 use Rattle.std.specs.Ordering.{ordering_index}
-use Rattle.std.specs.List.{concat, AllByRecursion, AllWithin}
+use Rattle.std.specs.List.{AllByRecursion, AllWithin}
 use Rattle.std.specs.List.Sorted.{IsPartitionedBy}
 use Rattle.std.proofs.lemmas.Bool.{false≢true}
-use Rattle.rv_pages.specs.Paging.{Rises}
+use Rattle.rv_pages.specs.Paging.{items, Rises}
 use Rattle.rv_pages.specs.Vectors.{HaveItems, ends}
 
 -- what holds of each item, by parts
@@ -58,94 +58,94 @@ pub all-to : {X : Type 0} (P Q : X → Type 0) (xs : List X) → ((x : X) → P 
 all-to P Q [] so all = tt
 all-to P Q (x ∷ xs) so all = (so x all.0, all-to P Q xs so all.1)
 
-module _ (o : ℕ → Ordering) where
-  -- the one number does not stand after the other
-  abbrev pub NotAfter : ℕ → ℕ → Type 0
+module _ {A : Type 0} (o : A → Ordering) where
+  -- the one item does not stand after the other
+  abbrev pub NotAfter : A → A → Type 0
   NotAfter x y = ordering_index (o x) ≤ ordering_index (o y)
 
-  abbrev pub Rise : List ℕ → Type 0
+  abbrev pub Rise : List A → Type 0
   Rise [] = Unit {0}
   Rise (x ∷ xs) = AllByRecursion (NotAfter x) xs × Rise xs
 
-  not_after_all : (x : ℕ) (ys : List ℕ) → ((j d : ℕ) → j < length ys → NotAfter x (get_or ys j d)) → AllByRecursion (NotAfter x) ys
+  not_after_all : (x : A) (ys : List A) → ((j : ℕ) (d : A) → j < length ys → NotAfter x (get_or ys j d)) → AllByRecursion (NotAfter x) ys
   not_after_all x [] each = tt
   not_after_all x (y ∷ ys) each = (each 0 y (omega arith), not_after_all x ys (λ j d lt. each (suc j) d (omega arith)))
 
-  pub rise_of : (xs : List ℕ) → Rises o xs → Rise xs
+  pub rise_of : (xs : List A) → Rises o xs → Rise xs
   rise_of [] h = tt
   rise_of (x ∷ xs) h = (not_after_all x xs (λ j d lt. h 0 (suc j) d (omega arith) (omega arith)), rise_of xs (λ i j d le lt. h (suc i) (suc j) d (omega arith) (omega arith)))
 
-  pub rises_of : (xs : List ℕ) → Rise xs → Rises o xs
+  pub rises_of : (xs : List A) → Rise xs → Rises o xs
   rises_of [] h i j d le lt = absurd (omega arith)
   rises_of (x ∷ xs) h zero zero d le lt = omega arith
   rises_of (x ∷ xs) h zero (suc j) d le lt = all_at (NotAfter x) xs j d h.0 (omega arith)
   rises_of (x ∷ xs) h (suc i) zero d le lt = absurd (omega arith)
   rises_of (x ∷ xs) h (suc i) (suc j) d le lt = rises_of xs h.1 i j d (omega arith) (omega arith)
 
-  pub rise-left : (xs ys : List ℕ) → Rise (xs ++ ys) → Rise xs
+  pub rise-left : (xs ys : List A) → Rise (xs ++ ys) → Rise xs
   rise-left [] ys h = tt
   rise-left (x ∷ xs) ys h = (all-left (NotAfter x) xs ys h.0, rise-left xs ys h.1)
 
-  pub rise-right : (xs ys : List ℕ) → Rise (xs ++ ys) → Rise ys
+  pub rise-right : (xs ys : List A) → Rise (xs ++ ys) → Rise ys
   rise-right [] ys h = h
   rise-right (x ∷ xs) ys h = rise-right xs ys h.1
 
   -- a test that passes what stands before what it passes
   module _ (p : Ordering → Bool) (down : (a b : Ordering) → ordering_index a ≤ ordering_index b → p b ≡ true → p a ≡ true) where
-    abbrev Passes : ℕ → Type 0
+    abbrev Passes : A → Type 0
     Passes x = p (o x) ≡ true
 
-    abbrev Fails : ℕ → Type 0
+    abbrev Fails : A → Type 0
     Fails x = p (o x) ≡ false
 
     up : (a b : Ordering) → ordering_index a ≤ ordering_index b → p a ≡ false → p b ≡ false
     up a b le fails = elim (p b) as (λ v. p b ≡ v → v ≡ false) [ true ↦ λ e. absurd (false≢true (sym fails ∙ down a b le e)) | false ↦ λ e. refl ] refl
 
-    pub last_passes : (page : List ℕ) → Rise page → ends (λ i. p (o i)) page ≡ true → AllByRecursion Passes page
+    pub last_passes : (page : List A) → Rise page → ends (λ i. p (o i)) page ≡ true → AllByRecursion Passes page
     last_passes [] h e = tt
     last_passes (x ∷ []) h e = (e, tt)
     last_passes (x ∷ y ∷ ys) h e =
         let rest = last_passes (y ∷ ys) h.1 e in
         (down (o x) (o y) h.0.0 rest.0, rest)
 
-    pub all_end : (page : List ℕ) → 1 ≤ length page → AllByRecursion Passes page → ends (λ i. p (o i)) page ≡ true
+    pub all_end : (page : List A) → 1 ≤ length page → AllByRecursion Passes page → ends (λ i. p (o i)) page ≡ true
     all_end [] some all = absurd (omega arith)
     all_end (x ∷ []) some all = all.0
     all_end (x ∷ y ∷ ys) some all = all_end (y ∷ ys) (omega arith) all.1
 
-    fail_too : (x : ℕ) (ys : List ℕ) → Fails x → AllByRecursion (NotAfter x) ys → AllByRecursion Fails ys
+    fail_too : (x : A) (ys : List A) → Fails x → AllByRecursion (NotAfter x) ys → AllByRecursion Fails ys
     fail_too x [] e all = tt
     fail_too x (y ∷ ys) e all = (up (o x) (o y) all.0 e, fail_too x ys e all.1)
 
-    pub last_fails : (page ys : List ℕ) → 1 ≤ length page → Rise (page ++ ys) → ends (λ i. p (o i)) page ≡ false → AllByRecursion Fails ys
+    pub last_fails : (page ys : List A) → 1 ≤ length page → Rise (page ++ ys) → ends (λ i. p (o i)) page ≡ false → AllByRecursion Fails ys
     last_fails [] ys some h e = absurd (omega arith)
     last_fails (x ∷ []) ys some h e = fail_too x ys e h.0
     last_fails (x ∷ y ∷ page) ys some h e = last_fails (y ∷ page) ys (omega arith) h.1 e
 
-    pass_before : (xs : List ℕ) (y : ℕ) (ys : List ℕ) → Rise (xs ++ y ∷ ys) → Passes y → AllByRecursion Passes xs
+    pass_before : (xs : List A) (y : A) (ys : List A) → Rise (xs ++ y ∷ ys) → Passes y → AllByRecursion Passes xs
     pass_before [] y ys h e = tt
     pass_before (x ∷ xs) y ys h e = (down (o x) (o y) (all-right (NotAfter x) xs (y ∷ ys) h.0).0 e, pass_before xs y ys h.1 e)
 
-    page_before : (page next ys : List ℕ) → 1 ≤ length page → 1 ≤ length next → Rise (page ++ (next ++ ys)) → ends (λ i. p (o i)) next ≡ true → ends (λ i. p (o i)) page ≡ true
+    page_before : (page next ys : List A) → 1 ≤ length page → 1 ≤ length next → Rise (page ++ (next ++ ys)) → ends (λ i. p (o i)) next ≡ true → ends (λ i. p (o i)) page ≡ true
     page_before page [] ys some more h e = absurd (omega arith)
     page_before page (y ∷ next) ys some more h e =
         let first = last_passes (y ∷ next) (rise-left (y ∷ next) ys (rise-right page ((y ∷ next) ++ ys) h)) e in
         all_end page some (pass_before page y (next ++ ys) h first.0)
 
-    pub partitioned : (pages : List (List ℕ)) → HaveItems pages → Rise (concat pages) → IsPartitionedBy (ends (λ i. p (o i))) pages
+    pub partitioned : (pages : List (List A)) → HaveItems pages → Rise (items pages) → IsPartitionedBy (ends (λ i. p (o i))) pages
     partitioned [] some h i j d le lt e = absurd (omega arith)
     partitioned (page ∷ pages) some h zero zero d le lt e = e
     partitioned (page ∷ []) some h zero (suc j) d le lt e = absurd (omega arith)
     partitioned (page ∷ next ∷ pages) some h zero (suc j) d le lt e =
-        page_before page next (concat pages) some.0 some.1.0 h (partitioned (next ∷ pages) some.1 (rise-right page (concat (next ∷ pages)) h) zero j d (omega arith) (omega arith) e)
+        page_before page next (items pages) some.0 some.1.0 h (partitioned (next ∷ pages) some.1 (rise-right page (items (next ∷ pages)) h) zero j d (omega arith) (omega arith) e)
     partitioned (page ∷ pages) some h (suc i) zero d le lt e = absurd (omega arith)
-    partitioned (page ∷ pages) some h (suc i) (suc j) d le lt e = partitioned pages some.1 (rise-right page (concat pages) h) i j d (omega arith) (omega arith) e
+    partitioned (page ∷ pages) some h (suc i) (suc j) d le lt e = partitioned pages some.1 (rise-right page (items pages) h) i j d (omega arith) (omega arith) e
 
-    -- the numbers of the first pages pass, where each of those ends with one that does
-    pub pages_pass : (pages : List (List ℕ)) (n : ℕ) → n ≤ length pages → Rise (concat pages) → AllWithin (λ page. ends (λ i. p (o i)) page ≡ true) pages 0 n → AllByRecursion Passes (concat (take n pages))
+    -- the items of the first pages pass, where each of those ends with one that does
+    pub pages_pass : (pages : List (List A)) (n : ℕ) → n ≤ length pages → Rise (items pages) → AllWithin (λ page. ends (λ i. p (o i)) page ≡ true) pages 0 n → AllByRecursion Passes (items (take n pages))
     pages_pass pages zero le h all = tt
     pages_pass [] (suc n) le h all = absurd (omega arith)
     pages_pass (page ∷ pages) (suc n) le h all =
-        all-append Passes page (concat (take n pages))
-        (last_passes page (rise-left page (concat pages) h) (all 0 page (omega arith) (omega arith)))
-        (pages_pass pages n (omega arith) (rise-right page (concat pages) h) (λ k d low lt. all (suc k) d (omega arith) (omega arith)))
+        all-append Passes page (items (take n pages))
+        (last_passes page (rise-left page (items pages) h) (all 0 page (omega arith) (omega arith)))
+        (pages_pass pages n (omega arith) (rise-right page (items pages) h) (λ k d low lt. all (suc k) d (omega arith) (omega arith)))

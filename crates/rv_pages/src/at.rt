@@ -1,8 +1,8 @@
-/// Where a number stands in its pages, or where one may go: a page, and a place in it.
+/// Where an item stands in its pages, or where one may go: a page, and a place in it.
 #[derive(Clone, Copy, Debug)]
 pub struct At {
     /// The number of the page.
     pub page: usize,
-    /// How many numbers of the page stand before it.
+    /// How many items of the page stand before it.
     pub offset: usize,
 }

@@ -1,5 +1,5 @@
-// Numbers that come and go in pages.
-ghost use Rattle.std.specs.Prelude.{◌≡◌, ◌≤◌, ◌<◌, ◌+◌, ◌∷◌, ◌++◌, [], length, IfOk, OnOk, slice_set, vec_len, vec_capacity};
+// Items that come and go in pages.
+ghost use Rattle.std.specs.Prelude.{◌≡◌, ◌≤◌, ◌<◌, ◌+◌, ◌∷◌, ◌++◌, [], length, reverse, IfOk, OnOk, slice_set, vec_len, vec_capacity};
 ghost use Rattle.std.specs.List.{insert, remove as removed};
 ghost use Rattle.rv_pages.specs.Paging.{items, page_at, index_of, IsItem, IsGap};
 ghost use Rattle.rv_pages.specs.Vectors.{lists, IsPage, IsFresh, ArePages, AreFresh};
@@ -8,21 +8,25 @@ use crate::at::At;
 use rv_base::Memory;
 use std::alloc::Global;
 
-// How many numbers a page has at most.
+// How many items a page has at most.
 pub(crate) const MOST: usize = 64;
 
 // How many stay in a full page that is split.
 const HALF: usize = 32;
 
-// A page with no number, and with space for as many as a page has.
-fn fresh_page(alloc: Global) -> Result<Vec<u32>, Memory>
+// A page with no item, and with space for as many as a page has.
+fn fresh_page<T: Drop>(alloc: Global) -> Result<Vec<T>, Memory>
     ensures { IfOk result IsFresh }
 {
     Ok(Vec::with_capacity(alloc, MOST)?)
 }
 
 // Makes fresh pages until there are so many.
-pub(crate) fn fill(fresh: &mut Vec<Vec<u32>>, alloc: Global, count: usize) -> Result<(), Memory>
+pub(crate) fn fill<T: Drop>(
+    fresh: &mut Vec<Vec<T>>,
+    alloc: Global,
+    count: usize,
+) -> Result<(), Memory>
     requires fresh { AreFresh fresh.old.items }
     requires space { count ≤ vec_capacity fresh.old }
     requires fewer { vec_len fresh.old ≤ count }
@@ -38,8 +42,8 @@ pub(crate) fn fill(fresh: &mut Vec<Vec<u32>>, alloc: Global, count: usize) -> Re
     Ok(())
 }
 
-// Puts a number into a page that has space for it.
-fn put(page: &mut Vec<u32>, offset: usize, item: u32)
+// Puts an item into a page that has space for it.
+fn put<T: Drop>(page: &mut Vec<T>, offset: usize, item: T)
     requires offset { offset ≤ vec_len page.old }
     requires space { vec_len page.old < vec_capacity page.old }
     ensures items { page.new.items ≡ insert page.old.items offset item }
@@ -53,7 +57,7 @@ fn put(page: &mut Vec<u32>, offset: usize, item: u32)
 }
 
 // Puts a page among others, which have space for it.
-fn put_page(pages: &mut Vec<Vec<u32>>, at: usize, page: Vec<u32>)
+fn put_page<T: Drop>(pages: &mut Vec<Vec<T>>, at: usize, page: Vec<T>)
     requires at { at ≤ vec_len pages.old }
     requires space { vec_len pages.old < vec_capacity pages.old }
     ensures pages { pages.new.items ≡ insert pages.old.items at page }
@@ -66,8 +70,8 @@ fn put_page(pages: &mut Vec<Vec<u32>>, at: usize, page: Vec<u32>)
     }
 }
 
-// Puts a number into the one of two halves where it belongs.
-fn put_in_half(page: &mut Vec<u32>, after: &mut Vec<u32>, offset: usize, item: u32)
+// Puts an item into the one of two halves where it belongs.
+fn put_in_half<T: Drop>(page: &mut Vec<T>, after: &mut Vec<T>, offset: usize, item: T)
     requires page { vec_len page.old ≡ HALF }
     requires page_space { MOST ≤ vec_capacity page.old }
     requires after { vec_len after.old ≡ HALF }
@@ -85,7 +89,7 @@ fn put_in_half(page: &mut Vec<u32>, after: &mut Vec<u32>, offset: usize, item: u
 }
 
 // Moves the upper half of a full page to a fresh one.
-fn halve(page: &mut Vec<u32>, fresh: &mut Vec<u32>)
+fn halve<T: Drop>(page: &mut Vec<T>, fresh: &mut Vec<T>)
     requires full { vec_len page.old ≡ MOST }
     requires fresh { IsFresh fresh.old }
     ensures items { page.new.items ++ fresh.new.items ≡ page.old.items }
@@ -94,16 +98,15 @@ fn halve(page: &mut Vec<u32>, fresh: &mut Vec<u32>)
     ensures fresh { vec_len fresh.new ≡ HALF }
     ensures fresh_space { vec_capacity fresh.old ≤ vec_capacity fresh.new }
 {
-    match fresh.extend_from_slice(&page[HALF..]) {
-        Ok(()) => {}
-        Err(_) => unreachable!(),
+    for _ in 0..HALF {
+        fresh.push_reserved(page.take_last());
     }
-    page.truncate(HALF);
+    fresh.reverse();
 }
 
-// Puts a number into a full page, part of which goes on in a fresh one: the upper half, or the number alone where it
-// goes after all others.
-fn spill(page: &mut Vec<u32>, fresh: &mut Vec<u32>, offset: usize, item: u32)
+// Puts an item into a full page, part of which goes on in a fresh one: the upper half, or the item alone where it goes
+// after all others.
+fn spill<T: Drop>(page: &mut Vec<T>, fresh: &mut Vec<T>, offset: usize, item: T)
     requires full { vec_len page.old ≡ MOST }
     requires fresh { IsFresh fresh.old }
     requires offset { offset ≤ MOST }
@@ -119,8 +122,8 @@ fn spill(page: &mut Vec<u32>, fresh: &mut Vec<u32>, offset: usize, item: u32)
     }
 }
 
-// Puts a number into a page that is not full.
-pub(crate) fn put_at(pages: &mut Vec<Vec<u32>>, at: At, item: u32)
+// Puts an item into a page that is not full.
+pub(crate) fn put_at<T: Drop>(pages: &mut Vec<Vec<T>>, at: At, item: T)
     requires pages { ArePages pages.old.items }
     requires page { at.page < vec_len pages.old }
     requires gap { IsGap (lists pages.old.items) at }
@@ -133,8 +136,8 @@ pub(crate) fn put_at(pages: &mut Vec<Vec<u32>>, at: At, item: u32)
     put(&mut pages[at.page], at.offset, item);
 }
 
-// Puts a number into a full page, which goes on in a fresh one after it.
-pub(crate) fn put_in_full(pages: &mut Vec<Vec<u32>>, at: At, fresh: Vec<u32>, item: u32)
+// Puts an item into a full page, which goes on in a fresh one after it.
+pub(crate) fn put_in_full<T: Drop>(pages: &mut Vec<Vec<T>>, at: At, fresh: Vec<T>, item: T)
     requires pages { ArePages pages.old.items }
     requires page { at.page < vec_len pages.old }
     requires gap { IsGap (lists pages.old.items) at }
@@ -151,8 +154,8 @@ pub(crate) fn put_in_full(pages: &mut Vec<Vec<u32>>, at: At, fresh: Vec<u32>, it
     put_page(pages, at.page + 1, after);
 }
 
-// The first page, with one number.
-pub(crate) fn begin(pages: &mut Vec<Vec<u32>>, fresh: Vec<u32>, item: u32)
+// The first page, with one item.
+pub(crate) fn begin<T: Drop>(pages: &mut Vec<Vec<T>>, fresh: Vec<T>, item: T)
     requires none { vec_len pages.old ≡ 0 }
     requires fresh { IsFresh fresh }
     requires space { vec_len pages.old < vec_capacity pages.old }
@@ -166,8 +169,8 @@ pub(crate) fn begin(pages: &mut Vec<Vec<u32>>, fresh: Vec<u32>, item: u32)
     pages.push_reserved(page);
 }
 
-// Writes a number in the place of another.
-pub(crate) fn write_at(pages: &mut Vec<Vec<u32>>, at: At, item: u32)
+// Writes an item in the place of another.
+pub(crate) fn write_at<T: Drop>(pages: &mut Vec<Vec<T>>, at: At, item: T)
     requires pages { ArePages pages.old.items }
     requires item { IsItem (lists pages.old.items) at }
     ensures pages { ArePages pages.new.items }
@@ -179,8 +182,8 @@ pub(crate) fn write_at(pages: &mut Vec<Vec<u32>>, at: At, item: u32)
     page[at.offset] = item;
 }
 
-// Takes a number out of its page, and the page with it if it was the only one.
-pub(crate) fn take_out(pages: &mut Vec<Vec<u32>>, at: At)
+// Takes an item out of its page, and the page with it if it was the only one.
+pub(crate) fn take_out<T: Drop>(pages: &mut Vec<Vec<T>>, at: At)
     requires pages { ArePages pages.old.items }
     requires item { IsItem (lists pages.old.items) at }
     ensures pages { ArePages pages.new.items }
@@ -195,8 +198,8 @@ pub(crate) fn take_out(pages: &mut Vec<Vec<u32>>, at: At)
     }
 }
 
-// Takes a number out of a page.
-fn take_from(page: &mut Vec<u32>, offset: usize)
+// Takes an item out of a page.
+fn take_from<T: Drop>(page: &mut Vec<T>, offset: usize)
     requires { offset < vec_len page.old }
     ensures items { page.new.items ≡ removed page.old.items offset }
     ensures len { vec_len page.new + 1 ≡ vec_len page.old }

@@ -1,8 +1,8 @@
-//! Numbers in an order of one's own, in pages of at most 64, so that one that comes or goes moves at most a page, and not
+//! Items in an order of one's own, in pages of at most 64, so that one that comes or goes moves at most a page, and not
 //! all that stand after it.
 //!
-//! A contract sees [`Pages`] as the list of its pages, each the list of its numbers, and how many more can be inserted
-//! without memory. It sees a [`Walk`] as the list of the numbers that are left.
+//! A contract sees [`Pages`] as the list of its pages, each the list of its items, and how many more can be inserted
+//! without memory. It sees a [`Walk`] as the list of the items that are left.
 #![tactic(auto)]
 
 mod at;

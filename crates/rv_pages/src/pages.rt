@@ -1,4 +1,4 @@
-ghost use Rattle.std.specs.Prelude.{◌≡◌, ℕ, ◌≤◌, ◌+◌, [], length, slice_index, slice_index_or, slice_set, IsOk, OnOk, MatchResult};
+ghost use Rattle.std.specs.Prelude.{◌≡◌, ◌≤◌, ◌+◌, [], length, slice_index_or, slice_set, IsOk, OnOk, MatchResult};
 ghost use Rattle.std.specs.Ordering.{is_eq};
 ghost use Rattle.std.specs.List.{filter, insert, remove as removed};
 ghost use Rattle.std.specs.List.Sorted.{IsSearchInRange, IsBinarySearchResult};
@@ -12,34 +12,34 @@ use rv_base::Memory;
 use std::alloc::Global;
 use std::marker::Model;
 
-/// Numbers in an order of one's own, in pages of at most 64.
+/// Items in an order of one's own, in pages of at most 64.
 ///
-/// A contract sees the list of the pages, each the list of its numbers, and a lower bound of how many more can be
+/// A contract sees the list of the pages, each the list of its items, and a lower bound of how many more can be
 /// inserted without memory, `spare`.
 #[derive(Debug, Drop)]
-pub struct Pages {
-    // none of them is empty, and each has space for as many numbers as a page may have
-    pages: Vec<Vec<u32>>,
-    // empty ones that stand by, one for each number that can be inserted; among the pages there is space for all of them
-    fresh: Vec<Vec<u32>>,
+pub struct Pages<T> {
+    // none of them is empty, and each has space for as many items as a page may have
+    pages: Vec<Vec<T>>,
+    // empty ones that stand by, one for each item that can be inserted; among the pages there is space for all of them
+    fresh: Vec<Vec<T>>,
     alloc: Global,
 }
 
-impl Model for Pages {
+impl<T> Model for Pages<T> {
     ghost use Rattle.std.specs.Prelude.{◌+◌, ◌≤◌, vec_len, vec_capacity};
     ghost use Rattle.rv_pages.specs.Paging.{Paged};
     ghost use Rattle.rv_pages.specs.Vectors.{lists, ArePages, AreFresh};
 
-    ghost Value = { Paged };
+    ghost Value = { Paged T };
 
     ghost view = { λ p. record { pages = lists p.pages.items; spare = vec_len p.fresh } };
 
     ghost invariant = { λ p. ArePages p.pages.items × AreFresh p.fresh.items × (vec_len p.pages + vec_len p.fresh ≤ vec_capacity p.pages) };
 }
 
-impl Pages {
-    /// No number.
-    pub fn new(alloc: Global) -> Pages
+impl<T: Drop> Pages<T> {
+    /// No item.
+    pub fn new(alloc: Global) -> Self
         ensures pages { result.pages ≡ [] }
         ensures items { items result.pages ≡ [] }
     {
@@ -50,7 +50,7 @@ impl Pages {
         }
     }
 
-    /// Makes space for so many more numbers.
+    /// Makes space for so many more items.
     pub fn reserve(&mut self, more: usize) -> Result<(), Memory>
         ensures pages { self.new.pages ≡ self.old.pages }
         ensures ok { OnOk result (more ≤ self.new.spare) }
@@ -66,8 +66,8 @@ impl Pages {
         fill(&mut self.fresh, self.alloc, more)
     }
 
-    /// Where a number that ties with what is looked for stands, or where one would go. Takes no memory.
-    pub fn position<C: Compare>(&self, sought: &C) -> Result<At, At>
+    /// Where an item that ties with what is looked for stands, or where one would go. Takes no memory.
+    pub fn position<C: Compare<T>>(&self, sought: &C) -> Result<At, At>
         ensures bound { IsSearchInRange (place self.now.pages result) (length (items self.now.pages)) }
         ensures position { IsBinarySearchResult (C.order sought.now) (items self.now.pages) (place self.now.pages result) }
         ensures at { MatchResult result (IsItem self.now.pages) (IsGap self.now.pages) }
@@ -75,17 +75,16 @@ impl Pages {
         position_in(&self.pages, sought)
     }
 
-    /// The number that stands there.
-    pub fn get(&self, at: At) -> u32
+    /// The item that stands there.
+    pub fn get(&self, at: At) -> &T
         requires { IsItem self.now.pages at }
-        ensures value { result ≡ slice_index (items self.now.pages) (index_of self.now.pages at) }
-        ensures lookup { (d : ℕ) → result ≡ slice_index_or (items self.now.pages) (index_of self.now.pages at) d }
+        ensures { (d : T) → result.now ≡ slice_index_or (items self.now.pages) (index_of self.now.pages at) d }
     {
-        self.pages[at.page][at.offset]
+        &self.pages[at.page][at.offset]
     }
 
-    /// Writes a number in the place of the one that stands there. Each number stands where it stood.
-    pub fn set(&mut self, at: At, item: u32)
+    /// Writes an item in the place of the one that stands there. Each item stands where it stood.
+    pub fn set(&mut self, at: At, item: T)
         requires { IsItem self.old.pages at }
         ensures items { items self.new.pages ≡ slice_set (items self.old.pages) (index_of self.old.pages at) item }
         ensures spare { self.new.spare ≡ self.old.spare }
@@ -96,8 +95,8 @@ impl Pages {
         write_at(&mut self.pages, at, item);
     }
 
-    /// Puts a number there, before the one that stands there. It can't fail, and takes no memory.
-    pub fn insert(&mut self, at: At, item: u32)
+    /// Puts an item there, before the one that stands there. It can't fail, and takes no memory.
+    pub fn insert(&mut self, at: At, item: T)
         requires gap { IsGap self.old.pages at }
         requires spare { 1 ≤ self.old.spare }
         ensures items { items self.new.pages ≡ insert (items self.old.pages) (index_of self.old.pages at) item }
@@ -114,7 +113,7 @@ impl Pages {
         }
     }
 
-    /// Takes the number out that stands there.
+    /// Takes the item out that stands there.
     pub fn remove(&mut self, at: At)
         requires { IsItem self.old.pages at }
         ensures items { items self.new.pages ≡ removed (items self.old.pages) (index_of self.old.pages at) }
@@ -123,15 +122,15 @@ impl Pages {
         take_out(&mut self.pages, at);
     }
 
-    /// All numbers, in their order.
-    pub fn iter(&self) -> Walk<'_>
+    /// All items, in their order.
+    pub fn iter(&self) -> Walk<'_, T>
         ensures { result ≡ items self.now.pages }
     {
         Walk::new(&[], &self.pages, &[])
     }
 
-    /// The numbers that tie with what is looked for, which stand together. Takes no memory.
-    pub fn ties<C: Compare>(&self, sought: &C) -> Walk<'_>
+    /// The items that tie with what is looked for, which stand together. Takes no memory.
+    pub fn ties<C: Compare<T>>(&self, sought: &C) -> Walk<'_, T>
         requires { Rises (C.order sought.now) (items self.now.pages) }
         ensures { result ≡ filter (λ item. is_eq (C.order sought.now item)) (items self.now.pages) }
     {

@@ -1,5 +1,5 @@
 // Searches among pages.
-ghost use Rattle.std.specs.Prelude.{◌≡◌, ◌≤◌, ◌<◌, ℕ, length, MatchResult};
+ghost use Rattle.std.specs.Prelude.{◌≡◌, ◌≤◌, ◌<◌, length, MatchResult};
 ghost use Rattle.std.specs.declared.cmp.Ordering.{Ordering};
 ghost use Rattle.std.specs.Ordering.{is_lt, is_le, is_eq};
 ghost use Rattle.std.specs.List.{filter};
@@ -11,53 +11,53 @@ use crate::at::At;
 use crate::walk::Walk;
 use std::cmp::Ordering;
 
-/// How each number stands to what is looked for.
-pub trait Compare {
-    ghost order: { Self → ℕ → Ordering };
+/// How each item stands to what is looked for.
+pub trait Compare<T> {
+    ghost order: { Self → T → Ordering };
 
-    /// Whether the number stands before what is looked for, ties with it or stands after it.
-    fn compare(&self, item: u32) -> Ordering
-        ensures { result ≡ order self.now item };
+    /// Whether the item stands before what is looked for, ties with it or stands after it.
+    fn compare(&self, item: &T) -> Ordering
+        ensures { result ≡ order self.now item.now };
 }
 
-// Whether the page ends with a number below what is looked for.
-fn ends_below<C: Compare>(page: &[u32], sought: &C) -> bool
+// Whether the page ends with an item below what is looked for.
+fn ends_below<T, C: Compare<T>>(page: &[T], sought: &C) -> bool
     ensures { result ≡ ends (λ i. is_lt (C.order sought.now i)) page.now }
 {
     match page.last() {
-        Some(item) => sought.compare(*item).is_lt(),
+        Some(item) => sought.compare(item).is_lt(),
         None => false,
     }
 }
 
-// Whether the page ends with a number that is not above what is looked for.
-fn ends_not_above<C: Compare>(page: &[u32], sought: &C) -> bool
+// Whether the page ends with an item that is not above what is looked for.
+fn ends_not_above<T, C: Compare<T>>(page: &[T], sought: &C) -> bool
     ensures { result ≡ ends (λ i. is_le (C.order sought.now i)) page.now }
 {
     match page.last() {
-        Some(item) => sought.compare(*item).is_le(),
+        Some(item) => sought.compare(item).is_le(),
         None => false,
     }
 }
 
 // How many pages end below what is looked for.
-fn pages_below<C: Compare>(pages: &[Vec<u32>], sought: &C) -> usize
+fn pages_below<T, C: Compare<T>>(pages: &[Vec<T>], sought: &C) -> usize
     ensures bound { result ≤ length pages.now }
     ensures parted { PartsPages (λ i. is_lt (C.order sought.now i)) (lists pages.now) result }
 {
     pages.partition_point(|page| ends_below(page, sought))
 }
 
-// How many pages end with a number that is not above what is looked for.
-fn pages_not_above<C: Compare>(pages: &[Vec<u32>], sought: &C) -> usize
+// How many pages end with an item that is not above what is looked for.
+fn pages_not_above<T, C: Compare<T>>(pages: &[Vec<T>], sought: &C) -> usize
     ensures bound { result ≤ length pages.now }
     ensures parted { PartsPages (λ i. is_le (C.order sought.now i)) (lists pages.now) result }
 {
     pages.partition_point(|page| ends_not_above(page, sought))
 }
 
-// Where a number goes after all others.
-fn end(pages: &[Vec<u32>]) -> At
+// Where an item goes after all others.
+fn end<T>(pages: &[Vec<T>]) -> At
     ensures gap { IsGap (lists pages.now) result }
     ensures last { index_of (lists pages.now) result ≡ length (items (lists pages.now)) }
 {
@@ -70,16 +70,16 @@ fn end(pages: &[Vec<u32>]) -> At
     }
 }
 
-// Where the number that is looked for stands in a page, or where it would go.
-fn position_in_page<C: Compare>(page: &[u32], sought: &C) -> Result<usize, usize>
+// Where the item that is looked for stands in a page, or where it would go.
+fn position_in_page<T, C: Compare<T>>(page: &[T], sought: &C) -> Result<usize, usize>
     ensures bound { IsSearchInRange result (length page.now) }
     ensures position { IsBinarySearchResult (C.order sought.now) page.now result }
 {
-    page.binary_search_by(|item| sought.compare(*item))
+    page.binary_search_by(|item| sought.compare(item))
 }
 
-// Where the number that is looked for stands, or where it would go.
-pub(crate) fn position_in<C: Compare>(pages: &[Vec<u32>], sought: &C) -> Result<At, At>
+// Where the item that is looked for stands, or where it would go.
+pub(crate) fn position_in<T, C: Compare<T>>(pages: &[Vec<T>], sought: &C) -> Result<At, At>
     requires { HaveItems (lists pages.now) }
     ensures bound { IsSearchInRange (place (lists pages.now) result) (length (items (lists pages.now))) }
     ensures position { IsBinarySearchResult (C.order sought.now) (items (lists pages.now)) (place (lists pages.now) result) }
@@ -95,18 +95,18 @@ pub(crate) fn position_in<C: Compare>(pages: &[Vec<u32>], sought: &C) -> Result<
     }
 }
 
-// The numbers of a page that tie with what is looked for, which stand together.
-fn ties_in_page<'a, C: Compare>(page: &'a [u32], sought: &C) -> &'a [u32]
+// The items of a page that tie with what is looked for, which stand together.
+fn ties_in_page<'a, T, C: Compare<T>>(page: &'a [T], sought: &C) -> &'a [T]
     ensures { Rises (C.order sought.now) page.now → result.now ≡ filter (λ i. is_eq (C.order sought.now i)) page.now }
 {
-    let below = page.partition_point(|item| sought.compare(*item).is_lt());
+    let below = page.partition_point(|item| sought.compare(item).is_lt());
     let rest = &page[below..];
-    let own = rest.partition_point(|item| sought.compare(*item).is_le());
+    let own = rest.partition_point(|item| sought.compare(item).is_le());
     &rest[..own]
 }
 
 // The same in the first of the pages, if there is one.
-fn ties_in_first<'a, C: Compare>(pages: &'a [Vec<u32>], sought: &C) -> &'a [u32]
+fn ties_in_first<'a, T, C: Compare<T>>(pages: &'a [Vec<T>], sought: &C) -> &'a [T]
     ensures { Rises (C.order sought.now) (page_at (lists pages.now) 0) → result.now ≡ filter (λ i. is_eq (C.order sought.now i)) (page_at (lists pages.now) 0) }
 {
     match pages.first() {
@@ -115,8 +115,8 @@ fn ties_in_first<'a, C: Compare>(pages: &'a [Vec<u32>], sought: &C) -> &'a [u32]
     }
 }
 
-// The numbers that tie with what is looked for.
-pub(crate) fn ties_in<'a, C: Compare>(pages: &'a [Vec<u32>], sought: &C) -> Walk<'a>
+// The items that tie with what is looked for.
+pub(crate) fn ties_in<'a, T, C: Compare<T>>(pages: &'a [Vec<T>], sought: &C) -> Walk<'a, T>
     requires { HaveItems (lists pages.now) }
     ensures { Rises (C.order sought.now) (items (lists pages.now)) → result ≡ filter (λ i. is_eq (C.order sought.now i)) (items (lists pages.now)) }
 {

@@ -5,32 +5,32 @@ ghost use Rattle.rv_pages.specs.Vectors.{lists, HaveItems};
 
 use std::marker::Model;
 
-/// The numbers of [`Pages`](crate::Pages) that are still to come, in their order.
+/// The items of [`Pages`](crate::Pages) that are still to come, in their order.
 ///
 /// A contract sees the list of those that are left.
 #[derive(Drop)]
-pub struct Walk<'a> {
+pub struct Walk<'a, T> {
     // what is left of one page, then pages, then a part of another page
-    first: &'a [u32],
-    middle: &'a [Vec<u32>],
-    last: &'a [u32],
+    first: &'a [T],
+    middle: &'a [Vec<T>],
+    last: &'a [T],
 }
 
-impl<'a> Model for Walk<'a> {
-    ghost use Rattle.std.specs.Prelude.{List, ℕ, ◌++◌};
+impl<'a, T> Model for Walk<'a, T> {
+    ghost use Rattle.std.specs.Prelude.{List, ◌++◌};
     ghost use Rattle.rv_pages.specs.Paging.{items};
     ghost use Rattle.rv_pages.specs.Vectors.{lists, HaveItems};
 
-    ghost Value = { List ℕ };
+    ghost Value = { List T };
 
     ghost view = { λ left. left.first.now ++ (items (lists left.middle.now) ++ left.last.now) };
 
     ghost invariant = { λ left. HaveItems (lists left.middle.now) };
 }
 
-impl<'a> Walk<'a> {
-    // Over the numbers of a part, of pages and of another part.
-    pub(crate) fn new(first: &'a [u32], middle: &'a [Vec<u32>], last: &'a [u32]) -> Self
+impl<'a, T> Walk<'a, T> {
+    // Over the items of a part, of pages and of another part.
+    pub(crate) fn new(first: &'a [T], middle: &'a [Vec<T>], last: &'a [T]) -> Self
         requires { HaveItems (lists middle.now) }
         ensures { result ≡ first.now ++ (items (lists middle.now) ++ last.now) }
     {
@@ -42,25 +42,25 @@ impl<'a> Walk<'a> {
     }
 }
 
-impl<'a> Iterator for Walk<'a> {
-    type Item = u32;
+impl<'a, T> Iterator for Walk<'a, T> {
+    type Item = &'a T;
 
-    ghost next_gives = { YieldsFirstBy (λ item. item) (λ left. left) };
+    ghost next_gives = { YieldsFirstBy (λ item. item.now) (λ left. left) };
 
     ghost remaining = { item_count (λ left. left) };
 
-    fn next(&mut self) -> Option<u32> {
+    fn next(&mut self) -> Option<&'a T> {
         if let Some((item, others)) = self.first.split_first() {
             self.first = others;
-            return Some(*item);
+            return Some(item);
         }
         if let Some((page, others)) = self.middle.split_first() {
             self.first = &page[1..];
             self.middle = others;
-            return Some(page[0]);
+            return Some(&page[0]);
         }
         let (item, others) = self.last.split_first()?;
         self.last = others;
-        Some(*item)
+        Some(item)
     }
 }

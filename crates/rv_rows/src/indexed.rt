@@ -29,14 +29,14 @@ pub(crate) struct IndexedRows {
     // the rows, each in a slot of its own, in no order
     slots: Vec<(Row, u32)>,
     // the slots in the order of their rows' keys
-    by_key: Pages,
+    by_key: Pages<u32>,
     // the slots in the order of their rows' lists, and within a list in that of their keys
-    by_list: Pages,
+    by_list: Pages<u32>,
     // the slots in the order of the users whom their rows name, and of one user in that of their keys
-    by_user: Pages,
+    by_user: Pages<u32>,
     // the slots in the order of their rows' lists, within a list by their sorts from the greatest down, and of one sort in the
     // order of their keys
-    by_sort: Pages,
+    by_sort: Pages<u32>,
     // the slots and each of the four orders have space for so many more
     spare: usize,
 }
@@ -104,7 +104,7 @@ impl IndexedRows {
         ensures row { (result.0.now, result.1) ≡ slice_index_or (rows_of self.now) (index_of self.now.by_key at) no_row }
         ensures order { AreRows (rows_of self.now) }
     {
-        let stored = &self.slots[self.by_key.get(at) as usize];
+        let stored = &self.slots[*self.by_key.get(at) as usize];
         (&stored.0, stored.1)
     }
 
@@ -146,7 +146,7 @@ impl IndexedRows {
         ensures rows { rows_of self.new ≡ slice_set (rows_of self.old) (index_of self.old.by_key at) (row, version) }
         ensures spare { self.new.spare ≡ self.old.spare }
     {
-        let slot = self.by_key.get(at);
+        let slot = *self.by_key.get(at);
         rewrite(&mut self.slots, slot, row, version);
     }
 
@@ -189,7 +189,7 @@ impl IndexedRows {
         ensures rows { rows_of self.new ≡ removed (rows_of self.old) (index_of self.old.by_key at) }
         ensures spare { self.new.spare ≡ self.old.spare }
     {
-        let slot = self.by_key.get(at);
+        let slot = *self.by_key.get(at);
         let in_list = position_by_slot(&self.slots, &self.by_list, Filing::List, slot);
         let of_user = position_by_slot(&self.slots, &self.by_user, Filing::User, slot);
         let of_sort = position_by_slot(&self.slots, &self.by_sort, Filing::Sort, slot);
@@ -240,7 +240,7 @@ impl IndexedRows {
         ensures { result ≡ greatest_sort list.now (rows_in (rows_of self.now)) }
     {
         match slots_under(&self.slots, &self.by_sort, Filing::Sort, list).next() {
-            Some(slot) => self.slots[slot as usize].0.sort(),
+            Some(slot) => self.slots[*slot as usize].0.sort(),
             None => 0,
         }
     }

@@ -18,7 +18,7 @@ use rv_pages::{At, Pages, Walk};
 // Where the row of a key stands in the order of the keys, or where it would go.
 pub(crate) fn position_by_key(
     slots: &[(Row, u32)],
-    order: &Pages,
+    order: &Pages<u32>,
     kind: Kind,
     id: &Id,
 ) -> Result<At, At>
@@ -33,7 +33,7 @@ pub(crate) fn position_by_key(
 // Where a row that is filed as this one and has its key stands in an order, or where it would go.
 pub(crate) fn position_filed(
     slots: &[(Row, u32)],
-    order: &Pages,
+    order: &Pages<u32>,
     by: Filing,
     row: &Row,
 ) -> Result<At, At>
@@ -46,7 +46,7 @@ pub(crate) fn position_filed(
 }
 
 // Where the row would go in an order.
-pub(crate) fn gap_filed(slots: &[(Row, u32)], order: &Pages, by: Filing, row: &Row) -> At
+pub(crate) fn gap_filed(slots: &[(Row, u32)], order: &Pages<u32>, by: Filing, row: &Row) -> At
     requires slots { AreSlots (length slots.now) (items order.now.pages) }
     requires order { InOrder (filed_key by) (standing slots.now (items order.now.pages)) }
     requires absent { find_by (filed_key by) (filed_text by row.now) (standing slots.now (items order.now.pages)) ≡ None }
@@ -60,7 +60,12 @@ pub(crate) fn gap_filed(slots: &[(Row, u32)], order: &Pages, by: Filing, row: &R
 }
 
 // Where the slot stands in an order.
-pub(crate) fn position_by_slot(slots: &[(Row, u32)], order: &Pages, by: Filing, slot: u32) -> At
+pub(crate) fn position_by_slot(
+    slots: &[(Row, u32)],
+    order: &Pages<u32>,
+    by: Filing,
+    slot: u32,
+) -> At
     requires slots { AreSlots (length slots.now) (items order.now.pages) }
     requires order { InOrder (filed_key by) (standing slots.now (items order.now.pages)) }
     requires held { list_any (nat_eq slot) (items order.now.pages) ≡ true }
@@ -77,10 +82,10 @@ pub(crate) fn position_by_slot(slots: &[(Row, u32)], order: &Pages, by: Filing, 
 // The slots of the rows that are filed under a text, which stand together in the order.
 pub(crate) fn slots_under<'o>(
     slots: &[(Row, u32)],
-    order: &'o Pages,
+    order: &'o Pages<u32>,
     by: Filing,
     text: &str,
-) -> Walk<'o>
+) -> Walk<'o, u32>
     requires slots { AreSlots (length slots.now) (items order.now.pages) }
     requires order { InOrder (filed_key by) (standing slots.now (items order.now.pages)) }
     ensures { result ≡ filter (is_under by text.now slots.now) (items order.now.pages) }
@@ -96,7 +101,7 @@ fn relabelled(slot: u32, from: u32, to: u32) -> u32
 }
 
 // Gives a slot another number in an order, at the position where it was looked for. Each slot stands where it stood.
-fn rename(order: &mut Pages, found: Result<At, At>, from: u32, to: u32)
+fn rename(order: &mut Pages<u32>, found: Result<At, At>, from: u32, to: u32)
     requires { MatchResult found (IsItem order.old.pages) (IsGap order.old.pages) }
     ensures slots { items order.new.pages ≡ renamed (place order.old.pages found) from to (items order.old.pages) }
     ensures index { (at : At) → index_of order.new.pages at ≡ index_of order.old.pages at }
@@ -105,7 +110,7 @@ fn rename(order: &mut Pages, found: Result<At, At>, from: u32, to: u32)
 {
     match found {
         Ok(at) => {
-            let slot = order.get(at);
+            let slot = *order.get(at);
             order.set(at, relabelled(slot, from, to));
         }
         Err(_) => {}
@@ -113,7 +118,7 @@ fn rename(order: &mut Pages, found: Result<At, At>, from: u32, to: u32)
 }
 
 // Takes the slot at this position out of the order, and gives another slot its number, at the position where that was looked for.
-pub(crate) fn strike(order: &mut Pages, at: At, found: Result<At, At>, from: u32, to: u32)
+pub(crate) fn strike(order: &mut Pages<u32>, at: At, found: Result<At, At>, from: u32, to: u32)
     requires item { IsItem order.old.pages at }
     requires found { MatchResult found (IsItem order.old.pages) (IsGap order.old.pages) }
     ensures slots { items order.new.pages ≡ remove (renamed (place order.old.pages found) from to (items order.old.pages)) (index_of order.old.pages at) }

@@ -13,7 +13,7 @@ use std::marker::Model;
 pub struct RowsInOrder<'a> {
     slots: &'a [(Row, u32)],
     // the slots of those that are left
-    order: Walk<'a>,
+    order: Walk<'a, u32>,
 }
 
 impl<'a> Model for RowsInOrder<'a> {
@@ -30,7 +30,7 @@ impl<'a> Model for RowsInOrder<'a> {
 
 impl<'a> RowsInOrder<'a> {
     // The rows in the slots of an order.
-    pub(crate) fn new(slots: &'a [(Row, u32)], order: Walk<'a>) -> RowsInOrder<'a>
+    pub(crate) fn new(slots: &'a [(Row, u32)], order: Walk<'a, u32>) -> RowsInOrder<'a>
         requires { AreSlots (length slots.now) order }
         ensures { result ≡ standing slots.now order.entry }
     {
@@ -46,7 +46,7 @@ impl<'a> Iterator for RowsInOrder<'a> {
     ghost remaining = { item_count (λ left. left) };
 
     fn next(&mut self) -> Option<(&'a Row, u32)> {
-        let slot = self.order.next()?;
+        let slot = *self.order.next()?;
         let stored = &self.slots[slot as usize];
         Some((&stored.0, stored.1))
     }

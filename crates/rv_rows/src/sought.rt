@@ -20,11 +20,11 @@ pub(crate) struct SoughtKey<'a> {
     pub id: &'a Id,
 }
 
-impl<'a> Compare for SoughtKey<'a> {
+impl<'a> Compare<u32> for SoughtKey<'a> {
     ghost order = { λ sought slot. by_slot stored_key (key_text (record { kind = sought.kind; id = sought.id.now })) sought.slots.now slot };
 
-    fn compare(&self, slot: u32) -> Ordering {
-        compare_key(self.slots, slot, self.kind, self.id)
+    fn compare(&self, slot: &u32) -> Ordering {
+        compare_key(self.slots, *slot, self.kind, self.id)
     }
 }
 
@@ -47,11 +47,11 @@ pub(crate) struct SoughtRow<'a> {
     pub row: &'a Row,
 }
 
-impl<'a> Compare for SoughtRow<'a> {
+impl<'a> Compare<u32> for SoughtRow<'a> {
     ghost order = { λ sought slot. by_slot (filed_key sought.by) (filed_text sought.by sought.row.now) sought.slots.now slot };
 
-    fn compare(&self, slot: u32) -> Ordering {
-        compare_filed(self.slots, slot, self.by, self.row)
+    fn compare(&self, slot: &u32) -> Ordering {
+        compare_filed(self.slots, *slot, self.by, self.row)
     }
 }
 
@@ -74,11 +74,11 @@ pub(crate) struct SoughtText<'a> {
     pub text: &'a str,
 }
 
-impl<'a> Compare for SoughtText<'a> {
+impl<'a> Compare<u32> for SoughtText<'a> {
     ghost order = { λ sought slot. by_slot (λ s. under sought.by s.0) sought.text.now sought.slots.now slot };
 
-    fn compare(&self, slot: u32) -> Ordering {
-        compare_under(self.slots, slot, self.by, self.text)
+    fn compare(&self, slot: &u32) -> Ordering {
+        compare_under(self.slots, *slot, self.by, self.text)
     }
 }
 

@@ -4,7 +4,7 @@ use Rattle.std.proofs.lemmas.List.Edits.{insert-append_right}
 use Rattle.rv_pages.proofs.edits.put_in_half.Goals as goal
 
 pub returns-else-offset-le-HALF-clause-items : goal.returns-else-offset-le-HALF-clause-items
-returns-else-offset-le-HALF-clause-items c =
+returns-else-offset-le-HALF-clause-items g c =
     let page = c.args.page.now in
     ap (λ t. page.items ++ t) c.put-else-offset-le-HALF.ensures.items
     ∙ sym (insert-append_right page.items c.args.after.now.items HALF c.args.offset c.args.item (omega (arith, page.ok.0)) (omega arith))

@@ -6,12 +6,12 @@ use Rattle.rv_pages.proofs.Edited.{take_there, take_page_there}
 use Rattle.rv_pages.proofs.edits.take_out.Goals as goal
 
 pub returns-then-len-eq1-clause-items : goal.returns-then-len-eq1-clause-items
-returns-then-len-eq1-clause-items c =
+returns-then-len-eq1-clause-items g c =
     let pages = c.args.pages.now in
     ap (λ vs. items (lists vs)) c.remove.ensures.items
     ∙ take_page_there (λ v. v.items) pages.items c.args.at.page c.args.at.offset c.index.result.now (omega (arith, pages.ok.0, length-map pages.items (λ v. v.items))) c.index.ensures (omega (arith, c.index.result.now.ok.0)) c.requires.item.1
 
 pub returns-else-len-eq1-clause-items : goal.returns-else-len-eq1-clause-items
-returns-else-len-eq1-clause-items c =
+returns-else-len-eq1-clause-items g c =
     let pages = c.args.pages.now in
     take_there (λ v. v.items) pages.items c.args.at.page c.args.at.offset c.index_mut.result.now c.take_from.new.page (omega (arith, pages.ok.0, length-map pages.items (λ v. v.items))) c.index_mut.ensures.value c.requires.item.1 c.take_from.ensures.items

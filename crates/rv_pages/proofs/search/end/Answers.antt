@@ -5,7 +5,7 @@ use Rattle.rv_pages.proofs.Edited.{read, index_last}
 use Rattle.rv_pages.proofs.search.end.Goals as goal
 
 pub returns-in-Some-clause-last : goal.returns-in-Some-clause-last
-returns-in-Some-clause-last c =
+returns-in-Some-clause-last g c =
     let pages = c.args.pages.now in
     let last = c.in-Some.ensures.item in
     let page = c.in-Some.page.now in

@@ -1,4 +1,4 @@
-use Rattle.std.proofs.Common.{ℕ, rules}
+use Rattle.std.proofs.Common.{rules}
 use Rattle.std.specs.Ordering.{is_lt}
 use Rattle.std.proofs.lemmas.Fn.{always_returns_same}
 use Rattle.rv_pages.specs.Vectors.{ends}
@@ -7,7 +7,7 @@ use Rattle.rv_pages.proofs.search.pages_below.Goals as goal
 
 pub returns-clause-parted : goal.returns-clause-parted
 returns-clause-parted g c =
-    let test = ends (λ (i : ℕ). is_lt (g.C.Compare.order c.args.sought.now i)) in
+    let test = ends (λ i. is_lt (g.C.Compare.order c.args.sought.now i)) in
     let facts = c.partition_point.ensures in
     parts_through (λ v. v.items) test c.args.pages.now c.partition_point.result facts.bound
     (facts.partitioned (λ v. test v.items) (always_returns_same _ _ _ (λ a r f called. search rules)))

@@ -28,7 +28,7 @@ returns-in-Ok-clause-position g c = λ d.
     let page : c.deref.result.now ≡ get_or (lists pages) n [] = c.deref.ensures.value ∙ read (λ v. v.items) pages n c.index-pages-page.result within c.index-pages-page.is in
     let order = g.C.Compare.order c.args.sought.now in
     ap order (get_one (lists pages) n c.in-Ok.offset d in_range (omega (arith, ap length page, c.in-Ok.ensures.bound)))
-    ∙ ap (λ (t : List ℕ). order (get_or t c.in-Ok.offset d)) (sym page)
+    ∙ ap (λ t. order (get_or t c.in-Ok.offset d)) (sym page)
     ∙ c.in-Ok.ensures.position d
 
 pub returns-in-Err-clause-bound : goal.returns-in-Err-clause-bound

@@ -1,4 +1,4 @@
-use Rattle.std.proofs.Common.{ℕ, ◌-◌, List, length, take, drop, rules}
+use Rattle.std.proofs.Common.{◌-◌, length, take, drop, rules}
 use Rattle.std.specs.Ordering.{is_lt, is_le}
 use Rattle.std.proofs.lemmas.Fn.{always_returns_same}
 use Rattle.std.proofs.lemmas.List.{take_rest}
@@ -10,7 +10,7 @@ returns g c =
     let page = c.args.page.now in
     let order = g.C.Compare.order c.args.sought.now in
     let b = c.partition_point-below.result in
-    let rest : List ℕ = take (length page - b) (drop b page) in
+    let rest = take (length page - b) (drop b page) in
     let below = c.partition_point-below.ensures in
     let own = c.partition_point-own.ensures in
     page_ties order page rest b c.partition_point-own.result (take_rest page b) below.bound own.bound

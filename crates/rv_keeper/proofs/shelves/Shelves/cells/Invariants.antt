@@ -1,6 +1,9 @@
-use Rattle.std.proofs.Common.{◌≡◌, take}
-use Rattle.rv_keeper.specs.Shelving.{shelved_cells}
+use Rattle.std.proofs.Common.{◌≡◌, ◌++◌}
 use Rattle.rv_keeper.proofs.shelves.Shelves.cells.Given as goal
 
-abbrev pub invariant-loop-shelf : goal.invariant-loop-shelf
-invariant-loop-shelf l = l.cells ≡ shelved_cells (take l.shelf-index l.shelf-items)
+abbrev pub invariant-loop-cell : goal.invariant-loop-cell
+invariant-loop-cell l = record {
+  can_next : (goal.iterator-loop-cell).can_next l.cell-iterator;
+  is_finite : (goal.iterator-loop-cell).is_finite l.cell-iterator;
+  cells : l.cells ++ l.cell-iterator ≡ l.self;
+}

@@ -22,7 +22,7 @@ index-requires c =
     let inside = c.self.inside in
     let order = items inside.by_sort.pages in
     let is = found_in c.args.list.now c.deref.result.now inside.slots.items order c.slots_under.result c.slots_under.ensures c.deref.ensures.value in
-    let low : c.in-Some.slot < length inside.slots.items = first_slot c.args.list.now inside.slots.items order c.slots_under.result c.in-Some.slot c.next.new.self c.self.invariant.0.sorts.in_slots is c.in-Some.ensures.steps in
+    let low : c.in-Some.slot.now < length inside.slots.items = first_slot c.args.list.now inside.slots.items order c.slots_under.result c.in-Some.slot.now c.next.new.self c.self.invariant.0.sorts.in_slots is c.in-Some.ensures.steps in
     omega (arith, inside.slots.ok.0)
 
 pub returns-in-Some : goal.returns-in-Some
@@ -30,10 +30,10 @@ returns-in-Some c =
     let inside = c.self.inside in
     let order = items inside.by_sort.pages in
     let is = found_in c.args.list.now c.deref.result.now inside.slots.items order c.slots_under.result c.slots_under.ensures c.deref.ensures.value in
-    let low = first_slot c.args.list.now inside.slots.items order c.slots_under.result c.in-Some.slot c.next.new.self c.self.invariant.0.sorts.in_slots is c.in-Some.ensures.steps in
+    let low = first_slot c.args.list.now inside.slots.items order c.slots_under.result c.in-Some.slot.now c.next.new.self c.self.invariant.0.sorts.in_slots is c.in-Some.ensures.steps in
     c.sort.ensures
-    ∙ ap (λ (s : Stored). sort_of s.0) (sym (read_at inside.slots.items c.in-Some.slot c.index.result.now no_row low c.index.ensures))
-    ∙ greatest_first inside.slots.items (items inside.by_key.pages) order c.in-Some.slot c.next.new.self c.args.list.now c.self.invariant.0.sorts (is ∙ c.in-Some.ensures.steps)
+    ∙ ap (λ (s : Stored). sort_of s.0) (sym (read_at inside.slots.items c.in-Some.slot.now c.index.result.now no_row low c.index.ensures))
+    ∙ greatest_first inside.slots.items (items inside.by_key.pages) order c.in-Some.slot.now c.next.new.self c.args.list.now c.self.invariant.0.sorts (is ∙ c.in-Some.ensures.steps)
     ∙ ap (λ (v : Slotted). greatest_sort c.args.list.now (rows_in (rows_of v))) c.self.view_is
 
 pub returns-in-None : goal.returns-in-None

@@ -15,7 +15,7 @@ pub position_by_slot-in_list-requires-clause-held : goal.position_by_slot-in_lis
 position_by_slot-in_list-requires-clause-held c =
     let pages = c.self.inside.by_key.pages in
     let lt = item_in_range pages c.args.at (subst (λ (v : Slotted). IsItem v.by_key c.args.at) (sym c.self.view_is) c.requires) in
-    held_at (items pages) (items c.self.inside.by_list.pages) (index_of pages c.args.at) c.get-slot.result c.self.invariant.0.lists.same lt (c.get-slot.ensures.lookup c.get-slot.result)
+    held_at (items pages) (items c.self.inside.by_list.pages) (index_of pages c.args.at) c.get-slot.result.now c.self.invariant.0.lists.same lt (c.get-slot.ensures c.get-slot.result.now)
 
 -- the row that moves is that of the last slot
 moved : (c : goal.After-vacate) → c.index.result.now ≡ row_of c.self.inside.slots.items (c.len.result - 1)
@@ -33,7 +33,7 @@ left c =
     let by_list = items inside.by_list.pages in
     let by_user = items inside.by_user.pages in
     let by_sort = items inside.by_sort.pages in
-    let slot = c.get-slot.result in
+    let slot = c.get-slot.result.now in
     let last = c.len.result - 1 in
     let row = c.index.result.now.0 in
     let i = index_of inside.by_key.pages c.args.at in
@@ -55,7 +55,7 @@ left c =
     let users = struck_from (filed_key filings.User) slots by_user (items c.strike-3.new.order.pages) (filed_text filings.User row) (place inside.by_user.pages c.position_filed-moved_by_user.result) k slot last user_is c.self.invariant.0.users.in_order at_user c.strike-3.ensures.slots in
     let sorts = struck_from (filed_key filings.Sort) slots by_sort (items c.strike-4.new.order.pages) (filed_text filings.Sort row) (place inside.by_sort.pages c.position_filed-moved_by_sort.result) l slot last sort_is c.self.invariant.0.sorts.in_order at_sort c.strike-4.ensures.slots in
     removed_at slots c.vacate.new.slots.items by_key (items c.strike.new.order.pages) by_list (items c.strike-2.new.order.pages) by_user (items c.strike-3.new.order.pages) by_sort (items c.strike-4.new.order.pages) i j k l slot last
-    c.self.invariant.0 lt (c.get-slot.ensures.lookup slot) (record { within = c.position_by_slot-in_list.ensures.in_range; is = c.position_by_slot-in_list.ensures.found }) (record { within = c.position_by_slot-of_user.ensures.in_range; is = c.position_by_slot-of_user.ensures.found })
+    c.self.invariant.0 lt (c.get-slot.ensures slot) (record { within = c.position_by_slot-in_list.ensures.in_range; is = c.position_by_slot-in_list.ensures.found }) (record { within = c.position_by_slot-of_user.ensures.in_range; is = c.position_by_slot-of_user.ensures.found })
     (record { within = c.position_by_slot-of_sort.ensures.in_range; is = c.position_by_slot-of_sort.ensures.found }) c.vacate.ensures.rows last_is keys lists users sorts
 
 pub invariant_of-self : goal.invariant_of-self

@@ -1,22 +1,31 @@
-use Rattle.std.proofs.Common.{◌≡◌, Ok, get_or, set, sym, ap, ◌∙◌, subst, arith}
+use Rattle.std.proofs.Common.{◌≡◌, ◌<◌, Ok, length, get_or, set, sym, ap, ◌∙◌, subst, arith}
 use Rattle.rv_base.specs.Sorted.{IsPositionOf}
-use Rattle.rv_pages.specs.Paging.{items, index_of}
+use Rattle.rv_pages.specs.Paging.{items, index_of, IsItem}
+use Rattle.rv_pages.specs.PlaceLaws.{item_in_range}
 use Rattle.rv_rows.specs.Keys.{row_text}
 use Rattle.rv_rows.specs.Held.{stored_key}
 use Rattle.rv_rows.specs.Sharing.{list_of, user_of}
 use Rattle.rv_rows.specs.Filed.{sort_of}
 use Rattle.rv_rows.specs.Slots.{standing, HasOrders, Slotted, rows_of, no_row}
-use Rattle.rv_rows.proofs.RowSlots.{written_at}
+use Rattle.rv_rows.proofs.RowSlots.{slot_there, written_at}
 use Rattle.rv_rows.proofs.indexed.IndexedRows.rewrite_at.Goals as goal
+
+pub rewrite-requires : goal.rewrite-requires
+rewrite-requires c =
+    let inside = c.self.inside in
+    let pages = inside.by_key.pages in
+    let lt = item_in_range pages c.args.at (subst (λ (v : Slotted). IsItem v.by_key c.args.at) (sym c.self.view_is) c.requires.item) in
+    let low : c.get-slot.result.now < length inside.slots.items = slot_there inside.slots.items (items pages) (index_of pages c.args.at) c.get-slot.result.now c.self.invariant.0.key_slots lt (c.get-slot.ensures c.get-slot.result.now) in
+    omega (arith, inside.slots.ok.0)
 
 rewritten : (c : goal.After-rewrite) → HasOrders c.rewrite.new.slots.items (items c.self.inside.by_key.pages) (items c.self.inside.by_list.pages) (items c.self.inside.by_user.pages) (items c.self.inside.by_sort.pages)
     × (standing c.rewrite.new.slots.items (items c.self.inside.by_key.pages) ≡ set (standing c.self.inside.slots.items (items c.self.inside.by_key.pages)) (index_of c.self.inside.by_key.pages c.args.at) (c.args.row, c.args.version))
 rewritten c =
     let inside = c.self.inside in
     let back = sym c.self.view_is in
-    written_at inside.slots.items c.rewrite.new.slots.items (items inside.by_key.pages) (items inside.by_list.pages) (items inside.by_user.pages) (items inside.by_sort.pages) (index_of inside.by_key.pages c.args.at) c.get-slot.result (c.args.row, c.args.version) c.self.invariant.0
+    written_at inside.slots.items c.rewrite.new.slots.items (items inside.by_key.pages) (items inside.by_list.pages) (items inside.by_user.pages) (items inside.by_sort.pages) (index_of inside.by_key.pages c.args.at) c.get-slot.result.now (c.args.row, c.args.version) c.self.invariant.0
     (subst (λ (v : Slotted). IsPositionOf stored_key (row_text c.args.row) (rows_of v) (Ok (index_of v.by_key c.args.at))) back c.requires.position)
-    (c.get-slot.ensures.lookup c.get-slot.result)
+    (c.get-slot.ensures c.get-slot.result.now)
     (subst (λ (v : Slotted). list_of (get_or (rows_of v) (index_of v.by_key c.args.at) no_row).0 ≡ list_of c.args.row) back c.requires.list)
     (subst (λ (v : Slotted). user_of (get_or (rows_of v) (index_of v.by_key c.args.at) no_row).0 ≡ user_of c.args.row) back c.requires.user)
     (subst (λ (v : Slotted). sort_of (get_or (rows_of v) (index_of v.by_key c.args.at) no_row).0 ≡ sort_of c.args.row) back c.requires.sort)

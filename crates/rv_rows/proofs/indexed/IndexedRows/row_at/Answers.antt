@@ -11,7 +11,7 @@ index-stored-requires c =
     let inside = c.self.inside in
     let pages = inside.by_key.pages in
     let lt = item_in_range pages c.args.at (subst (λ (v : Slotted). IsItem v.by_key c.args.at) (sym c.self.view_is) c.requires) in
-    let low : c.get.result < length inside.slots.items = slot_there inside.slots.items (items pages) (index_of pages c.args.at) c.get.result c.self.invariant.0.key_slots lt (c.get.ensures.lookup c.get.result) in
+    let low : c.get.result.now < length inside.slots.items = slot_there inside.slots.items (items pages) (index_of pages c.args.at) c.get.result.now c.self.invariant.0.key_slots lt (c.get.ensures c.get.result.now) in
     omega (arith, inside.slots.ok.0)
 
 pub returns-clause-row : goal.returns-clause-row
@@ -20,4 +20,4 @@ returns-clause-row c =
     let pages = inside.by_key.pages in
     let lt = item_in_range pages c.args.at (subst (λ (v : Slotted). IsItem v.by_key c.args.at) (sym c.self.view_is) c.requires) in
     subst (λ (v : Slotted). ◌≡◌ {A = Stored} c.index-stored.result.now (get_or (rows_of v) (index_of v.by_key c.args.at) no_row)) c.self.view_is
-    (row_read inside.slots.items (items pages) (index_of pages c.args.at) c.get.result c.index-stored.result.now c.self.invariant.0.key_slots lt (c.get.ensures.lookup c.get.result) c.index-stored.ensures)
+    (row_read inside.slots.items (items pages) (index_of pages c.args.at) c.get.result.now c.index-stored.result.now c.self.invariant.0.key_slots lt (c.get.ensures c.get.result.now) c.index-stored.ensures)
