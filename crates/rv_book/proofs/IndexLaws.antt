@@ -6,11 +6,12 @@ use Rattle.std.specs.Cmp.Lexicographic.{slice_cmp}
 use Rattle.std.specs.Str.{bytes_eq}
 use Rattle.std.specs.List.{AllByRecursion}
 use Rattle.std.specs.List.Sorted.{IsBinarySearchResult, IsSearchInRange}
+use Rattle.std.proofs.lemmas.Cmp.{nat_list_cmp_total, tied_itself}
 use Rattle.std.proofs.lemmas.Slice.Eq.{bytes_eq-Decides}
 use Rattle.std.proofs.lemmas.Option.{none-some, same_Some}
 use Rattle.rv_base.specs.Sorted.{find_by, put_by, InOrder, IsPositionOf}
 use Rattle.rv_base.specs.Positions.{Below, Above, equals, not_same, in_order-put, find_put, all-put, settles}
-use Rattle.rv_book.specs.Indexes.{IsIndex}
+use Rattle.rv_book.specs.Indexes.{IsIndex, StandsAt}
 
 pub bytes_eq_back : (a b : List ℕ) → bytes_eq a b ≡ bytes_eq b a
 bytes_eq_back a b =
@@ -80,6 +81,17 @@ module _ {X : Type 0} (key : X → List ℕ) where
 within_more : {X : Type 0} (named : X → ℕ) (count more : ℕ) (xs : List X) → count ≤ more → AllByRecursion (λ x. named x < count) xs → AllByRecursion (λ x. named x < more) xs
 within_more named count more [] le h = tt
 within_more named count more (x ∷ xs) le h = (omega (arith, h.0, le), within_more named count more xs le h.1)
+
+-- what is found at an index, without a search
+module _ {X : Type 0} (key other : X → List ℕ) (k : List ℕ) (xs : List X) (i : ℕ) where
+  equal_at : StandsAt key k xs i → (d : X) → slice_cmp nat_cmp (key (get_or xs i d)) k ≡ Equal
+  equal_at at d = subst (λ (t : List ℕ). slice_cmp nat_cmp t k ≡ Equal) (sym (at.is d)) (tied_itself nat_list_cmp_total k)
+
+  pub stands : InOrder key xs → StandsAt key k xs i → IsPositionOf key k xs (Ok i)
+  stands sorted at = settles key k xs (Ok i) sorted at.within (equal_at at)
+
+  pub stands-alike : Alike key other xs → InOrder key xs → StandsAt key k xs i → IsPositionOf other k xs (Ok i)
+  stands-alike same sorted at = settles-alike key other k xs (Ok i) same sorted at.within (equal_at at)
 
 pub all_alike : {X : Type 0} (key other : X → List ℕ) (named : X → ℕ) (count : ℕ) (xs : List X) → ((x : X) → named x < count → key x ≡ other x) → AllByRecursion (λ x. named x < count) xs → Alike key other xs
 all_alike key other named count [] same h = tt

@@ -1,5 +1,5 @@
 -- What the indexes of a book hold, by the definitions of what is looked up in it.
-use Rattle.std.specs.Prelude.{◌≡◌, ℕ, suc, ◌+◌, ◌<◌, List, [], ◌∷◌, length, count_by, Bool, true, false, Option, Some, None, option_map, option_and_then, slice_get, if◌then◌else◌}
+use Rattle.std.specs.Prelude.{◌≡◌, ℕ, suc, ◌+◌, ◌<◌, List, [], ◌∷◌, length, count_by, Bool, true, false, Option, Some, None, option_map, option_and_then, slice_get, slice_index_or, if◌then◌else◌}
 use Rattle.std.specs.Option.{option_map_or, option_or}
 use Rattle.std.specs.List.{AllByRecursion}
 use Rattle.std.specs.Str.{bytes_eq}
@@ -19,6 +19,11 @@ pub record IsIndex {X : Type 0} (key : X → List ℕ) (named : X → ℕ) (coun
   pub order : InOrder key rows
   pub within : AllByRecursion (λ row. named row < count) rows
   pub found : (k : List ℕ) → find_by key k rows ≡ row_of k
+
+-- the row of the key stands at the index
+pub record StandsAt {X : Type 0} (key : X → List ℕ) (k : List ℕ) (rows : List X) (at : ℕ) : Type 0 where
+  pub within : at < length rows
+  pub is : (d : X) → key (slice_index_or rows at d) ≡ k
 
 -- the index of the first entry that passes the test
 abbrev pub first_where : (Entry → Bool) → List Entry → Option ℕ

@@ -9,6 +9,7 @@ ghost use Rattle.rv_book.specs.declared.fault.BookFault.TheVariants as BookFault
 use crate::clients::{ClientInfo, ClientRef, ClientRow};
 use crate::entry::{Entry, entry_at};
 use crate::fault::BookFault;
+use crate::found::Found;
 use crate::group_clients::GroupClients;
 use crate::groups::{GroupInfo, GroupRef, GroupRow};
 use crate::look::{LookRef, LookRow, look_at};
@@ -115,6 +116,13 @@ impl Book {
         ensures { result ≡ last_order group.now self.now.book }
     {
         groups::row(&self.entries, &self.groups, group).order
+    }
+
+    /// The same. The group's row is looked for at an index first, where it was found before.
+    pub fn last_order_at(&self, group: &Id, at: usize) -> Num
+        ensures { result ≡ last_order group.now self.now.book }
+    {
+        groups::row_from(&self.entries, &self.groups, group, at).order
     }
 
     /// Whether a group is retired.
@@ -237,8 +245,9 @@ impl Book {
         Ok(())
     }
 
-    /// Enters an entry at the next place. It can't fail, and takes no memory.
-    pub fn push_entry(&mut self, entry: Entry)
+    /// Enters an entry at the next place. It can't fail, and takes no memory. The rows of its group and client are looked for first
+    /// where they were found before.
+    pub fn push_entry(&mut self, entry: Entry, found: Found)
         requires spare { 1 ≤ self.old.spare }
         requires limit { size self.old.book < self.old.limit }
         ensures book { self.new.book ≡ with_entry self.old.book entry }
@@ -250,8 +259,8 @@ impl Book {
             Ok(()) => {}
             Err(_) => unreachable!(),
         }
-        groups::enter(&self.entries, &mut self.groups, &entry);
-        let first_group = clients::enter(&self.entries, &mut self.clients, &entry);
+        groups::enter(&self.entries, &mut self.groups, &entry, found.group);
+        let first_group = clients::enter(&self.entries, &mut self.clients, &entry, found.client);
         members::enter(&self.entries, &mut self.members, &entry, first_group);
         match self.entries.push(entry) {
             Ok(()) => {}

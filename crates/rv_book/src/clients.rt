@@ -1,10 +1,10 @@
-ghost use Rattle.std.specs.Prelude.{◌≡◌, true, ◌≤◌, ◌<◌, ◌+◌, ◌-◌, ◌^◌, length, option_map, option_and_then, slice_get, IfSome, vec_len, vec_capacity};
+ghost use Rattle.std.specs.Prelude.{◌≡◌, IsTrue, true, ◌≤◌, ◌<◌, ◌+◌, ◌-◌, ◌^◌, length, option_map, option_and_then, slice_get, IfSome, vec_len, vec_capacity};
 ghost use Rattle.std.specs.Option.{option_map_or};
 ghost use Rattle.rv_base.specs.Sorted.{IsPositionOf};
 ghost use Rattle.rv_book.specs.declared.entry.Entry.{Entry};
 ghost use Rattle.rv_book.specs.Entries.{is_act_of};
 ghost use Rattle.rv_book.specs.Book.{book_of, group_of, last, with_entry};
-ghost use Rattle.rv_book.specs.Indexes.{acted_in, AreClientRows, client_of_row, client_row, first_where, info_by_client};
+ghost use Rattle.rv_book.specs.Indexes.{acted_in, AreClientRows, StandsAt, client_of_row, client_row, first_where, info_by_client};
 ghost use Rattle.rv_book.specs.Members.{group_before};
 ghost use Rattle.rv_book.specs.Registers.{clients_of};
 
@@ -18,6 +18,8 @@ pub struct ClientRef<'a> {
     pub group: &'a Id,
     /// The client's last mutation id.
     pub last: Num,
+    /// The index of the client's row, at which a later look-up begins.
+    pub at: usize,
 }
 
 /// A client that has an act in the book, with its name.
@@ -58,6 +60,34 @@ fn place(entries: &[Entry], rows: &[ClientRow], client: &Id) -> Result<usize, us
     ensures next { (entry : Entry) → IsPositionOf (client_of_row (with_entry (book_of entries.now) entry)) client.now rows.now result }
 {
     rows.binary_search_by(|row| key(entries, row).cmp(client.as_str()))
+}
+
+// Whether the row of the client stands there.
+fn stands_at(entries: &[Entry], rows: &[ClientRow], client: &Id, at: usize) -> bool
+    ensures { IsTrue result → StandsAt (client_of_row (book_of entries.now)) client.now rows.now at }
+{
+    match rows.get(at) {
+        Some(row) => key(entries, row) == client.as_str(),
+        None => false,
+    }
+}
+
+// Where the row of a client stands, or where it would go. It is looked for at an index, and searched for where it is not there.
+fn place_from(
+    entries: &[Entry],
+    rows: &[ClientRow],
+    client: &Id,
+    at: usize,
+) -> Result<usize, usize>
+    requires { AreClientRows (book_of entries.now) rows.now }
+    ensures now { IsPositionOf (client_of_row (book_of entries.now)) client.now rows.now result }
+    ensures next { (entry : Entry) → IsPositionOf (client_of_row (with_entry (book_of entries.now) entry)) client.now rows.now result }
+{
+    if stands_at(entries, rows, client, at) {
+        Ok(at)
+    } else {
+        place(entries, rows, client)
+    }
 }
 
 // The row of a client, where it has an act.
@@ -127,15 +157,16 @@ pub(crate) fn info<'b>(
     ensures last { option_map_or (λ info. info.last) result 0 ≡ last client.now (book_of entries.now) }
     ensures bound { IfSome result (λ info. info.last ≤ length entries.now) }
 {
-    match find(entries, rows, client) {
-        Some(row) => match group_at(entries, row.first) {
+    match place(entries, rows, client) {
+        Ok(at) => match group_at(entries, rows[at].first) {
             Some(group) => Some(ClientRef {
                 group,
-                last: Num::from_u64(row.acts as u64),
+                last: Num::from_u64(rows[at].acts as u64),
+                at,
             }),
             None => None,
         },
-        None => None,
+        Err(_) => None,
     }
 }
 
@@ -166,8 +197,14 @@ pub(crate) fn info_at<'b>(
     info_by(entries, rows.get(index as usize)?)
 }
 
-// Enters an act of a client, which follows the entries, and answers the group of the client's first act among these.
-fn enter_act<'b>(entries: &'b [Entry], rows: &mut Vec<ClientRow>, client: &Id) -> Option<&'b Id>
+// Enters an act of a client, which follows the entries, and answers the group of the client's first act among these. The client's
+// row is looked for at an index first.
+fn enter_act<'b>(
+    entries: &'b [Entry],
+    rows: &mut Vec<ClientRow>,
+    client: &Id,
+    at: usize,
+) -> Option<&'b Id>
     requires rows { AreClientRows (book_of entries.now) rows.old.items }
     requires spare { 1 ≤ vec_capacity rows.old - vec_len rows.old }
     requires length { length entries.now + 1 < 2 ^ 32 }
@@ -175,7 +212,7 @@ fn enter_act<'b>(entries: &'b [Entry], rows: &mut Vec<ClientRow>, client: &Id) -
     ensures spare { vec_capacity rows.old - vec_len rows.old ≤ (vec_capacity rows.new - vec_len rows.new) + 1 }
     ensures group { option_map (λ group. group.now) result ≡ group_of client.now (book_of entries.now) }
 {
-    match place(entries, rows, client) {
+    match place_from(entries, rows, client, at) {
         Ok(at) => {
             let row = &mut rows[at];
             row.acts += 1;
@@ -194,11 +231,13 @@ fn enter_act<'b>(entries: &'b [Entry], rows: &mut Vec<ClientRow>, client: &Id) -
     }
 }
 
-// Enters an entry, which follows the others. Of an act it answers the group of its client's first act among these.
+// Enters an entry, which follows the others. Of an act it answers the group of its client's first act among these; the client's row
+// is looked for at an index first.
 pub(crate) fn enter<'b>(
     entries: &'b [Entry],
     rows: &mut Vec<ClientRow>,
     entry: &Entry,
+    at: usize,
 ) -> Option<&'b Id>
     requires rows { AreClientRows (book_of entries.now) rows.old.items }
     requires spare { 1 ≤ vec_capacity rows.old - vec_len rows.old }
@@ -208,7 +247,7 @@ pub(crate) fn enter<'b>(
     ensures group { option_map (λ group. group.now) result ≡ group_before (book_of entries.now) entry.now }
 {
     match entry {
-        Entry::Act { client, .. } => enter_act(entries, rows, client),
+        Entry::Act { client, .. } => enter_act(entries, rows, client, at),
         Entry::Look { .. } => None,
         Entry::Retire { .. } => None,
     }

@@ -1,9 +1,9 @@
-ghost use Rattle.std.specs.Prelude.{◌≡◌, ◌≤◌, ◌<◌, ◌+◌, ◌-◌, ◌^◌, length, count_by, option_map, option_and_then, slice_get, vec_len, vec_capacity};
+ghost use Rattle.std.specs.Prelude.{◌≡◌, IsTrue, ◌≤◌, ◌<◌, ◌+◌, ◌-◌, ◌^◌, length, count_by, option_map, option_and_then, slice_get, vec_len, vec_capacity};
 ghost use Rattle.rv_base.specs.Sorted.{IsPositionOf};
 ghost use Rattle.rv_book.specs.declared.entry.Entry.{Entry};
 ghost use Rattle.rv_book.specs.Book.{book_of, bound, last_order, retired, with_entry};
 ghost use Rattle.rv_book.specs.Kept.{is_look_of, last_look};
-ghost use Rattle.rv_book.specs.Indexes.{AreGroupRows, binds, first_where, group_of_row, group_row, named_in, new_row, row_after, info_by_group, user_of, user_of_row};
+ghost use Rattle.rv_book.specs.Indexes.{AreGroupRows, StandsAt, binds, first_where, group_of_row, group_row, named_in, new_row, row_after, info_by_group, user_of, user_of_row};
 ghost use Rattle.rv_book.specs.Registers.{groups_of, RetiresBound};
 
 use crate::entry::Entry;
@@ -18,6 +18,8 @@ pub struct GroupRef<'a> {
     pub retired: bool,
     /// The order of the group's last look, or 0.
     pub last_order: Num,
+    /// The index of the group's row, at which a later look-up begins; 0 where it has none.
+    pub at: usize,
 }
 
 /// A client group that an act or a look of the book names, with its name.
@@ -115,14 +117,53 @@ fn place(entries: &[Entry], rows: &[GroupRow], group: &Id) -> Result<usize, usiz
     rows.binary_search_by(|row| key(entries, row).cmp(group.as_str()))
 }
 
-// The row of a group, where an entry names it.
-fn find(entries: &[Entry], rows: &[GroupRow], group: &Id) -> Option<GroupRow>
+// Whether the row of the group stands there.
+fn stands_at(entries: &[Entry], rows: &[GroupRow], group: &Id, at: usize) -> bool
+    ensures { IsTrue result → StandsAt (group_of_row (book_of entries.now)) group.now rows.now at }
+{
+    match rows.get(at) {
+        Some(row) => key(entries, row) == group.as_str(),
+        None => false,
+    }
+}
+
+// Where the row of a group stands, or where it would go. It is looked for at an index, and searched for where it is not there.
+fn place_from(
+    entries: &[Entry],
+    rows: &[GroupRow],
+    group: &Id,
+    at: usize,
+) -> Result<usize, usize>
+    requires { AreGroupRows (book_of entries.now) rows.now }
+    ensures now { IsPositionOf (group_of_row (book_of entries.now)) group.now rows.now result }
+    ensures next { (entry : Entry) → IsPositionOf (group_of_row (with_entry (book_of entries.now) entry)) group.now rows.now result }
+{
+    if stands_at(entries, rows, group, at) {
+        Ok(at)
+    } else {
+        place(entries, rows, group)
+    }
+}
+
+// The row of a group, where an entry names it. It is looked for at an index first.
+fn find_from(entries: &[Entry], rows: &[GroupRow], group: &Id, at: usize) -> Option<GroupRow>
     requires { AreGroupRows (book_of entries.now) rows.now }
     ensures { result ≡ group_row (book_of entries.now) group.now }
 {
-    match place(entries, rows, group) {
+    match place_from(entries, rows, group, at) {
         Ok(at) => Some(rows[at]),
         Err(_) => None,
+    }
+}
+
+// Where the row of a group stands, and 0 where it has none.
+fn index(entries: &[Entry], rows: &[GroupRow], group: &Id) -> usize
+    requires { AreGroupRows (book_of entries.now) rows.now }
+    ensures { result ≤ length rows.now }
+{
+    match place(entries, rows, group) {
+        Ok(at) => at,
+        Err(_) => 0,
     }
 }
 
@@ -136,7 +177,20 @@ pub(crate) fn row(entries: &[Entry], rows: &[GroupRow], group: &Id) -> GroupRow
     ensures retired { result.retired ≡ retired group.now (book_of entries.now) }
     ensures looks_bound { result.looks ≤ length entries.now }
 {
-    match find(entries, rows, group) {
+    row_from(entries, rows, group, index(entries, rows, group))
+}
+
+// The same. The row is looked for at an index first.
+pub(crate) fn row_from(entries: &[Entry], rows: &[GroupRow], group: &Id, at: usize) -> GroupRow
+    requires { AreGroupRows (book_of entries.now) rows.now }
+    ensures bound { result.bound ≡ first_where (binds group.now) entries.now }
+    ensures order { result.order ≡ last_order group.now (book_of entries.now) }
+    ensures looks { result.looks ≡ count_by (is_look_of group.now) entries.now }
+    ensures last_look { result.last_look ≡ last_look group.now (book_of entries.now) }
+    ensures retired { result.retired ≡ retired group.now (book_of entries.now) }
+    ensures looks_bound { result.looks ≤ length entries.now }
+{
+    match find_from(entries, rows, group, at) {
         Some(row) => row,
         None => GroupRow::new(0),
     }
@@ -178,11 +232,13 @@ pub(crate) fn info<'b>(entries: &'b [Entry], rows: &[GroupRow], group: &Id) -> G
     ensures retired { result.retired ≡ retired group.now (book_of entries.now) }
     ensures last_order { result.last_order ≡ last_order group.now (book_of entries.now) }
 {
-    let row = row(entries, rows, group);
+    let at = index(entries, rows, group);
+    let row = row_from(entries, rows, group, at);
     GroupRef {
         user: user_of(entries, &row),
         retired: row.retired,
         last_order: row.order,
+        at,
     }
 }
 
@@ -213,8 +269,8 @@ pub(crate) fn info_at<'b>(
     info_by(entries, rows.get(index as usize)?)
 }
 
-// Enters an entry, which follows the others.
-pub(crate) fn enter(entries: &[Entry], rows: &mut Vec<GroupRow>, entry: &Entry)
+// Enters an entry, which follows the others. The row of its group is looked for at an index first.
+pub(crate) fn enter(entries: &[Entry], rows: &mut Vec<GroupRow>, entry: &Entry, at: usize)
     requires rows { AreGroupRows (book_of entries.now) rows.old.items }
     requires spare { 1 ≤ vec_capacity rows.old - vec_len rows.old }
     requires length { length entries.now + 1 < 2 ^ 32 }
@@ -222,7 +278,7 @@ pub(crate) fn enter(entries: &[Entry], rows: &mut Vec<GroupRow>, entry: &Entry)
     ensures spare { vec_capacity rows.old - vec_len rows.old ≤ (vec_capacity rows.new - vec_len rows.new) + 1 }
 {
     let index = entries.len() as u32;
-    match place(entries, rows, named(entry)) {
+    match place_from(entries, rows, named(entry), at) {
         Ok(at) => rows[at] = rows[at].after(index, entry),
         Err(at) => match rows.insert(at, GroupRow::new(index).after(index, entry)) {
             Ok(()) => {}

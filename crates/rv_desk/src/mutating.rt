@@ -13,6 +13,7 @@ ghost use Rattle.rv_desk.specs.Stepping.{HasStepped};
 use crate::desk::Desk;
 use crate::keeping::keep;
 use rv_base::{Id, Num, User};
+use rv_book::Found;
 use rv_history::{Admission, Numbering, admits, last_of};
 use rv_keeper::{KeepFault, Keeper};
 use rv_rows::Call;
@@ -35,11 +36,11 @@ impl<K: Keeper> Desk<K> {
         match admits(self.state.book(), user, group) {
             Admission::OfOther => Ok(Outcome::Refused(Refusal::GroupOfOther)),
             Admission::Retired => Ok(Outcome::Refused(Refusal::NotFound)),
-            Admission::Open => self.run_admitted(user, group, client, id, call),
+            Admission::Open { at } => self.run_admitted(user, group, client, id, call, at),
         }
     }
 
-    // A mutation of a group that its user may use.
+    // A mutation of a group that its user may use, and that the book has at an index.
     fn run_admitted(
         &mut self,
         user: &User,
@@ -47,6 +48,7 @@ impl<K: Keeper> Desk<K> {
         client: &Id,
         id: Num,
         call: Call,
+        group_at: usize,
     ) -> Result<Outcome, KeepFault>
         requires settled { self.old.doubt ≡ None }
         requires admits { Admits user.now group.now self.old.book }
@@ -55,7 +57,13 @@ impl<K: Keeper> Desk<K> {
     {
         match last_of(self.state.book(), client, group) {
             Numbering::Elsewhere => Ok(Outcome::Refused(Refusal::ClientOfOther)),
-            Numbering::Last(last) => self.run_after(user, group, client, id, call, last),
+            Numbering::Last { last, at } => {
+                let found = Found {
+                    group: group_at,
+                    client: at,
+                };
+                self.run_after(user, group, client, id, call, last, found)
+            }
         }
     }
 
@@ -68,6 +76,7 @@ impl<K: Keeper> Desk<K> {
         id: Num,
         call: Call,
         previous: Num,
+        found: Found,
     ) -> Result<Outcome, KeepFault>
         requires settled { self.old.doubt ≡ None }
         requires takes { TakesMutation (record { user = user.now; group = group.now }) client.now self.old.book }
@@ -93,7 +102,7 @@ impl<K: Keeper> Desk<K> {
                 Num::from_u64(u64::from(book.len())),
             )));
         }
-        match self.act(user, group, client, id, call) {
+        match self.act(user, group, client, id, call, found) {
             Ok(place) => Ok(Outcome::Acted(place)),
             Err(fault) => Err(fault),
         }
@@ -107,6 +116,7 @@ impl<K: Keeper> Desk<K> {
         client: &Id,
         id: Num,
         call: Call,
+        found: Found,
     ) -> Result<u32, KeepFault>
         requires settled { self.old.doubt ≡ None }
         requires within_limit { size self.old.book < self.old.limit }
@@ -116,7 +126,7 @@ impl<K: Keeper> Desk<K> {
         ensures place { IfOk result (λ place. place ≡ size self.old.book + 1) }
     {
         let place = self.state.book().len() + 1;
-        let prepared = self.state.prepare_act(user, group, client, id, call)?;
+        let prepared = self.state.prepare_act(user, group, client, id, call, found)?;
         keep(
             self.alloc,
             &mut self.state,

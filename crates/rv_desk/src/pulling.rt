@@ -38,15 +38,16 @@ impl<K: Keeper> Desk<K> {
         match admits(self.state.book(), user, &request.group) {
             Admission::OfOther => Ok(Outcome::Refused(Refusal::GroupOfOther)),
             Admission::Retired => Ok(Outcome::Refused(Refusal::NotFound)),
-            Admission::Open => self.answer_admitted(user, request, steps),
+            Admission::Open { at } => self.answer_admitted(user, request, at, steps),
         }
     }
 
-    // A pull of a group that its user may use: tells what is news since the base that the cookie names, if there is anything to tell.
+    // A pull of a group that its user may use, and that the book has at an index: tells what is news since the base that the cookie names, if there is anything to tell.
     fn answer_admitted<L: Ledger>(
         &mut self,
         user: &User,
         request: &PullRequest,
+        group_at: usize,
         steps: &mut Steps<L>,
     ) -> Result<Outcome, KeepFault>
         requires settled { self.old.doubt ≡ None }
@@ -59,7 +60,7 @@ impl<K: Keeper> Desk<K> {
             return Ok(Outcome::Pulled(same_reply(self.alloc, request)?));
         };
         let book = self.state.book();
-        let order = next_order(&request.cookie, book.last_order(&request.group));
+        let order = next_order(&request.cookie, book.last_order_at(&request.group, group_at));
         if order > Num::MAX {
             return Ok(Outcome::Refused(Refusal::Limit(Which::Order, Num::from_u64(Num::MAX))));
         }

@@ -11,9 +11,9 @@ use Rattle.rv_history.specs.declared.groups.Numbering.TheVariants.{Elsewhere, La
 abbrev pub IsAdmission : List ℕ → List ℕ → Book → Admission → Type 0
 IsAdmission user group book OfOther = is_of_other user group book ≡ true
 IsAdmission user group book Retired = (is_of_other user group book ≡ false) × (retired group book ≡ true)
-IsAdmission user group book Open = Admits user group book
+IsAdmission user group book (Open at) = Admits user group book
 
 -- the client is of another group; or this is its last mutation id
 abbrev pub IsNumbering : List ℕ → List ℕ → Book → Numbering → Type 0
 IsNumbering client group book Elsewhere = is_elsewhere client group book ≡ true
-IsNumbering client group book (Last number) = (is_elsewhere client group book ≡ false) × (number ≡ last client book) × (number ≤ size book)
+IsNumbering client group book (Last number at) = (is_elsewhere client group book ≡ false) × (number ≡ last client book) × (number ≤ size book)

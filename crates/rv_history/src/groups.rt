@@ -16,7 +16,10 @@ pub enum Admission {
     /// The group is retired.
     Retired,
     /// The group is the user's, or nobody's, and is not retired.
-    Open,
+    Open {
+        /// The index of the group's row in the book, at which a later look-up begins.
+        at: usize,
+    },
 }
 
 /// Where a client of a group stands in its numbering of mutations.
@@ -24,8 +27,13 @@ pub enum Admission {
 pub enum Numbering {
     /// The client is of another group.
     Elsewhere,
-    /// Its last mutation id, 0 where it has none.
-    Last(Num),
+    /// The client is of the group, or of none.
+    Last {
+        /// Its last mutation id, 0 where it has none.
+        last: Num,
+        /// The index of its row in the book, at which a later look-up begins.
+        at: usize,
+    },
 }
 
 // Whether somebody is there, and is not this user.
@@ -49,7 +57,7 @@ pub fn admits(book: &Book, user: &User, group: &Id) -> Admission
     if told.retired {
         return Admission::Retired;
     }
-    Admission::Open
+    Admission::Open { at: told.at }
 }
 
 /// Where the client stands in the group, by one search.
@@ -61,8 +69,14 @@ pub fn last_of(book: &Book, client: &Id, group: &Id) -> Numbering
             if told.group != group {
                 return Numbering::Elsewhere;
             }
-            Numbering::Last(told.last)
+            Numbering::Last {
+                last: told.last,
+                at: told.at,
+            }
         }
-        None => Numbering::Last(Num::from_u64(0)),
+        None => Numbering::Last {
+            last: Num::from_u64(0),
+            at: 0,
+        },
     }
 }

@@ -13,7 +13,7 @@ fn is_open(book: &Book, user: &User, group: &Id) -> bool
     ensures { IsTrue result ↔ Admits user.now group.now book.now.book }
 {
     match admits(book, user, group) {
-        Admission::Open => true,
+        Admission::Open { .. } => true,
         Admission::OfOther => false,
         Admission::Retired => false,
     }
@@ -24,7 +24,7 @@ fn is_next(book: &Book, client: &Id, group: &Id, id: Num) -> bool
     ensures { IsTrue result ↔ ((is_elsewhere client.now group.now book.now.book ≡ false) × (id ≡ last client.now book.now.book + 1)) }
 {
     match last_of(book, client, group) {
-        Numbering::Last(last) => id.get() == last.get() + 1,
+        Numbering::Last { last, .. } => id.get() == last.get() + 1,
         Numbering::Elsewhere => false,
     }
 }

@@ -2,7 +2,7 @@ ghost use Rattle.std.specs.Prelude.{◌≡◌};
 ghost use Rattle.rv_book.specs.declared.entry.Entry.TheVariants.{Act};
 
 use rv_base::{Id, Num, User};
-use rv_book::Entry;
+use rv_book::{Entry, Found};
 use rv_mutators::Staged;
 use rv_rows::{Call, Users};
 use rv_views::ViewRecord;
@@ -20,6 +20,8 @@ pub struct PreparedAct {
     pub id: Num,
     /// What it asked for.
     pub call: Call,
+    /// Where the book has the rows of its group and its client.
+    pub found: Found,
     /// The rows that it writes and removes.
     pub staged: Staged,
     /// The users whom it concerns: who sent it, and those for whom what they see is another after it.
@@ -39,6 +41,7 @@ impl PreparedAct {
             call,
             staged,
             concerned,
+            ..
         } = self;
         let entry = Entry::Act {
             user,

@@ -10,7 +10,7 @@ use crate::fitting::{entry_fits, look_fits};
 use crate::marks::UserMarks;
 use crate::prepared::{Prepared, PreparedAct, PreparedLook};
 use rv_base::{Id, Memory, Num, Steps, User};
-use rv_book::{Book, BookFault, Entry};
+use rv_book::{Book, BookFault, Entry, Found};
 use rv_history::entries;
 use rv_mutators::{Staged, stage};
 use rv_news::{News, Records, news_for, view_now};
@@ -151,7 +151,7 @@ impl State {
         )
     }
 
-    /// Prepares the act of a mutation that is to be run next.
+    /// Prepares the act of a mutation that is to be run next, whose group and client were found in the book.
     pub fn prepare_act(
         &mut self,
         user: &User,
@@ -159,6 +159,7 @@ impl State {
         client: &Id,
         id: Num,
         call: Call,
+        found: Found,
     ) -> Result<Prepared, Memory>
         requires within_limit { size self.old.book < self.old.limit }
         requires lawful { IsLawfulAfter self.old.book (Act user.now group.now client.now id call) }
@@ -168,7 +169,7 @@ impl State {
         ensures limit { self.new.limit ≡ self.old.limit }
     {
         let entry = entries::act(self.alloc, user, group, client, id, call)?;
-        self.prepare(entry)
+        self.prepare_found(entry, found)
     }
 
     /// Prepares the look of a pull that is told this, and makes its reply.
@@ -259,6 +260,18 @@ impl State {
         ensures book { self.new.book ≡ self.old.book }
         ensures limit { self.new.limit ≡ self.old.limit }
     {
+        self.prepare_found(entry, Found::nowhere())
+    }
+
+    // The same, where the group and the client of an act were found in the book.
+    fn prepare_found(&mut self, entry: Entry, found: Found) -> Result<Prepared, Memory>
+        requires within_limit { size self.old.book < self.old.limit }
+        requires lawful { IsLawfulAfter self.old.book entry }
+        ensures prepared { IfOk result (λ prepared. IsPrepared self.new prepared) }
+        ensures entry { IfOk result (λ prepared. entry_of prepared ≡ entry) }
+        ensures book { self.new.book ≡ self.old.book }
+        ensures limit { self.new.limit ≡ self.old.limit }
+    {
         entry_fits(&entry);
         reserve(&mut self.book)?;
         match entry {
@@ -276,6 +289,7 @@ impl State {
                     client,
                     id,
                     call,
+                    found,
                     staged,
                     concerned,
                 }))
@@ -310,8 +324,9 @@ impl State {
         let place = self.book.len() + 1;
         match prepared {
             Prepared::Act(act) => {
+                let found = act.found;
                 let (entry, staged, concerned) = act.into_parts();
-                self.book.push_entry(entry);
+                self.book.push_entry(entry, found);
                 staged.apply(&mut self.tables, place);
                 self.marks.set_all(concerned, place);
             }
@@ -324,17 +339,18 @@ impl State {
                     view,
                 } = look;
                 let gone = self.book.falls_out(&group);
-                self.book.push_entry(Entry::Look {
+                let entry = Entry::Look {
                     user,
                     group,
                     order,
                     base,
-                });
+                };
+                self.book.push_entry(entry, Found::nowhere());
                 self.records.let_one_go(gone);
                 self.records.push(place, view);
             }
             Prepared::Retirement(group) => {
-                self.book.push_entry(Entry::Retire { group });
+                self.book.push_entry(Entry::Retire { group }, Found::nowhere());
                 self.records.let_go(&self.book);
             }
         }

@@ -29,6 +29,7 @@ fn act_changes(alloc: Global, state: &State, act: &PreparedAct) -> Result<Vec<Ch
         client,
         id,
         call,
+        found,
         staged,
         ..
     } = act;
@@ -38,7 +39,8 @@ fn act_changes(alloc: Global, state: &State, act: &PreparedAct) -> Result<Vec<Ch
     changes.push(Change::Put(cell_of_act(alloc, place, user, group, client, *id, call)?))?;
     add_row_changes(alloc, &mut changes, staged, place)?;
     changes.push(Change::Put(cell_of_client(alloc, client, group, *id)?))?;
-    changes.push(Change::Put(cell_of_group(alloc, group, user, book.last_order(group), false)?))?;
+    let order = book.last_order_at(group, found.group);
+    changes.push(Change::Put(cell_of_group(alloc, group, user, order, false)?))?;
     Ok(changes)
 }
 

@@ -1,25 +1,32 @@
-use Rattle.std.proofs.Common.{◌∙◌, sym, arith}
-use Rattle.rv_book.specs.Book.{book_of}
-use Rattle.rv_book.proofs.ClientLaws.{gives_client, gives_none, no_acts}
+use Rattle.std.proofs.Common.{◌≡◌, ℕ, List, Some, Ok, get_or, ◌∙◌, sym, arith}
+use Rattle.rv_base.specs.Sorted.{IsPositionOf}
+use Rattle.rv_book.specs.Book.{Book, book_of}
+use Rattle.rv_book.specs.declared.clients.ClientRow.{ClientRow}
+use Rattle.rv_book.specs.Indexes.{client_of_row, AreClientRows}
+use Rattle.rv_book.proofs.ClientLaws.{GivesClient, gives_client, gives_none, no_acts}
 use Rattle.rv_book.proofs.clients.info.Goals as goal
 
-pub returns-in-Some-group_at-clause-group : goal.returns-in-Some-group_at-clause-group
-returns-in-Some-group_at-clause-group c = c.in-Some-group_at.ensures ∙ (gives_client (book_of c.args.entries.now) c.args.client.now c.in-Some.row c.in-Some.ensures).group
+-- what the row at the index gives
+gives : (book : Book) (k : List ℕ) (rows : List ClientRow) (at : ℕ) (d : ClientRow) → AreClientRows book rows → IsPositionOf (client_of_row book) k rows (Ok at) → GivesClient book k (get_or rows at d)
+gives book k rows at d h found = gives_client book k (get_or rows at d) (sym (found.found d) ∙ h.found k)
 
-pub returns-in-Some-group_at-clause-last : goal.returns-in-Some-group_at-clause-last
-returns-in-Some-group_at-clause-last c = c.from_u64.ensures ∙ (gives_client (book_of c.args.entries.now) c.args.client.now c.in-Some.row c.in-Some.ensures).acts
+pub returns-in-Some-clause-group : goal.returns-in-Some-clause-group
+returns-in-Some-clause-group c = c.in-Some.ensures ∙ (gives (book_of c.args.entries.now) c.args.client.now c.args.rows.now c.in-Ok.at _ c.requires c.in-Ok.ensures.now).group
 
-pub returns-in-Some-group_at-clause-bound : goal.returns-in-Some-group_at-clause-bound
-returns-in-Some-group_at-clause-bound c = omega (arith, c.from_u64.ensures, (gives_client (book_of c.args.entries.now) c.args.client.now c.in-Some.row c.in-Some.ensures).bound)
+pub returns-in-Some-clause-last : goal.returns-in-Some-clause-last
+returns-in-Some-clause-last c = c.from_u64.ensures ∙ (gives (book_of c.args.entries.now) c.args.client.now c.args.rows.now c.in-Ok.at _ c.requires c.in-Ok.ensures.now).acts
 
-pub returns-in-None-group_at-clause-group : goal.returns-in-None-group_at-clause-group
-returns-in-None-group_at-clause-group c = c.in-None-group_at.ensures ∙ (gives_client (book_of c.args.entries.now) c.args.client.now c.in-Some.row c.in-Some.ensures).group
-
-pub returns-in-None-group_at-clause-last : goal.returns-in-None-group_at-clause-last
-returns-in-None-group_at-clause-last c = sym (no_acts c.args.client.now (book_of c.args.entries.now) (sym (c.in-None-group_at.ensures ∙ (gives_client (book_of c.args.entries.now) c.args.client.now c.in-Some.row c.in-Some.ensures).group)))
+pub returns-in-Some-clause-bound : goal.returns-in-Some-clause-bound
+returns-in-Some-clause-bound c = omega (arith, c.from_u64.ensures, (gives (book_of c.args.entries.now) c.args.client.now c.args.rows.now c.in-Ok.at (record { first = 0; acts = 0 }) c.requires c.in-Ok.ensures.now).bound)
 
 pub returns-in-None-clause-group : goal.returns-in-None-clause-group
-returns-in-None-clause-group c = (gives_none (book_of c.args.entries.now) c.args.client.now c.in-None.ensures).0
+returns-in-None-clause-group c = c.in-None.ensures ∙ (gives (book_of c.args.entries.now) c.args.client.now c.args.rows.now c.in-Ok.at _ c.requires c.in-Ok.ensures.now).group
 
 pub returns-in-None-clause-last : goal.returns-in-None-clause-last
-returns-in-None-clause-last c = (gives_none (book_of c.args.entries.now) c.args.client.now c.in-None.ensures).1
+returns-in-None-clause-last c = sym (no_acts c.args.client.now (book_of c.args.entries.now) (sym (c.in-None.ensures ∙ (gives (book_of c.args.entries.now) c.args.client.now c.args.rows.now c.in-Ok.at _ c.requires c.in-Ok.ensures.now).group)))
+
+pub returns-in-Err-clause-group : goal.returns-in-Err-clause-group
+returns-in-Err-clause-group c = (gives_none (book_of c.args.entries.now) c.args.client.now (sym c.in-Err.ensures.now.absent ∙ c.requires.found c.args.client.now)).0
+
+pub returns-in-Err-clause-last : goal.returns-in-Err-clause-last
+returns-in-Err-clause-last c = (gives_none (book_of c.args.entries.now) c.args.client.now (sym c.in-Err.ensures.now.absent ∙ c.requires.found c.args.client.now)).1

@@ -4,7 +4,7 @@ use Rattle.rv_book.specs.declared.groups.GroupRow.{GroupRow}
 use Rattle.rv_book.specs.Book.{book_of}
 use Rattle.rv_book.specs.Kept.{is_look_of}
 use Rattle.rv_book.proofs.GroupLaws.{row_gives, none_gives}
-use Rattle.rv_book.proofs.groups.row.Goals as goal
+use Rattle.rv_book.proofs.groups.row_from.Goals as goal
 
 pub returns-in-Some-clause-bound : goal.returns-in-Some-clause-bound
 returns-in-Some-clause-bound c = (row_gives (book_of c.args.entries.now) c.args.group.now c.in-Some.row c.in-Some.ensures).bound
