@@ -73,12 +73,7 @@ fn stands_at(entries: &[Entry], rows: &[ClientRow], client: &Id, at: usize) -> b
 }
 
 // Where the row of a client stands, or where it would go. It is looked for at an index, and searched for where it is not there.
-fn place_from(
-    entries: &[Entry],
-    rows: &[ClientRow],
-    client: &Id,
-    at: usize,
-) -> Result<usize, usize>
+fn place_from(entries: &[Entry], rows: &[ClientRow], client: &Id, at: usize) -> Result<usize, usize>
     requires { AreClientRows (book_of entries.now) rows.now }
     ensures now { IsPositionOf (client_of_row (book_of entries.now)) client.now rows.now result }
     ensures next { (entry : Entry) → IsPositionOf (client_of_row (with_entry (book_of entries.now) entry)) client.now rows.now result }

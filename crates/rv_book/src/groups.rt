@@ -128,12 +128,7 @@ fn stands_at(entries: &[Entry], rows: &[GroupRow], group: &Id, at: usize) -> boo
 }
 
 // Where the row of a group stands, or where it would go. It is looked for at an index, and searched for where it is not there.
-fn place_from(
-    entries: &[Entry],
-    rows: &[GroupRow],
-    group: &Id,
-    at: usize,
-) -> Result<usize, usize>
+fn place_from(entries: &[Entry], rows: &[GroupRow], group: &Id, at: usize) -> Result<usize, usize>
     requires { AreGroupRows (book_of entries.now) rows.now }
     ensures now { IsPositionOf (group_of_row (book_of entries.now)) group.now rows.now result }
     ensures next { (entry : Entry) → IsPositionOf (group_of_row (with_entry (book_of entries.now) entry)) group.now rows.now result }

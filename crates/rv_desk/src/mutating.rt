@@ -126,7 +126,9 @@ impl<K: Keeper> Desk<K> {
         ensures place { IfOk result (λ place. place ≡ size self.old.book + 1) }
     {
         let place = self.state.book().len() + 1;
-        let prepared = self.state.prepare_act(user, group, client, id, call, found)?;
+        let prepared = self
+            .state
+            .prepare_act(user, group, client, id, call, found)?;
         keep(
             self.alloc,
             &mut self.state,

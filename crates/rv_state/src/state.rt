@@ -350,7 +350,8 @@ impl State {
                 self.records.push(place, view);
             }
             Prepared::Retirement(group) => {
-                self.book.push_entry(Entry::Retire { group }, Found::nowhere());
+                self.book
+                    .push_entry(Entry::Retire { group }, Found::nowhere());
                 self.records.let_go(&self.book);
             }
         }
