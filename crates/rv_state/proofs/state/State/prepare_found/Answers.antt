@@ -5,7 +5,7 @@ use Rattle.rv_book.specs.declared.entry.Entry.TheVariants.{Act}
 use Rattle.rv_history.specs.Lawful.{IsLawfulAfter}
 use Rattle.rv_record.specs.EntryReading.{EntryFits}
 use Rattle.rv_state.specs.Standing.{Standing}
-use Rattle.rv_state.proofs.state.State.prepare.Goals as goal
+use Rattle.rv_state.proofs.state.State.prepare_found.Goals as goal
 
 pub returns-in_ok-staged-in-Act-clause-prepared : goal.returns-in_ok-staged-in-Act-clause-prepared
 returns-in_ok-staged-in-Act-clause-prepared c =
