@@ -4,7 +4,6 @@ use Rattle.std.specs.Prelude.{Ok, Err, option_map}
 use Rattle.rv_book.specs.declared.entry.Entry.{Entry}
 use Rattle.rv_book.specs.Book.{Book, size, with_entry}
 use Rattle.rv_book.specs.BookWords.{size-with_entry}
-use Rattle.rv_history.specs.Served.{Doubt}
 use Rattle.rv_keeper.specs.declared.cell.Cell.{Cell}
 use Rattle.rv_keeper.specs.declared.change.Change.{Change}
 use Rattle.rv_keeper.specs.declared.fault.KeepFault.TheVariants.{Failed}

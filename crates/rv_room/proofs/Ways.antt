@@ -2,7 +2,7 @@
 use Rattle.std.proofs.Common.{◌≡◌, ◌≢◌, ◌⊎◌, ℕ, zero, suc, ◌+◌, ◌%◌, ◌^◌, ◌<◌, List, [], ◌∷◌, ◌++◌, set, refl, sym, ap, ◌∙◌, subst, inl, inr, ⊎_elim, arith, Some, None, Option, Bool, true, false}
 use Rattle.std.specs.Prelude.{slice_get, nat_le, if◌then◌else◌}
 use Rattle.std.specs.List.{AllByRecursion}
-use mathlib.Core.Option.{some, none, some-injective, some-ne-none}
+use mathlib.Core.Option.{some, some-injective, some-ne-none}
 use mathlib.Core.Option as maybe
 use mathlib.Core.Logic.{dite}
 use native.Mathlib.Decide.{ℕ_discrete}

@@ -1,5 +1,5 @@
 -- A look that is prepared with copies of its texts.
-use Rattle.std.proofs.Common.{◌≡◌, ℕ, ◌<◌, ◌≤◌, List, Option, sym, ap, subst, ◌∙◌, arith}
+use Rattle.std.proofs.Common.{◌≡◌, ℕ, ◌<◌, ◌≤◌, List, Option, sym, ap, subst, arith}
 use Rattle.rv_book.specs.Book.{Book, size}
 use Rattle.rv_book.specs.declared.entry.Entry.TheVariants as entries
 use Rattle.rv_history.specs.Lawful.{IsLawfulAfter}

@@ -1,5 +1,4 @@
-use Rattle.std.proofs.Common.{◌≡◌, ap, ◌∙◌}
-use Rattle.rv_book.specs.Book.{Book}
+use Rattle.std.proofs.Common.{ap, ◌∙◌}
 use Rattle.rv_state.specs.Standing.{Standing}
 use Rattle.rv_state.proofs.Looks.{look_ready}
 use Rattle.rv_state.proofs.state.State.prepare_look.Goals as goal
