@@ -245,9 +245,19 @@ impl Book {
         Ok(())
     }
 
-    /// Enters an entry at the next place. It can't fail, and takes no memory. The rows of its group and client are looked for first
-    /// where they were found before.
-    pub fn push_entry(&mut self, entry: Entry, found: Found)
+    /// Enters an entry at the next place. It can't fail, and takes no memory.
+    pub fn push_entry(&mut self, entry: Entry)
+        requires spare { 1 ≤ self.old.spare }
+        requires limit { size self.old.book < self.old.limit }
+        ensures book { self.new.book ≡ with_entry self.old.book entry }
+        ensures limit { self.new.limit ≡ self.old.limit }
+        ensures spare { self.old.spare ≤ self.new.spare + 1 }
+    {
+        self.push_found(entry, Found::nowhere());
+    }
+
+    /// The same. The rows of the entry's group and client are looked for first where they were found before.
+    pub fn push_found(&mut self, entry: Entry, found: Found)
         requires spare { 1 ≤ self.old.spare }
         requires limit { size self.old.book < self.old.limit }
         ensures book { self.new.book ≡ with_entry self.old.book entry }

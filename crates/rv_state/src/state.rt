@@ -326,7 +326,7 @@ impl State {
             Prepared::Act(act) => {
                 let found = act.found;
                 let (entry, staged, concerned) = act.into_parts();
-                self.book.push_entry(entry, found);
+                self.book.push_found(entry, found);
                 staged.apply(&mut self.tables, place);
                 self.marks.set_all(concerned, place);
             }
@@ -339,19 +339,17 @@ impl State {
                     view,
                 } = look;
                 let gone = self.book.falls_out(&group);
-                let entry = Entry::Look {
+                self.book.push_entry(Entry::Look {
                     user,
                     group,
                     order,
                     base,
-                };
-                self.book.push_entry(entry, Found::nowhere());
+                });
                 self.records.let_one_go(gone);
                 self.records.push(place, view);
             }
             Prepared::Retirement(group) => {
-                self.book
-                    .push_entry(Entry::Retire { group }, Found::nowhere());
+                self.book.push_entry(Entry::Retire { group });
                 self.records.let_go(&self.book);
             }
         }

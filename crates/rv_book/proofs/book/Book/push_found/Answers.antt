@@ -2,7 +2,7 @@ use Rattle.std.proofs.Common.{◌<◌, subst, sym}
 use Rattle.rv_book.specs.Book.{size}
 use Rattle.rv_book.specs.Recorded.{Recorded}
 use Rattle.rv_book.proofs.LookRowLaws.{indexed-push}
-use Rattle.rv_book.proofs.book.Book.push_entry.Goals as goal
+use Rattle.rv_book.proofs.book.Book.push_found.Goals as goal
 
 pub invariant_of-self : goal.invariant_of-self
 invariant_of-self c =
