@@ -12,6 +12,7 @@ import random
 import subprocess
 import sys
 import tempfile
+import time
 
 
 def pushes(calls, first=1):
@@ -22,6 +23,15 @@ def pushes(calls, first=1):
         yield json.dumps({"user": "ann", "push": {**push, "mutations": mutations}}) + "\n"
 
 
+def most_memory(process):
+    """The most memory that a process has had since it became the program, in KB (that of `wait4` counts this script's as well)."""
+    try:
+        with open(f"/proc/{process}/status") as file:
+            return next((int(line.split()[1]) for line in file if line.startswith("VmHWM")), 0)
+    except OSError:
+        return 0
+
+
 def ran(program, store, lines):
     """The seconds of processor time of one run over the lines, and the most memory that it had, in MB."""
     with tempfile.TemporaryFile() as file:
@@ -29,10 +39,14 @@ def ran(program, store, lines):
             file.write(line.encode())
         file.seek(0)
         process = subprocess.Popen([program, "feed", store], stdin=file, stdout=subprocess.DEVNULL)
-        _, status, used = os.wait4(process.pid, 0)
+        memory, ended = 0, 0
+        while not ended:
+            memory = max(memory, most_memory(process.pid))
+            ended, status, used = os.wait4(process.pid, os.WNOHANG)
+            time.sleep(0.005)
         process.returncode = os.waitstatus_to_exitcode(status)
         assert process.returncode == 0
-        return used.ru_utime + used.ru_stime, used.ru_maxrss // 1024
+        return used.ru_utime + used.ru_stime, memory // 1024
 
 
 def todo(number, name):
