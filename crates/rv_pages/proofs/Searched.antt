@@ -2,7 +2,7 @@
 use Rattle.std.proofs.Common.{◌≡◌, ℕ, zero, suc, ◌+◌, ◌-◌, ◌<◌, ◌≤◌, Bool, true, false, List, [], ◌∷◌, ◌++◌, length, map, get_or, take, drop, refl, sym, ap, ◌∙◌, subst, arith, append_assoc, length-append}
 use Rattle.std.specs.declared.cmp.Ordering.{Ordering}
 use Rattle.std.specs.declared.cmp.Ordering.TheVariants.{Less, Equal, Greater}
-use Rattle.std.specs.Ordering.{ordering_index, is_lt, is_le, is_eq}
+use Rattle.std.specs.Ordering.{ordering_index, is_lt, is_le, is_eq, is_gt}
 use Rattle.std.specs.List.{filter, AllByRecursion}
 use Rattle.std.specs.List.Sorted.{IsPartitionedBy, IsPartitionPoint}
 use Rattle.std.proofs.lemmas.Bool.{false≢true, true≢false}
@@ -58,6 +58,18 @@ not_higher Less e = refl
 not_higher Equal e = absurd (true≢false e)
 not_higher Greater e = refl
 
+not_le : (a : Ordering) → is_gt a ≡ true → is_le a ≡ false
+not_le Less e = absurd (false≢true e)
+not_le Equal e = absurd (false≢true e)
+not_le Greater e = refl
+
+above_up : (a b : Ordering) → ordering_index a ≤ ordering_index b → is_le a ≡ false → is_le b ≡ false
+above_up Less b le e = absurd (true≢false e)
+above_up Equal b le e = absurd (true≢false e)
+above_up Greater Less le e = absurd (omega arith)
+above_up Greater Equal le e = absurd (omega arith)
+above_up Greater Greater le e = refl
+
 tied : (a : Ordering) → is_lt a ≡ false → is_le a ≡ true → is_eq a ≡ true
 tied Less e f = absurd (true≢false e)
 tied Equal e f = refl
@@ -77,6 +89,18 @@ module _ {X Y : Type 0} (f : X → Y) (test : Y → Bool) where
       before i j d le lt e =
           sym (ap test (get_or-map f (v ∷ vs) i d (f d) (omega arith)))
           ∙ h i j (f d) le (omega (arith, length-map (v ∷ vs) f)) (ap test (get_or-map f (v ∷ vs) j d (f d) lt) ∙ e)
+
+-- where the first fails, all do
+not_true : (b : Bool) → (b ≡ true → false ≡ true) → b ≡ false
+not_true true h = sym (h refl)
+not_true false h = refl
+
+pub none_pass : {Y : Type 0} (test : Y → Bool) (ys : List Y) (y e : Y) → 0 < length ys → y ≡ get_or ys 0 e → test y ≡ false → IsPartitionedBy test ys → IsPartitionPoint (λ y. test y ≡ true) (λ y. test y ≡ false) ys 0
+none_pass test [] y e some is fails h = absurd (omega arith)
+none_pass test (z ∷ zs) y e some is fails h = (
+  λ k d low lt. absurd (omega arith),
+  λ k d low lt. not_true (test (get_or (z ∷ zs) k d)) (λ t. sym (ap test (sym is) ∙ fails) ∙ h 0 k d low lt t),
+)
 
 -- three parts of a list, cut within the middle one
 cut_mid : {A : Type 0} (xs ys zs : List A) (n : ℕ) → xs ++ (ys ++ zs) ≡ (xs ++ take n ys) ++ (drop n ys ++ zs)
@@ -171,6 +195,13 @@ module _ {A : Type 0} (o : A → Ordering) where
 
   higher_none : (xs : List A) → AllByRecursion (λ x. is_le (o x) ≡ false) xs → filter Tie xs ≡ []
   higher_none xs all = filter_none xs (all-to (λ x. is_le (o x) ≡ false) (λ x. is_eq (o x) ≡ false) xs (λ x e. not_higher (o x) e) all)
+
+  -- where the first of a page is above, none of its items ties
+  pub first_above : (page : List A) (x : A) → 0 < length page → x ≡ get_or page 0 x → is_gt (o x) ≡ true → Rises o page → filter Tie page ≡ []
+  first_above [] x some is above rises = refl
+  first_above (y ∷ page) x some is above rises =
+      let first : is_le (o y) ≡ false = ap (λ (t : A). is_le (o t)) (sym is) ∙ not_le (o x) above in
+      higher_none (y ∷ page) (first, all-to (NotAfter o y) (λ z. is_le (o z) ≡ false) page (λ z le. above_up (o y) (o z) le first) (rise_of o (y ∷ page) rises).0)
 
   between_all : (xs : List A) → AllByRecursion (λ x. is_lt (o x) ≡ false) xs → AllByRecursion (λ x. is_le (o x) ≡ true) xs → filter Tie xs ≡ xs
   between_all xs low high = filter_all xs (all-both (λ x. is_lt (o x) ≡ false) (λ x. is_le (o x) ≡ true) (λ x. is_eq (o x) ≡ true) xs (λ x e f. tied (o x) e f) low high)

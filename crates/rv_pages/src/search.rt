@@ -1,5 +1,5 @@
 // Searches among pages.
-ghost use Rattle.std.specs.Prelude.{◌≡◌, ◌≤◌, ◌<◌, length, MatchResult};
+ghost use Rattle.std.specs.Prelude.{◌≡◌, ◌≤◌, ◌<◌, [], length, IsTrue, MatchResult};
 ghost use Rattle.std.specs.declared.cmp.Ordering.{Ordering};
 ghost use Rattle.std.specs.Ordering.{is_lt, is_le, is_eq};
 ghost use Rattle.std.specs.List.{filter};
@@ -48,12 +48,29 @@ fn pages_below<T, C: Compare<T>>(pages: &[Vec<T>], sought: &C) -> usize
     pages.partition_point(|page| ends_below(page, sought))
 }
 
-// How many pages end with an item that is not above what is looked for.
-fn pages_not_above<T, C: Compare<T>>(pages: &[Vec<T>], sought: &C) -> usize
+// How many pages end with an item that is not above what is looked for, by a search among all.
+fn part_not_above<T, C: Compare<T>>(pages: &[Vec<T>], sought: &C) -> usize
     ensures bound { result ≤ length pages.now }
     ensures parted { PartsPages (λ i. is_le (C.order sought.now i)) (lists pages.now) result }
 {
     pages.partition_point(|page| ends_not_above(page, sought))
+}
+
+// The same. What ties mostly stands in a page or two, so the first is looked at before a search among all.
+fn pages_not_above<T, C: Compare<T>>(pages: &[Vec<T>], sought: &C) -> usize
+    ensures bound { result ≤ length pages.now }
+    ensures parted { PartsPages (λ i. is_le (C.order sought.now i)) (lists pages.now) result }
+{
+    match pages.first() {
+        Some(page) => {
+            if ends_not_above(page, sought) {
+                part_not_above(pages, sought)
+            } else {
+                0
+            }
+        }
+        None => 0,
+    }
 }
 
 // Where an item goes after all others.
@@ -105,12 +122,28 @@ fn ties_in_page<'a, T, C: Compare<T>>(page: &'a [T], sought: &C) -> &'a [T]
     &rest[..own]
 }
 
+// Whether the page begins with an item above what is looked for, so that none of its items ties with that.
+fn begins_above<T, C: Compare<T>>(page: &[T], sought: &C) -> bool
+    ensures { IsTrue result → Rises (C.order sought.now) page.now → filter (λ i. is_eq (C.order sought.now i)) page.now ≡ [] }
+{
+    match page.first() {
+        Some(item) => sought.compare(item).is_gt(),
+        None => true,
+    }
+}
+
 // The same in the first of the pages, if there is one.
 fn ties_in_first<'a, T, C: Compare<T>>(pages: &'a [Vec<T>], sought: &C) -> &'a [T]
     ensures { Rises (C.order sought.now) (page_at (lists pages.now) 0) → result.now ≡ filter (λ i. is_eq (C.order sought.now i)) (page_at (lists pages.now) 0) }
 {
     match pages.first() {
-        Some(page) => ties_in_page(page, sought),
+        Some(page) => {
+            if begins_above(page, sought) {
+                &[]
+            } else {
+                ties_in_page(page, sought)
+            }
+        }
         None => &[],
     }
 }

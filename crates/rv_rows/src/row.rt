@@ -5,6 +5,7 @@ ghost use Rattle.rv_rows.specs.Keys.{key_text, row_key, row_text};
 ghost use Rattle.rv_rows.specs.Sharing.{list_of, shares, user_of};
 ghost use Rattle.rv_rows.specs.Filed.{filed_text, sort_of, then_by, under};
 ghost use Rattle.rv_rows.specs.Effects.{sort_after, sort_in, with_fields};
+ghost use Rattle.rv_rows.specs.declared.filing.Filing.TheVariants.{Sort};
 ghost use Rattle.rv_rows.specs.declared.row.Row.TheVariants.{Todo};
 
 use crate::filing::Filing;
@@ -152,16 +153,25 @@ impl Row {
         }
     }
 
-    // How the row stands to another that is filed under the same: by the keys, and in the order by sorts first by those, from
-    // the greatest down.
+    // How the row stands to another that is filed under the same: by the keys, and in the order by sorts first by those.
     fn compare_then(&self, by: Filing, other: &Row) -> Ordering
         ensures { result ≡ slice_cmp nat_cmp (then_by by self.now) (then_by by other.now) }
     {
-        let by_key = self.compare_key(other.kind(), other.id());
         match by {
-            Filing::List => by_key,
-            Filing::User => by_key,
-            Filing::Sort => other.sort().cmp(&self.sort()).then(by_key),
+            Filing::List => self.compare_key(other.kind(), other.id()),
+            Filing::User => self.compare_key(other.kind(), other.id()),
+            Filing::Sort => self.compare_sorts(other),
+        }
+    }
+
+    // By the sorts, from the greatest down, and where they are the same by the keys.
+    fn compare_sorts(&self, other: &Row) -> Ordering
+        ensures { result ≡ slice_cmp nat_cmp (then_by Sort self.now) (then_by Sort other.now) }
+    {
+        match other.sort().cmp(&self.sort()) {
+            Ordering::Less => Ordering::Less,
+            Ordering::Equal => self.compare_key(other.kind(), other.id()),
+            Ordering::Greater => Ordering::Greater,
         }
     }
 

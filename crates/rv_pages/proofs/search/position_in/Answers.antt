@@ -1,4 +1,4 @@
-use Rattle.std.proofs.Common.{◌≡◌, ℕ, ◌<◌, List, [], ◌∙◌, ap, sym, arith, length, get_or}
+use Rattle.std.proofs.Common.{◌≡◌, ◌<◌, [], ◌∙◌, ap, sym, arith, length, get_or}
 use Rattle.std.proofs.lemmas.List.{length-map}
 use Rattle.rv_pages.specs.Vectors.{lists}
 use Rattle.rv_pages.proofs.Edited.{read, get_one}
