@@ -3,7 +3,6 @@ use Rattle.std.proofs.Common.{◌≡◌, ℕ, ◌+◌, ◌≤◌, List, length, 
 use Rattle.std.specs.Borrow.{Bor}
 use Rattle.std.specs.Option.{option_map, option_map_or, option_and_then}
 use Rattle.rv_rows.specs.Held.{Stored}
-use Rattle.rv_rows.specs.Sharing.{seen}
 use Rattle.rv_turns.specs.declared.pull.PullRequest.{PullRequest}
 use Rattle.rv_sharing.specs.Visible.{visible}
 use Rattle.rv_views.specs.Viewed.{Viewed, view_size}
@@ -11,7 +10,7 @@ use Rattle.rv_book.specs.Book.{Book, ids, up_to}
 use Rattle.rv_history.specs.Bases.{base_of, base_group}
 use Rattle.rv_history.specs.Based.{base_look}
 use Rattle.rv_history.specs.Reading.{base_entries, pull_entries, view_entries}
-use Rattle.rv_history.specs.Replay.{IsReplay, rows_of}
+use Rattle.rv_history.specs.Replay.{IsReplay}
 use Rattle.rv_news.specs.News.{IsBaseRecord}
 use Rattle.rv_news.specs.Records.{IsRecord}
 use Rattle.rv_news.proofs.Difference.{visible_size}

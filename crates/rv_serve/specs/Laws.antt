@@ -1,5 +1,5 @@
 -- What is answered over connections is a run of the server's turns.
-use Rattle.std.specs.Prelude.{ℕ, List, [], ◌∷◌, ◌++◌, map, Result, Ok}
+use Rattle.std.specs.Prelude.{List, [], ◌∷◌, ◌++◌, map, Result, Ok}
 use Rattle.std.specs.List.{flat_map}
 use Rattle.rv_base.specs.Outside.{InputState, OutputState}
 use Rattle.rv_base.specs.declared.outside.Source.{Ghosts as SourceGhosts}

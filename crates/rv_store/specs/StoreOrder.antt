@@ -1,6 +1,6 @@
 -- The cells of a book stand in order, each place once, on shelves from 1; and what follows from the entries stands on the
 -- shelves from 2.
-use Rattle.std.proofs.Common.{ℕ, ◌+◌, ◌^◌, ◌<◌, ◌≤◌, List, [], ◌∷◌, ◌++◌, length, sym, subst, arith, refl, map, Bool}
+use Rattle.std.proofs.Common.{ℕ, ◌+◌, ◌^◌, ◌<◌, ◌≤◌, List, [], ◌∷◌, ◌++◌, sym, subst, arith, refl, map, Bool}
 use Rattle.std.specs.List.{AllByRecursion}
 use Rattle.rv_base.specs.Sorted.{InOrder}
 use Rattle.rv_base.specs.Positions.{Above}

@@ -49,7 +49,7 @@ pub fn difference<L: Ledger>(
 }
 
 impl ViewRecord {
-    /// The group's clients, in memory of their own.
+    /// The group's clients; their names share their texts.
     pub fn copy_clients(&self, alloc: Global) -> Result<Clients, Memory>
         ensures { IfOk result (λ copy. copy ≡ self.now.clients) }
     {
@@ -254,7 +254,7 @@ fn add_rest<L: Ledger>(
     Ok(())
 }
 
-// The same clients, in memory of their own.
+// The same clients; their names share their texts.
 fn copy_of(alloc: Global, clients: &[(Id, Num)]) -> Result<Clients, Memory>
     ensures { IfOk result (λ copy. copy ≡ clients.now) }
 {

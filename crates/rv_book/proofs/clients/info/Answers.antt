@@ -1,4 +1,4 @@
-use Rattle.std.proofs.Common.{◌≡◌, ℕ, List, Some, Ok, get_or, ◌∙◌, sym, arith}
+use Rattle.std.proofs.Common.{◌≡◌, ℕ, List, Ok, get_or, ◌∙◌, sym, arith}
 use Rattle.rv_base.specs.Sorted.{IsPositionOf}
 use Rattle.rv_book.specs.Book.{Book, book_of}
 use Rattle.rv_book.specs.declared.clients.ClientRow.{ClientRow}

@@ -1,7 +1,6 @@
-use Rattle.std.proofs.Common.{◌≤◌, ◌+◌, length, ap, ◌∙◌, arith}
+use Rattle.std.proofs.Common.{◌≤◌, ◌+◌, ap, ◌∙◌, arith}
 use Rattle.rv_book.specs.Book.{ids}
 use Rattle.rv_sharing.specs.Gathered.{keys_at}
-use Rattle.rv_sharing.specs.Visible.{visible}
 use Rattle.rv_news.proofs.NewsLaws.{base_found, news_shown}
 use Rattle.rv_news.proofs.ReadLaws.{within_view, within_both}
 use Rattle.rv_news.proofs.pull.news_walked.Goals as goal
