@@ -8,3 +8,4 @@ pub mod Named
 pub mod MemoryStores
 pub mod PlaceStates
 pub mod AbsentStores
+pub mod Crashes

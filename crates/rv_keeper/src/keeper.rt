@@ -1,7 +1,9 @@
-ghost use Rattle.std.specs.Prelude.{◌≡◌, ◌<◌, ◌-◌, ◌^◌, ℕ, IsOk, IfOk};
+ghost use Rattle.std.specs.Prelude.{◌≡◌, ◌<◌, ◌-◌, ◌^◌, ℕ, Option, IsOk, IfOk, IsErrOf};
+ghost use Rattle.rv_keeper.specs.declared.fault.KeepFault.TheVariants.{Memory};
 ghost use Rattle.rv_keeper.specs.declared.loaded.Loaded.{Loaded};
 ghost use Rattle.rv_keeper.specs.Cells.{AreCells, AreChanges};
 ghost use Rattle.rv_keeper.specs.Keeping.{LoadsHeld, Made, HasKeepCause, HasGenerationCause, KeepsSteady};
+ghost use Rattle.rv_keeper.specs.Crashes.{IsHeld, IsMade, IsSettled, LeavesMore};
 
 use crate::change::Change;
 use crate::fault::KeepFault;
@@ -15,6 +17,12 @@ pub trait Keeper {
 
     /// These are the cells and the generation that are held. It is said where the keeper tells.
     ghost holds: { Self → Loaded → Type 0 };
+
+    /// Of what a crash may leave the keeper says what is true. One that has once stopped to say it does not say it again.
+    ghost honest: { Self → Type 0 };
+
+    /// A crash now may leave these cells and this generation, or what is none. It is said where the keeper is honest.
+    ghost may_leave: { Self → Option Loaded → Type 0 };
 
     /// How often a call has failed, or was answered what can't be. It stands still at 2^64 - 1.
     ghost faults: { Self → ℕ };
@@ -33,6 +41,9 @@ pub trait Keeper {
         ensures tells { tells self.new → tells self.old }
         ensures same { tells self.new → (held : Loaded) → holds self.old held → holds self.new held }
         ensures told { tells self.new → IfOk result (λ loaded. LoadsHeld loaded (holds self.old) (holds self.new)) }
+        ensures honest { honest self.new → honest self.old × (IsOk result → tells self.new) }
+        ensures crash { honest self.new → LeavesMore (may_leave self.old) (may_leave self.new) (IsHeld (tells self.old) (holds self.old)) }
+        ensures settled { tells self.new → IsSettled (holds self.new) (may_leave self.new) }
         ensures cause { HasKeepCause (faults self.old) (faults self.new) result }
         ensures steady { fails_no_more self.old → KeepsSteady (fails_no_more self.new) result };
 
@@ -43,6 +54,9 @@ pub trait Keeper {
         ensures tells { tells self.new → tells self.old }
         ensures same { tells self.new → (held : Loaded) → holds self.old held → holds self.new held }
         ensures told { tells self.new → IfOk result (λ n. (held : Loaded) → holds self.old held → held.generation ≡ n) }
+        ensures honest { honest self.new → honest self.old × (IsOk result → tells self.new) }
+        ensures crash { honest self.new → LeavesMore (may_leave self.old) (may_leave self.new) (IsHeld (tells self.old) (holds self.old)) }
+        ensures settled { tells self.new → IsSettled (holds self.new) (may_leave self.new) }
         ensures cause { HasGenerationCause from (faults self.old) (faults self.new) result }
         ensures steady { fails_no_more self.old → fails_no_more self.new × IsOk result };
 
@@ -53,11 +67,18 @@ pub trait Keeper {
         requires changes { AreChanges changes.now }
         ensures tells { tells self.new → tells self.old }
         ensures made { tells self.new → (held : Loaded) → holds self.old held → Made from changes.now result (holds self.new) held }
+        ensures honest { honest self.new → honest self.old × (IsOk result → tells self.new) }
+        ensures crash { honest self.new → LeavesMore (may_leave self.old) (may_leave self.new) (IsMade (tells self.old) (holds self.old) from changes.now) }
+        ensures memory { honest self.new → IsErrOf result Memory → LeavesMore (may_leave self.old) (may_leave self.new) (λ left. ⊥) }
+        ensures settled { tells self.new → IsSettled (holds self.new) (may_leave self.new) }
         ensures cause { HasKeepCause (faults self.old) (faults self.new) result }
         ensures steady { fails_no_more self.old → KeepsSteady (fails_no_more self.new) result };
 
     /// What fails no more tells.
     ghost steady_tells: { (keeper : Self) → fails_no_more keeper → tells keeper };
+
+    /// What tells is honest.
+    ghost tells_honestly: { (keeper : Self) → tells keeper → honest keeper };
 
     /// A keeper that tells holds one thing.
     ghost holds_one: { (keeper : Self) (one two : Loaded) → tells keeper → holds keeper one → holds keeper two → one ≡ two };

@@ -1,5 +1,5 @@
 // A keeper in memory, which fails at the calls of a schedule.
-ghost use Rattle.std.specs.Prelude.{◌≡◌, ◌≤◌, ◌<◌, ◌+◌, ◌-◌, ◌^◌, ◌||◌, ◌⊎◌, [], IfOk, IsOk, OnOk, OnErr, is_err, if◌then◌else◌};
+ghost use Rattle.std.specs.Prelude.{◌≡◌, ◌≤◌, ◌<◌, ◌+◌, ◌-◌, ◌^◌, ◌||◌, ◌⊎◌, [], Some, IfOk, IsOk, OnOk, OnErr, is_err, if◌then◌else◌};
 ghost use Rattle.std.proofs.Common.{sym, ◌∙◌};
 ghost use Rattle.rv_base.specs.Causes.{Rose};
 ghost use Rattle.rv_keeper.specs.declared.memory_keeper.Fails.TheVariants as calls;
@@ -137,6 +137,11 @@ impl Keeper for MemoryKeeper {
 
     ghost holds = { λ s held. held ≡ holding s.shelves s.generation };
 
+    ghost honest = { λ s. Unit {0} };
+
+    // What is in memory is there after any call; it leaves what it holds.
+    ghost may_leave = { λ s left. left ≡ Some (holding s.shelves s.generation) };
+
     ghost faults = { λ s. s.faults };
 
     // No call of the schedule is still to come.
@@ -213,6 +218,8 @@ impl Keeper for MemoryKeeper {
     }
 
     ghost steady_tells = { λ keeper steady. tt };
+
+    ghost tells_honestly = { λ keeper tells. tt };
 
     ghost holds_one = { λ keeper one two told is also. is ∙ sym also };
 }

@@ -27,6 +27,16 @@ module _ {S : Type 0} where
   StoredHolds (Memory keeper) held = held ≡ holding keeper.shelves keeper.generation
   StoredHolds (Sqlite keeper) held = ⊥
 
+  -- of a crash one in memory says what is true, and a database says nothing
+  abbrev pub StoredHonest : StoreKeeper S → Type 0
+  StoredHonest (Memory keeper) = Unit {0}
+  StoredHonest (Sqlite keeper) = ⊥
+
+  -- what is in memory is there after any call
+  abbrev pub StoredLeaves : StoreKeeper S → Option Loaded → Type 0
+  StoredLeaves (Memory keeper) left = left ≡ Some (holding keeper.shelves keeper.generation)
+  StoredLeaves (Sqlite keeper) left = ⊥
+
   -- no call of one in memory fails any more
   abbrev pub StoredSteady : StoreKeeper S → Type 0
   StoredSteady (Memory keeper) = KeeperFailsNoMore keeper.loads keeper.questions keeper.commits keeper.schedule.items

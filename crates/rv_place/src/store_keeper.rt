@@ -1,9 +1,10 @@
 ghost use Rattle.std.specs.Prelude.{◌≡◌, ◌<◌, ◌-◌, ◌^◌, IfOk, IsOk, None, Some};
 ghost use Rattle.rv_keeper.specs.declared.loaded.Loaded.{Loaded};
 ghost use Rattle.rv_keeper.specs.Cells.{AreCells};
+ghost use Rattle.rv_keeper.specs.Crashes.{IsHeld, IsSettled, LeavesMore};
 ghost use Rattle.rv_keeper.specs.Keeping.{HasGenerationCause, HasKeepCause, KeepsSteady, LoadsHeld};
-ghost use Rattle.rv_place.specs.Stored.{StoredFinds, StoredHolds, StoredLoads, StoredSteady, StoredTells, stored_connection, stored_faults};
-ghost use Rattle.rv_place.specs.StoredLaws.{stored_one, stored_tells};
+ghost use Rattle.rv_place.specs.Stored.{StoredFinds, StoredHolds, StoredHonest, StoredLeaves, StoredLoads, StoredSteady, StoredTells, stored_connection, stored_faults};
+ghost use Rattle.rv_place.specs.StoredLaws.{stored_honestly, stored_one, stored_tells};
 
 use rv_base::Failed;
 use rv_keeper::{Change, KeepFault, Keeper, Loaded, MemoryKeeper};
@@ -44,6 +45,10 @@ impl<S: Alter> Keeper for StoreKeeper<S> {
 
     ghost holds = { λ s held. StoredHolds s held };
 
+    ghost honest = { λ s. StoredHonest s };
+
+    ghost may_leave = { λ s left. StoredLeaves s left };
+
     ghost faults = { λ s. stored_faults s };
 
     ghost fails_no_more = { λ s. StoredSteady s };
@@ -60,6 +65,9 @@ impl<S: Alter> Keeper for StoreKeeper<S> {
         ensures tells { StoredTells self.new → StoredTells self.old }
         ensures same { StoredTells self.new → (held : Loaded) → StoredHolds self.old held → StoredHolds self.new held }
         ensures told { StoredTells self.new → IfOk result (λ loaded. LoadsHeld loaded (StoredHolds self.old) (StoredHolds self.new)) }
+        ensures honest { StoredHonest self.new → StoredHonest self.old × (IsOk result → StoredTells self.new) }
+        ensures crash { StoredHonest self.new → LeavesMore (StoredLeaves self.old) (StoredLeaves self.new) (IsHeld (StoredTells self.old) (StoredHolds self.old)) }
+        ensures settled { StoredTells self.new → IsSettled (StoredHolds self.new) (StoredLeaves self.new) }
         ensures cause { HasKeepCause (stored_faults self.old) (stored_faults self.new) result }
         ensures steady { StoredSteady self.old → KeepsSteady (StoredSteady self.new) result }
         ensures found { IfOk result (StoredLoads S.Store self.old self.new) }
@@ -75,6 +83,9 @@ impl<S: Alter> Keeper for StoreKeeper<S> {
         ensures tells { StoredTells self.new → StoredTells self.old }
         ensures same { StoredTells self.new → (held : Loaded) → StoredHolds self.old held → StoredHolds self.new held }
         ensures told { StoredTells self.new → IfOk result (λ n. (held : Loaded) → StoredHolds self.old held → held.generation ≡ n) }
+        ensures honest { StoredHonest self.new → StoredHonest self.old × (IsOk result → StoredTells self.new) }
+        ensures crash { StoredHonest self.new → LeavesMore (StoredLeaves self.old) (StoredLeaves self.new) (IsHeld (StoredTells self.old) (StoredHolds self.old)) }
+        ensures settled { StoredTells self.new → IsSettled (StoredHolds self.new) (StoredLeaves self.new) }
         ensures cause { HasGenerationCause from (stored_faults self.old) (stored_faults self.new) result }
         ensures steady { StoredSteady self.old → StoredSteady self.new × IsOk result }
         ensures found { IfOk result (StoredFinds S.Store self.old self.new) }
@@ -93,6 +104,8 @@ impl<S: Alter> Keeper for StoreKeeper<S> {
     }
 
     ghost steady_tells = { λ keeper steady. stored_tells keeper steady };
+
+    ghost tells_honestly = { λ keeper tells. stored_honestly keeper tells };
 
     ghost holds_one = { λ keeper one two told is also. stored_one keeper one two is also };
 }

@@ -136,6 +136,10 @@ impl<S: Alter> Keeper for SqliteKeeper<S> {
 
     ghost holds = { λ s held. ⊥ };
 
+    ghost honest = { λ s. ⊥ };
+
+    ghost may_leave = { λ s left. ⊥ };
+
     ghost faults = { λ s. s.faults };
 
     ghost fails_no_more = { λ s. ⊥ };
@@ -174,6 +178,8 @@ impl<S: Alter> Keeper for SqliteKeeper<S> {
     }
 
     ghost steady_tells = { λ keeper steady. absurd steady };
+
+    ghost tells_honestly = { λ keeper tells. tells };
 
     ghost holds_one = { λ keeper one two told is also. absurd told };
 }

@@ -17,6 +17,10 @@ impl Keeper for Meddled {
 
     ghost holds = { λ s held. Unit {0} };
 
+    ghost honest = { λ s. ⊥ };
+
+    ghost may_leave = { λ s left. Unit {0} };
+
     ghost faults = { λ s. s.keeper.faults };
 
     // It may fail whatever comes.
@@ -42,6 +46,8 @@ impl Keeper for Meddled {
     }
 
     ghost steady_tells = { λ keeper steady. steady };
+
+    ghost tells_honestly = { λ keeper joined. joined };
 
     ghost holds_one = { λ keeper one two joined is also. absurd joined };
 }
