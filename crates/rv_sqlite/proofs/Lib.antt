@@ -1,3 +1,15 @@
 mod Ordered
 mod Gathered
 mod RowsGiven
+mod Meaning
+mod Scan
+mod Compare
+mod Members
+mod Same
+mod Parts
+mod Remove
+mod PutRows
+mod PutParts
+mod Put
+mod PutRun
+mod Stepping

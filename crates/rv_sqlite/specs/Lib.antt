@@ -3,3 +3,7 @@ pub mod Faults
 pub mod Asked
 pub mod Loads
 pub mod Moves
+pub mod Table
+pub mod Stands
+pub mod Steps
+pub mod Telling

@@ -1,10 +1,13 @@
 // The statements, each in a function of its own.
-ghost use Rattle.std.specs.Prelude.{◌≡◌, [], IfOk, OnOk};
-ghost use Rattle.sqlite.specs.State.{HasCleanDisk};
+ghost use Rattle.std.specs.Prelude.{◌≡◌, ◌∷◌, [], IfOk, OnOk};
+ghost use Rattle.rv_base.specs.Sorted.{put_by, without};
+ghost use Rattle.rv_keeper.specs.Cells.{cell_key, changed_by};
+ghost use Rattle.sqlite.specs.State.{HasCleanDisk, Survives};
 ghost use Rattle.sqlite.specs.Held.{state};
 ghost use Rattle.sqlite.specs.Given.{HasBegun};
 ghost use Rattle.rv_sqlite.specs.Asked.{FindsRow};
 ghost use Rattle.rv_sqlite.specs.Loads.{MakesTable, all_text};
+ghost use Rattle.rv_sqlite.specs.Steps.{KeepsWhereClean, Steps, cell_of, generation_cell};
 
 use itoa::Buffer;
 use rv_keeper::Change;
@@ -53,21 +56,35 @@ pub(crate) fn generation_row<S: Alter>(connection: &mut Connection<S>) -> Result
     }
 }
 
+// Writes a row, over one at its place.
+#[tactic(auto, using(crate::proofs::Stepping::step_keeps))]
 fn put_row<S: Alter>(
     transaction: &mut Transaction<'_, S>,
     shelf: u8,
     key: &[u8],
     body: &[u8],
-) -> Result<(), Error> {
+) -> Result<(), Error>
+    ensures same_reference { transaction.new.conn.ghost_name ≡ transaction.old.conn.ghost_name }
+    ensures steps { HasCleanDisk (state S.Store transaction.new.conn.now) → OnOk result (Steps (state S.Store transaction.old.conn.now) (state S.Store transaction.new.conn.now) (put_by cell_key (cell_of shelf key.now body.now))) }
+    ensures kept { KeepsWhereClean S.Store transaction.old.conn.now transaction.new.conn.now }
+    ensures survives { Survives (state S.Store transaction.old.conn.now) (state S.Store transaction.new.conn.now) (λ _. ⊥) }
+{
     transaction.execute(PUT, params![u32::from(shelf), key, body])?;
     Ok(())
 }
 
+// Takes the row at a place away, if there is one.
+#[tactic(auto, using(crate::proofs::Stepping::step_keeps))]
 fn remove_row<S: Alter>(
     transaction: &mut Transaction<'_, S>,
     shelf: u8,
     key: &[u8],
-) -> Result<(), Error> {
+) -> Result<(), Error>
+    ensures same_reference { transaction.new.conn.ghost_name ≡ transaction.old.conn.ghost_name }
+    ensures steps { HasCleanDisk (state S.Store transaction.new.conn.now) → OnOk result (Steps (state S.Store transaction.old.conn.now) (state S.Store transaction.new.conn.now) (without cell_key (shelf ∷ key.now))) }
+    ensures kept { KeepsWhereClean S.Store transaction.old.conn.now transaction.new.conn.now }
+    ensures survives { Survives (state S.Store transaction.old.conn.now) (state S.Store transaction.new.conn.now) (λ _. ⊥) }
+{
     transaction.execute(REMOVE, params![u32::from(shelf), key])?;
     Ok(())
 }
@@ -76,7 +93,12 @@ fn remove_row<S: Alter>(
 pub(crate) fn make_change<S: Alter>(
     transaction: &mut Transaction<'_, S>,
     change: &Change,
-) -> Result<(), Error> {
+) -> Result<(), Error>
+    ensures same_reference { transaction.new.conn.ghost_name ≡ transaction.old.conn.ghost_name }
+    ensures steps { HasCleanDisk (state S.Store transaction.new.conn.now) → OnOk result (Steps (state S.Store transaction.old.conn.now) (state S.Store transaction.new.conn.now) (λ cells. changed_by cells change.now)) }
+    ensures kept { KeepsWhereClean S.Store transaction.old.conn.now transaction.new.conn.now }
+    ensures survives { Survives (state S.Store transaction.old.conn.now) (state S.Store transaction.new.conn.now) (λ _. ⊥) }
+{
     match change {
         Change::Put(cell) => put_row(
             transaction,
@@ -92,7 +114,12 @@ pub(crate) fn make_change<S: Alter>(
 pub(crate) fn put_generation<S: Alter>(
     transaction: &mut Transaction<'_, S>,
     generation: u64,
-) -> Result<(), Error> {
+) -> Result<(), Error>
+    ensures same_reference { transaction.new.conn.ghost_name ≡ transaction.old.conn.ghost_name }
+    ensures steps { HasCleanDisk (state S.Store transaction.new.conn.now) → OnOk result (Steps (state S.Store transaction.old.conn.now) (state S.Store transaction.new.conn.now) (put_by cell_key (generation_cell generation))) }
+    ensures kept { KeepsWhereClean S.Store transaction.old.conn.now transaction.new.conn.now }
+    ensures survives { Survives (state S.Store transaction.old.conn.now) (state S.Store transaction.new.conn.now) (λ _. ⊥) }
+{
     let mut digits = Buffer::new();
     let text = digits.format(generation);
     put_row(

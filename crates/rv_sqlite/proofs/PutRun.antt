@@ -1,0 +1,111 @@
+-- The third statement, from its text to the cells.
+use Rattle.std.proofs.Common.{◌≡◌, ℕ, ℤ, pos, true, List, [], ◌∷◌, ◌++◌, Ok, Option, Some, None, inl, inr, refl, sym, ap, subst, ◌∙◌}
+use Rattle.sqlite_value.specs.declared.value.Value.TheVariants.{Null, Int, Blob}
+use Rattle.sqlite_value.specs.Order.{Row}
+use Rattle.sqlite_trees.specs.Tree.{Trees, rowid}
+use Rattle.sqlite_schema.specs.declared.schema.Keys.{Keys}
+use Rattle.sqlite_schema.specs.declared.command.Conflict.TheVariants.{Abort}
+use Rattle.sqlite_rules.specs.declared.error.Refusal.{Refusal}
+use Rattle.sqlite_rules.specs.declared.error.Rowids.TheVariants.{Given}
+use Rattle.sqlite_rules.specs.Lists.{Has}
+use Rattle.sqlite_rules.specs.Keys.{AreConflicts, conflicts}
+use Rattle.sqlite_rules.specs.Edit.{next_rowid, edit_of}
+use Rattle.sqlite_rules.specs.Calls.{ids_of}
+use Rattle.sqlite.specs.Effect.{Database}
+use Rattle.sqlite.specs.Rows.{Task, Written, Puts as PutsRow, Clears, Meets, Upserts, Updates, Tries, TriesEach, Judged, nothing, shown, count_of}
+use Rattle.sqlite.specs.Does.{Tally, Does}
+use Rattle.sqlite.specs.Listing.{understood}
+use Rattle.sqlite.specs.State.{State, mode_of, Executes}
+use Rattle.sqlite.proofs.Callers.{statement_of, runs_as, one_step}
+use Rattle.rv_keeper.specs.declared.cell.Cell.{Cell}
+use Rattle.rv_base.specs.Sorted.{put_by}
+use Rattle.rv_keeper.specs.Cells.{cell_key}
+use Rattle.rv_sqlite.specs.Table.{cell_table, cell_schema, put_text}
+use Rattle.rv_sqlite.specs.Stands.{Stands, stored}
+use Rattle.rv_sqlite.proofs.Meaning.{put_command, put_is, put_plain, upsert, update_program}
+use Rattle.rv_sqlite.proofs.Scan.{are_shown}
+use Rattle.rv_sqlite.proofs.Members.{IsAt}
+use Rattle.rv_sqlite.proofs.Parts.{went, same_value}
+use Rattle.rv_sqlite.proofs.Compare.{at_if_passes, passes_if_at}
+use Rattle.rv_sqlite.proofs.PutRows.{puts_stand}
+use Rattle.rv_sqlite.proofs.PutParts.{chosen_row, conflicts_is}
+use Rattle.rv_sqlite.proofs.Put.{fresh_puts, update_puts, update_terms, update_shown, update_given, or_no, yes_or}
+
+abbrev pub put_params : Cell → Row
+put_params c = Int (pos c.shelf) ∷ Blob c.key ∷ Blob c.body ∷ []
+
+abbrev task_for : Option ℕ → Keys → Cell → Task
+task_for limit keys c = record { limit = limit; keys = keys; schema = cell_schema; table = cell_table; params = put_params c }
+
+module _ (limit : Option ℕ) (keys : Keys) (c : Cell) (id : ℤ) (cells : List Cell) (tables : Trees) (one : Written) (old : Stands (tables 0) cells) where
+  abbrev Meets-Found : List Row → Type 0
+  Meets-Found found = AreConflicts (Some (1 ∷ 2 ∷ [])) cell_schema.indexes cell_table (tables 0) (stored id c) found
+
+  none_there : Meets-Found [] → (j : ℤ) (d : Cell) → Has (tables 0) (stored j d) → ¬ IsAt (cell_key c) d
+  none_there met j d h at = met.complete (stored j d) h (conflicts_is id j c d ∙ yes_or _ (passes_if_at j d c.shelf c.key at))
+
+  inserted : Meets-Found [] → PutsRow (task_for limit keys c) (stored id c) tables (Ok one) → Stands (one.trees 0) (put_by cell_key c cells)
+  inserted met h =
+      let written = went h in
+      let trees : one.trees ≡ written.0 = ap (λ (w : Written). w.trees) (same_value written.2) in
+      let it = one_step cell_schema keys tables written.0 (edit_of tables cell_table [] Given 0 (stored id c ∷ [])) refl written.1 in
+      subst (λ (t : Trees). Stands (t 0) (put_by cell_key c cells)) (sym trees) (puts_stand (tables 0) (written.0 0) cells id c old (fresh_puts keys tables written.0 id c it (none_there met)))
+
+  cleared : Meets-Found [] → (found : List Row) → Clears (task_for limit keys c) Abort (stored id c) tables found (Ok one) → Stands (one.trees 0) (put_by cell_key c cells)
+  cleared met [] h = inserted met h
+  cleared met (x ∷ more) h = inserted met h
+
+  replaced : (there : Row) (more : List Row) → Meets-Found (there ∷ more) → Updates (task_for limit keys c) update_program (put_params c ++ rowid there ∷ shown cell_table (stored id c)) tables (Ok one) → Stands (one.trees 0) (put_by cell_key c cells)
+  replaced there more met h =
+      let r = met.sound there (inl refl) in
+      let e = old.read r.0 r.1 in
+      let j = e.0 in
+      let d = e.1 in
+      let named : rowid there ≡ Int j = ap rowid r.3 ∙ ap rowid e.2 in
+      let given : put_params c ++ rowid there ∷ shown cell_table (stored id c) ≡ update_given j id c = ap (λ v. Int (pos c.shelf) ∷ Blob c.key ∷ Blob c.body ∷ v ∷ Int id ∷ Int (pos c.shelf) ∷ Blob c.key ∷ Blob c.body ∷ []) named in
+      let clash : conflicts (Some (1 ∷ 2 ∷ [])) cell_schema.indexes cell_table (stored id c) (stored j d) ≡ true = subst (λ z. conflicts (Some (1 ∷ 2 ∷ [])) cell_schema.indexes cell_table (stored id c) z ≡ true) e.2 r.2 in
+      let at : IsAt (cell_key c) d = at_if_passes j d c.shelf c.key (or_no _ (sym (conflicts_is id j c d) ∙ clash)) in
+      let ran = subst (λ g. Updates (task_for limit keys c) update_program g tables (Ok one)) given h in
+      let queried = went ran in
+      let written = went queried.2 in
+      let trees : one.trees ≡ written.0 = ap (λ (w : Written). w.trees) (same_value written.2) in
+      let it = one_step cell_schema keys tables written.0 (edit_of tables cell_table (ids_of queried.0) Given 1 queried.0) refl written.1 in
+      let found = are_shown update_terms update_shown [] tables (update_given j id c) queried.0 (queried.1.answer Null) in
+      subst (λ (t : Trees). Stands (t 0) (put_by cell_key c cells)) (sym trees)
+      (puts_stand (tables 0) (written.0 0) cells j c old (update_puts keys tables written.0 cells j id c d queried.0 old (subst (Has (tables 0)) e.2 r.1) at found it))
+
+  upserted : Upserts (task_for limit keys c) Abort (stored id c) tables (upsert ∷ []) (Ok one) → Stands (one.trees 0) (put_by cell_key c cells)
+  upserted h = go h.0 h.1 h.2
+    where
+      go : (found : List Row) → Meets-Found found → Meets (task_for limit keys c) (Upserts (task_for limit keys c) Abort (stored id c) tables []) (stored id c) tables upsert found (Ok one) → Stands (one.trees 0) (put_by cell_key c cells)
+      go [] met otherwise = cleared met otherwise.0 otherwise.2
+      go (there ∷ more) met updates = replaced there more met updates
+
+  judged : (verdict : Option Refusal) → Judged (task_for limit keys c) Abort (upsert ∷ []) (stored id c) tables verdict (Ok one) → Stands (one.trees 0) (put_by cell_key c cells)
+  judged None h = upserted h
+  judged (Some why) h = absurd (let e = h in cc)
+
+  pub tried : Tries (task_for limit keys c) Abort (upsert ∷ []) (stored id c) tables (Ok one) → Stands (one.trees 0) (put_by cell_key c cells)
+  tried (inl refused) = absurd (let e = refused.1 in cc)
+  tried (inr went_on) = judged went_on.0 went_on.2
+
+pub puts : (old new : State) (c : Cell) (count : ℕ) (cells : List Cell) → old.now.schema ≡ cell_schema → Executes put_text (put_params c) old new (Ok count)
+    → Stands (old.now.trees 0) cells → (new.now.schema ≡ cell_schema) × Stands (new.now.trees 0) (put_by cell_key c cells)
+puts old new c count cells has h stands =
+    let params = put_params c in
+    let tables = old.now.trees in
+    let keys = (mode_of old).keys in
+    let task = task_for old.step_limit keys c in
+    let w = runs_as put_text params old new cell_schema has put_command put_is put_plain count h in
+    let text = statement_of put_text (understood cell_schema put_text) in
+    let done = went (subst (λ s. Does old.step_limit (mode_of old) params (record old.now { schema = s }) text None put_command (Ok (w.tally, new.now))) has w.changed) in
+    let now = ap (λ (p : Tally × Database). p.1) (same_value (went (went done.2).2).2) in
+    let sourced = went done.1 in
+    let counter = went sourced.2 in
+    let each = went counter.2 in
+    let last = went each.2 in
+    let one = went (subst (λ rows. TriesEach task Abort (upsert ∷ []) rows (count_of counter.0) (nothing tables) (Ok each.0)) sourced.1.1 each.1) in
+    let trees : done.0.trees ≡ one.0.trees = ap (λ (w : Written). w.trees) (same_value last.2) ∙ same_value last.1 ∙ ap (λ (p : Written × ℤ). p.0.trees) (same_value one.2) in
+    let asked = subst (λ row. Tries task Abort (upsert ∷ []) row tables (Ok one.0)) (chosen_row (tables 0) c) one.1 in
+    let stands_now = tried old.step_limit keys c (next_rowid (tables 0)) cells tables one.0 stands asked in
+    (ap (λ (d : Database). d.schema) now, subst (λ (t : Trees). Stands (t 0) (put_by cell_key c cells)) (sym (ap (λ (d : Database). d.trees) now ∙ trees)) stands_now)

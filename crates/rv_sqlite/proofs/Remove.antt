@@ -1,0 +1,91 @@
+-- The fourth statement takes one cell out.
+use Rattle.std.proofs.Common.{◌≡◌, ℕ, ℤ, pos, true, false, List, [], ◌∷◌, Ok, None, inl, inr, refl, sym, ap, subst, ◌∙◌}
+use Rattle.std.proofs.lemmas.Bool.{cases_Bool}
+use Rattle.sqlite_value.specs.declared.value.Value.TheVariants.{Null, Int, Blob}
+use Rattle.sqlite_value.specs.Order.{Row}
+use Rattle.sqlite_trees.specs.Tree.{Trees, rowid, has_rowid}
+use Rattle.sqlite_sql.specs.Term.{col, eval_all}
+use Rattle.sqlite_rules.specs.Lists.{Has}
+use Rattle.sqlite_rules.specs.Edit.{id_in, without_all, edit_of}
+use Rattle.sqlite_rules.specs.declared.error.Rowids.TheVariants.{Given}
+use Rattle.sqlite_rules.specs.Calls.{ids_of}
+use Rattle.sqlite_rules.proofs.ProbeLemmas.{has_mapped, mapped_has}
+use Rattle.sqlite.specs.Effect.{Database}
+use Rattle.sqlite.specs.Rows.{Written}
+use Rattle.sqlite.specs.Does.{Tally, Does}
+use Rattle.sqlite.specs.Listing.{understood}
+use Rattle.sqlite.specs.State.{State, mode_of, Executes}
+use Rattle.sqlite.proofs.Callers.{statement_of, runs_as, one_step}
+use Rattle.rv_keeper.specs.declared.cell.Cell.{Cell}
+use Rattle.rv_base.specs.Sorted.{without}
+use Rattle.rv_base.specs.Positions.{in_order-without}
+use Rattle.rv_keeper.specs.Cells.{cell_key}
+use Rattle.rv_sqlite.specs.Table.{cell_table, cell_schema, remove_text}
+use Rattle.rv_sqlite.specs.Stands.{Stands, stored}
+use Rattle.rv_sqlite.proofs.Meaning.{at_place, remove_command, remove_is, remove_plain}
+use Rattle.rv_sqlite.proofs.Scan.{AreShown, are_shown}
+use Rattle.rv_sqlite.proofs.Members.{IsAt, Lacks, left_from, left_has, without_has, has_without}
+use Rattle.rv_sqlite.proofs.Parts.{went, same_value}
+use Rattle.rv_sqlite.proofs.Compare.{at_if_passes, passes_if_at, own_rowid, rowid_is}
+
+abbrev pub place_params : ℕ → List ℕ → Row
+place_params shelf key = Int (pos shelf) ∷ Blob key ∷ []
+
+module _ (shelf : ℕ) (key : List ℕ) (rows found : List Row) (cells : List Cell) (shown : AreShown at_place (col 1 0 ∷ []) rows (place_params shelf key) found) (old : Stands rows cells) where
+  abbrev gone : List ℤ
+  gone = ids_of found
+
+  -- a row that stays is not at the place
+  stays : (id : ℤ) (c : Cell) → Has rows (stored id c) → Lacks gone (stored id c) → ¬ IsAt (shelf ∷ key) c
+  stays id c there lacks at =
+      let shows = shown.complete (stored id c) there (passes_if_at id c shelf key at) in
+      let named : Has gone id = mapped_has (λ (r : Row). id_in (rowid r)) found (Int id ∷ []) shows in
+      let no = lacks id named in
+      let f : true ≡ false = sym (own_rowid id c) ∙ no in cc
+
+  -- a row that is not at the place stays
+  spared : (id : ℤ) (c : Cell) → Has rows (stored id c) → (¬ IsAt (shelf ∷ key) c) → Lacks gone (stored id c)
+  spared id c there other j named = elim (cases_Bool (has_rowid j (stored id c))) [
+    | inl is ↦
+        let x = has_mapped (λ (r : Row). id_in (rowid r)) found j named in
+        let r = shown.sound x.0 x.1 in
+        let d = old.read r.0 r.1 in
+        let e : j ≡ d.0 = x.2 ∙ ap (λ (z : Row). id_in (rowid z)) (r.3 ∙ ap (λ (z : Row). eval_all (col 1 0 ∷ []) (place_params shelf key ∷ z ∷ [])) d.2) in
+        let at : IsAt (shelf ∷ key) d.1 = at_if_passes d.0 d.1 shelf key (rw d.2 at r.2) in
+        let same : id ≡ d.0 = rowid_is id j c is ∙ e in
+        let one : c ≡ d.1 = old.numbered id c d.1 there (subst (λ k. Has rows (stored k d.1)) (sym same) (subst (Has rows) d.2 r.1)) in
+        absurd (other (subst (IsAt (shelf ∷ key)) (sym one) at))
+    | inr not ↦ not
+  ]
+
+  pub removed : Stands (without_all rows gone) (without cell_key (shelf ∷ key) cells)
+  removed = record {
+    order = in_order-without cell_key (shelf ∷ key) cells old.order;
+    read = λ r h.
+        let left = left_from gone rows r h in
+        let was = old.read r left.0 in
+        let other = stays was.0 was.1 (subst (Has rows) was.2 left.0) (subst (Lacks gone) was.2 left.1) in
+        (was.0, was.1, was.2, has_without (shelf ∷ key) cells was.1 was.3 other);
+    kept = λ c h.
+        let was = without_has (shelf ∷ key) cells c h in
+        let row = old.kept c was.0 in
+        (row.0, left_has gone rows (stored row.0 c) row.1 (spared row.0 c row.1 was.1));
+    once = λ i j c p q. old.once i j c (left_from gone rows (stored i c) p).0 (left_from gone rows (stored j c) q).0;
+    numbered = λ i c d p q. old.numbered i c d (left_from gone rows (stored i c) p).0 (left_from gone rows (stored i d) q).0;
+  }
+
+pub removes : (old new : State) (shelf : ℕ) (key : List ℕ) (count : ℕ) (cells : List Cell) → old.now.schema ≡ cell_schema → Executes remove_text (place_params shelf key) old new (Ok count)
+    → Stands (old.now.trees 0) cells → (new.now.schema ≡ cell_schema) × Stands (new.now.trees 0) (without cell_key (shelf ∷ key) cells)
+removes old new shelf key count cells has h stands =
+    let params = place_params shelf key in
+    let tables = old.now.trees in
+    let w = runs_as remove_text params old new cell_schema has remove_command remove_is remove_plain count h in
+    let text = statement_of remove_text (understood cell_schema remove_text) in
+    let done = went (subst (λ s. Does old.step_limit (mode_of old) params (record old.now { schema = s }) text None remove_command (Ok (w.tally, new.now))) has w.changed) in
+    let now = ap (λ (p : Tally × Database). p.1) (same_value (went (went done.2).2).2) in
+    let given = went done.1 in
+    let written = went given.2 in
+    let trees : done.0.trees ≡ written.0 = ap (λ (it : Written). it.trees) (same_value written.2) in
+    let rows = (one_step cell_schema _ tables written.0 (edit_of tables cell_table (ids_of given.0) Given 0 []) refl written.1).rows in
+    let left : new.now.trees 0 ≡ without_all (tables 0) (ids_of given.0) = ap (λ (d : Database). d.trees 0) now ∙ ap (λ (t : Trees). t 0) trees ∙ rows in
+    (ap (λ (d : Database). d.schema) now, subst (λ l. Stands l (without cell_key (shelf ∷ key) cells)) (sym left) (removed shelf key (tables 0) given.0 cells (are_shown at_place (col 1 0 ∷ []) [] tables params given.0 (given.1.answer Null)) stands))

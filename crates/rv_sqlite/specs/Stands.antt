@@ -1,0 +1,20 @@
+-- What the rows of the table stand for.
+use Rattle.std.specs.Prelude.{◌≡◌, ℤ, pos, List, [], ◌∷◌}
+use Rattle.sqlite_value.specs.declared.value.Value.TheVariants.{Int, Blob}
+use Rattle.sqlite_value.specs.Order.{Row}
+use Rattle.sqlite_rules.specs.Lists.{Has}
+use Rattle.rv_base.specs.Sorted.{InOrder}
+use Rattle.rv_keeper.specs.declared.cell.Cell.{Cell}
+use Rattle.rv_keeper.specs.Cells.{cell_key}
+
+-- the row of a cell, with the number of the row before its columns
+abbrev pub stored : ℤ → Cell → Row
+stored number cell = Int number ∷ Int (pos cell.shelf) ∷ Blob cell.key ∷ Blob cell.body ∷ []
+
+-- a row for each cell, that of the generation among them, and no other; each place once, and each row's number once
+pub record Stands (rows : List Row) (cells : List Cell) : Type 0 where
+  pub order : InOrder cell_key cells
+  pub read : (row : Row) → Has rows row → (number : ℤ) × (cell : Cell) × (row ≡ stored number cell) × Has cells cell
+  pub kept : (cell : Cell) → Has cells cell → (number : ℤ) × Has rows (stored number cell)
+  pub once : (i j : ℤ) (cell : Cell) → Has rows (stored i cell) → Has rows (stored j cell) → i ≡ j
+  pub numbered : (i : ℤ) (one two : Cell) → Has rows (stored i one) → Has rows (stored i two) → one ≡ two

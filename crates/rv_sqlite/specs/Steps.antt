@@ -1,0 +1,46 @@
+-- What the statements of a transaction do to the cells of the table, and what its commit leaves.
+use Rattle.std.specs.Prelude.{◌≡◌, ◌+◌, ℕ, List, [], IsTrue, decimal}
+use Rattle.sqlite_trees.specs.Tree.{Trees}
+use Rattle.sqlite_trees.specs.declared.store.Store.{Ghosts}
+use Rattle.sqlite.specs.State.{State, HasCleanDisk, KeepsCommit}
+use Rattle.sqlite.specs.Held.{Held, state}
+use Rattle.rv_base.specs.Sorted.{put_by}
+use Rattle.rv_keeper.specs.declared.cell.Cell.{Cell}
+use Rattle.rv_keeper.specs.declared.change.Change.{Change}
+use Rattle.rv_keeper.specs.Cells.{cell_key, changed}
+use Rattle.rv_sqlite.specs.Table.{cell_schema}
+use Rattle.rv_sqlite.specs.Stands.{Stands}
+
+-- a cell of this shelf, this key and this body
+abbrev pub cell_of : ℕ → List ℕ → List ℕ → Cell
+cell_of shelf key body = record { shelf = shelf; key = key; body = body }
+
+-- the cell of the generation
+abbrev pub generation_cell : ℕ → Cell
+generation_cell generation = cell_of 0 [] (decimal generation)
+
+-- all cells after a commit, that of the generation among them
+abbrev pub written : ℕ → List Change → List Cell → List Cell
+written from changes cells = put_by cell_key (generation_cell (from + 1)) (changed cells changes)
+
+-- the transaction goes on, nothing was committed, and the rows stand for what the function makes of the cells that they stood for
+pub record Steps (old new : State) (f : List Cell → List Cell) : Type 0 where
+  pub was : IsTrue old.in_transaction
+  pub inside : IsTrue new.in_transaction
+  pub committed : new.committed ≡ old.committed
+  pub leads : old.now.schema ≡ cell_schema → (cells : List Cell) → Stands (old.now.trees 0) cells → (new.now.schema ≡ cell_schema) × Stands (new.now.trees 0) (f cells)
+
+-- the trees stand for the cells that a commit writes, where the old ones stood for cells
+abbrev pub Writes : State → ℕ → List Change → Trees → Type 0
+Writes old from changes trees = old.now.schema ≡ cell_schema → (cells : List Cell) → Stands (old.now.trees 0) cells → Stands (trees 0) (written from changes cells)
+
+-- the commit was made: the connection is open, and what it sees is committed and has what the commit writes
+pub record IsWritten (old new : State) (from : ℕ) (changes : List Change) : Type 0 where
+  pub is_open : IsTrue new.is_open
+  pub settled : new.now ≡ new.committed
+  pub schema : old.now.schema ≡ cell_schema → (cells : List Cell) → Stands (old.now.trees 0) cells → new.committed.schema ≡ cell_schema
+  pub writes : Writes old from changes new.committed.trees
+
+-- where the disk gave back what was written, nothing was committed
+abbrev pub KeepsWhereClean : {S : Type 0} → Ghosts S → Held S → Held S → Type 0
+KeepsWhereClean g old new = HasCleanDisk (state g new) → KeepsCommit (state g old) (state g new)
