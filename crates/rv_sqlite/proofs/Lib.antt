@@ -12,4 +12,7 @@ mod PutRows
 mod PutParts
 mod Put
 mod PutRun
+mod Kept
+mod RollingBack
 mod Stepping
+mod Told

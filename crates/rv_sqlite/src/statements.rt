@@ -1,5 +1,5 @@
 // The statements, each in a function of its own.
-ghost use Rattle.std.specs.Prelude.{◌≡◌, ◌∷◌, [], IfOk, OnOk};
+ghost use Rattle.std.specs.Prelude.{◌≡◌, ◌∷◌, [], false, IfOk, OnOk};
 ghost use Rattle.rv_base.specs.Sorted.{put_by, without};
 ghost use Rattle.rv_keeper.specs.Cells.{cell_key, changed_by};
 ghost use Rattle.sqlite.specs.State.{HasCleanDisk, Survives};
@@ -57,7 +57,7 @@ pub(crate) fn generation_row<S: Alter>(connection: &mut Connection<S>) -> Result
 }
 
 // Writes a row, over one at its place.
-#[tactic(auto, using(crate::proofs::Stepping::step_keeps))]
+#[tactic(auto, using(crate::proofs::Kept::step_keeps))]
 fn put_row<S: Alter>(
     transaction: &mut Transaction<'_, S>,
     shelf: u8,
@@ -74,7 +74,7 @@ fn put_row<S: Alter>(
 }
 
 // Takes the row at a place away, if there is one.
-#[tactic(auto, using(crate::proofs::Stepping::step_keeps))]
+#[tactic(auto, using(crate::proofs::Kept::step_keeps))]
 fn remove_row<S: Alter>(
     transaction: &mut Transaction<'_, S>,
     shelf: u8,
@@ -130,11 +130,25 @@ pub(crate) fn put_generation<S: Alter>(
     )
 }
 
+// Runs a ROLLBACK outside a transaction, where it is refused.
+fn roll_nothing_back<S: Alter>(connection: &mut Connection<S>) -> Result<usize, Error>
+    requires autocommit { connection.old.in_transaction ≡ false }
+    ensures kept { KeepsWhereClean S.Store connection.old connection.new }
+    ensures survives { Survives (state S.Store connection.old) (state S.Store connection.new) (λ _. ⊥) }
+{
+    connection.execute("ROLLBACK", &[])
+}
+
 /// The connection is open, and in no transaction: then alone a ROLLBACK is refused for the state of the transaction, and changes
 /// nothing.
-pub(crate) fn is_settled<S: Alter>(connection: &mut Connection<S>) -> bool {
+pub(crate) fn is_settled<S: Alter>(connection: &mut Connection<S>) -> bool
+    requires autocommit { connection.old.in_transaction ≡ false }
+    ensures kept { KeepsWhereClean S.Store connection.old connection.new }
+    ensures survives { Survives (state S.Store connection.old) (state S.Store connection.new) (λ _. ⊥) }
+{
+    let refused = roll_nothing_back(connection);
     matches!(
-        connection.execute("ROLLBACK", &[]),
+        refused,
         Err(Error::SqliteFailure(ErrorCode::TransactionState))
     )
 }

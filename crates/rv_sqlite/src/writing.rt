@@ -1,9 +1,11 @@
 // A commit: one transaction.
-ghost use Rattle.std.specs.Prelude.{◌<◌, ◌-◌, ◌^◌, ◌≡◌, false, IfOk, IsErrOf, OnOk};
+ghost use Rattle.std.specs.Prelude.{◌<◌, ◌-◌, ◌^◌, ◌+◌, ◌≡◌, Ok, false, IfOk, IsErrOf, IsTrue, OnErr, OnOk};
 ghost use Rattle.rv_keeper.specs.declared.fault.KeepFault.TheVariants.{Memory};
-ghost use Rattle.sqlite.specs.State.{HasCleanDisk};
+ghost use Rattle.rv_keeper.specs.Cells.{changed};
+ghost use Rattle.sqlite.specs.State.{HasCleanDisk, KeepsCommit, Survives};
 ghost use Rattle.sqlite.specs.Held.{state};
 ghost use Rattle.rv_sqlite.specs.Faults.{fault_of};
+ghost use Rattle.rv_sqlite.specs.Steps.{Comes, IsSettledWhereOpen, IsUnderWay, KeepsWhereClean, ShowsCommitted, Steps, Writes, written};
 
 use crate::statements::{is_settled, make_change, put_generation};
 use rv_keeper::{Change, KeepFault};
@@ -19,10 +21,16 @@ pub fn fault_of(error: Error) -> KeepFault
     }
 }
 
+// Makes the changes in turn.
 fn make_changes<S: Alter>(
     transaction: &mut Transaction<'_, S>,
     changes: &[Change],
-) -> Result<(), Error> {
+) -> Result<(), Error>
+    ensures same_reference { transaction.new.conn.ghost_name ≡ transaction.old.conn.ghost_name }
+    ensures steps { HasCleanDisk (state S.Store transaction.new.conn.now) → IsUnderWay (state S.Store transaction.old.conn.now) → OnOk result (Steps (state S.Store transaction.old.conn.now) (state S.Store transaction.new.conn.now) (λ cells. changed cells changes.now)) }
+    ensures kept { KeepsWhereClean S.Store transaction.old.conn.now transaction.new.conn.now }
+    ensures survives { Survives (state S.Store transaction.old.conn.now) (state S.Store transaction.new.conn.now) (λ _. ⊥) }
+{
     for change in changes {
         make_change(transaction, change)?;
     }
@@ -30,20 +38,30 @@ fn make_changes<S: Alter>(
 }
 
 // Makes the changes in turn, and then writes the generation after `from`.
+#[tactic(auto, using(crate::proofs::Kept::keeps_then))]
 fn fill<S: Alter>(
     transaction: &mut Transaction<'_, S>,
     from: u64,
     changes: &[Change],
 ) -> Result<(), Error>
     requires { from < 2 ^ 64 - 1 }
+    ensures same_reference { transaction.new.conn.ghost_name ≡ transaction.old.conn.ghost_name }
+    ensures steps { HasCleanDisk (state S.Store transaction.new.conn.now) → IsTrue (state S.Store transaction.old.conn.now).in_transaction → OnOk result (Steps (state S.Store transaction.old.conn.now) (state S.Store transaction.new.conn.now) (written from changes.now)) }
+    ensures kept { KeepsWhereClean S.Store transaction.old.conn.now transaction.new.conn.now }
+    ensures survives { Survives (state S.Store transaction.old.conn.now) (state S.Store transaction.new.conn.now) (λ _. ⊥) }
 {
     make_changes(transaction, changes)?;
     put_generation(transaction, from + 1)
 }
 
 // Ends the transaction: at Ok what it had is committed. Where that is refused it may have been made.
+#[tactic(auto, using(crate::proofs::Kept::refused_keeps))]
 fn finish<S: Alter>(transaction: Transaction<'_, S>) -> Result<(), KeepFault>
     ensures committed { HasCleanDisk (state S.Store transaction.exit.0.now) → OnOk result ((state S.Store transaction.exit.0.now).committed ≡ (state S.Store transaction.entry.conn.now).now) }
+    ensures shown { HasCleanDisk (state S.Store transaction.exit.0.now) → OnOk result (ShowsCommitted (state S.Store transaction.entry.conn.now) (state S.Store transaction.exit.0.now)) }
+    ensures kept { HasCleanDisk (state S.Store transaction.exit.0.now) → OnErr result (KeepsCommit (state S.Store transaction.entry.conn.now) (state S.Store transaction.exit.0.now)) }
+    ensures survives { Survives (state S.Store transaction.entry.conn.now) (state S.Store transaction.exit.0.now) (λ trees. trees ≡ (state S.Store transaction.entry.conn.now).now.trees) }
+    ensures ended { transaction.exit.0.now.in_transaction ≡ false }
     ensures doubt { ¬ IsErrOf result Memory }
 {
     match transaction.commit() {
@@ -61,7 +79,13 @@ fn attempt<S: Alter>(
 ) -> Result<Result<(), KeepFault>, Error>
     requires from { from < 2 ^ 64 - 1 }
     requires autocommit { connection.old.in_transaction ≡ false }
-    ensures { IfOk result (λ ended. ¬ IsErrOf ended Memory) }
+    requires settled { IsSettledWhereOpen (state S.Store connection.old) }
+    ensures comes { HasCleanDisk (state S.Store connection.new) → IfOk result (Comes (state S.Store connection.old) (state S.Store connection.new) from changes.now) }
+    ensures kept { HasCleanDisk (state S.Store connection.new) → OnErr result (KeepsCommit (state S.Store connection.old) (state S.Store connection.new)) }
+    ensures survives { Survives (state S.Store connection.old) (state S.Store connection.new) (Writes (state S.Store connection.old) from changes.now) }
+    ensures refused { OnErr result (Survives (state S.Store connection.old) (state S.Store connection.new) (λ _. ⊥)) }
+    ensures ended { connection.new.in_transaction ≡ false }
+    ensures doubt { IfOk result (λ ended. ¬ IsErrOf ended Memory) }
 {
     let mut transaction = connection.transaction();
     match fill(&mut transaction, from, changes) {
@@ -74,7 +98,11 @@ fn attempt<S: Alter>(
 }
 
 // Why a transaction was not made that was rolled back: a rollback that failed is a fault.
-fn undone<S: Alter>(connection: &mut Connection<S>, error: Error) -> KeepFault {
+fn undone<S: Alter>(connection: &mut Connection<S>, error: Error) -> KeepFault
+    requires autocommit { connection.old.in_transaction ≡ false }
+    ensures kept { KeepsWhereClean S.Store connection.old connection.new }
+    ensures survives { Survives (state S.Store connection.old) (state S.Store connection.new) (λ _. ⊥) }
+{
     if is_settled(connection) {
         fault_of(error)
     } else {
@@ -89,6 +117,9 @@ pub(crate) fn write<S: Alter>(
     changes: &[Change],
 ) -> Result<(), KeepFault>
     requires { from < 2 ^ 64 - 1 }
+    ensures comes { HasCleanDisk (state S.Store connection.new) → Comes (state S.Store connection.old) (state S.Store connection.new) from changes.now result }
+    ensures survives { Survives (state S.Store connection.old) (state S.Store connection.new) (Writes (state S.Store connection.old) from changes.now) }
+    ensures memory { IsErrOf result Memory → Survives (state S.Store connection.old) (state S.Store connection.new) (λ _. ⊥) }
 {
     if !connection.is_autocommit() {
         return Err(KeepFault::Failed);

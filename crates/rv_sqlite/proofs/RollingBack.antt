@@ -1,0 +1,38 @@
+-- A ROLLBACK where no transaction is under way.
+use Rattle.std.proofs.Common.{◌≡◌, ℕ, Bool, true, false, IsTrue, List, [], codes, Ok, Err, Result, None, inl, inr, refl, subst}
+use Rattle.sqlite_value.specs.Order.{Row}
+use Rattle.sqlite_trees.specs.Tree.{Trees}
+use Rattle.sqlite.specs.Clock.{timed}
+use Rattle.sqlite.specs.Command.TheVariants.{Rollback}
+use Rattle.sqlite.specs.declared.error.Error.{Error}
+use Rattle.sqlite.specs.Does.{Tally, Does}
+use Rattle.sqlite.specs.Effect.{Database}
+use Rattle.sqlite.specs.State.{State, KeepsCommit, Executes, CommitsBy, MayCommit, text_of, mode_of}
+use Rattle.sqlite.proofs.Callers.{IsPlain, command_of, runs_as}
+use Rattle.rv_sqlite.proofs.Kept.{error_keeps}
+use Rattle.rv_sqlite.proofs.Meaning.{rollback_is, rollback_plain}
+
+never_inside : (b : Bool) → b ≡ false → ¬ IsTrue b
+never_inside true h is = absurd (cc)
+never_inside false h is = absurd (cc)
+
+-- Outside a transaction ROLLBACK is refused.
+pub rollback_keeps : (old new : State) (r : Result ℕ Error) → old.in_transaction ≡ false → Executes (codes "ROLLBACK") [] old new r → KeepsCommit old new
+rollback_keeps old new (Err e) outside h = error_keeps old new (codes "ROLLBACK") [] e h
+rollback_keeps old new (Ok count) outside h =
+    absurd (never_inside old.in_transaction outside (runs_as (codes "ROLLBACK") [] old new old.now.schema refl Rollback (rollback_is old.now.schema) (rollback_plain old.now.schema) count h).0)
+
+does_nothing : (s : State) (params : Row) (text : List ℕ) (done : Tally × Database) → ¬ Does s.step_limit (mode_of s) params s.now text None Rollback (Ok done)
+does_nothing s params text done h = absurd (let e = h in cc)
+
+-- It writes nothing that a crash may leave.
+pub rollback_commits : (s : State) (trees : Trees) → ¬ CommitsBy (codes "ROLLBACK") [] s trees
+unfolding CommitsBy
+rollback_commits s trees h =
+    let c = h.0 in
+    let known : command_of (Ok c) ≡ Rollback = subst (λ r. command_of r ≡ Rollback) h.1.is (rollback_is s.now.schema) in
+    let plain = (subst IsPlain h.1.is (rollback_plain s.now.schema)).0 in
+    elim (subst (λ k. MayCommit s c.returning k (text_of (codes "ROLLBACK") c) (timed [] c.formats h.1.now) trees) known h.2) [
+      | inl ends ↦ elim ends.0 [ inl commit ↦ absurd (cc) | inr release ↦ absurd (let e = release.2 in cc) ]
+      | inr writes ↦ does_nothing s (timed [] c.formats h.1.now) (text_of (codes "ROLLBACK") c) (writes.1, writes.2) (subst (λ r. Does s.step_limit (mode_of s) (timed [] c.formats h.1.now) s.now (text_of (codes "ROLLBACK") c) r Rollback (Ok (writes.1, writes.2))) plain writes.3)
+    ]
