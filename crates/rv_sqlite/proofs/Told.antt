@@ -25,7 +25,7 @@ use Rattle.rv_keeper.proofs.Changed.{are_cells_changed}
 use Rattle.rv_sqlite.specs.Table.{cell_schema}
 use Rattle.rv_sqlite.specs.Stands.{Stands, stored}
 use Rattle.rv_sqlite.specs.Steps.{generation_cell, written, Writes, Comes}
-use Rattle.rv_sqlite.specs.Telling.{IsAll, StandFor, Leaves, Holds, Tells, IsMade, LeavesCommit, LeavesNoMore}
+use Rattle.rv_sqlite.specs.Telling.{IsAll, StandFor, Leaves, Holds, Tells, CommitsOrNot, LeavesCommit, LeavesNoMore}
 use Rattle.rv_sqlite.proofs.PutRows.{same_cell}
 use Rattle.rv_sqlite.proofs.Same.{ordered_same, Within}
 
@@ -134,7 +134,7 @@ opened_by old new from changes (Ok done) tells comes = comes.was_open
 opened_by old new from changes (Err e) tells comes = comes.was_open tells.is_open
 
 pub made_by : {E : Type 0} (old new : State) (from : ℕ) (changes : List Change) (c : Loaded) (r : Result (Unit {0}) E) → from < 2 ^ 64 - 1 → AreChanges changes → Tells new → Holds old c
-    → Comes old new from changes r → IsMade from changes r (Holds new) c
+    → Comes old new from changes r → CommitsOrNot from changes r (Holds new) c
 made_by old new from changes c (Ok done) low are tells h comes =
     (comes.schema h.0 h.1.all h.1.stands, stand_after from changes old.committed.trees new.committed.trees c low are h.1 (λ cells s. comes.writes h.0 cells s))
 made_by old new from changes c (Err e) low are tells h comes = subst (λ (d : Database). (d.schema ≡ cell_schema) × StandFor d.trees c) (sym (comes.committed tells.is_open)) h

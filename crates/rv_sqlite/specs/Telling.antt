@@ -6,6 +6,7 @@ use Rattle.sqlite.specs.State.{State, HasCleanDisk}
 use Rattle.rv_keeper.specs.declared.cell.Cell.{Cell}
 use Rattle.rv_keeper.specs.declared.change.Change.{Change}
 use Rattle.rv_keeper.specs.declared.loaded.Loaded.{Loaded}
+use Rattle.rv_keeper.specs.Crashes.{LeavesMore}
 use Rattle.rv_keeper.specs.Keeping.{committed}
 use Rattle.rv_sqlite.specs.Table.{cell_schema}
 use Rattle.rv_sqlite.specs.Stands.{Stands}
@@ -38,18 +39,10 @@ abbrev pub Leaves : State → Option Loaded → Type 0
 Leaves s (Some held) = (trees : Trees) × s.may_leave trees × StandFor trees held
 Leaves s None = (trees : Trees) × s.may_leave trees × ((held : Loaded) → ¬ StandFor trees held)
 
--- a crash leaves what it might leave before, or one of these
-abbrev pub LeavesMore : (Option Loaded → Type 0) → (Option Loaded → Type 0) → (Option Loaded → Type 0) → Type 0
-LeavesMore Old New More = (left : Option Loaded) → New left → Old left ⊎ More left
-
--- a crash leaves what is held
-abbrev pub IsSettled : (Loaded → Type 0) → (Option Loaded → Type 0) → Type 0
-IsSettled Holding Leaving = (held : Loaded) → Holding held → (left : Option Loaded) → Leaving left → left ≡ Some held
-
 -- what is held after a commit, where this was held before: with the changes at `Ok`, and else as it was
-abbrev pub IsMade : {E : Type 0} → ℕ → List Change → Result (Unit {0}) E → (Loaded → Type 0) → Loaded → Type 0
-IsMade from changes (Ok done) Holding held = Holding (committed from changes held)
-IsMade from changes (Err e) Holding held = Holding held
+abbrev pub CommitsOrNot : {E : Type 0} → ℕ → List Change → Result (Unit {0}) E → (Loaded → Type 0) → Loaded → Type 0
+CommitsOrNot from changes (Ok done) Holding held = Holding (committed from changes held)
+CommitsOrNot from changes (Err e) Holding held = Holding held
 
 -- a crash leaves what it might leave before a commit, or what the commit makes of what was held
 abbrev pub LeavesCommit : ℕ → List Change → State → State → Type 0

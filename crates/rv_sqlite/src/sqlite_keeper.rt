@@ -1,6 +1,7 @@
 ghost use Rattle.std.specs.Prelude.{◌≡◌, ◌≤◌, ◌<◌, ◌-◌, ◌^◌, true, IfOk, IfSome, IsErrOf, IsTrue};
 ghost use Rattle.rv_base.specs.Causes.{Rose};
 ghost use Rattle.rv_keeper.specs.Cells.{AreCells, AreChanges};
+ghost use Rattle.rv_keeper.specs.Crashes.{IsSettled};
 ghost use Rattle.rv_keeper.specs.Keeping.{HasKeepCause, HasGenerationCause};
 ghost use Rattle.rv_keeper.specs.declared.fault.KeepFault.TheVariants.{Memory};
 ghost use Rattle.rv_keeper.specs.declared.loaded.Loaded.{Loaded};
@@ -9,7 +10,7 @@ ghost use Rattle.sqlite.specs.Held.{state};
 ghost use Rattle.rv_sqlite.specs.Asked.{FindsGeneration};
 ghost use Rattle.rv_sqlite.specs.Loads.{LoadsTable};
 ghost use Rattle.rv_sqlite.specs.Rows.{ShowsNumber};
-ghost use Rattle.rv_sqlite.specs.Telling.{Holds, IsMade, IsSettled, Leaves, LeavesCommit, LeavesNoMore, Tells};
+ghost use Rattle.rv_sqlite.specs.Telling.{CommitsOrNot, Holds, Leaves, LeavesCommit, LeavesNoMore, Tells};
 
 use crate::number::number_in;
 use crate::reading::read_table;
@@ -180,7 +181,7 @@ impl<S: Alter> Keeper for SqliteKeeper<S> {
         requires changes { AreChanges changes.now }
         ensures cause { HasKeepCause self.old.faults self.new.faults result }
         ensures open { Tells (state S.Store self.new.connection) → IsTrue (state S.Store self.old.connection).is_open }
-        ensures made { Tells (state S.Store self.new.connection) → (held : Loaded) → Holds (state S.Store self.old.connection) held → IsMade from changes.now result (Holds (state S.Store self.new.connection)) held }
+        ensures made { Tells (state S.Store self.new.connection) → (held : Loaded) → Holds (state S.Store self.old.connection) held → CommitsOrNot from changes.now result (Holds (state S.Store self.new.connection)) held }
         ensures crash { HasCleanDisk (state S.Store self.new.connection) → LeavesCommit from changes.now (state S.Store self.old.connection) (state S.Store self.new.connection) }
         ensures memory { HasCleanDisk (state S.Store self.new.connection) → IsErrOf result Memory → LeavesNoMore (state S.Store self.old.connection) (state S.Store self.new.connection) }
         ensures settled { Tells (state S.Store self.new.connection) → IsSettled (Holds (state S.Store self.new.connection)) (Leaves (state S.Store self.new.connection)) }

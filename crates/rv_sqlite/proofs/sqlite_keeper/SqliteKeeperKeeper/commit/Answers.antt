@@ -1,6 +1,6 @@
 use Rattle.std.proofs.Common.{sym, subst}
 use Rattle.sqlite.specs.Held.{state}
-use Rattle.rv_sqlite.specs.Telling.{Holds, IsMade}
+use Rattle.rv_sqlite.specs.Telling.{Holds, CommitsOrNot}
 use Rattle.rv_sqlite.proofs.Told.{made_by, crash_by, leaves_one}
 use Rattle.rv_sqlite.proofs.sqlite_keeper.SqliteKeeperKeeper.commit.Goals as goal
 
@@ -9,7 +9,7 @@ pub returns-clause-made : goal.returns-clause-made
 returns-clause-made g c tells held holds =
     let old = state g.S.Store c.args.self.now.connection in
     let new = state g.S.Store c.write-answer.new.connection in
-    subst (λ r. IsMade c.args.from c.args.changes.now r (Holds new) held) (sym c.count_in.ensures.same)
+    subst (λ r. CommitsOrNot c.args.from c.args.changes.now r (Holds new) held) (sym c.count_in.ensures.same)
     (made_by old new c.args.from c.args.changes.now held c.write-answer.result c.requires.from c.requires.changes tells holds (c.write-answer.ensures.comes tells.honest))
 
 pub returns-clause-crash : goal.returns-clause-crash
