@@ -16,3 +16,6 @@ mod Kept
 mod RollingBack
 mod Stepping
 mod Told
+mod Found
+mod WasOpen
+mod Known

@@ -39,7 +39,7 @@ same_cells rows xs ys p q = ordered_same xs ys p.order q.order (one xs ys p q) (
         let e = q.read (stored row.0 c) row.1 in
         subst (Has ys) (sym (same_cell row.0 e.0 c e.1 e.2)) e.3
 
-loaded_same : (c d : Loaded) → c.cells ≡ d.cells → c.generation ≡ d.generation → c ≡ d
+pub loaded_same : (c d : Loaded) → c.cells ≡ d.cells → c.generation ≡ d.generation → c ≡ d
 loaded_same c d p q = λ t. record { cells = p t; generation = q t }
 
 first_of : (x y : Cell) (xs ys : List Cell) → ◌≡◌ {A = List Cell} (x ∷ xs) (y ∷ ys) → (x ≡ y) × (xs ≡ ys)
@@ -98,7 +98,7 @@ put_first : (g : ℕ) (cells : List Cell) → AllByRecursion (λ (d : Cell). 0 <
 put_first g [] all = refl
 put_first g (d ∷ ds) all = ap (λ o. match_ordering o (generation_cell g ∷ d ∷ ds) (generation_cell g ∷ ds) (d ∷ put_by cell_key (generation_cell g) ds)) (below d.shelf d.key all.0)
 
-in_order : (c : Loaded) (all : List Cell) → IsAll c all → InOrder cell_key all → InOrder cell_key c.cells
+pub in_order : (c : Loaded) (all : List Cell) → IsAll c all → InOrder cell_key all → InOrder cell_key c.cells
 in_order c all p up = elim p.are [ inl a ↦ (subst (InOrder cell_key) a up).1 | inr a ↦ subst (InOrder cell_key) a.1 up ]
 
 pub written_all : (from : ℕ) (changes : List Change) (c : Loaded) (all : List Cell) → from < 2 ^ 64 - 1 → AreChanges changes → InOrder cell_key all → IsAll c all

@@ -1,5 +1,5 @@
 // Rows as cells.
-ghost use Rattle.std.specs.Prelude.{◌≡◌, ◌++◌, ◌∷◌, [], IfOk, IsTrue, None, OnOk, Some, option_to_list};
+ghost use Rattle.std.specs.Prelude.{◌≡◌, ◌<◌, ◌^◌, ◌++◌, ◌∷◌, [], IfOk, IsTrue, None, OnOk, Some, option_to_list};
 ghost use Rattle.rv_keeper.specs.Cells.{AreCells};
 ghost use Rattle.sqlite_value.specs.declared.value.Value.TheVariants.{Int, Blob};
 ghost use Rattle.sqlite_value.specs.Order.{column};
@@ -133,6 +133,7 @@ pub(crate) fn read_table<S: Alter>(
     connection: &mut Connection<S>,
 ) -> Result<Loaded, KeepFault>
     ensures order { IfOk result (λ loaded. AreCells loaded.cells) }
+    ensures small { IfOk result (λ loaded. loaded.generation < 2 ^ 64) }
     ensures clean { HasCleanDisk (state S.Store connection.new) → OnOk result (HasCleanDisk (state S.Store connection.old)) }
     ensures found { HasCleanDisk (state S.Store connection.new) → IfOk result (ReadsTable (state S.Store connection.old) (state S.Store connection.new)) }
 {

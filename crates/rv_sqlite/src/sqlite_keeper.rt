@@ -1,4 +1,4 @@
-ghost use Rattle.std.specs.Prelude.{◌≡◌, ◌≤◌, ◌<◌, ◌-◌, ◌^◌, true, IfOk, IfSome, IsErrOf, IsTrue};
+ghost use Rattle.std.specs.Prelude.{◌≡◌, ◌≤◌, ◌<◌, ◌-◌, ◌^◌, true, IfOk, IfSome, IsErrOf, IsTrue, OnOk};
 ghost use Rattle.rv_base.specs.Causes.{Rose};
 ghost use Rattle.rv_keeper.specs.Cells.{AreCells, AreChanges};
 ghost use Rattle.rv_keeper.specs.Crashes.{IsSettled};
@@ -10,6 +10,7 @@ ghost use Rattle.sqlite.specs.Held.{state};
 ghost use Rattle.rv_sqlite.specs.Asked.{FindsGeneration};
 ghost use Rattle.rv_sqlite.specs.Loads.{LoadsTable};
 ghost use Rattle.rv_sqlite.specs.Rows.{ShowsNumber};
+ghost use Rattle.rv_sqlite.specs.Steps.{IsSettledWhereOpen};
 ghost use Rattle.rv_sqlite.specs.Telling.{CommitsOrNot, Holds, Leaves, LeavesCommit, LeavesNoMore, Tells};
 
 use crate::number::number_in;
@@ -96,6 +97,8 @@ fn count_in<T: Drop>(faults: &mut u64, answer: Result<T, KeepFault>) -> Result<T
 // What the table has, which is made where there is none.
 fn load_from<S: Alter>(alloc: Global, connection: &mut Connection<S>) -> Result<Loaded, KeepFault>
     ensures order { IfOk result (λ loaded. AreCells loaded.cells) }
+    ensures small { IfOk result (λ loaded. loaded.generation < 2 ^ 64) }
+    ensures settled { OnOk result (IsSettledWhereOpen (state S.Store connection.old)) }
     ensures found { HasCleanDisk (state S.Store connection.new) → IfOk result (LoadsTable S.Store connection.old connection.new) }
 {
     if !connection.is_autocommit() {
@@ -156,6 +159,7 @@ impl<S: Alter> Keeper for SqliteKeeper<S> {
         ensures order { IfOk result (λ loaded. AreCells loaded.cells) }
         ensures cause { HasKeepCause self.old.faults self.new.faults result }
         ensures found { HasCleanDisk (state S.Store self.new.connection) → IfOk result (LoadsTable S.Store self.old.connection self.new.connection) }
+        ensures made_known { Tells (state S.Store self.new.connection) → (held : Loaded) → Holds (state S.Store self.old.connection) held → IfOk result (λ loaded. (held ≡ loaded) × Holds (state S.Store self.new.connection) loaded) }
     {
         let answer = load_from(self.alloc, &mut self.connection);
         count_in(&mut self.faults, answer)
