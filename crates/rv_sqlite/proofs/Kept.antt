@@ -26,12 +26,6 @@ pub refused_keeps : (old new : State) (e : Error) → FailsToCommit old new e �
 refused_keeps old new e (inl fails) = undone_keeps old new fails.3
 refused_keeps old new e (inr late) = unchanged_keeps old new late.2
 
-pub keeps_back : (old mid new : State) → KeepsCommit old mid → IsRolledBack mid new → KeepsCommit old new
-keeps_back old mid new kept back = record {
-  was_open = λ h. kept.was_open (back.was_open h);
-  committed = λ h. (back.undone h).1 ∙ kept.committed (back.was_open h);
-}
-
 alone_keeps : (old new : State) (sql : List ℕ) (c : Compiled) (params : Row) (e : Error) → RunsAlone false old new sql c params (Err e) → KeepsCommit old new
 alone_keeps old new sql c params e alone = elim (cases_Bool (shows_rows false c)) [
   | inl shows ↦ unchanged_keeps old new (rw shows at alone).1

@@ -16,7 +16,7 @@ use Rattle.rv_sqlite.specs.Loads.{LoadsTable, all_text, make_text}
 use Rattle.rv_sqlite.specs.Table.{cell_schema}
 use Rattle.rv_sqlite.specs.Steps.{IsSettledWhereOpen}
 use Rattle.rv_sqlite.specs.Telling.{StandFor, Holds}
-use Rattle.rv_sqlite.proofs.Meaning.{all_plain, create_again}
+use Rattle.rv_sqlite.proofs.Meaning.{all_plain, made_again}
 use Rattle.rv_sqlite.proofs.Found.{found_held}
 use Rattle.rv_sqlite.proofs.WasOpen.{executed_open, shown_open}
 
@@ -26,7 +26,7 @@ again_plain = (refl, refl)
 
 -- Where the table is there, the statement that makes it does nothing.
 leaves_alone : (old new : State) (count : ℕ) → old.now.schema ≡ cell_schema → Executes make_text [] old new (Ok count) → IsUnchanged old new
-leaves_alone old new count has h = (runs_as make_text [] old new cell_schema has Nothing create_again again_plain count h).0
+leaves_alone old new count has h = (runs_as make_text [] old new cell_schema has Nothing made_again again_plain count h).0
 
 -- A query of the table changes nothing.
 pub shown_same : (sql : List ℕ) (params : Row) (old new : State) (rows : List Row) → IsPlain (understood cell_schema sql) → old.now.schema ≡ cell_schema → Shown sql params old new rows → IsUnchanged old new

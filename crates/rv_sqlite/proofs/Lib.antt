@@ -19,3 +19,4 @@ mod Told
 mod Found
 mod WasOpen
 mod Known
+mod Asked

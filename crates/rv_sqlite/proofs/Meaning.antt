@@ -1,8 +1,7 @@
 -- What the texts compute to.
-use Rattle.std.proofs.Common.{◌≡◌, pos, negsuc, List, [], ◌∷◌, codes, false, Some, None, Ok, refl}
+use Rattle.std.proofs.Common.{◌≡◌, pos, negsuc, List, [], ◌∷◌, codes, false, Some, None, refl}
 use Rattle.sqlite.specs.Command.{Command}
-use Rattle.sqlite.specs.Command.TheVariants.{Select, CreateTable, Nothing, Delete, InsertOr, Rollback}
-use Rattle.sqlite.specs.Compile.{table_defined_by}
+use Rattle.sqlite.specs.Command.TheVariants.{Select, Nothing, Delete, InsertOr, Rollback}
 use Rattle.sqlite.specs.Query.{Query, inner, end}
 use Rattle.sqlite.specs.Term.{Term, lit, col, op2}
 use Rattle.sqlite_value.specs.declared.keys.Key.{Key}
@@ -17,10 +16,10 @@ use Rattle.sqlite_schema.specs.declared.command.Source.TheVariants.{Values}
 use Rattle.sqlite_value.specs.declared.value.Value.TheVariants.{Null, Int}
 use Rattle.sqlite_tied.specs.Compute.{everything}
 use Rattle.sqlite.specs.Listing.{understood, reads_listing}
-use Rattle.sqlite.proofs.Callers.{IsPlain, command_of, statement_of}
+use Rattle.sqlite.proofs.Callers.{IsPlain, command_of}
 use Rattle.rv_sqlite.specs.Asked.{one_text}
 use Rattle.rv_sqlite.specs.Loads.{make_text, all_text}
-use Rattle.rv_sqlite.specs.Table.{cell_table, cell_schema, no_schema, put_text, remove_text}
+use Rattle.rv_sqlite.specs.Table.{cell_schema, put_text, remove_text}
 
 -- all rows of the table that pass the terms
 abbrev pub scan : List Term → List Term → List (Term × Key) → Query
@@ -67,17 +66,9 @@ all_command = Select (alone (scan [] (col 1 1 ∷ col 1 2 ∷ col 1 3 ∷ []) by
 abbrev pub one_command : Command
 one_command = Select (alone (scan at_place (col 1 3 ∷ []) [])) (codes "body" ∷ [])
 
-pub create_is : (command_of (understood no_schema make_text) ≡ CreateTable) × (table_defined_by make_text ≡ Ok cell_table)
+pub made_again : command_of (understood cell_schema make_text) ≡ Nothing
 unfolding understood everything
-create_is = (refl, refl)
-
-pub create_again : command_of (understood cell_schema make_text) ≡ Nothing
-unfolding understood everything
-create_again = refl
-
-pub create_statement : statement_of make_text (understood no_schema make_text) ≡ make_text
-unfolding understood everything
-create_statement = refl
+made_again = refl
 
 pub rollback_is : (schema : Schema) → command_of (understood schema (codes "ROLLBACK")) ≡ Rollback
 unfolding understood everything

@@ -1,16 +1,14 @@
 -- A statement inside a transaction.
-use Rattle.std.proofs.Common.{◌≡◌, ◌+◌, ℕ, Bool, true, false, IsTrue, List, [], ◌∷◌, ◌++◌, OnOk, Ok, Err, Result, refl, sym, ap, subst, ◌∙◌}
+use Rattle.std.proofs.Common.{◌≡◌, ◌+◌, ℕ, Bool, true, false, IsTrue, List, [], ◌∷◌, ◌++◌, OnOk, Ok, Err, Result, refl, sym, subst, ◌∙◌}
 use Rattle.std.proofs.lemmas.List.Sums.{fold_push}
 use Rattle.sqlite.specs.declared.error.Error.{Error}
 use Rattle.sqlite.specs.State.{State, KeepsCommit, ExecutesInside}
-use Rattle.sqlite.specs.Effect.{Database}
-use Rattle.sqlite_trees.specs.Tree.{Trees}
 use Rattle.rv_keeper.specs.declared.cell.Cell.{Cell}
 use Rattle.rv_keeper.specs.declared.change.Change.{Change}
 use Rattle.rv_base.specs.Sorted.{put_by, without}
 use Rattle.rv_keeper.specs.Cells.{cell_key, changed, changed_by}
-use Rattle.rv_sqlite.specs.Table.{cell_schema, put_text, remove_text}
-use Rattle.rv_sqlite.specs.Steps.{IsUnderWay, Steps, ShowsCommitted, generation_cell, written, Writes, IsWritten}
+use Rattle.rv_sqlite.specs.Table.{put_text, remove_text}
+use Rattle.rv_sqlite.specs.Steps.{IsUnderWay, Steps, generation_cell, written}
 use Rattle.rv_sqlite.proofs.Remove.{place_params, removes}
 use Rattle.rv_sqlite.proofs.PutRun.{put_params, puts}
 use Rattle.rv_sqlite.specs.Stands.{Stands}
@@ -28,10 +26,7 @@ pub remove_steps : (old new : State) (shelf : ℕ) (key : List ℕ) (count : ℕ
 remove_steps old new shelf key count was h =
     record { was = record { inside = was; is_open = h.1.was_open }; is = record { inside = h.1.mode; is_open = h.1.is_open }; committed = h.1.committed_is; leads = λ has cells stands. removes old new shelf key count cells has h.0 stands }
 
-pub steps_none : (s : State) → IsUnderWay s → Steps s s (λ cells. cells)
-steps_none s was = record { was = was; is = was; committed = refl; leads = λ has cells stands. (has, stands) }
-
-pub steps_then : (a b c : State) (f g : List Cell → List Cell) → Steps a b f → Steps b c g → Steps a c (λ cells. g (f cells))
+steps_then : (a b c : State) (f g : List Cell → List Cell) → Steps a b f → Steps b c g → Steps a c (λ cells. g (f cells))
 steps_then a b c f g p q = record {
   was = p.was;
   is = q.is;
@@ -54,19 +49,3 @@ filled_by old mid new from changes (Ok done) inside kept first last =
     let was : IsUnderWay old = record { inside = inside; is_open = kept.was_open last.was.is_open } in
     steps_then old mid new (λ cells. changed cells changes) (put_by cell_key (generation_cell (from + 1))) (first was) last
 filled_by old mid new from changes (Err e) inside kept first last = tt
-
--- what a transaction that was filled leaves where it is committed
-module _ (old begun last : State) (from : ℕ) (changes : List Change) (same : begun.now ≡ old.committed) (steps : Steps begun last (written from changes)) where
-  filled : old.committed.schema ≡ cell_schema → (cells : List Cell) → Stands (old.committed.trees 0) cells → (last.now.schema ≡ cell_schema) × Stands (last.now.trees 0) (written from changes cells)
-  filled has cells stands = steps.leads (ap (λ (d : Database). d.schema) same ∙ has) cells (subst (λ (d : Database). Stands (d.trees 0) cells) (sym same) stands)
-
-  pub written_is : (end : State) → IsTrue old.is_open → ShowsCommitted last end → IsWritten old end from changes
-  written_is end opened shows = record {
-    was_open = opened;
-    is_open = shows.is_open;
-    schema = λ has cells stands. ap (λ (d : Database). d.schema) shows.committed_is ∙ (filled has cells stands).0;
-    writes = λ has cells stands. subst (λ (d : Database). Stands (d.trees 0) (written from changes cells)) (sym shows.committed_is) (filled has cells stands).1;
-  }
-
-  pub writes_by : (trees : Trees) → trees ≡ last.now.trees → Writes old from changes trees
-  writes_by trees is has cells stands = subst (λ (t : Trees). Stands (t 0) (written from changes cells)) (sym is) (filled has cells stands).1

@@ -28,7 +28,7 @@ use std::alloc::Global;
 ///
 /// A row has a shelf, a key and a body; the generation stands on shelf 0 under the empty key, in decimal, and is 0 without that row.
 /// A commit is one transaction. Each refusal but want of memory is counted as a fault, and in `generation` each refusal. What is
-/// held is not told. The count of faults stands still at 2^64 - 1.
+/// held is told by the clauses of the calls here, and not by those of the trait. The count of faults stands still at 2^64 - 1.
 pub struct SqliteKeeper<S: Alter> {
     alloc: Global,
     connection: Connection<S>,
@@ -126,7 +126,9 @@ fn generation_of(row: &Row) -> Option<u64>
 
 // The generation that the table has.
 fn generation_in<S: Alter>(connection: &mut Connection<S>) -> Option<u64>
-    ensures { HasCleanDisk (state S.Store connection.new) → IfSome result (FindsGeneration (state S.Store connection.old) (state S.Store connection.new)) }
+    ensures small { IfSome result (λ number. number < 2 ^ 64) }
+    ensures settled { IfSome result (λ number. IsSettledWhereOpen (state S.Store connection.old)) }
+    ensures found { HasCleanDisk (state S.Store connection.new) → IfSome result (FindsGeneration (state S.Store connection.old) (state S.Store connection.new)) }
 {
     if !connection.is_autocommit() {
         return None;
@@ -169,6 +171,7 @@ impl<S: Alter> Keeper for SqliteKeeper<S> {
         requires { from < 2 ^ 64 - 1 }
         ensures cause { HasGenerationCause from self.old.faults self.new.faults result }
         ensures found { HasCleanDisk (state S.Store self.new.connection) → IfOk result (FindsGeneration (state S.Store self.old.connection) (state S.Store self.new.connection)) }
+        ensures made_known { Tells (state S.Store self.new.connection) → (held : Loaded) → Holds (state S.Store self.old.connection) held → IfOk result (λ number. (held.generation ≡ number) × Holds (state S.Store self.new.connection) held) }
     {
         let Some(generation) = generation_in(&mut self.connection) else {
             count(&mut self.faults);
