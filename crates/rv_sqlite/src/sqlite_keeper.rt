@@ -161,7 +161,7 @@ impl<S: Alter> Keeper for SqliteKeeper<S> {
         ensures order { IfOk result (λ loaded. AreCells loaded.cells) }
         ensures cause { HasKeepCause self.old.faults self.new.faults result }
         ensures found { HasCleanDisk (state S.Store self.new.connection) → IfOk result (LoadsTable S.Store self.old.connection self.new.connection) }
-        ensures made_known { Tells (state S.Store self.new.connection) → (held : Loaded) → Holds (state S.Store self.old.connection) held → IfOk result (λ loaded. (held ≡ loaded) × Holds (state S.Store self.new.connection) loaded) }
+        ensures known { Tells (state S.Store self.new.connection) → (held : Loaded) → Holds (state S.Store self.old.connection) held → IfOk result (λ loaded. (held ≡ loaded) × Holds (state S.Store self.new.connection) loaded) }
     {
         let answer = load_from(self.alloc, &mut self.connection);
         count_in(&mut self.faults, answer)
@@ -171,7 +171,7 @@ impl<S: Alter> Keeper for SqliteKeeper<S> {
         requires { from < 2 ^ 64 - 1 }
         ensures cause { HasGenerationCause from self.old.faults self.new.faults result }
         ensures found { HasCleanDisk (state S.Store self.new.connection) → IfOk result (FindsGeneration (state S.Store self.old.connection) (state S.Store self.new.connection)) }
-        ensures made_known { Tells (state S.Store self.new.connection) → (held : Loaded) → Holds (state S.Store self.old.connection) held → IfOk result (λ number. (held.generation ≡ number) × Holds (state S.Store self.new.connection) held) }
+        ensures known { Tells (state S.Store self.new.connection) → (held : Loaded) → Holds (state S.Store self.old.connection) held → IfOk result (λ number. (held.generation ≡ number) × Holds (state S.Store self.new.connection) held) }
     {
         let Some(generation) = generation_in(&mut self.connection) else {
             count(&mut self.faults);

@@ -5,8 +5,8 @@ use Rattle.rv_sqlite.proofs.Known.{loaded_by}
 use Rattle.rv_sqlite.proofs.sqlite_keeper.SqliteKeeperKeeper.load.Goals as goal
 
 -- What was loaded is what was held.
-pub returns-clause-made_known : goal.returns-clause-made_known
-returns-clause-made_known g c tells held holds =
+pub returns-clause-known : goal.returns-clause-known
+returns-clause-known g c tells held holds =
     let new = c.load_from-answer.new.connection in
     let answer = c.load_from-answer.ensures in
     subst (λ r. IfOk r (λ loaded. (held ≡ loaded) × Holds (state g.S.Store new) loaded)) (sym c.count_in.ensures.same)
