@@ -14,7 +14,7 @@ settle_trouble (Ok done) = None
 settle_trouble (Err trouble) = Some trouble
 
 -- with the count of faults, which never falls, and the limit, which stays
-pub record IsSettled (old : Served) (result : Result (Unit {0}) Trouble) (new : Served) : Type 0 where
+pub record HasSettled (old : Served) (result : Result (Unit {0}) Trouble) (new : Served) : Type 0 where
   pub settled : SettlesOrNot old result new
   pub later : old.faults ≤ new.faults
   pub limit : new.limit ≡ old.limit

@@ -13,7 +13,7 @@ use Rattle.rv_turns.specs.declared.refusal.Trouble.TheVariants.{Keeper, Changed}
 use Rattle.rv_history.specs.Machine.{ReplyText, Step}
 use Rattle.rv_history.specs.Served.{Doubt, with_doubt, Served, Settles, TurnOf, TakesTurn}
 use Rattle.rv_desk.specs.Seated.{Assures}
-use Rattle.rv_desk.specs.Settling.{IsSettled}
+use Rattle.rv_desk.specs.Settling.{HasSettled}
 
 -- nothing in doubt settles as the book that it is
 pub none_settles : (book : Book) (doubt : Doubt) (settled : Book) → doubt ≡ None → Settles book doubt settled → settled ≡ book
@@ -35,7 +35,7 @@ assures_on tells fails_no_more old mid new trouble first next = record {
 
 module _ (write : ReplyText) (ask : Ask) (outcome : Outcome) where
   -- after what was in doubt is settled
-  pub turn_from : (old mid new : Served) (settled : Book) (left : Doubt) (trouble : Option Trouble) → IsSettled old (Ok tt) mid → Settles mid.book mid.doubt settled → TurnOf write mid settled ask outcome left trouble new → TurnOf write old mid.book ask outcome left trouble new
+  pub turn_from : (old mid new : Served) (settled : Book) (left : Doubt) (trouble : Option Trouble) → HasSettled old (Ok tt) mid → Settles mid.book mid.doubt settled → TurnOf write mid settled ask outcome left trouble new → TurnOf write old mid.book ask outcome left trouble new
   turn_from old mid new settled None None is settling (step, none, still) = (
     subst (λ (book : Book). Step write old.limit book ask outcome new.book) (none_settles mid.book mid.doubt settled is.settled.1 settling) (subst (λ (limit : ℕ). Step write limit settled ask outcome new.book) is.limit step),
     none,
@@ -53,7 +53,7 @@ module _ (write : ReplyText) (ask : Ask) (outcome : Outcome) where
   turn_from old mid new settled (Some entry) (Some (Changed kept found)) is settling never = absurd never
   turn_from old mid new settled (Some entry) None is settling never = absurd never
 
-  abbrev pub turn_after : (old mid new : Served) → IsSettled old (Ok tt) mid → TakesTurn write mid ask outcome new → TakesTurn write old ask outcome new
+  abbrev pub turn_after : (old mid new : Served) → HasSettled old (Ok tt) mid → TakesTurn write mid ask outcome new → TakesTurn write old ask outcome new
   turn_after old mid new is taken = record {
     settled = mid.book;
     left = taken.left;
@@ -64,7 +64,7 @@ module _ (write : ReplyText) (ask : Ask) (outcome : Outcome) where
   }
 
 -- where it could not be settled
-abbrev pub turn_unsettled : (write : ReplyText) (ask : Ask) (old new : Served) (trouble : Trouble) → IsSettled old (Err trouble) new → TakesTurn write old ask (Refused (refusals.Trouble trouble)) new
+abbrev pub turn_unsettled : (write : ReplyText) (ask : Ask) (old new : Served) (trouble : Trouble) → HasSettled old (Err trouble) new → TakesTurn write old ask (Refused (refusals.Trouble trouble)) new
 turn_unsettled write ask old new trouble is = record {
   settled = old.book;
   left = None;

@@ -1,7 +1,7 @@
 // Settling what is in doubt: the keeper's generation tells whether the entry was kept.
 ghost use Rattle.std.specs.Prelude.{◌≡◌, None, Some};
 ghost use Rattle.rv_desk.specs.Seated.{Assures, AreInStep, parts_served, served};
-ghost use Rattle.rv_desk.specs.Settling.{IsSettled, settle_trouble};
+ghost use Rattle.rv_desk.specs.Settling.{HasSettled, settle_trouble};
 ghost use Rattle.rv_state.specs.Ready.{IsPrepared};
 
 use crate::desk::Desk;
@@ -15,7 +15,7 @@ impl<K: Keeper> Desk<K> {
     /// Settles the entry in doubt, if there is one: it is entered where it was kept, and dropped where it was not. Where the keeper
     /// does not say so, it stays in doubt. Every turn does this first. Takes no memory.
     pub fn settle(&mut self) -> Result<(), Trouble>
-        ensures settled { IsSettled (served K.faults self.old) result (served K.faults self.new) }
+        ensures settled { HasSettled (served K.faults self.old) result (served K.faults self.new) }
         ensures assured { Assures K.tells K.fails_no_more self.old.keeper (settle_trouble result) self.new.keeper }
     {
         settle(&mut self.state, &mut self.doubt, &mut self.keeper)
@@ -29,7 +29,7 @@ pub(crate) fn settle<K: Keeper>(
     keeper: &mut K,
 ) -> Result<(), Trouble>
     requires in_step { AreInStep state.old doubt.old (K.tells keeper.old) (K.holds keeper.old) }
-    ensures settled { IsSettled (parts_served state.old doubt.old (K.faults keeper.old)) result (parts_served state.new doubt.new (K.faults keeper.new)) }
+    ensures settled { HasSettled (parts_served state.old doubt.old (K.faults keeper.old)) result (parts_served state.new doubt.new (K.faults keeper.new)) }
     ensures assured { Assures K.tells K.fails_no_more keeper.old (settle_trouble result) keeper.new }
     ensures in_step { AreInStep state.new doubt.new (K.tells keeper.new) (K.holds keeper.new) }
 {
@@ -49,7 +49,7 @@ fn settle_one<K: Keeper>(
 ) -> Result<(), Trouble>
     requires none { doubt.old ≡ None }
     requires in_step { AreInStep state.old (Some prepared) (K.tells keeper.old) (K.holds keeper.old) }
-    ensures settled { IsSettled (parts_served state.old (Some prepared) (K.faults keeper.old)) result (parts_served state.new doubt.new (K.faults keeper.new)) }
+    ensures settled { HasSettled (parts_served state.old (Some prepared) (K.faults keeper.old)) result (parts_served state.new doubt.new (K.faults keeper.new)) }
     ensures assured { Assures K.tells K.fails_no_more keeper.old (settle_trouble result) keeper.new }
     ensures in_step { AreInStep state.new doubt.new (K.tells keeper.new) (K.holds keeper.new) }
 {

@@ -18,7 +18,7 @@ use Rattle.rv_history.specs.Reading.{turn_entries}
 use Rattle.rv_history.specs.Served.{Doubt, Served, Settles, TurnOf, TakesTurn}
 use Rattle.rv_keeper.specs.declared.keeper.Keeper.{Ghosts}
 use Rattle.rv_desk.specs.Seated.{Assures, DeskTakes, Seated, served}
-use Rattle.rv_desk.specs.Settling.{IsSettled, settle_trouble}
+use Rattle.rv_desk.specs.Settling.{HasSettled, settle_trouble}
 use Rattle.rv_desk.specs.TurnLaws.{assures_on, no_doubt, none_settles, turn_after, turn_unsettled}
 use Rattle.rv_room.specs.declared.view.SeatView.{SeatView}
 use Rattle.rv_room.specs.Following.{KeeperFollows, FollowsAll, follows_on}
@@ -131,7 +131,7 @@ module _ (old : Served) (ask : Ask) (outcome : Outcome) (new : Served) (sure : o
 
 module _ {K : Type 0} (G : Ghosts K) where
   pub seat_turn : (v : SeatView K) (t : ℕ) (d mid d' : Seated K) (ask : Ask) (outcome : Outcome) → IsOf G v d → Extends d.book v.seen → FollowsAll G v.after d.keeper
-      → IsSettled (served G.faults d) (Ok tt) (served G.faults mid) → Assures G.tells G.fails_no_more d.keeper None mid.keeper → DeskTakes G mid ask outcome d'
+      → HasSettled (served G.faults d) (Ok tt) (served G.faults mid) → Assures G.tells G.fails_no_more d.keeper None mid.keeper → DeskTakes G mid ask outcome d'
       → IsSeatTurn G v ask outcome (end_view (on_turn G.faults (waiting v t) d) mid.book d'.book d'.doubt d'.keeper)
   seat_turn v t d mid d' ask outcome of begins later settled assured takes = record {
     opened = of.0;
@@ -153,7 +153,7 @@ module _ {K : Type 0} (G : Ghosts K) where
   }
 
   pub seat_held : (v : SeatView K) (t : ℕ) (d d' : Seated K) (trouble : Trouble) (ask : Ask) → IsOf G v d → Extends d.book v.seen → FollowsAll G v.after d.keeper
-      → IsSettled (served G.faults d) (Err trouble) (served G.faults d') → Assures G.tells G.fails_no_more d.keeper (Some trouble) d'.keeper
+      → HasSettled (served G.faults d) (Err trouble) (served G.faults d') → Assures G.tells G.fails_no_more d.keeper (Some trouble) d'.keeper
       → IsSeatTurn G v ask (Refused (refusals.Trouble trouble)) (held_view (on_turn G.faults (waiting v t) d) d'.keeper)
   seat_held v t d d' trouble ask of begins later settled assured =
       let same : d'.book ≡ d.book = settled.settled.stays.0 in
@@ -194,25 +194,25 @@ module _ {K : Type 0} (G : Ghosts K) where
 
 module _ {K : Type 0} (G : Ghosts K) where
   pub ended_within : (v : SeatView K) (d mid d' : Seated K) (m : Knows K) (ask : Ask) (outcome : Outcome) (w : SeatView K) → HasTaken G v d m → IsOf G v d → Extends d.book v.seen → FollowsAll G v.after d.keeper
-      → (settled : Result (Unit {0}) Trouble) → settled ≡ Ok tt → IsSettled (served G.faults d) settled (served G.faults mid) → Assures G.tells G.fails_no_more d.keeper (settle_trouble settled) mid.keeper → DeskTakes G mid ask outcome d'
+      → (settled : Result (Unit {0}) Trouble) → settled ≡ Ok tt → HasSettled (served G.faults d) settled (served G.faults mid) → Assures G.tells G.fails_no_more d.keeper (settle_trouble settled) mid.keeper → DeskTakes G mid ask outcome d'
       → w ≡ end_view m.0 mid.book d'.book d'.doubt d'.keeper
       → (before after : ℕ) → after ≤ before + turn_entries ask mid.book
       → IsSeatTurnWithin G v ask outcome w before after
   unfolding seat_turn
   ended_within v d mid d' m ask outcome w taken of begins later settled ok is assured takes view before after within =
       subst (λ (s : SeatView K). IsSeatTurnWithin G v ask outcome s before after) (sym (view ∙ ap (λ (m : Knows K). end_view m.0 mid.book d'.book d'.doubt d'.keeper) taken.1)) (
-        seat_turn G v taken.0 d mid d' ask outcome of begins later (subst (λ (r : Result (Unit {0}) Trouble). IsSettled (served G.faults d) r (served G.faults mid)) ok is)
+        seat_turn G v taken.0 d mid d' ask outcome of begins later (subst (λ (r : Result (Unit {0}) Trouble). HasSettled (served G.faults d) r (served G.faults mid)) ok is)
             (subst (λ (r : Result (Unit {0}) Trouble). Assures G.tells G.fails_no_more d.keeper (settle_trouble r) mid.keeper) ok assured) takes,
         within,
       )
 
   pub held_within : (v : SeatView K) (d d' : Seated K) (m : Knows K) (ask : Ask) (w : SeatView K) (why : Trouble) → HasTaken G v d m → IsOf G v d → Extends d.book v.seen → FollowsAll G v.after d.keeper
-      → (settled : Result (Unit {0}) Trouble) → settled ≡ Err why → IsSettled (served G.faults d) settled (served G.faults d') → Assures G.tells G.fails_no_more d.keeper (settle_trouble settled) d'.keeper
+      → (settled : Result (Unit {0}) Trouble) → settled ≡ Err why → HasSettled (served G.faults d) settled (served G.faults d') → Assures G.tells G.fails_no_more d.keeper (settle_trouble settled) d'.keeper
       → w ≡ held_view m.0 d'.keeper
       → (before : ℕ) → IsSeatTurnWithin G v ask (Refused (refusals.Trouble why)) w before before
   held_within v d d' m ask w why taken of begins later settled err is assured view before =
       subst (λ (s : SeatView K). IsSeatTurnWithin G v ask (Refused (refusals.Trouble why)) s before before) (sym (view ∙ ap (λ (m : Knows K). held_view m.0 d'.keeper) taken.1)) (
-        seat_held G v taken.0 d d' why ask of begins later (subst (λ (r : Result (Unit {0}) Trouble). IsSettled (served G.faults d) r (served G.faults d')) err is)
+        seat_held G v taken.0 d d' why ask of begins later (subst (λ (r : Result (Unit {0}) Trouble). HasSettled (served G.faults d) r (served G.faults d')) err is)
             (subst (λ (r : Result (Unit {0}) Trouble). Assures G.tells G.fails_no_more d.keeper (settle_trouble r) d'.keeper) err assured),
         omega arith,
       )

@@ -22,7 +22,7 @@ use Rattle.rv_keeper.specs.declared.cell.Cell.{Cell}
 use Rattle.rv_keeper.specs.declared.loaded.Loaded.{Loaded}
 use Rattle.rv_sqlite.specs.Asked.{one_text, generation_key, FindsGeneration}
 use Rattle.rv_sqlite.specs.Table.{cell_schema}
-use Rattle.rv_sqlite.specs.Stands.{Stands, stored}
+use Rattle.rv_sqlite.specs.Stands.{Stands, cell_row}
 use Rattle.rv_sqlite.specs.Steps.{IsSettledWhereOpen, generation_cell}
 use Rattle.rv_sqlite.specs.Telling.{StandFor, Holds, Tells}
 use Rattle.rv_sqlite.proofs.Meaning.{at_place, one_command, one_is, one_plain}
@@ -113,7 +113,7 @@ module _ (old new : State) (shelf : ℕ) (key : List ℕ) (cells : List Cell) (h
       let params = Int (pos shelf) ∷ Blob key ∷ [] in
       let it = are_shown at_place (col 1 3 ∷ []) [] old.now.trees params [] ((reads_as one_text params old new cell_schema has one_command one_is.0 one_plain one_is.1 [] h).answer Null) in
       let row = stands.kept c there in
-      it.complete (stored row.0 c) row.1 (passes_if_at row.0 c shelf key at)
+      it.complete (cell_row row.0 c) row.1 (passes_if_at row.0 c shelf key at)
 
 -- the generation, by the cell at its place or by its want
 module _ (trees : Trees) (held : Loaded) (number : ℕ) (p : StandFor trees held) where

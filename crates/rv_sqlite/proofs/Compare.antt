@@ -17,7 +17,7 @@ use Rattle.sqlite_sql.specs.declared.ops.CompareOp.TheVariants.{Eq}
 use Rattle.sqlite_sql.specs.Ops.{binary, is_true, from_truth}
 use Rattle.sqlite_sql.specs.Term.{holds}
 use Rattle.rv_keeper.specs.declared.cell.Cell.{Cell}
-use Rattle.rv_sqlite.specs.Stands.{stored}
+use Rattle.rv_sqlite.specs.Stands.{cell_row}
 use Rattle.rv_sqlite.proofs.Meaning.{at_place}
 
 told : (b : Bool) → is_true (from_truth (Some b)) ≡ b
@@ -32,7 +32,7 @@ pub same_blob : (s t : List ℕ) → is_true (binary (Compare Eq Binary) (Blob s
 unfolding binary
 same_blob s t = told _ ∙ ap is_eq (value_cmp-Blob s t)
 
-passes_place : (id : ℤ) (c : Cell) (shelf : ℕ) (key : List ℕ) → list_all (holds ((Int (pos shelf) ∷ Blob key ∷ []) ∷ stored id c ∷ [])) at_place ≡ (is_eq (int_cmp (pos c.shelf) (pos shelf)) && (is_eq (slice_cmp nat_cmp c.key key) && true))
+passes_place : (id : ℤ) (c : Cell) (shelf : ℕ) (key : List ℕ) → list_all (holds ((Int (pos shelf) ∷ Blob key ∷ []) ∷ cell_row id c ∷ [])) at_place ≡ (is_eq (int_cmp (pos c.shelf) (pos shelf)) && (is_eq (slice_cmp nat_cmp c.key key) && true))
 passes_place id c shelf key = ap (λ b. b && (is_true (binary (Compare Eq Binary) (Blob c.key) (Blob key)) && true)) (same_int (pos c.shelf) (pos shelf)) ∙ ap (λ b. is_eq (int_cmp (pos c.shelf) (pos shelf)) && (b && true)) (same_blob c.key key)
 
 equal_is : (o : Ordering) → is_eq o ≡ true → o ≡ Equal
@@ -57,22 +57,22 @@ int_is : (m n : ℕ) → ◌≡◌ {A = ℤ} (pos m) (pos n) → m ≡ n
 int_is m n e = cc
 
 -- a row passes where its cell is at the place
-pub at_if_passes : (id : ℤ) (c : Cell) (shelf : ℕ) (key : List ℕ) → list_all (holds ((Int (pos shelf) ∷ Blob key ∷ []) ∷ stored id c ∷ [])) at_place ≡ true → IsAt (shelf ∷ key) c
+pub at_if_passes : (id : ℤ) (c : Cell) (shelf : ℕ) (key : List ℕ) → list_all (holds ((Int (pos shelf) ∷ Blob key ∷ []) ∷ cell_row id c ∷ [])) at_place ≡ true → IsAt (shelf ∷ key) c
 at_if_passes id c shelf key h =
     let parts = both _ _ (sym (passes_place id c shelf key) ∙ h) in
     at_same shelf key c (int_is c.shelf shelf (exact_signed (pos c.shelf) (pos shelf) (equal_is _ parts.0))) (exact_bytes c.key key (equal_is _ (both _ _ parts.1).0))
 
-pub passes_if_at : (id : ℤ) (c : Cell) (shelf : ℕ) (key : List ℕ) → IsAt (shelf ∷ key) c → list_all (holds ((Int (pos shelf) ∷ Blob key ∷ []) ∷ stored id c ∷ [])) at_place ≡ true
+pub passes_if_at : (id : ℤ) (c : Cell) (shelf : ℕ) (key : List ℕ) → IsAt (shelf ∷ key) c → list_all (holds ((Int (pos shelf) ∷ Blob key ∷ []) ∷ cell_row id c ∷ [])) at_place ≡ true
 passes_if_at id c shelf key at =
     let same = same_place shelf key c at in
     passes_place id c shelf key
     ∙ from_both _ _ (ap (λ n. is_eq (int_cmp (pos n) (pos shelf))) same.0 ∙ ap is_eq (tied_itself int_cmp_total (pos shelf))) (ap (λ k. is_eq (slice_cmp nat_cmp k key)) same.1 ∙ ap is_eq (tied_itself nat_list_cmp_total key))
 
 -- a stored row has its rowid and no other
-pub own_rowid : (id : ℤ) (c : Cell) → has_rowid id (stored id c) ≡ true
+pub own_rowid : (id : ℤ) (c : Cell) → has_rowid id (cell_row id c) ≡ true
 own_rowid id c = ap is_eq (value_cmp-Int id id) ∙ ap is_eq (tied_itself int_cmp_total id)
 
-pub rowid_is : (id other : ℤ) (c : Cell) → has_rowid other (stored id c) ≡ true → id ≡ other
+pub rowid_is : (id other : ℤ) (c : Cell) → has_rowid other (cell_row id c) ≡ true → id ≡ other
 rowid_is id other c h = exact_signed id other (equal_is _ (sym (ap is_eq (value_cmp-Int id other)) ∙ h))
 
 pub int_equal : (m n : ℤ) → is_true (binary (Compare Eq Binary) (Int m) (Int n)) ≡ true → m ≡ n

@@ -16,7 +16,7 @@ use Rattle.rv_sqlite.specs.declared.row_read.RowRead.TheVariants as row_read
 use Rattle.rv_sqlite.specs.Rows.{Shows}
 use Rattle.rv_sqlite.specs.Loads.{AllShow, AreLoaded, IsOnlyGeneration, cells_among, generations_among, all_text}
 use Rattle.rv_sqlite.specs.Table.{cell_schema}
-use Rattle.rv_sqlite.specs.Stands.{Stands, stored}
+use Rattle.rv_sqlite.specs.Stands.{Stands, cell_row}
 use Rattle.rv_sqlite.specs.Steps.{generation_cell}
 use Rattle.rv_sqlite.specs.Telling.{IsAll, StandFor}
 use Rattle.rv_sqlite.proofs.Meaning.{by_place, all_command, all_is, all_plain}
@@ -115,7 +115,7 @@ module _ (table rows : List Row) (held loaded : Loaded) (all : List Cell) (stand
 
   -- and that of each cell is shown
   is_shown : (c : Cell) → Has all c → Has rows (shown_row c)
-  is_shown c h = let row = stands.kept c h in shown.complete (stored row.0 c) row.1 refl
+  is_shown c h = let row = stands.kept c h in shown.complete (cell_row row.0 c) row.1 refl
 
   not_at_zero : (c : Cell) → Has held.cells c → 0 < c.shelf
   not_at_zero c h = all_has (λ (d : Cell). 0 < d.shelf) held.cells c whole.shelves h

@@ -24,7 +24,7 @@ use Rattle.sqlite_rules.proofs.ProbeLemmas.{has_mapped, mapped_has}
 use Rattle.rv_keeper.specs.declared.cell.Cell.{Cell}
 use Rattle.rv_keeper.specs.Cells.{cell_key}
 use Rattle.rv_sqlite.specs.Table.{cell_table, cell_schema}
-use Rattle.rv_sqlite.specs.Stands.{Stands, stored}
+use Rattle.rv_sqlite.specs.Stands.{Stands, cell_row}
 use Rattle.rv_sqlite.proofs.Scan.{AreShown}
 use Rattle.rv_sqlite.proofs.Members.{IsAt, Lacks, left_from, left_has, one_place}
 use Rattle.rv_sqlite.proofs.Compare.{same_int, same_place, own_rowid, rowid_is, int_equal}
@@ -48,12 +48,12 @@ yes_or a h = rw h refl
 
 -- ---- no row is at the place
 
-module _ (keys : Keys) (tables next : Trees) (id : ℤ) (c : Cell) (it : Applies cell_schema keys tables (edit_of tables cell_table [] Given 0 (stored id c ∷ [])) next)
-    (none : (j : ℤ) (d : Cell) → Has (tables 0) (stored j d) → ¬ IsAt (cell_key c) d) where
+module _ (keys : Keys) (tables next : Trees) (id : ℤ) (c : Cell) (it : Applies cell_schema keys tables (edit_of tables cell_table [] Given 0 (cell_row id c ∷ [])) next)
+    (none : (j : ℤ) (d : Cell) → Has (tables 0) (cell_row j d) → ¬ IsAt (cell_key c) d) where
   abbrev news : List Row
-  news = stored id c ∷ []
+  news = cell_row id c ∷ []
 
-  as_given : cast_row cell_table (stored id c) ∷ [] ≡ news
+  as_given : cast_row cell_table (cell_row id c) ∷ [] ≡ news
   as_given = ap (λ r. r ∷ []) (cast_stored id c)
 
   after_is : next 0 ≡ put_all (tables 0) news
@@ -62,12 +62,12 @@ module _ (keys : Keys) (tables next : Trees) (id : ℤ) (c : Cell) (it : Applies
   are_new : are_fresh (tables 0) news ≡ true
   are_new = subst (λ l. are_fresh (tables 0) l ≡ true) as_given it.fresh
 
-  is_free : is_taken (tables 0) (stored id c) ≡ false
+  is_free : is_taken (tables 0) (cell_row id c) ≡ false
   is_free = not_false _ (first _ _ are_new)
 
-  apart : (j : ℤ) (d : Cell) → Has (tables 0) (stored j d) → j ≢ id
+  apart : (j : ℤ) (d : Cell) → Has (tables 0) (cell_row j d) → j ≢ id
   apart j d there same =
-      let taken = some_from (λ r. is_eq (value_cmp (rowid r) (Int id))) (tables 0) (stored j d) there (ap is_eq (value_cmp-Int j id) ∙ ap (λ n. is_eq (int_cmp n id)) same ∙ ap is_eq (tied_itself int_cmp_total id)) in
+      let taken = some_from (λ r. is_eq (value_cmp (rowid r) (Int id))) (tables 0) (cell_row j d) there (ap is_eq (value_cmp-Int j id) ∙ ap (λ n. is_eq (int_cmp n id)) same ∙ ap is_eq (tied_itself int_cmp_total id)) in
       let f : true ≡ false = sym taken ∙ is_free in cc
 
   pub fresh_puts : Puts (tables 0) (next 0) id c
@@ -77,8 +77,8 @@ module _ (keys : Keys) (tables next : Trees) (id : ℤ) (c : Cell) (it : Applies
       | inl (inr never) ↦ absurd never
       | inr was ↦ inr (was, λ j d e. let there = subst (Has (tables 0)) e was in (apart j d there, none j d there))
     ];
-    new = subst (λ l. Has l (stored id c)) (sym after_is) (put_all_adds news (tables 0) (stored id c) are_new (inl refl));
-    spares = λ j d h other. subst (λ l. Has l (stored j d)) (sym after_is) (put_all_keeps news (tables 0) (stored j d) are_new h);
+    new = subst (λ l. Has l (cell_row id c)) (sym after_is) (put_all_adds news (tables 0) (cell_row id c) are_new (inl refl));
+    spares = λ j d h other. subst (λ l. Has l (cell_row j d)) (sym after_is) (put_all_keeps news (tables 0) (cell_row j d) are_new h);
   }
 
 -- ---- a row is at the place
@@ -93,10 +93,10 @@ abbrev pub update_given : ℤ → ℤ → Cell → Row
 update_given j id c = Int (pos c.shelf) ∷ Blob c.key ∷ Blob c.body ∷ Int j ∷ Int id ∷ Int (pos c.shelf) ∷ Blob c.key ∷ Blob c.body ∷ []
 
 module _ (keys : Keys) (tables next : Trees) (cells : List Cell) (j id : ℤ) (c d : Cell) (found : List Row) (old : Stands (tables 0) cells)
-    (there : Has (tables 0) (stored j d)) (at : IsAt (cell_key c) d) (shown : AreShown update_terms update_shown (tables 0) (update_given j id c) found)
+    (there : Has (tables 0) (cell_row j d)) (at : IsAt (cell_key c) d) (shown : AreShown update_terms update_shown (tables 0) (update_given j id c) found)
     (it : Applies cell_schema keys tables (edit_of tables cell_table (ids_of found) Given 1 found) next) where
   abbrev updated : Row
-  updated = Int j ∷ stored j c
+  updated = Int j ∷ cell_row j c
 
   -- the old row with the new body
   shows : Cell → ℤ → Row
@@ -114,13 +114,13 @@ module _ (keys : Keys) (tables next : Trees) (cells : List Cell) (j id : ℤ) (c
       let e = old.read r.0 r.1 in
       let passes = rw e.2 at r.2 in
       let same : e.0 ≡ j = int_equal e.0 j (first _ _ passes) in
-      let one : e.1 ≡ d = old.numbered j e.1 d (subst (λ n. Has (tables 0) (stored n e.1)) same (subst (Has (tables 0)) e.2 r.1)) there in
+      let one : e.1 ≡ d = old.numbered j e.1 d (subst (λ n. Has (tables 0) (cell_row n e.1)) same (subst (Has (tables 0)) e.2 r.1)) there in
       r.3 ∙ ap (λ (z : Row). eval_all update_shown (update_given j id c ∷ z ∷ [])) e.2 ∙ ap (λ n. Int n ∷ Int n ∷ Int (pos e.1.shelf) ∷ Blob e.1.key ∷ Blob c.body ∷ []) same ∙ same_cell e.1 one
 
   some : Has found updated
   some =
-      let passes : list_all (holds (update_given j id c ∷ stored j d ∷ [])) update_terms ≡ true = ap (λ b. b && true) (same_int j j ∙ ap is_eq (tied_itself int_cmp_total j)) in
-      subst (Has found) (same_cell d refl) (shown.complete (stored j d) there passes)
+      let passes : list_all (holds (update_given j id c ∷ cell_row j d ∷ [])) update_terms ≡ true = ap (λ b. b && true) (same_int j j ∙ ap is_eq (tied_itself int_cmp_total j)) in
+      subst (Has found) (same_cell d refl) (shown.complete (cell_row j d) there passes)
 
   abbrev gone : List ℤ
   gone = ids_of found
@@ -143,35 +143,35 @@ module _ (keys : Keys) (tables next : Trees) (cells : List Cell) (j id : ℤ) (c
   are_new-2 : are_fresh left sources ≡ true
   are_new-2 = subst (λ l. are_fresh left l ≡ true) (numbered_given left sources) it.fresh
 
-  new_is : (x : Row) → Has sources x → x ≡ stored j c
+  new_is : (x : Row) → Has sources x → x ≡ cell_row j c
   new_is x h = let s = has_mapped (λ (s : Row). cast_row cell_table (drop 1 s)) found x h in s.2 ∙ ap (λ (s : Row). cast_row cell_table (drop 1 s)) (each s.0 s.1) ∙ cast_stored j c
 
-  has_new : Has sources (stored j c)
+  has_new : Has sources (cell_row j c)
   has_new = subst (Has sources) (cast_stored j c) (mapped_has (λ (s : Row). cast_row cell_table (drop 1 s)) found updated some)
 
-  other_id : (k : ℤ) (e : Cell) → Has (tables 0) (stored k e) → (¬ IsAt (cell_key c) e) → k ≢ j
-  other_id k e h other same = other (subst (IsAt (cell_key c)) (sym (old.numbered j e d (subst (λ n. Has (tables 0) (stored n e)) same h) there)) at)
+  other_id : (k : ℤ) (e : Cell) → Has (tables 0) (cell_row k e) → (¬ IsAt (cell_key c) e) → k ≢ j
+  other_id k e h other same = other (subst (IsAt (cell_key c)) (sym (old.numbered j e d (subst (λ n. Has (tables 0) (cell_row n e)) same h) there)) at)
 
-  stays-2 : (k : ℤ) (e : Cell) → Has (tables 0) (stored k e) → (¬ IsAt (cell_key c) e) → Lacks gone (stored k e)
-  stays-2 k e h other g named = elim (cases_Bool (has_rowid g (stored k e))) [
+  stays-2 : (k : ℤ) (e : Cell) → Has (tables 0) (cell_row k e) → (¬ IsAt (cell_key c) e) → Lacks gone (cell_row k e)
+  stays-2 k e h other g named = elim (cases_Bool (has_rowid g (cell_row k e))) [
     | inl is ↦ absurd (other_id k e h other (rowid_is k g e is ∙ gone_is g named))
     | inr apart ↦ apart
   ]
 
-  apart-2 : (k : ℤ) (e : Cell) → Has (tables 0) (stored k e) → Lacks gone (stored k e) → k ≢ j
+  apart-2 : (k : ℤ) (e : Cell) → Has (tables 0) (cell_row k e) → Lacks gone (cell_row k e) → k ≢ j
   apart-2 k e h lacks same =
       let no = lacks j gone_has in
-      let own : has_rowid j (stored k e) ≡ true = ap (λ n. has_rowid n (stored k e)) (sym same) ∙ own_rowid k e in
+      let own : has_rowid j (cell_row k e) ≡ true = ap (λ n. has_rowid n (cell_row k e)) (sym same) ∙ own_rowid k e in
       let f : true ≡ false = sym own ∙ no in cc
 
-  elsewhere : (k : ℤ) (e : Cell) → Has (tables 0) (stored k e) → k ≢ j → ¬ IsAt (cell_key c) e
+  elsewhere : (k : ℤ) (e : Cell) → Has (tables 0) (cell_row k e) → k ≢ j → ¬ IsAt (cell_key c) e
   elsewhere k e h other here =
-      let a = old.read (stored k e) h in
-      let b = old.read (stored j d) there in
+      let a = old.read (cell_row k e) h in
+      let b = old.read (cell_row j d) there in
       let e_in : Has cells e = subst (Has cells) (sym (same_stored k a.0 e a.1 a.2)) a.3 in
       let d_in : Has cells d = subst (Has cells) (sym (same_stored j b.0 d b.1 b.2)) b.3 in
       let same : e ≡ d = one_place (cell_key c) cells e d old.order e_in d_in here at in
-      other (old.once k j d (subst (λ (z : Cell). Has (tables 0) (stored k z)) same h) there)
+      other (old.once k j d (subst (λ (z : Cell). Has (tables 0) (cell_row k z)) same h) there)
 
   pub update_puts : Puts (tables 0) (next 0) j c
   update_puts = record {
@@ -181,6 +181,6 @@ module _ (keys : Keys) (tables next : Trees) (cells : List Cell) (j id : ℤ) (c
           let l = left_from gone (tables 0) x was in
           inr (l.0, λ k e is. let h = subst (Has (tables 0)) is l.0 in let far = apart-2 k e h (subst (Lacks gone) is l.1) in (far, elsewhere k e h far))
     ];
-    new = subst (λ l. Has l (stored j c)) (sym after_is-2) (put_all_adds sources left (stored j c) are_new-2 has_new);
-    spares = λ k e h other. subst (λ l. Has l (stored k e)) (sym after_is-2) (put_all_keeps sources left (stored k e) are_new-2 (left_has gone (tables 0) (stored k e) h (stays-2 k e h other)));
+    new = subst (λ l. Has l (cell_row j c)) (sym after_is-2) (put_all_adds sources left (cell_row j c) are_new-2 has_new);
+    spares = λ k e h other. subst (λ l. Has l (cell_row k e)) (sym after_is-2) (put_all_keeps sources left (cell_row k e) are_new-2 (left_has gone (tables 0) (cell_row k e) h (stays-2 k e h other)));
   }

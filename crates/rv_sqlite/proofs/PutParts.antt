@@ -15,7 +15,7 @@ use Rattle.sqlite_rules.specs.declared.error.Rowids.TheVariants.{Chosen, Given}
 use Rattle.sqlite_trees.specs.Tree.{put_row}
 use Rattle.rv_keeper.specs.declared.cell.Cell.{Cell}
 use Rattle.rv_sqlite.specs.Table.{cell_table, cell_schema}
-use Rattle.rv_sqlite.specs.Stands.{stored}
+use Rattle.rv_sqlite.specs.Stands.{cell_row}
 use Rattle.rv_sqlite.proofs.Meaning.{at_place}
 
 either : (b : Bool) (x : Value) → cond b x x ≡ x
@@ -36,11 +36,11 @@ given_row c = Null ∷ Int (pos c.shelf) ∷ Blob c.key ∷ Blob c.body ∷ []
 pub cast_given : (c : Cell) → cast_row cell_table (given_row c) ≡ given_row c
 cast_given c = ap (λ v. v ∷ cast Integer (Int (pos c.shelf)) ∷ Blob c.key ∷ Blob c.body ∷ []) cast_null ∙ ap (λ v. Null ∷ v ∷ Blob c.key ∷ Blob c.body ∷ []) (cast_int (pos c.shelf))
 
-pub cast_stored : (id : ℤ) (c : Cell) → cast_row cell_table (stored id c) ≡ stored id c
+pub cast_stored : (id : ℤ) (c : Cell) → cast_row cell_table (cell_row id c) ≡ cell_row id c
 cast_stored id c = ap (λ v. v ∷ cast Integer (Int (pos c.shelf)) ∷ Blob c.key ∷ Blob c.body ∷ []) (cast_int id) ∙ ap (λ v. Int id ∷ v ∷ Blob c.key ∷ Blob c.body ∷ []) (cast_int (pos c.shelf))
 
 -- the new row has the next rowid
-pub chosen_row : (rows : List Row) (c : Cell) → with_rowid Chosen rows (cast_row cell_table (given_row c)) ≡ stored (next_rowid rows) c
+pub chosen_row : (rows : List Row) (c : Cell) → with_rowid Chosen rows (cast_row cell_table (given_row c)) ≡ cell_row (next_rowid rows) c
 chosen_row rows c = ap (with_rowid Chosen rows) (cast_given c)
 
 pub numbered_given : (rows news : List Row) → numbered Given rows news ≡ news
@@ -48,7 +48,7 @@ numbered_given rows [] = refl
 numbered_given rows (r ∷ rs) = ap (λ l. r ∷ l) (numbered_given (put_row r rows) rs)
 
 -- a row conflicts where its cell is at the new one's place
-pub conflicts_is : (i j : ℤ) (c d : Cell) → conflicts (Some (1 ∷ 2 ∷ [])) cell_schema.indexes cell_table (stored i c) (stored j d)
-    ≡ (list_all (holds ((Int (pos c.shelf) ∷ Blob c.key ∷ []) ∷ stored j d ∷ [])) at_place || false)
+pub conflicts_is : (i j : ℤ) (c d : Cell) → conflicts (Some (1 ∷ 2 ∷ [])) cell_schema.indexes cell_table (cell_row i c) (cell_row j d)
+    ≡ (list_all (holds ((Int (pos c.shelf) ∷ Blob c.key ∷ []) ∷ cell_row j d ∷ [])) at_place || false)
 unfolding first_key
 conflicts_is i j c d = refl

@@ -21,7 +21,7 @@ use Rattle.rv_keeper.specs.declared.cell.Cell.{Cell}
 use Rattle.rv_base.specs.Sorted.{put_by}
 use Rattle.rv_keeper.specs.Cells.{cell_key}
 use Rattle.rv_sqlite.specs.Table.{cell_table, cell_schema, put_text}
-use Rattle.rv_sqlite.specs.Stands.{Stands, stored}
+use Rattle.rv_sqlite.specs.Stands.{Stands, cell_row}
 use Rattle.rv_sqlite.proofs.Meaning.{put_command, put_is, put_plain, upsert, update_program}
 use Rattle.rv_sqlite.proofs.Scan.{are_shown}
 use Rattle.rv_sqlite.proofs.Members.{IsAt}
@@ -39,53 +39,53 @@ task_for limit keys c = record { limit = limit; keys = keys; schema = cell_schem
 
 module _ (limit : Option ℕ) (keys : Keys) (c : Cell) (id : ℤ) (cells : List Cell) (tables : Trees) (one : Written) (old : Stands (tables 0) cells) where
   abbrev Meets-Found : List Row → Type 0
-  Meets-Found found = AreConflicts (Some (1 ∷ 2 ∷ [])) cell_schema.indexes cell_table (tables 0) (stored id c) found
+  Meets-Found found = AreConflicts (Some (1 ∷ 2 ∷ [])) cell_schema.indexes cell_table (tables 0) (cell_row id c) found
 
-  none_there : Meets-Found [] → (j : ℤ) (d : Cell) → Has (tables 0) (stored j d) → ¬ IsAt (cell_key c) d
-  none_there met j d h at = met.complete (stored j d) h (conflicts_is id j c d ∙ yes_or _ (passes_if_at j d c.shelf c.key at))
+  none_there : Meets-Found [] → (j : ℤ) (d : Cell) → Has (tables 0) (cell_row j d) → ¬ IsAt (cell_key c) d
+  none_there met j d h at = met.complete (cell_row j d) h (conflicts_is id j c d ∙ yes_or _ (passes_if_at j d c.shelf c.key at))
 
-  inserted : Meets-Found [] → PutsRow (task_for limit keys c) (stored id c) tables (Ok one) → Stands (one.trees 0) (put_by cell_key c cells)
+  inserted : Meets-Found [] → PutsRow (task_for limit keys c) (cell_row id c) tables (Ok one) → Stands (one.trees 0) (put_by cell_key c cells)
   inserted met h =
-      let written = went h in
-      let trees : one.trees ≡ written.0 = ap (λ (w : Written). w.trees) (same_value written.2) in
-      let it = one_step cell_schema keys tables written.0 (edit_of tables cell_table [] Given 0 (stored id c ∷ [])) refl written.1 in
-      subst (λ (t : Trees). Stands (t 0) (put_by cell_key c cells)) (sym trees) (puts_stand (tables 0) (written.0 0) cells id c old (fresh_puts keys tables written.0 id c it (none_there met)))
+      let cells_written = went h in
+      let trees : one.trees ≡ cells_written.0 = ap (λ (w : Written). w.trees) (same_value cells_written.2) in
+      let it = one_step cell_schema keys tables cells_written.0 (edit_of tables cell_table [] Given 0 (cell_row id c ∷ [])) refl cells_written.1 in
+      subst (λ (t : Trees). Stands (t 0) (put_by cell_key c cells)) (sym trees) (puts_stand (tables 0) (cells_written.0 0) cells id c old (fresh_puts keys tables cells_written.0 id c it (none_there met)))
 
-  cleared : Meets-Found [] → (found : List Row) → Clears (task_for limit keys c) Abort (stored id c) tables found (Ok one) → Stands (one.trees 0) (put_by cell_key c cells)
+  cleared : Meets-Found [] → (found : List Row) → Clears (task_for limit keys c) Abort (cell_row id c) tables found (Ok one) → Stands (one.trees 0) (put_by cell_key c cells)
   cleared met [] h = inserted met h
   cleared met (x ∷ more) h = inserted met h
 
-  replaced : (there : Row) (more : List Row) → Meets-Found (there ∷ more) → Updates (task_for limit keys c) update_program (put_params c ++ rowid there ∷ shown cell_table (stored id c)) tables (Ok one) → Stands (one.trees 0) (put_by cell_key c cells)
+  replaced : (there : Row) (more : List Row) → Meets-Found (there ∷ more) → Updates (task_for limit keys c) update_program (put_params c ++ rowid there ∷ shown cell_table (cell_row id c)) tables (Ok one) → Stands (one.trees 0) (put_by cell_key c cells)
   replaced there more met h =
       let r = met.sound there (inl refl) in
       let e = old.read r.0 r.1 in
       let j = e.0 in
       let d = e.1 in
       let named : rowid there ≡ Int j = ap rowid r.3 ∙ ap rowid e.2 in
-      let given : put_params c ++ rowid there ∷ shown cell_table (stored id c) ≡ update_given j id c = ap (λ v. Int (pos c.shelf) ∷ Blob c.key ∷ Blob c.body ∷ v ∷ Int id ∷ Int (pos c.shelf) ∷ Blob c.key ∷ Blob c.body ∷ []) named in
-      let clash : conflicts (Some (1 ∷ 2 ∷ [])) cell_schema.indexes cell_table (stored id c) (stored j d) ≡ true = subst (λ z. conflicts (Some (1 ∷ 2 ∷ [])) cell_schema.indexes cell_table (stored id c) z ≡ true) e.2 r.2 in
+      let given : put_params c ++ rowid there ∷ shown cell_table (cell_row id c) ≡ update_given j id c = ap (λ v. Int (pos c.shelf) ∷ Blob c.key ∷ Blob c.body ∷ v ∷ Int id ∷ Int (pos c.shelf) ∷ Blob c.key ∷ Blob c.body ∷ []) named in
+      let clash : conflicts (Some (1 ∷ 2 ∷ [])) cell_schema.indexes cell_table (cell_row id c) (cell_row j d) ≡ true = subst (λ z. conflicts (Some (1 ∷ 2 ∷ [])) cell_schema.indexes cell_table (cell_row id c) z ≡ true) e.2 r.2 in
       let at : IsAt (cell_key c) d = at_if_passes j d c.shelf c.key (or_no _ (sym (conflicts_is id j c d) ∙ clash)) in
       let ran = subst (λ g. Updates (task_for limit keys c) update_program g tables (Ok one)) given h in
       let queried = went ran in
-      let written = went queried.2 in
-      let trees : one.trees ≡ written.0 = ap (λ (w : Written). w.trees) (same_value written.2) in
-      let it = one_step cell_schema keys tables written.0 (edit_of tables cell_table (ids_of queried.0) Given 1 queried.0) refl written.1 in
+      let cells_written = went queried.2 in
+      let trees : one.trees ≡ cells_written.0 = ap (λ (w : Written). w.trees) (same_value cells_written.2) in
+      let it = one_step cell_schema keys tables cells_written.0 (edit_of tables cell_table (ids_of queried.0) Given 1 queried.0) refl cells_written.1 in
       let found = are_shown update_terms update_shown [] tables (update_given j id c) queried.0 (queried.1.answer Null) in
       subst (λ (t : Trees). Stands (t 0) (put_by cell_key c cells)) (sym trees)
-      (puts_stand (tables 0) (written.0 0) cells j c old (update_puts keys tables written.0 cells j id c d queried.0 old (subst (Has (tables 0)) e.2 r.1) at found it))
+      (puts_stand (tables 0) (cells_written.0 0) cells j c old (update_puts keys tables cells_written.0 cells j id c d queried.0 old (subst (Has (tables 0)) e.2 r.1) at found it))
 
-  upserted : Upserts (task_for limit keys c) Abort (stored id c) tables (upsert ∷ []) (Ok one) → Stands (one.trees 0) (put_by cell_key c cells)
+  upserted : Upserts (task_for limit keys c) Abort (cell_row id c) tables (upsert ∷ []) (Ok one) → Stands (one.trees 0) (put_by cell_key c cells)
   upserted h = go h.0 h.1 h.2
     where
-      go : (found : List Row) → Meets-Found found → Meets (task_for limit keys c) (Upserts (task_for limit keys c) Abort (stored id c) tables []) (stored id c) tables upsert found (Ok one) → Stands (one.trees 0) (put_by cell_key c cells)
+      go : (found : List Row) → Meets-Found found → Meets (task_for limit keys c) (Upserts (task_for limit keys c) Abort (cell_row id c) tables []) (cell_row id c) tables upsert found (Ok one) → Stands (one.trees 0) (put_by cell_key c cells)
       go [] met otherwise = cleared met otherwise.0 otherwise.2
       go (there ∷ more) met updates = replaced there more met updates
 
-  judged : (verdict : Option Refusal) → Judged (task_for limit keys c) Abort (upsert ∷ []) (stored id c) tables verdict (Ok one) → Stands (one.trees 0) (put_by cell_key c cells)
+  judged : (verdict : Option Refusal) → Judged (task_for limit keys c) Abort (upsert ∷ []) (cell_row id c) tables verdict (Ok one) → Stands (one.trees 0) (put_by cell_key c cells)
   judged None h = upserted h
   judged (Some why) h = absurd (let e = h in cc)
 
-  pub tried : Tries (task_for limit keys c) Abort (upsert ∷ []) (stored id c) tables (Ok one) → Stands (one.trees 0) (put_by cell_key c cells)
+  pub tried : Tries (task_for limit keys c) Abort (upsert ∷ []) (cell_row id c) tables (Ok one) → Stands (one.trees 0) (put_by cell_key c cells)
   tried (inl refused) = absurd (let e = refused.1 in cc)
   tried (inr went_on) = judged went_on.0 went_on.2
 

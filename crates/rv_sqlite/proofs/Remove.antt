@@ -21,7 +21,7 @@ use Rattle.rv_base.specs.Sorted.{without}
 use Rattle.rv_base.specs.Positions.{in_order-without}
 use Rattle.rv_keeper.specs.Cells.{cell_key}
 use Rattle.rv_sqlite.specs.Table.{cell_table, cell_schema, remove_text}
-use Rattle.rv_sqlite.specs.Stands.{Stands, stored}
+use Rattle.rv_sqlite.specs.Stands.{Stands, cell_row}
 use Rattle.rv_sqlite.proofs.Meaning.{at_place, remove_command, remove_is, remove_plain}
 use Rattle.rv_sqlite.proofs.Scan.{AreShown, are_shown}
 use Rattle.rv_sqlite.proofs.Members.{IsAt, Lacks, left_from, left_has, without_has, has_without}
@@ -36,16 +36,16 @@ module _ (shelf : ℕ) (key : List ℕ) (rows found : List Row) (cells : List Ce
   gone = ids_of found
 
   -- a row that stays is not at the place
-  stays : (id : ℤ) (c : Cell) → Has rows (stored id c) → Lacks gone (stored id c) → ¬ IsAt (shelf ∷ key) c
+  stays : (id : ℤ) (c : Cell) → Has rows (cell_row id c) → Lacks gone (cell_row id c) → ¬ IsAt (shelf ∷ key) c
   stays id c there lacks at =
-      let shows = shown.complete (stored id c) there (passes_if_at id c shelf key at) in
+      let shows = shown.complete (cell_row id c) there (passes_if_at id c shelf key at) in
       let named : Has gone id = mapped_has (λ (r : Row). id_in (rowid r)) found (Int id ∷ []) shows in
       let no = lacks id named in
       let f : true ≡ false = sym (own_rowid id c) ∙ no in cc
 
   -- a row that is not at the place stays
-  spared : (id : ℤ) (c : Cell) → Has rows (stored id c) → (¬ IsAt (shelf ∷ key) c) → Lacks gone (stored id c)
-  spared id c there other j named = elim (cases_Bool (has_rowid j (stored id c))) [
+  spared : (id : ℤ) (c : Cell) → Has rows (cell_row id c) → (¬ IsAt (shelf ∷ key) c) → Lacks gone (cell_row id c)
+  spared id c there other j named = elim (cases_Bool (has_rowid j (cell_row id c))) [
     | inl is ↦
         let x = has_mapped (λ (r : Row). id_in (rowid r)) found j named in
         let r = shown.sound x.0 x.1 in
@@ -53,7 +53,7 @@ module _ (shelf : ℕ) (key : List ℕ) (rows found : List Row) (cells : List Ce
         let e : j ≡ d.0 = x.2 ∙ ap (λ (z : Row). id_in (rowid z)) (r.3 ∙ ap (λ (z : Row). eval_all (col 1 0 ∷ []) (place_params shelf key ∷ z ∷ [])) d.2) in
         let at : IsAt (shelf ∷ key) d.1 = at_if_passes d.0 d.1 shelf key (rw d.2 at r.2) in
         let same : id ≡ d.0 = rowid_is id j c is ∙ e in
-        let one : c ≡ d.1 = old.numbered id c d.1 there (subst (λ k. Has rows (stored k d.1)) (sym same) (subst (Has rows) d.2 r.1)) in
+        let one : c ≡ d.1 = old.numbered id c d.1 there (subst (λ k. Has rows (cell_row k d.1)) (sym same) (subst (Has rows) d.2 r.1)) in
         absurd (other (subst (IsAt (shelf ∷ key)) (sym one) at))
     | inr not ↦ not
   ]
@@ -69,9 +69,9 @@ module _ (shelf : ℕ) (key : List ℕ) (rows found : List Row) (cells : List Ce
     kept = λ c h.
         let was = without_has (shelf ∷ key) cells c h in
         let row = old.kept c was.0 in
-        (row.0, left_has gone rows (stored row.0 c) row.1 (spared row.0 c row.1 was.1));
-    once = λ i j c p q. old.once i j c (left_from gone rows (stored i c) p).0 (left_from gone rows (stored j c) q).0;
-    numbered = λ i c d p q. old.numbered i c d (left_from gone rows (stored i c) p).0 (left_from gone rows (stored i d) q).0;
+        (row.0, left_has gone rows (cell_row row.0 c) row.1 (spared row.0 c row.1 was.1));
+    once = λ i j c p q. old.once i j c (left_from gone rows (cell_row i c) p).0 (left_from gone rows (cell_row j c) q).0;
+    numbered = λ i c d p q. old.numbered i c d (left_from gone rows (cell_row i c) p).0 (left_from gone rows (cell_row i d) q).0;
   }
 
 pub removes : (old new : State) (shelf : ℕ) (key : List ℕ) (count : ℕ) (cells : List Cell) → old.now.schema ≡ cell_schema → Executes remove_text (place_params shelf key) old new (Ok count)
@@ -84,8 +84,8 @@ removes old new shelf key count cells has h stands =
     let done = went (subst (λ s. Does old.step_limit (mode_of old) params (record old.now { schema = s }) text None remove_command (Ok (w.tally, new.now))) has w.changed) in
     let now = ap (λ (p : Tally × Database). p.1) (same_value (went (went done.2).2).2) in
     let given = went done.1 in
-    let written = went given.2 in
-    let trees : done.0.trees ≡ written.0 = ap (λ (it : Written). it.trees) (same_value written.2) in
-    let rows = (one_step cell_schema _ tables written.0 (edit_of tables cell_table (ids_of given.0) Given 0 []) refl written.1).rows in
+    let cells_written = went given.2 in
+    let trees : done.0.trees ≡ cells_written.0 = ap (λ (it : Written). it.trees) (same_value cells_written.2) in
+    let rows = (one_step cell_schema _ tables cells_written.0 (edit_of tables cell_table (ids_of given.0) Given 0 []) refl cells_written.1).rows in
     let left : new.now.trees 0 ≡ without_all (tables 0) (ids_of given.0) = ap (λ (d : Database). d.trees 0) now ∙ ap (λ (t : Trees). t 0) trees ∙ rows in
     (ap (λ (d : Database). d.schema) now, subst (λ l. Stands l (without cell_key (shelf ∷ key) cells)) (sym left) (removed shelf key (tables 0) given.0 cells (are_shown at_place (col 1 0 ∷ []) [] tables params given.0 (given.1.answer Null)) stands))

@@ -23,9 +23,9 @@ use Rattle.rv_keeper.specs.Cells.{cell_key, change_shelf, changed_by, changed, A
 use Rattle.rv_keeper.specs.Keeping.{committed}
 use Rattle.rv_keeper.proofs.Changed.{are_cells_changed}
 use Rattle.rv_sqlite.specs.Table.{cell_schema}
-use Rattle.rv_sqlite.specs.Stands.{Stands, stored}
-use Rattle.rv_sqlite.specs.Steps.{generation_cell, written, Writes, Comes}
-use Rattle.rv_sqlite.specs.Telling.{IsAll, StandFor, Leaves, Holds, Tells, CommitsOrNot, LeavesCommit, LeavesNoMore}
+use Rattle.rv_sqlite.specs.Stands.{Stands, cell_row}
+use Rattle.rv_sqlite.specs.Steps.{generation_cell, cells_written, WritesCells, Comes}
+use Rattle.rv_sqlite.specs.Telling.{IsAll, StandFor, MayLeave, Holds, Tells, CommitsOrNot, LeavesCommit, LeavesNoMore}
 use Rattle.rv_sqlite.proofs.PutRows.{same_cell}
 use Rattle.rv_sqlite.proofs.Same.{ordered_same, Within}
 
@@ -36,7 +36,7 @@ same_cells rows xs ys p q = ordered_same xs ys p.order q.order (one xs ys p q) (
     one : (xs ys : List Cell) → Stands rows xs → Stands rows ys → Within xs ys
     one xs ys p q c h =
         let row = p.kept c h in
-        let e = q.read (stored row.0 c) row.1 in
+        let e = q.read (cell_row row.0 c) row.1 in
         subst (Has ys) (sym (same_cell row.0 e.0 c e.1 e.2)) e.3
 
 pub loaded_same : (c d : Loaded) → c.cells ≡ d.cells → c.generation ≡ d.generation → c ≡ d
@@ -102,7 +102,7 @@ pub in_order : (c : Loaded) (all : List Cell) → IsAll c all → InOrder cell_k
 in_order c all p up = elim p.are [ inl a ↦ (subst (InOrder cell_key) a up).1 | inr a ↦ subst (InOrder cell_key) a.1 up ]
 
 pub written_all : (from : ℕ) (changes : List Change) (c : Loaded) (all : List Cell) → from < 2 ^ 64 - 1 → AreChanges changes → InOrder cell_key all → IsAll c all
-    → IsAll (committed from changes c) (written from changes all)
+    → IsAll (committed from changes c) (cells_written from changes all)
 written_all from changes c all low are up p =
     let after = all_cells changes c.cells are.shelves (record { order = in_order c all p up; shelves = p.shelves }) in
     record {
@@ -115,15 +115,15 @@ written_all from changes c all low are up p =
     }
 
 stand_after : (from : ℕ) (changes : List Change) (old new : Trees) (c : Loaded) → from < 2 ^ 64 - 1 → AreChanges changes → StandFor old c
-    → ((cells : List Cell) → Stands (old 0) cells → Stands (new 0) (written from changes cells)) → StandFor new (committed from changes c)
-stand_after from changes old new c low are p f = record { all = written from changes p.all; whole = written_all from changes c p.all low are p.stands.order p.whole; stands = f p.all p.stands }
+    → ((cells : List Cell) → Stands (old 0) cells → Stands (new 0) (cells_written from changes cells)) → StandFor new (committed from changes c)
+stand_after from changes old new c low are p f = record { all = cells_written from changes p.all; whole = written_all from changes c p.all low are p.stands.order p.whole; stands = f p.all p.stands }
 
 -- an outcome that stands for these contents is no other
-pub leaves_one : (s : State) (tables : Trees) (c : Loaded) (x : Option Loaded) → StandFor tables c → Leaves s x → ((other : Trees) → s.may_leave other → other ≡ tables) → x ≡ Some c
+pub leaves_one : (s : State) (tables : Trees) (c : Loaded) (x : Option Loaded) → StandFor tables c → MayLeave s x → ((other : Trees) → s.may_leave other → other ≡ tables) → x ≡ Some c
 leaves_one s tables c (Some d) p h only = ap Some (stand_same tables d c (subst (λ t. StandFor t d) (only h.0 h.1) h.2) p)
 leaves_one s tables c None p h only = absurd (h.2 c (subst (λ t. StandFor t c) (sym (only h.0 h.1)) p))
 
-leaves_more : (old new : State) (c : Loaded) (x : Option Loaded) → ((trees : Trees) → new.may_leave trees → old.may_leave trees ⊎ StandFor trees c) → Leaves new x → Leaves old x ⊎ (x ≡ Some c)
+leaves_more : (old new : State) (c : Loaded) (x : Option Loaded) → ((trees : Trees) → new.may_leave trees → old.may_leave trees ⊎ StandFor trees c) → MayLeave new x → MayLeave old x ⊎ (x ≡ Some c)
 leaves_more old new c (Some d) f h = elim (f h.0 h.1) [ inl was ↦ inl (h.0, was, h.2) | inr is ↦ inr (ap Some (stand_same h.0 d c h.2 is)) ]
 leaves_more old new c None f h = elim (f h.0 h.1) [ inl was ↦ inl (h.0, was, h.2) | inr is ↦ absurd (h.2 c is) ]
 
@@ -139,7 +139,7 @@ made_by old new from changes c (Ok done) low are tells h comes =
     (comes.schema h.0 h.1.all h.1.stands, stand_after from changes old.committed.trees new.committed.trees c low are h.1 (λ cells s. comes.writes h.0 cells s))
 made_by old new from changes c (Err e) low are tells h comes = subst (λ (d : Database). (d.schema ≡ cell_schema) × StandFor d.trees c) (sym (comes.committed tells.is_open)) h
 
-pub crash_by : (old new : State) (from : ℕ) (changes : List Change) → from < 2 ^ 64 - 1 → AreChanges changes → HasCleanDisk new → Survives old new (Writes old from changes) → LeavesCommit from changes old new
+pub crash_by : (old new : State) (from : ℕ) (changes : List Change) → from < 2 ^ 64 - 1 → AreChanges changes → HasCleanDisk new → Survives old new (WritesCells old from changes) → LeavesCommit from changes old new
 crash_by old new from changes low are clean survives c h x leaves =
     leaves_more old new (committed from changes c) x
     (λ trees m. elim (survives.crash clean trees m) [

@@ -8,13 +8,13 @@ use Rattle.rv_keeper.specs.declared.cell.Cell.{Cell}
 use Rattle.rv_keeper.specs.Cells.{cell_key}
 
 -- the row of a cell, with the number of the row before its columns
-abbrev pub stored : ℤ → Cell → Row
-stored number cell = Int number ∷ Int (pos cell.shelf) ∷ Blob cell.key ∷ Blob cell.body ∷ []
+abbrev pub cell_row : ℤ → Cell → Row
+cell_row number cell = Int number ∷ Int (pos cell.shelf) ∷ Blob cell.key ∷ Blob cell.body ∷ []
 
 -- a row for each cell, that of the generation among them, and no other; each place once, and each row's number once
 pub record Stands (rows : List Row) (cells : List Cell) : Type 0 where
   pub order : InOrder cell_key cells
-  pub read : (row : Row) → Has rows row → (number : ℤ) × (cell : Cell) × (row ≡ stored number cell) × Has cells cell
-  pub kept : (cell : Cell) → Has cells cell → (number : ℤ) × Has rows (stored number cell)
-  pub once : (i j : ℤ) (cell : Cell) → Has rows (stored i cell) → Has rows (stored j cell) → i ≡ j
-  pub numbered : (i : ℤ) (one two : Cell) → Has rows (stored i one) → Has rows (stored i two) → one ≡ two
+  pub read : (row : Row) → Has rows row → (number : ℤ) × (cell : Cell) × (row ≡ cell_row number cell) × Has cells cell
+  pub kept : (cell : Cell) → Has cells cell → (number : ℤ) × Has rows (cell_row number cell)
+  pub once : (i j : ℤ) (cell : Cell) → Has rows (cell_row i cell) → Has rows (cell_row j cell) → i ≡ j
+  pub numbered : (i : ℤ) (one two : Cell) → Has rows (cell_row i one) → Has rows (cell_row i two) → one ≡ two

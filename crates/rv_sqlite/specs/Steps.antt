@@ -20,8 +20,8 @@ abbrev pub generation_cell : ℕ → Cell
 generation_cell generation = cell_of 0 [] (decimal generation)
 
 -- all cells after a commit, that of the generation among them
-abbrev pub written : ℕ → List Change → List Cell → List Cell
-written from changes cells = put_by cell_key (generation_cell (from + 1)) (changed cells changes)
+abbrev pub cells_written : ℕ → List Change → List Cell → List Cell
+cells_written from changes cells = put_by cell_key (generation_cell (from + 1)) (changed cells changes)
 
 -- a transaction is under way, and the connection is open
 pub record IsUnderWay (s : State) : Type 0 where
@@ -40,15 +40,15 @@ abbrev pub ShowsCommitted : State → State → Type 0
 ShowsCommitted old new = Shows old new old.now old.now false
 
 -- the trees stand for the cells that a commit writes, where what was committed before stood for cells
-abbrev pub Writes : State → ℕ → List Change → Trees → Type 0
-Writes old from changes trees = old.committed.schema ≡ cell_schema → (cells : List Cell) → Stands (old.committed.trees 0) cells → Stands (trees 0) (written from changes cells)
+abbrev pub WritesCells : State → ℕ → List Change → Trees → Type 0
+WritesCells old from changes trees = old.committed.schema ≡ cell_schema → (cells : List Cell) → Stands (old.committed.trees 0) cells → Stands (trees 0) (cells_written from changes cells)
 
 -- the commit was made: the connection is open, and has what the commit writes
 pub record IsWritten (old new : State) (from : ℕ) (changes : List Change) : Type 0 where
   pub was_open : IsTrue old.is_open
   pub is_open : IsTrue new.is_open
   pub schema : old.committed.schema ≡ cell_schema → (cells : List Cell) → Stands (old.committed.trees 0) cells → new.committed.schema ≡ cell_schema
-  pub writes : Writes old from changes new.committed.trees
+  pub writes : WritesCells old from changes new.committed.trees
 
 -- what comes of a commit, by its answer: it was made, or nothing was committed
 abbrev pub Comes : {E : Type 0} → State → State → ℕ → List Change → Result (Unit {0}) E → Type 0

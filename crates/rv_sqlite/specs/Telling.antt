@@ -35,9 +35,9 @@ pub record Tells (s : State) : Type 0 where
   pub autocommit : s.in_transaction ≡ false
 
 -- what a crash may leave: what an outcome stands for, or nothing where an outcome stands for nothing that is held
-abbrev pub Leaves : State → Option Loaded → Type 0
-Leaves s (Some held) = (trees : Trees) × s.may_leave trees × StandFor trees held
-Leaves s None = (trees : Trees) × s.may_leave trees × ((held : Loaded) → ¬ StandFor trees held)
+abbrev pub MayLeave : State → Option Loaded → Type 0
+MayLeave s (Some held) = (trees : Trees) × s.may_leave trees × StandFor trees held
+MayLeave s None = (trees : Trees) × s.may_leave trees × ((held : Loaded) → ¬ StandFor trees held)
 
 -- what is held after a commit, where this was held before: with the changes at `Ok`, and else as it was
 abbrev pub CommitsOrNot : {E : Type 0} → ℕ → List Change → Result (Unit {0}) E → (Loaded → Type 0) → Loaded → Type 0
@@ -46,8 +46,8 @@ CommitsOrNot from changes (Err e) Holding held = Holding held
 
 -- a crash leaves what it might leave before a commit, or what the commit makes of what was held
 abbrev pub LeavesCommit : ℕ → List Change → State → State → Type 0
-LeavesCommit from changes old new = (held : Loaded) → Holds old held → LeavesMore (Leaves old) (Leaves new) (λ left. left ≡ Some (committed from changes held))
+LeavesCommit from changes old new = (held : Loaded) → Holds old held → LeavesMore (MayLeave old) (MayLeave new) (λ left. left ≡ Some (committed from changes held))
 
 -- a crash leaves nothing that it might not leave before
 abbrev pub LeavesNoMore : State → State → Type 0
-LeavesNoMore old new = LeavesMore (Leaves old) (Leaves new) (λ left. ⊥)
+LeavesNoMore old new = LeavesMore (MayLeave old) (MayLeave new) (λ left. ⊥)

@@ -11,7 +11,7 @@ ghost use Rattle.rv_sqlite.specs.Asked.{FindsGeneration};
 ghost use Rattle.rv_sqlite.specs.Loads.{LoadsTable};
 ghost use Rattle.rv_sqlite.specs.Rows.{ShowsNumber};
 ghost use Rattle.rv_sqlite.specs.Steps.{IsSettledWhereOpen};
-ghost use Rattle.rv_sqlite.specs.Telling.{CommitsOrNot, Holds, Leaves, LeavesCommit, LeavesNoMore, Tells};
+ghost use Rattle.rv_sqlite.specs.Telling.{CommitsOrNot, Holds, MayLeave, LeavesCommit, LeavesNoMore, Tells};
 
 use crate::number::number_in;
 use crate::reading::read_table;
@@ -191,7 +191,7 @@ impl<S: Alter> Keeper for SqliteKeeper<S> {
         ensures made { Tells (state S.Store self.new.connection) → (held : Loaded) → Holds (state S.Store self.old.connection) held → CommitsOrNot from changes.now result (Holds (state S.Store self.new.connection)) held }
         ensures crash { HasCleanDisk (state S.Store self.new.connection) → LeavesCommit from changes.now (state S.Store self.old.connection) (state S.Store self.new.connection) }
         ensures memory { HasCleanDisk (state S.Store self.new.connection) → IsErrOf result Memory → LeavesNoMore (state S.Store self.old.connection) (state S.Store self.new.connection) }
-        ensures settled { Tells (state S.Store self.new.connection) → IsSettled (Holds (state S.Store self.new.connection)) (Leaves (state S.Store self.new.connection)) }
+        ensures settled { Tells (state S.Store self.new.connection) → IsSettled (Holds (state S.Store self.new.connection)) (MayLeave (state S.Store self.new.connection)) }
     {
         let answer = write(&mut self.connection, from, changes);
         count_in(&mut self.faults, answer)

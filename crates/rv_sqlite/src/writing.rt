@@ -5,7 +5,7 @@ ghost use Rattle.rv_keeper.specs.Cells.{changed};
 ghost use Rattle.sqlite.specs.State.{HasCleanDisk, KeepsCommit, Survives};
 ghost use Rattle.sqlite.specs.Held.{state};
 ghost use Rattle.rv_sqlite.specs.Faults.{fault_of};
-ghost use Rattle.rv_sqlite.specs.Steps.{Comes, IsSettledWhereOpen, IsUnderWay, KeepsWhereClean, ShowsCommitted, Steps, Writes, written};
+ghost use Rattle.rv_sqlite.specs.Steps.{Comes, IsSettledWhereOpen, IsUnderWay, KeepsWhereClean, ShowsCommitted, Steps, WritesCells, cells_written};
 
 use crate::statements::{is_settled, make_change, put_generation};
 use rv_keeper::{Change, KeepFault};
@@ -46,7 +46,7 @@ fn fill<S: Alter>(
 ) -> Result<(), Error>
     requires { from < 2 ^ 64 - 1 }
     ensures same_reference { transaction.new.conn.ghost_name ≡ transaction.old.conn.ghost_name }
-    ensures steps { HasCleanDisk (state S.Store transaction.new.conn.now) → IsTrue (state S.Store transaction.old.conn.now).in_transaction → OnOk result (Steps (state S.Store transaction.old.conn.now) (state S.Store transaction.new.conn.now) (written from changes.now)) }
+    ensures steps { HasCleanDisk (state S.Store transaction.new.conn.now) → IsTrue (state S.Store transaction.old.conn.now).in_transaction → OnOk result (Steps (state S.Store transaction.old.conn.now) (state S.Store transaction.new.conn.now) (cells_written from changes.now)) }
     ensures kept { KeepsWhereClean S.Store transaction.old.conn.now transaction.new.conn.now }
     ensures survives { Survives (state S.Store transaction.old.conn.now) (state S.Store transaction.new.conn.now) (λ _. ⊥) }
 {
@@ -82,7 +82,7 @@ fn attempt<S: Alter>(
     requires settled { IsSettledWhereOpen (state S.Store connection.old) }
     ensures comes { HasCleanDisk (state S.Store connection.new) → IfOk result (Comes (state S.Store connection.old) (state S.Store connection.new) from changes.now) }
     ensures kept { HasCleanDisk (state S.Store connection.new) → OnErr result (KeepsCommit (state S.Store connection.old) (state S.Store connection.new)) }
-    ensures survives { Survives (state S.Store connection.old) (state S.Store connection.new) (Writes (state S.Store connection.old) from changes.now) }
+    ensures survives { Survives (state S.Store connection.old) (state S.Store connection.new) (WritesCells (state S.Store connection.old) from changes.now) }
     ensures refused { OnErr result (Survives (state S.Store connection.old) (state S.Store connection.new) (λ _. ⊥)) }
     ensures ended { connection.new.in_transaction ≡ false }
     ensures doubt { IfOk result (λ ended. ¬ IsErrOf ended Memory) }
@@ -118,7 +118,7 @@ pub(crate) fn write<S: Alter>(
 ) -> Result<(), KeepFault>
     requires { from < 2 ^ 64 - 1 }
     ensures comes { HasCleanDisk (state S.Store connection.new) → Comes (state S.Store connection.old) (state S.Store connection.new) from changes.now result }
-    ensures survives { Survives (state S.Store connection.old) (state S.Store connection.new) (Writes (state S.Store connection.old) from changes.now) }
+    ensures survives { Survives (state S.Store connection.old) (state S.Store connection.new) (WritesCells (state S.Store connection.old) from changes.now) }
     ensures memory { IsErrOf result Memory → Survives (state S.Store connection.old) (state S.Store connection.new) (λ _. ⊥) }
 {
     if !connection.is_autocommit() {
