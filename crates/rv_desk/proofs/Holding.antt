@@ -20,11 +20,11 @@ use Rattle.rv_desk.specs.Seated.{AreInStep, HoldsBook}
 abbrev pub Leads : Book → Entry → List Change → Type 0
 Leads book entry changes = (cells : List Cell) → AreCellsOf book cells → AreCellsOf (with_entry book entry) (changed cells changes)
 
-kept_next : (book : Book) (entry : Entry) (changes : List Change) (held : Loaded) → Leads book entry changes → IsKeptAs book held → IsKeptAs (with_entry book entry) (committed (size book) changes held)
+pub kept_next : (book : Book) (entry : Entry) (changes : List Change) (held : Loaded) → Leads book entry changes → IsKeptAs book held → IsKeptAs (with_entry book entry) (committed (size book) changes held)
 kept_next book entry changes held leads kept = record { cells = leads held.cells kept.cells; generation = sym (size-with_entry book entry) }
 
 -- where nothing is in doubt, it is kept as the book
-kept_surely : (book : Book) (held : Loaded) → IsKeptWith book None held → IsKeptAs book held
+pub kept_surely : (book : Book) (held : Loaded) → IsKeptWith book None held → IsKeptAs book held
 kept_surely book held kept = ⊎_elim (λ same. same) (λ same. same) kept
 
 -- what is in doubt after a commit: nothing where it was made or could not be, and the entry where it failed

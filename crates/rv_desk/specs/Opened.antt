@@ -1,5 +1,5 @@
 -- What opening a desk over a keeper answers.
-use Rattle.std.specs.Prelude.{◌≡◌, ◌≤◌, ℕ, None, Result, Ok, Err}
+use Rattle.std.specs.Prelude.{◌≡◌, ◌≤◌, ℕ, Option, Some, None, Result, Ok, Err}
 use Rattle.rv_base.specs.Causes.{Rose}
 use Rattle.rv_keeper.specs.declared.loaded.Loaded.{Loaded}
 use Rattle.rv_keeper.specs.Cells.{AreCells}
@@ -13,6 +13,10 @@ use Rattle.rv_desk.specs.Seated.{Seated}
 pub record WasLoaded (Tells : Type 0) (Held : Loaded → Type 0) (loaded : Loaded) : Type 0 where
   pub order : AreCells loaded.cells
   pub told : Tells → (held : Loaded) → Held held → held ≡ loaded
+
+-- a crash leaves what was loaded
+abbrev pub IsLoaded : (Option Loaded → Type 0) → Loaded → Type 0
+IsLoaded Leaves loaded = (left : Option Loaded) → Leaves left → left ≡ Some loaded
 
 module _ {K : Type 0} (tells fails_no_more : K → Type 0) (holds : K → Loaded → Type 0) (faults : K → ℕ) where
   -- nothing is in doubt, and the book is kept as what was loaded; the keeper's count of faults stays

@@ -1,5 +1,5 @@
 -- A desk over a keeper, as contracts see it.
-use Rattle.std.specs.Prelude.{ℕ, ◌+◌, ◌≤◌, Option, IfSome, option_map}
+use Rattle.std.specs.Prelude.{◌≡◌, ℕ, ◌+◌, ◌≤◌, Option, Some, IfSome, option_map}
 use Rattle.rv_book.specs.Book.{Book}
 use Rattle.rv_turns.specs.Asks.{Ask}
 use Rattle.rv_turns.specs.Outcomes.{trouble_of}
@@ -45,6 +45,10 @@ DeskTakesWithin G old ask outcome new before after = (taken : DeskTakes G old as
 abbrev pub HoldsBook : (Loaded → Type 0) → Book → Doubt → Type 0
 HoldsBook Holds book doubt = (held : Loaded) × Holds held × IsKeptWith book doubt held
 
+-- what a crash may leave are the cells of the book, or of the book with what is in doubt
+abbrev pub LeavesBook : (Option Loaded → Type 0) → Book → Doubt → Type 0
+LeavesBook Leaves book doubt = (left : Option Loaded) → Leaves left → (held : Loaded) × (left ≡ Some held) × IsKeptWith book doubt held
+
 -- a server by its parts: the state, what is prepared and in doubt, and the count of faults
 abbrev pub parts_served : Standing → Option Prepared → ℕ → Served
 parts_served state doubt faults = record { book = state.book; limit = state.limit; doubt = option_map entry_of doubt; faults = faults }
@@ -53,3 +57,7 @@ parts_served state doubt faults = record { book = state.book; limit = state.limi
 pub record AreInStep (state : Standing) (doubt : Option Prepared) (Tells : Type 0) (Holds : Loaded → Type 0) : Type 0 where
   pub ready : IfSome doubt (IsPrepared state)
   pub holds : Tells → HoldsBook Holds state.book (option_map entry_of doubt)
+
+-- where the keeper is honest, a crash leaves the book's cells, or those with what is in doubt
+abbrev pub LeavesInStep : Standing → Option Prepared → Type 0 → (Option Loaded → Type 0) → Type 0
+LeavesInStep state doubt Honest Leaves = Honest → LeavesBook Leaves state.book (option_map entry_of doubt)

@@ -1,7 +1,7 @@
 ghost use Rattle.std.specs.Prelude.{◌≡◌, ◌≤◌, ◌<◌, ◌^◌, IfSome};
 ghost use Rattle.rv_book.specs.Book.{size};
 ghost use Rattle.rv_keeper.specs.Cells.{AreCells};
-ghost use Rattle.rv_desk.specs.Opened.{OpensOrNot, OpensLoaded};
+ghost use Rattle.rv_desk.specs.Opened.{IsLoaded, OpensOrNot, OpensLoaded};
 ghost use Rattle.rv_desk.specs.Seated.{DeskTakes};
 ghost use Rattle.rv_turns.specs.Asks.{ask_of};
 
@@ -33,13 +33,13 @@ pub struct Desk<K: Keeper> {
 impl<K: Keeper> Model for Desk<K> {
     ghost use Rattle.std.specs.Prelude.{option_map};
     ghost use Rattle.rv_state.specs.Ready.{entry_of};
-    ghost use Rattle.rv_desk.specs.Seated.{Seated, AreInStep};
+    ghost use Rattle.rv_desk.specs.Seated.{Seated, AreInStep, LeavesInStep};
 
     ghost Value = { Seated K };
 
     ghost view = { λ d. record { book = d.state.book; limit = d.state.limit; doubt = option_map entry_of d.doubt; keeper = d.keeper } };
 
-    ghost invariant = { λ d. AreInStep d.state d.doubt (K.tells d.keeper) (K.holds d.keeper) };
+    ghost invariant = { λ d. AreInStep d.state d.doubt (K.tells d.keeper) (K.holds d.keeper) × LeavesInStep d.state d.doubt (K.honest d.keeper) (K.may_leave d.keeper) };
 }
 
 impl<K: Keeper> Desk<K> {
@@ -51,7 +51,7 @@ impl<K: Keeper> Desk<K> {
     ghost use Rattle.rv_keeper.specs.declared.loaded.Loaded.{Loaded};
     ghost use Rattle.rv_news.specs.Records.{AreRecords};
     ghost use Rattle.rv_record.specs.EntryReading.{EntryFits};
-    ghost use Rattle.rv_desk.specs.Seated.{HoldsBook};
+    ghost use Rattle.rv_desk.specs.Seated.{HoldsBook, LeavesBook};
 
     /// The desk of the book that the keeper holds, which takes at most so many entries. Whatever is kept is left as it is. The
     /// refusals give the keeper back: the keeper failed, and its count of faults rose; the cells are not just those of a lawful
@@ -75,6 +75,7 @@ impl<K: Keeper> Desk<K> {
         ensures fits { AllByRecursion EntryFits self.now.book.entries }
         ensures next { MayStand self.now.book self.now.limit self.now.doubt }
         ensures held { K.tells self.now.keeper → HoldsBook (K.holds self.now.keeper) self.now.book self.now.doubt }
+        ensures left { K.honest self.now.keeper → LeavesBook (K.may_leave self.now.keeper) self.now.book self.now.doubt }
     {
         self.state.book()
     }
@@ -116,6 +117,7 @@ impl<K: Keeper> Desk<K> {
         ensures within { (size self.book ≤ self.limit) × (self.limit < 2 ^ 32) }
         ensures next { MayStand self.book self.limit self.doubt }
         ensures held { K.tells self.keeper → HoldsBook (K.holds self.keeper) self.book self.doubt }
+        ensures left { K.honest self.keeper → LeavesBook (K.may_leave self.keeper) self.book self.doubt }
     {
         // The book tells that it is lawful, and within its limit.
         let _length = self.state.book().len();
@@ -137,6 +139,7 @@ impl<K: Keeper> Desk<K> {
     ) -> Result<Desk<K>, (OpenFault, K)>
         requires order { AreCells loaded.cells }
         requires holds { K.tells keeper → K.holds keeper loaded }
+        requires left { K.honest keeper → IsLoaded (K.may_leave keeper) loaded }
         ensures { OpensLoaded K.tells K.fails_no_more K.holds K.faults limit loaded keeper result }
     {
         match restore(alloc, &loaded, limit) {

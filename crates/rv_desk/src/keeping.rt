@@ -1,7 +1,7 @@
 // Keeping an entry: the changes of cells that it makes are committed, and then it is entered.
 ghost use Rattle.std.specs.Prelude.{◌≡◌, None};
 ghost use Rattle.rv_desk.specs.Keeping.{IsKept, keep_trouble};
-ghost use Rattle.rv_desk.specs.Seated.{Assures, AreInStep, parts_served};
+ghost use Rattle.rv_desk.specs.Seated.{Assures, AreInStep, LeavesInStep, parts_served};
 ghost use Rattle.rv_state.specs.Ready.{IsPrepared, entry_of};
 
 use crate::doubt::leave_in_doubt;
@@ -22,9 +22,11 @@ pub(crate) fn keep<K: Keeper>(
     requires prepared { IsPrepared state.old prepared }
     requires settled { doubt.old ≡ None }
     requires in_step { AreInStep state.old doubt.old (K.tells keeper.old) (K.holds keeper.old) }
+    requires left { LeavesInStep state.old doubt.old (K.honest keeper.old) (K.may_leave keeper.old) }
     ensures kept { IsKept (parts_served state.old doubt.old (K.faults keeper.old)) (entry_of prepared) result (parts_served state.new doubt.new (K.faults keeper.new)) }
     ensures assured { Assures K.tells K.fails_no_more keeper.old (keep_trouble result) keeper.new }
     ensures in_step { AreInStep state.new doubt.new (K.tells keeper.new) (K.holds keeper.new) }
+    ensures left { LeavesInStep state.new doubt.new (K.honest keeper.new) (K.may_leave keeper.new) }
 {
     let changes = changes_for(alloc, state, &prepared)?;
     let from = u64::from(state.book().len());

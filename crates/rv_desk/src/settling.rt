@@ -1,6 +1,6 @@
 // Settling what is in doubt: the keeper's generation tells whether the entry was kept.
 ghost use Rattle.std.specs.Prelude.{◌≡◌, None, Some};
-ghost use Rattle.rv_desk.specs.Seated.{Assures, AreInStep, parts_served, served};
+ghost use Rattle.rv_desk.specs.Seated.{Assures, AreInStep, LeavesInStep, parts_served, served};
 ghost use Rattle.rv_desk.specs.Settling.{HasSettled, settle_trouble};
 ghost use Rattle.rv_state.specs.Ready.{IsPrepared};
 
@@ -29,9 +29,11 @@ pub(crate) fn settle<K: Keeper>(
     keeper: &mut K,
 ) -> Result<(), Trouble>
     requires in_step { AreInStep state.old doubt.old (K.tells keeper.old) (K.holds keeper.old) }
+    requires left { LeavesInStep state.old doubt.old (K.honest keeper.old) (K.may_leave keeper.old) }
     ensures settled { HasSettled (parts_served state.old doubt.old (K.faults keeper.old)) result (parts_served state.new doubt.new (K.faults keeper.new)) }
     ensures assured { Assures K.tells K.fails_no_more keeper.old (settle_trouble result) keeper.new }
     ensures in_step { AreInStep state.new doubt.new (K.tells keeper.new) (K.holds keeper.new) }
+    ensures left { LeavesInStep state.new doubt.new (K.honest keeper.new) (K.may_leave keeper.new) }
 {
     match doubt.take() {
         Some(prepared) => settle_one(state, doubt, keeper, prepared),
@@ -41,6 +43,7 @@ pub(crate) fn settle<K: Keeper>(
 
 // Settles this entry, which was in doubt: it is entered where it was kept, and dropped where it was not. Where the keeper does
 // not say so, it stays in doubt.
+#[tactic(auto, using(crate::proofs::Leaving::settled_in_step, crate::proofs::Leaving::left_as_held))]
 fn settle_one<K: Keeper>(
     state: &mut State,
     doubt: &mut Option<Prepared>,
@@ -49,9 +52,11 @@ fn settle_one<K: Keeper>(
 ) -> Result<(), Trouble>
     requires none { doubt.old ≡ None }
     requires in_step { AreInStep state.old (Some prepared) (K.tells keeper.old) (K.holds keeper.old) }
+    requires left { LeavesInStep state.old (Some prepared) (K.honest keeper.old) (K.may_leave keeper.old) }
     ensures settled { HasSettled (parts_served state.old (Some prepared) (K.faults keeper.old)) result (parts_served state.new doubt.new (K.faults keeper.new)) }
     ensures assured { Assures K.tells K.fails_no_more keeper.old (settle_trouble result) keeper.new }
     ensures in_step { AreInStep state.new doubt.new (K.tells keeper.new) (K.holds keeper.new) }
+    ensures left { LeavesInStep state.new doubt.new (K.honest keeper.new) (K.may_leave keeper.new) }
 {
     let kept = u64::from(state.book().len());
     match keeper.generation(kept) {
