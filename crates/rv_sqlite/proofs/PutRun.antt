@@ -46,10 +46,10 @@ module _ (limit : Option ℕ) (keys : Keys) (c : Cell) (id : ℤ) (cells : List 
 
   inserted : Meets-Found [] → PutsRow (task_for limit keys c) (cell_row id c) tables (Ok one) → Stands (one.trees 0) (put_by cell_key c cells)
   inserted met h =
-      let cells_written = went h in
-      let trees : one.trees ≡ cells_written.0 = ap (λ (w : Written). w.trees) (same_value cells_written.2) in
-      let it = one_step cell_schema keys tables cells_written.0 (edit_of tables cell_table [] Given 0 (cell_row id c ∷ [])) refl cells_written.1 in
-      subst (λ (t : Trees). Stands (t 0) (put_by cell_key c cells)) (sym trees) (puts_stand (tables 0) (cells_written.0 0) cells id c old (fresh_puts keys tables cells_written.0 id c it (none_there met)))
+      let written = went h in
+      let trees : one.trees ≡ written.0 = ap (λ (w : Written). w.trees) (same_value written.2) in
+      let it = one_step cell_schema keys tables written.0 (edit_of tables cell_table [] Given 0 (cell_row id c ∷ [])) refl written.1 in
+      subst (λ (t : Trees). Stands (t 0) (put_by cell_key c cells)) (sym trees) (puts_stand (tables 0) (written.0 0) cells id c old (fresh_puts keys tables written.0 id c it (none_there met)))
 
   cleared : Meets-Found [] → (found : List Row) → Clears (task_for limit keys c) Abort (cell_row id c) tables found (Ok one) → Stands (one.trees 0) (put_by cell_key c cells)
   cleared met [] h = inserted met h
@@ -67,12 +67,12 @@ module _ (limit : Option ℕ) (keys : Keys) (c : Cell) (id : ℤ) (cells : List 
       let at : IsAt (cell_key c) d = at_if_passes j d c.shelf c.key (or_no _ (sym (conflicts_is id j c d) ∙ clash)) in
       let ran = subst (λ g. Updates (task_for limit keys c) update_program g tables (Ok one)) given h in
       let queried = went ran in
-      let cells_written = went queried.2 in
-      let trees : one.trees ≡ cells_written.0 = ap (λ (w : Written). w.trees) (same_value cells_written.2) in
-      let it = one_step cell_schema keys tables cells_written.0 (edit_of tables cell_table (ids_of queried.0) Given 1 queried.0) refl cells_written.1 in
+      let written = went queried.2 in
+      let trees : one.trees ≡ written.0 = ap (λ (w : Written). w.trees) (same_value written.2) in
+      let it = one_step cell_schema keys tables written.0 (edit_of tables cell_table (ids_of queried.0) Given 1 queried.0) refl written.1 in
       let found = are_shown update_terms update_shown [] tables (update_given j id c) queried.0 (queried.1.answer Null) in
       subst (λ (t : Trees). Stands (t 0) (put_by cell_key c cells)) (sym trees)
-      (puts_stand (tables 0) (cells_written.0 0) cells j c old (update_puts keys tables cells_written.0 cells j id c d queried.0 old (subst (Has (tables 0)) e.2 r.1) at found it))
+      (puts_stand (tables 0) (written.0 0) cells j c old (update_puts keys tables written.0 cells j id c d queried.0 old (subst (Has (tables 0)) e.2 r.1) at found it))
 
   upserted : Upserts (task_for limit keys c) Abort (cell_row id c) tables (upsert ∷ []) (Ok one) → Stands (one.trees 0) (put_by cell_key c cells)
   upserted h = go h.0 h.1 h.2

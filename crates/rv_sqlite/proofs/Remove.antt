@@ -84,8 +84,8 @@ removes old new shelf key count cells has h stands =
     let done = went (subst (λ s. Does old.step_limit (mode_of old) params (record old.now { schema = s }) text None remove_command (Ok (w.tally, new.now))) has w.changed) in
     let now = ap (λ (p : Tally × Database). p.1) (same_value (went (went done.2).2).2) in
     let given = went done.1 in
-    let cells_written = went given.2 in
-    let trees : done.0.trees ≡ cells_written.0 = ap (λ (it : Written). it.trees) (same_value cells_written.2) in
-    let rows = (one_step cell_schema _ tables cells_written.0 (edit_of tables cell_table (ids_of given.0) Given 0 []) refl cells_written.1).rows in
+    let written = went given.2 in
+    let trees : done.0.trees ≡ written.0 = ap (λ (it : Written). it.trees) (same_value written.2) in
+    let rows = (one_step cell_schema _ tables written.0 (edit_of tables cell_table (ids_of given.0) Given 0 []) refl written.1).rows in
     let left : new.now.trees 0 ≡ without_all (tables 0) (ids_of given.0) = ap (λ (d : Database). d.trees 0) now ∙ ap (λ (t : Trees). t 0) trees ∙ rows in
     (ap (λ (d : Database). d.schema) now, subst (λ l. Stands l (without cell_key (shelf ∷ key) cells)) (sym left) (removed shelf key (tables 0) given.0 cells (are_shown at_place (col 1 0 ∷ []) [] tables params given.0 (given.1.answer Null)) stands))

@@ -8,7 +8,7 @@ use Rattle.rv_keeper.specs.declared.change.Change.{Change}
 use Rattle.rv_base.specs.Sorted.{put_by, without}
 use Rattle.rv_keeper.specs.Cells.{cell_key, changed, changed_by}
 use Rattle.rv_sqlite.specs.Table.{put_text, remove_text}
-use Rattle.rv_sqlite.specs.Steps.{IsUnderWay, Steps, generation_cell, cells_written}
+use Rattle.rv_sqlite.specs.Steps.{IsUnderWay, Steps, generation_cell, all_next}
 use Rattle.rv_sqlite.proofs.Remove.{place_params, removes}
 use Rattle.rv_sqlite.proofs.PutRun.{put_params, puts}
 use Rattle.rv_sqlite.specs.Stands.{Stands}
@@ -44,7 +44,7 @@ steps_more a b c xs x p q =
 
 -- The changes were made, and then the generation was written.
 pub filled_by : {E : Type 0} (old mid new : State) (from : ℕ) (changes : List Change) (r : Result (Unit {0}) E) → IsTrue old.in_transaction → KeepsCommit old mid
-    → (IsUnderWay old → Steps old mid (λ cells. changed cells changes)) → OnOk r (Steps mid new (put_by cell_key (generation_cell (from + 1)))) → OnOk r (Steps old new (cells_written from changes))
+    → (IsUnderWay old → Steps old mid (λ cells. changed cells changes)) → OnOk r (Steps mid new (put_by cell_key (generation_cell (from + 1)))) → OnOk r (Steps old new (all_next from changes))
 filled_by old mid new from changes (Ok done) inside kept first last =
     let was : IsUnderWay old = record { inside = inside; is_open = kept.was_open last.was.is_open } in
     steps_then old mid new (λ cells. changed cells changes) (put_by cell_key (generation_cell (from + 1))) (first was) last

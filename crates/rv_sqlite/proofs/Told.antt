@@ -24,7 +24,7 @@ use Rattle.rv_keeper.specs.Keeping.{committed}
 use Rattle.rv_keeper.proofs.Changed.{are_cells_changed}
 use Rattle.rv_sqlite.specs.Table.{cell_schema}
 use Rattle.rv_sqlite.specs.Stands.{Stands, cell_row}
-use Rattle.rv_sqlite.specs.Steps.{generation_cell, cells_written, WritesCells, Comes}
+use Rattle.rv_sqlite.specs.Steps.{generation_cell, all_next, WritesCells, Comes}
 use Rattle.rv_sqlite.specs.Telling.{IsAll, StandFor, MayLeave, Holds, Tells, CommitsOrNot, LeavesCommit, LeavesNoMore}
 use Rattle.rv_sqlite.proofs.PutRows.{same_cell}
 use Rattle.rv_sqlite.proofs.Same.{ordered_same, Within}
@@ -102,7 +102,7 @@ pub in_order : (c : Loaded) (all : List Cell) → IsAll c all → InOrder cell_k
 in_order c all p up = elim p.are [ inl a ↦ (subst (InOrder cell_key) a up).1 | inr a ↦ subst (InOrder cell_key) a.1 up ]
 
 pub written_all : (from : ℕ) (changes : List Change) (c : Loaded) (all : List Cell) → from < 2 ^ 64 - 1 → AreChanges changes → InOrder cell_key all → IsAll c all
-    → IsAll (committed from changes c) (cells_written from changes all)
+    → IsAll (committed from changes c) (all_next from changes all)
 written_all from changes c all low are up p =
     let after = all_cells changes c.cells are.shelves (record { order = in_order c all p up; shelves = p.shelves }) in
     record {
@@ -115,8 +115,8 @@ written_all from changes c all low are up p =
     }
 
 stand_after : (from : ℕ) (changes : List Change) (old new : Trees) (c : Loaded) → from < 2 ^ 64 - 1 → AreChanges changes → StandFor old c
-    → ((cells : List Cell) → Stands (old 0) cells → Stands (new 0) (cells_written from changes cells)) → StandFor new (committed from changes c)
-stand_after from changes old new c low are p f = record { all = cells_written from changes p.all; whole = written_all from changes c p.all low are p.stands.order p.whole; stands = f p.all p.stands }
+    → ((cells : List Cell) → Stands (old 0) cells → Stands (new 0) (all_next from changes cells)) → StandFor new (committed from changes c)
+stand_after from changes old new c low are p f = record { all = all_next from changes p.all; whole = written_all from changes c p.all low are p.stands.order p.whole; stands = f p.all p.stands }
 
 -- an outcome that stands for these contents is no other
 pub leaves_one : (s : State) (tables : Trees) (c : Loaded) (x : Option Loaded) → StandFor tables c → MayLeave s x → ((other : Trees) → s.may_leave other → other ≡ tables) → x ≡ Some c

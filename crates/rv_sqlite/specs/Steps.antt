@@ -20,8 +20,8 @@ abbrev pub generation_cell : ℕ → Cell
 generation_cell generation = cell_of 0 [] (decimal generation)
 
 -- all cells after a commit, that of the generation among them
-abbrev pub cells_written : ℕ → List Change → List Cell → List Cell
-cells_written from changes cells = put_by cell_key (generation_cell (from + 1)) (changed cells changes)
+abbrev pub all_next : ℕ → List Change → List Cell → List Cell
+all_next from changes cells = put_by cell_key (generation_cell (from + 1)) (changed cells changes)
 
 -- a transaction is under way, and the connection is open
 pub record IsUnderWay (s : State) : Type 0 where
@@ -41,7 +41,7 @@ ShowsCommitted old new = Shows old new old.now old.now false
 
 -- the trees stand for the cells that a commit writes, where what was committed before stood for cells
 abbrev pub WritesCells : State → ℕ → List Change → Trees → Type 0
-WritesCells old from changes trees = old.committed.schema ≡ cell_schema → (cells : List Cell) → Stands (old.committed.trees 0) cells → Stands (trees 0) (cells_written from changes cells)
+WritesCells old from changes trees = old.committed.schema ≡ cell_schema → (cells : List Cell) → Stands (old.committed.trees 0) cells → Stands (trees 0) (all_next from changes cells)
 
 -- the commit was made: the connection is open, and has what the commit writes
 pub record IsWritten (old new : State) (from : ℕ) (changes : List Change) : Type 0 where

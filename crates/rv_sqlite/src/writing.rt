@@ -5,7 +5,7 @@ ghost use Rattle.rv_keeper.specs.Cells.{changed};
 ghost use Rattle.sqlite.specs.State.{HasCleanDisk, KeepsCommit, Survives};
 ghost use Rattle.sqlite.specs.Held.{state};
 ghost use Rattle.rv_sqlite.specs.Faults.{fault_of};
-ghost use Rattle.rv_sqlite.specs.Steps.{Comes, IsSettledWhereOpen, IsUnderWay, KeepsWhereClean, ShowsCommitted, Steps, WritesCells, cells_written};
+ghost use Rattle.rv_sqlite.specs.Steps.{Comes, IsSettledWhereOpen, IsUnderWay, KeepsWhereClean, ShowsCommitted, Steps, WritesCells, all_next};
 
 use crate::statements::{is_settled, make_change, put_generation};
 use rv_keeper::{Change, KeepFault};
@@ -46,7 +46,7 @@ fn fill<S: Alter>(
 ) -> Result<(), Error>
     requires { from < 2 ^ 64 - 1 }
     ensures same_reference { transaction.new.conn.ghost_name ≡ transaction.old.conn.ghost_name }
-    ensures steps { HasCleanDisk (state S.Store transaction.new.conn.now) → IsTrue (state S.Store transaction.old.conn.now).in_transaction → OnOk result (Steps (state S.Store transaction.old.conn.now) (state S.Store transaction.new.conn.now) (cells_written from changes.now)) }
+    ensures steps { HasCleanDisk (state S.Store transaction.new.conn.now) → IsTrue (state S.Store transaction.old.conn.now).in_transaction → OnOk result (Steps (state S.Store transaction.old.conn.now) (state S.Store transaction.new.conn.now) (all_next from changes.now)) }
     ensures kept { KeepsWhereClean S.Store transaction.old.conn.now transaction.new.conn.now }
     ensures survives { Survives (state S.Store transaction.old.conn.now) (state S.Store transaction.new.conn.now) (λ _. ⊥) }
 {
