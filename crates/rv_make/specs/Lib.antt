@@ -4,3 +4,7 @@ pub mod Names
 pub mod Calls
 pub mod Making
 pub mod Requests
+pub mod Devices
+pub mod Asking
+pub mod Answered
+pub mod SummaryTexts

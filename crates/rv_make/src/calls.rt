@@ -1,7 +1,7 @@
 // What the pushes ask for.
 ghost use Rattle.std.specs.Prelude.{◌≡◌, ◌%◌, ◌<◌, IfOk, codes, Some, None, true, false};
 ghost use Rattle.rv_rows.specs.declared.call.Call.TheVariants as calls;
-ghost use Rattle.rv_make.specs.Names.{named, user_name};
+ghost use Rattle.rv_make.specs.Names.{lettered, user_name};
 ghost use Rattle.rv_make.specs.Calls.{call_of};
 
 use crate::names::name;
@@ -18,25 +18,25 @@ pub(crate) fn user_of(alloc: Global, user: u32) -> Result<User, Memory>
 
 // The list, the share or the todo of this number, by the letter of its kind.
 fn list_id(alloc: Global, list: u32) -> Result<Id, Memory>
-    ensures { IfOk result (λ id. id ≡ named (codes "l") list) }
+    ensures { IfOk result (λ id. id ≡ lettered (codes "l") list) }
 {
     name(alloc, "l", list)
 }
 
 fn share_id(alloc: Global, share: u32) -> Result<Id, Memory>
-    ensures { IfOk result (λ id. id ≡ named (codes "s") share) }
+    ensures { IfOk result (λ id. id ≡ lettered (codes "s") share) }
 {
     name(alloc, "s", share)
 }
 
 fn todo_id(alloc: Global, todo: u32) -> Result<Id, Memory>
-    ensures { IfOk result (λ id. id ≡ named (codes "t") todo) }
+    ensures { IfOk result (λ id. id ≡ lettered (codes "t") todo) }
 {
     name(alloc, "t", todo)
 }
 
 fn create_list(alloc: Global, user: u32, list: u32) -> Result<Call, Memory>
-    ensures { IfOk result (λ call. call ≡ calls.CreateList (named (codes "l") list) (named (codes "n") list) (user_name user)) }
+    ensures { IfOk result (λ call. call ≡ calls.CreateList (lettered (codes "l") list) (lettered (codes "n") list) (user_name user)) }
 {
     Ok(Call::CreateList {
         id: list_id(alloc, list)?,
@@ -46,7 +46,7 @@ fn create_list(alloc: Global, user: u32, list: u32) -> Result<Call, Memory>
 }
 
 fn create_share(alloc: Global, share: u32, list: u32, user: u32) -> Result<Call, Memory>
-    ensures { IfOk result (λ call. call ≡ calls.CreateShare (named (codes "s") share) (named (codes "l") list) (user_name user)) }
+    ensures { IfOk result (λ call. call ≡ calls.CreateShare (lettered (codes "s") share) (lettered (codes "l") list) (user_name user)) }
 {
     Ok(Call::CreateShare {
         id: share_id(alloc, share)?,
@@ -56,7 +56,7 @@ fn create_share(alloc: Global, share: u32, list: u32, user: u32) -> Result<Call,
 }
 
 fn create_todo(alloc: Global, todo: u32, list: u32, number: u32) -> Result<Call, Memory>
-    ensures { IfOk result (λ call. call ≡ calls.CreateTodo (named (codes "t") todo) (named (codes "l") list) (named (codes "x") number) false) }
+    ensures { IfOk result (λ call. call ≡ calls.CreateTodo (lettered (codes "t") todo) (lettered (codes "l") list) (lettered (codes "x") number) false) }
 {
     Ok(Call::CreateTodo {
         id: todo_id(alloc, todo)?,
@@ -67,7 +67,7 @@ fn create_todo(alloc: Global, todo: u32, list: u32, number: u32) -> Result<Call,
 }
 
 fn update_todo(alloc: Global, todo: u32, number: u32) -> Result<Call, Memory>
-    ensures { IfOk result (λ call. call ≡ calls.UpdateTodo (named (codes "t") todo) (Some (named (codes "x") number)) (Some true) None) }
+    ensures { IfOk result (λ call. call ≡ calls.UpdateTodo (lettered (codes "t") todo) (Some (lettered (codes "x") number)) (Some true) None) }
 {
     Ok(Call::UpdateTodo {
         id: todo_id(alloc, todo)?,

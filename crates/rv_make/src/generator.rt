@@ -1,7 +1,7 @@
 // The generator of requests.
 ghost use Rattle.std.specs.Prelude.{◌≡◌, ◌<◌, ◌-◌, ◌^◌, IfOk, OnOk, OnErr};
-ghost use Rattle.rv_make.specs.Making.{nothing_sent};
-ghost use Rattle.rv_make.specs.Requests.{started, step, makes, pushes, pushes_anew, pushes_again, pulls_last, pulls_null, counted, push_of, requests};
+ghost use Rattle.rv_make.specs.Making.{nothing_pushed};
+ghost use Rattle.rv_make.specs.Requests.{started, next_made, makes, pushes, pushes_anew, pushes_again, pulls_last, pulls_null, made_one, push_of, requests};
 
 use crate::calls::{call_of, user_of};
 use crate::draws::{draw_of, drawn};
@@ -13,7 +13,7 @@ use std::marker::Model;
 
 // What was drawn for a push: the kind of its call, and the row that it is of; and the number of its request.
 #[derive(Clone, Copy, Debug)]
-pub(crate) struct Drawn {
+pub(crate) struct DrawnPush {
     pub(crate) kind: u32,
     pub(crate) row: u32,
     pub(crate) request: u32,
@@ -21,17 +21,17 @@ pub(crate) struct Drawn {
 
 // What a user pushed: how many pushes were made anew, and the last of these.
 #[derive(Clone, Copy, Debug)]
-pub(crate) struct Sent {
+pub(crate) struct Pushed {
     pub(crate) count: u32,
-    pub(crate) last: Option<Drawn>,
+    pub(crate) last: Option<DrawnPush>,
 }
 
-impl Sent {
+impl Pushed {
     // No push.
-    fn none() -> Sent
-        ensures { result ≡ nothing_sent }
+    fn none() -> Pushed
+        ensures { result ≡ nothing_pushed }
     {
-        Sent {
+        Pushed {
             count: 0,
             last: None,
         }
@@ -45,7 +45,7 @@ impl Sent {
 pub struct Generator {
     number: u32,
     made: u32,
-    sent: Three<Sent>,
+    pushed: Three<Pushed>,
 }
 
 impl Model for Generator {
@@ -53,9 +53,9 @@ impl Model for Generator {
 
     ghost Value = { Making };
 
-    ghost view = { λ g. record { number = g.number; made = g.made; sent = g.sent } };
+    ghost view = { λ g. record { number = g.number; made = g.made; pushed = g.pushed } };
 
-    ghost invariant = { λ g. AreCounted g.made g.sent };
+    ghost invariant = { λ g. AreCounted g.made g.pushed };
 }
 
 impl Generator {
@@ -66,20 +66,20 @@ impl Generator {
         Generator {
             number: seed,
             made: 0,
-            sent: Three {
-                first: Sent::none(),
-                second: Sent::none(),
-                third: Sent::none(),
+            pushed: Three {
+                first: Pushed::none(),
+                second: Pushed::none(),
+                third: Pushed::none(),
             },
         }
     }
 
     /// The next request. Where memory is refused, the generator is as it was.
-    #[tactic(auto, unfolding(crate::specs::Requests::step))]
+    #[tactic(auto, unfolding(crate::specs::Requests::next_made))]
     pub fn next(&mut self, alloc: Global) -> Result<MadeRequest, Memory>
         requires { self.old.made < 2 ^ 32 - 1 }
-        ensures request { IfOk result (λ request. request ≡ (step self.old).0) }
-        ensures ok { OnOk result (self.new ≡ (step self.old).1) }
+        ensures request { IfOk result (λ request. request ≡ (next_made self.old).0) }
+        ensures ok { OnOk result (self.new ≡ (next_made self.old).1) }
         ensures err { OnErr result (self.new ≡ self.old) }
     {
         let user = drawn(self.number);
@@ -122,7 +122,7 @@ impl Generator {
     {
         let kind = drawn(number);
         let row = drawn(kind);
-        let push = Drawn {
+        let push = DrawnPush {
             kind: draw_of(kind) % 7,
             row: draw_of(row) % 20,
             request: self.made + 1,
@@ -135,7 +135,7 @@ impl Generator {
         &mut self,
         alloc: Global,
         user: u32,
-        push: Drawn,
+        push: DrawnPush,
         number: u32,
     ) -> Result<MadeRequest, Memory>
         requires user { user < 3 }
@@ -144,11 +144,11 @@ impl Generator {
         ensures ok { OnOk result (self.new ≡ (pushes self.old user push number).1) }
         ensures err { OnErr result (self.new ≡ self.old) }
     {
-        let count = self.sent.of(user).count + 1;
+        let count = self.pushed.of(user).count + 1;
         let request = push_of(alloc, user, count, push)?;
-        self.sent.set(
+        self.pushed.set(
             user,
-            Sent {
+            Pushed {
                 count,
                 last: Some(push),
             },
@@ -190,7 +190,7 @@ impl Generator {
         ensures ok { OnOk result (self.new ≡ (pushes_again self.old user number).1) }
         ensures err { OnErr result (self.new ≡ self.old) }
     {
-        let Sent { count, last } = *self.sent.of(user);
+        let Pushed { count, last } = *self.pushed.of(user);
         match last {
             Some(push) => {
                 let request = push_of(alloc, user, count, push)?;
@@ -204,7 +204,7 @@ impl Generator {
     // One more request, after the draw that left this number.
     fn count(&mut self, number: u32)
         requires { self.old.made < 2 ^ 32 - 1 }
-        ensures { self.new ≡ counted self.old number }
+        ensures { self.new ≡ made_one self.old number }
     {
         self.number = number;
         self.made += 1;
@@ -212,7 +212,7 @@ impl Generator {
 }
 
 // The push of this number that was drawn for a user.
-fn push_of(alloc: Global, user: u32, id: u32, push: Drawn) -> Result<MadeRequest, Memory>
+fn push_of(alloc: Global, user: u32, id: u32, push: DrawnPush) -> Result<MadeRequest, Memory>
     requires { user < 3 }
     ensures { IfOk result (λ request. request ≡ push_of user id push) }
 {
