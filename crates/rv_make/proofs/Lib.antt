@@ -1,1 +1,4 @@
 pub mod MakingLaws
+pub mod PlayLaws
+pub mod Midway
+pub mod Fresh

@@ -1,11 +1,10 @@
 -- A request that is made counts, and those that are left are one fewer.
-use Rattle.std.proofs.Common.{◌≡◌, ℕ, zero, suc, ◌+◌, ◌-◌, ◌%◌, ◌<◌, ◌≤◌, ◌++◌, ◌∷◌, List, [], Bool, true, false, cond, Option, Some, None, nat_le, ◌==◌, refl, sym, ap, ◌∙◌, subst, arith, append_assoc, append-nil}
+use Rattle.std.proofs.Common.{◌≡◌, ℕ, suc, ◌+◌, ◌-◌, ◌%◌, ◌<◌, ◌++◌, ◌∷◌, List, [], Bool, true, false, cond, Option, Some, None, nat_le, ◌==◌, refl, ap, ◌∙◌, subst, arith, append_assoc}
 use Rattle.rv_make.specs.declared.generator.DrawnPush.{DrawnPush}
 use Rattle.rv_make.specs.declared.made.MadeRequest.{MadeRequest}
-use Rattle.rv_make.specs.declared.generator.Pushed.{Pushed}
 use Rattle.rv_make.specs.Making.{Making}
 use Rattle.rv_make.specs.Draws.{drawn, draw_of}
-use Rattle.rv_make.specs.Requests.{MadeStep, makes, pushes_anew, pushes_again, pulls_last, pulls_null, repeats, next_made, made_from, requests, started}
+use Rattle.rv_make.specs.Requests.{MadeStep, makes, repeats, next_made, made_from}
 use Rattle.rv_make.specs.Threes.{held_by}
 
 -- the generator has made one more

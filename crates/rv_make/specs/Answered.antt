@@ -1,8 +1,8 @@
 -- How many requests were answered how.
-use Rattle.std.specs.Prelude.{ℕ, ◌+◌, ◌-◌, ◌^◌, ◌<◌, ◌≢◌, Bool, true, false, not, List, Some, count_by, if◌then◌else◌}
-use Rattle.rv_turns.specs.Outcomes.{has_acted, refusal_of}
+use Rattle.std.specs.Prelude.{ℕ, ◌+◌, ◌-◌, ◌^◌, ◌<◌, Bool, true, false, not, List, count_by, if◌then◌else◌}
+use Rattle.rv_turns.specs.Outcomes.{has_acted}
 use Rattle.rv_turns.specs.declared.outcome.Outcome.{Outcome}
-use Rattle.rv_turns.specs.declared.outcome.Outcome.TheVariants.{Skipped, Pulled}
+use Rattle.rv_turns.specs.declared.outcome.Outcome.TheVariants.{Skipped, Pulled, Refused}
 use Rattle.rv_turns.specs.declared.refusal.Refusal.TheVariants.{Memory}
 use Rattle.rv_make.specs.declared.counts.AnswerCounts.{AnswerCounts}
 
@@ -21,9 +21,10 @@ abbrev pub is_same : Outcome → Bool
 is_same (Pulled reply) = reply.same
 is_same outcome = false
 
--- memory was not refused
-abbrev pub HadMemory : Outcome → Type 0
-HadMemory outcome = refusal_of outcome ≢ Some Memory
+-- memory was refused
+abbrev pub lacked_memory : Outcome → Bool
+lacked_memory (Refused Memory) = true
+lacked_memory outcome = false
 
 abbrev pub no_counts : AnswerCounts
 no_counts = record { acted = 0; skipped = 0; looks = 0; same = 0 }

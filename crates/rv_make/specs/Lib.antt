@@ -8,3 +8,5 @@ pub mod Devices
 pub mod Asking
 pub mod Answered
 pub mod SummaryTexts
+pub mod Plays
+pub mod Playing

@@ -1,5 +1,5 @@
 // What the pushes ask for.
-ghost use Rattle.std.specs.Prelude.{◌≡◌, ◌%◌, ◌<◌, IfOk, codes, Some, None, true, false};
+ghost use Rattle.std.specs.Prelude.{◌≡◌, ◌<◌, IfOk, codes, Some, None, true, false};
 ghost use Rattle.rv_rows.specs.declared.call.Call.TheVariants as calls;
 ghost use Rattle.rv_make.specs.Names.{lettered, user_name};
 ghost use Rattle.rv_make.specs.Calls.{call_of};

@@ -1,8 +1,8 @@
 // How many requests were answered how.
 ghost use Rattle.std.specs.Prelude.{◌≡◌};
-ghost use Rattle.rv_make.specs.Answered.{is_skipped, is_look, is_same, counts_after, no_counts, MayCount};
+ghost use Rattle.rv_make.specs.Answered.{is_skipped, is_look, is_same, lacked_memory, counts_after, no_counts, MayCount};
 
-use rv_turns::Outcome;
+use rv_turns::{Outcome, Refusal};
 
 // How many mutations were run and how many skipped; how many pulls entered a look, and how many were answered with their own cookie.
 #[derive(Clone, Copy, Debug)]
@@ -35,6 +35,13 @@ fn is_same(outcome: &Outcome) -> bool
         Outcome::Pulled(reply) => reply.same,
         _ => false,
     }
+}
+
+// Memory was refused.
+pub(crate) fn lacked_memory(outcome: &Outcome) -> bool
+    ensures { result ≡ lacked_memory outcome.now }
+{
+    matches!(outcome, Outcome::Refused(Refusal::Memory))
 }
 
 impl AnswerCounts {

@@ -1,5 +1,5 @@
 // Numbers that look like chance, from a seed.
-ghost use Rattle.std.specs.Prelude.{◌≡◌, ◌<◌, ◌≤◌, ◌^◌};
+ghost use Rattle.std.specs.Prelude.{◌≡◌};
 ghost use Rattle.rv_make.specs.Draws.{drawn, draw_of};
 
 // The number after this one.

@@ -12,11 +12,11 @@ mod draws;
 mod generator;
 mod made;
 mod names;
-// mod playing;
+mod playing;
 mod summary;
 mod three;
 
 pub use generator::{Generator, make_requests};
 pub use made::{MadeRequest, Requests};
-// pub use playing::play;
+pub use playing::play;
 pub use summary::Summary;
