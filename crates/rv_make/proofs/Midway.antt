@@ -16,7 +16,8 @@ use Rattle.rv_make.specs.Requests.{made_from, next_made, requests, started}
 use Rattle.rv_make.proofs.MakingLaws.{made_on, counted_on}
 use Rattle.rv_make.proofs.PlayLaws.{answers_more, answers_room, takes_more, length_more}
 
--- The first requests were taken, so many, and these are the counts of their outcomes; the generator makes those that are left.
+-- The first requests were taken, so many, and these are the counts of their outcomes; the generator makes those that are left. The keeper
+-- fails no more.
 pub record IsMidway {K : Type 0} (G : Ghosts K) (seed n index : ℕ) (making : Making) (devices : Three Device) (counts : AnswerCounts) (desk : Seated K) : Type 0 where
   pub before : List MadeRequest
   pub outcomes : List Outcome
@@ -25,15 +26,16 @@ pub record IsMidway {K : Type 0} (G : Ghosts K) (seed n index : ℕ) (making : M
   pub made : making.made ≡ index
   pub many : length outcomes ≡ index
   pub counted : counts ≡ answers_of outcomes
+  pub steady : G.fails_no_more desk.keeper
 
 whole : (n : ℕ) → n - 0 ≡ n
 whole n = omega arith
 
 module _ {K : Type 0} (G : Ghosts K) (seed n : ℕ) where
   -- at first none was taken
-  pub midway_first : (making : Making) (devices : Three Device) (counts : AnswerCounts) (desk : Seated K) → making ≡ started seed → devices ≡ first_devices → counts ≡ no_counts → served G.faults desk ≡ fresh
+  pub midway_first : (making : Making) (devices : Three Device) (counts : AnswerCounts) (desk : Seated K) → making ≡ started seed → devices ≡ first_devices → counts ≡ no_counts → served G.faults desk ≡ fresh → G.fails_no_more desk.keeper
       → IsMidway G seed n 0 making devices counts desk
-  midway_first making devices counts desk starts first none is = record {
+  midway_first making devices counts desk starts first none is steady = record {
     before = [];
     outcomes = [];
     run = λ i. record { server = is i; devices = first i };
@@ -41,6 +43,7 @@ module _ {K : Type 0} (G : Ghosts K) (seed n : ℕ) where
     made = ap (λ (m : Making). m.made) starts;
     many = refl;
     counted = none;
+    steady = steady;
   }
 
   -- one more is taken
@@ -50,11 +53,12 @@ module _ {K : Type 0} (G : Ghosts K) (seed n : ℕ) where
   midway_on index making next devices later counts more desk new request lt m asked then one = record {
     before = m.before ++ request ∷ [];
     outcomes = m.outcomes ++ one.outcome ∷ [];
-    run = takes_more m.before m.outcomes first_scene _ _ request one.outcome m.run (record { turn = one.turn.turn; memory = one.memory; devices = one.kept });
+    run = takes_more m.before m.outcomes first_scene _ _ request one.outcome m.run (record { turn = one.turn.turn; memory = one.memory; trouble = one.turn.assured.sure m.steady; devices = one.kept });
     left = made_on m.before (m.before ++ request ∷ []) making next request n index (requests seed n) lt m.left asked then refl;
     made = counted_on making next index m.made then;
     many = length_more m.outcomes one.outcome ∙ ap (λ (k : ℕ). k + 1) m.many;
     counted = answers_more m.outcomes one.outcome counts more m.counted one.counted;
+    steady = one.turn.assured.goes_on m.steady;
   }
 
   -- the generator may go on, and so may the counts

@@ -2,6 +2,7 @@
 use Rattle.std.specs.Prelude.{◌≡◌, ℕ, ◌-◌, ◌^◌, List, [], ◌∷◌, None, false, length}
 use Rattle.rv_rows.specs.Held.{Stored}
 use Rattle.rv_book.specs.Book.{Book, empty_book, size}
+use Rattle.rv_turns.specs.Outcomes.{trouble_of}
 use Rattle.rv_turns.specs.declared.outcome.Outcome.{Outcome}
 use Rattle.rv_wire.specs.Answers.{pull_json}
 use Rattle.rv_history.specs.Replay.{IsReplay}
@@ -21,10 +22,11 @@ pub record Scene : Type 0 where
   pub server : Served
   pub devices : Three Device
 
--- A request is taken in one turn, with this outcome. Memory is not refused.
+-- A request is taken in one turn, with this outcome. Memory is not refused, and there is no trouble with what keeps the book.
 pub record TakesRequest (old : Scene) (request : MadeRequest) (outcome : Outcome) (new : Scene) : Type 0 where
   pub turn : TakesTurn pull_json old.server (ask_for request old.devices) outcome new.server
   pub memory : lacked_memory outcome ≡ false
+  pub trouble : trouble_of outcome ≡ None
   pub devices : new.devices ≡ devices_after request outcome old.devices
 
 -- requests are taken in order, each with its outcome

@@ -101,6 +101,7 @@ fn play_all<K: Keeper>(
     requires fresh { served K.faults desk.old ≡ fresh }
     requires devices { devices.old ≡ first_devices }
     requires counts { counts.old ≡ no_counts }
+    requires steady { K.fails_no_more desk.old.keeper }
     ensures { OnOk result (PlaysAll K.Keeper seed n devices.new counts.new desk.new) }
 {
     let mut generator = Generator::new(seed);
@@ -118,7 +119,8 @@ fn play_at<K: Keeper>(
     seed: u32,
     n: u32,
 ) -> Result<Summary, Memory>
-    requires { served K.faults desk.old ≡ fresh }
+    requires fresh { served K.faults desk.old ≡ fresh }
+    requires steady { K.fails_no_more desk.old.keeper }
     ensures { IfOk result (λ summary. Plays seed n summary) }
 {
     let mut devices = first_devices(alloc)?;
@@ -132,7 +134,8 @@ fn open_fresh<K: Keeper + Drop>(alloc: Global, keeper: K) -> Result<Desk<K>, Mem
     requires holds { K.holds keeper (holding [] 0) }
     requires steady { K.fails_no_more keeper }
     requires faults { K.faults keeper ≡ 0 }
-    ensures { IfOk result (λ desk. served K.faults desk ≡ fresh) }
+    ensures fresh { IfOk result (λ desk. served K.faults desk ≡ fresh) }
+    ensures steady { IfOk result (λ desk. K.fails_no_more desk.keeper) }
 {
     match Desk::open(alloc, keeper, u32::MAX) {
         Ok(desk) => Ok(desk),

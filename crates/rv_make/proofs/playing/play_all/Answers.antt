@@ -2,7 +2,7 @@ use Rattle.rv_make.proofs.Midway.{midway_counts, midway_first, midway_last, midw
 use Rattle.rv_make.proofs.playing.play_all.Goals as goal
 
 pub loop-index-init : goal.loop-index-init
-loop-index-init g c = midway_first g.K.Keeper c.args.seed c.args.n _ _ _ _ c.new-generator.ensures c.requires.devices c.requires.counts c.requires.fresh
+loop-index-init g c = midway_first g.K.Keeper c.args.seed c.args.n _ _ _ _ c.new-generator.ensures c.requires.devices c.requires.counts c.requires.fresh c.requires.steady
 
 pub next-requires : goal.next-requires
 next-requires g c = midway_makes g.K.Keeper c.args.seed c.args.n _ _ _ _ _ c.loop-index-test.true c.ranges.n.fits c.loop-index.invariant
