@@ -6,6 +6,7 @@ use Rattle.std.specs.Result.{IsErr, IsErrAnd}
 use Rattle.rv_keeper.specs.declared.fault.KeepFault.{KeepFault}
 use Rattle.rv_keeper.specs.declared.fault.KeepFault.TheVariants.{Failed, Memory}
 use Rattle.rv_keeper.specs.declared.memory_keeper.Fails.{Fails}
+use Rattle.rv_keeper.specs.declared.memory_keeper.Fails.TheVariants as calls
 use Rattle.rv_keeper.specs.declared.memory_keeper.Fails.TheVariants.{Before, After, Load, Generation}
 use Rattle.rv_keeper.specs.Schedules.{fails_at, next_call, KeeperFailsNoMore}
 
@@ -28,6 +29,7 @@ no_load : (loads questions commits : ℕ) (schedule : List Fails) → KeeperFail
 no_load loads questions commits [] all = refl
 no_load loads questions commits (Before n ∷ schedule) all = no_load loads questions commits schedule all.1
 no_load loads questions commits (After n ∷ schedule) all = no_load loads questions commits schedule all.1
+no_load loads questions commits (calls.Memory n ∷ schedule) all = no_load loads questions commits schedule all.1
 no_load loads questions commits (Load n ∷ schedule) all = or_else _ _ (other_number n (next_call loads) all.0) (no_load loads questions commits schedule all.1)
 no_load loads questions commits (Generation n ∷ schedule) all = no_load loads questions commits schedule all.1
 
@@ -35,6 +37,7 @@ no_question : (loads questions commits : ℕ) (schedule : List Fails) → Keeper
 no_question loads questions commits [] all = refl
 no_question loads questions commits (Before n ∷ schedule) all = no_question loads questions commits schedule all.1
 no_question loads questions commits (After n ∷ schedule) all = no_question loads questions commits schedule all.1
+no_question loads questions commits (calls.Memory n ∷ schedule) all = no_question loads questions commits schedule all.1
 no_question loads questions commits (Load n ∷ schedule) all = no_question loads questions commits schedule all.1
 no_question loads questions commits (Generation n ∷ schedule) all = or_else _ _ (other_number n (next_call questions) all.0) (no_question loads questions commits schedule all.1)
 
@@ -42,6 +45,7 @@ no_before : (loads questions commits : ℕ) (schedule : List Fails) → KeeperFa
 no_before loads questions commits [] all = refl
 no_before loads questions commits (Before n ∷ schedule) all = or_else _ _ (other_number n (next_call commits) all.0) (no_before loads questions commits schedule all.1)
 no_before loads questions commits (After n ∷ schedule) all = no_before loads questions commits schedule all.1
+no_before loads questions commits (calls.Memory n ∷ schedule) all = no_before loads questions commits schedule all.1
 no_before loads questions commits (Load n ∷ schedule) all = no_before loads questions commits schedule all.1
 no_before loads questions commits (Generation n ∷ schedule) all = no_before loads questions commits schedule all.1
 
@@ -49,6 +53,7 @@ no_after : (loads questions commits : ℕ) (schedule : List Fails) → KeeperFai
 no_after loads questions commits [] all = refl
 no_after loads questions commits (Before n ∷ schedule) all = no_after loads questions commits schedule all.1
 no_after loads questions commits (After n ∷ schedule) all = or_else _ _ (other_number n (next_call commits) all.0) (no_after loads questions commits schedule all.1)
+no_after loads questions commits (calls.Memory n ∷ schedule) all = no_after loads questions commits schedule all.1
 no_after loads questions commits (Load n ∷ schedule) all = no_after loads questions commits schedule all.1
 no_after loads questions commits (Generation n ∷ schedule) all = no_after loads questions commits schedule all.1
 
@@ -57,6 +62,7 @@ later_load : (loads questions commits : ℕ) (schedule : List Fails) → KeeperF
 later_load loads questions commits [] all = tt
 later_load loads questions commits (Before n ∷ schedule) all = (all.0, later_load loads questions commits schedule all.1)
 later_load loads questions commits (After n ∷ schedule) all = (all.0, later_load loads questions commits schedule all.1)
+later_load loads questions commits (calls.Memory n ∷ schedule) all = (all.0, later_load loads questions commits schedule all.1)
 later_load loads questions commits (Load n ∷ schedule) all = (past_more n loads all.0, later_load loads questions commits schedule all.1)
 later_load loads questions commits (Generation n ∷ schedule) all = (all.0, later_load loads questions commits schedule all.1)
 
@@ -64,6 +70,7 @@ later_question : (loads questions commits : ℕ) (schedule : List Fails) → Kee
 later_question loads questions commits [] all = tt
 later_question loads questions commits (Before n ∷ schedule) all = (all.0, later_question loads questions commits schedule all.1)
 later_question loads questions commits (After n ∷ schedule) all = (all.0, later_question loads questions commits schedule all.1)
+later_question loads questions commits (calls.Memory n ∷ schedule) all = (all.0, later_question loads questions commits schedule all.1)
 later_question loads questions commits (Load n ∷ schedule) all = (all.0, later_question loads questions commits schedule all.1)
 later_question loads questions commits (Generation n ∷ schedule) all = (past_more n questions all.0, later_question loads questions commits schedule all.1)
 
@@ -71,6 +78,7 @@ later_commit : (loads questions commits : ℕ) (schedule : List Fails) → Keepe
 later_commit loads questions commits [] all = tt
 later_commit loads questions commits (Before n ∷ schedule) all = (past_more n commits all.0, later_commit loads questions commits schedule all.1)
 later_commit loads questions commits (After n ∷ schedule) all = (past_more n commits all.0, later_commit loads questions commits schedule all.1)
+later_commit loads questions commits (calls.Memory n ∷ schedule) all = (past_more n commits all.0, later_commit loads questions commits schedule all.1)
 later_commit loads questions commits (Load n ∷ schedule) all = (all.0, later_commit loads questions commits schedule all.1)
 later_commit loads questions commits (Generation n ∷ schedule) all = (all.0, later_commit loads questions commits schedule all.1)
 

@@ -2,6 +2,7 @@
 use Rattle.std.specs.Prelude.{◌≡◌, ℕ, ◌+◌, ◌-◌, ◌^◌, ◌<◌, ◌==◌, min, Bool, true, false, not, ◌||◌, ◌⊎◌, List, Result, Ok, Err, if◌then◌else◌}
 use Rattle.std.specs.List.{list_any, AllByRecursion}
 use Rattle.rv_keeper.specs.declared.memory_keeper.Fails.{Fails}
+use Rattle.rv_keeper.specs.declared.memory_keeper.Fails.TheVariants as calls
 use Rattle.rv_keeper.specs.declared.memory_keeper.Fails.TheVariants.{Before, After, Load, Generation}
 use Rattle.rv_keeper.specs.declared.change.Change.{Change}
 use Rattle.rv_keeper.specs.declared.fault.KeepFault.{KeepFault}
@@ -13,6 +14,7 @@ use Rattle.rv_keeper.specs.Keeping.{committed}
 abbrev pub same_fails : Fails → Fails → Bool
 same_fails (Before one) (Before two) = one == two
 same_fails (After one) (After two) = one == two
+same_fails (calls.Memory one) (calls.Memory two) = one == two
 same_fails (Load one) (Load two) = one == two
 same_fails (Generation one) (Generation two) = one == two
 same_fails one two = false
@@ -29,6 +31,7 @@ next_call n = min (n + 1) (2 ^ 64 - 1)
 abbrev pub IsPast : ℕ → ℕ → ℕ → Fails → Type 0
 IsPast loads questions commits (Before n) = n < next_call commits
 IsPast loads questions commits (After n) = n < next_call commits
+IsPast loads questions commits (calls.Memory n) = n < next_call commits
 IsPast loads questions commits (Load n) = n < next_call loads
 IsPast loads questions commits (Generation n) = n < next_call questions
 
@@ -57,12 +60,13 @@ IsLoad fails held (Err Failed) = fails ≡ true
 IsLoad fails held (Err Memory) = fails ≡ false
 
 -- What a commit is answered and leaves. It fails exactly where the schedule says so: before the changes are made, or
--- after.
-abbrev pub IsCommit : Bool → Bool → ℕ → List Change → Loaded → Loaded → Result (Unit {0}) KeepFault → Type 0
-IsCommit before after from changes old new (Ok done) = (before ≡ false) × (after ≡ false) × (new ≡ committed from changes old)
-IsCommit before after from changes old new (Err Failed) = ((before ≡ true) × (new ≡ old)) ⊎ ((before ≡ false) × (after ≡ true) × (new ≡ committed from changes old))
-IsCommit before after from changes old new (Err Memory) = (before ≡ false) × (new ≡ old)
+-- after. Memory is refused it where the schedule says so, and it doesn't fail before.
+abbrev pub IsCommit : Bool → Bool → Bool → ℕ → List Change → Loaded → Loaded → Result (Unit {0}) KeepFault → Type 0
+IsCommit before memory after from changes old new (Ok done) = (before ≡ false) × (memory ≡ false) × (after ≡ false) × (new ≡ committed from changes old)
+IsCommit before memory after from changes old new (Err Failed) =
+    ((before ≡ true) × (new ≡ old)) ⊎ ((before ≡ false) × (memory ≡ false) × (after ≡ true) × (new ≡ committed from changes old))
+IsCommit before memory after from changes old new (Err Memory) = (before ≡ false) × (new ≡ old)
 
 -- the same of the commit of this number, by the calls that fail
 abbrev pub IsCommitBy : List Fails → ℕ → ℕ → List Change → Loaded → Loaded → Result (Unit {0}) KeepFault → Type 0
-IsCommitBy schedule number = IsCommit (fails_at (Before number) schedule) (fails_at (After number) schedule)
+IsCommitBy schedule number = IsCommit (fails_at (Before number) schedule) (fails_at (calls.Memory number) schedule) (fails_at (After number) schedule)

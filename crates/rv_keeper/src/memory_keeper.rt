@@ -16,13 +16,15 @@ use rv_base::{Failed, Memory, Sequence};
 use std::alloc::Global;
 
 /// A call at which a keeper in memory fails. Calls are counted from 1, those of each kind apart. A commit that is to fail
-/// before its changes and after them fails before them.
+/// before its changes fails so whatever else it is to do, and one that memory is refused doesn't fail after its changes.
 #[derive(Clone, Copy, Debug, PartialEq, Eq)]
 pub enum Fails {
     /// This commit fails, and nothing is changed.
     Before(u64),
     /// This commit fails, and its changes are made all the same.
     After(u64),
+    /// Memory is refused this commit, and nothing is changed.
+    Memory(u64),
     /// This load fails.
     Load(u64),
     /// This question for the generation fails.
@@ -40,6 +42,7 @@ impl Fails {
         match (self, other) {
             (Fails::Before(one), Fails::Before(two)) => one == two,
             (Fails::After(one), Fails::After(two)) => one == two,
+            (Fails::Memory(one), Fails::Memory(two)) => one == two,
             (Fails::Load(one), Fails::Load(two)) => one == two,
             (Fails::Generation(one), Fails::Generation(two)) => one == two,
             _ => false,
@@ -208,6 +211,9 @@ impl Keeper for MemoryKeeper {
         if fails_at(&self.schedule, Fails::Before(self.commits)) {
             self.count_fault();
             return Err(KeepFault::Failed);
+        }
+        if fails_at(&self.schedule, Fails::Memory(self.commits)) {
+            return Err(KeepFault::Memory);
         }
         self.make(from, changes)?;
         if fails_at(&self.schedule, Fails::After(self.commits)) {

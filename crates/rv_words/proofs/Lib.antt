@@ -5,10 +5,13 @@ pub mod Parts
 pub mod Defaults
 pub mod Leaves
 pub mod Verbs
+pub mod Makes
 pub mod Rules
 pub mod Serving
 pub mod Lines
 pub mod Asked
+pub mod Commands
 pub mod ServeLaws
+pub mod Made
 pub mod Pokes
 pub mod Bounds

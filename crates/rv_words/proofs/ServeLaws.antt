@@ -25,7 +25,7 @@ use Rattle.rv_words.proofs.Lines.{line_is_plain}
 
 -- ---- a word that does not begin with a hyphen
 
-no_flag : (word : List ℕ) → begins_with_hyphen word ≡ false → is_flag word ≡ false
+pub no_flag : (word : List ℕ) → begins_with_hyphen word ≡ false → is_flag word ≡ false
 no_flag [] plain = refl
 no_flag (b ∷ rest) plain = rw plain refl
 
@@ -43,7 +43,7 @@ plain_store word words plain = rw (no_end word plain, no_option word plain, plai
 pub plain_value : (name word : List ℕ) (words : List (List ℕ)) → is_flag word ≡ false → parts_from (Some name) (word ∷ words) ≡ with_part (name, word) (parts_from None words)
 plain_value name word words plain = rw plain refl
 
-digit_is_plain : (digits : List ℕ) → AllDigits 10 digits → begins_with_hyphen digits ≡ false
+pub digit_is_plain : (digits : List ℕ) → AllDigits 10 digits → begins_with_hyphen digits ≡ false
 digit_is_plain [] all = refl
 digit_is_plain (d ∷ ds) all = go (d == 45) refl
   where

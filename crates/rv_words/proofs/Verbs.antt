@@ -20,7 +20,7 @@ abbrev store : Text
 store = codes "STORE"
 
 -- no value asks for nothing
-no_more : (o : Option (List Text)) → ◌≡◌ {A = Option Command} None (option_and_then (λ values. None) o)
+pub no_more : (o : Option (List Text)) → ◌≡◌ {A = Option Command} None (option_and_then (λ values. None) o)
 no_more None = refl
 no_more (Some x) = refl
 

@@ -1,9 +1,10 @@
 -- What follows of what the words ask for.
-use Rattle.std.specs.Prelude.{◌≡◌, ◌≢◌, ◌==◌, Bool, true, false, ℕ, List, [], ◌∷◌, Some, None, codes}
+use Rattle.std.specs.Int.{IsInRange}
+use Rattle.std.specs.Prelude.{◌≡◌, ◌≢◌, ◌==◌, Bool, true, false, ℕ, List, [], ◌∷◌, Some, None, codes, decimal}
 use Rattle.rv_words.specs.Words.{command_in, is_id}
 use Rattle.rv_words.specs.Plain.{plainly_in}
 use Rattle.rv_words.specs.declared.command.Command.{Command}
-use Rattle.rv_words.specs.declared.command.Command.TheVariants.{Activity, Check, Feed, Lists, Retire}
+use Rattle.rv_words.specs.declared.command.Command.TheVariants.{Activity, Check, Feed, Lists, Make, Retire}
 
 -- a first `-` (45)
 abbrev pub begins_with_hyphen : List ℕ → Bool
@@ -48,6 +49,17 @@ EachGroupIsAsked = (name store group : List ℕ) → is_id group ≡ true → be
 abbrev pub GroupsAreIds : Type 0
 GroupsAreIds = (words : List (List ℕ)) (store group : List ℕ) → command_in words ≡ Some (Retire store group) → is_id group ≡ true
 
+-- a seed and a number of requests, both in bounds and in decimal, are taken, with `--` before them too
+pub record MakeIsAsked : Type 0 where
+  pub plain : (name : List ℕ) (seed requests : ℕ) → IsInRange 0 2147483647 seed → IsInRange 0 1000000 requests
+      → command_in (name ∷ codes "make" ∷ decimal seed ∷ decimal requests ∷ []) ≡ Some (Make seed requests)
+  pub after_hyphens : (name : List ℕ) (seed requests : ℕ) → IsInRange 0 2147483647 seed → IsInRange 0 1000000 requests
+      → command_in (name ∷ codes "make" ∷ codes "--" ∷ decimal seed ∷ decimal requests ∷ []) ≡ Some (Make seed requests)
+
+-- no other numbers are
+abbrev pub SeedsAreInBounds : Type 0
+SeedsAreInBounds = (words : List (List ℕ)) (seed requests : ℕ) → command_in words ≡ Some (Make seed requests) → IsInRange 0 2147483647 seed × IsInRange 0 1000000 requests
+
 -- lines that end too early
 pub record AskForNothing : Type 0 where
   pub no_words : command_in [] ≡ None
@@ -57,11 +69,13 @@ pub record AskForNothing : Type 0 where
   pub activity_alone : (name : List ℕ) → command_in (name ∷ codes "activity" ∷ []) ≡ None
   pub check_alone : (name : List ℕ) → command_in (name ∷ codes "check" ∷ []) ≡ None
   pub retire_alone : (name : List ℕ) → command_in (name ∷ codes "retire" ∷ []) ≡ None
+  pub make_alone : (name : List ℕ) → command_in (name ∷ codes "make" ∷ []) ≡ None
   pub serve_alone : (name : List ℕ) → command_in (name ∷ codes "serve" ∷ []) ≡ None
+  pub no_requests : (name seed : List ℕ) → command_in (name ∷ codes "make" ∷ seed ∷ []) ≡ None
   pub no_group : (name store : List ℕ) → command_in (name ∷ codes "retire" ∷ store ∷ []) ≡ None
 
 -- no command goes by any other name: not by `help`, `--help`, `-h`, `--version` or `--` either
 abbrev pub OthersAskForNothing : Type 0
 OthersAskForNothing = (name verb : List ℕ) (words : List (List ℕ))
-    → verb ≢ codes "feed" → verb ≢ codes "retire" → verb ≢ codes "lists" → verb ≢ codes "activity" → verb ≢ codes "check" → verb ≢ codes "serve"
+    → verb ≢ codes "feed" → verb ≢ codes "retire" → verb ≢ codes "lists" → verb ≢ codes "activity" → verb ≢ codes "check" → verb ≢ codes "make" → verb ≢ codes "serve"
     → command_in (name ∷ verb ∷ words) ≡ None

@@ -7,7 +7,7 @@ use Rattle.rv_base.specs.Options.{◌>>=◌}
 use Rattle.rv_words.specs.Numbers.{number_in}
 use Rattle.rv_words.specs.Table.{rv_app}
 use Rattle.rv_words.specs.declared.command.Command.{Command}
-use Rattle.rv_words.specs.declared.command.Command.TheVariants.{Activity, Check, Feed, Lists, Retire, Serve}
+use Rattle.rv_words.specs.declared.command.Command.TheVariants.{Activity, Check, Feed, Lists, Make, Retire, Serve}
 use Rattle.rv_words.specs.declared.serve_options.ServeOptions.{ServeOptions}
 
 -- the text is an `Id`
@@ -32,6 +32,13 @@ retire_group_in store group = if is_id group then Some (Retire store group) else
 abbrev pub retire_in : List Row → Option Command
 retire_in rows = option_and_then (λ store. option_and_then (retire_group_in store) (first_of (codes "GROUP") rows)) (first_of (codes "STORE") rows)
 
+-- what `make` asks for with a seed and a number of requests
+abbrev pub make_of : Text → Text → Option Command
+make_of seed requests = option_and_then (λ s. option_map (λ n. Make s n) (number_in 0 1000000 requests)) (number_in 0 2147483647 seed)
+
+abbrev pub make_in : List Row → Option Command
+make_in rows = option_and_then (λ seed. option_and_then (make_of seed) (first_of (codes "N") rows)) (first_of (codes "SEED") rows)
+
 -- how requests are served, by the values of the names: a port, a number of workers, one of connections, a port for
 -- pokes, and a number of poke jobs
 unfoldable pub options_with : (Text → Option Text) → Text → Option ServeOptions
@@ -54,6 +61,7 @@ serve_in rows = serve_by (λ name. first_of name rows)
 abbrev pub command_named : Text × List Row → Option Command
 command_named named =
     if bytes_eq named.0 (codes "retire") then retire_in named.1
+    else if bytes_eq named.0 (codes "make") then make_in named.1
     else if bytes_eq named.0 (codes "serve") then serve_in named.1
     else on_store_in named.0 named.1
 

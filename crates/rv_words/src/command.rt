@@ -32,6 +32,13 @@ pub enum Command {
         /// The name of the store.
         store: Name,
     },
+    /// `make SEED N`: take the first requests that a seed makes, over a fresh store in memory.
+    Make {
+        /// The seed, from 0 to 2,147,483,647.
+        seed: u32,
+        /// How many requests, from 0 to 1,000,000.
+        requests: u32,
+    },
     /// `serve STORE` and options: answer the requests of connections.
     Serve {
         /// The name of the store.

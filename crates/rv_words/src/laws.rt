@@ -6,8 +6,10 @@ ghost use Rattle.rv_words.specs.Laws.{
   EachStoreIsAsked,
   GroupsAreIds,
   LinesArePlain,
+  MakeIsAsked,
   OthersAskForNothing,
   RetireIsAsked,
+  SeedsAreInBounds,
   StoresAreAsked,
 };
 
@@ -42,6 +44,17 @@ pub fn each_group_is_asked()
 /// A group that is to be retired is named by an `Id`.
 pub fn groups_are_ids()
     ensures { GroupsAreIds }
+{}
+
+/// The words `make SEED N` ask for that, for each seed from 0 to 2,147,483,647 and each number of requests from 0 to 1,000,000
+/// in decimal, and with `--` before them too.
+pub fn make_is_asked()
+    ensures { MakeIsAsked }
+{}
+
+/// Words that ask for `make` ask for it with numbers within these bounds.
+pub fn seeds_are_in_bounds()
+    ensures { SeedsAreInBounds }
 {}
 
 /// Lines that end too early ask for nothing.

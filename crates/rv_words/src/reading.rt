@@ -3,7 +3,7 @@ ghost use Rattle.std.specs.Int.{IsInRange};
 ghost use Rattle.std.specs.Prelude.{◌≡◌, IfOk, IfSome, codes, map, option_and_then, option_map, string_bytes};
 ghost use Rattle.clap.specs.Words.{first_of, found_of, rows_of, subcommand_rows_of};
 ghost use Rattle.rv_words.specs.Numbers.{number_in};
-ghost use Rattle.rv_words.specs.Words.{command_in, command_named, on_store, on_store_in, options_with, retire_in, retire_group_in, serve_in, Parses};
+ghost use Rattle.rv_words.specs.Words.{command_in, command_named, make_in, make_of, on_store, on_store_in, options_with, retire_in, retire_group_in, serve_in, Parses};
 
 use crate::command::Command;
 use crate::name::Name;
@@ -103,6 +103,23 @@ fn retire(alloc: Global, matches: &ArgMatches<'_>) -> Result<Option<Command>, Me
     retire_group(alloc, store, group)
 }
 
+// What is asked for with a seed and a number of requests, where both are numbers within their bounds.
+fn make_of(seed: &str, requests: &str) -> Option<Command>
+    ensures { result ≡ make_of seed.now requests.now }
+{
+    let seed = number_of(seed, 0, 2_147_483_647)?;
+    let requests = number_of(requests, 0, 1_000_000)?;
+    Some(Command::Make { seed, requests })
+}
+
+fn make(matches: &ArgMatches<'_>) -> Option<Command>
+    ensures { result ≡ make_in (rows_of (found_of matches.now)) }
+{
+    let seed = value(matches, "SEED")?;
+    let requests = value(matches, "N")?;
+    make_of(seed, requests)
+}
+
 // The number of this name, if one between these bounds was given.
 fn number_at(matches: &ArgMatches<'_>, name: &str, least: u32, most: u32) -> Option<u32>
     ensures number { result ≡ option_and_then (number_in least most) (first_of name.now (rows_of (found_of matches.now))) }
@@ -159,6 +176,7 @@ fn named(alloc: Global, name: &str, matches: &ArgMatches<'_>) -> Result<Option<C
 {
     match name {
         "retire" => retire(alloc, matches),
+        "make" => Ok(make(matches)),
         "serve" => serve(alloc, matches),
         verb => on_found_store(alloc, verb, matches),
     }

@@ -1,4 +1,4 @@
-use Rattle.rv_words.proofs.Asked.{group_is_id}
+use Rattle.rv_words.proofs.Commands.{group_is_id}
 use Rattle.rv_words.proofs.laws.groups_are_ids.Goals as goal
 
 pub returns : goal.returns

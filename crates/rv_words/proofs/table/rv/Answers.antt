@@ -11,5 +11,6 @@ returns c =
     let activity = subcommand_added _ _ _ _ _ c.in_ok-subcommand-3.ensures c.in_ok-of_store-3.ensures.local lists c.in_ok-of_store-3.ensures.app in
     let check = subcommand_added _ _ _ _ _ c.in_ok-subcommand-4.ensures c.in_ok-of_store-4.ensures.local activity c.in_ok-of_store-4.ensures.app in
     let retire = subcommand_added _ _ _ _ _ c.in_ok-subcommand-5.ensures c.in_ok-retire.ensures.local check c.in_ok-retire.ensures.app in
-    IfOk-weaker c.subcommand-6.result _ _ (λ r adds. subcommand_added _ _ r _ _ adds c.in_ok-serve.ensures.local retire c.in_ok-serve.ensures.app)
-    c.subcommand-6.ensures
+    let make = subcommand_added _ _ _ _ _ c.in_ok-subcommand-6.ensures c.in_ok-make.ensures.local retire c.in_ok-make.ensures.app in
+    IfOk-weaker c.subcommand-7.result _ _ (λ r adds. subcommand_added _ _ r _ _ adds c.in_ok-serve.ensures.local make c.in_ok-serve.ensures.app)
+    c.subcommand-7.ensures

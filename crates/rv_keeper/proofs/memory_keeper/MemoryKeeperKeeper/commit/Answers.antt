@@ -10,8 +10,11 @@ pub returns-in_err-make-clause-steady : goal.returns-in_err-make-clause-steady
 returns-in_err-make-clause-steady c = λ all. rw (c.make.ensures.rest, c.saturating_add-self.ensures) (record { goes_on = (next_commit _ _ _ _ all).2; no_fault = not_failed _ c.from_residual.ensures })
 
 pub returns-then-fails_at-2-clause-steady : goal.returns-then-fails_at-2-clause-steady
-returns-then-fails_at-2-clause-steady c = λ all.
-    both_so (rw (c.deref-2.ensures.value, c.make.ensures.rest, c.saturating_add-self.ensures) at (sym c.fails_at-2.ensures ∙ c.if-fails_at-2.true)) (next_commit _ _ _ _ all).1
+returns-then-fails_at-2-clause-steady c = λ all. rw (c.saturating_add-self.ensures) (record { goes_on = (next_commit _ _ _ _ all).2; no_fault = λ h. absurd (cc) })
+
+pub returns-then-fails_at-3-clause-steady : goal.returns-then-fails_at-3-clause-steady
+returns-then-fails_at-3-clause-steady c = λ all.
+    both_so (rw (c.deref-3.ensures.value, c.make.ensures.rest, c.saturating_add-self.ensures) at (sym c.fails_at-3.ensures ∙ c.if-fails_at-3.true)) (next_commit _ _ _ _ all).1
 
 pub returns-clause-steady : goal.returns-clause-steady
 returns-clause-steady c = λ all. rw (c.make.ensures.rest, c.saturating_add-self.ensures) (record { goes_on = (next_commit _ _ _ _ all).2; no_fault = λ h. absurd (cc) })

@@ -1,0 +1,163 @@
+-- What holds of each command that words ask for.
+use Rattle.std.proofs.Common.{◌≡◌, ◌∙◌, ◌&&◌, ◌≤◌, arith, refl, subst, sym, List, [], ◌∷◌, Option, Some, None, option_map, Bool, cond, true, false, codes, decimal, ℕ}
+use Rattle.std.specs.Prelude.{nat_le, option_and_then}
+use Rattle.std.specs.Int.{IsInRange}
+use Rattle.std.specs.Str.{bytes_eq}
+use Rattle.std.specs.Str.Parse.{digits_value}
+use Rattle.std.proofs.lemmas.Bool.Decides.{nat_tests}
+use Rattle.rv_words.specs.Numbers.{number_in}
+use Rattle.rv_words.specs.Words.{command_in, is_id, make_of, options_with, retire_group_in}
+use Rattle.rv_words.specs.Plain.{Part, asked_with, make_with, on_store_with, parts_from, plainly_in, retire_with, serve_with, the_value, values_in}
+use Rattle.rv_words.specs.Laws.{GroupsAreIds, SeedsAreInBounds}
+use Rattle.rv_words.specs.declared.command.Command.{Command}
+use Rattle.rv_words.specs.declared.command.Command.TheVariants.{Activity, Check, Feed, Lists, Make, Retire, Serve}
+use Rattle.rv_words.specs.declared.serve_options.ServeOptions.{ServeOptions}
+use Rattle.rv_words.proofs.Lines.{line_is_plain}
+
+abbrev AreBounded : ℕ → ℕ → Type 0
+AreBounded seed requests = IsInRange 0 2147483647 seed × IsInRange 0 1000000 requests
+
+-- it holds of the commands of stores and of `serve`, of `retire` with an `Id`, and of `make` with numbers in bounds
+record HoldsOf (P : Command → Type 0) : Type 0 where
+  pub feed : (store : List ℕ) → P (Feed store)
+  pub lists : (store : List ℕ) → P (Lists store)
+  pub activity : (store : List ℕ) → P (Activity store)
+  pub check : (store : List ℕ) → P (Check store)
+  pub retire : (store group : List ℕ) → is_id group ≡ true → P (Retire store group)
+  pub make : (seed requests : ℕ) → AreBounded seed requests → P (Make seed requests)
+  pub serve : (store : List ℕ) (options : ServeOptions) → P (Serve store options)
+
+both_true : (a b c : Bool) → (a && b && c) ≡ true → (b ≡ true) × (c ≡ true)
+both_true true true true is = (refl, refl)
+both_true true true false is = absurd (cc)
+both_true true false c is = absurd (cc)
+both_true false b c is = absurd (cc)
+
+within : (most number : ℕ) → nat_le 0 number ≡ true → nat_le number most ≡ true → IsInRange 0 most number
+within most number low high =
+    let above : 0 ≤ number = grind (arith, nat_tests) in
+    let below : number ≤ most = grind (arith, nat_tests) in
+    (above, below)
+
+-- a number that is read is in bounds
+read_within : (most number : ℕ) (text : List ℕ) → number_in 0 most text ≡ Some number → IsInRange 0 most number
+read_within most number text is = go (bytes_eq (decimal (digits_value 10 text)) text && nat_le 0 (digits_value 10 text) && nat_le (digits_value 10 text) most) refl is
+  where
+    go : (b : Bool) → (bytes_eq (decimal (digits_value 10 text)) text && nat_le 0 (digits_value 10 text) && nat_le (digits_value 10 text) most) ≡ b
+        → cond b (Some (digits_value 10 text)) None ≡ Some number → IsInRange 0 most number
+    go true tests is =
+        let both = both_true _ _ _ tests in
+        let same : digits_value 10 text ≡ number = cc in
+        subst (λ (n : ℕ). IsInRange 0 most n) same (within most (digits_value 10 text) both.0 both.1)
+    go false tests is = absurd (cc)
+
+module _ (P : Command → Type 0) (holds : HoldsOf P) where
+  abbrev AllHold : Option Command → Type 0
+  AllHold asked = (command : Command) → asked ≡ Some command → P command
+
+  this_holds : (known command : Command) → P known → Some known ≡ Some command → P command
+  this_holds known command known_holds is =
+      let same : known ≡ command = cc in
+      subst P same known_holds
+
+  by_store : (from : List ℕ) (feed lists activity check : Bool)
+      → AllHold (cond feed (Some (Feed from)) (cond lists (Some (Lists from)) (cond activity (Some (Activity from)) (cond check (Some (Check from)) None))))
+  by_store from true lists activity check command is = this_holds _ command (holds.feed from) is
+  by_store from false true activity check command is = this_holds _ command (holds.lists from) is
+  by_store from false false true check command is = this_holds _ command (holds.activity from) is
+  by_store from false false false true command is = this_holds _ command (holds.check from) is
+  by_store from false false false false command is = absurd (cc)
+
+  by_stores : (verb : List ℕ) (values : List (List ℕ)) → AllHold (on_store_with verb values)
+  by_stores verb [] command is = absurd (cc)
+  by_stores verb (from ∷ []) command is = by_store from
+      (bytes_eq verb (codes "feed")) (bytes_eq verb (codes "lists")) (bytes_eq verb (codes "activity")) (bytes_eq verb (codes "check")) command is
+  by_stores verb (from ∷ more ∷ values) command is = absurd (cc)
+
+  by_id : (from text : List ℕ) → AllHold (retire_group_in from text)
+  by_id from text = go (is_id text) refl
+    where
+      go : (b : Bool) → is_id text ≡ b → AllHold (cond b (Some (Retire from text)) None)
+      go true id command is = this_holds _ command (holds.retire from text id) is
+      go false id command is = absurd (cc)
+
+  by_retires : (values : List (List ℕ)) → AllHold (retire_with values)
+  by_retires [] command is = absurd (cc)
+  by_retires (from ∷ []) command is = absurd (cc)
+  by_retires (from ∷ text ∷ []) command is = by_id from text command is
+  by_retires (from ∷ text ∷ more ∷ values) command is = absurd (cc)
+
+  by_numbers : (seed requests : List ℕ) → AllHold (make_of seed requests)
+  by_numbers seed requests = go (number_in 0 2147483647 seed) (number_in 0 1000000 requests) refl refl
+    where
+      go : (s n : Option ℕ) → number_in 0 2147483647 seed ≡ s → number_in 0 1000000 requests ≡ n → AllHold (option_and_then (λ x. option_map (λ y. Make x y) n) s)
+      go None n read counted command is = absurd (cc)
+      go (Some x) None read counted command is = absurd (cc)
+      go (Some x) (Some y) read counted command is =
+          this_holds _ command (holds.make x y (read_within 2147483647 x seed read, read_within 1000000 y requests counted)) is
+
+  by_makes : (values : List (List ℕ)) → AllHold (make_with values)
+  by_makes [] command is = absurd (cc)
+  by_makes (seed ∷ []) command is = absurd (cc)
+  by_makes (seed ∷ requests ∷ []) command is = by_numbers seed requests command is
+  by_makes (seed ∷ requests ∷ more ∷ values) command is = absurd (cc)
+
+  by_values : (verb : List ℕ) (retire make : Bool) (o : Option (List (List ℕ)))
+      → AllHold (option_and_then (λ values. cond retire (retire_with values) (cond make (make_with values) (on_store_with verb values))) o)
+  by_values verb retire make None command is = absurd (cc)
+  by_values verb true make (Some values) command is = by_retires values command is
+  by_values verb false true (Some values) command is = by_makes values command is
+  by_values verb false false (Some values) command is = by_stores verb values command is
+
+  by_serve : (store : Option (List ℕ)) (options : Option ServeOptions) → AllHold (option_and_then (λ s. option_map (λ o. Serve s o) options) store)
+  by_serve None options command is = absurd (cc)
+  by_serve (Some s) None command is = absurd (cc)
+  by_serve (Some s) (Some o) command is = this_holds _ command (holds.serve s o) is
+
+  by_parts : (parts : Option (List Part)) → AllHold (option_and_then serve_with parts)
+  by_parts None command is = absurd (cc)
+  by_parts (Some ps) command is = by_serve (the_value ps (codes "STORE")) (option_and_then (options_with (the_value ps)) (the_value ps (codes "accounts"))) command is
+
+  by_verb : (verb : List ℕ) (words : List (List ℕ)) (serve : Bool)
+      → AllHold (cond serve (option_and_then serve_with (parts_from None words)) (option_and_then (asked_with verb) (values_in words)))
+  by_verb verb words true command is = by_parts (parts_from None words) command is
+  by_verb verb words false command is = by_values verb (bytes_eq verb (codes "retire")) (bytes_eq verb (codes "make")) (values_in words) command is
+
+  by_line : (words : List (List ℕ)) → AllHold (plainly_in words)
+  by_line [] command is = absurd (cc)
+  by_line (name ∷ []) command is = absurd (cc)
+  by_line (name ∷ verb ∷ words) command is = by_verb verb words (bytes_eq verb (codes "serve")) command is
+
+  -- it holds of whatever words ask for
+  all_hold : (words : List (List ℕ)) → AllHold (command_in words)
+  all_hold words command is = by_line words command (sym (line_is_plain words) ∙ is)
+
+-- ---- what is asked to retire is an `Id`, and what `make` asks for is in bounds
+
+abbrev HasId : Command → Type 0
+HasId (Feed store) = Unit {0}
+HasId (Retire store group) = is_id group ≡ true
+HasId (Lists store) = Unit {0}
+HasId (Activity store) = Unit {0}
+HasId (Check store) = Unit {0}
+HasId (Make seed requests) = Unit {0}
+HasId (Serve store options) = Unit {0}
+
+pub group_is_id : GroupsAreIds
+group_is_id words store group is = all_hold HasId
+    (record { feed = λ s. tt; lists = λ s. tt; activity = λ s. tt; check = λ s. tt; retire = λ s g id. id; make = λ s n bounded. tt; serve = λ s o. tt })
+    words (Retire store group) is
+
+abbrev HasBounds : Command → Type 0
+HasBounds (Feed store) = Unit {0}
+HasBounds (Retire store group) = Unit {0}
+HasBounds (Lists store) = Unit {0}
+HasBounds (Activity store) = Unit {0}
+HasBounds (Check store) = Unit {0}
+HasBounds (Make seed requests) = AreBounded seed requests
+HasBounds (Serve store options) = Unit {0}
+
+pub seeds_in_bounds : SeedsAreInBounds
+seeds_in_bounds words seed requests is = all_hold HasBounds
+    (record { feed = λ s. tt; lists = λ s. tt; activity = λ s. tt; check = λ s. tt; retire = λ s g id. tt; make = λ s n bounded. bounded; serve = λ s o. tt })
+    words (Make seed requests) is
