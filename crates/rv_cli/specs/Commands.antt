@@ -3,7 +3,7 @@ use Rattle.std.specs.Prelude.{◌≡◌, ℕ, List, Option, Some, None, String, 
 use Rattle.std.specs.Global.{Global}
 use Rattle.rv_words.specs.Words.{command_in}
 use Rattle.rv_words.specs.declared.command.Command.{Command}
-use Rattle.rv_words.specs.declared.command.Command.TheVariants.{Feed, Retire, Lists, Activity, Check, Serve}
+use Rattle.rv_words.specs.declared.command.Command.TheVariants.{Feed, Retire, Lists, Activity, Check, Make, Serve}
 
 -- what the words of a run ask for
 abbrev pub asked_by : List (String Global) → Option Command
@@ -15,6 +15,7 @@ IsReportOf store None = ⊥
 IsReportOf store (Some (Feed other)) = ⊥
 IsReportOf store (Some (Retire other group)) = ⊥
 IsReportOf store (Some (Serve other options)) = ⊥
+IsReportOf store (Some (Make seed requests)) = ⊥
 IsReportOf store (Some (Lists other)) = other ≡ store
 IsReportOf store (Some (Activity other)) = other ≡ store
 IsReportOf store (Some (Check other)) = other ≡ store
@@ -22,6 +23,7 @@ IsReportOf store (Some (Check other)) = other ≡ store
 -- the words name the store
 abbrev pub IsOfStore : List ℕ → Option Command → Type 0
 IsOfStore store None = ⊥
+IsOfStore store (Some (Make seed requests)) = ⊥
 IsOfStore store (Some (Feed other)) = other ≡ store
 IsOfStore store (Some (Retire other group)) = other ≡ store
 IsOfStore store (Some (Serve other options)) = other ≡ store

@@ -28,6 +28,9 @@ use Rattle.rv_answering.specs.declared.answer.Answer.TheVariants.{Pulled, Refuse
 use Rattle.rv_answering.specs.declared.line.Line.{Line}
 use Rattle.rv_answering.specs.declared.line.Line.TheVariants.{Asks, Stop}
 use Rattle.rv_answering.specs.Requests.{Parsed, line_of}
+use Rattle.rv_make.specs.Plays.{Plays}
+use Rattle.rv_make.specs.SummaryTexts.{summary_text}
+use Rattle.rv_make.specs.declared.summary.Summary.{Summary}
 use Rattle.rv_cli.specs.declared.ending.Ending.{Ending}
 use Rattle.rv_cli.specs.declared.ending.Ending.TheVariants.{Done, Keeper, Damaged, Read, Write, Memory, Malformed}
 use Rattle.rv_cli.specs.Change.{StoreChange}
@@ -363,6 +366,16 @@ module _ (c : StoreChange) where
   abbrev pub RunsReport : (Book → List ℕ → Type 0) → OutputState → OutputState → ℕ → Type 0
   RunsReport Reports output output' status = (ending : Ending) × (status ≡ status_of ending)
       × ((NotOpened c output output' ending × IsLeftAs c) ⊎ Reported Reports output output' ending)
+
+-- ---- And of `make`: it writes the summary of a run of the requests that a seed makes.
+
+-- a run takes the first requests that the seed makes, over a fresh server, and this is its summary as a line
+abbrev pub TellsRun : ℕ → ℕ → List ℕ → Type 0
+TellsRun seed requests text = (summary : Summary) × Plays seed requests summary × (text ≡ summary_text summary)
+
+-- the status is that of an ending, and the summary of such a run was written so
+abbrev pub RunsMake : ℕ → ℕ → OutputState → OutputState → ℕ → Type 0
+RunsMake seed requests output output' status = (ending : Ending) × (status ≡ status_of ending) × WritesReport (TellsRun seed requests) output output' ending
 
 -- ---- What follows.
 

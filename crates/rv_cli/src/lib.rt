@@ -2,13 +2,15 @@
 //!
 //! `feed STORE` reads request lines and writes answer lines. Its theorem is the clause of [`run`]: what is written are the answers of
 //! a run over the lines that were read, from the book that the store kept, and the store keeps the book that the run leaves
-//! (`specs/Headline.antt`). `retire STORE GROUP` is one answer so, and `lists`, `activity` and `check` are reports of that book.
+//! (`specs/Headline.antt`). `retire STORE GROUP` is one answer so, and `lists`, `activity` and `check` are reports of that book. `make SEED N` is the summary
+//! of a run over a fresh store in memory.
 #![tactic(auto)]
 
 mod ending;
 mod feed;
 pub mod laws;
 mod line;
+mod make;
 mod program;
 mod reports;
 mod serve;
@@ -17,6 +19,7 @@ mod store;
 mod texts;
 
 pub use ending::Ending;
+pub use make::run_make;
 pub use program::{run, run_feed, run_retire};
 pub use reports::{run_activity, run_check, run_lists};
 pub use serve::run_serve;

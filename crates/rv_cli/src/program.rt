@@ -6,7 +6,7 @@ ghost use Rattle.rv_words.specs.declared.serve_options.ServeOptions.{ServeOption
 ghost use Rattle.rv_keeper.specs.Stores.{OpensAs, OthersStay};
 ghost use Rattle.rv_answering.specs.declared.request.Request.TheVariants.{Retire};
 ghost use Rattle.rv_cli.specs.Texts.{usage_text, status_of, status_text};
-ghost use Rattle.rv_cli.specs.Headline.{ReportsActivity, ReportsLists, ReportsSound, WritesOnly, AllAsk, IsOther, KeptSound};
+ghost use Rattle.rv_cli.specs.Headline.{ReportsActivity, ReportsLists, ReportsSound, RunsMake, WritesOnly, AllAsk, IsOther, KeptSound};
 ghost use Rattle.rv_cli.specs.Promises.{ServesAsAsked, WasFed, WasFedOrNot, WasReportedOrNot, WasRetired, WasRetiredOrNot, WasUnserved, WasWanted};
 ghost use Rattle.rv_cli.specs.Commands.{HasFile, asked_by, IsOfStore, IsReportOf};
 ghost use Rattle.rv_cli.specs.Replying.{Retired, WritesReply};
@@ -15,6 +15,7 @@ ghost use Rattle.rv_cli.specs.declared.ending.Ending.TheVariants as endings;
 
 use crate::ending::Ending;
 use crate::feed::feed;
+use crate::make::run_make;
 use crate::reports::{run_activity, run_check, run_lists};
 use crate::serve::run_serve;
 use crate::store::{open_desk, refuse_opening};
@@ -141,7 +142,8 @@ fn give_up<O: Sink>(out: &mut O) -> u8
 /// The first word is the program's name and is not read. `feed STORE` answers the lines of the input, each as it was read, from the
 /// book that the store keeps; `serve STORE` answers the requests of connections so, which workers serve side by side, and pokes clients;
 /// `retire STORE GROUP` retires a client group there; `lists STORE`, `activity STORE` and `check STORE` are reports of the store,
-/// which stays as it is. STORE is `memory`, which begins empty, or the name of a store of the place.
+/// which stays as it is; `make SEED N` tells what comes of N requests that a seed makes over a fresh store in memory, and touches no
+/// other. STORE is `memory`, which begins empty, or the name of a store of the place.
 ///
 /// Status 0: the input was read to its end, and all that was asked is answered. 2: the words are no line of the command set. 3: the
 /// accounts file is not of the form. 4: the place or the keeper failed in opening, the accounts file could not be read, or a report
@@ -203,6 +205,11 @@ where
     ensures check { (store : List ℕ) → asked_by words.now ≡ Some (commands.Check store)
         → WasReportedOrNot P.Place O.Sink store place.old place.new ReportsSound out.old out.new result }
 
+    // What `make` writes is the summary of a run of the first requests that the seed makes, over a fresh server; where memory was
+    // refused, in reading the words too, there is none. The place is let alone.
+    ensures make { (seed requests : ℕ) → asked_by words.now ≡ Some (commands.Make seed requests) → RunsMake seed requests (O.state out.old) (O.state out.new) result }
+    ensures stays_made { (seed requests : ℕ) → asked_by words.now ≡ Some (commands.Make seed requests) → place.new ≡ place.old }
+
     // A fault is told exactly where one rose, but for a write of a status's own text that failed.
     ensures keeper { result ≡ 4 → Rose (P.faults place.old) (P.faults place.new) }
     ensures net { result ≡ 9 → Rose (N.faults net.old) (N.faults net.new) }
@@ -216,6 +223,8 @@ where
     ensures complete_retire { (store group : List ℕ) → asked_by words.now ≡ Some (commands.Retire store group) → result ≡ 0 ⊎ result ≡ 4 ⊎ result ≡ 5 ⊎ result ≡ 7 ⊎ result ≡ 8 }
 
     ensures complete_reports { (store : List ℕ) → IsReportOf store (asked_by words.now) → result ≡ 0 ⊎ result ≡ 4 ⊎ result ≡ 5 ⊎ result ≡ 7 ⊎ result ≡ 8 }
+
+    ensures complete_make { (seed requests : ℕ) → asked_by words.now ≡ Some (commands.Make seed requests) → result ≡ 0 ⊎ result ≡ 7 ⊎ result ≡ 8 }
 
     ensures complete_serve { (store : List ℕ) (options : ServeOptions) → asked_by words.now ≡ Some (commands.Serve store options)
         → result ≡ 0 ⊎ result ≡ 3 ⊎ result ≡ 4 ⊎ result ≡ 5 ⊎ result ≡ 7 ⊎ result ≡ 8 ⊎ result ≡ 9 }
@@ -273,6 +282,7 @@ where
         Ok(Some(Command::Lists { store })) => run_lists(alloc, place, store.as_str(), out),
         Ok(Some(Command::Activity { store })) => run_activity(alloc, place, store.as_str(), out),
         Ok(Some(Command::Check { store })) => run_check(alloc, place, store.as_str(), out),
+        Ok(Some(Command::Make { seed, requests })) => run_make(alloc, seed, requests, out),
         Ok(Some(Command::Serve { store, options })) => run_serve(
             alloc,
             runtime,

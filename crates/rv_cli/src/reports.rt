@@ -27,7 +27,7 @@ fn write_text<O: Sink>(out: &mut O, text: &Bytes) -> Ending
 }
 
 // Writes a report, or that memory was refused for it.
-fn write_report<O: Sink>(out: &mut O, report: &Result<Bytes, Memory>) -> Ending
+pub(crate) fn write_report<O: Sink>(out: &mut O, report: &Result<Bytes, Memory>) -> Ending
     ensures writes { WritesMade (O.state out.old) (O.state out.new) report.now result }
     ensures steady { O.fails_no_more out.old → OutputIsSteady (O.fails_no_more out.new) (O.state out.old).refusals (O.state out.new).refusals result }
 {
