@@ -45,6 +45,7 @@ enum Change {
     GenerationFails,
     BeforeFails,
     AfterFails,
+    MemoryRefused,
 }
 
 // What a command does.
@@ -54,7 +55,7 @@ enum Command {
     Changes(Change),
 }
 
-static COMMANDS: [(&str, Command); 26] = [
+static COMMANDS: [(&str, Command); 27] = [
     ("run", Command::Plays(Play::Run)),
     ("once", Command::Plays(Play::Once)),
     ("stops", Command::Plays(Play::Stops)),
@@ -81,6 +82,7 @@ static COMMANDS: [(&str, Command); 26] = [
     ("generation", Command::Changes(Change::GenerationFails)),
     ("before", Command::Changes(Change::BeforeFails)),
     ("after", Command::Changes(Change::AfterFails)),
+    ("memory", Command::Changes(Change::MemoryRefused)),
 ];
 
 // Runs the case in pieces of 1, 7 and 100,000 bytes, and prints what comes where it is the same.
@@ -143,7 +145,7 @@ fn played<R: Threads + Wait + Sync, P: Place>(
 // ends, `byte N` a byte, `blanks N` so many blanks; `twice` sends each push twice. `cell SHELF KEY BODY` writes a cell of the store,
 // over one at its place, `remove SHELF KEY` takes one away, and `generation-is N` sets its generation. `open N` fails the Nth call for a keeper; `load N`,
 // `generation N`, `before N` and `after N` the keeper's Nth load, its Nth question for the generation, and its Nth commit, before
-// its changes and after them.
+// its changes and after them; `memory N` has memory refused to its Nth commit.
 fn make_change(alloc: Global, case: &mut Case, change: Change, rest: &str) -> Result<(), Memory> {
     let number = number_in(rest).unwrap_or(0);
     match change {
@@ -161,6 +163,7 @@ fn make_change(alloc: Global, case: &mut Case, change: Change, rest: &str) -> Re
         Change::GenerationFails => case.fail(Fails::Generation(number)),
         Change::BeforeFails => case.fail(Fails::Before(number)),
         Change::AfterFails => case.fail(Fails::After(number)),
+        Change::MemoryRefused => case.fail(Fails::Memory(number)),
     }
 }
 

@@ -1,6 +1,6 @@
 // Lines that are fed, beside a plain server that answers the same.
 use super::drawing::add_line;
-use super::numbers::four_numbers;
+use super::numbers::{count_lines, four_numbers};
 use super::plain_answers::{add_answer, answers};
 use super::plain_server::PlainServer;
 use super::runs::run_whole;
@@ -64,6 +64,16 @@ pub fn told_of_lines<R: Threads + Wait + Sync>(
     let mut place = MemoryPlace::new(alloc, Vec::new(alloc), Vec::new(alloc));
     Ok(Some(fed_beside(stage, &mut place, lines)?))
 }
+
+// The kinds of answers that are counted, and how each of them begins.
+static FRONTS: [(&str, &str); 6] = [
+    ("pushed", "200 {}"),
+    ("pulled", "200 {\"cookie\""),
+    ("retired", "200 {\"retired\""),
+    ("refused", "40"),
+    ("keeper", "503 {\"error\":\"keeper\"}"),
+    ("memory", "503 {\"error\":\"memory\"}"),
+];
 
 // How many lines there are; of how many calls of each kind of the keeper one fails; and after one of how many lines a stop comes. 0
 // is never.
@@ -132,40 +142,37 @@ fn draw_all(alloc: Global, plan: Plan) -> Result<Drawn, Memory> {
     Ok(drawn)
 }
 
-// How many lines of a text begin so.
-fn count(text: &str, front: &str) -> u64 {
-    let mut many: u64 = 0;
-    for line in text.lines() {
-        if line.starts_with(front) {
-            many = many.saturating_add(1);
-        }
-    }
-    many
+// How many of the answers begin so, under a name.
+fn add_count(
+    alloc: Global,
+    text: &mut String,
+    answers: &str,
+    name: &str,
+    front: &str,
+) -> Result<(), Memory> {
+    let many = count_lines(answers, front);
+    append_parts(
+        alloc,
+        text,
+        &[Text(name), Text(" "), Number(many), Text(", ")],
+    )
 }
 
 // How many answers there are of each kind, how many entries are kept, and what a check tells.
 fn summary(alloc: Global, drawn: &Drawn, check: &str) -> Result<String, Memory> {
     let answers = drawn.answers.as_str();
-    joined(
+    let many = count_lines(answers, "");
+    let mut text = joined(alloc, &[Number(many), Text(" answers: ")])?;
+    for (name, front) in &FRONTS {
+        add_count(alloc, &mut text, answers, *name, *front)?;
+    }
+    let kept = drawn.plain.kept() as u64;
+    append_parts(
         alloc,
-        &[
-            Number(count(answers, "")),
-            Text(" answers: pushed "),
-            Number(count(answers, "200 {}")),
-            Text(", pulled "),
-            Number(count(answers, "200 {\"cookie\"")),
-            Text(", retired "),
-            Number(count(answers, "200 {\"retired\"")),
-            Text(", refused "),
-            Number(count(answers, "40")),
-            Text(", keeper "),
-            Number(count(answers, "503 ")),
-            Text(", kept "),
-            Number(drawn.plain.kept() as u64),
-            Text(", check "),
-            Text(check),
-        ],
-    )
+        &mut text,
+        &[Text("kept "), Number(kept), Text(", check "), Text(check)],
+    )?;
+    Ok(text)
 }
 
 // A place whose first keeper fails as planned.

@@ -1,4 +1,4 @@
-// Numbers in commands.
+// Numbers in commands, and of lines.
 use trial_stage::{first_word, number_in};
 
 /// The first four words, where they are numbers.
@@ -13,4 +13,15 @@ pub fn four_numbers(words: &str) -> Option<[u64; 4]> {
         number_in(third)?,
         number_in(fourth)?,
     ])
+}
+
+/// How many lines of a text begin so.
+pub fn count_lines(text: &str, front: &str) -> u64 {
+    let mut many: u64 = 0;
+    for line in text.lines() {
+        if line.starts_with(front) {
+            many = many.saturating_add(1);
+        }
+    }
+    many
 }

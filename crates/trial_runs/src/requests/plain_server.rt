@@ -97,15 +97,24 @@ impl PlainServer {
         Ok(())
     }
 
-    // Keeps the entry that a turn has made, where it has made one. Where that fails, the entry is in doubt, whether it is kept or not.
+    // Keeps the entry that a turn has made, where it has made one. Where that fails, the entry is in doubt, whether it is kept or not;
+    // where memory is refused, there is no such entry.
     fn keep(&mut self) -> Result<(), Hindered> {
         if self.desk.book().len() == self.kept.len() {
             return Ok(());
         }
         self.commits = self.commits.saturating_add(1);
-        let before = self.fails(Fails::Before(self.commits));
-        if before || self.fails(Fails::After(self.commits)) {
-            self.doubt(!before)?;
+        let commit = self.commits;
+        if self.fails(Fails::Before(commit)) {
+            self.doubt(false)?;
+            return Err(Hindered::Keeper);
+        }
+        if self.fails(Fails::Memory(commit)) {
+            self.desk = self.desk_of_kept()?;
+            return Err(Hindered::Memory);
+        }
+        if self.fails(Fails::After(commit)) {
+            self.doubt(true)?;
             return Err(Hindered::Keeper);
         }
         self.keep_last()?;

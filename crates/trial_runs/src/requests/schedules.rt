@@ -20,7 +20,8 @@ fn add(
     Ok(())
 }
 
-/// The schedule of a seed, at which of the calls of each kind but loads one in so many fails, or none where that is 0.
+/// The schedule of a seed, at which of the calls of each kind but loads one in so many fails, and of the commits one in so many is
+/// refused memory, or none where that is 0.
 pub fn schedule(alloc: Global, seed: u64, one_in: usize) -> Result<Schedule, Memory> {
     let mut draws = Draws::new(seed);
     let mut schedule = Sequence::new(alloc);
@@ -31,6 +32,7 @@ pub fn schedule(alloc: Global, seed: u64, one_in: usize) -> Result<Schedule, Mem
         add(&mut schedule, &mut draws, one_in, Fails::Before(number))?;
         add(&mut schedule, &mut draws, one_in, Fails::After(number))?;
         add(&mut schedule, &mut draws, one_in, Fails::Generation(number))?;
+        add(&mut schedule, &mut draws, one_in, Fails::Memory(number))?;
     }
     Ok(schedule)
 }

@@ -18,6 +18,9 @@ fn fails_of(word: &str) -> Option<Fails> {
     if let Some(number) = number(word, "after") {
         return Some(Fails::After(number));
     }
+    if let Some(number) = number(word, "memory") {
+        return Some(Fails::Memory(number));
+    }
     number(word, "generation").map(Fails::Generation)
 }
 
