@@ -14,11 +14,13 @@ mod plain_answers;
 mod plain_server;
 mod runs;
 mod schedules;
+mod script;
 mod seats;
 mod sending;
 mod serving;
 mod story;
 mod touched;
+mod troubles;
 
 use crate::crew::TrialCrew;
 use rv_base::Memory;
@@ -40,9 +42,10 @@ enum Item {
     Seats,
     Threads,
     Serial,
+    Troubles,
 }
 
-static ITEMS: [(&str, Item); 8] = [
+static ITEMS: [(&str, Item); 9] = [
     ("touched", Item::Touched),
     ("words", Item::Words),
     ("feed", Item::Feed),
@@ -51,6 +54,7 @@ static ITEMS: [(&str, Item); 8] = [
     ("seats", Item::Seats),
     ("threads", Item::Threads),
     ("serial", Item::Serial),
+    ("troubles", Item::Troubles),
 ];
 
 // The command that words between bars ask for, where they ask for one. An empty text has no words.
@@ -107,6 +111,7 @@ pub fn answer<R: Threads + Wait + Sync>(
         Some(Item::Seats) => seats::taken(stage.threads, alloc, rest),
         Some(Item::Threads) => threaded(stage, rest),
         Some(Item::Serial) => crewed(stage, &mut TrialCrew::serial(), rest),
+        Some(Item::Troubles) => troubles::told(stage, lines),
         None => Ok(None),
     }
 }

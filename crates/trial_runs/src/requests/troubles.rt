@@ -1,0 +1,291 @@
+// A script with a trouble at each of its commits, beside the same script without.
+use super::numbers::count_lines;
+use super::runs::run_whole;
+use super::script::{Sent, sent};
+use rv_base::{Memory, Sequence};
+use rv_book::Entry;
+use rv_keeper::{Cell, Fails, MemoryPlace, Schedule, Store};
+use std::alloc::Global;
+use std::sync::Wait;
+use std::thread::Threads;
+use trial_stage::Part::{Number, Text};
+use trial_stage::{Stage, append_parts, text_of};
+
+// What befalls a commit: it fails before its changes or after them, memory is refused to it, or the server is stopped after the line
+// that it was made for.
+#[derive(Clone, Copy)]
+enum Kind {
+    Before,
+    After,
+    Memory,
+    Stop,
+}
+
+static KINDS: [(&str, Kind); 4] = [
+    ("before", Kind::Before),
+    ("after", Kind::After),
+    ("memory", Kind::Memory),
+    ("stop", Kind::Stop),
+];
+
+// What befalls the commit of this number, from 1, where it is not 0.
+#[derive(Clone, Copy)]
+struct Trouble {
+    kind: Kind,
+    commit: usize,
+}
+
+impl Trouble {
+    // The schedule of the keeper.
+    fn schedule(self, alloc: Global) -> Result<Schedule, Memory> {
+        let commit = self.commit as u64;
+        let mut schedule = Sequence::new(alloc);
+        match self.kind {
+            Kind::Before => schedule.push(Fails::Before(commit))?,
+            Kind::After => schedule.push(Fails::After(commit))?,
+            Kind::Memory => schedule.push(Fails::Memory(commit))?,
+            Kind::Stop => {}
+        }
+        Ok(schedule)
+    }
+
+    // The place of the entry that a stop follows, or 0.
+    fn stop(self) -> usize {
+        match self.kind {
+            Kind::Stop => self.commit,
+            _ => 0,
+        }
+    }
+
+    // How many entries it adds, where this is the entry of its commit: a pull that was kept and is sent again looks twice.
+    fn looks_more(self, entry: &Entry) -> u64 {
+        match (self.kind, entry) {
+            (Kind::After, Entry::Look { .. }) => 1,
+            _ => 0,
+        }
+    }
+}
+
+// What a script comes to.
+#[derive(Drop)]
+struct Played {
+    sent: Sent,
+    // Whether `rv feed` answers the lines as the plain server does.
+    is_answered: bool,
+    // The rows without their versions, and the clients with their last ids.
+    rows: String,
+    entries: u64,
+}
+
+// The body of a row's cell without the version.
+fn without_version(body: &str) -> &str {
+    match body.split_once(',') {
+        Some((_, row)) => row,
+        None => body,
+    }
+}
+
+// Adds a row without its version, or a client with its last id. Nothing else is added.
+fn add_cell(alloc: Global, text: &mut String, cell: &Cell) -> Result<(), Memory> {
+    let key = text_of(cell.key.as_slice());
+    let body = text_of(cell.body.as_slice());
+    match cell.shelf {
+        2 => append_parts(
+            alloc,
+            text,
+            &[
+                Text(key),
+                Text(" "),
+                Text(without_version(body)),
+                Text("\n"),
+            ],
+        ),
+        3 => append_parts(alloc, text, &[Text(key), Text(" "), Text(body), Text("\n")]),
+        _ => Ok(()),
+    }
+}
+
+// The rows and the clients of a store.
+fn rows_of(alloc: Global, store: &Store) -> Result<String, Memory> {
+    let cells = store.shelves.cells(alloc)?;
+    let mut text = String::new(alloc);
+    for cell in cells.as_slice() {
+        add_cell(alloc, &mut text, cell)?;
+    }
+    Ok(text)
+}
+
+// A place whose first keeper has this schedule.
+fn place_of(alloc: Global, schedule: Schedule) -> Result<MemoryPlace, Memory> {
+    let mut schedules = Vec::new(alloc);
+    schedules.push(schedule)?;
+    Ok(MemoryPlace::new(alloc, schedules, Vec::new(alloc)))
+}
+
+// What these lines come to that were sent, with what a place then holds.
+fn played_over(
+    alloc: Global,
+    sent: Sent,
+    is_answered: bool,
+    place: &MemoryPlace,
+) -> Result<Played, Memory> {
+    let (rows, entries) = match place.store("F") {
+        Some(store) => (rows_of(alloc, store)?, store.generation),
+        None => (String::new(alloc), 0),
+    };
+    Ok(Played {
+        sent,
+        is_answered,
+        rows,
+        entries,
+    })
+}
+
+// What a script comes to with a trouble.
+fn played<R: Threads + Wait + Sync>(
+    stage: &Stage<'_, R>,
+    script: &str,
+    trouble: Trouble,
+) -> Result<Played, Memory> {
+    let alloc = stage.host.alloc();
+    let sent = sent(alloc, script, trouble.schedule(alloc)?, trouble.stop())?;
+    let mut place = place_of(alloc, trouble.schedule(alloc)?)?;
+    let run = run_whole(stage, "rv feed F", &mut place, sent.lines.as_bytes())?;
+    let is_answered = run.tells(sent.answers.as_str());
+    played_over(alloc, sent, is_answered, &place)
+}
+
+// How a script with a trouble that adds so many entries differs from the one without. An empty text is that it does not.
+fn difference(without: &Played, with: &Played, more: u64) -> &'static str {
+    if !with.is_answered {
+        return "other answers";
+    }
+    if with.rows.as_str() != without.rows.as_str() {
+        return "other rows or clients";
+    }
+    if with.entries != without.entries.saturating_add(more) {
+        return "another number of entries";
+    }
+    ""
+}
+
+// What came of the troubles of a kind.
+#[derive(Clone, Copy)]
+struct Counts {
+    tried: u64,
+    keeper: u64,
+    memory: u64,
+    looks_more: u64,
+}
+
+impl Counts {
+    // Counts one more, which adds so many entries.
+    fn add(&mut self, answers: &str, more: u64) {
+        self.tried = self.tried.saturating_add(1);
+        self.looks_more = self.looks_more.saturating_add(more);
+        let keeper = count_lines(answers, "503 {\"error\":\"keeper\"}");
+        self.keeper = self.keeper.saturating_add(keeper);
+        let memory = count_lines(answers, "503 {\"error\":\"memory\"}");
+        self.memory = self.memory.saturating_add(memory);
+    }
+
+    // Adds them to a text, as a line.
+    fn add_to(&self, alloc: Global, text: &mut String, name: &str) -> Result<(), Memory> {
+        append_parts(
+            alloc,
+            text,
+            &[
+                Text(name),
+                Text(": "),
+                Number(self.tried),
+                Text(" tried, answered keeper "),
+                Number(self.keeper),
+                Text(" and memory "),
+                Number(self.memory),
+                Text(", with a look more "),
+                Number(self.looks_more),
+                Text("\n"),
+            ],
+        )
+    }
+}
+
+// Adds how a trouble of a kind differs, as a line, where it does.
+fn add_difference(
+    alloc: Global,
+    text: &mut String,
+    name: &str,
+    commit: usize,
+    difference: &str,
+) -> Result<(), Memory> {
+    if difference.is_empty() {
+        return Ok(());
+    }
+    append_parts(
+        alloc,
+        text,
+        &[
+            Text(name),
+            Text(" "),
+            Number(commit as u64),
+            Text(": "),
+            Text(difference),
+            Text("\n"),
+        ],
+    )
+}
+
+// Adds what comes of a script with a trouble of a kind at each of its commits.
+fn add_kind<R: Threads + Wait + Sync>(
+    stage: &Stage<'_, R>,
+    script: &str,
+    without: &Played,
+    (name, kind): (&str, Kind),
+    text: &mut String,
+) -> Result<(), Memory> {
+    let alloc = stage.host.alloc();
+    let mut counts = Counts {
+        tried: 0,
+        keeper: 0,
+        memory: 0,
+        looks_more: 0,
+    };
+    let mut commit: usize = 0;
+    for entry in without.sent.plain.book() {
+        commit = commit.saturating_add(1);
+        let trouble = Trouble { kind, commit };
+        let more = trouble.looks_more(entry);
+        let with = played(stage, script, trouble)?;
+        counts.add(with.sent.answers.as_str(), more);
+        add_difference(alloc, text, name, commit, difference(without, &with, more))?;
+    }
+    counts.add_to(alloc, text, name)
+}
+
+/// `troubles`: what comes of a script where one of its commits fails before its changes, or after them, or is refused memory, or where a
+/// stop follows the line that it was made for, each commit in turn. The script sends again each line that is answered 503, and in place
+/// of `"answered"` the cookie that it was answered last. The plain server says what must be answered. Without the trouble the rows but for
+/// their versions, the clients' last ids and the number of entries are the same, but for a look that was kept and is made again.
+pub fn told<R: Threads + Wait + Sync>(
+    stage: &Stage<'_, R>,
+    script: &str,
+) -> Result<Option<String>, Memory> {
+    let alloc = stage.host.alloc();
+    let none = Trouble {
+        kind: Kind::Stop,
+        commit: 0,
+    };
+    let without = played(stage, script, none)?;
+    let mut text = String::new(alloc);
+    add_difference(
+        alloc,
+        &mut text,
+        "none",
+        0,
+        difference(&without, &without, 0),
+    )?;
+    for (name, kind) in &KINDS {
+        add_kind(stage, script, &without, (*name, *kind), &mut text)?;
+    }
+    Ok(Some(text))
+}
