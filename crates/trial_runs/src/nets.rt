@@ -1,5 +1,5 @@
 // Nets in memory, and what came back to them.
-use crate::running::failing;
+use crate::running::{Pieces, failing};
 use rv_base::{Memory, MemorySink, MemorySource};
 use rv_net::{Conn, MemoryConn, MemoryListen, MemoryNet};
 use std::alloc::Global;
@@ -36,6 +36,16 @@ pub fn conn(alloc: Global, bytes: Vec<u8>, most: usize) -> MemoryConn {
     }
 }
 
+/// A connection that sends these bytes, and whose reads and writes are of such pieces.
+pub fn conn_in(alloc: Global, bytes: Vec<u8>, pieces: Pieces) -> Result<MemoryConn, Memory> {
+    let reads = failing(alloc, pieces.read)?;
+    let writes = failing(alloc, pieces.write)?;
+    Ok(Conn {
+        source: MemorySource::new(bytes, pieces.most, reads),
+        sink: MemorySink::new(alloc, pieces.most, writes),
+    })
+}
+
 /// A net of one listener, to which these connections are to come. The call with this number fails, from 1; 0 is none.
 pub fn net_of(alloc: Global, conns: Vec<MemoryConn>, fails: u64) -> Result<MemoryNet, Memory> {
     let mut listeners = Vec::new(alloc);
@@ -53,6 +63,14 @@ pub fn written(net: &MemoryNet) -> &[u8] {
     match served(net) {
         Some(conn) => &conn.sink.bytes,
         None => b"",
+    }
+}
+
+/// How many reads and how many writes of the first connection failed.
+pub fn faults_of(net: &MemoryNet) -> (u64, u64) {
+    match served(net) {
+        Some(conn) => (conn.source.faults, conn.sink.faults),
+        None => (0, 0),
     }
 }
 
