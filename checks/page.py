@@ -1,0 +1,511 @@
+#!/usr/bin/env python3
+"""Checks the page of examples/web in a real browser: checks/page.py PROGRAM [PICTURES]
+
+PROGRAM is the program `rv` as it was built. It serves a store in a file behind HAProxy with examples/deploy/haproxy.cfg, over TLS, and
+ann and bob have a window each, which are headless Chromiums with profiles of their own. Each part prints a line with what was seen; in
+between pictures of the windows go to the folder PICTURES, or to one that is made and told. At the end both windows show what a pull
+from nothing gives, and each edit of each window stands once in the book. Ends with status 1 at the first thing that is wrong. Needs
+Debian's chromium, chromium-driver, haproxy and openssl; where one is not installed it says so, and checks nothing.
+"""
+import base64
+import contextlib
+import hashlib
+import http.client
+import json
+import os
+import pathlib
+import shutil
+import sqlite3
+import ssl
+import subprocess
+import sys
+import tempfile
+import time
+
+from browser import Driver, Window
+from links import free_port, same, wrong
+
+TOP = pathlib.Path(__file__).resolve().parent.parent
+TOOLS = ("chromium", "chromedriver", "haproxy", "openssl")
+WORKERS, POKES = 4, 16
+# In seconds: when one window must show what another did, and when all must be in step after a longer trouble.
+SOON, LATE = 2, 60
+PHONE = {"width": 390, "height": 844, "deviceScaleFactor": 2, "mobile": True}
+KEYS = {"ann": "k-ann", "bob": "Bearer k-bob"}
+
+SHOWN = """
+const texts = [...document.querySelectorAll("#todos .todo")].map((todo) => [todo.querySelector(".text").textContent, todo.querySelector(".check").checked]);
+"""
+# What a window keeps: its session, its base view and what waits.
+KEPT = """
+return new Promise((resolve, reject) => {
+  const opening = indexedDB.open("rv-lists");
+  opening.onerror = () => reject(opening.error);
+  opening.onsuccess = () => {
+    const transaction = opening.result.transaction(["session", "rows", "pending", "seats"]);
+    const asked = {
+      session: transaction.objectStore("session").get("session"), keys: transaction.objectStore("rows").getAllKeys(),
+      values: transaction.objectStore("rows").getAll(), pending: transaction.objectStore("pending").getAll(),
+      clients: transaction.objectStore("seats").getAll(),
+    };
+    transaction.oncomplete = () => {
+      opening.result.close();
+      resolve(Object.fromEntries(Object.entries(asked).map(([name, request]) => [name, request.result])));
+    };
+  };
+});
+"""
+# Adds todos by the page's own form, one after the other, with a pause between in milliseconds.
+ADDING = """
+const [prefix, count, pause] = arguments;
+let number = 0;
+const timer = setInterval(() => {
+  number += 1;
+  document.getElementById("todo-text").value = `${prefix} ${number}`;
+  document.getElementById("todo-form").requestSubmit();
+  if (number === count) clearInterval(timer);
+}, pause);
+"""
+
+
+class Site:
+    """The program over a store in a file, behind HAProxy."""
+
+    def __init__(self, program, folder):
+        self.program, self.folder, self.store = program, folder, folder / "lists.db"
+        self.port, self.poke_port, self.tls_port = free_port(), free_port(), free_port()
+        self.address = f"https://localhost:{self.tls_port}/"
+        self.server, self.accounts = None, folder / "accounts.toml"
+        self.write_accounts(KEYS)
+        self.make_certificate()
+        self.start_server()
+        log = open(folder / "haproxy.log", "wb")
+        environment = {"RV_TLS_PORT": self.tls_port, "RV_CERTIFICATE": folder / "rv.pem", "RV_PAGE": TOP / "examples/web", "RV_PORT": self.port,
+                       "RV_WORKERS": WORKERS, "RV_POKE_PORT": self.poke_port, "RV_POKES": POKES, "RV_LOG": "stdout"}
+        self.proxy = subprocess.Popen(["haproxy", "-f", str(TOP / "examples/deploy/haproxy.cfg")], stdin=subprocess.DEVNULL, stdout=log, stderr=log,
+                                      env={**os.environ, **{name: str(value) for name, value in environment.items()}})
+
+    def write_accounts(self, keys, schemas=("", "1")):
+        accounts = "".join(f"[[account]]\nkey = {json.dumps(key)}\nuser = {json.dumps(user)}\n" for user, key in keys.items())
+        self.accounts.write_text(f"schemas = {json.dumps(schemas)}\n{accounts}")
+
+    def make_certificate(self):
+        key, certificate = self.folder / "key.pem", self.folder / "certificate.pem"
+        subprocess.run(["openssl", "req", "-x509", "-newkey", "rsa:2048", "-nodes", "-days", "2", "-subj", "/CN=localhost", "-addext",
+                        "subjectAltName=DNS:localhost", "-keyout", str(key), "-out", str(certificate)], check=True, stderr=subprocess.DEVNULL)
+        (self.folder / "rv.pem").write_text(certificate.read_text() + key.read_text())
+        public = subprocess.run(["openssl", "pkey", "-in", str(key), "-pubout", "-outform", "DER"], check=True, stdout=subprocess.PIPE).stdout
+        self.trusted = base64.b64encode(hashlib.sha256(public).digest()).decode()
+
+    def start_server(self):
+        words = [self.program, "serve", str(self.store), "--accounts", str(self.accounts), "--port", str(self.port), "--workers", str(WORKERS),
+                 "--connections", "1000000", "--poke-port", str(self.poke_port), "--pokes", str(POKES)]
+        self.server = subprocess.Popen(words, stdin=subprocess.DEVNULL, stdout=subprocess.DEVNULL, stderr=subprocess.DEVNULL)
+
+    def kill_server(self):
+        self.server.kill()
+        self.server.wait()
+
+    def retire(self, group):
+        run = subprocess.run([self.program, "retire", str(self.store), group], stdout=subprocess.PIPE)
+        if run.returncode != 0 or not run.stdout.startswith(b"200 "):
+            wrong(f"retire ended with status {run.returncode} and said {run.stdout!r}")
+
+    def rows(self, user):
+        """What a pull from nothing of a new group gives, through the proxy."""
+        body = {"pullVersion": 1, "clientGroupID": f"check-{user}", "profileID": "check", "schemaVersion": "", "cookie": None}
+        context = ssl.create_default_context(cafile=self.folder / "certificate.pem")
+        connection = http.client.HTTPSConnection("localhost", self.tls_port, context=context, timeout=LATE)
+        connection.request("POST", "/pull", json.dumps(body), {"Authorization": KEYS[user]})
+        answer = connection.getresponse()
+        same("a pull's status", 200, answer.status)
+        return {change["key"]: change["value"] for change in json.load(answer)["patch"] if change["op"] == "put"}
+
+    def stop(self):
+        for process in (self.server, self.proxy):
+            process.kill()
+            process.wait()
+
+
+class Person:
+    """A user with a window, who keeps count of the todos that they made."""
+
+    def __init__(self, driver, site, user):
+        self.user, self.site, self.made = user, site, []
+        self.window = Window(driver, site.folder / f"profile-{user}", trusted=site.trusted)
+        self.window.open(site.address)
+        self.window.waits("the sign-in", "return !document.getElementById('sign-in').hidden")
+
+    def sign_in(self):
+        self.window.type("#sign-in-user", self.user)
+        self.window.type("#sign-in-key", KEYS[self.user], "Enter")
+        self.in_step()
+
+    def waits(self, what, script, *words, seconds=SOON):
+        return self.window.waits(f"{self.user}: {what}", script, *words, seconds=seconds)
+
+    def in_step(self, seconds=LATE):
+        return self.waits("in step, and nothing waits", """
+            const { state, waiting } = document.getElementById("status").dataset;
+            return state === "in-step" && waiting === "0";""", seconds=seconds)[1]
+
+    def in_state(self, state, waiting, seconds=LATE):
+        self.waits(f"the state {state} with {waiting} waiting", """
+            const status = document.getElementById("status").dataset;
+            return status.state === arguments[0] && status.waiting === String(arguments[1]);""", state, waiting, seconds=seconds)
+
+    def notice(self, text):
+        self.waits(f"the notice {text!r}", """
+            const notice = document.getElementById("notice");
+            return !notice.hidden && notice.innerText.includes(arguments[0]);""", text, seconds=LATE)
+
+    def make_list(self, name):
+        self.window.type("#list-name", name, "Enter")
+        self.waits(f"the list {name}", "return document.getElementById('list-title').textContent === arguments[0]", name)
+
+    def open_list(self, name, seconds=SOON):
+        self.waits(f"the list {name}", """
+            const link = [...document.querySelectorAll("#lists a")].find((one) => one.querySelector(".name").textContent === arguments[0]);
+            link?.click();
+            return link !== undefined;""", name, seconds=seconds)
+        self.waits(f"the list {name} is shown", "return document.getElementById('list-title').textContent === arguments[0]", name)
+
+    def share(self, user):
+        self.window.type("#share-user", user, "Enter")
+
+    def add(self, text):
+        self.made.append(text)
+        self.window.type("#todo-text", text, "Enter")
+
+    def begin_adding(self, prefix, count, pause):
+        self.made += [f"{prefix} {number + 1}" for number in range(count)]
+        self.window.run(ADDING, prefix, count, pause)
+
+    def todo(self, text):
+        """A selector of the todo with this text."""
+        place = self.window.run(SHOWN + "return texts.findIndex(([text]) => text === arguments[0]);", text)
+        if place < 0:
+            wrong(f"{self.user} has no todo {text!r}")
+        return f"#todos .todo:nth-child({place + 1})"
+
+    def check(self, text):
+        self.window.click(f"{self.todo(text)} .check")
+
+    def rename(self, text, new):
+        self.window.click(f"{self.todo(text)} .text")
+        self.window.run("document.querySelector('.rename').select()")
+        self.window.type(".rename", new, "Enter")
+
+    def delete(self, text):
+        self.window.click(f"{self.todo(text)} .remove")
+
+    def shown(self):
+        """The todos of the list that is open, in their order, with whether each is complete."""
+        return self.window.run(SHOWN + "return texts;")
+
+    def shows(self, text, is_complete=False, seconds=SOON):
+        """Waits until a todo with this text is shown. How long it took."""
+        what = f"a todo {text!r}, complete: {is_complete}"
+        return self.waits(what, SHOWN + "return texts.some(([text, complete]) => text === arguments[0] && complete === arguments[1]);",
+                          text, is_complete, seconds=seconds)[1]
+
+    def set_network(self, is_there):
+        limits = {"latency": 0, "downloadThroughput": -1, "uploadThroughput": -1}
+        self.window.devtools("Network.enable")
+        self.window.devtools("Network.emulateNetworkConditions", offline=not is_there, **limits)
+
+    def kept(self):
+        return self.window.run(KEPT)
+
+
+class Pictures:
+    def __init__(self, folder):
+        self.folder, self.count = folder, 0
+        folder.mkdir(parents=True, exist_ok=True)
+
+    def take(self, person, name):
+        self.count += 1
+        person.window.picture(self.folder / f"{self.count:02}-{name}-{person.user}.png")
+
+    def take_all_looks(self, person, name):
+        """In light and dark, and both at a phone's width too."""
+        devtools = person.window.devtools
+        for scheme in ("light", "dark"):
+            devtools("Emulation.setEmulatedMedia", features=[{"name": "prefers-color-scheme", "value": scheme}])
+            self.take(person, f"{name}-{scheme}")
+            devtools("Emulation.setDeviceMetricsOverride", **PHONE)
+            if person.window.run("return document.documentElement.scrollWidth > innerWidth"):
+                wrong(f"{name} at a phone's width is wider than the phone")
+            self.take(person, f"{name}-phone-{scheme}")
+            devtools("Emulation.clearDeviceMetricsOverride")
+        devtools("Emulation.setEmulatedMedia", features=[])
+
+
+def check_following(ann, bob, pictures):
+    """What one does stands in the other's window within two seconds."""
+    pictures.take_all_looks(ann, "sign-in")
+    ann.sign_in()
+    bob.sign_in()
+    ann.make_list("Groceries")
+    ann.share("bob")
+    bob.open_list("Groceries")
+    took = []
+    for number in range(1, 6):
+        ann.add(f"milk {number}")
+        took.append(bob.shows(f"milk {number}"))
+        bob.add(f"bread {number}")
+        took.append(ann.shows(f"bread {number}"))
+    ann.check("bread 1")
+    took.append(bob.shows("bread 1", True))
+    bob.rename("milk 2", "oat milk")
+    took.append(ann.shows("oat milk"))
+    ann.delete("milk 3")
+    took.append(bob.waits("milk 3 is gone", SHOWN + "return !texts.some(([text]) => text === 'milk 3');")[1])
+    print(f"following: {len(took)} edits stood in the other window after at most {max(took) * 1000:.0f} ms")
+
+
+def check_order(ann, bob):
+    """A todo that is moved, by the mouse and by the keys, is moved in the other window too."""
+    first, second, third = (text for text, _ in ann.shown()[:3])
+    rest = [text for text, _ in ann.shown()[3:]]
+    ann.window.drag(f"{ann.todo(first)} .grip", f"{ann.todo(third)} .grip")
+    bob.waits("the todo that was dragged", SHOWN + "return texts[2][0] === arguments[0];", first)
+    ann.window.run("document.querySelector(arguments[0]).focus()", f"{ann.todo(third)} .grip")
+    ann.window.press("ArrowUp")
+    expected = [third, second, first, *rest]
+    bob.waits("the todo that was moved by a key", SHOWN + "return texts.map(([text]) => text).join() === arguments[0];", ",".join(expected))
+    same("the order that ann sees", expected, [text for text, _ in ann.shown()])
+    print("order: a todo was moved by the mouse and one by a key, in both windows")
+
+
+def come_together(*people):
+    """Waits until all are in step and show the same todos. How long it took."""
+    start = time.monotonic()
+    while True:
+        shown = []
+        for person in people:
+            person.in_step()
+            shown.append(person.shown())
+        if all(one == shown[0] for one in shown):
+            return time.monotonic() - start
+        if time.monotonic() - start > LATE:
+            wrong(f"after {LATE} s the windows show {shown}")
+        time.sleep(0.02)
+
+
+def check_offline(ann, bob, pictures):
+    """Both edit while one has no network, and both show the same when it is back."""
+    bob.set_network(False)
+    bob.in_state("offline", 0)
+    bob.add("eggs, offline")
+    bob.check("bread 2")
+    bob.rename("bread 3", "dark bread")
+    bob.delete("bread 4")
+    bob.in_state("offline", 4)
+    ann.add("coffee, meanwhile")
+    ann.rename("bread 3", "white bread")
+    ann.delete("bread 5")
+    ann.in_step()
+    pictures.take_all_looks(bob, "offline")
+    bob.set_network(True)
+    took = come_together(ann, bob)
+    for person in (ann, bob):
+        for text in ("eggs, offline", "coffee, meanwhile", "dark bread"):
+            person.shows(text)
+        person.shows("bread 2", True)
+    print(f"offline: 4 edits of one who had no network and 3 of the other came together {took:.2f} s after it was back")
+
+
+def check_reload(ann, bob, site):
+    """What waits is there after a reload, with no network and with no server, and is sent later."""
+    bob.set_network(False)
+    bob.add("tea, before a reload")
+    bob.in_state("offline", 1)
+    bob.window.reload()
+    bob.shows("tea, before a reload", seconds=LATE)
+    bob.in_state("offline", 1)
+    bob.add("honey, after a reload")
+    bob.in_state("offline", 2)
+    bob.set_network(True)
+    bob.in_step()
+    site.kill_server()
+    ann.add("salt, without a server")
+    ann.in_state("offline", 1)
+    ann.window.reload()
+    ann.shows("salt, without a server", seconds=LATE)
+    ann.in_state("offline", 1)
+    site.start_server()
+    took = come_together(ann, bob)
+    print(f"reload: what waited was there after a reload without a network and one without a server, and was sent {took:.1f} s after it was back")
+
+
+def check_kills(ann, bob, site, kills=5, each=60):
+    """The server is killed and started again while both edit."""
+    before = ann.shown()
+    ann.begin_adding("a", each, 60)
+    bob.begin_adding("b", each, 60)
+    for _ in range(kills):
+        time.sleep(0.6)
+        site.kill_server()
+        time.sleep(0.1)
+        site.start_server()
+    start = time.monotonic()
+    for person in (ann, bob):
+        for who in "ab":
+            person.shows(f"{who} {each}", seconds=LATE)
+    come_together(ann, bob)
+    took = time.monotonic() - start
+    texts = [text for text, _ in ann.shown()]
+    same("the todos after the kills", sorted([text for text, _ in before] + [f"{who} {number + 1}" for who in "ab" for number in range(each)]), sorted(texts))
+    for who in "ab":
+        same(f"the order of {who}'s todos", [f"{who} {number + 1}" for number in range(each)], [text for text in texts if text.startswith(f"{who} ")])
+    print(f"kills: {2 * each} todos were made while the server was killed {kills} times; both windows show each once, {took:.1f} s after the last")
+
+
+def check_tabs(ann, bob):
+    """Two tabs of one browser have clients of their own, and show the same; what a closed one left is sent by the other."""
+    window, first = ann.window, ann.window.tab()
+    second = window.new_tab(ann.site.address)
+    ann.open_list("Groceries", seconds=LATE)
+    ann.add("from the second tab")
+    window.go_to(first)
+    ann.shows("from the second tab")
+    ann.add("from the first tab")
+    bob.shows("from the first tab")
+    same("the clients of ann's two tabs", 2, len(ann.kept()["clients"]))
+    window.go_to(second)
+    ann.shows("from the first tab")
+    # both at once
+    for handle, name in ((first, "x"), (second, "y")):
+        window.go_to(handle)
+        ann.begin_adding(name, 20, 20)
+    for handle in (first, second):
+        window.go_to(handle)
+        ann.shows("x 20", seconds=LATE)
+        ann.shows("y 20", seconds=LATE)
+        ann.in_step()
+    ann.set_network(False)
+    ann.add("as the second tab closes")
+    ann.window.ask("DELETE", "/window")
+    window.go_to(first)
+    bob.shows("as the second tab closes", seconds=LATE)
+    come_together(ann, bob)
+    print("tabs: two tabs of one browser edited at once as two clients, and what one left as it was closed was sent by the other")
+
+
+def check_share_taken(ann, bob, pictures):
+    """A share that is taken away empties the other's window; a list that is left is gone."""
+    ann.window.click("#shares .remove")
+    took = bob.waits("no list", "return document.querySelectorAll('#lists li').length === 0 && document.getElementById('list').hidden")[1]
+    pictures.take(bob, "share-taken")
+    same("what bob's window keeps", [], bob.kept()["keys"])
+    ann.share("bob")
+    bob.open_list("Groceries")
+    pictures.take(bob, "shared-list")
+    bob.window.click("#leave-list")
+    pictures.take(bob, "question")
+    bob.window.click("#question-yes")
+    bob.waits("no list", "return document.querySelectorAll('#lists li').length === 0")
+    ann.waits("no share", "return document.querySelectorAll('#shares li').length === 0")
+    ann.share("bob")
+    bob.open_list("Groceries")
+    come_together(ann, bob)
+    print(f"sharing: a share that was taken away had emptied the other window after {took * 1000:.0f} ms, and a list was left")
+
+
+def check_refusals(ann, bob, site, pictures):
+    """A key that is no longer taken, a version that is not served, and a client group that was ended."""
+    site.kill_server()
+    site.write_accounts({"ann": "new key", "bob": KEYS["bob"]})
+    site.start_server()
+    ann.add("while the key is refused")
+    ann.notice("does not know this key")
+    ann.in_state("trouble", 1)
+    pictures.take_all_looks(ann, "key-refused")
+    ann.window.type("#key-again", "new key", "Enter")
+    ann.in_step()
+    site.kill_server()
+    site.write_accounts(KEYS, schemas=("2",))
+    site.start_server()
+    bob.add("while the version is refused")
+    bob.notice("another version")
+    bob.in_state("trouble", 1)
+    site.kill_server()
+    bob.add("while the group is ended")
+    group = bob.kept()["session"]["groupID"]
+    site.retire(group)
+    site.write_accounts(KEYS)
+    site.start_server()
+    ann.notice("does not know this key")
+    ann.window.type("#key-again", KEYS["ann"], "Enter")
+    come_together(ann, bob)
+    if bob.kept()["session"]["groupID"] == group:
+        wrong("bob's window goes on with a group that was ended")
+    print("refusals: a key was asked for again, a version was told, and a group that was ended began anew; nothing that waited was lost")
+
+
+def check_views(site, *people):
+    """Each window keeps and shows just what a pull from nothing gives."""
+    for person in people:
+        rows, kept = site.rows(person.user), person.kept()
+        same(f"the rows that {person.user}'s window keeps", rows, dict(zip(kept["keys"], kept["values"])))
+        same(f"what waits in {person.user}'s window", [], kept["pending"])
+        todos = sorted((row for key, row in rows.items() if key.startswith("todo/")), key=lambda row: (row["sort"], row["id"]))
+        same(f"the todos that {person.user}'s window shows", [[row["text"], row["complete"]] for row in todos], person.shown())
+    print(f"views: both windows show the {len(todos)} todos that a pull from nothing gives")
+
+
+def check_book(program, store, *people):
+    """Each todo that a window made stands once in the book, and the ids of each client are 1, 2, 3 and so on."""
+    sound = subprocess.run([program, "check", str(store)], stdout=subprocess.PIPE)
+    with contextlib.closing(sqlite3.connect(store)) as connection:
+        entries = [json.loads(body) for body, in connection.execute("SELECT body FROM cell WHERE shelf = 1 ORDER BY k")]
+    same("what check says", (0, f"ok {len(entries)}\n".encode()), (sound.returncode, sound.stdout))
+    acts = [entry for entry in entries if entry[0] == "act"]
+    ids = {}
+    for _, _, _, client, number, _ in acts:
+        ids.setdefault(client, []).append(number)
+    for client, numbers in ids.items():
+        same(f"the ids of the client {client}", list(range(1, len(numbers) + 1)), numbers)
+    for person in people:
+        made = [call[3] for _, user, _, _, _, call in acts if user == person.user and call[0] == "createTodo"]
+        same(f"the todos that {person.user} made, in the book", sorted(person.made), sorted(made))
+    print(f"book: the {sum(len(person.made) for person in people)} todos that were made stand once each among {len(entries)} entries of {len(ids)} clients")
+
+
+def main():
+    if len(sys.argv) not in (2, 3):
+        sys.exit("usage: checks/page.py PROGRAM [PICTURES]")
+    program = os.path.abspath(sys.argv[1])
+    missing = [tool for tool in TOOLS if shutil.which(tool) is None]
+    if missing:
+        print(f"nothing was checked: not installed: {', '.join(missing)}")
+        return
+    pictures = Pictures(pathlib.Path(sys.argv[2] if len(sys.argv) > 2 else tempfile.mkdtemp(prefix="rv-pictures-")))
+    with contextlib.ExitStack() as ending:
+        folder = pathlib.Path(ending.enter_context(tempfile.TemporaryDirectory(ignore_cleanup_errors=True)))
+        site = Site(program, folder)
+        ending.callback(site.stop)
+        driver = Driver(free_port())
+        ending.callback(driver.stop)
+        driver.wait()
+        ann, bob = (Person(driver, site, user) for user in KEYS)
+        for person in (ann, bob):
+            ending.callback(person.window.close)
+        check_following(ann, bob, pictures)
+        check_order(ann, bob)
+        pictures.take_all_looks(ann, "list")
+        check_offline(ann, bob, pictures)
+        check_reload(ann, bob, site)
+        check_kills(ann, bob, site)
+        check_tabs(ann, bob)
+        check_share_taken(ann, bob, pictures)
+        check_refusals(ann, bob, site, pictures)
+        check_views(site, ann, bob)
+        site.kill_server()
+        check_book(program, site.store, ann, bob)
+    print(f"the page: two windows followed each other through all of this; {pictures.count} pictures in {pictures.folder}")
+
+
+if __name__ == "__main__":
+    main()

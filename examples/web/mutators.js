@@ -1,0 +1,58 @@
+/**
+ * The seven mutators, on the rows that this browser knows: a map of rows by the protocol's keys, `list/ID`, `share/ID` and
+ * `todo/ID`. The server has the last word by the same rules over all rows (docs/protocol.md, "Mutators"): a call whose
+ * condition fails has no effect, there as here.
+ */
+function sharesOf(view, listID) {
+  return [...view.values()].filter((row) => row.userID !== undefined && row.listID === listID);
+}
+
+/** Whether the user sees the list: they own it, or a share of it names them. */
+export function sees(view, user, listID) {
+  const list = view.get(`list/${listID}`);
+  return list !== undefined && (list.ownerID === user || sharesOf(view, listID).some((share) => share.userID === user));
+}
+
+export const mutators = {
+  createList(view, user, { id, name, ownerID }) {
+    if (view.has(`list/${id}`) || ownerID !== user) return;
+    view.set(`list/${id}`, { id, name, ownerID });
+  },
+
+  deleteList(view, user, id) {
+    if (view.get(`list/${id}`)?.ownerID !== user) return;
+    for (const [key, row] of view) {
+      if (key === `list/${id}` || row.listID === id) view.delete(key);
+    }
+  },
+
+  createShare(view, user, { id, listID, userID }) {
+    if (view.get(`list/${listID}`)?.ownerID !== user || userID === user || view.has(`share/${id}`)) return;
+    if (sharesOf(view, listID).some((share) => share.userID === userID)) return;
+    view.set(`share/${id}`, { id, listID, userID });
+  },
+
+  deleteShare(view, user, id) {
+    const share = view.get(`share/${id}`);
+    if (share === undefined) return;
+    if (share.userID === user || view.get(`list/${share.listID}`)?.ownerID === user) view.delete(`share/${id}`);
+  },
+
+  createTodo(view, user, { id, listID, text, complete }) {
+    if (view.has(`todo/${id}`) || !sees(view, user, listID)) return;
+    const sorts = [...view.values()].filter((row) => row.sort !== undefined && row.listID === listID).map((row) => row.sort);
+    const sort = Math.min(Math.max(0, ...sorts) + 1, Number.MAX_SAFE_INTEGER);
+    view.set(`todo/${id}`, { id, listID, text, complete, sort });
+  },
+
+  updateTodo(view, user, { id, text, complete, sort }) {
+    const todo = view.get(`todo/${id}`);
+    if (todo === undefined || !sees(view, user, todo.listID)) return;
+    view.set(`todo/${id}`, { ...todo, text: text ?? todo.text, complete: complete ?? todo.complete, sort: sort ?? todo.sort });
+  },
+
+  deleteTodo(view, user, id) {
+    const todo = view.get(`todo/${id}`);
+    if (todo !== undefined && sees(view, user, todo.listID)) view.delete(`todo/${id}`);
+  },
+};

@@ -1,0 +1,236 @@
+/** What a person sees, and what they do: each thing that they do is one call of a mutator, or more. */
+import { byId, confirmed, element, follow, setText } from "./elements.js";
+import { Todos } from "./todos.js";
+import { isForOther, listsOf, shownView } from "./view.js";
+
+/** Where in the page a list is. */
+const addressOf = (id) => `#${encodeURIComponent(id)}`;
+
+const changes = (count) => (count === 1 ? "1 change" : `${count} changes`);
+const wait = (count) => (count === 1 ? "1 change waits" : `${count} changes wait`);
+
+/** The state that the page is in by the last round, and the text of it. */
+function stateOf(outcome, isOnline, waiting) {
+  const counted = waiting > 0 ? ` · ${wait(waiting)}` : "";
+  if (!isOnline || outcome?.kind === "unreachable") return ["offline", `Offline${counted}`];
+  if (outcome?.kind === "key") return ["trouble", `Key needed${counted}`];
+  if (["version", "refused", "broken"].includes(outcome?.kind)) return ["trouble", `Not in step${counted}`];
+  if (outcome === undefined || outcome.kind === "anew" || waiting > 0) return ["busy", waiting > 0 ? `Sending ${changes(waiting)}` : "Connecting"];
+  return ["in-step", "Up to date"];
+}
+
+/** What a person has to know or to do about what a round came to, or nothing. */
+function noticeOf(outcome, { user, groupID }) {
+  if (outcome?.kind === "key") return "The server does not know this key. Your changes are kept here until it does.";
+  if (outcome?.kind === "version") return "The server speaks another version than this page. Load the page again; your changes are kept here.";
+  if (outcome?.error === "GroupOfOther") return `This key belongs to somebody else than ${user}. Your changes are kept here.`;
+  if (outcome?.error === "Future") {
+    return `The server has forgotten changes of this browser. Whoever runs it can end its client group ${groupID}; it then begins anew.`;
+  }
+  if (outcome?.kind === "broken") return `This browser could not keep its copy: ${outcome.error}.`;
+  if (outcome?.kind === "refused") return `The server answers ${outcome.error ?? outcome.status}. Your changes are kept here, and are sent again.`;
+  return "";
+}
+
+/**
+ * The server tells nobody who they are. That it gives lists of others, or makes no list where that was asked in this name, shows
+ * that the key has another.
+ */
+const otherName = (user) => `This key is not ${user}’s. Sign out, and sign in with the name that the key has at the server.`;
+
+function hasLostList(confirmed, lists) {
+  const deleted = new Set(confirmed.filter(({ name }) => name === "deleteList").map(({ args }) => args));
+  return confirmed.some(({ name, args }) => name === "createList" && !deleted.has(args.id) && !lists.some(({ id }) => id === args.id));
+}
+
+export class Page {
+  #actions;
+  #session;
+  #lists = [];
+  #outcome;
+  #waiting = 0;
+  #waitingIDs = new Set();
+  #isOtherName = false;
+  #todos;
+
+  /** `actions` are what the page can ask for: `mutate`, `signIn`, `setKey` and `signOut`. */
+  constructor(actions) {
+    this.#actions = actions;
+    this.#todos = new Todos(actions.mutate, (text) => this.#announce(text));
+    this.#onForm("list-form", "list-name", (name) => this.#addList(name));
+    this.#onForm("todo-form", "todo-text", (text) => this.#addTodo(text));
+    this.#onForm("share-form", "share-user", (userID) => this.#share(userID));
+    this.#onForm("key-form", "key-again", (key) => actions.setKey(key));
+    byId("sign-in-form").addEventListener("submit", (event) => {
+      event.preventDefault();
+      actions.signIn(byId("sign-in-user").value.trim(), byId("sign-in-key").value);
+    });
+    byId("sign-out").addEventListener("click", () => this.#signOut());
+    byId("delete-list").addEventListener("click", () => this.#deleteList());
+    byId("leave-list").addEventListener("click", () => this.#leaveList());
+    addEventListener("hashchange", () => {
+      this.#showList();
+      byId(this.#list === undefined ? "list-name" : "list-title").focus({ preventScroll: true });
+    });
+    for (const name of ["online", "offline"]) {
+      addEventListener(name, () => {
+        if (this.#session !== undefined) this.#showState();
+      });
+    }
+  }
+
+  /** Shows that nobody is signed in. */
+  askWho() {
+    byId("sign-in").hidden = false;
+    byId("sign-in-user").focus();
+  }
+
+  /** Shows all that this browser keeps. */
+  show(snapshot) {
+    this.#session = snapshot.session;
+    this.#waiting = snapshot.pending.length;
+    this.#lists = listsOf(shownView(snapshot), snapshot.session.user);
+    this.#waitingIDs = new Set(snapshot.pending.map(({ args }) => args.id ?? args));
+    this.#isOtherName ||= isForOther(snapshot);
+    byId("app").hidden = false;
+    byId("account").hidden = false;
+    this.#showAccount();
+    this.#showLists();
+    this.#showList();
+    this.#showState();
+  }
+
+  /** Shows what the last round came to. */
+  setOutcome(outcome, confirmed) {
+    this.#outcome = outcome;
+    this.#isOtherName ||= hasLostList(confirmed, this.#lists);
+    this.#showState();
+  }
+
+  get #list() {
+    return this.#lists.find(({ id }) => location.hash === addressOf(id));
+  }
+
+  #onForm(form, field, act) {
+    byId(form).addEventListener("submit", (event) => {
+      event.preventDefault();
+      const text = byId(field).value.trim();
+      if (text !== "") act(text);
+      byId(field).value = "";
+    });
+  }
+
+  #addList(name) {
+    const id = crypto.randomUUID();
+    this.#actions.mutate({ name: "createList", args: { id, name, ownerID: this.#session.user } }).then(() => {
+      location.hash = addressOf(id);
+      byId("todo-text").focus();
+    });
+  }
+
+  #addTodo(text) {
+    this.#actions.mutate({ name: "createTodo", args: { id: crypto.randomUUID(), listID: this.#list.id, text, complete: false } });
+  }
+
+  #share(userID) {
+    const { id: listID, ownerID, shares } = this.#list;
+    if (userID === ownerID || shares.some((share) => share.userID === userID)) {
+      this.#announce(`${userID} already sees this list`);
+      return;
+    }
+    this.#actions.mutate({ name: "createShare", args: { id: crypto.randomUUID(), listID, userID } });
+  }
+
+  async #deleteList() {
+    const { id, name, shares } = this.#list;
+    const others = shares.length > 0 ? ", for all who see it" : "";
+    if (await confirmed(`Delete “${name}” and its todos${others}?`, "Delete")) this.#actions.mutate({ name: "deleteList", args: id });
+  }
+
+  async #leaveList() {
+    const { name, shares } = this.#list;
+    const own = shares.find(({ userID }) => userID === this.#session.user);
+    if (await confirmed(`Leave “${name}”? Only its owner can share it with you again.`, "Leave")) {
+      this.#actions.mutate({ name: "deleteShare", args: own.id });
+    }
+  }
+
+  async #signOut() {
+    const loss = this.#waiting > 0 ? ` ${wait(this.#waiting)} to be sent, and would be lost.` : "";
+    if (await confirmed(`Sign out, and forget the lists in this browser?${loss}`, "Sign out")) this.#actions.signOut();
+  }
+
+  #announce(text) {
+    setText(byId("news"), text);
+  }
+
+  #showState() {
+    const [state, text] = stateOf(this.#outcome, navigator.onLine, this.#waiting);
+    const status = byId("status");
+    if (status.dataset.state !== state && state !== "busy") this.#announce(text);
+    Object.assign(status.dataset, { state, waiting: this.#waiting });
+    setText(byId("status-text"), text);
+    const notice = this.#isOtherName ? otherName(this.#session.user) : noticeOf(this.#outcome, this.#session);
+    setText(byId("notice-text"), notice);
+    byId("notice").hidden = notice === "";
+    byId("key-form").hidden = this.#outcome?.kind !== "key" && this.#outcome?.error !== "GroupOfOther";
+  }
+
+  #showAccount() {
+    const { user, groupID, cookie } = this.#session;
+    setText(byId("account"), user);
+    byId("key-user").value = user;
+    setText(byId("account-name"), user);
+    setText(byId("account-group"), groupID);
+    setText(byId("account-cookie"), cookie === null ? "none yet" : `place ${cookie.cvrID}, order ${cookie.order}`);
+  }
+
+  #showLists() {
+    const make = (id) => element("li", {}, element("a", { href: addressOf(id) }, element("span", { className: "name" }), element("span", { className: "count" })));
+    follow(byId("lists"), this.#lists, make, (item, { name, ownerID, shares, todos }) => {
+      const open = todos.filter(({ complete }) => !complete).length;
+      const [shownName, count] = item.firstElementChild.children;
+      setText(shownName, name);
+      setText(count, open > 0 ? String(open) : "");
+      count.ariaLabel = `${open} to do`;
+      const isOwn = ownerID === this.#session.user;
+      item.dataset.shared = isOwn ? (shares.length > 0 ? "shared" : "") : `by ${ownerID}`;
+    });
+    byId("no-lists").hidden = this.#lists.length > 0;
+  }
+
+  #showList() {
+    const list = this.#list;
+    byId("list").hidden = list === undefined;
+    byId("no-list").hidden = list !== undefined;
+    byId("app").classList.toggle("with-list", list !== undefined);
+    for (const item of byId("lists").children) item.firstElementChild.ariaCurrent = item.dataset.id === list?.id ? "page" : null;
+    document.title = list === undefined ? "Lists" : `${list.name} · Lists`;
+    if (list === undefined) return;
+    const done = list.todos.filter(({ complete }) => complete).length;
+    setText(byId("list-title"), list.name);
+    setText(byId("list-done"), list.todos.length > 0 ? `${done} of ${list.todos.length} done` : "");
+    Object.assign(byId("list-progress"), { max: Math.max(1, list.todos.length), value: done });
+    this.#todos.show(list.todos, this.#waitingIDs);
+    this.#showSharing(list);
+  }
+
+  #showSharing({ ownerID, shares }) {
+    const isOwn = ownerID === this.#session.user;
+    const owner = isOwn ? "This list is yours" : `This list is ${ownerID}’s`;
+    setText(byId("sharing-owner"), `${owner}${shares.length > 0 ? ", shared with:" : isOwn ? ", and nobody else sees it." : "."}`);
+    const make = (id) => {
+      const remove = element("button", { className: "remove", type: "button" });
+      remove.addEventListener("click", () => this.#actions.mutate({ name: "deleteShare", args: id }));
+      return element("li", {}, element("span"), remove);
+    };
+    follow(byId("shares"), shares, make, (item, { userID }) => {
+      setText(item.firstElementChild, userID);
+      item.lastElementChild.ariaLabel = `Stop sharing with ${userID}`;
+      item.lastElementChild.hidden = !isOwn;
+    });
+    byId("share-form").hidden = !isOwn;
+    byId("delete-list").hidden = !isOwn;
+    byId("leave-list").hidden = isOwn;
+  }
+}
