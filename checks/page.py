@@ -79,8 +79,11 @@ class Site:
         self.write_accounts(KEYS)
         self.make_certificate()
         self.start_server()
-        log = open(folder / "haproxy.log", "wb")
-        environment = {"RV_TLS_PORT": self.tls_port, "RV_CERTIFICATE": folder / "rv.pem", "RV_PAGE": TOP / "examples/web", "RV_PORT": self.port,
+        self.start_proxy()
+
+    def start_proxy(self):
+        log = open(self.folder / "haproxy.log", "ab")
+        environment = {"RV_TLS_PORT": self.tls_port, "RV_CERTIFICATE": self.folder / "rv.pem", "RV_PAGE": TOP / "examples/web", "RV_PORT": self.port,
                        "RV_WORKERS": WORKERS, "RV_POKE_PORT": self.poke_port, "RV_POKES": POKES, "RV_LOG": "stdout"}
         self.proxy = subprocess.Popen(["haproxy", "-f", str(TOP / "examples/deploy/haproxy.cfg")], stdin=subprocess.DEVNULL, stdout=log, stderr=log,
                                       env={**os.environ, **{name: str(value) for name, value in environment.items()}})
@@ -106,6 +109,10 @@ class Site:
         self.server.kill()
         self.server.wait()
 
+    def kill_proxy(self):
+        self.proxy.kill()
+        self.proxy.wait()
+
     def retire(self, group):
         run = subprocess.run([self.program, "retire", str(self.store), group], stdout=subprocess.PIPE)
         if run.returncode != 0 or not run.stdout.startswith(b"200 "):
@@ -122,9 +129,8 @@ class Site:
         return {change["key"]: change["value"] for change in json.load(answer)["patch"] if change["op"] == "put"}
 
     def stop(self):
-        for process in (self.server, self.proxy):
-            process.kill()
-            process.wait()
+        self.kill_server()
+        self.kill_proxy()
 
 
 class Person:
@@ -317,7 +323,7 @@ def check_offline(ann, bob, pictures):
 
 
 def check_reload(ann, bob, site):
-    """What waits is there after a reload, with no network and with no server, and is sent later."""
+    """What waits is there after a reload, with no network, with no server and with no proxy, and is sent later."""
     bob.set_network(False)
     bob.add("tea, before a reload")
     bob.in_state("offline", 1)
@@ -334,9 +340,15 @@ def check_reload(ann, bob, site):
     ann.window.reload()
     ann.shows("salt, without a server", seconds=LATE)
     ann.in_state("offline", 1)
+    site.kill_proxy()
+    ann.window.reload()
+    ann.shows("salt, without a server", seconds=LATE)
+    ann.add("pepper, without a proxy")
+    ann.in_state("offline", 2)
     site.start_server()
+    site.start_proxy()
     took = come_together(ann, bob)
-    print(f"reload: what waited was there after a reload without a network and one without a server, and was sent {took:.1f} s after it was back")
+    print(f"reload: what waited was there after reloads without a network, without a server and without a proxy, and was sent {took:.1f} s after they were back")
 
 
 def check_kills(ann, bob, site, kills=5, each=60):
@@ -401,7 +413,9 @@ def check_share_taken(ann, bob, pictures):
     same("what bob's window keeps", [], bob.kept()["keys"])
     ann.share("bob")
     bob.open_list("Groceries")
-    pictures.take(bob, "shared-list")
+    bob.window.click("#account")
+    pictures.take(bob, "shared-list-and-account")
+    bob.window.press("Escape")
     bob.window.click("#leave-list")
     pictures.take(bob, "question")
     bob.window.click("#question-yes")

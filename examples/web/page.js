@@ -7,11 +7,10 @@ import { isForOther, listsOf, shownView } from "./view.js";
 const addressOf = (id) => `#${encodeURIComponent(id)}`;
 
 const changes = (count) => (count === 1 ? "1 change" : `${count} changes`);
-const wait = (count) => (count === 1 ? "1 change waits" : `${count} changes wait`);
 
 /** The state that the page is in by the last round, and the text of it. */
 function stateOf(outcome, isOnline, waiting) {
-  const counted = waiting > 0 ? ` · ${wait(waiting)}` : "";
+  const counted = waiting > 0 ? ` · ${waiting} waiting` : "";
   if (!isOnline || outcome?.kind === "unreachable") return ["offline", `Offline${counted}`];
   if (outcome?.kind === "key") return ["trouble", `Key needed${counted}`];
   if (["version", "refused", "broken"].includes(outcome?.kind)) return ["trouble", `Not in step${counted}`];
@@ -129,7 +128,8 @@ export class Page {
   }
 
   #addTodo(text) {
-    this.#actions.mutate({ name: "createTodo", args: { id: crypto.randomUUID(), listID: this.#list.id, text, complete: false } });
+    const args = { id: crypto.randomUUID(), listID: this.#list.id, text, complete: false };
+    this.#actions.mutate({ name: "createTodo", args }).then(() => byId("todos").lastElementChild?.scrollIntoView({ block: "nearest" }));
   }
 
   #share(userID) {
@@ -156,7 +156,7 @@ export class Page {
   }
 
   async #signOut() {
-    const loss = this.#waiting > 0 ? ` ${wait(this.#waiting)} to be sent, and would be lost.` : "";
+    const loss = this.#waiting > 0 ? ` What has not been sent yet, ${changes(this.#waiting)}, would be lost.` : "";
     if (await confirmed(`Sign out, and forget the lists in this browser?${loss}`, "Sign out")) this.#actions.signOut();
   }
 
@@ -194,7 +194,7 @@ export class Page {
       setText(count, open > 0 ? String(open) : "");
       count.ariaLabel = `${open} to do`;
       const isOwn = ownerID === this.#session.user;
-      item.dataset.shared = isOwn ? (shares.length > 0 ? "shared" : "") : `by ${ownerID}`;
+      shownName.dataset.sharing = isOwn ? (shares.length > 0 ? "shared" : "") : `by ${ownerID}`;
     });
     byId("no-lists").hidden = this.#lists.length > 0;
   }
@@ -202,7 +202,7 @@ export class Page {
   #showList() {
     const list = this.#list;
     byId("list").hidden = list === undefined;
-    byId("no-list").hidden = list !== undefined;
+    byId("no-list").hidden = list !== undefined || this.#lists.length === 0;
     byId("app").classList.toggle("with-list", list !== undefined);
     for (const item of byId("lists").children) item.firstElementChild.ariaCurrent = item.dataset.id === list?.id ? "page" : null;
     document.title = list === undefined ? "Lists" : `${list.name} · Lists`;

@@ -49,7 +49,7 @@ export class Store {
     this.#database = database;
   }
 
-  /** Has `changed` called after each change from now on, whichever window made it. */
+  /** Has `changed` called after each change from now on, whichever window made it. A change of this window waits for its end. */
   onChange(changed) {
     this.#changed = changed;
     this.#channel.onmessage = () => changed();
@@ -77,7 +77,7 @@ export class Store {
   async #change(work) {
     const result = await this.#transact("readwrite", work);
     this.#channel.postMessage("changed");
-    this.#changed();
+    await this.#changed();
     return result;
   }
 
