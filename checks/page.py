@@ -7,16 +7,11 @@ between pictures of the windows go to the folder PICTURES, or to one that is mad
 from nothing gives, and each edit of each window stands once in the book. Ends with status 1 at the first thing that is wrong. Needs
 Debian's chromium, chromium-driver, haproxy and openssl; where one is not installed it says so, and checks nothing.
 """
-import base64
 import contextlib
-import hashlib
-import http.client
 import json
 import os
 import pathlib
-import shutil
 import sqlite3
-import ssl
 import subprocess
 import sys
 import tempfile
@@ -24,14 +19,11 @@ import time
 
 from browser import Driver, Window
 from links import free_port, same, wrong
+from proxied import KEYS, Site, missing_tools
 
-TOP = pathlib.Path(__file__).resolve().parent.parent
-TOOLS = ("chromium", "chromedriver", "haproxy", "openssl")
-WORKERS, POKES = 4, 16
 # In seconds: when one window must show what another did, and when all must be in step after a longer trouble.
 SOON, LATE = 2, 60
 PHONE = {"width": 390, "height": 844, "deviceScaleFactor": 2, "mobile": True}
-KEYS = {"ann": "k-ann", "bob": "Bearer k-bob"}
 
 SHOWN = """
 const texts = [...document.querySelectorAll("#todos .todo")].map((todo) => [todo.querySelector(".text").textContent, todo.querySelector(".check").checked]);
@@ -66,71 +58,6 @@ const timer = setInterval(() => {
   if (number === count) clearInterval(timer);
 }, pause);
 """
-
-
-class Site:
-    """The program over a store in a file, behind HAProxy."""
-
-    def __init__(self, program, folder):
-        self.program, self.folder, self.store = program, folder, folder / "lists.db"
-        self.port, self.poke_port, self.tls_port = free_port(), free_port(), free_port()
-        self.address = f"https://localhost:{self.tls_port}/"
-        self.server, self.accounts = None, folder / "accounts.toml"
-        self.write_accounts(KEYS)
-        self.make_certificate()
-        self.start_server()
-        self.start_proxy()
-
-    def start_proxy(self):
-        log = open(self.folder / "haproxy.log", "ab")
-        environment = {"RV_TLS_PORT": self.tls_port, "RV_CERTIFICATE": self.folder / "rv.pem", "RV_PAGE": TOP / "examples/web", "RV_PORT": self.port,
-                       "RV_WORKERS": WORKERS, "RV_POKE_PORT": self.poke_port, "RV_POKES": POKES, "RV_LOG": "stdout"}
-        self.proxy = subprocess.Popen(["haproxy", "-f", str(TOP / "examples/deploy/haproxy.cfg")], stdin=subprocess.DEVNULL, stdout=log, stderr=log,
-                                      env={**os.environ, **{name: str(value) for name, value in environment.items()}})
-
-    def write_accounts(self, keys, schemas=("", "1")):
-        accounts = "".join(f"[[account]]\nkey = {json.dumps(key)}\nuser = {json.dumps(user)}\n" for user, key in keys.items())
-        self.accounts.write_text(f"schemas = {json.dumps(schemas)}\n{accounts}")
-
-    def make_certificate(self):
-        key, certificate = self.folder / "key.pem", self.folder / "certificate.pem"
-        subprocess.run(["openssl", "req", "-x509", "-newkey", "rsa:2048", "-nodes", "-days", "2", "-subj", "/CN=localhost", "-addext",
-                        "subjectAltName=DNS:localhost", "-keyout", str(key), "-out", str(certificate)], check=True, stderr=subprocess.DEVNULL)
-        (self.folder / "rv.pem").write_text(certificate.read_text() + key.read_text())
-        public = subprocess.run(["openssl", "pkey", "-in", str(key), "-pubout", "-outform", "DER"], check=True, stdout=subprocess.PIPE).stdout
-        self.trusted = base64.b64encode(hashlib.sha256(public).digest()).decode()
-
-    def start_server(self):
-        words = [self.program, "serve", str(self.store), "--accounts", str(self.accounts), "--port", str(self.port), "--workers", str(WORKERS),
-                 "--connections", "1000000", "--poke-port", str(self.poke_port), "--pokes", str(POKES)]
-        self.server = subprocess.Popen(words, stdin=subprocess.DEVNULL, stdout=subprocess.DEVNULL, stderr=subprocess.DEVNULL)
-
-    def kill_server(self):
-        self.server.kill()
-        self.server.wait()
-
-    def kill_proxy(self):
-        self.proxy.kill()
-        self.proxy.wait()
-
-    def retire(self, group):
-        run = subprocess.run([self.program, "retire", str(self.store), group], stdout=subprocess.PIPE)
-        if run.returncode != 0 or not run.stdout.startswith(b"200 "):
-            wrong(f"retire ended with status {run.returncode} and said {run.stdout!r}")
-
-    def rows(self, user):
-        """What a pull from nothing of a new group gives, through the proxy."""
-        body = {"pullVersion": 1, "clientGroupID": f"check-{user}", "profileID": "check", "schemaVersion": "", "cookie": None}
-        context = ssl.create_default_context(cafile=self.folder / "certificate.pem")
-        connection = http.client.HTTPSConnection("localhost", self.tls_port, context=context, timeout=LATE)
-        connection.request("POST", "/pull", json.dumps(body), {"Authorization": KEYS[user]})
-        answer = connection.getresponse()
-        same("a pull's status", 200, answer.status)
-        return {change["key"]: change["value"] for change in json.load(answer)["patch"] if change["op"] == "put"}
-
-    def stop(self):
-        self.kill_server()
-        self.kill_proxy()
 
 
 class Person:
@@ -458,6 +385,46 @@ def check_refusals(ann, bob, site, pictures):
     print("refusals: a key was asked for again, a version was told, and a group that was ended began anew; nothing that waited was lost")
 
 
+def check_restore(ann, bob, site, pictures):
+    """An older copy of the store is brought back: what was done since is gone, and client groups are ended so that windows go on."""
+    site.kill_server()
+    copies = {path: path.read_bytes() for path in site.folder.glob("lists.db*")}
+    site.start_server()
+    ann.add("after the copy")
+    ann.in_step()
+    bob.shows("after the copy", seconds=LATE)
+    site.kill_server()
+    for path in site.folder.glob("lists.db*"):
+        path.unlink()
+    for path, body in copies.items():
+        path.write_bytes(body)
+    site.start_server()
+    bob.waits("after the copy is gone", SHOWN + "return !texts.some(([text]) => text === 'after the copy');", seconds=LATE)
+    ann.made.remove("after the copy")
+    ann.add("after the restore")
+    ann.notice(ann.kept()["session"]["groupID"])
+    ann.in_state("trouble", 1)
+    pictures.take(ann, "forgotten")
+    site.kill_server()
+    groups = site.groups()
+    for group in groups:
+        site.retire(group)
+    site.start_server()
+    came = come_together(ann, bob)
+    ann.shows("after the restore")
+    print(f"restore: an older copy of the store was told by an id from the future; {len(groups)} groups were ended, and the windows came together {came:.1f} s later")
+
+
+def check_wrong_name(driver, site):
+    """A name that is not the key's is told."""
+    eve = Person(driver, site, "eve")
+    eve.window.type("#sign-in-user", "eve")
+    eve.window.type("#sign-in-key", KEYS["ann"], "Enter")
+    eve.notice("This key is not eve’s")
+    eve.window.close()
+    print("a name that is not the key's was told")
+
+
 def check_views(site, *people):
     """Each window keeps and shows just what a pull from nothing gives."""
     for person in people:
@@ -491,9 +458,7 @@ def main():
     if len(sys.argv) not in (2, 3):
         sys.exit("usage: checks/page.py PROGRAM [PICTURES]")
     program = os.path.abspath(sys.argv[1])
-    missing = [tool for tool in TOOLS if shutil.which(tool) is None]
-    if missing:
-        print(f"nothing was checked: not installed: {', '.join(missing)}")
+    if missing_tools("chromium", "chromedriver"):
         return
     pictures = Pictures(pathlib.Path(sys.argv[2] if len(sys.argv) > 2 else tempfile.mkdtemp(prefix="rv-pictures-")))
     with contextlib.ExitStack() as ending:
@@ -515,6 +480,8 @@ def main():
         check_tabs(ann, bob)
         check_share_taken(ann, bob, pictures)
         check_refusals(ann, bob, site, pictures)
+        check_restore(ann, bob, site, pictures)
+        check_wrong_name(driver, site)
         check_views(site, ann, bob)
         site.kill_server()
         check_book(program, site.store, ann, bob)
