@@ -162,7 +162,7 @@ def check_log(site):
     line = next(line for line in lines if "/push 200" in line and line.endswith(" client cbusy-7 id 9"))
     same("the group in the log", True, " group gbusy-7 " in line)
     with contextlib.closing(sqlite3.connect(site.store)) as connection:
-        found = connection.execute("SELECT k FROM cell WHERE shelf = 1 AND json_extract(body, '$[3]') = 'cbusy-7' AND json_extract(body, '$[4]') = 9").fetchall()
+        found = connection.execute("SELECT k FROM cell WHERE shelf = 1 AND json_extract(CAST(body AS TEXT), '$[3]') = 'cbusy-7' AND json_extract(CAST(body AS TEXT), '$[4]') = 9").fetchall()
     same("how many entries the line leads to", 1, len(found))
     print(f"log: {line.split(': ', 1)[1]}; its entry stands at place {int(found[0][0])}")
 
