@@ -436,6 +436,23 @@ def check_views(site, *people):
     print(f"views: both windows show the {len(todos)} todos that a pull from nothing gives")
 
 
+def check_sign_out(person):
+    """Who signs out leaves nothing in the browser."""
+    person.window.click("#account")
+    person.window.click("#sign-out")
+    person.window.click("#question-yes")
+    person.waits("the sign-in", "return !document.getElementById('sign-in').hidden", seconds=LATE)
+    kept = person.kept()
+    same(f"what {person.user}'s window keeps", (None, [], [], []), tuple(kept.get(name) for name in ("session", "keys", "pending", "clients")))
+    print("who signed out left nothing in the browser")
+
+
+def check_messages(*people):
+    """No script has failed. That the network did is in the messages too."""
+    for person in people:
+        same(f"what scripts of {person.user}'s page say", [], [message["message"] for message in person.window.messages() if message["source"] == "javascript"])
+
+
 def check_book(program, store, *people):
     """Each todo that a window made stands once in the book, and the ids of each client are 1, 2, 3 and so on."""
     sound = subprocess.run([program, "check", str(store)], stdout=subprocess.PIPE)
@@ -483,6 +500,8 @@ def main():
         check_restore(ann, bob, site, pictures)
         check_wrong_name(driver, site)
         check_views(site, ann, bob)
+        check_sign_out(bob)
+        check_messages(ann, bob)
         site.kill_server()
         check_book(program, site.store, ann, bob)
     print(f"the page: two windows followed each other through all of this; {pictures.count} pictures in {pictures.folder}")

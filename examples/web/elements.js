@@ -33,7 +33,7 @@ export function follow(parent, things, make, update) {
 }
 
 /** Asks a person a question that has a yes. */
-export function confirmed(question, yes) {
+export function saysYes(question, yes) {
   const dialog = byId("question");
   setText(byId("question-text"), question);
   setText(byId("question-yes"), yes);

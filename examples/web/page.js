@@ -1,5 +1,5 @@
 /** What a person sees, and what they do: each thing that they do is one call of a mutator, or more. */
-import { byId, confirmed, element, follow, setText } from "./elements.js";
+import { byId, element, follow, saysYes, setText } from "./elements.js";
 import { Todos } from "./todos.js";
 import { isForOther, listsOf, shownView } from "./view.js";
 
@@ -144,20 +144,20 @@ export class Page {
   async #deleteList() {
     const { id, name, shares } = this.#list;
     const others = shares.length > 0 ? ", for all who see it" : "";
-    if (await confirmed(`Delete “${name}” and its todos${others}?`, "Delete")) this.#actions.mutate({ name: "deleteList", args: id });
+    if (await saysYes(`Delete “${name}” and its todos${others}?`, "Delete")) this.#actions.mutate({ name: "deleteList", args: id });
   }
 
   async #leaveList() {
     const { name, shares } = this.#list;
     const own = shares.find(({ userID }) => userID === this.#session.user);
-    if (await confirmed(`Leave “${name}”? Only its owner can share it with you again.`, "Leave")) {
+    if (await saysYes(`Leave “${name}”? Only its owner can share it with you again.`, "Leave")) {
       this.#actions.mutate({ name: "deleteShare", args: own.id });
     }
   }
 
   async #signOut() {
     const loss = this.#waiting > 0 ? ` What has not been sent yet, ${changes(this.#waiting)}, would be lost.` : "";
-    if (await confirmed(`Sign out, and forget the lists in this browser?${loss}`, "Sign out")) this.#actions.signOut();
+    if (await saysYes(`Sign out, and forget the lists in this browser?${loss}`, "Sign out")) this.#actions.signOut();
   }
 
   #announce(text) {
