@@ -12,7 +12,8 @@ use std::alloc::Global;
 fn summary_of_run(alloc: Global, seed: u32, requests: u32) -> Result<Bytes, Memory>
     ensures { IfOk result (TellsRun seed requests) }
 {
-    play(alloc, seed, requests)?.text(alloc)
+    let summary = play(alloc, seed, requests)?;
+    summary.text(alloc)
 }
 
 /// Runs the first requests that a seed makes over a fresh store in memory, and writes the summary of the run as one line, as
