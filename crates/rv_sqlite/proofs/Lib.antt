@@ -20,3 +20,4 @@ mod Found
 mod WasOpen
 mod Known
 mod Asked
+mod CellSchema

@@ -7,3 +7,4 @@ pub mod Table
 pub mod Stands
 pub mod Steps
 pub mod Telling
+pub mod Shape
