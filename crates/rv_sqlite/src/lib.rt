@@ -7,6 +7,7 @@
 //! its changes and writes the generation after `from`, or, where it is refused, leaves all as it was. A crash leaves no third thing.
 #![tactic(auto)]
 
+mod connected;
 mod exact;
 mod number;
 mod reading;
