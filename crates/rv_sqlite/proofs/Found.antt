@@ -52,47 +52,47 @@ shows_generation : (c : Cell) (n : ℕ) → Shows (shown_row c) (row_read.Genera
 shows_generation c n h = made_same c (generation_cell n) (same_pos c.shelf 0 (same_int _ _ h.shelf_is ∙ h.stands.0)) (same_blob _ _ h.key_is ∙ h.stands.1) (same_blob _ _ h.body_is ∙ h.stands.2)
 
 -- rows and what they are read as, in turn
-row_of : (rows : List Row) (reads : List RowRead) (read : RowRead) → AllShow rows reads → Has reads read → (row : Row) × Has rows row × Shows row read
+pub row_of : (rows : List Row) (reads : List RowRead) (read : RowRead) → AllShow rows reads → Has reads read → (row : Row) × Has rows row × Shows row read
 row_of [] [] read all h = absurd h
 row_of [] (one ∷ reads) read all h = absurd all
 row_of (row ∷ rows) [] read all h = absurd all
 row_of (row ∷ rows) (one ∷ reads) read all (inl same) = (row, inl refl, subst (Shows row) (sym same) all.0)
 row_of (row ∷ rows) (one ∷ reads) read all (inr later) = let r = row_of rows reads read all.1 later in (r.0, inr r.1, r.2)
 
-read_of : (rows : List Row) (reads : List RowRead) (row : Row) → AllShow rows reads → Has rows row → (read : RowRead) × Has reads read × Shows row read
+pub read_of : (rows : List Row) (reads : List RowRead) (row : Row) → AllShow rows reads → Has rows row → (read : RowRead) × Has reads read × Shows row read
 read_of [] [] row all h = absurd h
 read_of [] (one ∷ reads) row all h = absurd h
 read_of (other ∷ rows) [] row all h = absurd all
 read_of (other ∷ rows) (one ∷ reads) row all (inl same) = (one, inl refl, subst (λ (r : Row). Shows r one) (sym same) all.0)
 read_of (other ∷ rows) (one ∷ reads) row all (inr later) = let r = read_of rows reads row all.1 later in (r.0, inr r.1, r.2)
 
-from_among : (reads : List RowRead) (c : Cell) → Has (cells_among reads) c → Has reads (row_read.Cell c)
+pub from_among : (reads : List RowRead) (c : Cell) → Has (cells_among reads) c → Has reads (row_read.Cell c)
 from_among [] c h = absurd h
 from_among (row_read.Cell d ∷ reads) c (inl same) = inl (ap row_read.Cell same)
 from_among (row_read.Cell d ∷ reads) c (inr later) = inr (from_among reads c later)
 from_among (row_read.Generation n ∷ reads) c h = inr (from_among reads c h)
 
-among_cells : (reads : List RowRead) (c : Cell) → Has reads (row_read.Cell c) → Has (cells_among reads) c
+pub among_cells : (reads : List RowRead) (c : Cell) → Has reads (row_read.Cell c) → Has (cells_among reads) c
 among_cells [] c h = absurd h
 among_cells (row_read.Cell d ∷ reads) c (inl same) = inl (let e : c ≡ d = cc in e)
 among_cells (row_read.Cell d ∷ reads) c (inr later) = inr (among_cells reads c later)
 among_cells (row_read.Generation n ∷ reads) c (inl same) = absurd (let e = same in cc)
 among_cells (row_read.Generation n ∷ reads) c (inr later) = among_cells reads c later
 
-from_generations : (reads : List RowRead) (n : ℕ) → Has (generations_among reads) n → Has reads (row_read.Generation n)
+pub from_generations : (reads : List RowRead) (n : ℕ) → Has (generations_among reads) n → Has reads (row_read.Generation n)
 from_generations [] n h = absurd h
 from_generations (row_read.Cell d ∷ reads) n h = inr (from_generations reads n h)
 from_generations (row_read.Generation m ∷ reads) n (inl same) = inl (ap row_read.Generation same)
 from_generations (row_read.Generation m ∷ reads) n (inr later) = inr (from_generations reads n later)
 
-among_generations : (reads : List RowRead) (n : ℕ) → Has reads (row_read.Generation n) → Has (generations_among reads) n
+pub among_generations : (reads : List RowRead) (n : ℕ) → Has reads (row_read.Generation n) → Has (generations_among reads) n
 among_generations [] n h = absurd h
 among_generations (row_read.Cell d ∷ reads) n (inl same) = absurd (let e = same in cc)
 among_generations (row_read.Cell d ∷ reads) n (inr later) = among_generations reads n later
 among_generations (row_read.Generation m ∷ reads) n (inl same) = inl (let e : n ≡ m = cc in e)
 among_generations (row_read.Generation m ∷ reads) n (inr later) = inr (among_generations reads n later)
 
-only_one : (numbers : List ℕ) (n generation : ℕ) → IsOnlyGeneration numbers generation → Has numbers n → generation ≡ n
+pub only_one : (numbers : List ℕ) (n generation : ℕ) → IsOnlyGeneration numbers generation → Has numbers n → generation ≡ n
 only_one [] n generation only h = absurd h
 only_one (m ∷ []) n generation only (inl same) = only ∙ sym same
 only_one (m ∷ []) n generation only (inr none) = absurd none
@@ -102,7 +102,7 @@ none_there : (numbers : List ℕ) (generation : ℕ) → IsOnlyGeneration number
 none_there [] generation only none = only
 none_there (m ∷ numbers) generation only none = absurd (none m (inl refl))
 
-abbrev columns : List Term
+abbrev pub columns : List Term
 columns = col 1 1 ∷ col 1 2 ∷ col 1 3 ∷ []
 
 module _ (table rows : List Row) (held loaded : Loaded) (all : List Cell) (stands : Stands table all) (whole : IsAll held all) (shown : AreShown [] columns table [] rows) (read : AreLoaded rows loaded) where

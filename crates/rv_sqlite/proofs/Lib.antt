@@ -21,3 +21,6 @@ mod WasOpen
 mod Known
 mod Asked
 mod CellSchema
+pub mod Typed
+pub mod Loaded
+pub mod Listed
