@@ -18,11 +18,11 @@ use Rattle.rv_sqlite.specs.Loads.{AllShow, AreLoaded, IsOnlyGeneration, cells_am
 use Rattle.rv_sqlite.specs.Table.{cell_schema}
 use Rattle.rv_sqlite.specs.Stands.{Stands, cell_row}
 use Rattle.rv_sqlite.specs.Steps.{generation_cell}
-use Rattle.rv_sqlite.specs.Telling.{IsAll, StandFor}
+use Rattle.rv_sqlite.specs.Telling.{IsAll}
 use Rattle.rv_sqlite.proofs.Meaning.{by_place, all_command, all_is, all_plain}
 use Rattle.rv_sqlite.proofs.Scan.{AreShown, are_shown}
-use Rattle.rv_sqlite.proofs.Same.{ordered_same}
-use Rattle.rv_sqlite.proofs.Told.{in_order, loaded_same}
+use Rattle.rv_sqlite.specs.HeldLaws.{loaded_same, ordered_same}
+use Rattle.rv_sqlite.proofs.Told.{in_order}
 
 -- the columns of a cell's row
 abbrev pub shown_row : Cell → Row
@@ -176,8 +176,8 @@ module _ (table rows : List Row) (held loaded : Loaded) (all : List Cell) (stand
   ]
 
 -- What is shown of the table and loaded is what it holds.
-pub found_held : (old new : State) (rows : List Row) (held loaded : Loaded) → old.now.schema ≡ cell_schema → Shown all_text [] old new rows → StandFor old.now.trees held → AreLoaded rows loaded → AreCells loaded.cells
-    → loaded.generation < 2 ^ 64 → held ≡ loaded
-found_held old new rows held loaded has h p read are low =
+pub found_held : (old new : State) (rows : List Row) (held loaded : Loaded) (all : List Cell) → old.now.schema ≡ cell_schema → Shown all_text [] old new rows → IsAll held all → Stands (old.now.trees 0) all → AreLoaded rows loaded
+    → AreCells loaded.cells → loaded.generation < 2 ^ 64 → held ≡ loaded
+found_held old new rows held loaded all has h whole stands read are low =
     let shown = are_shown [] columns by_place old.now.trees [] rows ((reads_as all_text [] old new cell_schema has all_command all_is.0 all_plain all_is.1 rows h).answer Null) in
-    loaded_same held loaded (same_held_cells (old.now.trees 0) rows held loaded p.all p.stands p.whole shown read are) (same_generation (old.now.trees 0) rows held loaded p.all p.stands p.whole shown read low)
+    loaded_same held loaded (same_held_cells (old.now.trees 0) rows held loaded all stands whole shown read are) (same_generation (old.now.trees 0) rows held loaded all stands whole shown read low)

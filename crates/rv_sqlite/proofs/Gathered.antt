@@ -55,3 +55,6 @@ all_gathered rows cells items generation number all same told = record {
       let P : List ℕ → ℕ → Type 0 = λ numbers one. IsOnlyGeneration numbers one in
       subst₂ P all.generation_is (sym told) (only_generation generation);
 }
+
+pub none_gathered : (cells : List Cell) → cells ≡ [] → HasGathered [] cells None
+none_gathered cells none = record { reads = []; shown = tt; cells_are = none; generation_is = refl }

@@ -5,8 +5,9 @@ mod Meaning
 mod Scan
 mod Compare
 mod Members
-mod Same
 mod Parts
+mod Querying
+mod Create
 mod Remove
 mod PutRows
 mod PutParts
@@ -15,12 +16,14 @@ mod PutRun
 mod Kept
 mod RollingBack
 mod Stepping
+mod CellSchema
+mod Listed
 mod Told
 mod Found
-mod WasOpen
-mod Known
+mod Typed
+mod Loaded
+mod Read
 mod Asked
-mod CellSchema
-pub mod Typed
-pub mod Loaded
-pub mod Listed
+mod Settling
+mod Answering
+mod Telling

@@ -1,29 +1,15 @@
 -- What the list of objects and the invariant of a connection say of the table.
-use Rattle.std.proofs.Common.{◌≡◌, false, filter, IsTrue, List, [], ◌∷◌, subst}
-use Rattle.std.specs.List.{AllZip}
-use Rattle.sqlite_value.specs.Order.{Row}
+use Rattle.std.proofs.Common.{◌≡◌, false, IsTrue, subst}
 use Rattle.sqlite_trees.specs.declared.store.Shape.{Shape}
 use Rattle.sqlite_trees.specs.declared.store.Shape.TheVariants as shape
 use Rattle.sqlite_trees.specs.declared.store.Store.{Ghosts}
 use Rattle.sqlite_trees.specs.Objects.{catalog_tree, IsListed}
-use Rattle.sqlite_trees.specs.Tree.{Trees}
 use Rattle.sqlite_trees.specs.View.{View, IsShaped, IsOrdered}
 use Rattle.sqlite_schema.specs.declared.schema.Schema.{Schema}
-use Rattle.sqlite_schema.specs.declared.schema.Table.{Table}
-use Rattle.sqlite_catalog.specs.Listing.{IsSound, IsTableRow, is_table_row}
+use Rattle.sqlite_catalog.specs.Listing.{IsSound}
 use Rattle.sqlite_catalog.proofs.LayoutLemmas.{laid_out, objects_rise}
 use Rattle.sqlite.specs.Held.{Held, IsConnected, Serves, state}
-use Rattle.rv_sqlite.specs.Table.{cell_schema, cell_table, no_schema}
-
--- ---- trees list one schema
-
-not_both : (rows : List Row) (table : Table) (more : List Table) → AllZip IsTableRow rows (table ∷ more) → AllZip IsTableRow rows [] → ⊥
-not_both [] table more some none = some
-not_both (row ∷ rows) table more some none = none
-
--- Trees that list the table do not list nothing.
-pub one_listing : (trees : Trees) → IsSound cell_schema trees → IsSound no_schema trees → ⊥
-one_listing trees one none = not_both (filter is_table_row (trees catalog_tree)) cell_table [] one.lists.listed.tables none.lists.listed.tables
+use Rattle.rv_sqlite.specs.Table.{cell_schema}
 
 -- ---- the table of a connection
 

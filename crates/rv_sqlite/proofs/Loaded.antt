@@ -30,7 +30,7 @@ use Rattle.rv_sqlite.specs.Telling.{IsAll}
 use Rattle.rv_sqlite.proofs.Meaning.{by_place, all_command, all_is, all_plain}
 use Rattle.rv_sqlite.proofs.Scan.{AreShown, are_shown}
 use Rattle.rv_sqlite.proofs.Found.{columns, row_of, read_of, from_among, among_cells, from_generations, among_generations, only_one}
-use Rattle.rv_sqlite.proofs.PutRows.{same_cell}
+use Rattle.rv_sqlite.specs.HeldLaws.{row_cell_same}
 use Rattle.rv_sqlite.proofs.Typed.{HasForm, forms, once, numbered}
 
 -- ---- all cells
@@ -153,6 +153,6 @@ loaded_stands old new rows loaded has sound shaped h read are low =
         read = stands_for table rows loaded formed shown read;
         kept = kept table rows loaded formed shown read;
         once = once old.now.trees sound shaped;
-        numbered = λ i one two p q. same_cell i i one two (numbered old.now.trees sound shaped i (cell_row i one) (cell_row i two) p q refl refl);
+        numbered = λ i one two p q. row_cell_same i i one two (numbered old.now.trees sound shaped i (cell_row i one) (cell_row i two) p q refl refl);
       },
     )

@@ -1,7 +1,7 @@
 -- What the texts compute to.
-use Rattle.std.proofs.Common.{◌≡◌, pos, negsuc, List, [], ◌∷◌, codes, false, Some, None, refl}
+use Rattle.std.proofs.Common.{◌≡◌, pos, negsuc, List, [], ◌∷◌, codes, true, false, Some, None, Ok, refl, is_err}
 use Rattle.sqlite.specs.Command.{Command}
-use Rattle.sqlite.specs.Command.TheVariants.{Select, Nothing, Delete, InsertOr, Rollback}
+use Rattle.sqlite.specs.Command.TheVariants.{Select, Nothing, CreateTable, Delete, InsertOr, Rollback}
 use Rattle.sqlite.specs.Query.{Query, inner, end}
 use Rattle.sqlite.specs.Term.{Term, lit, col, op2}
 use Rattle.sqlite_value.specs.declared.keys.Key.{Key}
@@ -15,11 +15,12 @@ use Rattle.sqlite_schema.specs.declared.command.Upsert.{Upsert}
 use Rattle.sqlite_schema.specs.declared.command.Source.TheVariants.{Values}
 use Rattle.sqlite_value.specs.declared.value.Value.TheVariants.{Null, Int}
 use Rattle.sqlite_tied.specs.Compute.{everything}
-use Rattle.sqlite.specs.Listing.{understood, reads_listing}
-use Rattle.sqlite.proofs.Callers.{IsPlain, command_of}
+use Rattle.sqlite.specs.Listing.{understood, reads_listing, listing_schema}
+use Rattle.sqlite_resolve.specs.Compile.{table_defined_by}
+use Rattle.sqlite.proofs.Callers.{IsPlain, command_of, statement_of}
 use Rattle.rv_sqlite.specs.Asked.{one_text}
 use Rattle.rv_sqlite.specs.Loads.{make_text, all_text}
-use Rattle.rv_sqlite.specs.Table.{cell_schema, put_text, remove_text}
+use Rattle.rv_sqlite.specs.Table.{cell_schema, cell_table, no_schema, put_text, remove_text}
 
 -- all rows of the table that pass the terms
 abbrev pub scan : List Term → List Term → List (Term × Key) → Query
@@ -66,9 +67,41 @@ all_command = Select (alone (scan [] (col 1 1 ∷ col 1 2 ∷ col 1 3 ∷ []) by
 abbrev pub one_command : Command
 one_command = Select (alone (scan at_place (col 1 3 ∷ []) [])) (codes "body" ∷ [])
 
+pub made_first : (command_of (understood no_schema make_text) ≡ CreateTable) × (table_defined_by make_text ≡ Ok cell_table)
+unfolding understood everything
+made_first = (refl, refl)
+
+pub first_plain : IsPlain (understood no_schema make_text)
+unfolding understood everything
+first_plain = (refl, refl)
+
+pub first_statement : statement_of make_text (understood no_schema make_text) ≡ make_text
+unfolding understood everything
+first_statement = refl
+
 pub made_again : command_of (understood cell_schema make_text) ≡ Nothing
 unfolding understood everything
 made_again = refl
+
+pub again_plain : IsPlain (understood cell_schema make_text)
+unfolding understood everything
+again_plain = (refl, refl)
+
+pub put_nowhere : is_err (understood no_schema put_text) ≡ true
+unfolding understood listing_schema everything
+put_nowhere = refl
+
+pub all_nowhere : is_err (understood no_schema all_text) ≡ true
+unfolding understood listing_schema everything
+all_nowhere = refl
+
+pub one_nowhere : is_err (understood no_schema one_text) ≡ true
+unfolding understood listing_schema everything
+one_nowhere = refl
+
+pub remove_nowhere : is_err (understood no_schema remove_text) ≡ true
+unfolding understood listing_schema everything
+remove_nowhere = refl
 
 pub rollback_is : (schema : Schema) → command_of (understood schema (codes "ROLLBACK")) ≡ Rollback
 unfolding understood everything

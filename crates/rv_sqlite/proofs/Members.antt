@@ -2,7 +2,6 @@
 use Rattle.std.proofs.Common.{◌≡◌, ◌⊎◌, ℕ, ℤ, Bool, true, false, not, List, [], ◌∷◌, inl, inr, refl, sym, ap, subst, ◌∙◌}
 use Rattle.std.specs.Ordering.{nat_cmp, match_ordering}
 use Rattle.std.specs.Cmp.Lexicographic.{slice_cmp}
-use Rattle.std.specs.List.{AllByRecursion}
 use Rattle.std.specs.Str.{bytes_eq}
 use Rattle.std.specs.declared.cmp.Ordering.{Ordering}
 use Rattle.std.specs.declared.cmp.Ordering.TheVariants.{Less, Equal, Greater}
@@ -11,12 +10,13 @@ use Rattle.sqlite_value.specs.Order.{Row}
 use Rattle.sqlite_trees.specs.Tree.{has_rowid, without_rowid}
 use Rattle.sqlite_rules.specs.Lists.{Has}
 use Rattle.sqlite_rules.specs.Edit.{without_all}
-use Rattle.sqlite_rules.proofs.ListLemmas.{all_has, has_filtered, has_kept}
+use Rattle.sqlite_rules.proofs.ListLemmas.{has_filtered, has_kept}
 use Rattle.rv_base.specs.Sorted.{InOrder, put_by, without}
 use Rattle.rv_base.specs.Positions.{Below, same_from}
 use Rattle.std.proofs.lemmas.Slice.Eq.{bytes_eq-Decides}
 use Rattle.rv_keeper.specs.declared.cell.Cell.{Cell}
 use Rattle.rv_keeper.specs.Cells.{cell_key}
+use Rattle.rv_sqlite.specs.HeldLaws.{later_above, places_apart}
 
 -- ---- rows
 
@@ -64,16 +64,8 @@ without_has place cells c h =
 pub has_without : (place : List ℕ) (cells : List Cell) (c : Cell) → Has cells c → (¬ IsAt place c) → Has (without cell_key place cells) c
 has_without place cells c h other = has_kept (λ x. not (bytes_eq place (cell_key x))) cells c h (ap not (equal_not place (cell_key c) other))
 
--- places in order are not the same
-pub apart : (a b : List ℕ) → Below a b → ¬ (b ≡ a)
-apart a b h is = let e : Less ≡ Equal = sym h ∙ subst (λ (t : List ℕ). slice_cmp nat_cmp a t ≡ Equal) (sym is) (tied_itself nat_list_cmp_total a) in cc
-
 pub apart_above : (a b : List ℕ) → slice_cmp nat_cmp a b ≡ Greater → ¬ (b ≡ a)
 apart_above a b h is = let e : Greater ≡ Equal = sym h ∙ subst (λ (t : List ℕ). slice_cmp nat_cmp a t ≡ Equal) (sym is) (tied_itself nat_list_cmp_total a) in cc
-
--- the cells after one in order are above it
-pub later_above : (d c : Cell) (ds : List Cell) → AllByRecursion (λ y. Below (cell_key d) (cell_key y)) ds → Has ds c → Below (cell_key d) (cell_key c)
-later_above d c ds all h = all_has (λ y. Below (cell_key d) (cell_key y)) ds c all h
 
 pub put_has : (c : Cell) (cells : List Cell) (x : Cell) → InOrder cell_key cells → Has (put_by cell_key c cells) x → (x ≡ c) ⊎ (Has cells x × (¬ IsAt (cell_key c) x))
 put_has c [] x up (inl e) = inl e
@@ -83,10 +75,10 @@ put_has c (d ∷ ds) x up h = go (slice_cmp nat_cmp (cell_key c) (cell_key d)) r
     go : (o : Ordering) → slice_cmp nat_cmp (cell_key c) (cell_key d) ≡ o → Has (match_ordering o (c ∷ d ∷ ds) (c ∷ ds) (d ∷ put_by cell_key c ds)) x
         → (Has (put_by cell_key c ds) x → (x ≡ c) ⊎ (Has ds x × (¬ IsAt (cell_key c) x))) → (x ≡ c) ⊎ (Has (d ∷ ds) x × (¬ IsAt (cell_key c) x))
     go Less is (inl e) later = inl e
-    go Less is (inr (inl e)) later = inr (inl e, rw e (apart (cell_key c) (cell_key d) is))
-    go Less is (inr (inr m)) later = inr (inr m, apart (cell_key c) (cell_key x) (nat_list_cmp_total.trans (cell_key c) (cell_key d) (cell_key x) is (later_above d x ds up.0 m)))
+    go Less is (inr (inl e)) later = inr (inl e, rw e (places_apart (cell_key c) (cell_key d) is))
+    go Less is (inr (inr m)) later = inr (inr m, places_apart (cell_key c) (cell_key x) (nat_list_cmp_total.trans (cell_key c) (cell_key d) (cell_key x) is (later_above d x ds up.0 m)))
     go Equal is (inl e) later = inl e
-    go Equal is (inr m) later = inr (inr m, apart (cell_key c) (cell_key x) (subst (λ (t : List ℕ). Below t (cell_key x)) (sym (same_from (cell_key c) (cell_key d) is)) (later_above d x ds up.0 m)))
+    go Equal is (inr m) later = inr (inr m, places_apart (cell_key c) (cell_key x) (subst (λ (t : List ℕ). Below t (cell_key x)) (sym (same_from (cell_key c) (cell_key d) is)) (later_above d x ds up.0 m)))
     go Greater is (inl e) later = inr (inl e, rw e (apart_above (cell_key c) (cell_key d) is))
     go Greater is (inr m) later = elim (later m) [ inl e ↦ inl e | inr r ↦ inr (inr r.0, r.1) ]
 
@@ -114,6 +106,6 @@ put_spares c (d ∷ ds) x h other = go (slice_cmp nat_cmp (cell_key c) (cell_key
 pub one_place : (place : List ℕ) (cells : List Cell) (c d : Cell) → InOrder cell_key cells → Has cells c → Has cells d → IsAt place c → IsAt place d → c ≡ d
 one_place place [] c d up p q at too = absurd p
 one_place place (x ∷ xs) c d up (inl p) (inl q) at too = p ∙ sym q
-one_place place (x ∷ xs) c d up (inl p) (inr q) at too = absurd (apart (cell_key x) (cell_key d) (later_above x d xs up.0 q) (too ∙ sym at ∙ ap cell_key p))
-one_place place (x ∷ xs) c d up (inr p) (inl q) at too = absurd (apart (cell_key x) (cell_key c) (later_above x c xs up.0 p) (at ∙ sym too ∙ ap cell_key q))
+one_place place (x ∷ xs) c d up (inl p) (inr q) at too = absurd (places_apart (cell_key x) (cell_key d) (later_above x d xs up.0 q) (too ∙ sym at ∙ ap cell_key p))
+one_place place (x ∷ xs) c d up (inr p) (inl q) at too = absurd (places_apart (cell_key x) (cell_key c) (later_above x c xs up.0 p) (at ∙ sym too ∙ ap cell_key q))
 one_place place (x ∷ xs) c d up (inr p) (inr q) at too = one_place place xs c d up.1 p q at too

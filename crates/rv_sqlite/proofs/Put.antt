@@ -28,7 +28,8 @@ use Rattle.rv_sqlite.specs.Stands.{Stands, cell_row}
 use Rattle.rv_sqlite.proofs.Scan.{AreShown}
 use Rattle.rv_sqlite.proofs.Members.{IsAt, Lacks, left_from, left_has, one_place}
 use Rattle.rv_sqlite.proofs.Compare.{same_int, same_place, own_rowid, rowid_is, int_equal}
-use Rattle.rv_sqlite.proofs.PutRows.{Puts, same_cell as same_stored}
+use Rattle.rv_sqlite.specs.HeldLaws.{row_cell_same as same_stored}
+use Rattle.rv_sqlite.proofs.PutRows.{Puts}
 use Rattle.rv_sqlite.proofs.PutParts.{cast_stored, numbered_given}
 
 first : (a b : Bool) → (a && b) ≡ true → a ≡ true

@@ -7,6 +7,7 @@ use Rattle.rv_base.specs.Sorted.{put_by}
 use Rattle.rv_base.specs.Positions.{in_order-put}
 use Rattle.rv_keeper.specs.Cells.{cell_key}
 use Rattle.rv_sqlite.specs.Stands.{Stands, cell_row}
+use Rattle.rv_sqlite.specs.HeldLaws.{row_cell_same}
 use Rattle.rv_sqlite.proofs.Members.{IsAt, put_has, has_put, put_spares}
 
 -- the cell's row is there, and beside it the rows of other places and no other
@@ -17,13 +18,6 @@ pub record Puts (rows after : List Row) (id : ℤ) (c : Cell) : Type 0 where
 
 pub id_of : (i j : ℤ) (c d : Cell) → cell_row i c ≡ cell_row j d → i ≡ j
 id_of i j c d e = cc
-
-pub same_cell : (i j : ℤ) (c d : Cell) → cell_row i c ≡ cell_row j d → c ≡ d
-same_cell i j c d e =
-    let s : c.shelf ≡ d.shelf = cc in
-    let k : c.key ≡ d.key = cc in
-    let b : c.body ≡ d.body = cc in
-    λ t. record { shelf = s t; key = k t; body = b t }
 
 pub at_itself : (c : Cell) → IsAt (cell_key c) c
 at_itself c = refl
@@ -42,16 +36,16 @@ puts_stand rows after cells id c old p = record {
   once = λ i j d a b. elim (p.back (cell_row i d) a) [
     | inl one ↦ elim (p.back (cell_row j d) b) [
       | inl two ↦ id_of i id d c one ∙ sym (id_of j id d c two)
-      | inr was ↦ absurd ((was.1 j d refl).1 (subst (IsAt (cell_key c)) (sym (same_cell i id d c one)) (at_itself c)))
+      | inr was ↦ absurd ((was.1 j d refl).1 (subst (IsAt (cell_key c)) (sym (row_cell_same i id d c one)) (at_itself c)))
     ]
     | inr is ↦ elim (p.back (cell_row j d) b) [
-      | inl two ↦ absurd ((is.1 i d refl).1 (subst (IsAt (cell_key c)) (sym (same_cell j id d c two)) (at_itself c)))
+      | inl two ↦ absurd ((is.1 i d refl).1 (subst (IsAt (cell_key c)) (sym (row_cell_same j id d c two)) (at_itself c)))
       | inr was ↦ old.once i j d is.0 was.0
     ]
   ];
   numbered = λ i d e a b. elim (p.back (cell_row i d) a) [
     | inl one ↦ elim (p.back (cell_row i e) b) [
-      | inl two ↦ same_cell i id d c one ∙ sym (same_cell i id e c two)
+      | inl two ↦ row_cell_same i id d c one ∙ sym (row_cell_same i id e c two)
       | inr was ↦ absurd ((was.1 i e refl).0 (id_of i id d c one))
     ]
     | inr is ↦ elim (p.back (cell_row i e) b) [

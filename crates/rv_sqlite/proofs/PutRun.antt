@@ -11,7 +11,7 @@ use Rattle.sqlite_rules.specs.Lists.{Has}
 use Rattle.sqlite_rules.specs.Keys.{AreConflicts, conflicts}
 use Rattle.sqlite_rules.specs.Edit.{next_rowid, edit_of}
 use Rattle.sqlite_rules.specs.Calls.{ids_of}
-use Rattle.sqlite.specs.Effect.{Database}
+use Rattle.sqlite.specs.Effect.{Database, IsDatabase}
 use Rattle.sqlite.specs.Rows.{Task, Written, Puts as PutsRow, Clears, Meets, Upserts, Updates, Tries, TriesEach, Judged, nothing, shown, count_of}
 use Rattle.sqlite.specs.Does.{Tally, Does}
 use Rattle.sqlite.specs.Listing.{understood}
@@ -89,9 +89,9 @@ module _ (limit : Option ℕ) (keys : Keys) (c : Cell) (id : ℤ) (cells : List 
   tried (inl refused) = absurd (let e = refused.1 in cc)
   tried (inr went_on) = judged went_on.0 went_on.2
 
-pub puts : (old new : State) (c : Cell) (count : ℕ) (cells : List Cell) → old.now.schema ≡ cell_schema → Executes put_text (put_params c) old new (Ok count)
-    → Stands (old.now.trees 0) cells → (new.now.schema ≡ cell_schema) × Stands (new.now.trees 0) (put_by cell_key c cells)
-puts old new c count cells has h stands =
+pub puts : (old new : State) (c : Cell) (count : ℕ) → old.now.schema ≡ cell_schema → Executes put_text (put_params c) old new (Ok count)
+    → (new.now.schema ≡ cell_schema) × IsDatabase new.now × ((cells : List Cell) → Stands (old.now.trees 0) cells → Stands (new.now.trees 0) (put_by cell_key c cells))
+puts old new c count has h =
     let params = put_params c in
     let tables = old.now.trees in
     let keys = (mode_of old).keys in
@@ -106,6 +106,8 @@ puts old new c count cells has h stands =
     let last = went each.2 in
     let one = went (subst (λ rows. TriesEach task Abort (upsert ∷ []) rows (count_of counter.0) (nothing tables) (Ok each.0)) sourced.1.1 each.1) in
     let trees : done.0.trees ≡ one.0.trees = ap (λ (w : Written). w.trees) (same_value last.2) ∙ same_value last.1 ∙ ap (λ (p : Written × ℤ). p.0.trees) (same_value one.2) in
-    let asked = subst (λ row. Tries task Abort (upsert ∷ []) row tables (Ok one.0)) (chosen_row (tables 0) c) one.1 in
-    let stands_now = tried old.step_limit keys c (next_rowid (tables 0)) cells tables one.0 stands asked in
-    (ap (λ (d : Database). d.schema) now, subst (λ (t : Trees). Stands (t 0) (put_by cell_key c cells)) (sym (ap (λ (d : Database). d.trees) now ∙ trees)) stands_now)
+    let asked = subst (λ row. Tries task Abort (upsert ∷ []) row tables (Ok one.0)) (chosen_row (tables 0) c) one.1 in (
+      ap (λ (d : Database). d.schema) now,
+      w.sound,
+      λ cells stands. subst (λ (t : Trees). Stands (t 0) (put_by cell_key c cells)) (sym (ap (λ (d : Database). d.trees) now ∙ trees)) (tried old.step_limit keys c (next_rowid (tables 0)) cells tables one.0 stands asked),
+    )

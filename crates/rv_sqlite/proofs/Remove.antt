@@ -10,7 +10,7 @@ use Rattle.sqlite_rules.specs.Edit.{id_in, without_all, edit_of}
 use Rattle.sqlite_rules.specs.declared.error.Rowids.TheVariants.{Given}
 use Rattle.sqlite_rules.specs.Calls.{ids_of}
 use Rattle.sqlite_rules.proofs.ProbeLemmas.{has_mapped, mapped_has}
-use Rattle.sqlite.specs.Effect.{Database}
+use Rattle.sqlite.specs.Effect.{Database, IsDatabase}
 use Rattle.sqlite.specs.Rows.{Written}
 use Rattle.sqlite.specs.Does.{Tally, Does}
 use Rattle.sqlite.specs.Listing.{understood}
@@ -74,9 +74,9 @@ module _ (shelf : ℕ) (key : List ℕ) (rows found : List Row) (cells : List Ce
     numbered = λ i c d p q. old.numbered i c d (left_from gone rows (cell_row i c) p).0 (left_from gone rows (cell_row i d) q).0;
   }
 
-pub removes : (old new : State) (shelf : ℕ) (key : List ℕ) (count : ℕ) (cells : List Cell) → old.now.schema ≡ cell_schema → Executes remove_text (place_params shelf key) old new (Ok count)
-    → Stands (old.now.trees 0) cells → (new.now.schema ≡ cell_schema) × Stands (new.now.trees 0) (without cell_key (shelf ∷ key) cells)
-removes old new shelf key count cells has h stands =
+pub removes : (old new : State) (shelf : ℕ) (key : List ℕ) (count : ℕ) → old.now.schema ≡ cell_schema → Executes remove_text (place_params shelf key) old new (Ok count)
+    → (new.now.schema ≡ cell_schema) × IsDatabase new.now × ((cells : List Cell) → Stands (old.now.trees 0) cells → Stands (new.now.trees 0) (without cell_key (shelf ∷ key) cells))
+removes old new shelf key count has h =
     let params = place_params shelf key in
     let tables = old.now.trees in
     let w = runs_as remove_text params old new cell_schema has remove_command remove_is remove_plain count h in
@@ -88,4 +88,5 @@ removes old new shelf key count cells has h stands =
     let trees : done.0.trees ≡ written.0 = ap (λ (it : Written). it.trees) (same_value written.2) in
     let rows = (one_step cell_schema _ tables written.0 (edit_of tables cell_table (ids_of given.0) Given 0 []) refl written.1).rows in
     let left : new.now.trees 0 ≡ without_all (tables 0) (ids_of given.0) = ap (λ (d : Database). d.trees 0) now ∙ ap (λ (t : Trees). t 0) trees ∙ rows in
-    (ap (λ (d : Database). d.schema) now, subst (λ l. Stands l (without cell_key (shelf ∷ key) cells)) (sym left) (removed shelf key (tables 0) given.0 cells (are_shown at_place (col 1 0 ∷ []) [] tables params given.0 (given.1.answer Null)) stands))
+    let shown = are_shown at_place (col 1 0 ∷ []) [] tables params given.0 (given.1.answer Null) in
+    (ap (λ (d : Database). d.schema) now, w.sound, λ cells stands. subst (λ l. Stands l (without cell_key (shelf ∷ key) cells)) (sym left) (removed shelf key (tables 0) given.0 cells shown stands))

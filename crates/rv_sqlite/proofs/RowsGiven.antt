@@ -8,7 +8,7 @@ use Rattle.sqlite.specs.Clock.{timed}
 use Rattle.sqlite.specs.Does.{Tally, Does}
 use Rattle.sqlite.specs.Effect.{Database, IsDatabase, SparesFrozen}
 use Rattle.sqlite.specs.Listing.{understood, reads_listing, IsSourceOf}
-use Rattle.sqlite.specs.State.{State, HasCleanDisk, IsUnchanged, Writes, ShowsRows, Shown, mode_of}
+use Rattle.sqlite.specs.State.{State, IsUnchanged, Writes, ShowsRows, Shown, mode_of}
 use Rattle.sqlite.specs.Stream.{HasEnded, returned}
 use Rattle.sqlite.specs.Held.{Held, state}
 use Rattle.sqlite.specs.Given.{HasGiven}
@@ -93,7 +93,6 @@ module _ {S : Type 0} (g : Ghosts S) (sql : List ℕ) (params : Row) where
 
 -- Some rows of the table were given since a state, and gathered.
 pub record HasReadSome {S : Type 0} (g : Ghosts S) (old now : Held S) (cells : List Cell) (generation : Option ℕ) : Type 0 where
-  pub clean : HasCleanDisk (state g old)
   pub rows : List Row
   pub given : HasGivenSince g all_text [] old now rows
   pub gathered : HasGathered rows cells generation

@@ -1,6 +1,5 @@
 -- What the rows stand for as a store, the cell of the generation among them, and what a commit and a crash make of it.
-use Rattle.std.proofs.Common.{◌≡◌, ◌≢◌, ◌⊎◌, ◌<◌, ◌+◌, ◌-◌, ◌^◌, ℕ, false, cond, not, IsTrue, List, [], ◌∷◌, Option, Some, None, Result, Ok, Err, inl, inr, refl, sym, ap, subst, ◌∙◌, arith}
-use Rattle.std.proofs.lemmas.Fmt.{decimal_injective}
+use Rattle.std.proofs.Common.{◌≡◌, ◌<◌, ◌^◌, ℕ, false, cond, not, List, [], ◌∷◌, Option, Some, None, inl, inr, refl, sym, ap, subst, ◌∙◌}
 use Rattle.std.specs.List.{AllByRecursion}
 use Rattle.std.specs.Ordering.{nat_cmp, ordering_then, match_ordering}
 use Rattle.std.specs.Cmp.{nat_cmp_is}
@@ -8,11 +7,9 @@ use Rattle.std.specs.Cmp.Lexicographic.{slice_cmp}
 use Rattle.std.specs.Str.{bytes_eq}
 use Rattle.std.specs.declared.cmp.Ordering.TheVariants.{Less, Greater}
 use Rattle.std.proofs.lemmas.Cmp.{tied_itself, nat_list_cmp_total}
-use Rattle.sqlite_value.specs.Order.{Row}
 use Rattle.sqlite_trees.specs.Tree.{Trees}
-use Rattle.sqlite_rules.specs.Lists.{Has}
 use Rattle.sqlite.specs.Effect.{Database}
-use Rattle.sqlite.specs.State.{State, HasCleanDisk, Survives}
+use Rattle.sqlite.specs.State.{State}
 use Rattle.rv_base.specs.Sorted.{InOrder, put_by, without}
 use Rattle.rv_base.specs.Positions.{differs_back}
 use Rattle.rv_keeper.specs.declared.cell.Cell.{Cell}
@@ -20,51 +17,12 @@ use Rattle.rv_keeper.specs.declared.change.Change.{Change}
 use Rattle.rv_keeper.specs.declared.change.Change.TheVariants.{Put, Remove}
 use Rattle.rv_keeper.specs.declared.loaded.Loaded.{Loaded}
 use Rattle.rv_keeper.specs.Cells.{cell_key, change_shelf, changed_by, changed, AreChanges, AreCells}
-use Rattle.rv_keeper.specs.Keeping.{committed}
+use Rattle.rv_keeper.specs.Keeping.{holding}
 use Rattle.rv_keeper.proofs.Changed.{are_cells_changed}
-use Rattle.rv_sqlite.specs.Table.{cell_schema}
-use Rattle.rv_sqlite.specs.Stands.{Stands, cell_row}
-use Rattle.rv_sqlite.specs.Steps.{generation_cell, all_next, WritesCells, Comes}
-use Rattle.rv_sqlite.specs.Telling.{IsAll, StandFor, MayLeave, Holds, Tells, CommitsOrNot, LeavesCommit, LeavesNoMore}
-use Rattle.rv_sqlite.proofs.PutRows.{same_cell}
-use Rattle.rv_sqlite.proofs.Same.{ordered_same, Within}
-
--- the same rows stand for the same cells
-same_cells : (rows : List Row) (xs ys : List Cell) → Stands rows xs → Stands rows ys → xs ≡ ys
-same_cells rows xs ys p q = ordered_same xs ys p.order q.order (one xs ys p q) (one ys xs q p)
-  where
-    one : (xs ys : List Cell) → Stands rows xs → Stands rows ys → Within xs ys
-    one xs ys p q c h =
-        let row = p.kept c h in
-        let e = q.read (cell_row row.0 c) row.1 in
-        subst (Has ys) (sym (same_cell row.0 e.0 c e.1 e.2)) e.3
-
-pub loaded_same : (c d : Loaded) → c.cells ≡ d.cells → c.generation ≡ d.generation → c ≡ d
-loaded_same c d p q = λ t. record { cells = p t; generation = q t }
-
-first_of : (x y : Cell) (xs ys : List Cell) → ◌≡◌ {A = List Cell} (x ∷ xs) (y ∷ ys) → (x ≡ y) × (xs ≡ ys)
-first_of x y xs ys e = (let p : x ≡ y = cc in p, let q : xs ≡ ys = cc in q)
-
-not_first : (g : ℕ) (xs ys : List Cell) → AllByRecursion (λ (d : Cell). 0 < d.shelf) ys → generation_cell g ∷ xs ≢ ys
-not_first g xs [] all e = absurd (cc)
-not_first g xs (y ∷ ys) all e = let s = ap (λ (z : Cell). z.shelf) (first_of (generation_cell g) y xs ys e).0 in omega (arith, all.0, s)
-
-whole_same : (c d : Loaded) (all : List Cell) → IsAll c all → IsAll d all → c ≡ d
-whole_same c d all p q = elim p.are [
-  | inl a ↦ elim q.are [
-    | inl b ↦
-        let e = first_of (generation_cell c.generation) (generation_cell d.generation) c.cells d.cells (sym a ∙ b) in
-        loaded_same c d e.1 (decimal_injective c.generation d.generation p.small q.small (ap (λ (z : Cell). z.body) e.0))
-    | inr b ↦ absurd (not_first c.generation c.cells d.cells q.shelves (sym a ∙ b.1))
-  ]
-  | inr a ↦ elim q.are [
-    | inl b ↦ absurd (not_first d.generation d.cells c.cells p.shelves (sym b ∙ a.1))
-    | inr b ↦ loaded_same c d (sym a.1 ∙ b.1) (a.0 ∙ sym b.0)
-  ]
-]
-
-pub stand_same : (trees : Trees) (c d : Loaded) → StandFor trees c → StandFor trees d → c ≡ d
-stand_same trees c d p q = whole_same c d q.all (subst (IsAll c) (same_cells (trees 0) p.all q.all p.stands q.stands) p.whole) q.whole
+use Rattle.rv_sqlite.specs.Stands.{HasCells}
+use Rattle.rv_sqlite.specs.Steps.{generation_cell, all_next}
+use Rattle.rv_sqlite.specs.Telling.{IsAll, StandFor, LeftHolding, MayLeave}
+use Rattle.rv_sqlite.specs.HeldLaws.{stand_same}
 
 -- ---- after a commit
 
@@ -101,52 +59,29 @@ put_first g (d ∷ ds) all = ap (λ o. match_ordering o (generation_cell g ∷ d
 pub in_order : (c : Loaded) (all : List Cell) → IsAll c all → InOrder cell_key all → InOrder cell_key c.cells
 in_order c all p up = elim p.are [ inl a ↦ (subst (InOrder cell_key) a up).1 | inr a ↦ subst (InOrder cell_key) a.1 up ]
 
-pub written_all : (from : ℕ) (changes : List Change) (c : Loaded) (all : List Cell) → from < 2 ^ 64 - 1 → AreChanges changes → InOrder cell_key all → IsAll c all
-    → IsAll (committed from changes c) (all_next from changes all)
-written_all from changes c all low are up p =
+pub written_all : (generation : ℕ) (changes : List Change) (c : Loaded) (all : List Cell) → generation < 2 ^ 64 → AreChanges changes → InOrder cell_key all → IsAll c all
+    → IsAll (holding (changed c.cells changes) generation) (all_next generation changes all)
+written_all generation changes c all low are up p =
     let after = all_cells changes c.cells are.shelves (record { order = in_order c all p up; shelves = p.shelves }) in
     record {
-      small = omega (arith, low);
+      small = low;
       shelves = after.shelves;
       are = inl (elim p.are [
-        | inl a ↦ ap (λ l. put_by cell_key (generation_cell (from + 1)) (changed l changes)) a ∙ ap (put_by cell_key (generation_cell (from + 1))) (all_past changes c.generation c.cells are.shelves) ∙ put_over (from + 1) c.generation (changed c.cells changes)
-        | inr a ↦ ap (λ l. put_by cell_key (generation_cell (from + 1)) (changed l changes)) a.1 ∙ put_first (from + 1) (changed c.cells changes) after.shelves
+        | inl a ↦ ap (λ l. put_by cell_key (generation_cell generation) (changed l changes)) a ∙ ap (put_by cell_key (generation_cell generation)) (all_past changes c.generation c.cells are.shelves)
+            ∙ put_over generation c.generation (changed c.cells changes)
+        | inr a ↦ ap (λ l. put_by cell_key (generation_cell generation) (changed l changes)) a.1 ∙ put_first generation (changed c.cells changes) after.shelves
       ]);
     }
 
-stand_after : (from : ℕ) (changes : List Change) (old new : Trees) (c : Loaded) → from < 2 ^ 64 - 1 → AreChanges changes → StandFor old c
-    → ((cells : List Cell) → Stands (old 0) cells → Stands (new 0) (all_next from changes cells)) → StandFor new (committed from changes c)
-stand_after from changes old new c low are p f = record { all = all_next from changes p.all; whole = written_all from changes c p.all low are p.stands.order p.whole; stands = f p.all p.stands }
+-- the cells of a database are in order
+pub has_order : (db : Database) (cells : List Cell) → HasCells db cells → InOrder cell_key cells
+has_order db cells h = elim h.are [ inl there ↦ there.1.order | inr none ↦ subst (InOrder cell_key) (sym none.1) tt ]
 
--- an outcome that stands for these contents is no other
-pub leaves_one : (s : State) (tables : Trees) (c : Loaded) (x : Option Loaded) → StandFor tables c → MayLeave s x → ((other : Trees) → s.may_leave other → other ≡ tables) → x ≡ Some c
-leaves_one s tables c (Some d) p h only = ap Some (stand_same tables d c (subst (λ t. StandFor t d) (only h.0 h.1) h.2) p)
-leaves_one s tables c None p h only = absurd (h.2 c (subst (λ t. StandFor t c) (sym (only h.0 h.1)) p))
+-- the trees of a database that holds something hold it
+pub left_by : (db : Database) (held : Loaded) → StandFor db held → LeftHolding db.trees held
+left_by db held h = (db.schema, h)
 
-leaves_more : (old new : State) (c : Loaded) (x : Option Loaded) → ((trees : Trees) → new.may_leave trees → old.may_leave trees ⊎ StandFor trees c) → MayLeave new x → MayLeave old x ⊎ (x ≡ Some c)
-leaves_more old new c (Some d) f h = elim (f h.0 h.1) [ inl was ↦ inl (h.0, was, h.2) | inr is ↦ inr (ap Some (stand_same h.0 d c h.2 is)) ]
-leaves_more old new c None f h = elim (f h.0 h.1) [ inl was ↦ inl (h.0, was, h.2) | inr is ↦ absurd (h.2 c is) ]
-
--- ---- what a commit tells
-
-pub opened_by : {E : Type 0} (old new : State) (from : ℕ) (changes : List Change) (r : Result (Unit {0}) E) → Tells new → Comes old new from changes r → IsTrue old.is_open
-opened_by old new from changes (Ok done) tells comes = comes.was_open
-opened_by old new from changes (Err e) tells comes = comes.was_open tells.is_open
-
-pub made_by : {E : Type 0} (old new : State) (from : ℕ) (changes : List Change) (c : Loaded) (r : Result (Unit {0}) E) → from < 2 ^ 64 - 1 → AreChanges changes → Tells new → Holds old c
-    → Comes old new from changes r → CommitsOrNot from changes r (Holds new) c
-made_by old new from changes c (Ok done) low are tells h comes =
-    (comes.schema h.0 h.1.all h.1.stands, stand_after from changes old.committed.trees new.committed.trees c low are h.1 (λ cells s. comes.writes h.0 cells s))
-made_by old new from changes c (Err e) low are tells h comes = subst (λ (d : Database). (d.schema ≡ cell_schema) × StandFor d.trees c) (sym (comes.committed tells.is_open)) h
-
-pub crash_by : (old new : State) (from : ℕ) (changes : List Change) → from < 2 ^ 64 - 1 → AreChanges changes → HasCleanDisk new → Survives old new (WritesCells old from changes) → LeavesCommit from changes old new
-crash_by old new from changes low are clean survives c h x leaves =
-    leaves_more old new (committed from changes c) x
-    (λ trees m. elim (survives.crash clean trees m) [
-      | inl was ↦ inl was
-      | inr writes ↦ inr (stand_after from changes old.committed.trees trees c low are h.1 (λ cells s. writes h.0 cells s))
-    ]) leaves
-
-pub no_more : (old new : State) → HasCleanDisk new → Survives old new (λ _. ⊥) → LeavesNoMore old new
-no_more old new clean survives (Some d) leaves = elim (survives.crash clean leaves.0 leaves.1) [ inl was ↦ inl (leaves.0, was, leaves.2) | inr none ↦ absurd none ]
-no_more old new clean survives None leaves = elim (survives.crash clean leaves.0 leaves.1) [ inl was ↦ inl (leaves.0, was, leaves.2) | inr none ↦ absurd none ]
+-- an outcome that holds this holds nothing else
+pub leaves_one : (s : State) (db : Database) (c : Loaded) (x : Option Loaded) → StandFor db c → MayLeave s x → ((trees : Trees) → s.may_leave trees → trees ≡ db.trees) → x ≡ Some c
+leaves_one s db c (Some d) p h only = ap Some (stand_same (record { schema = h.2.0; trees = h.0 }) db d c (only h.0 h.1) h.2.1 p)
+leaves_one s db c None p h only = absurd (h.2 c (subst (λ t. LeftHolding t c) (sym (only h.0 h.1)) (left_by db c p)))

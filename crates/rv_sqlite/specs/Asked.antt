@@ -2,7 +2,9 @@
 use Rattle.std.specs.Prelude.{◌≡◌, ◌⊎◌, ℕ, pos, List, [], ◌∷◌, Option, Some, None, Ok, Err, codes}
 use Rattle.sqlite_value.specs.declared.value.Value.TheVariants.{Int, Blob}
 use Rattle.sqlite_value.specs.Order.{Row}
+use Rattle.sqlite_trees.specs.declared.store.Store.{Ghosts}
 use Rattle.sqlite.specs.State.{State, QueriesRow}
+use Rattle.sqlite.specs.Held.{Held, state}
 use Rattle.sqlite.specs.declared.error.Error.TheVariants.{QueryReturnedNoRows}
 use Rattle.rv_sqlite.specs.Rows.{ShowsNumber}
 
@@ -19,5 +21,9 @@ FindsRow old new (Some row) = QueriesRow one_text generation_key old new (Ok row
 FindsRow old new None = QueriesRow one_text generation_key old new (Err QueryReturnedNoRows)
 
 -- the number in the row of the generation, or 0 where there is none
-abbrev pub FindsGeneration : State → State → ℕ → Type 0
-FindsGeneration old new number = ((row : Row) × FindsRow old new (Some row) × ShowsNumber row number) ⊎ (FindsRow old new None × (number ≡ 0))
+abbrev pub FindsNumber : State → State → ℕ → Type 0
+FindsNumber old new number = ((row : Row) × FindsRow old new (Some row) × ShowsNumber row number) ⊎ (FindsRow old new None × (number ≡ 0))
+
+-- the number that a query of the generation's row found
+abbrev pub FindsGeneration : {S : Type 0} → Ghosts S → Held S → ℕ → Type 0
+FindsGeneration {S} g old number = (between : Held S) × FindsNumber (state g old) (state g between) number

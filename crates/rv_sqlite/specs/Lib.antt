@@ -8,3 +8,5 @@ pub mod Stands
 pub mod Steps
 pub mod Telling
 pub mod Shape
+pub mod Props
+pub mod HeldLaws

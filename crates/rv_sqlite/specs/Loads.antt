@@ -1,11 +1,13 @@
 -- What a load finds in the table, in the words of the crate `sqlite`: true where the disk gave back what was written.
-use Rattle.std.specs.Prelude.{◌≡◌, ℕ, List, [], ◌∷◌, Ok, codes}
+use Rattle.std.specs.Prelude.{◌≡◌, ◌⊎◌, ℕ, List, [], ◌∷◌, None, codes}
 use Rattle.sqlite_value.specs.Order.{Row}
 use Rattle.sqlite_trees.specs.declared.store.Store.{Ghosts}
-use Rattle.sqlite.specs.State.{State, Executes, Shown}
+use Rattle.sqlite_schema.specs.Names.{table_named}
+use Rattle.sqlite.specs.State.{State, Shown}
 use Rattle.sqlite.specs.Held.{Held, state}
 use Rattle.rv_keeper.specs.declared.cell.Cell.{Cell}
 use Rattle.rv_keeper.specs.declared.loaded.Loaded.{Loaded}
+use Rattle.rv_keeper.specs.Keeping.{holding}
 use Rattle.rv_sqlite.specs.declared.row_read.RowRead.{RowRead}
 use Rattle.rv_sqlite.specs.declared.row_read.RowRead.TheVariants as row_read
 use Rattle.rv_sqlite.specs.Rows.{Shows}
@@ -50,14 +52,15 @@ pub record AreLoaded (rows : List Row) (loaded : Loaded) : Type 0 where
   pub cells : loaded.cells ≡ cells_among reads
   pub generation : IsOnlyGeneration (generations_among reads) loaded.generation
 
--- the table was made, or was there
-abbrev pub MakesTable : State → State → Type 0
-MakesTable old new = (count : ℕ) × Executes make_text [] old new (Ok count)
-
 -- what is loaded is the rows of the statement that asks for all, every one of them
 abbrev pub ReadsTable : State → State → Loaded → Type 0
 ReadsTable old new loaded = (rows : List Row) × Shown all_text [] old new rows × AreLoaded rows loaded
 
--- the table was made, or was there, and then what it has was loaded
-abbrev pub LoadsTable : {S : Type 0} → Ghosts S → Held S → Held S → Loaded → Type 0
-LoadsTable {S} g old new loaded = (between : Held S) × MakesTable (state g old) (state g between) × ReadsTable (state g between) (state g new) loaded
+-- there is no table of this name, and nothing is loaded
+pub record LacksTable (s : State) (loaded : Loaded) : Type 0 where
+  pub none : table_named s.now.schema (codes "cell") ≡ None
+  pub nothing : loaded ≡ holding [] 0
+
+-- what is loaded is what the table has, or nothing where there is none
+abbrev pub LoadsTable : {S : Type 0} → Ghosts S → Held S → Loaded → Type 0
+LoadsTable {S} g old loaded = LacksTable (state g old) loaded ⊎ ((between : Held S) × ReadsTable (state g old) (state g between) loaded)

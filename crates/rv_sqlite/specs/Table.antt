@@ -1,5 +1,5 @@
 -- The table as a schema has it, and the texts of the statements that write into it.
-use Rattle.std.specs.Prelude.{true, false, [], ◌∷◌, None, codes, List, ℕ}
+use Rattle.std.specs.Prelude.{◌≡◌, ◌⊎◌, true, false, [], ◌∷◌, None, codes, List, ℕ}
 use Rattle.sqlite_value.specs.declared.value.Value.TheVariants.{Null}
 use Rattle.sqlite_value.specs.declared.keys.Collation.TheVariants.{Binary}
 use Rattle.sqlite_value.specs.Keys.{plain}
@@ -38,6 +38,10 @@ no_schema = record { tables = []; indexes = []; views = [] }
 -- the schema of a database that has the table, and nothing else
 abbrev pub cell_schema : Schema
 cell_schema = created no_schema cell_table
+
+-- the schema is that of a new database, or of one that has the table and nothing else
+abbrev pub IsKnown : Schema → Type 0
+IsKnown schema = (schema ≡ no_schema) ⊎ (schema ≡ cell_schema)
 
 -- the statement that writes a row, over one at its place
 abbrev pub put_text : List ℕ

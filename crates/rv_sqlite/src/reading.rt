@@ -1,13 +1,14 @@
 // Rows as cells.
-ghost use Rattle.std.specs.Prelude.{◌≡◌, ◌<◌, ◌^◌, ◌++◌, ◌∷◌, [], IfOk, IsTrue, None, OnOk, Some, option_to_list};
+ghost use Rattle.std.specs.Prelude.{◌≡◌, ◌<◌, ◌^◌, ◌++◌, ◌∷◌, [], IfOk, IsTrue, None, OnOk, Some, false, option_to_list};
 ghost use Rattle.rv_keeper.specs.Cells.{AreCells};
 ghost use Rattle.sqlite_value.specs.declared.value.Value.TheVariants.{Int, Blob};
 ghost use Rattle.sqlite_value.specs.Order.{column};
-ghost use Rattle.sqlite.specs.State.{HasCleanDisk};
+ghost use Rattle.sqlite.specs.State.{HasCleanDisk, Survives};
 ghost use Rattle.sqlite.specs.Held.{state};
 ghost use Rattle.rv_sqlite.specs.Rows.{IsRow, Shows};
 ghost use Rattle.rv_sqlite.specs.Loads.{ReadsTable, cells_among, generations_among};
 ghost use Rattle.rv_sqlite.specs.Moves.{MovesTo};
+ghost use Rattle.rv_sqlite.specs.Steps.{KeepsWhereClean};
 
 use crate::number::number_in;
 use crate::row_read::RowRead;
@@ -117,8 +118,10 @@ fn gather(
 // What the next row stands for, if there is one.
 fn next_read<S: Alter>(rows: &mut Rows<'_, S>) -> Result<Option<RowRead>, KeepFault>
     ensures same_reference { rows.new.conn.ghost_name ≡ rows.old.conn.ghost_name }
-    ensures clean { HasCleanDisk (state S.Store rows.new.conn.now) → HasCleanDisk (state S.Store rows.old.conn.now) }
+    ensures mode { rows.old.conn.now.in_transaction ≡ false → rows.new.conn.now.in_transaction ≡ false }
     ensures found { HasCleanDisk (state S.Store rows.new.conn.now) → IfOk result (MovesTo S.Store rows.old.conn.now rows.new.conn.now) }
+    ensures kept { KeepsWhereClean S.Store rows.old.conn.now rows.new.conn.now }
+    ensures survives { Survives (state S.Store rows.old.conn.now) (state S.Store rows.new.conn.now) (λ _. ⊥) }
 {
     match rows.next() {
         Ok(Some(row)) => Ok(Some(read_row(row)?)),
@@ -134,8 +137,10 @@ pub(crate) fn read_table<S: Alter>(
 ) -> Result<Loaded, KeepFault>
     ensures order { IfOk result (λ loaded. AreCells loaded.cells) }
     ensures small { IfOk result (λ loaded. loaded.generation < 2 ^ 64) }
-    ensures clean { HasCleanDisk (state S.Store connection.new) → OnOk result (HasCleanDisk (state S.Store connection.old)) }
     ensures found { HasCleanDisk (state S.Store connection.new) → IfOk result (ReadsTable (state S.Store connection.old) (state S.Store connection.new)) }
+    ensures mode { connection.old.in_transaction ≡ false → connection.new.in_transaction ≡ false }
+    ensures kept { KeepsWhereClean S.Store connection.old connection.new }
+    ensures survives { Survives (state S.Store connection.old) (state S.Store connection.new) (λ _. ⊥) }
 {
     let mut cells = Vec::new(alloc);
     let mut generation = None;

@@ -1,38 +1,42 @@
-ghost use Rattle.std.specs.Prelude.{◌≡◌, ◌≤◌, ◌<◌, ◌-◌, ◌^◌, true, IfOk, IfSome, IsErrOf, IsTrue, OnOk};
+ghost use Rattle.std.specs.Prelude.{◌≡◌, ◌↔◌, ◌≤◌, ◌<◌, ◌-◌, ◌^◌, IfOk, IsErrOf, IsOk, IsTrue, OnErr, refl};
 ghost use Rattle.rv_base.specs.Causes.{Rose};
-ghost use Rattle.rv_keeper.specs.Cells.{AreCells, AreChanges};
-ghost use Rattle.rv_keeper.specs.Crashes.{IsSettled};
-ghost use Rattle.rv_keeper.specs.Keeping.{HasKeepCause, HasGenerationCause};
 ghost use Rattle.rv_keeper.specs.declared.fault.KeepFault.TheVariants.{Memory};
 ghost use Rattle.rv_keeper.specs.declared.loaded.Loaded.{Loaded};
-ghost use Rattle.sqlite.specs.State.{HasCleanDisk};
+ghost use Rattle.rv_keeper.specs.Cells.{AreCells, AreChanges};
+ghost use Rattle.rv_keeper.specs.Crashes.{IsSettled};
+ghost use Rattle.rv_keeper.specs.Keeping.{HasKeepCause, HasGenerationCause, LoadsHeld, committed};
+ghost use Rattle.sqlite.specs.State.{HasCleanDisk, KeepsCommit, Survives};
 ghost use Rattle.sqlite.specs.Held.{state};
 ghost use Rattle.rv_sqlite.specs.Asked.{FindsGeneration};
 ghost use Rattle.rv_sqlite.specs.Loads.{LoadsTable};
-ghost use Rattle.rv_sqlite.specs.Rows.{ShowsNumber};
-ghost use Rattle.rv_sqlite.specs.Steps.{IsSettledWhereOpen};
-ghost use Rattle.rv_sqlite.specs.Telling.{CommitsOrNot, Holds, MayLeave, LeavesCommit, LeavesNoMore, Tells};
+ghost use Rattle.rv_sqlite.specs.Table.{IsKnown};
+ghost use Rattle.rv_sqlite.specs.Telling.{CommitsOrNot, Holds, IsGenerationBy, IsToldBy, LeavesAs, LeavesNext, LeavesNoMore, MayLeave, Tells};
+ghost use Rattle.rv_sqlite.specs.HeldLaws.{stand_same};
+ghost use Rattle.rv_sqlite.specs.Props.{KnownWhereTells-prop};
 
-use crate::number::number_in;
-use crate::reading::read_table;
-use crate::statements::{generation_row, make_table};
-use crate::table::has_table;
-use crate::writing::{fault_of, write};
+use crate::connected::recall;
+use crate::exact::is_known;
+use crate::loading::{generation_in, load_from};
+use crate::writing::write;
 use rv_base::Failed;
 use rv_keeper::{Change, KeepFault, Keeper, Loaded};
-use sqlite::types::ValueRef;
-use sqlite::{Alter, Connection, Row};
+use sqlite::{Alter, Connection};
 use std::alloc::Global;
 
 /// Keeps cells and a generation in the table `cell` of a SQLite database, over any store of the crate `sqlite`.
 ///
 /// A row has a shelf, a key and a body; the generation stands on shelf 0 under the empty key, in decimal, and is 0 without that row.
-/// A commit is one transaction. Each refusal but want of memory is counted as a fault, and in `generation` each refusal. What is
-/// held is told by the clauses of the calls here, and not by those of the trait. The count of faults stands still at 2^64 - 1.
+/// A commit is one transaction, and so is what settles a load or a question for the generation: the same generation, written again.
+/// Each refusal but want of memory is counted as a fault, and in `generation` each refusal. The count stands still at 2^64 - 1.
+///
+/// Where the database it was adopted with was new, or had this table alone, it tells what it holds, and what a crash may leave, for as
+/// long as the disk gives back what was written and the connection is open and in no transaction. A new database holds nothing.
 pub struct SqliteKeeper<S: Alter> {
     alloc: Global,
     connection: Connection<S>,
     faults: u64,
+    is_known: bool,
+    ghost known: { IsTrue is_known → Tells (state S.Store connection) → IsKnown (state S.Store connection).committed.schema } by { KnownWhereTells-prop is_known (state S.Store connection) },
 }
 
 impl<S: Alter + Drop> Drop for SqliteKeeper<S> {
@@ -41,6 +45,7 @@ impl<S: Alter + Drop> Drop for SqliteKeeper<S> {
             alloc: _,
             connection: _,
             faults: _,
+            is_known: _,
         } = self;
     }
 }
@@ -51,11 +56,15 @@ impl<S: Alter> SqliteKeeper<S> {
     pub fn adopt(alloc: Global, connection: Connection<S>) -> SqliteKeeper<S>
         ensures connection { result.connection ≡ connection }
         ensures faults { result.faults ≡ 0 }
+        ensures known { IsTrue result.is_known ↔ IsKnown (state S.Store connection).now.schema }
     {
+        recall(&connection);
+        let is_known = is_known(connection.schema());
         SqliteKeeper {
             alloc,
             connection,
             faults: 0,
+            is_known,
         }
     }
 
@@ -67,6 +76,7 @@ impl<S: Alter> SqliteKeeper<S> {
             alloc: _,
             connection,
             faults: _,
+            is_known: _,
         } = self;
         connection
     }
@@ -94,60 +104,29 @@ fn count_in<T: Drop>(faults: &mut u64, answer: Result<T, KeepFault>) -> Result<T
     }
 }
 
-// What the table has, which is made where there is none.
-fn load_from<S: Alter>(alloc: Global, connection: &mut Connection<S>) -> Result<Loaded, KeepFault>
-    ensures order { IfOk result (λ loaded. AreCells loaded.cells) }
-    ensures small { IfOk result (λ loaded. loaded.generation < 2 ^ 64) }
-    ensures settled { OnOk result (IsSettledWhereOpen (state S.Store connection.old)) }
-    ensures found { HasCleanDisk (state S.Store connection.new) → IfOk result (LoadsTable S.Store connection.old connection.new) }
+// Counts what an answer to a question for the generation tells: a refusal, or what can't be.
+fn count_near(faults: &mut u64, from: u64, answer: Result<u64, Failed>) -> Result<u64, Failed>
+    requires { from < 2 ^ 64 - 1 }
+    ensures same { result ≡ answer }
+    ensures cause { HasGenerationCause from faults.old faults.new result }
 {
-    if !connection.is_autocommit() {
-        return Err(KeepFault::Failed);
-    }
-    match make_table(connection) {
-        Ok(()) => {}
-        Err(error) => return Err(fault_of(error)),
-    }
-    if !has_table(connection.schema()) {
-        return Err(KeepFault::Failed);
-    }
-    read_table(alloc, connection)
-}
-
-// The number in the row of the generation.
-fn generation_of(row: &Row) -> Option<u64>
-    ensures { IfSome result (ShowsNumber row.now) }
-{
-    match row.get_ref(0) {
-        Ok(ValueRef::Blob(body)) => number_in(body),
-        _ => None,
-    }
-}
-
-// The generation that the table has.
-fn generation_in<S: Alter>(connection: &mut Connection<S>) -> Option<u64>
-    ensures small { IfSome result (λ number. number < 2 ^ 64) }
-    ensures settled { IfSome result (λ number. IsSettledWhereOpen (state S.Store connection.old)) }
-    ensures found { HasCleanDisk (state S.Store connection.new) → IfSome result (FindsGeneration (state S.Store connection.old) (state S.Store connection.new)) }
-{
-    if !connection.is_autocommit() {
-        return None;
-    }
-    match generation_row(connection) {
-        Ok(Some(row)) => generation_of(&row),
-        Ok(None) => Some(0),
-        Err(_) => None,
+    match answer {
+        Ok(generation) if generation == from || generation == from + 1 => Ok(generation),
+        other => {
+            count(faults);
+            other
+        }
     }
 }
 
 impl<S: Alter> Keeper for SqliteKeeper<S> {
-    ghost tells = { λ s. ⊥ };
+    ghost tells = { λ s. IsTrue s.is_known × Tells (state S.Store s.connection) };
 
-    ghost holds = { λ s held. ⊥ };
+    ghost holds = { λ s held. Holds (state S.Store s.connection) held };
 
-    ghost honest = { λ s. ⊥ };
+    ghost honest = { λ s. IsTrue s.is_known × HasCleanDisk (state S.Store s.connection) };
 
-    ghost may_leave = { λ s left. ⊥ };
+    ghost may_leave = { λ s left. MayLeave (state S.Store s.connection) left };
 
     ghost faults = { λ s. s.faults };
 
@@ -160,8 +139,17 @@ impl<S: Alter> Keeper for SqliteKeeper<S> {
     fn load(&mut self) -> Result<Loaded, KeepFault>
         ensures order { IfOk result (λ loaded. AreCells loaded.cells) }
         ensures cause { HasKeepCause self.old.faults self.new.faults result }
-        ensures found { HasCleanDisk (state S.Store self.new.connection) → IfOk result (LoadsTable S.Store self.old.connection self.new.connection) }
-        ensures known { Tells (state S.Store self.new.connection) → (held : Loaded) → Holds (state S.Store self.old.connection) held → IfOk result (λ loaded. (held ≡ loaded) × Holds (state S.Store self.new.connection) loaded) }
+        ensures found { HasCleanDisk (state S.Store self.new.connection) → IfOk result (LoadsTable S.Store self.old.connection) }
+        ensures known { self.new.is_known ≡ self.old.is_known }
+        ensures answer { HasCleanDisk (state S.Store self.new.connection) → IfOk result (IsToldBy (state S.Store self.old.connection) (state S.Store self.new.connection)) }
+        ensures kept { HasCleanDisk (state S.Store self.new.connection) → OnErr result (KeepsCommit (state S.Store self.old.connection) (state S.Store self.new.connection)) }
+        ensures tells { Tells (state S.Store self.new.connection) → Tells (state S.Store self.old.connection) }
+        ensures same { Tells (state S.Store self.new.connection) → (held : Loaded) → Holds (state S.Store self.old.connection) held → Holds (state S.Store self.new.connection) held }
+        ensures told { IsTrue self.old.is_known → Tells (state S.Store self.new.connection) → IfOk result (λ loaded. LoadsHeld loaded (Holds (state S.Store self.old.connection)) (Holds (state S.Store self.new.connection))) }
+        ensures honest { HasCleanDisk (state S.Store self.new.connection) → HasCleanDisk (state S.Store self.old.connection) × (IsOk result → Tells (state S.Store self.new.connection)) }
+        ensures survives { Survives (state S.Store self.old.connection) (state S.Store self.new.connection) (LeavesNext (λ held. held) (state S.Store self.old.connection)) }
+        ensures crash { IsTrue self.new.is_known × HasCleanDisk (state S.Store self.new.connection) → LeavesAs self.old.is_known (λ held. held) (state S.Store self.old.connection) (state S.Store self.new.connection) }
+        ensures settled { IsTrue self.new.is_known × Tells (state S.Store self.new.connection) → IsSettled (Holds (state S.Store self.new.connection)) (MayLeave (state S.Store self.new.connection)) }
     {
         let answer = load_from(self.alloc, &mut self.connection);
         count_in(&mut self.faults, answer)
@@ -170,36 +158,43 @@ impl<S: Alter> Keeper for SqliteKeeper<S> {
     fn generation(&mut self, from: u64) -> Result<u64, Failed>
         requires { from < 2 ^ 64 - 1 }
         ensures cause { HasGenerationCause from self.old.faults self.new.faults result }
-        ensures found { HasCleanDisk (state S.Store self.new.connection) → IfOk result (FindsGeneration (state S.Store self.old.connection) (state S.Store self.new.connection)) }
-        ensures known { Tells (state S.Store self.new.connection) → (held : Loaded) → Holds (state S.Store self.old.connection) held → IfOk result (λ number. (held.generation ≡ number) × Holds (state S.Store self.new.connection) held) }
+        ensures found { HasCleanDisk (state S.Store self.new.connection) → IfOk result (FindsGeneration S.Store self.old.connection) }
+        ensures known { self.new.is_known ≡ self.old.is_known }
+        ensures answer { HasCleanDisk (state S.Store self.new.connection) → IfOk result (IsGenerationBy (state S.Store self.old.connection) (state S.Store self.new.connection)) }
+        ensures kept { HasCleanDisk (state S.Store self.new.connection) → OnErr result (KeepsCommit (state S.Store self.old.connection) (state S.Store self.new.connection)) }
+        ensures tells { Tells (state S.Store self.new.connection) → Tells (state S.Store self.old.connection) }
+        ensures same { Tells (state S.Store self.new.connection) → (held : Loaded) → Holds (state S.Store self.old.connection) held → Holds (state S.Store self.new.connection) held }
+        ensures told { Tells (state S.Store self.new.connection) → IfOk result (λ n. (held : Loaded) → Holds (state S.Store self.old.connection) held → held.generation ≡ n) }
+        ensures honest { HasCleanDisk (state S.Store self.new.connection) → HasCleanDisk (state S.Store self.old.connection) × (IsOk result → Tells (state S.Store self.new.connection)) }
+        ensures survives { Survives (state S.Store self.old.connection) (state S.Store self.new.connection) (LeavesNext (λ held. held) (state S.Store self.old.connection)) }
+        ensures crash { IsTrue self.new.is_known × HasCleanDisk (state S.Store self.new.connection) → LeavesAs self.old.is_known (λ held. held) (state S.Store self.old.connection) (state S.Store self.new.connection) }
+        ensures settled { IsTrue self.new.is_known × Tells (state S.Store self.new.connection) → IsSettled (Holds (state S.Store self.new.connection)) (MayLeave (state S.Store self.new.connection)) }
     {
-        let Some(generation) = generation_in(&mut self.connection) else {
-            count(&mut self.faults);
-            return Err(Failed);
-        };
-        if generation != from && generation != from + 1 {
-            count(&mut self.faults);
-        }
-        Ok(generation)
+        let answer = generation_in(&mut self.connection);
+        count_near(&mut self.faults, from, answer)
     }
 
     fn commit(&mut self, from: u64, changes: &[Change]) -> Result<(), KeepFault>
         requires from { from < 2 ^ 64 - 1 }
         requires changes { AreChanges changes.now }
         ensures cause { HasKeepCause self.old.faults self.new.faults result }
-        ensures open { Tells (state S.Store self.new.connection) → IsTrue (state S.Store self.old.connection).is_open }
+        ensures known { self.new.is_known ≡ self.old.is_known }
+        ensures tells { Tells (state S.Store self.new.connection) → Tells (state S.Store self.old.connection) }
         ensures made { Tells (state S.Store self.new.connection) → (held : Loaded) → Holds (state S.Store self.old.connection) held → CommitsOrNot from changes.now result (Holds (state S.Store self.new.connection)) held }
-        ensures crash { HasCleanDisk (state S.Store self.new.connection) → LeavesCommit from changes.now (state S.Store self.old.connection) (state S.Store self.new.connection) }
+        ensures honest { HasCleanDisk (state S.Store self.new.connection) → HasCleanDisk (state S.Store self.old.connection) × (IsOk result → Tells (state S.Store self.new.connection)) }
+        ensures survives { Survives (state S.Store self.old.connection) (state S.Store self.new.connection) (LeavesNext (committed from changes.now) (state S.Store self.old.connection)) }
+        ensures crash { IsTrue self.new.is_known × HasCleanDisk (state S.Store self.new.connection) → LeavesAs self.old.is_known (committed from changes.now) (state S.Store self.old.connection) (state S.Store self.new.connection) }
         ensures memory { HasCleanDisk (state S.Store self.new.connection) → IsErrOf result Memory → LeavesNoMore (state S.Store self.old.connection) (state S.Store self.new.connection) }
-        ensures settled { Tells (state S.Store self.new.connection) → IsSettled (Holds (state S.Store self.new.connection)) (MayLeave (state S.Store self.new.connection)) }
+        ensures outcome { Tells (state S.Store self.new.connection) → IsSettled (Holds (state S.Store self.new.connection)) (MayLeave (state S.Store self.new.connection)) }
+        ensures settled { IsTrue self.new.is_known × Tells (state S.Store self.new.connection) → IsSettled (Holds (state S.Store self.new.connection)) (MayLeave (state S.Store self.new.connection)) }
     {
-        let answer = write(&mut self.connection, from, changes);
+        let answer = write(&mut self.connection, false, from + 1, changes);
         count_in(&mut self.faults, answer)
     }
 
     ghost steady_tells = { λ keeper steady. absurd steady };
 
-    ghost tells_honestly = { λ keeper tells. tells };
+    ghost tells_honestly = { λ keeper tells. (tells.0, tells.1.honest) };
 
-    ghost holds_one = { λ keeper one two told is also. absurd told };
+    ghost holds_one = { λ keeper one two told is also. stand_same _ _ one two refl is also };
 }

@@ -2,11 +2,13 @@
 ghost use Rattle.std.specs.Prelude.{◌≡◌, ◌∷◌, [], false, IfOk, OnOk};
 ghost use Rattle.rv_base.specs.Sorted.{put_by, without};
 ghost use Rattle.rv_keeper.specs.Cells.{cell_key, changed_by};
-ghost use Rattle.sqlite.specs.State.{HasCleanDisk, Survives};
+ghost use Rattle.std.specs.Borrow.{sem, RestsIfErr};
+ghost use Rattle.sqlite.specs.contracts.connection.Connection.{the_row};
+ghost use Rattle.sqlite.specs.State.{CommitsShowing, HasCleanDisk, QueriesRow, Survives};
 ghost use Rattle.sqlite.specs.Held.{state};
-ghost use Rattle.sqlite.specs.Given.{HasBegun};
-ghost use Rattle.rv_sqlite.specs.Asked.{FindsRow};
-ghost use Rattle.rv_sqlite.specs.Loads.{MakesTable, all_text};
+ghost use Rattle.sqlite.specs.Given.{HasBegun, IsRefused};
+ghost use Rattle.rv_sqlite.specs.Asked.{FindsRow, generation_key, one_text};
+ghost use Rattle.rv_sqlite.specs.Loads.{all_text};
 ghost use Rattle.rv_sqlite.specs.Steps.{KeepsWhereClean, Steps, cell_of, generation_cell};
 
 use itoa::Buffer;
@@ -28,32 +30,51 @@ const REMOVE: &str = "DELETE FROM cell WHERE shelf = ?1 AND k = ?2";
 /// The shelf of the one cell that is none of the store's own: its key is empty, and its body is the generation in decimal.
 pub(crate) const GENERATION_SHELF: u8 = 0;
 
-/// Makes the table, where there is none.
-pub(crate) fn make_table<S: Alter>(connection: &mut Connection<S>) -> Result<(), Error>
-    ensures { HasCleanDisk (state S.Store connection.new) → OnOk result (MakesTable (state S.Store connection.old) (state S.Store connection.new)) }
-{
-    connection.execute(MAKE, &[])?;
-    Ok(())
-}
-
 /// All rows, in the order of shelves and then of keys, one at a time.
 pub(crate) fn all_rows<S: Alter>(connection: &mut Connection<S>) -> Result<Rows<'_, S>, Error>
+    ensures* refused { sem 𝓛 (RestsIfErr (the_row S.row S.Store) connection.entry (λ rows. rows.conn.ghost_name) result (IsRefused S.Store all_text [] connection.old result)) }
     ensures same_reference { IfOk result (λ rows. rows.conn.ghost_name ≡ connection.entry.ghost_name) }
-    ensures clean { IfOk result (λ rows. HasCleanDisk (state S.Store rows.conn.now) → HasCleanDisk (state S.Store connection.old)) }
     ensures begun { IfOk result (λ rows. HasCleanDisk (state S.Store rows.conn.now) → HasBegun S.Store all_text [] connection.old rows.conn.now) }
+    ensures mode { IfOk result (λ rows. connection.old.in_transaction ≡ false → rows.conn.now.in_transaction ≡ false) }
+    ensures survives { IfOk result (λ rows. Survives (state S.Store connection.old) (state S.Store rows.conn.now) (CommitsShowing all_text [] (state S.Store connection.old))) }
 {
     connection.query(ALL, &[])
 }
 
+// Asks for the row of the generation.
+fn ask<S: Alter>(connection: &mut Connection<S>) -> Result<Row, Error>
+    ensures asked { HasCleanDisk (state S.Store connection.new) → QueriesRow one_text generation_key (state S.Store connection.old) (state S.Store connection.new) result }
+    ensures mode { connection.old.in_transaction ≡ false → connection.new.in_transaction ≡ false }
+    ensures kept { KeepsWhereClean S.Store connection.old connection.new }
+    ensures survives { Survives (state S.Store connection.old) (state S.Store connection.new) (λ _. ⊥) }
+{
+    connection.query_row(ONE, params![u32::from(GENERATION_SHELF), b"".as_slice()])
+}
+
 /// The row of the generation, if there is one.
 pub(crate) fn generation_row<S: Alter>(connection: &mut Connection<S>) -> Result<Option<Row>, Error>
-    ensures { HasCleanDisk (state S.Store connection.new) → IfOk result (FindsRow (state S.Store connection.old) (state S.Store connection.new)) }
+    ensures found { HasCleanDisk (state S.Store connection.new) → IfOk result (FindsRow (state S.Store connection.old) (state S.Store connection.new)) }
+    ensures mode { connection.old.in_transaction ≡ false → connection.new.in_transaction ≡ false }
+    ensures kept { KeepsWhereClean S.Store connection.old connection.new }
+    ensures survives { Survives (state S.Store connection.old) (state S.Store connection.new) (λ _. ⊥) }
 {
-    match connection.query_row(ONE, params![u32::from(GENERATION_SHELF), b"".as_slice()]) {
+    match ask(connection) {
         Ok(row) => Ok(Some(row)),
         Err(Error::QueryReturnedNoRows) => Ok(None),
         Err(error) => Err(error),
     }
+}
+
+/// Makes the table, where there is none.
+#[tactic(auto, using(crate::proofs::Kept::step_keeps))]
+pub(crate) fn make_table<S: Alter>(transaction: &mut Transaction<'_, S>) -> Result<(), Error>
+    ensures same_reference { transaction.new.conn.ghost_name ≡ transaction.old.conn.ghost_name }
+    ensures steps { HasCleanDisk (state S.Store transaction.new.conn.now) → OnOk result (Steps (state S.Store transaction.old.conn.now) (state S.Store transaction.new.conn.now) (λ cells. cells)) }
+    ensures kept { KeepsWhereClean S.Store transaction.old.conn.now transaction.new.conn.now }
+    ensures survives { Survives (state S.Store transaction.old.conn.now) (state S.Store transaction.new.conn.now) (λ _. ⊥) }
+{
+    transaction.execute(MAKE, &[])?;
+    Ok(())
 }
 
 // Writes a row, over one at its place.

@@ -80,8 +80,3 @@ pub(crate) fn find_table(schema: &Schema) -> TableFound
         _ => TableFound::Other,
     }
 }
-
-/// The schema has the table `cell` of the form in which it is made.
-pub(crate) fn has_table(schema: &Schema) -> bool {
-    matches!(find_table(schema), TableFound::Fits)
-}

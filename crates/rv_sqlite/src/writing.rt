@@ -1,5 +1,5 @@
-// A commit: one transaction.
-ghost use Rattle.std.specs.Prelude.{◌<◌, ◌-◌, ◌^◌, ◌+◌, ◌≡◌, Ok, false, IfOk, IsErrOf, IsTrue, OnErr, OnOk};
+// A write: one transaction.
+ghost use Rattle.std.specs.Prelude.{◌≡◌, Ok, false, IfOk, IsErrOf, IsTrue, OnErr, OnOk};
 ghost use Rattle.rv_keeper.specs.declared.fault.KeepFault.TheVariants.{Memory};
 ghost use Rattle.rv_keeper.specs.Cells.{changed};
 ghost use Rattle.sqlite.specs.State.{HasCleanDisk, KeepsCommit, Survives};
@@ -7,7 +7,7 @@ ghost use Rattle.sqlite.specs.Held.{state};
 ghost use Rattle.rv_sqlite.specs.Faults.{fault_of};
 ghost use Rattle.rv_sqlite.specs.Steps.{Comes, IsSettledWhereOpen, IsUnderWay, KeepsWhereClean, ShowsCommitted, Steps, WritesCells, all_next};
 
-use crate::statements::{is_settled, make_change, put_generation};
+use crate::statements::{is_settled, make_change, make_table, put_generation};
 use rv_keeper::{Change, KeepFault};
 use sqlite::{Alter, Connection, Error, ErrorCode, Transaction};
 
@@ -18,6 +18,20 @@ pub fn fault_of(error: Error) -> KeepFault
     match error {
         Error::SqliteFailure(ErrorCode::OutOfMemory) => KeepFault::Memory,
         _ => KeepFault::Failed,
+    }
+}
+
+// Makes the table, where that is asked and there is none.
+fn prepare<S: Alter>(transaction: &mut Transaction<'_, S>, makes_table: bool) -> Result<(), Error>
+    ensures same_reference { transaction.new.conn.ghost_name ≡ transaction.old.conn.ghost_name }
+    ensures steps { HasCleanDisk (state S.Store transaction.new.conn.now) → IsUnderWay (state S.Store transaction.old.conn.now) → OnOk result (Steps (state S.Store transaction.old.conn.now) (state S.Store transaction.new.conn.now) (λ cells. cells)) }
+    ensures kept { KeepsWhereClean S.Store transaction.old.conn.now transaction.new.conn.now }
+    ensures survives { Survives (state S.Store transaction.old.conn.now) (state S.Store transaction.new.conn.now) (λ _. ⊥) }
+{
+    if makes_table {
+        make_table(transaction)
+    } else {
+        Ok(())
     }
 }
 
@@ -37,21 +51,22 @@ fn make_changes<S: Alter>(
     Ok(())
 }
 
-// Makes the changes in turn, and then writes the generation after `from`.
+// Makes the table where that is asked, makes the changes in turn, and then writes the generation.
 #[tactic(auto, using(crate::proofs::Kept::keeps_then))]
 fn fill<S: Alter>(
     transaction: &mut Transaction<'_, S>,
-    from: u64,
+    makes_table: bool,
+    generation: u64,
     changes: &[Change],
 ) -> Result<(), Error>
-    requires { from < 2 ^ 64 - 1 }
     ensures same_reference { transaction.new.conn.ghost_name ≡ transaction.old.conn.ghost_name }
-    ensures steps { HasCleanDisk (state S.Store transaction.new.conn.now) → IsTrue (state S.Store transaction.old.conn.now).in_transaction → OnOk result (Steps (state S.Store transaction.old.conn.now) (state S.Store transaction.new.conn.now) (all_next from changes.now)) }
+    ensures steps { HasCleanDisk (state S.Store transaction.new.conn.now) → IsTrue transaction.old.conn.now.in_transaction → OnOk result (Steps (state S.Store transaction.old.conn.now) (state S.Store transaction.new.conn.now) (all_next generation changes.now)) }
     ensures kept { KeepsWhereClean S.Store transaction.old.conn.now transaction.new.conn.now }
     ensures survives { Survives (state S.Store transaction.old.conn.now) (state S.Store transaction.new.conn.now) (λ _. ⊥) }
 {
+    prepare(transaction, makes_table)?;
     make_changes(transaction, changes)?;
-    put_generation(transaction, from + 1)
+    put_generation(transaction, generation)
 }
 
 // Ends the transaction: at Ok what it had is committed. Where that is refused it may have been made.
@@ -74,21 +89,21 @@ fn finish<S: Alter>(transaction: Transaction<'_, S>) -> Result<(), KeepFault>
 // the commit is never told as want of memory.
 fn attempt<S: Alter>(
     connection: &mut Connection<S>,
-    from: u64,
+    makes_table: bool,
+    generation: u64,
     changes: &[Change],
 ) -> Result<Result<(), KeepFault>, Error>
-    requires from { from < 2 ^ 64 - 1 }
     requires autocommit { connection.old.in_transaction ≡ false }
     requires settled { IsSettledWhereOpen (state S.Store connection.old) }
-    ensures comes { HasCleanDisk (state S.Store connection.new) → IfOk result (Comes (state S.Store connection.old) (state S.Store connection.new) from changes.now) }
+    ensures comes { HasCleanDisk (state S.Store connection.new) → IfOk result (Comes (state S.Store connection.old) (state S.Store connection.new) generation changes.now) }
     ensures kept { HasCleanDisk (state S.Store connection.new) → OnErr result (KeepsCommit (state S.Store connection.old) (state S.Store connection.new)) }
-    ensures survives { Survives (state S.Store connection.old) (state S.Store connection.new) (WritesCells (state S.Store connection.old) from changes.now) }
+    ensures survives { Survives (state S.Store connection.old) (state S.Store connection.new) (WritesCells (state S.Store connection.old) generation changes.now) }
     ensures refused { OnErr result (Survives (state S.Store connection.old) (state S.Store connection.new) (λ _. ⊥)) }
     ensures ended { connection.new.in_transaction ≡ false }
     ensures doubt { IfOk result (λ ended. ¬ IsErrOf ended Memory) }
 {
     let mut transaction = connection.transaction();
-    match fill(&mut transaction, from, changes) {
+    match fill(&mut transaction, makes_table, generation, changes) {
         Ok(()) => Ok(finish(transaction)),
         Err(error) => {
             transaction.rollback();
@@ -110,21 +125,22 @@ fn undone<S: Alter>(connection: &mut Connection<S>, error: Error) -> KeepFault
     }
 }
 
-/// Makes the changes and writes the generation after `from`, in one transaction. `Memory`: nothing was changed.
+/// Makes the table where that is asked, makes the changes and writes the generation, in one transaction. `Memory`: nothing was changed.
 pub(crate) fn write<S: Alter>(
     connection: &mut Connection<S>,
-    from: u64,
+    makes_table: bool,
+    generation: u64,
     changes: &[Change],
 ) -> Result<(), KeepFault>
-    requires { from < 2 ^ 64 - 1 }
-    ensures comes { HasCleanDisk (state S.Store connection.new) → Comes (state S.Store connection.old) (state S.Store connection.new) from changes.now result }
-    ensures survives { Survives (state S.Store connection.old) (state S.Store connection.new) (WritesCells (state S.Store connection.old) from changes.now) }
+    ensures comes { HasCleanDisk (state S.Store connection.new) → Comes (state S.Store connection.old) (state S.Store connection.new) generation changes.now result }
+    ensures survives { Survives (state S.Store connection.old) (state S.Store connection.new) (WritesCells (state S.Store connection.old) generation changes.now) }
     ensures memory { IsErrOf result Memory → Survives (state S.Store connection.old) (state S.Store connection.new) (λ _. ⊥) }
+    ensures outside { connection.new.in_transaction ≡ false → connection.old.in_transaction ≡ false }
 {
     if !connection.is_autocommit() {
         return Err(KeepFault::Failed);
     }
-    match attempt(connection, from, changes) {
+    match attempt(connection, makes_table, generation, changes) {
         Ok(ended) => ended,
         Err(error) => Err(undone(connection, error)),
     }

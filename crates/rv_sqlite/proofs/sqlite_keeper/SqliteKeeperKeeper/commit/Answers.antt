@@ -1,7 +1,9 @@
 use Rattle.std.proofs.Common.{sym, subst}
 use Rattle.sqlite.specs.Held.{state}
-use Rattle.rv_sqlite.specs.Telling.{Holds, CommitsOrNot}
-use Rattle.rv_sqlite.proofs.Told.{made_by, crash_by, leaves_one}
+use Rattle.rv_keeper.specs.Keeping.{committed}
+use Rattle.rv_sqlite.specs.Telling.{CommitsOrNot, Holds}
+use Rattle.rv_sqlite.proofs.Answering.{leaves_as, made_by, settled_by}
+use Rattle.rv_sqlite.proofs.Settling.{commit_survives}
 use Rattle.rv_sqlite.proofs.sqlite_keeper.SqliteKeeperKeeper.commit.Goals as goal
 
 -- What the write came to is what is held.
@@ -10,14 +12,23 @@ returns-clause-made g c tells held holds =
     let old = state g.S.Store c.args.self.now.connection in
     let new = state g.S.Store c.write-answer.new.connection in
     subst (λ r. CommitsOrNot c.args.from c.args.changes.now r (Holds new) held) (sym c.count_in.ensures.same)
-    (made_by old new c.args.from c.args.changes.now held c.write-answer.result c.requires.from c.requires.changes tells holds (c.write-answer.ensures.comes tells.honest))
+    (made_by old new c.args.from c.args.changes.now c.write-answer.result c.requires.from c.requires.changes (c.write-answer.ensures.comes tells.honest) tells held holds)
 
+pub returns-clause-survives : goal.returns-clause-survives
+returns-clause-survives g c =
+    commit_survives (state g.S.Store c.args.self.now.connection) (state g.S.Store c.write-answer.new.connection) c.args.from c.args.changes.now c.requires.from c.requires.changes c.write-answer.ensures.survives
+
+-- A crash leaves what was held, or what the commit makes of it.
 pub returns-clause-crash : goal.returns-clause-crash
-returns-clause-crash g c clean =
-    crash_by (state g.S.Store c.args.self.now.connection) (state g.S.Store c.write-answer.new.connection) c.args.from c.args.changes.now c.requires.from c.requires.changes clean c.write-answer.ensures.survives
+returns-clause-crash g c honest =
+    let old = state g.S.Store c.args.self.now.connection in
+    let new = state g.S.Store c.write-answer.new.connection in
+    leaves_as c.args.self.now.is_known (committed c.args.from c.args.changes.now) old new honest.1
+    (commit_survives old new c.args.from c.args.changes.now c.requires.from c.requires.changes c.write-answer.ensures.survives) honest.0
 
 -- The store of an open connection is settled.
+pub returns-clause-outcome : goal.returns-clause-outcome
+returns-clause-outcome g c = let h = c.write-answer.new.connection in settled_by g.S.Store h (λ trees is_open may. g.met.S.Store.settled h.store trees is_open may)
+
 pub returns-clause-settled : goal.returns-clause-settled
-returns-clause-settled g c tells held holds left leaves =
-    let h = c.write-answer.new.connection in
-    leaves_one (state g.S.Store h) (state g.S.Store h).committed.trees held left holds.1 leaves (λ other may. g.met.S.Store.settled h.store other tells.is_open may)
+returns-clause-settled g c told = let h = c.write-answer.new.connection in settled_by g.S.Store h (λ trees is_open may. g.met.S.Store.settled h.store trees is_open may) told.1

@@ -1,12 +1,11 @@
 use Rattle.sqlite.specs.Held.{state}
-use Rattle.rv_sqlite.proofs.Asked.{generation_known}
+use Rattle.rv_sqlite.proofs.Answering.{leaves_as, settled_by}
 use Rattle.rv_sqlite.proofs.sqlite_keeper.SqliteKeeperKeeper.generation.Goals as goal
 
--- The generation that was found is the one that was held.
-pub returns-then-generation-from-2-clause-known : goal.returns-then-generation-from-2-clause-known
-returns-then-generation-from-2-clause-known g c tells held holds =
-    generation_known (state g.S.Store c.args.self.now.connection) (state g.S.Store c.generation_in.new.connection) held c.in-Some.generation c.in-Some.ensures.settled (c.in-Some.ensures.found tells.honest) c.in-Some.ensures.small tells holds
+-- A crash leaves what was held.
+pub returns-clause-crash : goal.returns-clause-crash
+returns-clause-crash g c honest =
+    leaves_as c.args.self.now.is_known (λ held. held) (state g.S.Store c.args.self.now.connection) (state g.S.Store c.generation_in-answer.new.connection) honest.1 c.generation_in-answer.ensures.survives honest.0
 
-pub returns-else-generation-from-clause-known : goal.returns-else-generation-from-clause-known
-returns-else-generation-from-clause-known g c tells held holds =
-    generation_known (state g.S.Store c.args.self.now.connection) (state g.S.Store c.generation_in.new.connection) held c.in-Some.generation c.in-Some.ensures.settled (c.in-Some.ensures.found tells.honest) c.in-Some.ensures.small tells holds
+pub returns-clause-settled : goal.returns-clause-settled
+returns-clause-settled g c told = let h = c.generation_in-answer.new.connection in settled_by g.S.Store h (λ trees is_open may. g.met.S.Store.settled h.store trees is_open may) told.1

@@ -1,13 +1,11 @@
-use Rattle.std.proofs.Common.{◌≡◌, IfOk, subst, sym}
 use Rattle.sqlite.specs.Held.{state}
-use Rattle.rv_sqlite.specs.Telling.{Holds}
-use Rattle.rv_sqlite.proofs.Known.{loaded_by}
+use Rattle.rv_sqlite.proofs.Answering.{leaves_as, settled_by}
 use Rattle.rv_sqlite.proofs.sqlite_keeper.SqliteKeeperKeeper.load.Goals as goal
 
--- What was loaded is what was held.
-pub returns-clause-known : goal.returns-clause-known
-returns-clause-known g c tells held holds =
-    let new = c.load_from-answer.new.connection in
-    let answer = c.load_from-answer.ensures in
-    subst (λ r. IfOk r (λ loaded. (held ≡ loaded) × Holds (state g.S.Store new) loaded)) (sym c.count_in.ensures.same)
-    (loaded_by g.S.Store c.args.self.now.connection new held c.load_from-answer.result answer.settled (answer.found tells.honest) answer.order answer.small holds)
+-- A crash leaves what was held.
+pub returns-clause-crash : goal.returns-clause-crash
+returns-clause-crash g c honest =
+    leaves_as c.args.self.now.is_known (λ held. held) (state g.S.Store c.args.self.now.connection) (state g.S.Store c.load_from-answer.new.connection) honest.1 c.load_from-answer.ensures.survives honest.0
+
+pub returns-clause-settled : goal.returns-clause-settled
+returns-clause-settled g c told = let h = c.load_from-answer.new.connection in settled_by g.S.Store h (λ trees is_open may. g.met.S.Store.settled h.store trees is_open may) told.1
