@@ -11,60 +11,60 @@ use Rattle.rv_place.specs.declared.store_keeper.StoreKeeper.TheVariants.{Memory,
 use Rattle.rv_sqlite.specs.Asked.{FindsGeneration}
 use Rattle.rv_sqlite.specs.Loads.{LoadsTable}
 
-module _ {S : Type 0} where
+module _ {S : Type 0} {g : Ghosts S} where
   -- how often a call has failed
-  abbrev pub stored_faults : StoreKeeper S → ℕ
+  abbrev pub stored_faults : StoreKeeper S g → ℕ
   stored_faults (Memory keeper) = keeper.faults
   stored_faults (Sqlite keeper) = keeper.faults
 
   -- one in memory tells what it holds, and a database does not
-  abbrev pub StoredTells : StoreKeeper S → Type 0
+  abbrev pub StoredTells : StoreKeeper S g → Type 0
   StoredTells (Memory keeper) = Unit {0}
   StoredTells (Sqlite keeper) = ⊥
 
   -- what one in memory holds
-  abbrev pub StoredHolds : StoreKeeper S → Loaded → Type 0
+  abbrev pub StoredHolds : StoreKeeper S g → Loaded → Type 0
   StoredHolds (Memory keeper) held = held ≡ holding keeper.shelves keeper.generation
   StoredHolds (Sqlite keeper) held = ⊥
 
   -- of a crash one in memory says what is true, and a database says nothing
-  abbrev pub StoredHonest : StoreKeeper S → Type 0
+  abbrev pub StoredHonest : StoreKeeper S g → Type 0
   StoredHonest (Memory keeper) = Unit {0}
   StoredHonest (Sqlite keeper) = ⊥
 
   -- what is in memory is there after any call
-  abbrev pub StoredLeaves : StoreKeeper S → Option Loaded → Type 0
+  abbrev pub StoredLeaves : StoreKeeper S g → Option Loaded → Type 0
   StoredLeaves (Memory keeper) left = left ≡ Some (holding keeper.shelves keeper.generation)
   StoredLeaves (Sqlite keeper) left = ⊥
 
   -- no call of one in memory fails any more
-  abbrev pub StoredSteady : StoreKeeper S → Type 0
+  abbrev pub StoredSteady : StoreKeeper S g → Type 0
   StoredSteady (Memory keeper) = KeeperFailsNoMore keeper.loads keeper.questions keeper.commits keeper.schedule.items
   StoredSteady (Sqlite keeper) = ⊥
 
   -- the connection, where there is one
-  abbrev pub stored_connection : StoreKeeper S → Option (Held S)
+  abbrev pub stored_connection : StoreKeeper S g → Option (Held S)
   stored_connection (Memory keeper) = None
   stored_connection (Sqlite keeper) = Some keeper.connection
 
   -- The store `memory` is in memory, with no cell, at generation 0, and fails at no call; a store of any other name is in a
   -- database. No call has failed yet.
-  abbrev pub IsFresh : List ℕ → StoreKeeper S → Type 0
+  abbrev pub IsFresh : List ℕ → StoreKeeper S g → Type 0
   IsFresh name (Memory keeper) = (name ≡ codes "memory") × (keeper.shelves ≡ []) × (keeper.generation ≡ 0) × (keeper.faults ≡ 0) × (keeper.schedule.items ≡ [])
   IsFresh name (Sqlite keeper) = (name ≢ codes "memory") × (keeper.faults ≡ 0)
 
 -- What is loaded by a keeper in memory is what it held, and by one over a database, where the disk gave back what was written, what the
 -- table has. Neither becomes the other.
-abbrev pub StoredLoads : {S : Type 0} → Ghosts S → StoreKeeper S → StoreKeeper S → Loaded → Type 0
+abbrev pub StoredLoads : {S : Type 0} → (g : Ghosts S) → StoreKeeper S g → StoreKeeper S g → Loaded → Type 0
 StoredLoads g (Memory old) (Memory new) loaded = loaded ≡ holding old.shelves old.generation
-StoredLoads g (Sqlite old) (Sqlite new) loaded = HasCleanDisk (state g new.connection) → LoadsTable g old.connection new.connection loaded
+StoredLoads g (Sqlite old) (Sqlite new) loaded = HasCleanDisk (state g new.connection) → LoadsTable g old.connection loaded
 StoredLoads g (Memory old) (Sqlite new) loaded = ⊥
 StoredLoads g (Sqlite old) (Memory new) loaded = ⊥
 
 -- The generation that a keeper over a database answers is, where the disk gave back what was written, the one that the table has. Of one in
 -- memory the clauses of a keeper that tells say which it is. Neither becomes the other.
-abbrev pub StoredFinds : {S : Type 0} → Ghosts S → StoreKeeper S → StoreKeeper S → ℕ → Type 0
+abbrev pub StoredFinds : {S : Type 0} → (g : Ghosts S) → StoreKeeper S g → StoreKeeper S g → ℕ → Type 0
 StoredFinds g (Memory old) (Memory new) number = Unit {0}
-StoredFinds g (Sqlite old) (Sqlite new) number = HasCleanDisk (state g new.connection) → FindsGeneration (state g old.connection) (state g new.connection) number
+StoredFinds g (Sqlite old) (Sqlite new) number = HasCleanDisk (state g new.connection) → FindsGeneration g old.connection number
 StoredFinds g (Memory old) (Sqlite new) number = ⊥
 StoredFinds g (Sqlite old) (Memory new) number = ⊥
