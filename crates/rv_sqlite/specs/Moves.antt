@@ -4,7 +4,7 @@ use Rattle.sqlite_value.specs.Order.{Row}
 use Rattle.sqlite_trees.specs.declared.store.Store.{Ghosts}
 use Rattle.sqlite.specs.State.{IsUnchanged}
 use Rattle.sqlite.specs.Held.{Held, state}
-use Rattle.sqlite.specs.Given.{Advances, HandsOn}
+use Rattle.sqlite.specs.Given.{Advances}
 use Rattle.rv_sqlite.specs.declared.row_read.RowRead.{RowRead}
 use Rattle.rv_sqlite.specs.Rows.{Shows}
 
@@ -12,7 +12,6 @@ module _ {S : Type 0} (g : Ghosts S) where
   -- this row is the next one, or there is none; what the connection shows does not change
   pub record Moves (old new : Held S) (row : Option Row) : Type 0 where
     pub advances : Advances g old new row
-    pub hands : HandsOn old new row
     pub same : IsUnchanged (state g old) (state g new)
 
   -- the next row stands for this, or there is none

@@ -1,4 +1,4 @@
-use Rattle.std.proofs.Common.{rules, [], ◌∷◌, ◌++◌, inl, refl, subst, arith, IfErr}
+use Rattle.std.proofs.Common.{rules, [], ◌∷◌, ◌++◌, refl, subst, arith, IfErr}
 use Rattle.sqlite.specs.Given.{IsRefused}
 use Rattle.sqlite.specs.State.{HasCleanDisk, FailsToQuery}
 use Rattle.sqlite.specs.Held.{state}
@@ -41,7 +41,7 @@ loop-init g c =
       mode = made.mode;
       kept = λ clean. unchanged_keeps (state g.S.Store old) (state g.S.Store now) (begun clean).1;
       survives = survives_weaker (state g.S.Store old) (state g.S.Store now) _ (λ _. ⊥) (λ clean trees may. never_commits all_text all_query (state g.S.Store old) [] trees may) made.survives;
-      read = λ clean. record { rows = []; given = inl (begun clean); gathered = none_gathered c.new-cells.result.items (search rules) };
+      read = λ clean. record { rows = []; given = begun clean; gathered = none_gathered c.new-cells.result.items (search rules) };
     }
 
 -- One more row is given, and gathered.
