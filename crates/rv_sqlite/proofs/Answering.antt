@@ -1,5 +1,5 @@
 -- What a call tells of what is held, by its answer, and of a crash.
-use Rattle.std.proofs.Common.{◌≡◌, ◌<◌, ◌+◌, ◌-◌, ◌^◌, ℕ, Bool, IsTrue, List, Some, None, Result, Ok, Err, inl, inr, refl, sym, ap, subst, arith}
+use Rattle.std.proofs.Common.{◌≡◌, ◌<◌, ◌+◌, ◌-◌, ◌^◌, ℕ, Bool, IsTrue, List, OnOk, Some, None, Result, Ok, Err, inl, inr, refl, sym, ap, subst, arith}
 use Rattle.sqlite_trees.specs.Tree.{Trees}
 use Rattle.sqlite_trees.specs.declared.store.Store.{Ghosts}
 use Rattle.sqlite.specs.Effect.{Database}
@@ -9,8 +9,9 @@ use Rattle.rv_keeper.specs.declared.change.Change.{Change}
 use Rattle.rv_keeper.specs.declared.loaded.Loaded.{Loaded}
 use Rattle.rv_keeper.specs.Cells.{AreChanges}
 use Rattle.rv_keeper.specs.Crashes.{IsSettled}
+use Rattle.rv_keeper.specs.Keeping.{committed}
 use Rattle.rv_sqlite.specs.Steps.{Comes}
-use Rattle.rv_sqlite.specs.Telling.{CommitsOrNot, Holds, LeavesAs, LeavesNext, LeavesNoMore, MayLeave, StandFor, Tells}
+use Rattle.rv_sqlite.specs.Telling.{CallMakes, CommitsOrNot, Holds, LeavesAs, LeavesNext, LeavesNoMore, MayLeave, StandFor, Tells}
 use Rattle.rv_sqlite.specs.HeldLaws.{stand_same}
 use Rattle.rv_sqlite.proofs.Settling.{commit_next}
 use Rattle.rv_sqlite.proofs.Told.{leaves_one}
@@ -18,6 +19,11 @@ use Rattle.rv_sqlite.proofs.Told.{leaves_one}
 -- where nothing was committed, the same is held
 pub kept_holds : (old new : State) (held : Loaded) → KeepsCommit old new → IsTrue new.is_open → Holds old held → Holds new held
 kept_holds old new held kept is_open h = subst (λ (d : Database). StandFor d held) (sym (kept.committed is_open)) h
+
+-- What comes of a commit that was made.
+pub commit_by : {E : Type 0} (old new : State) (from : ℕ) (changes : List Change) (r : Result (Unit {0}) E) → from < 2 ^ 64 - 1 → AreChanges changes → Comes old new (from + 1) changes r → OnOk r (CallMakes old new (committed from changes))
+commit_by old new from changes (Ok done) low are comes = commit_next old new from changes low are comes
+commit_by old new from changes (Err e) low are comes = tt
 
 -- What is held at each answer to a commit.
 pub made_by : {E : Type 0} (old new : State) (from : ℕ) (changes : List Change) (r : Result (Unit {0}) E) → from < 2 ^ 64 - 1 → AreChanges changes → Comes old new (from + 1) changes r → Tells new → (held : Loaded) → Holds old held

@@ -10,9 +10,9 @@ use Rattle.rv_keeper.specs.Cells.{AreChanges, changed}
 use Rattle.rv_keeper.specs.Keeping.{committed, holding}
 use Rattle.rv_sqlite.specs.Table.{IsKnown}
 use Rattle.rv_sqlite.specs.Steps.{IsReady, IsWritten, WritesCells, all_next}
-use Rattle.rv_sqlite.specs.Telling.{Holds, LeftHolding, CallMakes, LeavesNext, StandFor}
+use Rattle.rv_sqlite.specs.Telling.{Holds, LeftHolding, CallMakes, LeavesNext, StandFor, HasTable}
 use Rattle.rv_sqlite.specs.HeldLaws.{loaded_same}
-use Rattle.rv_sqlite.proofs.Told.{has_order, written_all}
+use Rattle.rv_sqlite.proofs.Told.{has_order, has_table, written_all}
 
 module _ (generation : ℕ) (changes : List Change) (low : generation < 2 ^ 64) (are : AreChanges changes) (old : State) (held : Loaded) (h : Holds old held) where
   -- what a write makes of it
@@ -22,6 +22,10 @@ module _ (generation : ℕ) (changes : List Change) (low : generation < 2 ^ 64) 
     whole = written_all generation changes held h.all low are (has_order old.committed h.all h.has) h.whole;
     has = w.writes h.all h.has;
   }
+
+  -- in a table that has the generation's row
+  pub written_table : (new : State) → IsWritten old new generation changes → HasTable new.committed (holding (changed held.cells changes) generation)
+  written_table new w = has_table new.committed generation changes held h.all are (has_order old.committed h.all h.has) h.whole (w.writes h.all h.has)
 
   pub written_in : (trees : Trees) → WritesCells old generation changes trees → LeftHolding trees (holding (changed held.cells changes) generation)
   written_in trees w =
@@ -35,7 +39,7 @@ module _ (old new : State) (from : ℕ) (changes : List Change) (below : from < 
   low = omega (arith, below)
 
   pub commit_next : IsWritten old new (from + 1) changes → CallMakes old new (committed from changes)
-  commit_next w = record { was = w.was; is = w.is; known = w.known; holds = λ held h. written (from + 1) changes low are old held h new w }
+  commit_next w = record { was = w.was; is = w.is; known = w.known; holds = λ held h. written (from + 1) changes low are old held h new w; table = λ held h. written_table (from + 1) changes low are old held h new w }
 
   pub commit_survives : Survives old new (WritesCells old (from + 1) changes) → Survives old new (LeavesNext (committed from changes) old)
   commit_survives = survives_weaker old new _ _ (λ clean trees w. record { was = w.was; holds = λ held h. written_in (from + 1) changes low are old held h trees w })
@@ -58,6 +62,7 @@ module _ (old mid new : State) (generation : ℕ) (low : generation < 2 ^ 64) (o
     is = w.is;
     known = λ k. w.known (subst (λ (d : Database). IsKnown d.schema) (sym (kept.committed w.was.is_open)) k);
     holds = λ held h. subst (Holds new) (same_held held generation (only (kept.was_open w.was.is_open) held h)) (written generation [] low no_changes mid held (held_still kept w.was held h) new w);
+    table = λ held h. subst (HasTable new.committed) (same_held held generation (only (kept.was_open w.was.is_open) held h)) (written_table generation [] low no_changes mid held (held_still kept w.was held h) new w);
   }
 
   pub settled_leaves : KeepsCommit old mid → (IsTrue old.is_open → (held : Loaded) → Holds old held → held.generation ≡ generation) → (trees : Trees) → WritesCells mid generation [] trees → LeavesNext (λ held. held) old trees

@@ -19,9 +19,9 @@ use Rattle.rv_keeper.specs.declared.loaded.Loaded.{Loaded}
 use Rattle.rv_keeper.specs.Cells.{cell_key, change_shelf, changed_by, changed, AreChanges, AreCells}
 use Rattle.rv_keeper.specs.Keeping.{holding}
 use Rattle.rv_keeper.proofs.Changed.{are_cells_changed}
-use Rattle.rv_sqlite.specs.Stands.{HasCells}
+use Rattle.rv_sqlite.specs.Stands.{HasCells, Stands}
 use Rattle.rv_sqlite.specs.Steps.{generation_cell, all_next}
-use Rattle.rv_sqlite.specs.Telling.{IsAll, StandFor, LeftHolding, MayLeave}
+use Rattle.rv_sqlite.specs.Telling.{IsAll, HasTable, StandFor, LeftHolding, MayLeave}
 use Rattle.rv_sqlite.specs.HeldLaws.{stand_same}
 
 -- ---- after a commit
@@ -59,19 +59,33 @@ put_first g (d ∷ ds) all = ap (λ o. match_ordering o (generation_cell g ∷ d
 pub in_order : (c : Loaded) (all : List Cell) → IsAll c all → InOrder cell_key all → InOrder cell_key c.cells
 in_order c all p up = elim p.are [ inl a ↦ (subst (InOrder cell_key) a up).1 | inr a ↦ subst (InOrder cell_key) a.1 up ]
 
+-- all cells after changes, the generation's first
+next_is : (generation : ℕ) (changes : List Change) (c : Loaded) (all : List Cell) → AreChanges changes → InOrder cell_key all → IsAll c all → all_next generation changes all ≡ generation_cell generation ∷ changed c.cells changes
+next_is generation changes c all are up p =
+    let after = all_cells changes c.cells are.shelves (record { order = in_order c all p up; shelves = p.shelves }) in
+    elim p.are [
+      | inl a ↦ ap (λ l. put_by cell_key (generation_cell generation) (changed l changes)) a ∙ ap (put_by cell_key (generation_cell generation)) (all_past changes c.generation c.cells are.shelves)
+          ∙ put_over generation c.generation (changed c.cells changes)
+      | inr a ↦ ap (λ l. put_by cell_key (generation_cell generation) (changed l changes)) a.1 ∙ put_first generation (changed c.cells changes) after.shelves
+    ]
+
 pub written_all : (generation : ℕ) (changes : List Change) (c : Loaded) (all : List Cell) → generation < 2 ^ 64 → AreChanges changes → InOrder cell_key all → IsAll c all
     → IsAll (holding (changed c.cells changes) generation) (all_next generation changes all)
-written_all generation changes c all low are up p =
-    let after = all_cells changes c.cells are.shelves (record { order = in_order c all p up; shelves = p.shelves }) in
-    record {
-      small = low;
-      shelves = after.shelves;
-      are = inl (elim p.are [
-        | inl a ↦ ap (λ l. put_by cell_key (generation_cell generation) (changed l changes)) a ∙ ap (put_by cell_key (generation_cell generation)) (all_past changes c.generation c.cells are.shelves)
-            ∙ put_over generation c.generation (changed c.cells changes)
-        | inr a ↦ ap (λ l. put_by cell_key (generation_cell generation) (changed l changes)) a.1 ∙ put_first generation (changed c.cells changes) after.shelves
-      ]);
-    }
+written_all generation changes c all low are up p = record {
+  small = low;
+  shelves = (all_cells changes c.cells are.shelves (record { order = in_order c all p up; shelves = p.shelves })).shelves;
+  are = inl (next_is generation changes c all are up p);
+}
+
+-- A database that has these has the table.
+pub has_table : (db : Database) (generation : ℕ) (changes : List Change) (c : Loaded) (all : List Cell) → AreChanges changes → InOrder cell_key all → IsAll c all → HasCells db (all_next generation changes all)
+    → HasTable db (holding (changed c.cells changes) generation)
+has_table db generation changes c all are up p has =
+    let is = next_is generation changes c all are up p in
+    elim has.are [
+      | inl there ↦ record { schema = there.0; rows = subst (Stands (db.trees 0)) is there.1 }
+      | inr none ↦ absurd (let e = sym is ∙ none.1 in cc)
+    ]
 
 -- the cells of a database are in order
 pub has_order : (db : Database) (cells : List Cell) → HasCells db cells → InOrder cell_key cells

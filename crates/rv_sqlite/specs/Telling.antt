@@ -10,8 +10,8 @@ use Rattle.rv_keeper.specs.declared.change.Change.{Change}
 use Rattle.rv_keeper.specs.declared.loaded.Loaded.{Loaded}
 use Rattle.rv_keeper.specs.Crashes.{LeavesMore}
 use Rattle.rv_keeper.specs.Keeping.{committed}
-use Rattle.rv_sqlite.specs.Table.{IsKnown}
-use Rattle.rv_sqlite.specs.Stands.{HasCells}
+use Rattle.rv_sqlite.specs.Table.{IsKnown, cell_schema}
+use Rattle.rv_sqlite.specs.Stands.{HasCells, Stands}
 use Rattle.rv_sqlite.specs.Steps.{IsReady, generation_cell}
 
 -- all cells of the table: those that are held, and that of the generation, which may be missing at 0
@@ -44,13 +44,19 @@ abbrev pub MayLeave : State → Option Loaded → Type 0
 MayLeave s (Some held) = (trees : Trees) × s.may_leave trees × LeftHolding trees held
 MayLeave s None = (trees : Trees) × s.may_leave trees × ((held : Loaded) → ¬ LeftHolding trees held)
 
+-- the database has the table, alone, and in it a row for each cell that is held and one for the generation
+pub record HasTable (db : Database) (held : Loaded) : Type 0 where
+  pub schema : db.schema ≡ cell_schema
+  pub rows : Stands (db.trees 0) (generation_cell held.generation ∷ held.cells)
+
 -- The call was made, on a connection that was open and is. The schema is still one of the two, and what the function makes of what was held
--- is held.
+-- is held, in a table that has a row for the generation too.
 pub record CallMakes (old new : State) (f : Loaded → Loaded) : Type 0 where
   pub was : IsReady old
   pub is : IsReady new
   pub known : IsKnown old.committed.schema → IsKnown new.committed.schema
   pub holds : (held : Loaded) → Holds old held → Holds new (f held)
+  pub table : (held : Loaded) → Holds old held → HasTable new.committed (f held)
 
 -- the trees hold what the function makes of what was held; the connection was open, and in no transaction
 pub record LeavesNext (f : Loaded → Loaded) (old : State) (trees : Trees) : Type 0 where

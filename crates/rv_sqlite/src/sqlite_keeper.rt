@@ -1,4 +1,4 @@
-ghost use Rattle.std.specs.Prelude.{◌≡◌, ◌↔◌, ◌≤◌, ◌<◌, ◌-◌, ◌^◌, IfOk, IsErrOf, IsOk, IsTrue, OnErr, refl};
+ghost use Rattle.std.specs.Prelude.{◌≡◌, ◌↔◌, ◌≤◌, ◌<◌, ◌-◌, ◌^◌, IfOk, IsErrOf, IsOk, IsTrue, OnErr, OnOk, refl};
 ghost use Rattle.rv_base.specs.Causes.{Rose};
 ghost use Rattle.rv_keeper.specs.declared.fault.KeepFault.TheVariants.{Memory};
 ghost use Rattle.rv_keeper.specs.declared.loaded.Loaded.{Loaded};
@@ -10,7 +10,7 @@ ghost use Rattle.sqlite.specs.Held.{state};
 ghost use Rattle.rv_sqlite.specs.Asked.{FindsGeneration};
 ghost use Rattle.rv_sqlite.specs.Loads.{LoadsTable};
 ghost use Rattle.rv_sqlite.specs.Table.{IsKnown};
-ghost use Rattle.rv_sqlite.specs.Telling.{CommitsOrNot, Holds, IsGenerationBy, IsToldBy, LeavesAs, LeavesNext, LeavesNoMore, MayLeave, Tells};
+ghost use Rattle.rv_sqlite.specs.Telling.{CallMakes, CommitsOrNot, Holds, IsGenerationBy, IsToldBy, LeavesAs, LeavesNext, LeavesNoMore, MayLeave, Tells};
 ghost use Rattle.rv_sqlite.specs.HeldLaws.{stand_same};
 ghost use Rattle.rv_sqlite.specs.Props.{KnownWhereTells-prop};
 
@@ -179,6 +179,7 @@ impl<S: Alter> Keeper for SqliteKeeper<S> {
         requires changes { AreChanges changes.now }
         ensures cause { HasKeepCause self.old.faults self.new.faults result }
         ensures known { self.new.is_known ≡ self.old.is_known }
+        ensures answer { HasCleanDisk (state S.Store self.new.connection) → OnOk result (CallMakes (state S.Store self.old.connection) (state S.Store self.new.connection) (committed from changes.now)) }
         ensures tells { Tells (state S.Store self.new.connection) → Tells (state S.Store self.old.connection) }
         ensures made { Tells (state S.Store self.new.connection) → (held : Loaded) → Holds (state S.Store self.old.connection) held → CommitsOrNot from changes.now result (Holds (state S.Store self.new.connection)) held }
         ensures honest { HasCleanDisk (state S.Store self.new.connection) → HasCleanDisk (state S.Store self.old.connection) × (IsOk result → Tells (state S.Store self.new.connection)) }

@@ -1,10 +1,18 @@
-use Rattle.std.proofs.Common.{sym, subst}
+use Rattle.std.proofs.Common.{sym, subst, OnOk}
 use Rattle.sqlite.specs.Held.{state}
 use Rattle.rv_keeper.specs.Keeping.{committed}
-use Rattle.rv_sqlite.specs.Telling.{CommitsOrNot, Holds}
-use Rattle.rv_sqlite.proofs.Answering.{leaves_as, made_by, settled_by}
+use Rattle.rv_sqlite.specs.Telling.{CallMakes, CommitsOrNot, Holds}
+use Rattle.rv_sqlite.proofs.Answering.{commit_by, leaves_as, made_by, settled_by}
 use Rattle.rv_sqlite.proofs.Settling.{commit_survives}
 use Rattle.rv_sqlite.proofs.sqlite_keeper.SqliteKeeperKeeper.commit.Goals as goal
+
+-- Where the write was made, so was the commit.
+pub returns-clause-answer : goal.returns-clause-answer
+returns-clause-answer g c clean =
+    let old = state g.S.Store c.args.self.now.connection in
+    let new = state g.S.Store c.write-answer.new.connection in
+    subst (λ r. OnOk r (CallMakes old new (committed c.args.from c.args.changes.now))) (sym c.count_in.ensures.same)
+    (commit_by old new c.args.from c.args.changes.now c.write-answer.result c.requires.from c.requires.changes (c.write-answer.ensures.comes clean))
 
 -- What the write came to is what is held.
 pub returns-clause-made : goal.returns-clause-made
