@@ -1,7 +1,7 @@
 -- The store that a command names.
 use Rattle.std.proofs.Common.{◌≡◌, ℕ, List, Option, Some, sym, ◌∙◌, subst}
 use Rattle.rv_words.specs.declared.command.Command.{Command}
-use Rattle.rv_words.specs.declared.command.Command.TheVariants.{Feed, Retire, Lists, Activity, Check, Make, Serve}
+use Rattle.rv_words.specs.declared.command.Command.TheVariants.{Feed, Retire, Lists, Activity, Check, Serve}
 use Rattle.rv_words.specs.declared.serve_options.ServeOptions.{ServeOptions}
 use Rattle.rv_cli.specs.Commands.{IsOfStore, IsReportOf}
 
@@ -62,11 +62,6 @@ retires_same asked named at store got group is same asks =
     let both : Some (Retire named got) ≡ Some (Retire store group) = is ∙ asks in
     let one : named ≡ store = cc in
     (same ∙ one, cc)
-
-pub makes_same : (asked : Option Command) (seed requests of many : ℕ) → Some (Make seed requests) ≡ asked → asked ≡ Some (Make of many) → (seed ≡ of) × (requests ≡ many)
-makes_same asked seed requests of many is asks =
-    let both : Some (Make seed requests) ≡ Some (Make of many) = is ∙ asks in
-    (cc, cc)
 
 -- what holds of a name and a group holds of those that are the same
 pub of_both : (Q : List ℕ → List ℕ → Type 0) (name store got group : List ℕ) → name ≡ store → got ≡ group → Q name got → Q store group

@@ -1,5 +1,6 @@
 use Rattle.std.proofs.Common.{ℕ, List, inl, subst, sym}
 use Rattle.rv_keeper.specs.Stores.{OthersStay}
+use Rattle.rv_cli.specs.declared.ending.Ending.TheVariants.{Memory}
 use Rattle.rv_cli.specs.Promises.{WasFed, WasReported, WasRetired}
 use Rattle.rv_cli.specs.Headline.{ReportsActivity, ReportsLists, ReportsSound}
 use Rattle.rv_cli.proofs.Named.{activity_same, checks_same, feeds_same, lists_same, names_activity, names_check, names_feed, names_lists, names_retire, names_serve, of_both, reports_activity, reports_check, reports_lists, retires_same}
@@ -152,3 +153,6 @@ returns-in-Ok-Some-Check-clause-none_made g c = λ store names told has.
     let is = rw (c.in-Ok-Some-Check.field-0-is, c.in-Ok-Some-Check.field-0-0-is) at c.in-Ok-Some-Check.ensures in
     let same = reports_check _ _ _ store is c.as_str-in-Ok-Some-Check.ensures names in
     subst (λ (name : List ℕ). g.P.Place.has c.args.place.now name) same (c.run_check.ensures.none_made told (subst (λ (name : List ℕ). g.P.Place.has c.run_check.new.place name) (sym same) has))
+
+pub returns-in-Err-clause-make : goal.returns-in-Err-clause-make
+returns-in-Err-clause-make g c = λ seed requests asks. (Memory, c.give_up.ensures.status, c.give_up.ensures.text)
