@@ -1,5 +1,5 @@
 -- What a keeper of either kind shows.
-use Rattle.std.specs.Prelude.{◌≡◌, ◌≢◌, ℕ, List, [], Option, Some, None, codes}
+use Rattle.std.specs.Prelude.{◌≡◌, ◌≢◌, ℕ, List, [], Option, Some, None, IsTrue, codes}
 use Rattle.sqlite_trees.specs.declared.store.Store.{Ghosts}
 use Rattle.sqlite.specs.State.{HasCleanDisk}
 use Rattle.sqlite.specs.Held.{Held, state}
@@ -10,6 +10,7 @@ use Rattle.rv_place.specs.declared.store_keeper.StoreKeeper.{StoreKeeper}
 use Rattle.rv_place.specs.declared.store_keeper.StoreKeeper.TheVariants.{Memory, Sqlite}
 use Rattle.rv_sqlite.specs.Asked.{FindsGeneration}
 use Rattle.rv_sqlite.specs.Loads.{LoadsTable}
+use Rattle.rv_sqlite.specs.Telling.{Holds, MayLeave, Tells}
 
 module _ {S : Type 0} {g : Ghosts S} where
   -- how often a call has failed
@@ -17,25 +18,25 @@ module _ {S : Type 0} {g : Ghosts S} where
   stored_faults (Memory keeper) = keeper.faults
   stored_faults (Sqlite keeper) = keeper.faults
 
-  -- one in memory tells what it holds, and a database does not
+  -- one in memory tells what it holds, and one over a database where that tells
   abbrev pub StoredTells : StoreKeeper S g → Type 0
   StoredTells (Memory keeper) = Unit {0}
-  StoredTells (Sqlite keeper) = ⊥
+  StoredTells (Sqlite keeper) = IsTrue keeper.is_known × Tells (state g keeper.connection)
 
-  -- what one in memory holds
+  -- what it holds
   abbrev pub StoredHolds : StoreKeeper S g → Loaded → Type 0
   StoredHolds (Memory keeper) held = held ≡ holding keeper.shelves keeper.generation
-  StoredHolds (Sqlite keeper) held = ⊥
+  StoredHolds (Sqlite keeper) held = Holds (state g keeper.connection) held
 
-  -- of a crash one in memory says what is true, and a database says nothing
+  -- of a crash one in memory says what is true, and one over a database where its disk gave back what was written
   abbrev pub StoredHonest : StoreKeeper S g → Type 0
   StoredHonest (Memory keeper) = Unit {0}
-  StoredHonest (Sqlite keeper) = ⊥
+  StoredHonest (Sqlite keeper) = IsTrue keeper.is_known × HasCleanDisk (state g keeper.connection)
 
-  -- what is in memory is there after any call
+  -- what a crash may leave: of one in memory what it holds
   abbrev pub StoredLeaves : StoreKeeper S g → Option Loaded → Type 0
   StoredLeaves (Memory keeper) left = left ≡ Some (holding keeper.shelves keeper.generation)
-  StoredLeaves (Sqlite keeper) left = ⊥
+  StoredLeaves (Sqlite keeper) left = MayLeave (state g keeper.connection) left
 
   -- no call of one in memory fails any more
   abbrev pub StoredSteady : StoreKeeper S g → Type 0

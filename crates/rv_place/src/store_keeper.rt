@@ -11,7 +11,7 @@ use rv_keeper::{Change, KeepFault, Keeper, Loaded, MemoryKeeper};
 use rv_sqlite::SqliteKeeper;
 use sqlite::{Alter, Connection};
 
-/// What keeps one store: memory, which tells what it holds, or a SQLite database, which does not.
+/// What keeps one store: memory, which tells what it holds, or a SQLite database, which tells it where its keeper does.
 pub enum StoreKeeper<S: Alter> {
     /// In memory.
     Memory(MemoryKeeper),
