@@ -21,7 +21,7 @@ from browser import Driver, Window
 from links import free_port, same, wrong
 from proxied import KEYS, Site, missing_tools
 
-# In seconds: when one window must show what another did, and when all must be in step after a longer trouble.
+# In seconds: when one window must show what another did, while both have a link for pokes; and when it must after any trouble.
 SOON, LATE = 2, 60
 PHONE = {"width": 390, "height": 844, "deviceScaleFactor": 2, "mobile": True}
 
@@ -74,33 +74,33 @@ class Person:
         self.window.type("#sign-in-key", KEYS[self.user], "Enter")
         self.in_step()
 
-    def waits(self, what, script, *words, seconds=SOON):
+    def waits(self, what, script, *words, seconds=LATE):
         return self.window.waits(f"{self.user}: {what}", script, *words, seconds=seconds)
 
-    def in_step(self, seconds=LATE):
+    def in_step(self):
         return self.waits("in step, and nothing waits", """
             const { state, waiting } = document.getElementById("status").dataset;
-            return state === "in-step" && waiting === "0";""", seconds=seconds)[1]
+            return state === "in-step" && waiting === "0";""")[1]
 
-    def in_state(self, state, waiting, seconds=LATE):
+    def in_state(self, state, waiting):
         self.waits(f"the state {state} with {waiting} waiting", """
             const status = document.getElementById("status").dataset;
-            return status.state === arguments[0] && status.waiting === String(arguments[1]);""", state, waiting, seconds=seconds)
+            return status.state === arguments[0] && status.waiting === String(arguments[1]);""", state, waiting)
 
     def notice(self, text):
         self.waits(f"the notice {text!r}", """
             const notice = document.getElementById("notice");
-            return !notice.hidden && notice.innerText.includes(arguments[0]);""", text, seconds=LATE)
+            return !notice.hidden && notice.innerText.includes(arguments[0]);""", text)
 
     def make_list(self, name):
         self.window.type("#list-name", name, "Enter")
         self.waits(f"the list {name}", "return document.getElementById('list-title').textContent === arguments[0]", name)
 
-    def open_list(self, name, seconds=SOON):
+    def open_list(self, name):
         self.waits(f"the list {name}", """
             const link = [...document.querySelectorAll("#lists a")].find((one) => one.querySelector(".name").textContent === arguments[0]);
             link?.click();
-            return link !== undefined;""", name, seconds=seconds)
+            return link !== undefined;""", name)
         self.waits(f"the list {name} is shown", "return document.getElementById('list-title').textContent === arguments[0]", name)
 
     def share(self, user):
@@ -136,7 +136,7 @@ class Person:
         """The todos of the list that is open, in their order, with whether each is complete."""
         return self.window.run(SHOWN + "return texts;")
 
-    def shows(self, text, is_complete=False, seconds=SOON):
+    def shows(self, text, is_complete=False, seconds=LATE):
         """Waits until a todo with this text is shown. How long it took."""
         what = f"a todo {text!r}, complete: {is_complete}"
         return self.waits(what, SHOWN + "return texts.some(([text, complete]) => text === arguments[0] && complete === arguments[1]);",
@@ -185,15 +185,15 @@ def check_following(ann, bob, pictures):
     took = []
     for number in range(1, 6):
         ann.add(f"milk {number}")
-        took.append(bob.shows(f"milk {number}"))
+        took.append(bob.shows(f"milk {number}", seconds=SOON))
         bob.add(f"bread {number}")
-        took.append(ann.shows(f"bread {number}"))
+        took.append(ann.shows(f"bread {number}", seconds=SOON))
     ann.check("bread 1")
-    took.append(bob.shows("bread 1", True))
+    took.append(bob.shows("bread 1", True, seconds=SOON))
     bob.rename("milk 2", "oat milk")
-    took.append(ann.shows("oat milk"))
+    took.append(ann.shows("oat milk", seconds=SOON))
     ann.delete("milk 3")
-    took.append(bob.waits("milk 3 is gone", SHOWN + "return !texts.some(([text]) => text === 'milk 3');")[1])
+    took.append(bob.waits("milk 3 is gone", SHOWN + "return !texts.some(([text]) => text === 'milk 3');", seconds=SOON)[1])
     print(f"following: {len(took)} edits stood in the other window after at most {max(took) * 1000:.0f} ms")
 
 
@@ -255,7 +255,7 @@ def check_reload(ann, bob, site):
     bob.add("tea, before a reload")
     bob.in_state("offline", 1)
     bob.window.reload()
-    bob.shows("tea, before a reload", seconds=LATE)
+    bob.shows("tea, before a reload")
     bob.in_state("offline", 1)
     bob.add("honey, after a reload")
     bob.in_state("offline", 2)
@@ -265,11 +265,11 @@ def check_reload(ann, bob, site):
     ann.add("salt, without a server")
     ann.in_state("offline", 1)
     ann.window.reload()
-    ann.shows("salt, without a server", seconds=LATE)
+    ann.shows("salt, without a server")
     ann.in_state("offline", 1)
     site.kill_proxy()
     ann.window.reload()
-    ann.shows("salt, without a server", seconds=LATE)
+    ann.shows("salt, without a server")
     ann.add("pepper, without a proxy")
     ann.in_state("offline", 2)
     site.start_server()
@@ -291,7 +291,7 @@ def check_kills(ann, bob, site, kills=5, each=60):
     start = time.monotonic()
     for person in (ann, bob):
         for who in "ab":
-            person.shows(f"{who} {each}", seconds=LATE)
+            person.shows(f"{who} {each}")
     come_together(ann, bob)
     took = time.monotonic() - start
     texts = [text for text, _ in ann.shown()]
@@ -305,7 +305,7 @@ def check_tabs(ann, bob):
     """Two tabs of one browser have clients of their own, and show the same; what a closed one left is sent by the other."""
     window, first = ann.window, ann.window.tab()
     second = window.new_tab(ann.site.address)
-    ann.open_list("Groceries", seconds=LATE)
+    ann.open_list("Groceries")
     ann.add("from the second tab")
     window.go_to(first)
     ann.shows("from the second tab")
@@ -320,14 +320,14 @@ def check_tabs(ann, bob):
         ann.begin_adding(name, 20, 20)
     for handle in (first, second):
         window.go_to(handle)
-        ann.shows("x 20", seconds=LATE)
-        ann.shows("y 20", seconds=LATE)
+        ann.shows("x 20")
+        ann.shows("y 20")
         ann.in_step()
     ann.set_network(False)
     ann.add("as the second tab closes")
     ann.window.ask("DELETE", "/window")
     window.go_to(first)
-    bob.shows("as the second tab closes", seconds=LATE)
+    bob.shows("as the second tab closes")
     come_together(ann, bob)
     print("tabs: two tabs of one browser edited at once as two clients, and what one left as it was closed was sent by the other")
 
@@ -392,14 +392,14 @@ def check_restore(ann, bob, site, pictures):
     site.start_server()
     ann.add("after the copy")
     ann.in_step()
-    bob.shows("after the copy", seconds=LATE)
+    bob.shows("after the copy")
     site.kill_server()
     for path in site.folder.glob("lists.db*"):
         path.unlink()
     for path, body in copies.items():
         path.write_bytes(body)
     site.start_server()
-    bob.waits("after the copy is gone", SHOWN + "return !texts.some(([text]) => text === 'after the copy');", seconds=LATE)
+    bob.waits("after the copy is gone", SHOWN + "return !texts.some(([text]) => text === 'after the copy');")
     ann.made.remove("after the copy")
     ann.add("after the restore")
     ann.notice(ann.kept()["session"]["groupID"])
@@ -441,7 +441,7 @@ def check_sign_out(person):
     person.window.click("#account")
     person.window.click("#sign-out")
     person.window.click("#question-yes")
-    person.waits("the sign-in", "return !document.getElementById('sign-in').hidden", seconds=LATE)
+    person.waits("the sign-in", "return !document.getElementById('sign-in').hidden")
     kept = person.kept()
     same(f"what {person.user}'s window keeps", (None, [], [], []), tuple(kept.get(name) for name in ("session", "keys", "pending", "clients")))
     print("who signed out left nothing in the browser")
