@@ -380,6 +380,8 @@ def check_refusals(ann, bob, site, pictures):
     ann.notice("does not know this key")
     ann.window.type("#key-again", KEYS["ann"], "Enter")
     come_together(ann, bob)
+    for text in ("while the key is refused", "while the version is refused", "while the group is ended"):
+        ann.shows(text)
     if bob.kept()["session"]["groupID"] == group:
         wrong("bob's window goes on with a group that was ended")
     print("refusals: a key was asked for again, a version was told, and a group that was ended began anew; nothing that waited was lost")

@@ -21,8 +21,8 @@ from concurrent.futures import ThreadPoolExecutor
 from links import connected, same, wrong
 from proxied import POKES, WORKERS, Site, asked, missing_tools
 
-# In seconds: an answer at once, on a busy machine too.
-AT_ONCE = 1
+# In seconds: an answer at once, on a busy machine too. An idle connection would hold it up for up to 30.
+AT_ONCE = 5
 
 
 def wait_for(site):
