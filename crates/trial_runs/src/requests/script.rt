@@ -33,6 +33,14 @@ fn cookie_in(answer: &str) -> Option<&str> {
     Some(cookie)
 }
 
+// A line, with this cookie where it asks for the one that was answered last.
+fn filled<'x>(alloc: Global, cookie: &'x str, line: &'x str) -> Result<String, Memory> {
+    match line.split_once(ANSWERED) {
+        Some((front, back)) => joined(alloc, &[Text(front), Text(cookie), Text(back)]),
+        None => joined(alloc, &[Text(line)]),
+    }
+}
+
 impl Sent {
     fn new(alloc: Global, schedule: Schedule) -> Result<Sent, Memory> {
         Ok(Sent {
@@ -41,17 +49,6 @@ impl Sent {
             plain: PlainServer::new(alloc, schedule),
             cookie: joined(alloc, &[Text("null")])?,
         })
-    }
-
-    // The line, with the cookie that was answered last where it asks for that.
-    fn filled(&self, alloc: Global, line: &str) -> Result<String, Memory> {
-        match line.split_once(ANSWERED) {
-            Some((front, back)) => joined(
-                alloc,
-                &[Text(front), Text(self.cookie.as_str()), Text(back)],
-            ),
-            None => joined(alloc, &[Text(line)]),
-        }
     }
 
     // Sends a line. Tells whether it is to be sent again.
@@ -68,7 +65,7 @@ impl Sent {
 
     // Sends a line of a script.
     fn send(&mut self, alloc: Global, line: &str) -> Result<(), Memory> {
-        let line = self.filled(alloc, line)?;
+        let line = filled(alloc, self.cookie.as_str(), line)?;
         for _ in 0..TRIES {
             if !self.send_once(alloc, line.as_str())? {
                 break;

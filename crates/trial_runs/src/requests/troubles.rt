@@ -28,6 +28,15 @@ static KINDS: [(&str, Kind); 4] = [
     ("stop", Kind::Stop),
 ];
 
+// How many looks an entry is.
+fn looks(entry: &Entry) -> u64 {
+    match entry {
+        Entry::Look { .. } => 1,
+        Entry::Act { .. } => 0,
+        Entry::Retire { .. } => 0,
+    }
+}
+
 // What befalls the commit of this number, from 1, where it is not 0.
 #[derive(Clone, Copy)]
 struct Trouble {
@@ -59,8 +68,8 @@ impl Trouble {
 
     // How many entries it adds, where this is the entry of its commit: a pull that was kept and is sent again looks twice.
     fn looks_more(self, entry: &Entry) -> u64 {
-        match (self.kind, entry) {
-            (Kind::After, Entry::Look { .. }) => 1,
+        match self.kind {
+            Kind::After => looks(entry),
             _ => 0,
         }
     }
@@ -211,12 +220,12 @@ impl Counts {
 }
 
 // Adds how a trouble of a kind differs, as a line, where it does.
-fn add_difference(
+fn add_difference<'x>(
     alloc: Global,
     text: &mut String,
-    name: &str,
+    name: &'x str,
     commit: usize,
-    difference: &str,
+    difference: &'x str,
 ) -> Result<(), Memory> {
     if difference.is_empty() {
         return Ok(());
