@@ -2,19 +2,20 @@
 //! loopback address, and its threads, handed to `rv_cli::run`.
 #![tactic(auto)]
 
-use rv_base::{Reading, Writing};
+use rv_base::{Reading, Writing, write_all};
 use rv_cli::run;
 use rv_net::{Listen, Net, PokeListen, TcpNet};
 use rv_place::HostPlace;
 use rv_poke::PokeLink;
 use rv_workers::{Bells, Threaded};
 use std::alloc::Global;
+use std::io::ErrorKind;
 use std::process::ExitCode;
 use std::sync::Wait;
 use std::thread::Threads;
 use std::{env, io};
 
-// The words of the command line. Where they can't be had as text there are none.
+// The words of the command line.
 fn words(rt: &HostRuntime, alloc: Global) -> io::Result<Vec<String>> {
     let mut words = Vec::new(alloc);
     for word in env::args(rt)? {
@@ -52,9 +53,17 @@ where
     )
 }
 
+// Memory was refused in reading the words.
+fn give_up(rt: &HostRuntime) -> ExitCode {
+    let _ = write_all(&mut Writing::new(io::writer(rt)), b"memory\n");
+    ExitCode::from(8)
+}
+
+// Where the words can't be had as text there are none.
 fn main(rt: HostRuntime) -> ExitCode {
     let words = match words(&rt, rt.alloc()) {
         Ok(words) => words,
+        Err(error) if error.kind() == ErrorKind::OutOfMemory => return give_up(&rt),
         Err(_) => Vec::new(rt.alloc()),
     };
     let mut net = TcpNet::new(&rt);
