@@ -1,7 +1,7 @@
 // A script with a trouble at each of its commits, beside the same script without.
 use super::numbers::count_lines;
 use super::runs::run_whole;
-use super::script::{Sent, sent};
+use super::script::{Sent, send_all};
 use rv_base::{Memory, Sequence};
 use rv_book::Entry;
 use rv_keeper::{Cell, Fails, MemoryPlace, Schedule, Store};
@@ -151,13 +151,13 @@ fn played_over(
 }
 
 // What a script comes to with a trouble.
-fn played<R: Threads + Wait + Sync>(
+fn play_with<R: Threads + Wait + Sync>(
     stage: &Stage<'_, R>,
     script: &str,
     trouble: Trouble,
 ) -> Result<Played, Memory> {
     let alloc = stage.host.alloc();
-    let sent = sent(alloc, script, trouble.schedule(alloc)?, trouble.stop())?;
+    let sent = send_all(alloc, script, trouble.schedule(alloc)?, trouble.stop())?;
     let mut place = place_of(alloc, trouble.schedule(alloc)?)?;
     let run = run_whole(stage, "rv feed F", &mut place, sent.lines.as_bytes())?;
     let is_answered = run.tells(sent.answers.as_str());
@@ -264,7 +264,7 @@ fn add_kind<R: Threads + Wait + Sync>(
         commit = commit.saturating_add(1);
         let trouble = Trouble { kind, commit };
         let more = trouble.looks_more(entry);
-        let with = played(stage, script, trouble)?;
+        let with = play_with(stage, script, trouble)?;
         counts.add(with.sent.answers.as_str(), more);
         add_difference(alloc, text, name, commit, difference(without, &with, more))?;
     }
@@ -284,7 +284,7 @@ pub fn told<R: Threads + Wait + Sync>(
         kind: Kind::Stop,
         commit: 0,
     };
-    let without = played(stage, script, none)?;
+    let without = play_with(stage, script, none)?;
     let mut text = String::new(alloc);
     add_difference(
         alloc,
