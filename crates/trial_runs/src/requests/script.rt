@@ -87,7 +87,12 @@ impl Sent {
 
 /// Sends the lines of a script where nothing was kept before, over a keeper of this schedule, with a stop after the line for which the
 /// entry at a place, from 1, was made.
-pub fn send_all(alloc: Global, script: &str, schedule: Schedule, stop: usize) -> Result<Sent, Memory> {
+pub fn send_all(
+    alloc: Global,
+    script: &str,
+    schedule: Schedule,
+    stop: usize,
+) -> Result<Sent, Memory> {
     let mut sent = Sent::new(alloc, schedule)?;
     for line in script.lines() {
         sent.send_to_stop(alloc, line, stop)?;
