@@ -8,10 +8,9 @@ address space would refuse only what is large.
 
 `feed memory` is fed three scripts, line by line, and `serve` over a file a push and a pull over HTTP. A client sends again what is
 answered 503. No run may end by a signal; a refusal gives 503 `{"error":"memory"}`, or status 8 with the text `memory`; every other answer
-is the one that comes where nothing is refused, and of `serve` the file then holds just what was answered 200. Two kinds are counted apart:
-the first calls, by which the kit reads the words of the command line, end with the usage text and status 2; and where SQLite is refused
-memory while it ends a transaction, that may have happened, so the answer is 503 `{"error":"keeper"}`. Ends with status 1 at the first run
-that does otherwise.
+is the one that comes where nothing is refused, and of `serve` the file then holds just what was answered 200. Where SQLite is refused
+memory while it ends a transaction, that may have happened: so then the answer is 503 `{"error":"keeper"}`, or, as the store is opened,
+status 4 with the text `keeper`; both are counted apart. Ends with status 1 at the first run that does otherwise.
 """
 import collections
 import concurrent.futures
@@ -29,10 +28,9 @@ import time
 from serving import ACCOUNTS, PULL, PULLED, PUSH, request
 
 HERE = pathlib.Path(__file__).parent
-USAGE = "usage: rv feed|serve|retire|lists|activity|check|make"
 AT_A_TIME = 8
 # how a run may come out of which an allocation is refused
-WORDS, ENDED, UNNEEDED = "usage text", "status 8", "not needed"
+ENDED, UNOPENED, UNNEEDED = "status 8", "status 4", "not needed"
 REFUSED, DOUBTED = '503 {"error":"memory"}', '503 {"error":"keeper"}'
 
 
@@ -139,16 +137,16 @@ class Came:
         self.status, rest = run.end()
         self.last, self.was_refused = last + rest, run.was_refused()
 
-    def outcome(self, wanted, at_end):
-        """How it came out, where these are the answers, and this is written at the end, if nothing is refused."""
+    def outcome(self, wanted, at_end, is_file=False):
+        """How it came out, where these are the answers, and this is written at the end, if nothing is refused, over a file or not."""
         if not self.was_refused:
             return None
-        if (self.status, self.last, self.answers) == (2, USAGE + "\n", []):
-            return WORDS
         if wanted[:len(self.answers)] != self.answers:
             raise Failure(f"other answers: {self.answers}")
         if (self.status, self.last, self.refusals) == (8, "memory\n", []):
             return ENDED
+        if is_file and (self.status, self.last, self.answers, self.refusals) == (4, "keeper\n", [], []):
+            return UNOPENED
         if (self.status, self.last, len(self.answers)) == (0, at_end, len(wanted)) and len(self.refusals) <= 1:
             return self.refusals[0] if self.refusals else UNNEEDED
         raise Failure(f"status {self.status}, {len(self.answers)} answers, refusals {self.refusals}, at last {self.last!r}")
@@ -310,7 +308,7 @@ def serves(program, start, folder, first_port):
     def run(call):
         store = folder / f"{call}.db"
         came = served(start, call, store, accounts, first_port + call % 4000)
-        outcome = came.outcome(SERVED, "entries 2\n")
+        outcome = came.outcome(SERVED, "entries 2\n", is_file=True)
         check_store(program, store, came.answers)
         for file in folder.glob(f"{call}.db*"):
             file.unlink()
