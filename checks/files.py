@@ -14,6 +14,8 @@ import subprocess
 import sys
 import tempfile
 
+from holding import held
+
 NOBODY = 65534
 
 TABLE = "CREATE TABLE cell (shelf INTEGER NOT NULL, k BLOB NOT NULL, body BLOB NOT NULL, PRIMARY KEY (shelf, k)) STRICT"
@@ -47,13 +49,16 @@ def feed(program, path, text=PUSH, user=None, limit=None):
 
 
 def content(path):
-    """All that stands under a path: of a folder the names in it."""
-    if os.path.isdir(path):
-        return sorted(os.listdir(path))
+    """The bytes of a file, or none."""
     if not os.path.exists(path):
         return None
     with open(path, "rb") as file:
         return file.read()
+
+
+def standing(path):
+    """All that stands under a path: of a folder the names in it, and of a database what it holds."""
+    return sorted(os.listdir(path)) if os.path.isdir(path) else held(path)
 
 
 def fail(name, *seen):
@@ -84,9 +89,9 @@ def dump(path):
 
 def left_as_it_was(name, program, path, wanted=FAILS, **how):
     """The file does not open as a store, and is left as it was."""
-    before = content(path)
+    before = standing(path)
     expect(name, feed(program, path, **how), wanted)
-    expect(f"{name}, the file", content(path), before)
+    expect(f"{name}, the file", standing(path), before)
 
 
 def no_files(program, folder):
@@ -141,9 +146,9 @@ def other_tables(program, folder):
     for number, (name, statement) in enumerate(shapes.items()):
         path = os.path.join(folder, f"shape{number}.db")
         database(path, statement)
-        before = content(path)
+        before = standing(path)
         expect(name, feed(program, path), FAILS)
-        expect(f"{name}, the file", content(path), before)
+        expect(f"{name}, the file", standing(path), before)
     path = os.path.join(folder, "same.db")
     database(path, TABLE)
     expect("the table made by sqlite3", feed(program, path), OPENS)
@@ -220,10 +225,10 @@ def not_to_be_written(program, folder):
     os.mkdir(os.path.dirname(path))
     expect("a first feed", feed(program, path), OPENS)
     os.chmod(path, 0o444)
-    before = content(path)
+    before = standing(path)
     seen = feed(program, path, text=push(2, "deleteList", '"l1"'), user=NOBODY)
     expect("a file that may not be written", seen, FAILS)
-    expect("that file", content(path), before)
+    expect("that file", standing(path), before)
 
 
 def full_disk(program, folder):
