@@ -45,12 +45,12 @@ fn has_left(stream: &TcpStream) -> io::Result<bool> {
 }
 
 impl TcpLink {
-    /// A link over a stream whose handshake is still to come.
-    pub fn new(stream: TcpStream) -> io::Result<TcpLink> {
+    /// A link over a stream whose handshake is still to come, and another handle of it.
+    pub fn new(stream: TcpStream, handle: TcpStream) -> io::Result<TcpLink> {
         stream.set_read_timeout(Some(Duration::from_secs(KEY_SECONDS)))?;
         stream.set_write_timeout(Some(Duration::from_secs(WRITE_SECONDS)))?;
         stream.set_nodelay(true)?;
-        let link = SocketLink::new(stream.try_clone()?);
+        let link = SocketLink::new(handle);
         Ok(TcpLink {
             stream,
             link,

@@ -6,7 +6,9 @@ ghost use Rattle.rv_net.specs.Accepting.{GivesFewer, TakesOne, TakesOneLink, is_
 use crate::accepted::Accepted;
 use crate::awaited::Awaited;
 use crate::conn::Conn;
+use crate::lingering::linger;
 use crate::listen::Listen;
+use crate::patience::Patience;
 use crate::poke_listen::PokeListen;
 use crate::tcp_link::TcpLink;
 use rv_base::{Reading, Writing};
@@ -27,9 +29,17 @@ const PAUSE_MILLISECONDS: u64 = 20;
 pub type TcpConn = Conn<Reading<TcpStream>, Writing<TcpStream>>;
 
 /// Accepts connections at a socket of this machine, or links, until it has accepted so many, or one can't be had. What they are is not
-/// told, and one that comes back is closed. For links, its socket is to be one that doesn't block.
+/// told. For links, its socket is to be one that doesn't block.
+///
+/// Where it fails to get a connection it tries again, as far as that may pass: a client that has gone, files or memory that are short.
+/// After a hundred failures for one connection, or five seconds in which files are short, it can't be had.
+///
+/// A connection that comes back is closed, but its sending is ended first, and what the client still sends is read and dropped, for at
+/// most [`LINGER_SECONDS`](crate::LINGER_SECONDS); so the client can read all that was written. One of which a read has failed is closed
+/// at once.
 #[derive(Drop)]
 pub struct TcpListen {
+    clock: HostRuntime,
     listener: TcpListener,
     /// How many connections it still accepts, at most.
     pub left: u32,
@@ -38,28 +48,37 @@ pub struct TcpListen {
 }
 
 impl TcpListen {
-    /// A listener that accepts at most so many connections.
-    pub fn new(listener: TcpListener, most: u32) -> TcpListen
+    /// A listener that accepts at most so many connections, by the clock of this runtime.
+    pub fn new(clock: HostRuntime, listener: TcpListener, most: u32) -> TcpListen
         ensures left { result.left ≡ most }
         ensures ends { result.ends ≡ 0 }
     {
         TcpListen {
+            clock,
             listener,
             left: most,
             ends: 0,
         }
     }
 
+    // Waits for the next client, whose stream it gives by two handles; or, at a socket that doesn't block, tells that none waits.
+    fn next(&self) -> io::Result<(TcpStream, TcpStream)> {
+        let mut patience = Patience::new();
+        let stream = patience.accept(&self.clock, &self.listener)?;
+        let handle = patience.clone_of(&self.clock, &stream)?;
+        Ok((stream, handle))
+    }
+
     // Waits for the next connection.
-    fn next(&self) -> io::Result<TcpConn> {
-        let (stream, _address) = self.listener.accept()?;
-        connect(stream)
+    fn next_conn(&self) -> io::Result<TcpConn> {
+        let (stream, handle) = self.next()?;
+        connect(stream, handle)
     }
 
     // The next link, if one waits.
     fn next_link(&self) -> io::Result<TcpLink> {
-        let (stream, _address) = self.listener.accept()?;
-        TcpLink::new(stream)
+        let (stream, handle) = self.next()?;
+        TcpLink::new(stream, handle)
     }
 
     // Counts that no more are to come.
@@ -77,14 +96,14 @@ fn pause<R: Wait>(rt: &R) {
     AtomicU64::new(0).park_timeout(rt, 0, Duration::from_millis(PAUSE_MILLISECONDS));
 }
 
-// The two halves of a stream. What is written is sent at once, and no read or write waits for good.
-fn connect(stream: TcpStream) -> io::Result<TcpConn> {
+// The two halves of a stream of two handles. What is written is sent at once, and no read or write waits for good.
+fn connect(stream: TcpStream, handle: TcpStream) -> io::Result<TcpConn> {
     let idle = Some(Duration::from_secs(IDLE_SECONDS));
     stream.set_read_timeout(idle)?;
     stream.set_write_timeout(idle)?;
     stream.set_nodelay(true)?;
-    let sink = Writing::new(stream.try_clone()?);
     let source = Reading::new(stream);
+    let sink = Writing::new(handle);
     Ok(Conn { source, sink })
 }
 
@@ -118,7 +137,7 @@ impl Listen for TcpListen {
         ensures fewer { GivesFewer self.old.left self.new.left result }
     {
         if self.left > 0 {
-            if let Ok(conn) = self.next() {
+            if let Ok(conn) = self.next_conn() {
                 self.left -= 1;
                 return Accepted::Conn(conn);
             }
@@ -127,9 +146,14 @@ impl Listen for TcpListen {
         Accepted::End
     }
 
-    fn done(&mut self, _conn: TcpConn)
+    fn done(&mut self, mut conn: TcpConn)
         ensures { self.new ≡ self.old }
-    {}
+    {
+        if conn.source.faults == 0 {
+            // where this fails the connection is closed all the same
+            let _lingered = linger(&self.clock, &mut conn.source.inner);
+        }
+    }
 }
 
 impl PokeListen for TcpListen {

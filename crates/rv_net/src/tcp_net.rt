@@ -7,7 +7,6 @@ use crate::listeners::Listeners;
 use crate::net::Net;
 use crate::net_fault::NetFault;
 use crate::tcp_listen::TcpListen;
-use std::alloc::Global;
 use std::io;
 use std::net::{Ipv4Addr, TcpListener};
 
@@ -51,7 +50,7 @@ impl<'a> TcpNet<'a> {
 
 // So many listeners at one socket.
 fn share(
-    alloc: Global,
+    rt: &HostRuntime,
     socket: &TcpListener,
     count: u32,
     most: u32,
@@ -59,10 +58,10 @@ fn share(
     ensures count { IfOk result (λ given. vec_len given ≡ count) }
     ensures left { IfOk result (λ given. All (λ listener. listener.left ≡ most) given.items) }
 {
-    let mut given = Vec::with_capacity(alloc, count as usize)?;
+    let mut given = Vec::with_capacity(rt.alloc(), count as usize)?;
     for _ in 0..count {
         match socket.try_clone() {
-            Ok(listener) => given.push_reserved(TcpListen::new(listener, most)),
+            Ok(listener) => given.push_reserved(TcpListen::new(*rt, listener, most)),
             Err(_) => return Err(NetFault::Failed),
         }
     }
@@ -81,7 +80,7 @@ fn open_pokes(
 {
     match bind(rt, port) {
         Ok(socket) => match socket.set_nonblocking(true) {
-            Ok(()) => share(rt.alloc(), &socket, count, most),
+            Ok(()) => share(rt, &socket, count, most),
             Err(_) => Err(NetFault::Failed),
         },
         Err(_) => Err(NetFault::Failed),
@@ -94,7 +93,7 @@ fn open(rt: &HostRuntime, port: u16, count: u32, most: u32) -> Result<Vec<TcpLis
     ensures left { IfOk result (λ given. All (λ listener. listener.left ≡ most) given.items) }
 {
     match bind(rt, port) {
-        Ok(socket) => share(rt.alloc(), &socket, count, most),
+        Ok(socket) => share(rt, &socket, count, most),
         Err(_) => Err(NetFault::Failed),
     }
 }

@@ -1,7 +1,7 @@
 // The client's side of a connection.
 use std::io;
 use std::io::{Read, Write};
-use std::net::{Ipv4Addr, TcpStream};
+use std::net::{Ipv4Addr, Shutdown, TcpStream};
 
 /// A connection to a port of this machine.
 pub fn connect(rt: &HostRuntime, port: u16) -> io::Result<TcpStream> {
@@ -11,6 +11,14 @@ pub fn connect(rt: &HostRuntime, port: u16) -> io::Result<TcpStream> {
 /// Writes a question.
 pub fn ask(stream: &mut TcpStream) -> io::Result<()> {
     stream.write_all(b"who is there")
+}
+
+/// Writes 150 questions, and ends its sending.
+pub fn ask_ahead(stream: &mut TcpStream) -> io::Result<()> {
+    for _ in 0..150 {
+        ask(stream)?;
+    }
+    stream.shutdown(Shutdown::Write)
 }
 
 /// Prints what was answered, up to the end.

@@ -19,10 +19,10 @@ const FIRST_PORT: u16 = 42080;
 
 const PORTS_END: u16 = 42180;
 
-// Two listeners, each of which takes one connection, at the first port that is free.
+// Three listeners, each of which takes one connection, at the first port that is free.
 fn open(net: &mut TcpNet<'_>) -> anyhow::Result<(u16, Listeners<TcpListen>)> {
     for port in FIRST_PORT..PORTS_END {
-        if let Ok(listeners) = net.listen(port, 2, 1) {
+        if let Ok(listeners) = net.listen(port, 3, 1) {
             return Ok((port, listeners));
         }
     }
@@ -34,6 +34,16 @@ fn ask(rt: &HostRuntime, port: u16, listener: &mut TcpListen) -> anyhow::Result<
     println!(rt; "== a client that asks")?;
     let mut stream = client::connect(rt, port)?;
     client::ask(&mut stream)?;
+    server::serve(rt, listener)?;
+    client::print_answer(rt, stream)?;
+    server::serve(rt, listener)
+}
+
+// A client that asks more than is read, and reads its answer to the end; then no connection is to come.
+fn ask_ahead(rt: &HostRuntime, port: u16, listener: &mut TcpListen) -> anyhow::Result<()> {
+    println!(rt; "== a client that asks ahead")?;
+    let mut stream = client::connect(rt, port)?;
+    client::ask_ahead(&mut stream)?;
     server::serve(rt, listener)?;
     client::print_answer(rt, stream)?;
     server::serve(rt, listener)
@@ -66,11 +76,12 @@ fn knock_elsewhere(rt: &HostRuntime, port: u16) -> anyhow::Result<()> {
     Ok(())
 }
 
-// One client asks, and another closes, each at a listener of its own.
+// One client asks, one asks ahead, and another closes, each at a listener of its own.
 fn visit(rt: &HostRuntime, port: u16, listeners: &mut [TcpListen]) -> anyhow::Result<()> {
-    if let [second, first] = listeners {
+    if let [third, second, first] = listeners {
         ask(rt, port, first)?;
-        close(rt, port, second)?;
+        ask_ahead(rt, port, second)?;
+        close(rt, port, third)?;
     }
     Ok(())
 }
