@@ -45,10 +45,10 @@ class Server:
 
     running = []
 
-    def __init__(self, program, port, store, accounts, connections):
+    def __init__(self, program, port, store, accounts, connections, environment=None):
         words = [program, "serve", str(store), "--accounts", str(accounts), "--port", str(port), "--workers", "1", f"--connections={connections}"]
         self.port = port
-        self.process = subprocess.Popen(words, stdout=subprocess.PIPE, stdin=subprocess.DEVNULL)
+        self.process = subprocess.Popen(words, stdout=subprocess.PIPE, stdin=subprocess.DEVNULL, env=environment)
         Server.running.append(self.process)
 
     def connect(self):
