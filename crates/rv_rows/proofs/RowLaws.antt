@@ -1,21 +1,23 @@
 -- What is read as a row is the row's value, and the value of a row is read as it.
 use Rattle.std.proofs.Common.{◌≡◌, ℕ, ◌<◌, ◌^◌, Bool, List, length, Option, Some, None, refl, sym, ap, ◌∙◌, subst, arith, ◌&&◌, leb, nat_lt}
-use Rattle.std.specs.Prelude.{codes, option_map, IfSome}
+use Rattle.std.specs.Prelude.{codes, option_map, option_and_then, IfSome}
 use Rattle.std.specs.Str.{bytes_eq}
 use Rattle.std.proofs.lemmas.Slice.Eq.{bytes_eq-Decides}
 use Rattle.std.proofs.lemmas.Option.{none-some, same_Some, cond_some}
 use Rattle.std.proofs.lemmas.Bool.Decides.{nat_tests}
 use Rattle.serde_json.specs.Data.{Data, unsigned, negative, float, Members, no_members, member, null, boolean, number, string, array, object}
-use Rattle.serde_json.specs.Find.{as_bool}
+use Rattle.serde_json.specs.Find.{as_bool, as_str}
 use Rattle.rv_base.specs.Texts.{IsWithin}
 use Rattle.rv_base.specs.Options.{◌>>=◌}
+use Rattle.rv_rows.specs.declared.role.Role.{Role}
+use Rattle.rv_rows.specs.declared.role.Role.TheVariants as roles
 use Rattle.rv_rows.specs.declared.row.Row.{Row}
 use Rattle.rv_rows.specs.declared.row.Row.TheVariants as variants
 use Rattle.rv_rows.specs.declared.row.ListRow.{ListRow}
 use Rattle.rv_rows.specs.declared.row.ShareRow.{ShareRow}
 use Rattle.rv_rows.specs.declared.row.TodoRow.{TodoRow}
 use Rattle.rv_rows.specs.Members.{within, text_in, num_in, named, has_ended}
-use Rattle.rv_rows.specs.RowTexts.{row_data, RowIsWithin, list_row_in, share_row_in, todo_row_in, either, row_in}
+use Rattle.rv_rows.specs.RowTexts.{row_data, RowIsWithin, role_then, past_role, list_row_in, share_row_in, todo_row_in, either, share_or_todo_in, row_in}
 
 named_is : (k : List ℕ) (ms : Members) (x : Data × Members) → named k ms ≡ Some x → ms ≡ member k x.0 x.1
 named_is k no_members x e = absurd (none-some x e)
@@ -64,17 +66,37 @@ list_takes ms r e =
         subst (λ (q : ListRow). (object ms ≡ row_data (variants.List q)) × RowIsWithin (variants.List q)) (same_Some (record { id = i; name = n; owner = o }) r e)
         (ap (λ (t : Members). object t) (one_more (codes "id") ms a (string i) _ ea ti.0 (one_more (codes "name") a.1 b (string n) _ eb tn.0 (one_more (codes "ownerID") b.1 c (string o) _ ec to.0 (ended_is c.1 d ed)))), (ti.1, tn.1, to.1))
 
-share_takes : (ms : Members) (r : ShareRow) → share_row_in ms ≡ Some r → (object ms ≡ row_data (variants.Share r)) × RowIsWithin (variants.Share r)
-unfolding share_row_in
-share_takes ms r e =
-    then _ _ r e (λ a ea e. then _ _ r e (λ b eb e. then _ _ r e (λ c ec e. then _ _ r e (λ d ed e. then _ _ r e (λ i ei e. then _ _ r e (λ l el e. then _ _ r e (λ u eu e.
-    share_made ms a b c d i l u r ea eb ec ed (text_is 1 128 a.0 i ei) (text_is 1 128 b.0 l el) (text_is 1 64 c.0 u eu) e)))))))
+-- a value that is read as a text is that text
+str_is : (d : Data) (t : List ℕ) → as_str d ≡ Some t → d ≡ string t
+str_is (string s) t e = ap (λ (u : List ℕ). string u) (same_Some s t e)
+str_is null t e = absurd (none-some t e)
+str_is (boolean b) t e = absurd (none-some t e)
+str_is (number n) t e = absurd (none-some t e)
+str_is (array ds) t e = absurd (none-some t e)
+str_is (object ms) t e = absurd (none-some t e)
+
+-- what is left after the role's member, of the members from it on
+past_is : (role : Role) (ms rest : Members) → past_role role ms ≡ Some rest → ms ≡ role_then role rest
+past_is roles.Edit ms rest e = same_Some ms rest e
+past_is roles.View ms rest e = next _ (named (codes "role") ms) rest e (λ x ex e. next _ (as_str x.0) rest e (λ t et e.
+    let parts = cond_some (bytes_eq t (codes "view")) x.1 rest e in
+    one_more (codes "role") ms x (string (codes "view")) rest ex (str_is x.0 t et ∙ ap (λ (u : List ℕ). string u) ((bytes_eq-Decides t (codes "view")).0 parts.0)) parts.1))
   where
-    share_made : (ms : Members) (a b c : Data × Members) (d : Unit {0}) (i l u : List ℕ) (r : ShareRow) → named (codes "id") ms ≡ Some a → named (codes "listID") a.1 ≡ Some b → named (codes "userID") b.1 ≡ Some c → has_ended c.1 ≡ Some d
-        → (a.0 ≡ string i) × IsWithin 1 128 i → (b.0 ≡ string l) × IsWithin 1 128 l → (c.0 ≡ string u) × IsWithin 1 64 u → Some (record { id = i; list = l; user = u }) ≡ Some r → (object ms ≡ row_data (variants.Share r)) × RowIsWithin (variants.Share r)
-    share_made ms a b c d i l u r ea eb ec ed ti tl tu e =
-        subst (λ (q : ShareRow). (object ms ≡ row_data (variants.Share q)) × RowIsWithin (variants.Share q)) (same_Some (record { id = i; list = l; user = u }) r e)
-        (ap (λ (t : Members). object t) (one_more (codes "id") ms a (string i) _ ea ti.0 (one_more (codes "listID") a.1 b (string l) _ eb tl.0 (one_more (codes "userID") b.1 c (string u) _ ec tu.0 (ended_is c.1 d ed)))), (ti.1, tl.1, tu.1))
+    next : {A B P : Type 0} (f : A → Option B) (o : Option A) (y : B) → option_and_then f o ≡ Some y → ((x : A) → o ≡ Some x → f x ≡ Some y → P) → P
+    next f (Some x) y e then = then x refl e
+    next f None y e then = absurd (none-some y e)
+
+share_takes : (role : Role) (ms : Members) (r : ShareRow) → share_row_in role ms ≡ Some r → (object ms ≡ row_data (variants.Share r)) × RowIsWithin (variants.Share r)
+unfolding share_row_in
+share_takes role ms r e =
+    then _ _ r e (λ a ea e. then _ _ r e (λ b eb e. then _ _ r e (λ p ep e. then _ _ r e (λ c ec e. then _ _ r e (λ d ed e. then _ _ r e (λ i ei e. then _ _ r e (λ l el e. then _ _ r e (λ u eu e.
+    share_made ms a b p c d i l u r ea eb (past_is role b.1 p ep) ec ed (text_is 1 128 a.0 i ei) (text_is 1 128 b.0 l el) (text_is 1 64 c.0 u eu) e))))))))
+  where
+    share_made : (ms : Members) (a b : Data × Members) (p : Members) (c : Data × Members) (d : Unit {0}) (i l u : List ℕ) (r : ShareRow) → named (codes "id") ms ≡ Some a → named (codes "listID") a.1 ≡ Some b → b.1 ≡ role_then role p → named (codes "userID") p ≡ Some c → has_ended c.1 ≡ Some d
+        → (a.0 ≡ string i) × IsWithin 1 128 i → (b.0 ≡ string l) × IsWithin 1 128 l → (c.0 ≡ string u) × IsWithin 1 64 u → Some (record { id = i; list = l; user = u; role = role }) ≡ Some r → (object ms ≡ row_data (variants.Share r)) × RowIsWithin (variants.Share r)
+    share_made ms a b p c d i l u r ea eb ep ec ed ti tl tu e =
+        subst (λ (q : ShareRow). (object ms ≡ row_data (variants.Share q)) × RowIsWithin (variants.Share q)) (same_Some (record { id = i; list = l; user = u; role = role }) r e)
+        (ap (λ (t : Members). object t) (one_more (codes "id") ms a (string i) _ ea ti.0 (one_more (codes "listID") a.1 b (string l) _ eb tl.0 (ep ∙ ap (role_then role) (one_more (codes "userID") p c (string u) _ ec tu.0 (ended_is c.1 d ed))))), (ti.1, tl.1, tu.1))
 
 bool_is : (d : Data) (b : Bool) → as_bool d ≡ Some b → d ≡ boolean b
 bool_is (boolean c) b e = ap (λ (x : Bool). boolean x) (same_Some c b e)
@@ -106,25 +128,35 @@ todo_takes ms r e =
         subst (λ (q : TodoRow). (object ms ≡ row_data (variants.Todo q)) × RowIsWithin (variants.Todo q)) (same_Some (record { id = i; list = l; text = t; complete = c; sort = s }) r e)
         (ap (λ (x : Members). object x) (one_more (codes "complete") ms a (boolean c) _ ea tc (one_more (codes "id") a.1 b (string i) _ eb ti.0 (one_more (codes "listID") b.1 f (string l) _ ef tl.0 (one_more (codes "sort") f.1 g (number (unsigned s)) _ eg ts.0 (one_more (codes "text") g.1 h (string t) _ eh tt.0 (ended_is h.1 d ed)))))), (ti.1, tl.1, tt.1, ts.1))
 
-members_takes : (ms : Members) (o : Option ListRow) (p : Option ShareRow) (q : Option TodoRow) (r : Row) → list_row_in ms ≡ o → share_row_in ms ≡ p → todo_row_in ms ≡ q
-    → either (option_map (λ r. variants.List r) o) (either (option_map (λ r. variants.Share r) p) (option_map (λ r. variants.Todo r) q)) ≡ Some r → (object ms ≡ row_data r) × RowIsWithin r
-members_takes ms (Some x) p q r e f g h = subst (λ (r : Row). (object ms ≡ row_data r) × RowIsWithin r) (same_Some (variants.List x) r h) (list_takes ms x e)
-members_takes ms None (Some x) q r e f g h = subst (λ (r : Row). (object ms ≡ row_data r) × RowIsWithin r) (same_Some (variants.Share x) r h) (share_takes ms x f)
-members_takes ms None None (Some x) r e f g h = subst (λ (r : Row). (object ms ≡ row_data r) × RowIsWithin r) (same_Some (variants.Todo x) r h) (todo_takes ms x g)
-members_takes ms None None None r e f g h = absurd (none-some r h)
+rest_takes : (ms : Members) (o p : Option ShareRow) (q : Option TodoRow) (r : Row) → share_row_in roles.Edit ms ≡ o → share_row_in roles.View ms ≡ p → todo_row_in ms ≡ q
+    → either (option_map (λ r. variants.Share r) o) (either (option_map (λ r. variants.Share r) p) (option_map (λ r. variants.Todo r) q)) ≡ Some r → (object ms ≡ row_data r) × RowIsWithin r
+rest_takes ms (Some x) p q r e f g h = subst (λ (r : Row). (object ms ≡ row_data r) × RowIsWithin r) (same_Some (variants.Share x) r h) (share_takes roles.Edit ms x e)
+rest_takes ms None (Some x) q r e f g h = subst (λ (r : Row). (object ms ≡ row_data r) × RowIsWithin r) (same_Some (variants.Share x) r h) (share_takes roles.View ms x f)
+rest_takes ms None None (Some x) r e f g h = subst (λ (r : Row). (object ms ≡ row_data r) × RowIsWithin r) (same_Some (variants.Todo x) r h) (todo_takes ms x g)
+rest_takes ms None None None r e f g h = absurd (none-some r h)
+
+members_takes : (ms : Members) (o : Option ListRow) (r : Row) → list_row_in ms ≡ o → either (option_map (λ r. variants.List r) o) (share_or_todo_in ms) ≡ Some r → (object ms ≡ row_data r) × RowIsWithin r
+members_takes ms (Some x) r e h = subst (λ (r : Row). (object ms ≡ row_data r) × RowIsWithin r) (same_Some (variants.List x) r h) (list_takes ms x e)
+members_takes ms None r e h = rest_takes ms _ _ _ r refl refl refl h
 
 pub row_takes : (d : Data) (r : Row) → row_in d ≡ Some r → (d ≡ row_data r) × RowIsWithin r
-row_takes (object ms) r e = members_takes ms _ _ _ r refl refl refl e
+row_takes (object ms) r e = members_takes ms _ r refl e
 row_takes null r e = absurd (none-some r e)
 row_takes (boolean b) r e = absurd (none-some r e)
 row_takes (number n) r e = absurd (none-some r e)
 row_takes (string s) r e = absurd (none-some r e)
 row_takes (array ds) r e = absurd (none-some r e)
 
+share_again : (id list user : List ℕ) (role : Role) → IsWithin 1 128 id → IsWithin 1 128 list → IsWithin 1 64 user
+    → row_in (row_data (variants.Share (record { id = id; list = list; user = user; role = role }))) ≡ Some (variants.Share (record { id = id; list = list; user = user; role = role }))
+unfolding list_row_in share_row_in todo_row_in
+share_again id list user roles.View i l u = rw (within_again 1 128 id i, within_again 1 128 list l, within_again 1 64 user u) refl
+share_again id list user roles.Edit i l u = rw (within_again 1 128 id i, within_again 1 128 list l, within_again 1 64 user u) refl
+
 pub row_again : (r : Row) → RowIsWithin r → row_in (row_data r) ≡ Some r
 unfolding list_row_in share_row_in todo_row_in
 row_again (variants.List r) fits = rw (within_again 1 128 r.id fits.0, within_again 0 16384 r.name fits.1, within_again 1 64 r.owner fits.2) refl
-row_again (variants.Share r) fits = rw (within_again 1 128 r.id fits.0, within_again 1 128 r.list fits.1, within_again 1 64 r.user fits.2) refl
+row_again (variants.Share r) fits = share_again r.id r.list r.user r.role fits.0 fits.1 fits.2
 row_again (variants.Todo r) fits = rw (within_again 1 128 r.id fits.0, within_again 1 128 r.list fits.1, within_again 0 16384 r.text fits.2, num_again r.sort fits.3) refl
 
 pub is_found : (d : Data) (o : Option Row) → o ≡ row_in d → IfSome o (λ r. (d ≡ row_data r) × RowIsWithin r)

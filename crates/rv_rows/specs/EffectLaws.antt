@@ -9,13 +9,16 @@ use Rattle.rv_base.specs.Sorted.{put_by, Distinct}
 use Rattle.rv_base.specs.Positions.{equals, found-any, none_found}
 use Rattle.rv_base.specs.Arranged.{distinct-filter, distinct-map, distinct-push, sorted-sorted, sorted-push, list_any-sorted, filter-sorted, map-sorted}
 use Rattle.rv_rows.specs.declared.key.Kind.TheVariants as kinds
+use Rattle.rv_rows.specs.declared.role.Role.{Role}
+use Rattle.rv_rows.specs.declared.role.Role.TheVariants as roles
 use Rattle.rv_rows.specs.declared.row.Row.{Row}
 use Rattle.rv_rows.specs.declared.row.Row.TheVariants as variants
 use Rattle.rv_rows.specs.declared.call.Call.{Call}
-use Rattle.rv_rows.specs.declared.call.Call.TheVariants.{CreateList, DeleteList, CreateShare, DeleteShare, CreateTodo, UpdateTodo, DeleteTodo, Void}
+use Rattle.rv_rows.specs.declared.call.Call.TheVariants.{CreateList, DeleteList, CreateShare, UpdateShare, DeleteShare, CreateTodo, UpdateTodo, DeleteTodo, Void}
 use Rattle.rv_rows.specs.Keys.{key_text, row_text, has_row, in_key_order}
-use Rattle.rv_rows.specs.Sharing.{owns, shares, is_list, list_of, sees}
-use Rattle.rv_rows.specs.Effects.{effect, is_at, may_change, may_end, ends, is_unchanged, is_outside, is_other, greater_sort, greatest_sort, next_sort, sort_after, sort_in, with_fields, after_update}
+use Rattle.rv_rows.specs.Sharing.{owns, shares, lets_edit, is_list, list_of, sees, may_edit}
+use Rattle.rv_rows.specs.Roles.{same_role}
+use Rattle.rv_rows.specs.Effects.{effect, is_at, may_change, may_end, ends, is_unchanged, is_outside, is_other, greater_sort, greatest_sort, next_sort, sort_after, sort_in, with_fields, after_update, may_set_role, with_role, after_role}
 use Rattle.rv_rows.specs.Changes.{same_row, same_flag}
 
 -- what is told of the rows in the order of their keys
@@ -30,9 +33,21 @@ sees-sorted user list rows h =
     let shared = list_any-sorted row_text (shares user list) rows h in
     (λ i. owned i || (there i && shared i))
 
+pub may_edit-sorted : (user list : List ℕ) (rows : List Row) → Distinct row_text rows → may_edit user list (in_key_order rows) ≡ may_edit user list rows
+unfolding may_edit
+may_edit-sorted user list rows h =
+    let owned = list_any-sorted row_text (owns user list) rows h in
+    let there = list_any-sorted row_text (is_list list) rows h in
+    let lets = list_any-sorted row_text (lets_edit user list) rows h in
+    (λ i. owned i || (there i && lets i))
+
+may_set_role-sorted : (user : List ℕ) (rows : List Row) (id : List ℕ) → Distinct row_text rows → may_set_role user (in_key_order rows) id ≡ may_set_role user rows id
+unfolding may_set_role
+may_set_role-sorted user rows id h = λ i row. is_at kinds.Share id row && list_any-sorted row_text (owns user (list_of row)) rows h i
+
 may_change-sorted : (user : List ℕ) (rows : List Row) (id : List ℕ) → Distinct row_text rows → may_change user (in_key_order rows) id ≡ may_change user rows id
 unfolding may_change
-may_change-sorted user rows id h = λ i row. is_at kinds.Todo id row && sees-sorted user (list_of row) rows h i
+may_change-sorted user rows id h = λ i row. is_at kinds.Todo id row && may_edit-sorted user (list_of row) rows h i
 
 may_end-sorted : (user : List ℕ) (rows : List Row) (row : Row) → Distinct row_text rows → may_end user (in_key_order rows) row ≡ may_end user rows row
 may_end-sorted user rows (variants.Share row) h = ap (λ (b : Bool). b || bytes_eq row.user user) (list_any-sorted row_text (owns user row.list) rows h)
@@ -83,6 +98,14 @@ with_fields-key text complete sort (variants.List row) = refl
 with_fields-key text complete sort (variants.Share row) = refl
 with_fields-key text complete sort (variants.Todo row) = refl
 
+with_role-key : (role : Role) (row : Row) → row_text (with_role role row) ≡ row_text row
+with_role-key role (variants.List row) = refl
+with_role-key role (variants.Share row) = refl
+with_role-key role (variants.Todo row) = refl
+
+after_role-key : (user : List ℕ) (rows : List Row) (id : List ℕ) (role : Role) (row : Row) → row_text (after_role user rows id role row) ≡ row_text row
+after_role-key user rows id role row = elim (may_set_role user rows id row) as (λ b. row_text (cond b (with_role role row) row) ≡ row_text row) [ true ↦ with_role-key role row | false ↦ refl ]
+
 after_update-key : (user : List ℕ) (rows : List Row) (id : List ℕ) (text : Option (List ℕ)) (complete : Option Bool) (sort : Option ℕ) (row : Row) → row_text (after_update user rows id text complete sort row) ≡ row_text row
 after_update-key user rows id text complete sort row = elim (may_change user rows id row) as (λ b. row_text (cond b (with_fields text complete sort row) row) ≡ row_text row) [ true ↦ with_fields-key text complete sort row | false ↦ refl ]
 
@@ -107,7 +130,8 @@ second_is_not false true c d e = absurd (cc)
 pub distinct-effect : (rows : List Row) (user : List ℕ) (call : Call) → Distinct row_text rows → Distinct row_text (effect rows user call)
 distinct-effect rows user (CreateList id name owner) h = distinct_more rows (variants.List (record { id = id; name = name; owner = owner })) _ (first_is_not _ _) h
 distinct-effect rows user (DeleteList id) h = distinct_fewer rows (is_outside id) (list_any (owns user id) rows) h
-distinct-effect rows user (CreateShare id list other) h = distinct_more rows (variants.Share (record { id = id; list = list; user = other })) _ (second_is_not _ _ _ _) h
+distinct-effect rows user (CreateShare id list other role) h = distinct_more rows (variants.Share (record { id = id; list = list; user = other; role = role })) _ (second_is_not _ _ _ _) h
+distinct-effect rows user (UpdateShare id role) h = distinct-map row_text (after_role user rows id role) rows (after_role-key user rows id role) h
 distinct-effect rows user (DeleteShare id) h = distinct_fewer rows (is_other kinds.Share id) (list_any (ends user rows id) rows) h
 distinct-effect rows user (CreateTodo id list text complete) h = distinct_more rows (variants.Todo (record { id = id; list = list; text = text; complete = complete; sort = next_sort list rows })) _ (first_is_not _ _) h
 distinct-effect rows user (UpdateTodo id text complete sort) h = distinct-map row_text (after_update user rows id text complete sort) rows (after_update-key user rows id text complete sort) h
@@ -138,21 +162,24 @@ effect-sorted rows user (CreateList id name owner) h =
 effect-sorted rows user (DeleteList id) h =
     ap (λ (b : Bool). in_key_order (cond b (filter (is_outside id) (in_key_order rows)) (in_key_order rows))) (list_any-sorted row_text (owns user id) rows h)
     ∙ fewer-sorted rows (is_outside id) (list_any (owns user id) rows) h
-effect-sorted rows user (CreateShare id list other) h =
+effect-sorted rows user (CreateShare id list other role) h =
     let owned = list_any-sorted row_text (owns user list) rows h in
     let new = has_row-sorted (key_text (record { kind = kinds.Share; id = id })) rows h in
     let shared = list_any-sorted row_text (shares other list) rows h in
-    let row : Row = variants.Share (record { id = id; list = list; user = other }) in
+    let row : Row = variants.Share (record { id = id; list = list; user = other; role = role }) in
     (λ i. in_key_order (cond (owned i && not (new i) && not (bytes_eq other user) && not (shared i)) (in_key_order rows ++ row ∷ []) (in_key_order rows)))
     ∙ more-sorted rows row _
+effect-sorted rows user (UpdateShare id role) h =
+    ap (λ (p : Row → Bool). in_key_order (map (λ row. cond (p row) (with_role role row) row) (in_key_order rows))) (may_set_role-sorted user rows id h)
+    ∙ changed-sorted rows (after_role user rows id role) (after_role-key user rows id role)
 effect-sorted rows user (DeleteShare id) h =
     ap (λ (b : Bool). in_key_order (cond b (filter (is_other kinds.Share id) (in_key_order rows)) (in_key_order rows))) (ap (λ (p : Row → Bool). list_any p (in_key_order rows)) (ends-sorted user rows id h) ∙ list_any-sorted row_text (ends user rows id) rows h)
     ∙ fewer-sorted rows (is_other kinds.Share id) (list_any (ends user rows id) rows) h
 effect-sorted rows user (CreateTodo id list text complete) h =
     let new = has_row-sorted (key_text (record { kind = kinds.Todo; id = id })) rows h in
-    let seen = sees-sorted user list rows h in
+    let edits = may_edit-sorted user list rows h in
     let last = next_sort-sorted list rows h in
-    (λ i. in_key_order (cond (not (new i) && seen i) (in_key_order rows ++ variants.Todo (record { id = id; list = list; text = text; complete = complete; sort = last i }) ∷ []) (in_key_order rows)))
+    (λ i. in_key_order (cond (not (new i) && edits i) (in_key_order rows ++ variants.Todo (record { id = id; list = list; text = text; complete = complete; sort = last i }) ∷ []) (in_key_order rows)))
     ∙ more-sorted rows (variants.Todo (record { id = id; list = list; text = text; complete = complete; sort = next_sort list rows })) _
 effect-sorted rows user (UpdateTodo id text complete sort) h =
     ap (λ (p : Row → Bool). in_key_order (map (λ row. cond (p row) (with_fields text complete sort row) row) (in_key_order rows))) (may_change-sorted user rows id h)
@@ -174,9 +201,22 @@ same_flag-itself false = refl
 same_flag-Decides : (a b : Bool) → Decides (same_flag a b) (a ≡ b)
 same_flag-Decides a b = (same_flag-is a b, λ e. subst (λ (t : Bool). same_flag a t ≡ true) e (same_flag-itself a))
 
+same_role-is : (a b : Role) → same_role a b ≡ true → a ≡ b
+same_role-is roles.View roles.View e = refl
+same_role-is roles.View roles.Edit e = absurd (cc)
+same_role-is roles.Edit roles.View e = absurd (cc)
+same_role-is roles.Edit roles.Edit e = refl
+
+same_role-itself : (a : Role) → same_role a a ≡ true
+same_role-itself roles.View = refl
+same_role-itself roles.Edit = refl
+
+same_role-Decides : (a b : Role) → Decides (same_role a b) (a ≡ b)
+same_role-Decides a b = (same_role-is a b, λ e. subst (λ (t : Role). same_role a t ≡ true) e (same_role-itself a))
+
 same_itself : (a : Row) → same_row a a ≡ true
 same_itself (variants.List a) = rw (equals a.id, equals a.name, equals a.owner) refl
-same_itself (variants.Share a) = rw (equals a.id, equals a.list, equals a.user) refl
+same_itself (variants.Share a) = rw (equals a.id, equals a.list, equals a.user, same_role-itself a.role) refl
 same_itself (variants.Todo a) = rw (equals a.id, equals a.list, equals a.text, same_flag-itself a.complete) ((Decides-eqb a.sort a.sort).1 refl)
 
 same_from : (a b : Row) → same_row a b ≡ true → a ≡ b
@@ -184,8 +224,9 @@ same_from (variants.List a) (variants.List b) e =
     let is = (Decides-and _ _ (Decides-and _ _ (bytes_eq-Decides a.id b.id) (bytes_eq-Decides a.name b.name)) (bytes_eq-Decides a.owner b.owner)).0 e in
     (λ i. variants.List (record { id = is.0.0 i; name = is.0.1 i; owner = is.1 i }))
 same_from (variants.Share a) (variants.Share b) e =
-    let is = (Decides-and _ _ (Decides-and _ _ (bytes_eq-Decides a.id b.id) (bytes_eq-Decides a.list b.list)) (bytes_eq-Decides a.user b.user)).0 e in
-    (λ i. variants.Share (record { id = is.0.0 i; list = is.0.1 i; user = is.1 i }))
+    let texts = Decides-and _ _ (Decides-and _ _ (bytes_eq-Decides a.id b.id) (bytes_eq-Decides a.list b.list)) (bytes_eq-Decides a.user b.user) in
+    let is = (Decides-and _ _ texts (same_role-Decides a.role b.role)).0 e in
+    (λ i. variants.Share (record { id = is.0.0.0 i; list = is.0.0.1 i; user = is.0.1 i; role = is.1 i }))
 same_from (variants.Todo a) (variants.Todo b) e =
     let texts = Decides-and _ _ (Decides-and _ _ (bytes_eq-Decides a.id b.id) (bytes_eq-Decides a.list b.list)) (bytes_eq-Decides a.text b.text) in
     let is = (Decides-and _ _ (Decides-and _ _ texts (same_flag-Decides a.complete b.complete)) (Decides-eqb a.sort b.sort)).0 e in

@@ -5,12 +5,13 @@ use Rattle.std.specs.List.{filter, list_any}
 use Rattle.std.specs.Str.{bytes_eq}
 use Rattle.rv_rows.specs.declared.key.Kind.{Kind}
 use Rattle.rv_rows.specs.declared.key.Kind.TheVariants as kinds
+use Rattle.rv_rows.specs.declared.role.Role.{Role}
 use Rattle.rv_rows.specs.declared.row.Row.{Row}
 use Rattle.rv_rows.specs.declared.row.Row.TheVariants as variants
 use Rattle.rv_rows.specs.declared.call.Call.{Call}
-use Rattle.rv_rows.specs.declared.call.Call.TheVariants.{CreateList, DeleteList, CreateShare, DeleteShare, CreateTodo, UpdateTodo, DeleteTodo, Void}
+use Rattle.rv_rows.specs.declared.call.Call.TheVariants.{CreateList, DeleteList, CreateShare, UpdateShare, DeleteShare, CreateTodo, UpdateTodo, DeleteTodo, Void}
 use Rattle.rv_rows.specs.Keys.{key_text, row_text, has_row}
-use Rattle.rv_rows.specs.Sharing.{owns, shares, sees, list_of}
+use Rattle.rv_rows.specs.Sharing.{owns, shares, may_edit, list_of}
 
 -- the row has the key of this kind and this id
 abbrev pub is_at : Kind → List ℕ → Row → Bool
@@ -24,9 +25,9 @@ is_other kind id row = not (is_at kind id row)
 abbrev pub is_outside : List ℕ → Row → Bool
 is_outside list row = not (bytes_eq (list_of row) list)
 
--- the row is this todo, and the user sees its list
+-- the row is this todo, and the user may edit its list
 unfoldable pub may_change : List ℕ → List Row → List ℕ → Row → Bool
-may_change user rows id row = is_at kinds.Todo id row && sees user (list_of row) rows
+may_change user rows id row = is_at kinds.Todo id row && may_edit user (list_of row) rows
 
 abbrev pub is_unchanged : List ℕ → List Row → List ℕ → Row → Bool
 is_unchanged user rows id row = not (may_change user rows id row)
@@ -40,6 +41,20 @@ may_end user rows (variants.Todo row) = false
 -- the row is this share, and the user may end it
 unfoldable pub ends : List ℕ → List Row → List ℕ → Row → Bool
 ends user rows id row = is_at kinds.Share id row && may_end user rows row
+
+-- the row is this share, and the user owns its list
+unfoldable pub may_set_role : List ℕ → List Row → List ℕ → Row → Bool
+may_set_role user rows id row = is_at kinds.Share id row && list_any (owns user (list_of row)) rows
+
+-- the share with this role
+abbrev pub with_role : Role → Row → Row
+with_role role (variants.Share row) = variants.Share (record { id = row.id; list = row.list; user = row.user; role = role })
+with_role role (variants.List row) = variants.List row
+with_role role (variants.Todo row) = variants.Todo row
+
+-- the row with this share's role set, where the user owns its list
+abbrev pub after_role : List ℕ → List Row → List ℕ → Role → Row → Row
+after_role user rows id role row = if may_set_role user rows id row then with_role role row else row
 
 -- the sort of a todo of this list, and 0 of any other row
 abbrev pub sort_in : List ℕ → Row → ℕ
@@ -75,7 +90,7 @@ abbrev pub may_share : List ℕ → List Row → List ℕ → List ℕ → List 
 may_share user rows id list other =
     list_any (owns user list) rows && not (has_row (key_text (record { kind = kinds.Share; id = id })) rows) && not (bytes_eq other user) && not (list_any (shares other list) rows)
 
--- the rows with this todo's fields set, where the user sees its list
+-- the row with this todo's fields set, where the user may edit its list
 abbrev pub after_update : List ℕ → List Row → List ℕ → Option (List ℕ) → Option Bool → Option ℕ → Row → Row
 after_update user rows id text complete sort row = if may_change user rows id row then with_fields text complete sort row else row
 
@@ -90,25 +105,28 @@ effect rows user (DeleteList id) =
     if list_any (owns user id) rows
     then filter (is_outside id) rows
     else rows
--- the caller may share the list with the other: the share is added
-effect rows user (CreateShare id list other) =
+-- the caller may share the list with the other: the share is added with its role
+effect rows user (CreateShare id list other role) =
     if may_share user rows id list other
-    then rows ++ variants.Share (record { id = id; list = list; user = other }) ∷ []
+    then rows ++ variants.Share (record { id = id; list = list; user = other; role = role }) ∷ []
     else rows
+-- the share is there, and the caller owns its list: the role is set
+effect rows user (UpdateShare id role) =
+    map (after_role user rows id role) rows
 -- the share is there, and the caller may end it: it goes
 effect rows user (DeleteShare id) =
     if list_any (ends user rows id) rows
     then filter (is_other kinds.Share id) rows
     else rows
--- no todo has the id, and the caller sees the list: the todo is added at the list's end
+-- no todo has the id, and the caller may edit the list: the todo is added at the list's end
 effect rows user (CreateTodo id list text complete) =
-    if not (has_row (key_text (record { kind = kinds.Todo; id = id })) rows) && sees user list rows
+    if not (has_row (key_text (record { kind = kinds.Todo; id = id })) rows) && may_edit user list rows
     then rows ++ variants.Todo (record { id = id; list = list; text = text; complete = complete; sort = next_sort list rows }) ∷ []
     else rows
--- the todo is there, and the caller sees its list: the fields that are named are set
+-- the todo is there, and the caller may edit its list: the fields that are named are set
 effect rows user (UpdateTodo id text complete sort) =
     map (after_update user rows id text complete sort) rows
--- the todo is there, and the caller sees its list: it goes
+-- the todo is there, and the caller may edit its list: it goes
 effect rows user (DeleteTodo id) = filter (is_unchanged user rows id) rows
 -- a call that is none has no effect
 effect rows user (Void reason) = rows

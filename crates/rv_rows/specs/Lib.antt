@@ -1,4 +1,5 @@
 pub mod Keys
+pub mod Roles
 pub mod Held
 pub mod HeldLaws
 pub mod Sharing

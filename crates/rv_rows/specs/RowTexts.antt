@@ -1,12 +1,15 @@
 -- A row as JSON, and reading it back. Members stand in byte order, and there are no others:
 --   a list   {"id":I,"name":T,"ownerID":U}
---   a share  {"id":I,"listID":I,"userID":U}
+--   a share  {"id":I,"listID":I,"userID":U}, which lets edit, or {"id":I,"listID":I,"role":"view","userID":U}
 --   a todo   {"complete":B,"id":I,"listID":I,"sort":N,"text":T}
-use Rattle.std.specs.Prelude.{codes, ◌<◌, ◌^◌, Option, Some, None, option_map, option_and_then}
+use Rattle.std.specs.Prelude.{codes, ◌<◌, ◌^◌, Option, Some, None, option_map, option_and_then, if◌then◌else◌}
+use Rattle.std.specs.Str.{bytes_eq}
 use Rattle.serde_json.specs.Data.{Data, Members, boolean, number, unsigned, string, object, member, no_members}
-use Rattle.serde_json.specs.Find.{as_object, as_bool}
+use Rattle.serde_json.specs.Find.{as_object, as_bool, as_str}
 use Rattle.rv_base.specs.Texts.{IsWithin}
 use Rattle.rv_base.specs.Options.{◌>>=◌}
+use Rattle.rv_rows.specs.declared.role.Role.{Role}
+use Rattle.rv_rows.specs.declared.role.Role.TheVariants as roles
 use Rattle.rv_rows.specs.declared.row.Row.{Row}
 use Rattle.rv_rows.specs.declared.row.Row.TheVariants as variants
 use Rattle.rv_rows.specs.declared.row.ListRow.{ListRow}
@@ -14,9 +17,14 @@ use Rattle.rv_rows.specs.declared.row.ShareRow.{ShareRow}
 use Rattle.rv_rows.specs.declared.row.TodoRow.{TodoRow}
 use Rattle.rv_rows.specs.Members.{named, has_ended, text_in, num_in}
 
+-- the members from the role's on: of a share that lets edit it is not told
+abbrev pub role_then : Role → Members → Members
+role_then roles.View members = member (codes "role") (string (codes "view")) members
+role_then roles.Edit members = members
+
 abbrev pub row_data : Row → Data
 row_data (variants.List row) = object (member (codes "id") (string row.id) (member (codes "name") (string row.name) (member (codes "ownerID") (string row.owner) no_members)))
-row_data (variants.Share row) = object (member (codes "id") (string row.id) (member (codes "listID") (string row.list) (member (codes "userID") (string row.user) no_members)))
+row_data (variants.Share row) = object (member (codes "id") (string row.id) (member (codes "listID") (string row.list) (role_then row.role (member (codes "userID") (string row.user) no_members))))
 row_data (variants.Todo row) = object (member (codes "complete") (boolean row.complete) (member (codes "id") (string row.id) (member (codes "listID") (string row.list) (member (codes "sort") (number (unsigned row.sort)) (member (codes "text") (string row.text) no_members)))))
 
 -- the row's texts are within their bounds
@@ -36,16 +44,22 @@ list_row_in members = do
   o ← text_in 1 64 owner.0
   Some (record { id = i; name = n; owner = o })
 
-unfoldable pub share_row_in : Members → Option ShareRow
-share_row_in members = do
+-- the members after the role's, where it tells this role
+abbrev pub past_role : Role → Members → Option Members
+past_role roles.View members = option_and_then (λ role. option_and_then (λ text. if bytes_eq text (codes "view") then Some role.1 else None) (as_str role.0)) (named (codes "role") members)
+past_role roles.Edit members = Some members
+
+unfoldable pub share_row_in : Role → Members → Option ShareRow
+share_row_in role members = do
   id ← named (codes "id") members
   list ← named (codes "listID") id.1
-  user ← named (codes "userID") list.1
+  left ← past_role role list.1
+  user ← named (codes "userID") left
   end ← has_ended user.1
   i ← text_in 1 128 id.0
   l ← text_in 1 128 list.0
   u ← text_in 1 64 user.0
-  Some (record { id = i; list = l; user = u })
+  Some (record { id = i; list = l; user = u; role = role })
 
 unfoldable pub todo_row_in : Members → Option TodoRow
 todo_row_in members = do
@@ -67,8 +81,12 @@ abbrev pub either : Option Row → Option Row → Option Row
 either (Some row) other = Some row
 either None other = other
 
+-- a share that lets edit, one that does not, or a todo
+abbrev pub share_or_todo_in : Members → Option Row
+share_or_todo_in members = either (option_map (λ row. variants.Share row) (share_row_in roles.Edit members)) (either (option_map (λ row. variants.Share row) (share_row_in roles.View members)) (option_map (λ row. variants.Todo row) (todo_row_in members)))
+
 abbrev pub members_row_in : Members → Option Row
-members_row_in members = either (option_map (λ row. variants.List row) (list_row_in members)) (either (option_map (λ row. variants.Share row) (share_row_in members)) (option_map (λ row. variants.Todo row) (todo_row_in members)))
+members_row_in members = either (option_map (λ row. variants.List row) (list_row_in members)) (share_or_todo_in members)
 
 abbrev pub row_in : Data → Option Row
 row_in value = option_and_then members_row_in (as_object value)

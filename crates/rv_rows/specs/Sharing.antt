@@ -1,11 +1,13 @@
--- Who sees what. A user sees a list exactly where the list is there and the user owns it or a share of that list names the
--- user. A user sees each such list with its shares and its todos, and may add, change and remove todos of it.
+-- Who sees what, and who may edit. A user sees a list exactly where the list is there and the user owns it or a share of that
+-- list names the user. A user sees each such list with its shares and its todos. The owner, and a user whom a share of the list
+-- with role edit names, may add, change and remove its todos.
 use Rattle.std.specs.Prelude.{ℕ, Bool, false, List, [], ◌&&◌, ◌||◌}
 use Rattle.std.specs.List.{filter, list_any}
 use Rattle.std.specs.Str.{bytes_eq}
 use Rattle.rv_rows.specs.declared.row.Row.{Row}
 use Rattle.rv_rows.specs.declared.row.Row.TheVariants as variants
 use Rattle.rv_rows.specs.Keys.{in_key_order}
+use Rattle.rv_rows.specs.Roles.{is_edit}
 
 -- the row is this list
 abbrev pub is_list : List ℕ → Row → Bool
@@ -25,9 +27,20 @@ shares user list (variants.List row) = false
 shares user list (variants.Share row) = bytes_eq row.list list && bytes_eq row.user user
 shares user list (variants.Todo row) = false
 
+-- the row is a share of this list that names the user and lets the user edit
+abbrev pub lets_edit : List ℕ → List ℕ → Row → Bool
+lets_edit user list (variants.List row) = false
+lets_edit user list (variants.Share row) = bytes_eq row.list list && bytes_eq row.user user && is_edit row.role
+lets_edit user list (variants.Todo row) = false
+
 -- The user sees the list, as one of these rows: it is there, and the user owns it or a share of it names the user.
 unfoldable pub sees : List ℕ → List ℕ → List Row → Bool
 sees user list rows = list_any (owns user list) rows || (list_any (is_list list) rows && list_any (shares user list) rows)
+
+-- The user may edit the list's todos, as one of these rows: the list is there, and the user owns it or a share of it names the
+-- user and lets the user edit.
+unfoldable pub may_edit : List ℕ → List ℕ → List Row → Bool
+may_edit user list rows = list_any (owns user list) rows || (list_any (is_list list) rows && list_any (lets_edit user list) rows)
 
 -- the list that a row is or belongs to
 abbrev pub list_of : Row → List ℕ

@@ -1,5 +1,6 @@
 ghost use Rattle.std.specs.Prelude.{◌≡◌, IfOk};
 
+use crate::role::Role;
 use rv_base::{Id, Memory, Num, Text, User};
 use std::alloc::Global;
 
@@ -20,7 +21,7 @@ pub enum Call {
         /// The list's id.
         id: Id,
     },
-    /// A new share, with this id, of this list with this user.
+    /// A new share, with this id and this role, of this list with this user.
     CreateShare {
         /// The share's id.
         id: Id,
@@ -28,6 +29,15 @@ pub enum Call {
         list: Id,
         /// Whom the list is shared with.
         user: User,
+        /// What the user may do.
+        role: Role,
+    },
+    /// A share gets another role.
+    UpdateShare {
+        /// The share's id.
+        id: Id,
+        /// What its user may do.
+        role: Role,
     },
     /// A share goes.
     DeleteShare {
@@ -97,10 +107,20 @@ impl Call {
             Call::DeleteList { id } => Ok(Call::DeleteList {
                 id: id.copy(alloc)?,
             }),
-            Call::CreateShare { id, list, user } => Ok(Call::CreateShare {
+            Call::CreateShare {
+                id,
+                list,
+                user,
+                role,
+            } => Ok(Call::CreateShare {
                 id: id.copy(alloc)?,
                 list: list.copy(alloc)?,
                 user: user.copy(alloc)?,
+                role: *role,
+            }),
+            Call::UpdateShare { id, role } => Ok(Call::UpdateShare {
+                id: id.copy(alloc)?,
+                role: *role,
             }),
             Call::DeleteShare { id } => Ok(Call::DeleteShare {
                 id: id.copy(alloc)?,

@@ -3,9 +3,10 @@
 ghost use Rattle.std.specs.Prelude.{◌∷◌, [], decimal};
 ghost use Rattle.json.specs.Token.{key, string, number, boolean};
 ghost use Rattle.rv_rows.specs.declared.row.Row.TheVariants as variants;
-ghost use Rattle.rv_rows.specs.Additions.{AddsTokens, AddsValue};
+ghost use Rattle.rv_rows.specs.Additions.{AddsTokens, AddsValue, role_tokens};
 ghost use Rattle.rv_rows.specs.RowTexts.{row_data};
 
+use crate::role::Role;
 use crate::row::{ListRow, Row, ShareRow, TodoRow};
 use json::Writer;
 use rv_base::{Memory, Num};
@@ -48,12 +49,23 @@ fn write_list(out: &mut Writer, row: &ListRow) -> Result<(), Memory>
     Ok(())
 }
 
+// Writes the member of a share's role: of one that lets edit there is none.
+fn write_role(out: &mut Writer, role: Role) -> Result<(), Memory>
+    ensures { AddsTokens result out.old out.new (role_tokens role) }
+{
+    match role {
+        Role::View => write_text_member(out, "role", "view"),
+        Role::Edit => Ok(()),
+    }
+}
+
 fn write_share(out: &mut Writer, row: &ShareRow) -> Result<(), Memory>
     ensures { AddsValue result out.old out.new (row_data (variants.Share row.now)) }
 {
     out.begin_object()?;
     write_text_member(out, "id", row.id.as_str())?;
     write_text_member(out, "listID", row.list.as_str())?;
+    write_role(out, row.role)?;
     write_text_member(out, "userID", row.user.as_str())?;
     out.end_object()?;
     Ok(())
@@ -72,9 +84,9 @@ fn write_todo(out: &mut Writer, row: &TodoRow) -> Result<(), Memory>
     Ok(())
 }
 
-/// Writes the row as JSON: a list is `{"id":I,"name":T,"ownerID":U}`, a share is `{"id":I,"listID":I,"userID":U}`, and a
-/// todo is `{"complete":B,"id":I,"listID":I,"sort":N,"text":T}`. Where memory is refused, some first part of it may have
-/// been written.
+/// Writes the row as JSON: a list is `{"id":I,"name":T,"ownerID":U}`, a share that lets edit is
+/// `{"id":I,"listID":I,"userID":U}`, one that lets see alone `{"id":I,"listID":I,"role":"view","userID":U}`, and a todo is
+/// `{"complete":B,"id":I,"listID":I,"sort":N,"text":T}`. Where memory is refused, some first part of it may have been written.
 pub fn write_row(out: &mut Writer, row: &Row) -> Result<(), Memory>
     ensures { AddsValue result out.old out.new (row_data row.now) }
 {

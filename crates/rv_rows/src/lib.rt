@@ -13,6 +13,7 @@ mod json_writing;
 mod key;
 mod lists;
 mod positions;
+mod role;
 mod row;
 mod row_json;
 mod row_reading;
@@ -25,6 +26,7 @@ pub use json_reading::{next_named, num_of_value, read_json, text_of_value, text_
 pub use json_writing::{write_bool_member, write_num_member, write_row, write_text_member};
 pub use key::{Key, Kind};
 pub use lists::{Clients, Keys, Rows, Users, Visible};
+pub use role::Role;
 pub use row::{ListRow, Row, ShareRow, TodoRow};
 pub use row_json::row_value;
 pub use row_reading::read_row;

@@ -2,14 +2,15 @@ ghost use Rattle.std.specs.Prelude.{◌≡◌, ◌↔◌, IsTrue, IfOk};
 ghost use Rattle.std.specs.Cmp.Lexicographic.{slice_cmp};
 ghost use Rattle.std.specs.Ordering.{nat_cmp};
 ghost use Rattle.rv_rows.specs.Keys.{key_text, row_key, row_text};
-ghost use Rattle.rv_rows.specs.Sharing.{list_of, shares, user_of};
+ghost use Rattle.rv_rows.specs.Sharing.{lets_edit, list_of, shares, user_of};
 ghost use Rattle.rv_rows.specs.Filed.{filed_text, sort_of, then_by, under};
-ghost use Rattle.rv_rows.specs.Effects.{sort_after, sort_in, with_fields};
+ghost use Rattle.rv_rows.specs.Effects.{sort_after, sort_in, with_fields, with_role};
 ghost use Rattle.rv_rows.specs.declared.filing.Filing.TheVariants.{Sort};
-ghost use Rattle.rv_rows.specs.declared.row.Row.TheVariants.{Todo};
+ghost use Rattle.rv_rows.specs.declared.row.Row.TheVariants.{Share, Todo};
 
 use crate::filing::Filing;
 use crate::key::{Key, Kind, compare_keys};
+use crate::role::Role;
 use rv_base::{Id, Memory, Num, Text, User};
 use std::alloc::Global;
 use std::cmp::Ordering;
@@ -25,7 +26,7 @@ pub struct ListRow {
     pub owner: User,
 }
 
-/// A share, by which a user sees a list of another.
+/// A share, by which a user sees a list of another, and may edit its todos where the role is to edit.
 #[derive(Debug, Drop)]
 pub struct ShareRow {
     /// The share's name among shares.
@@ -34,6 +35,8 @@ pub struct ShareRow {
     pub list: Id,
     /// The user that it is shared with.
     pub user: User,
+    /// What the user may do.
+    pub role: Role,
 }
 
 /// A todo of a list.
@@ -186,6 +189,17 @@ impl Row {
         }
     }
 
+    /// Whether the row is a share of the list that names the user and lets the user edit.
+    pub fn lets_edit(&self, user: &User, list: &Id) -> bool
+        ensures { result ≡ lets_edit user.now list.now self.now }
+    {
+        match self {
+            Row::List(_) => false,
+            Row::Share(row) => row.list == *list && row.user == *user && row.role == Role::Edit,
+            Row::Todo(_) => false,
+        }
+    }
+
     // The sort of a todo, and 0 of any other row.
     pub(crate) fn sort(&self) -> u64
         ensures { result ≡ sort_of self.now }
@@ -242,6 +256,19 @@ impl ShareRow {
             id: self.id.copy(alloc)?,
             list: self.list.copy(alloc)?,
             user: self.user.copy(alloc)?,
+            role: self.role,
+        })
+    }
+
+    /// The share with this role; it shares the texts.
+    pub fn with_role(&self, alloc: Global, role: Role) -> Result<ShareRow, Memory>
+        ensures { IfOk result (λ new. Share new ≡ with_role role (Share self.now)) }
+    {
+        Ok(ShareRow {
+            id: self.id.copy(alloc)?,
+            list: self.list.copy(alloc)?,
+            user: self.user.copy(alloc)?,
+            role,
         })
     }
 }

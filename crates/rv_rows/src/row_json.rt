@@ -3,6 +3,7 @@ ghost use Rattle.serde_json.specs.View.{view};
 ghost use Rattle.rv_rows.specs.declared.row.Row.TheVariants as variants;
 ghost use Rattle.rv_rows.specs.RowTexts.{row_data};
 
+use crate::role::Role;
 use crate::row::{ListRow, Row, ShareRow, TodoRow};
 use rv_base::Memory;
 use serde_json::{Value, json};
@@ -17,7 +18,12 @@ fn list_value(alloc: Global, row: &ListRow) -> Result<Value, AllocError>
 fn share_value(alloc: Global, row: &ShareRow) -> Result<Value, AllocError>
     ensures { IfOk result (λ v. view v ≡ row_data (variants.Share row.now)) }
 {
-    json!(in alloc; {"id": row.id.as_str(), "listID": row.list.as_str(), "userID": row.user.as_str()})
+    match row.role {
+        Role::View =>
+            json!(in alloc; {"id": row.id.as_str(), "listID": row.list.as_str(), "role": "view", "userID": row.user.as_str()}),
+        Role::Edit =>
+            json!(in alloc; {"id": row.id.as_str(), "listID": row.list.as_str(), "userID": row.user.as_str()}),
+    }
 }
 
 fn todo_value(alloc: Global, row: &TodoRow) -> Result<Value, AllocError>
@@ -26,8 +32,9 @@ fn todo_value(alloc: Global, row: &TodoRow) -> Result<Value, AllocError>
     json!(in alloc; {"complete": row.complete, "id": row.id.as_str(), "listID": row.list.as_str(), "sort": row.sort.get(), "text": row.text.as_str()})
 }
 
-/// The row as a JSON value: a list is `{"id":I,"name":T,"ownerID":U}`, a share is `{"id":I,"listID":I,"userID":U}`, and
-/// a todo is `{"complete":B,"id":I,"listID":I,"sort":N,"text":T}`.
+/// The row as a JSON value: a list is `{"id":I,"name":T,"ownerID":U}`, a share that lets edit is
+/// `{"id":I,"listID":I,"userID":U}`, one that lets see alone `{"id":I,"listID":I,"role":"view","userID":U}`, and a todo is
+/// `{"complete":B,"id":I,"listID":I,"sort":N,"text":T}`.
 pub fn row_value(alloc: Global, row: &Row) -> Result<Value, Memory>
     ensures { IfOk result (λ v. view v ≡ row_data row.now) }
 {

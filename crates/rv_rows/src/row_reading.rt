@@ -1,9 +1,10 @@
-ghost use Rattle.std.specs.Prelude.{◌≡◌, IfOk, IfSome, Some};
+ghost use Rattle.std.specs.Prelude.{◌≡◌, IfOk, IfSome, IfNone, Some, None};
 ghost use Rattle.serde_json.specs.View.{view, members_view};
 ghost use Rattle.rv_rows.specs.declared.row.Row.{Row};
-ghost use Rattle.rv_rows.specs.RowTexts.{row_data, RowIsWithin, list_row_in, share_row_in, todo_row_in, members_row_in, row_in};
+ghost use Rattle.rv_rows.specs.RowTexts.{row_data, RowIsWithin, list_row_in, past_role, share_row_in, todo_row_in, members_row_in, row_in};
 
 use crate::json_reading::{next_named, num_of_value, text_of_value};
+use crate::role::Role;
 use crate::row::{ListRow, Row, ShareRow, TodoRow};
 use rv_base::Memory;
 use serde_json::Value;
@@ -39,14 +40,35 @@ fn list_row(alloc: Global, mut left: Iter<'_, String, Value>) -> Result<Option<L
     Ok(Some(ListRow { id, name, owner }))
 }
 
+// Goes past the member of a share's role, where it names this one.
+fn go_past_role(left: &mut Iter<'_, String, Value>, role: Role) -> Option<()>
+    ensures found { IfSome result (λ _. past_role role (members_view left.old) ≡ Some (members_view left.new)) }
+    ensures none { IfNone result (past_role role (members_view left.old) ≡ None) }
+{
+    match role {
+        Role::View => {
+            let text = next_named(left, "role")?.as_str()?;
+            if text == "view" { Some(()) } else { None }
+        }
+        Role::Edit => Some(()),
+    }
+}
+
 #[tactic(auto, unfolding(crate::specs::RowTexts::share_row_in))]
-fn share_row(alloc: Global, mut left: Iter<'_, String, Value>) -> Result<Option<ShareRow>, Memory>
-    ensures { IfOk result (λ o. o ≡ share_row_in (members_view left.entry)) }
+fn share_row(
+    alloc: Global,
+    mut left: Iter<'_, String, Value>,
+    role: Role,
+) -> Result<Option<ShareRow>, Memory>
+    ensures { IfOk result (λ o. o ≡ share_row_in role (members_view left.entry)) }
 {
     let Some(id) = next_named(&mut left, "id") else {
         return Ok(None);
     };
     let Some(list) = next_named(&mut left, "listID") else {
+        return Ok(None);
+    };
+    let Some(()) = go_past_role(&mut left, role) else {
         return Ok(None);
     };
     let Some(user) = next_named(&mut left, "userID") else {
@@ -64,7 +86,12 @@ fn share_row(alloc: Global, mut left: Iter<'_, String, Value>) -> Result<Option<
     let Some(user) = text_of_value(alloc, user)? else {
         return Ok(None);
     };
-    Ok(Some(ShareRow { id, list, user }))
+    Ok(Some(ShareRow {
+        id,
+        list,
+        user,
+        role,
+    }))
 }
 
 #[tactic(auto, unfolding(crate::specs::RowTexts::todo_row_in))]
@@ -119,7 +146,10 @@ fn row_of_members(alloc: Global, members: &BTreeMap<String, Value>) -> Result<Op
     if let Some(row) = list_row(alloc, members.iter())? {
         return Ok(Some(Row::List(row)));
     }
-    if let Some(row) = share_row(alloc, members.iter())? {
+    if let Some(row) = share_row(alloc, members.iter(), Role::Edit)? {
+        return Ok(Some(Row::Share(row)));
+    }
+    if let Some(row) = share_row(alloc, members.iter(), Role::View)? {
         return Ok(Some(Row::Share(row)));
     }
     match todo_row(alloc, members.iter())? {
