@@ -13,11 +13,12 @@ use toml::Value;
 
 // The schema versions that are served where none are named.
 fn first_schemas(alloc: Global) -> Result<Schemas, Memory>
-    ensures { IfOk result (λ schemas. map string_bytes schemas ≡ [] ∷ codes "1" ∷ []) }
+    ensures { IfOk result (λ schemas. map string_bytes schemas ≡ [] ∷ codes "1" ∷ codes "2" ∷ []) }
 {
     let mut schemas = Sequence::new(alloc);
     schemas.push(String::new(alloc))?;
     schemas.push(String::from_str(alloc, "1")?)?;
+    schemas.push(String::from_str(alloc, "2")?)?;
     Ok(schemas)
 }
 
@@ -79,8 +80,8 @@ fn accounts_at(alloc: Global, array: Option<&[Value]>) -> Result<Vec<Account>, A
     accounts_of(alloc, values)
 }
 
-/// Reads an accounts file: a TOML document with an array `schemas` of texts (where it is absent, the empty text and
-/// `1`), and an array `account` of tables (where it is absent, of none), each with a `key` of 1 to 256 bytes and a
+/// Reads an accounts file: a TOML document with an array `schemas` of texts (where it is absent, the empty text, `1` and
+/// `2`), and an array `account` of tables (where it is absent, of none), each with a `key` of 1 to 256 bytes and a
 /// `user` of 1 to 64.
 ///
 /// `BadFile` and `Twice` name the first thing that is wrong: the document, then `schemas`, then `account` as a whole,
