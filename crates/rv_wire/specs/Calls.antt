@@ -1,15 +1,17 @@
 -- The call that a mutation's name and arguments spell. Members that are not named here are ignored; where one that is
--- named is missing or of another kind or size, null included, the arguments are bad.
-use Rattle.std.specs.Prelude.{ℕ, List, Option, Some, codes, unwrap_or, option_map, if◌then◌else◌}
+-- named is missing or of another kind or size, null included, the arguments are bad; a role is the text `view` or `edit`.
+use Rattle.std.specs.Prelude.{ℕ, List, Option, Some, None, codes, unwrap_or, option_map, if◌then◌else◌}
 use Rattle.std.specs.Str.{bytes_eq}
 use Rattle.serde_json.specs.Data.{Data}
 use Rattle.serde_json.specs.Find.{get, as_bool}
 use Rattle.rv_base.specs.Options.{◌>>=◌}
 use Rattle.rv_rows.specs.Members.{text_in, num_in}
 use Rattle.rv_rows.specs.declared.call.Call.{Call}
-use Rattle.rv_rows.specs.declared.call.Call.TheVariants.{CreateList, DeleteList, CreateShare, DeleteShare, CreateTodo, UpdateTodo, DeleteTodo, Void}
+use Rattle.rv_rows.specs.declared.call.Call.TheVariants.{CreateList, DeleteList, CreateShare, UpdateShare, DeleteShare, CreateTodo, UpdateTodo, DeleteTodo, Void}
 use Rattle.rv_rows.specs.declared.call.Reason.TheVariants.{UnknownName, BadArgs}
-use Rattle.rv_wire.specs.Members.{text_member, bool_member, optional}
+use Rattle.rv_rows.specs.declared.role.Role.{Role}
+use Rattle.rv_rows.specs.declared.role.Role.TheVariants as roles
+use Rattle.rv_wire.specs.Members.{text_member, bool_member, role_in, role_member, optional}
 
 -- {id,name,ownerID}
 unfoldable pub create_list_in : Data → Option Call
@@ -19,13 +21,26 @@ create_list_in args = do
   owner ← text_member 1 64 (codes "ownerID") args
   Some (CreateList id name owner)
 
--- {id,listID,userID}
+-- the role of a new share: where none is named, it is to edit
+abbrev pub role_or_edit : Option Data → Option Role
+role_or_edit None = Some roles.Edit
+role_or_edit (Some value) = role_in value
+
+-- {id,listID,userID,role?}
 unfoldable pub create_share_in : Data → Option Call
 create_share_in args = do
   id ← text_member 1 128 (codes "id") args
   list ← text_member 1 128 (codes "listID") args
   user ← text_member 1 64 (codes "userID") args
-  Some (CreateShare id list user)
+  role ← role_or_edit (get (codes "role") args)
+  Some (CreateShare id list user role)
+
+-- {id,role}
+unfoldable pub update_share_in : Data → Option Call
+update_share_in args = do
+  id ← text_member 1 128 (codes "id") args
+  role ← role_member (codes "role") args
+  Some (UpdateShare id role)
 
 -- {id,listID,text,complete}
 unfoldable pub create_todo_in : Data → Option Call
@@ -51,6 +66,7 @@ call_with name args =
     if bytes_eq name (codes "createList") then create_list_in args
     else if bytes_eq name (codes "deleteList") then option_map (λ id. DeleteList id) (text_in 1 128 args)
     else if bytes_eq name (codes "createShare") then create_share_in args
+    else if bytes_eq name (codes "updateShare") then update_share_in args
     else if bytes_eq name (codes "deleteShare") then option_map (λ id. DeleteShare id) (text_in 1 128 args)
     else if bytes_eq name (codes "createTodo") then create_todo_in args
     else if bytes_eq name (codes "updateTodo") then update_todo_in args

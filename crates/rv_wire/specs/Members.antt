@@ -3,6 +3,8 @@ use Rattle.std.specs.Prelude.{ℕ, Bool, List, Option, Some, None, codes, option
 use Rattle.serde_json.specs.Data.{Data, Items}
 use Rattle.serde_json.specs.Find.{get, as_str, as_bool, as_array}
 use Rattle.rv_rows.specs.Members.{text_in, num_in}
+use Rattle.rv_rows.specs.declared.role.Role.{Role}
+use Rattle.rv_rows.specs.Roles.{role_named}
 use Rattle.rv_wire.specs.declared.fault.FieldName.{FieldName}
 use Rattle.rv_wire.specs.declared.fault.FieldName.TheVariants as fields
 
@@ -30,6 +32,14 @@ string_member name body = option_and_then as_str (get name body)
 -- a member that is true or false
 abbrev pub bool_member : List ℕ → Data → Option Bool
 bool_member name body = option_and_then as_bool (get name body)
+
+-- a value that is the text of a role
+abbrev pub role_in : Data → Option Role
+role_in value = option_and_then role_named (as_str value)
+
+-- a member that is the text of a role
+abbrev pub role_member : List ℕ → Data → Option Role
+role_member name body = option_and_then role_in (get name body)
 
 -- what a member is read as that may be absent: nothing is read of an absent one, and one that can't be read is wrong
 abbrev pub optional : {X : Type 0} → (Data → Option X) → Option Data → Option (Option X)

@@ -3,11 +3,11 @@ ghost use Rattle.serde_json.specs.Find.{as_bool, get};
 ghost use Rattle.serde_json.specs.View.{view};
 ghost use Rattle.rv_rows.specs.Members.{text_in, num_in};
 ghost use Rattle.rv_wire.specs.Members.{optional};
-ghost use Rattle.rv_wire.specs.Calls.{call_in, call_with, create_list_in, create_share_in, create_todo_in, update_todo_in};
+ghost use Rattle.rv_wire.specs.Calls.{call_in, call_with, create_list_in, create_share_in, create_todo_in, role_or_edit, update_share_in, update_todo_in};
 
-use crate::body::{bool_member, text_member};
+use crate::body::{bool_member, role_member, role_of_value, text_member};
 use rv_base::{Id, Memory, Num, Text};
-use rv_rows::{Call, Reason, num_of_value, text_of_value};
+use rv_rows::{Call, Reason, Role, num_of_value, text_of_value};
 use serde_json::Value;
 use std::alloc::Global;
 
@@ -29,6 +29,7 @@ fn call_with(alloc: Global, name: &str, args: &Value) -> Result<Option<Call>, Me
         "createList" => create_list(alloc, args),
         "deleteList" => Ok(id_of(alloc, args)?.map(|id| Call::DeleteList { id })),
         "createShare" => create_share(alloc, args),
+        "updateShare" => update_share(alloc, args),
         "deleteShare" => Ok(id_of(alloc, args)?.map(|id| Call::DeleteShare { id })),
         "createTodo" => create_todo(alloc, args),
         "updateTodo" => update_todo(alloc, args),
@@ -59,6 +60,16 @@ fn create_list(alloc: Global, args: &Value) -> Result<Option<Call>, Memory>
     Ok(Some(Call::CreateList { id, name, owner }))
 }
 
+// The role of a new share, where it is named; else it is to edit.
+fn role_or_edit(value: Option<&Value>) -> Option<Role>
+    ensures { result ≡ role_or_edit (option_map (λ v. view v.now) value.entry) }
+{
+    match value {
+        None => Some(Role::Edit),
+        Some(value) => role_of_value(value),
+    }
+}
+
 #[tactic(auto, unfolding(crate::specs::Calls::create_share_in))]
 fn create_share(alloc: Global, args: &Value) -> Result<Option<Call>, Memory>
     ensures { IfOk result (λ o. o ≡ create_share_in (view args.now)) }
@@ -72,7 +83,28 @@ fn create_share(alloc: Global, args: &Value) -> Result<Option<Call>, Memory>
     let Some(user) = text_member(alloc, args, "userID")? else {
         return Ok(None);
     };
-    Ok(Some(Call::CreateShare { id, list, user }))
+    let Some(role) = role_or_edit(args.get("role")) else {
+        return Ok(None);
+    };
+    Ok(Some(Call::CreateShare {
+        id,
+        list,
+        user,
+        role,
+    }))
+}
+
+#[tactic(auto, unfolding(crate::specs::Calls::update_share_in))]
+fn update_share(alloc: Global, args: &Value) -> Result<Option<Call>, Memory>
+    ensures { IfOk result (λ o. o ≡ update_share_in (view args.now)) }
+{
+    let Some(id) = text_member(alloc, args, "id")? else {
+        return Ok(None);
+    };
+    let Some(role) = role_member(args, "role") else {
+        return Ok(None);
+    };
+    Ok(Some(Call::UpdateShare { id, role }))
 }
 
 #[tactic(auto, unfolding(crate::specs::Calls::create_todo_in))]
