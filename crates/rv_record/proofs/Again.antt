@@ -1,9 +1,12 @@
 -- What a cell is made of is found in it: the cells of clients, of groups and of rows.
 use Rattle.std.proofs.Common.{◌≡◌, ℕ, suc, Bool, List, Option, Some, None, Result, Ok, Err, codes, refl, sym, ap, ◌∙◌}
 use Rattle.std.specs.Prelude.{IfOk, IfSome}
+use Rattle.std.specs.Str.{IsUtf8}
 use Rattle.std.proofs.lemmas.Option.{none-some}
 use Rattle.json.proofs.Printed.Utf8.{IsUtf8-are_ascii}
 use Rattle.serde_json.specs.Data.{Data}
+use Rattle.rv_rows.specs.declared.role.Role.{Role}
+use Rattle.rv_rows.specs.declared.role.Role.TheVariants as roles
 use Rattle.rv_rows.specs.declared.row.Row.{Row}
 use Rattle.rv_rows.specs.declared.row.Row.TheVariants as variants
 use Rattle.rv_rows.specs.RowTexts.{row_data, row_in, RowIsWithin}
@@ -24,11 +27,22 @@ unfolding group_in_cell
 group_again g fits =
     rw (text_again 1 128 g.0 fits.0.0 fits.0.1, json_again (group_body g.1 g.2 g.3) (fits.1.1, (num_plain g.2 fits.2, (tt, tt))), within_again 1 64 g.1 fits.1.0, num_again g.2 fits.2) refl
 
+share_plain : (id list user : List ℕ) (role : Role) (n : ℕ) → IsUtf8 id → IsUtf8 list → IsUtf8 user → IsPlain (row_data (variants.Share (record { id = id; list = list; user = user; role = role }))) (suc n)
+share_plain id list user roles.View n i l u = (
+  (
+    IsUtf8-are_ascii (codes "id") refl,
+    i,
+    (IsUtf8-are_ascii (codes "listID") refl, l, (IsUtf8-are_ascii (codes "role") refl, IsUtf8-are_ascii (codes "view") refl, (IsUtf8-are_ascii (codes "userID") refl, u, tt))),
+  ),
+  refl,
+)
+share_plain id list user roles.Edit n i l u =
+    ((IsUtf8-are_ascii (codes "id") refl, i, (IsUtf8-are_ascii (codes "listID") refl, l, (IsUtf8-are_ascii (codes "userID") refl, u, tt))), refl)
+
 row_plain : (r : Row) (n : ℕ) → RowIsWithin r → HasTexts r → IsPlain (row_data r) (suc n)
 row_plain (variants.List r) n fits texts =
     ((IsUtf8-are_ascii (codes "id") refl, texts.0, (IsUtf8-are_ascii (codes "name") refl, texts.1, (IsUtf8-are_ascii (codes "ownerID") refl, texts.2, tt))), refl)
-row_plain (variants.Share r) n fits texts =
-    ((IsUtf8-are_ascii (codes "id") refl, texts.0, (IsUtf8-are_ascii (codes "listID") refl, texts.1, (IsUtf8-are_ascii (codes "userID") refl, texts.2, tt))), refl)
+row_plain (variants.Share r) n fits texts = share_plain r.id r.list r.user r.role n texts.0 texts.1 texts.2
 row_plain (variants.Todo r) n fits texts = (
   (
     IsUtf8-are_ascii (codes "complete") refl,

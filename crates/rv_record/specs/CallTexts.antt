@@ -1,15 +1,19 @@
 -- A call as JSON, as it is kept: its name and its arguments, in this order.
---   ["createList",ID,NAME,OWNER], ["deleteList",ID], ["createShare",ID,LIST,USER], ["deleteShare",ID],
---   ["createTodo",ID,LIST,TEXT,COMPLETE], ["updateTodo",ID,TEXT,COMPLETE,SORT] with null for a field that is not named,
---   ["deleteTodo",ID], ["void","UnknownName"] and ["void","BadArgs"]
+--   ["createList",ID,NAME,OWNER], ["deleteList",ID], ["createShare",ID,LIST,USER] of a share that lets edit and
+--   ["createShare",ID,LIST,USER,"view"] of one that lets see alone, ["updateShare",ID,ROLE] with "view" or "edit",
+--   ["deleteShare",ID], ["createTodo",ID,LIST,TEXT,COMPLETE], ["updateTodo",ID,TEXT,COMPLETE,SORT] with null for a field
+--   that is not named, ["deleteTodo",ID], ["void","UnknownName"] and ["void","BadArgs"]
 use Rattle.std.specs.Prelude.{ℕ, List, [], ◌∷◌, Bool, Option, codes}
 use Rattle.std.specs.Option.{option_map_or}
 use Rattle.serde_json.specs.Data.{Data, null, boolean, number, unsigned, string, array}
 use Rattle.serde_json.specs.View.{items_of}
 use Rattle.rv_rows.specs.declared.call.Call.{Call}
-use Rattle.rv_rows.specs.declared.call.Call.TheVariants.{CreateList, DeleteList, CreateShare, DeleteShare, CreateTodo, UpdateTodo, DeleteTodo, Void}
+use Rattle.rv_rows.specs.declared.call.Call.TheVariants.{CreateList, DeleteList, CreateShare, UpdateShare, DeleteShare, CreateTodo, UpdateTodo, DeleteTodo, Void}
 use Rattle.rv_rows.specs.declared.call.Reason.{Reason}
 use Rattle.rv_rows.specs.declared.call.Reason.TheVariants.{UnknownName, BadArgs}
+use Rattle.rv_rows.specs.declared.role.Role.{Role}
+use Rattle.rv_rows.specs.declared.role.Role.TheVariants as roles
+use Rattle.rv_rows.specs.Roles.{role_text}
 
 -- a list of values
 abbrev pub array_of : List Data → Data
@@ -30,10 +34,16 @@ abbrev pub reason_text : Reason → List ℕ
 reason_text UnknownName = codes "UnknownName"
 reason_text BadArgs = codes "BadArgs"
 
+-- the role of a new share: of one that lets edit it is not told
+abbrev pub role_items : Role → List Data
+role_items roles.View = string (codes "view") ∷ []
+role_items roles.Edit = []
+
 abbrev pub call_data : Call → Data
 call_data (CreateList id name owner) = array_of (string (codes "createList") ∷ string id ∷ string name ∷ string owner ∷ [])
 call_data (DeleteList id) = array_of (string (codes "deleteList") ∷ string id ∷ [])
-call_data (CreateShare id list user) = array_of (string (codes "createShare") ∷ string id ∷ string list ∷ string user ∷ [])
+call_data (CreateShare id list user role) = array_of (string (codes "createShare") ∷ string id ∷ string list ∷ string user ∷ role_items role)
+call_data (UpdateShare id role) = array_of (string (codes "updateShare") ∷ string id ∷ string (role_text role) ∷ [])
 call_data (DeleteShare id) = array_of (string (codes "deleteShare") ∷ string id ∷ [])
 call_data (CreateTodo id list text complete) = array_of (string (codes "createTodo") ∷ string id ∷ string list ∷ string text ∷ boolean complete ∷ [])
 call_data (UpdateTodo id text complete sort) = array_of (string (codes "updateTodo") ∷ string id ∷ text_or_null text ∷ flag_or_null complete ∷ number_or_null sort ∷ [])

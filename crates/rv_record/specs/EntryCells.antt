@@ -6,8 +6,9 @@ use Rattle.serde_json.specs.Find.{as_bool}
 use Rattle.serde_json.specs.Written.{compact_text}
 use Rattle.rv_rows.specs.Members.{text_in, num_in}
 use Rattle.rv_rows.specs.declared.call.Call.{Call}
-use Rattle.rv_rows.specs.declared.call.Call.TheVariants.{CreateList, DeleteList, CreateShare, DeleteShare, CreateTodo, UpdateTodo, DeleteTodo, Void}
+use Rattle.rv_rows.specs.declared.call.Call.TheVariants.{CreateList, DeleteList, CreateShare, UpdateShare, DeleteShare, CreateTodo, UpdateTodo, DeleteTodo, Void}
 use Rattle.rv_rows.specs.declared.call.Reason.TheVariants.{UnknownName, BadArgs}
+use Rattle.rv_rows.specs.declared.role.Role.TheVariants as roles
 use Rattle.rv_book.specs.declared.entry.Entry.{Entry}
 use Rattle.rv_book.specs.declared.entry.Entry.TheVariants.{Act, Look, Retire}
 use Rattle.rv_keeper.specs.declared.cell.Cell.{Cell}
@@ -16,7 +17,7 @@ use Rattle.rv_record.specs.EntryTexts.{entry_data}
 use Rattle.rv_record.specs.CellTexts.{entry_cell}
 use Rattle.rv_record.specs.CellReading.{IsText}
 use Rattle.rv_record.specs.ValueReading.{or_null, place_in}
-use Rattle.rv_record.specs.EntryReading.{IfThere, CallFits, EntryFits, stored_create_list_in, stored_create_share_in, stored_create_todo_in, stored_update_todo_in, stored_call_in, act_in, look_in, entry_in, body_entry}
+use Rattle.rv_record.specs.EntryReading.{IfThere, CallFits, EntryFits, stored_create_list_in, stored_create_share_in, stored_update_share_in, stored_create_todo_in, stored_update_todo_in, stored_call_in, act_in, look_in, entry_in, body_entry}
 use Rattle.rv_record.specs.ReadBack.{IsPlain, json_again}
 use Rattle.rv_record.specs.ReadTexts.{within_again, num_again, place_again, num_plain, place_plain}
 
@@ -39,7 +40,10 @@ maybe_place_plain (Some m) n h = place_plain m h
 call_plain : (call : Call) (n : ℕ) → CallFits call → IsPlain (call_data call) (suc n)
 call_plain (CreateList id name owner) n h = (IsUtf8-are_ascii (codes "createList") refl, (h.0.1, (h.1.1, (h.2.1, tt))))
 call_plain (DeleteList id) n h = (IsUtf8-are_ascii (codes "deleteList") refl, (h.1, tt))
-call_plain (CreateShare id list user) n h = (IsUtf8-are_ascii (codes "createShare") refl, (h.0.1, (h.1.1, (h.2.1, tt))))
+call_plain (CreateShare id list user roles.View) n h = (IsUtf8-are_ascii (codes "createShare") refl, (h.0.1, (h.1.1, (h.2.1, (IsUtf8-are_ascii (codes "view") refl, tt)))))
+call_plain (CreateShare id list user roles.Edit) n h = (IsUtf8-are_ascii (codes "createShare") refl, (h.0.1, (h.1.1, (h.2.1, tt))))
+call_plain (UpdateShare id roles.View) n h = (IsUtf8-are_ascii (codes "updateShare") refl, (h.1, (IsUtf8-are_ascii (codes "view") refl, tt)))
+call_plain (UpdateShare id roles.Edit) n h = (IsUtf8-are_ascii (codes "updateShare") refl, (h.1, (IsUtf8-are_ascii (codes "edit") refl, tt)))
 call_plain (DeleteShare id) n h = (IsUtf8-are_ascii (codes "deleteShare") refl, (h.1, tt))
 call_plain (CreateTodo id list text complete) n h = (IsUtf8-are_ascii (codes "createTodo") refl, (h.0.1, (h.1.1, (h.2.1, (tt, tt)))))
 call_plain (UpdateTodo id text complete sort) n h =
@@ -72,10 +76,13 @@ maybe_place_again None h = refl
 maybe_place_again (Some n) h = rw (place_again n h) refl
 
 call_again : (call : Call) → CallFits call → stored_call_in (call_data call) ≡ Some call
-unfolding stored_call_in stored_create_list_in stored_create_share_in stored_create_todo_in stored_update_todo_in
+unfolding stored_call_in stored_create_list_in stored_create_share_in stored_update_share_in stored_create_todo_in stored_update_todo_in
 call_again (CreateList id name owner) h = rw (within_again 1 128 id h.0.0, within_again 0 16384 name h.1.0, within_again 1 64 owner h.2.0) refl
 call_again (DeleteList id) h = rw (within_again 1 128 id h.0) refl
-call_again (CreateShare id list user) h = rw (within_again 1 128 id h.0.0, within_again 1 128 list h.1.0, within_again 1 64 user h.2.0) refl
+call_again (CreateShare id list user roles.View) h = rw (within_again 1 128 id h.0.0, within_again 1 128 list h.1.0, within_again 1 64 user h.2.0) refl
+call_again (CreateShare id list user roles.Edit) h = rw (within_again 1 128 id h.0.0, within_again 1 128 list h.1.0, within_again 1 64 user h.2.0) refl
+call_again (UpdateShare id roles.View) h = rw (within_again 1 128 id h.0) refl
+call_again (UpdateShare id roles.Edit) h = rw (within_again 1 128 id h.0) refl
 call_again (DeleteShare id) h = rw (within_again 1 128 id h.0) refl
 call_again (CreateTodo id list text complete) h = rw (within_again 1 128 id h.0.0, within_again 1 128 list h.1.0, within_again 0 16384 text h.2.0) refl
 call_again (UpdateTodo id text complete sort) h = rw (within_again 1 128 id h.0.0, maybe_text_again text h.1, maybe_flag_again complete, maybe_num_again sort h.2) refl

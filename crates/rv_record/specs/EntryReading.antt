@@ -8,12 +8,14 @@ use Rattle.rv_base.specs.Options.{◌>>=◌}
 use Rattle.rv_rows.specs.Members.{text_in, num_in}
 use Rattle.rv_rows.specs.JsonTexts.{json_in}
 use Rattle.rv_rows.specs.declared.call.Call.{Call}
-use Rattle.rv_rows.specs.declared.call.Call.TheVariants.{CreateList, DeleteList, CreateShare, DeleteShare, CreateTodo, UpdateTodo, DeleteTodo, Void}
+use Rattle.rv_rows.specs.declared.call.Call.TheVariants.{CreateList, DeleteList, CreateShare, UpdateShare, DeleteShare, CreateTodo, UpdateTodo, DeleteTodo, Void}
 use Rattle.rv_rows.specs.declared.call.Reason.TheVariants.{UnknownName, BadArgs}
+use Rattle.rv_rows.specs.declared.role.Role.{Role}
+use Rattle.rv_rows.specs.declared.role.Role.TheVariants as roles
 use Rattle.rv_book.specs.declared.entry.Entry.{Entry}
 use Rattle.rv_book.specs.declared.entry.Entry.TheVariants.{Act, Look, Retire}
 use Rattle.rv_record.specs.CellReading.{IsText}
-use Rattle.rv_record.specs.ValueReading.{or_null, place_in, string_item, text_item, num_item, flag_item}
+use Rattle.rv_record.specs.ValueReading.{or_null, place_in, role_in, role_item, string_item, text_item, num_item, flag_item}
 
 -- a place is numbered from 1
 abbrev pub IsPlace : ℕ → Type 0
@@ -27,7 +29,8 @@ IfThere P (Some x) = P x
 abbrev pub CallFits : Call → Type 0
 CallFits (CreateList id name owner) = IsText 1 128 id × IsText 0 16384 name × IsText 1 64 owner
 CallFits (DeleteList id) = IsText 1 128 id
-CallFits (CreateShare id list user) = IsText 1 128 id × IsText 1 128 list × IsText 1 64 user
+CallFits (CreateShare id list user role) = IsText 1 128 id × IsText 1 128 list × IsText 1 64 user
+CallFits (UpdateShare id role) = IsText 1 128 id
 CallFits (DeleteShare id) = IsText 1 128 id
 CallFits (CreateTodo id list text complete) = IsText 1 128 id × IsText 1 128 list × IsText 0 16384 text
 CallFits (UpdateTodo id text complete sort) = IsText 1 128 id × IfThere (IsText 0 16384) text × IfThere (λ n. n < 2 ^ 53) sort
@@ -50,12 +53,26 @@ stored_create_list_in value = do
   owner ← text_item 1 64 3 value
   Some (CreateList id name owner)
 
+-- the role of a new share: where none is told, it is to edit
+abbrev pub role_or_edit : Option Data → Option Role
+role_or_edit None = Some roles.Edit
+role_or_edit (Some value) = role_in value
+
+-- ["createShare",ID,LIST,USER] or ["createShare",ID,LIST,USER,ROLE]
 unfoldable pub stored_create_share_in : Data → Option Call
 stored_create_share_in value = do
   id ← text_item 1 128 1 value
   list ← text_item 1 128 2 value
   user ← text_item 1 64 3 value
-  Some (CreateShare id list user)
+  role ← role_or_edit (at 4 value)
+  Some (CreateShare id list user role)
+
+-- ["updateShare",ID,ROLE]
+unfoldable pub stored_update_share_in : Data → Option Call
+stored_update_share_in value = do
+  id ← text_item 1 128 1 value
+  role ← role_item 2 value
+  Some (UpdateShare id role)
 
 unfoldable pub stored_create_todo_in : Data → Option Call
 stored_create_todo_in value = do
@@ -86,6 +103,7 @@ stored_call_with name value =
     if bytes_eq name (codes "createList") then stored_create_list_in value
     else if bytes_eq name (codes "deleteList") then option_map (λ id. DeleteList id) (text_item 1 128 1 value)
     else if bytes_eq name (codes "createShare") then stored_create_share_in value
+    else if bytes_eq name (codes "updateShare") then stored_update_share_in value
     else if bytes_eq name (codes "deleteShare") then option_map (λ id. DeleteShare id) (text_item 1 128 1 value)
     else if bytes_eq name (codes "createTodo") then stored_create_todo_in value
     else if bytes_eq name (codes "updateTodo") then stored_update_todo_in value

@@ -2,17 +2,20 @@
 // have been written.
 ghost use Rattle.std.specs.Prelude.{◌≡◌, [], ◌∷◌};
 ghost use Rattle.json.specs.Token.{begin_array, string};
+ghost use Rattle.json.specs.Tree.{items_tokens};
 ghost use Rattle.serde_json.specs.Data as values;
+ghost use Rattle.serde_json.specs.View.{items_of};
+ghost use Rattle.serde_json.specs.Written.{items_outline};
 ghost use Rattle.rv_rows.specs.declared.call.Call.TheVariants as calls;
 ghost use Rattle.rv_rows.specs.Additions.{AddsValue, AddsTokens};
 ghost use Rattle.rv_book.specs.declared.entry.Entry.TheVariants as entries;
-ghost use Rattle.rv_record.specs.CallTexts.{array_of, text_or_null, flag_or_null, number_or_null, reason_text, call_data};
+ghost use Rattle.rv_record.specs.CallTexts.{array_of, text_or_null, flag_or_null, number_or_null, reason_text, role_items, call_data};
 ghost use Rattle.rv_record.specs.EntryTexts.{entry_data};
 ghost use Rattle.rv_record.specs.CellTexts.{row_body, group_body};
 
 use json::Writer;
 use rv_base::{Id, Memory, Num, Text, User};
-use rv_rows::{Call, Reason, Row, write_row};
+use rv_rows::{Call, Reason, Role, Row, write_row};
 
 // Writes a text, or null where there is none.
 fn write_text_or_null(out: &mut Writer, text: &Option<Text>) -> Result<(), Memory>
@@ -85,12 +88,40 @@ fn write_create_list(out: &mut Writer, id: &Id, name: &Text, owner: &User) -> Re
     Ok(())
 }
 
-fn write_create_share(out: &mut Writer, id: &Id, list: &Id, user: &User) -> Result<(), Memory>
-    ensures { AddsValue result out.old out.new (call_data (calls.CreateShare id.now list.now user.now)) }
+// Ends the array of a new share: its role before, where it lets see alone.
+fn end_create_share(out: &mut Writer, role: Role) -> Result<(), Memory>
+    ensures { AddsTokens result out.old out.new (items_tokens (items_outline (items_of (role_items role)))) }
+{
+    match role {
+        Role::View => {
+            out.string("view")?;
+            Ok(out.end_array()?)
+        }
+        Role::Edit => Ok(out.end_array()?),
+    }
+}
+
+fn write_create_share(
+    out: &mut Writer,
+    id: &Id,
+    list: &Id,
+    user: &User,
+    role: Role,
+) -> Result<(), Memory>
+    ensures { AddsValue result out.old out.new (call_data (calls.CreateShare id.now list.now user.now role)) }
 {
     begin_call(out, "createShare", id)?;
     out.string(list.as_str())?;
     out.string(user.as_str())?;
+    end_create_share(out, role)?;
+    Ok(())
+}
+
+fn write_update_share(out: &mut Writer, id: &Id, role: Role) -> Result<(), Memory>
+    ensures { AddsValue result out.old out.new (call_data (calls.UpdateShare id.now role)) }
+{
+    begin_call(out, "updateShare", id)?;
+    out.string(role.text())?;
     out.end_array()?;
     Ok(())
 }
@@ -164,7 +195,13 @@ fn write_call(out: &mut Writer, call: &Call) -> Result<(), Memory>
     match call {
         Call::CreateList { id, name, owner } => write_create_list(out, id, name, owner),
         Call::DeleteList { id } => write_removal(out, "deleteList", id),
-        Call::CreateShare { id, list, user } => write_create_share(out, id, list, user),
+        Call::CreateShare {
+            id,
+            list,
+            user,
+            role,
+        } => write_create_share(out, id, list, user, *role),
+        Call::UpdateShare { id, role } => write_update_share(out, id, *role),
         Call::DeleteShare { id } => write_removal(out, "deleteShare", id),
         Call::CreateTodo {
             id,

@@ -6,7 +6,7 @@ returns c = (
   search rules,
   simp (
     append_assoc,
-    c.in_ok-end_array.ensures.ok,
+    c.in_ok-end_create_share.ensures.1,
     c.in_ok-string-2.ensures.ok,
     c.in_ok-string.ensures.ok,
     c.in_ok-begin_call.ensures.1,
