@@ -22,7 +22,7 @@ use Rattle.rv_answering.specs.declared.asking.Verb.TheVariants as verbs
 
 -- the schema versions that a feed serves
 abbrev pub serves : List ℕ → Bool
-serves schema = list_any (λ served. bytes_eq served schema) ([] ∷ codes "1" ∷ [])
+serves schema = list_any (λ served. bytes_eq served schema) ([] ∷ codes "1" ∷ codes "2" ∷ [])
 
 -- What a line of the form asks: a request, or the first thing that is wrong with its body.
 abbrev pub Parsed : Type 0

@@ -1,6 +1,6 @@
 use rv_wire::SchemaVersions;
 
-/// The schema versions that a feed serves: the empty one and `1`.
+/// The schema versions that a feed serves: the empty one, `1` and `2`.
 #[derive(Clone, Copy, Debug)]
 pub struct FeedSchemas;
 
@@ -10,6 +10,6 @@ impl SchemaVersions for FeedSchemas {
     ghost serves = { λ _. serves };
 
     fn is_served(&self, schema: &str) -> bool {
-        schema.is_empty() || schema == "1"
+        schema.is_empty() || schema == "1" || schema == "2"
     }
 }
