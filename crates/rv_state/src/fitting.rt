@@ -72,11 +72,12 @@ fn call_fits(call: &Call)
             user_fits(owner);
         }
         Call::DeleteList { id } => id_fits(id),
-        Call::CreateShare { id, list, user } => {
+        Call::CreateShare { id, list, user, .. } => {
             id_fits(id);
             id_fits(list);
             user_fits(user);
         }
+        Call::UpdateShare { id, .. } => id_fits(id),
         Call::DeleteShare { id } => id_fits(id),
         Call::CreateTodo { id, list, text, .. } => {
             id_fits(id);
