@@ -14,7 +14,7 @@ use Rattle.rv_rows.specs.declared.row.Row.TheVariants as variants
 use Rattle.rv_rows.specs.Keys.{key_text, row_text, row_at}
 use Rattle.rv_rows.specs.Held.{Stored, rows_in, find, AreRows}
 use Rattle.rv_rows.specs.HeldLaws.{distinct-rows}
-use Rattle.rv_rows.specs.Sharing.{is_list, owns, shares, sees}
+use Rattle.rv_rows.specs.Sharing.{is_list, owns, shares, sees, lets_edit, may_edit}
 use Rattle.rv_sharing.specs.Owners.{row_owner, owner_of}
 
 -- the text of a list's key
@@ -75,17 +75,27 @@ owns-owner user list (variants.List row ∷ rows) apart =
 owns-owner user list (variants.Share row ∷ rows) apart = owns-owner user list rows apart.1
 owns-owner user list (variants.Todo row ∷ rows) apart = owns-owner user list rows apart.1
 
+-- who owns a list or is let by one of its rows, by its owner
+let-owner : (lets : Row → Bool) (user list : List ℕ) (rows : List Row) → Distinct row_text rows
+    → (list_any (owns user list) rows || (list_any (is_list list) rows && list_any lets rows)) ≡ option_map_or (λ owner. bytes_eq owner user || list_any lets rows) (owner_of list rows) false
+let-owner lets user list rows apart =
+    ap (λ (b : Bool). b || (list_any (is_list list) rows && list_any lets rows)) (owns-owner user list rows apart)
+    ∙ ap (λ (b : Bool). option_map_or (λ owner. bytes_eq owner user) (owner_of list rows) false || (b && list_any lets rows)) (is_list-owner list rows)
+    ∙ joined (owner_of list rows)
+  where
+    joined : (o : Option (List ℕ)) → (option_map_or (λ owner. bytes_eq owner user) o false || (is_some o && list_any lets rows)) ≡ option_map_or (λ owner. bytes_eq owner user || list_any lets rows) o false
+    joined None = refl
+    joined (Some owner) = refl
+
 -- who sees a list, by its owner
 pub sees-owner : (user list : List ℕ) (rows : List Row) → Distinct row_text rows → sees user list rows ≡ option_map_or (λ owner. bytes_eq owner user || list_any (shares user list) rows) (owner_of list rows) false
 unfolding sees
-sees-owner user list rows apart =
-    ap (λ (b : Bool). b || (list_any (is_list list) rows && list_any (shares user list) rows)) (owns-owner user list rows apart)
-    ∙ ap (λ (b : Bool). option_map_or (λ owner. bytes_eq owner user) (owner_of list rows) false || (b && list_any (shares user list) rows)) (is_list-owner list rows)
-    ∙ joined (owner_of list rows)
-  where
-    joined : (o : Option (List ℕ)) → (option_map_or (λ owner. bytes_eq owner user) o false || (is_some o && list_any (shares user list) rows)) ≡ option_map_or (λ owner. bytes_eq owner user || list_any (shares user list) rows) o false
-    joined None = refl
-    joined (Some owner) = refl
+sees-owner user list rows apart = let-owner (shares user list) user list rows apart
+
+-- who may edit a list, by its owner
+may_edit-owner : (user list : List ℕ) (rows : List Row) → Distinct row_text rows → may_edit user list rows ≡ option_map_or (λ owner. bytes_eq owner user || list_any (lets_edit user list) rows) (owner_of list rows) false
+unfolding may_edit
+may_edit-owner user list rows apart = let-owner (lets_edit user list) user list rows apart
 
 -- the owner of a list, by what is found in a table
 pub owner-found : (list : List ℕ) (stored : List Stored) → option_and_then (λ (s : Stored). row_owner s.0) (find (list_key list) stored) ≡ owner_of list (rows_in stored)
@@ -101,6 +111,13 @@ sees-owned user list owner stored order is = sees-owner user list (rows_in store
 
 pub sees-absent : (user list : List ℕ) (stored : List Stored) → AreRows stored → None ≡ owner_of list (rows_in stored) → sees user list (rows_in stored) ≡ false
 sees-absent user list stored order is = sees-owner user list (rows_in stored) (distinct-rows stored order) ∙ ap (λ (o : Option (List ℕ)). option_map_or (λ owner. bytes_eq owner user || list_any (shares user list) (rows_in stored)) o false) (sym is)
+
+-- who may edit a list of a table, by what is known of its owner
+pub may_edit-owned : (user list owner : List ℕ) (stored : List Stored) → AreRows stored → Some owner ≡ owner_of list (rows_in stored) → may_edit user list (rows_in stored) ≡ (bytes_eq owner user || list_any (lets_edit user list) (rows_in stored))
+may_edit-owned user list owner stored order is = may_edit-owner user list (rows_in stored) (distinct-rows stored order) ∙ ap (λ (o : Option (List ℕ)). option_map_or (λ owner. bytes_eq owner user || list_any (lets_edit user list) (rows_in stored)) o false) (sym is)
+
+pub may_edit-absent : (user list : List ℕ) (stored : List Stored) → AreRows stored → None ≡ owner_of list (rows_in stored) → may_edit user list (rows_in stored) ≡ false
+may_edit-absent user list stored order is = may_edit-owner user list (rows_in stored) (distinct-rows stored order) ∙ ap (λ (o : Option (List ℕ)). option_map_or (λ owner. bytes_eq owner user || list_any (lets_edit user list) (rows_in stored)) o false) (sym is)
 
 -- who owns a list of a table, by what is known of its owner
 pub owns-found : (user list : List ℕ) (stored : List Stored) (owner : Option (List ℕ)) → AreRows stored → owner ≡ owner_of list (rows_in stored)

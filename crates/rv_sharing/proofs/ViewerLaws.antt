@@ -15,7 +15,7 @@ use Rattle.rv_rows.specs.declared.row.TodoRow.{TodoRow}
 use Rattle.rv_rows.specs.declared.row.Row.TheVariants as variants
 use Rattle.rv_rows.specs.Keys.{key_text, row_text}
 use Rattle.rv_rows.specs.Held.{Stored, rows_in, find, stored_key, AreRows}
-use Rattle.rv_rows.specs.Sharing.{shares, sees, list_of, user_of}
+use Rattle.rv_rows.specs.Sharing.{shares, sees, lets_edit, list_of, user_of}
 use Rattle.rv_sharing.specs.Owners.{owner_of}
 use Rattle.rv_sharing.proofs.OwnerLaws.{same_either_way, sees-owned, sees-absent}
 use Rattle.rv_sharing.specs.Texts.{AreInOrder, AddsText}
@@ -60,13 +60,30 @@ not_naming user list (variants.Share row) e = rw e (neither (bytes_eq row.list l
     neither false = refl
 not_naming user list (variants.Todo row) e = refl
 
-pub shares-named : (user list : List ℕ) (stored : List Stored) → list_any (shares user list) (rows_in (filter (λ s. bytes_eq (user_of s.0) user) stored)) ≡ list_any (shares user list) (rows_in stored)
-shares-named user list [] = refl
-shares-named user list (s ∷ stored) =
-    elim (bytes_eq (user_of s.0) user) as (λ b. bytes_eq (user_of s.0) user ≡ b → list_any (shares user list) (rows_in (cond b (s ∷ filter (λ s. bytes_eq (user_of s.0) user) stored) (filter (λ s. bytes_eq (user_of s.0) user) stored))) ≡ (shares user list s.0 || list_any (shares user list) (rows_in stored))) [
-      | true ↦ λ e. ap (λ (b : Bool). shares user list s.0 || b) (shares-named user list stored)
-      | false ↦ λ e. shares-named user list stored ∙ ap (λ (b : Bool). b || list_any (shares user list) (rows_in stored)) (sym (not_naming user list s.0 e))
+-- what is so of rows that name the user alone is told by those
+any-named : (test : Row → Bool) (user : List ℕ) → ((row : Row) → bytes_eq (user_of row) user ≡ false → test row ≡ false) → (stored : List Stored)
+    → list_any test (rows_in (filter (λ s. bytes_eq (user_of s.0) user) stored)) ≡ list_any test (rows_in stored)
+any-named test user alone [] = refl
+any-named test user alone (s ∷ stored) =
+    elim (bytes_eq (user_of s.0) user) as (λ b. bytes_eq (user_of s.0) user ≡ b → list_any test (rows_in (cond b (s ∷ filter (λ s. bytes_eq (user_of s.0) user) stored) (filter (λ s. bytes_eq (user_of s.0) user) stored))) ≡ (test s.0 || list_any test (rows_in stored))) [
+      | true ↦ λ e. ap (λ (b : Bool). test s.0 || b) (any-named test user alone stored)
+      | false ↦ λ e. any-named test user alone stored ∙ ap (λ (b : Bool). b || list_any test (rows_in stored)) (sym (alone s.0 e))
     ] refl
+
+pub shares-named : (user list : List ℕ) (stored : List Stored) → list_any (shares user list) (rows_in (filter (λ s. bytes_eq (user_of s.0) user) stored)) ≡ list_any (shares user list) (rows_in stored)
+shares-named user list stored = any-named (shares user list) user (not_naming user list) stored
+
+not_letting : (user list : List ℕ) (row : Row) → bytes_eq (user_of row) user ≡ false → lets_edit user list row ≡ false
+not_letting user list (variants.List row) e = refl
+not_letting user list (variants.Share row) e = rw (e, neither (bytes_eq row.list list)) refl
+  where
+    neither : (b : Bool) → (b && false) ≡ false
+    neither true = refl
+    neither false = refl
+not_letting user list (variants.Todo row) e = refl
+
+pub lets_edit-named : (user list : List ℕ) (stored : List Stored) → list_any (lets_edit user list) (rows_in (filter (λ s. bytes_eq (user_of s.0) user) stored)) ≡ list_any (lets_edit user list) (rows_in stored)
+lets_edit-named user list stored = any-named (lets_edit user list) user (not_letting user list) stored
 
 -- after a todo come no shares, since rows stand in the order of their keys
 no_shares : (user list : List ℕ) (todo : TodoRow) (rest : List Stored) → Above stored_key (row_text (variants.Todo todo)) rest → list_any (shares user list) (rows_in rest) ≡ false

@@ -1,8 +1,8 @@
-// Who owns a list, and who sees it.
+// Who owns a list, who sees it, and who may edit it.
 ghost use Rattle.std.specs.Prelude.{◌≡◌, option_map};
 ghost use Rattle.std.specs.List.{list_any};
 ghost use Rattle.rv_rows.specs.Held.{rows_in, AreRows};
-ghost use Rattle.rv_rows.specs.Sharing.{is_list, owns, sees, shares};
+ghost use Rattle.rv_rows.specs.Sharing.{is_list, lets_edit, may_edit, owns, sees, shares};
 ghost use Rattle.rv_sharing.specs.Owners.{row_owner, owner_of};
 
 use rv_base::{Id, User};
@@ -65,6 +65,29 @@ pub fn sees(tables: &Tables, user: &User, list: &Id) -> bool
 {
     match owner_of(tables, list) {
         Some(owner) => owner == user || has_share(tables, user, list),
+        None => false,
+    }
+}
+
+// Whether a share of the list names the user and lets the user edit: among the rows that name the user. Takes no memory.
+fn has_edit_share(tables: &Tables, user: &User, list: &Id) -> bool
+    ensures { result ≡ list_any (lets_edit user.now list.now) (rows_in tables.now.rows) }
+{
+    for (row, _version) in tables.of_user(user) {
+        if row.lets_edit(user, list) {
+            return true;
+        }
+    }
+    false
+}
+
+/// Whether the user may add, change and remove todos of the list: it is there, and the user owns it or a share of it names the
+/// user and has role edit. Takes no memory.
+pub fn may_edit(tables: &Tables, user: &User, list: &Id) -> bool
+    ensures { result ≡ may_edit user.now list.now (rows_in tables.now.rows) }
+{
+    match owner_of(tables, list) {
+        Some(owner) => owner == user || has_edit_share(tables, user, list),
         None => false,
     }
 }
