@@ -9,13 +9,14 @@ use Rattle.rv_base.specs.Sorted.{find_by, InOrder}
 use Rattle.rv_base.specs.Positions.{equals, found-any, found-map, none_found}
 use Rattle.rv_base.specs.Arranged.{find-map}
 use Rattle.rv_rows.specs.declared.key.Kind.TheVariants as kinds
+use Rattle.rv_rows.specs.declared.role.Role.{Role}
 use Rattle.rv_rows.specs.declared.row.Row.{Row}
 use Rattle.rv_rows.specs.declared.row.Row.TheVariants as variants
-use Rattle.rv_rows.specs.declared.call.Call.TheVariants.{CreateList, DeleteList, CreateShare, DeleteShare, CreateTodo, UpdateTodo, DeleteTodo}
+use Rattle.rv_rows.specs.declared.call.Call.TheVariants.{CreateList, DeleteList, CreateShare, UpdateShare, DeleteShare, CreateTodo, UpdateTodo, DeleteTodo}
 use Rattle.rv_rows.specs.Keys.{key_text, row_key, row_text, has_row}
 use Rattle.rv_rows.specs.Held.{Stored, rows_in, find}
-use Rattle.rv_rows.specs.Sharing.{owns, shares, sees, list_of}
-use Rattle.rv_rows.specs.Effects.{is_outside, is_other, is_unchanged, may_change, ends, may_end, with_fields, after_update, next_sort}
+use Rattle.rv_rows.specs.Sharing.{owns, shares, may_edit, list_of}
+use Rattle.rv_rows.specs.Effects.{is_outside, is_other, is_unchanged, may_change, may_set_role, ends, may_end, with_fields, with_role, next_sort}
 use Rattle.rv_rows.specs.Changes.{same_row}
 use Rattle.rv_rows.specs.EffectLaws.{same_row-Decides}
 use Rattle.rv_mutators.specs.declared.staged.Staged.{Staged}
@@ -70,19 +71,19 @@ module _ (rows : List Row) (h : InOrder row_text rows) where
       push_if (not (has_row (key_text (record { kind = kinds.List; id = id })) rows) && bytes_eq owner user) (variants.List (record { id = id; name = name; owner = owner }))
       (free_first (has_row (key_text (record { kind = kinds.List; id = id })) rows) (bytes_eq owner user))
 
-  pub create_share-is : (user id list other : List ℕ)
-      → written_if (list_any (owns user list) rows && not (has_row (key_text (record { kind = kinds.Share; id = id })) rows) && not (bytes_eq other user) && not (list_any (shares other list) rows)) (variants.Share (record { id = id; list = list; user = other }))
-      ≡ staged rows user (CreateShare id list other)
-  create_share-is user id list other =
-      push_if (list_any (owns user list) rows && not (has_row (key_text (record { kind = kinds.Share; id = id })) rows) && not (bytes_eq other user) && not (list_any (shares other list) rows)) (variants.Share (record { id = id; list = list; user = other }))
+  pub create_share-is : (user id list other : List ℕ) (role : Role)
+      → written_if (list_any (owns user list) rows && not (has_row (key_text (record { kind = kinds.Share; id = id })) rows) && not (bytes_eq other user) && not (list_any (shares other list) rows)) (variants.Share (record { id = id; list = list; user = other; role = role }))
+      ≡ staged rows user (CreateShare id list other role)
+  create_share-is user id list other role =
+      push_if (list_any (owns user list) rows && not (has_row (key_text (record { kind = kinds.Share; id = id })) rows) && not (bytes_eq other user) && not (list_any (shares other list) rows)) (variants.Share (record { id = id; list = list; user = other; role = role }))
       (free_second (list_any (owns user list) rows) (has_row (key_text (record { kind = kinds.Share; id = id })) rows) (not (bytes_eq other user)) (not (list_any (shares other list) rows)))
 
   pub create_todo-is : (user id list text : List ℕ) (complete : Bool)
-      → written_if (not (has_row (key_text (record { kind = kinds.Todo; id = id })) rows) && sees user list rows) (variants.Todo (record { id = id; list = list; text = text; complete = complete; sort = next_sort list rows }))
+      → written_if (not (has_row (key_text (record { kind = kinds.Todo; id = id })) rows) && may_edit user list rows) (variants.Todo (record { id = id; list = list; text = text; complete = complete; sort = next_sort list rows }))
       ≡ staged rows user (CreateTodo id list text complete)
   create_todo-is user id list text complete =
-      push_if (not (has_row (key_text (record { kind = kinds.Todo; id = id })) rows) && sees user list rows) (variants.Todo (record { id = id; list = list; text = text; complete = complete; sort = next_sort list rows }))
-      (free_first (has_row (key_text (record { kind = kinds.Todo; id = id })) rows) (sees user list rows))
+      push_if (not (has_row (key_text (record { kind = kinds.Todo; id = id })) rows) && may_edit user list rows) (variants.Todo (record { id = id; list = list; text = text; complete = complete; sort = next_sort list rows }))
+      (free_first (has_row (key_text (record { kind = kinds.Todo; id = id })) rows) (may_edit user list rows))
 
   -- rows that a test picks are removed
   twice : (b : Bool) → not (not b) ≡ b
@@ -136,67 +137,101 @@ module _ (rows : List Row) (h : InOrder row_text rows) where
   delete_share-absent user id e = sym (ap (λ (o : Option Row). option_map_or (λ x. removed_if (may_end user rows x) x) o (record { rows = []; keys = [] })) e) ∙ delete_share-is user id
 
   delete_todo-is : (user id : List ℕ)
-      → option_map_or (λ x. removed_if (sees user (list_of x) rows) x) (find_by row_text (key_text (record { kind = kinds.Todo; id = id })) rows) (record { rows = []; keys = [] }) ≡ staged rows user (DeleteTodo id)
+      → option_map_or (λ x. removed_if (may_edit user (list_of x) rows) x) (find_by row_text (key_text (record { kind = kinds.Todo; id = id })) rows) (record { rows = []; keys = [] }) ≡ staged rows user (DeleteTodo id)
   unfolding may_change
   delete_todo-is user id =
       let k = key_text (record { kind = kinds.Todo; id = id }) in
-      removed k (λ x. sees user (list_of x) rows) (is_unchanged user rows id) (λ x. twice (bytes_eq k (row_text x) && sees user (list_of x) rows))
+      removed k (λ x. may_edit user (list_of x) rows) (is_unchanged user rows id) (λ x. twice (bytes_eq k (row_text x) && may_edit user (list_of x) rows))
 
-  pub delete_todo-found : (user id : List ℕ) (row : Row) → find_by row_text (key_text (record { kind = kinds.Todo; id = id })) rows ≡ Some row → removed_if (sees user (list_of row) rows) row ≡ staged rows user (DeleteTodo id)
-  delete_todo-found user id row e = sym (ap (λ (o : Option Row). option_map_or (λ x. removed_if (sees user (list_of x) rows) x) o (record { rows = []; keys = [] })) e) ∙ delete_todo-is user id
+  pub delete_todo-found : (user id : List ℕ) (row : Row) → find_by row_text (key_text (record { kind = kinds.Todo; id = id })) rows ≡ Some row → removed_if (may_edit user (list_of row) rows) row ≡ staged rows user (DeleteTodo id)
+  delete_todo-found user id row e = sym (ap (λ (o : Option Row). option_map_or (λ x. removed_if (may_edit user (list_of x) rows) x) o (record { rows = []; keys = [] })) e) ∙ delete_todo-is user id
 
   pub delete_todo-absent : (user id : List ℕ) → find_by row_text (key_text (record { kind = kinds.Todo; id = id })) rows ≡ None → ◌≡◌ {A = Staged} (record { rows = []; keys = [] }) (staged rows user (DeleteTodo id))
-  delete_todo-absent user id e = sym (ap (λ (o : Option Row). option_map_or (λ x. removed_if (sees user (list_of x) rows) x) o (record { rows = []; keys = [] })) e) ∙ delete_todo-is user id
+  delete_todo-absent user id e = sym (ap (λ (o : Option Row). option_map_or (λ x. removed_if (may_edit user (list_of x) rows) x) o (record { rows = []; keys = [] })) e) ∙ delete_todo-is user id
 
-  -- a todo's fields are set where one of them differs
-  module _ (user id : List ℕ) (text : Option (List ℕ)) (complete : Option Bool) (sort : Option ℕ) where
-    keeps_fields : (x : Row) → row_text (with_fields text complete sort x) ≡ row_text x
-    keeps_fields (variants.List x) = refl
-    keeps_fields (variants.Share x) = refl
-    keeps_fields (variants.Todo x) = refl
+  -- a row at a key is replaced where a test allows it and the new one differs
+  module _ (k : List ℕ) (allowed : Row → Bool) (new : Row → Row) (keeps_key : (x : Row) → row_text (new x) ≡ row_text x) where
+    abbrev pub set_at : Row → Row
+    set_at x = cond (bytes_eq k (row_text x) && allowed x) (new x) x
 
-    pub keeps : (x : Row) → row_text (after_update user rows id text complete sort x) ≡ row_text x
-    keeps x = elim (may_change user rows id x) as (λ b. row_text (cond b (with_fields text complete sort x) x) ≡ row_text x) [ true ↦ keeps_fields x | false ↦ refl ]
+    pub keeps : (x : Row) → row_text (set_at x) ≡ row_text x
+    keeps x = elim (bytes_eq k (row_text x) && allowed x) as (λ b. row_text (cond b (new x) x) ≡ row_text x) [ true ↦ keeps_key x | false ↦ refl ]
 
     abbrev pub set_if : Row → Bool
-    set_if x = sees user (list_of x) rows && not (same_row (with_fields text complete sort x) x)
+    set_if x = allowed x && not (same_row (new x) x)
 
-    differs : (x : Row) → not (same_row (after_update user rows id text complete sort x) x) ≡ (bytes_eq (key_text (record { kind = kinds.Todo; id = id })) (row_text x) && set_if x)
-    unfolding may_change
-    differs x = each (bytes_eq (key_text (record { kind = kinds.Todo; id = id })) (row_text x)) (sees user (list_of x) rows)
+    differs : (x : Row) → not (same_row (set_at x) x) ≡ (bytes_eq k (row_text x) && set_if x)
+    differs x = each (bytes_eq k (row_text x)) (allowed x)
       where
-        each : (a b : Bool) → not (same_row (cond (a && b) (with_fields text complete sort x) x) x) ≡ (a && (b && not (same_row (with_fields text complete sort x) x)))
+        each : (a b : Bool) → not (same_row (cond (a && b) (new x) x) x) ≡ (a && (b && not (same_row (new x) x)))
         each true true = refl
         each true false = ap not ((same_row-Decides x x).1 refl)
         each false b = ap not ((same_row-Decides x x).1 refl)
 
-    pub update_todo-is : option_map_or (λ x. written_if (set_if x) (with_fields text complete sort x)) (find_by row_text (key_text (record { kind = kinds.Todo; id = id })) rows) (record { rows = []; keys = [] }) ≡ staged rows user (UpdateTodo id text complete sort)
-    unfolding may_change
-    update_todo-is =
-        let k = key_text (record { kind = kinds.Todo; id = id }) in
-        let f = after_update user rows id text complete sort in
-        by_found (λ o. option_map_or (λ x. written_if (set_if x) (with_fields text complete sort x)) o (record { rows = []; keys = [] }) ≡ record { rows = map f (option_map_or (λ x. cond (set_if x) (x ∷ []) []) o []); keys = [] }) (find_by row_text k rows)
+    pub set-is : option_map_or (λ x. written_if (set_if x) (new x)) (find_by row_text k rows) (record { rows = []; keys = [] }) ≡ changes rows (map set_at rows)
+    set-is =
+        by_found (λ o. option_map_or (λ x. written_if (set_if x) (new x)) o (record { rows = []; keys = [] }) ≡ record { rows = map set_at (option_map_or (λ x. cond (set_if x) (x ∷ []) []) o []); keys = [] }) (find_by row_text k rows)
         (λ e. refl)
-        (λ x e. one f x (with_fields text complete sort x) (sees user (list_of x) rows) (not (same_row (with_fields text complete sort x) x))
-        (λ seen. let at : bytes_eq k (row_text x) ≡ true = subst (λ (t : List ℕ). bytes_eq t (row_text x) ≡ true) (sym (find-key row_text k rows x e)) (equals (row_text x)) in rw (at, seen) refl))
-        ∙ both _ _ [] [] (ap (map f) (sym (filter_agree (λ x. not (same_row (f x) x)) (λ x. bytes_eq k (row_text x) && set_if x) differs rows ∙ filter-at row_text k set_if rows h))) refl
-        ∙ sym (changes-map rows f keeps h)
+        (λ x e. one set_at x (new x) (allowed x) (not (same_row (new x) x))
+        (λ may. let at : bytes_eq k (row_text x) ≡ true = subst (λ (t : List ℕ). bytes_eq t (row_text x) ≡ true) (sym (find-key row_text k rows x e)) (equals (row_text x)) in rw (at, may) refl))
+        ∙ both _ _ [] [] (ap (map set_at) (sym (filter_agree (λ x. not (same_row (set_at x) x)) (λ x. bytes_eq k (row_text x) && set_if x) differs rows ∙ filter-at row_text k set_if rows h))) refl
+        ∙ sym (changes-map rows set_at keeps h)
       where
         one : (f : Row → Row) (x w : Row) (b c : Bool) → (b ≡ true → f x ≡ w) → written_if (b && c) w ≡ record { rows = map f (cond (b && c) (x ∷ []) []); keys = [] }
         one f x w true true e = both (w ∷ []) (f x ∷ []) [] [] (ap (λ (r : Row). r ∷ []) (sym (e refl))) refl
         one f x w true false e = refl
         one f x w false c e = refl
 
-    update_todo-found : (row : Row) → find_by row_text (key_text (record { kind = kinds.Todo; id = id })) rows ≡ Some row → written_if (set_if row) (with_fields text complete sort row) ≡ staged rows user (UpdateTodo id text complete sort)
-    update_todo-found row e = sym (ap (λ (o : Option Row). option_map_or (λ x. written_if (set_if x) (with_fields text complete sort x)) o (record { rows = []; keys = [] })) e) ∙ update_todo-is
+    set-found : (row : Row) → find_by row_text k rows ≡ Some row → written_if (set_if row) (new row) ≡ changes rows (map set_at rows)
+    set-found row e = sym (ap (λ (o : Option Row). option_map_or (λ x. written_if (set_if x) (new x)) o (record { rows = []; keys = [] })) e) ∙ set-is
 
-    pub update_todo-seen : (row : Row) → find_by row_text (key_text (record { kind = kinds.Todo; id = id })) rows ≡ Some row → sees user (list_of row) rows ≡ true
+    set-allowed : (row : Row) → find_by row_text k rows ≡ Some row → allowed row ≡ true → written_if (not (same_row (new row) row)) (new row) ≡ changes rows (map set_at rows)
+    set-allowed row e may = ap (λ (b : Bool). written_if (b && not (same_row (new row) row)) (new row)) (sym may) ∙ set-found row e
+
+    set-refused : (row : Row) → find_by row_text k rows ≡ Some row → allowed row ≡ false → ◌≡◌ {A = Staged} (record { rows = []; keys = [] }) (changes rows (map set_at rows))
+    set-refused row e may_not = ap (λ (b : Bool). written_if (b && not (same_row (new row) row)) (new row)) (sym may_not) ∙ set-found row e
+
+    set-absent : find_by row_text k rows ≡ None → ◌≡◌ {A = Staged} (record { rows = []; keys = [] }) (changes rows (map set_at rows))
+    set-absent e = sym (ap (λ (o : Option Row). option_map_or (λ x. written_if (set_if x) (new x)) o (record { rows = []; keys = [] })) e) ∙ set-is
+
+  pub fields-keep : (text : Option (List ℕ)) (complete : Option Bool) (sort : Option ℕ) (x : Row) → row_text (with_fields text complete sort x) ≡ row_text x
+  fields-keep text complete sort (variants.List x) = refl
+  fields-keep text complete sort (variants.Share x) = refl
+  fields-keep text complete sort (variants.Todo x) = refl
+
+  pub role-keeps : (role : Role) (x : Row) → row_text (with_role role x) ≡ row_text x
+  role-keeps role (variants.List x) = refl
+  role-keeps role (variants.Share x) = refl
+  role-keeps role (variants.Todo x) = refl
+
+  -- a todo's fields are set where one of them differs
+  module _ (user id : List ℕ) (text : Option (List ℕ)) (complete : Option Bool) (sort : Option ℕ) where
+    pub update_todo-allowed : (row : Row) → find_by row_text (key_text (record { kind = kinds.Todo; id = id })) rows ≡ Some row → may_edit user (list_of row) rows ≡ true
         → written_if (not (same_row (with_fields text complete sort row) row)) (with_fields text complete sort row) ≡ staged rows user (UpdateTodo id text complete sort)
-    update_todo-seen row e seen = ap (λ (b : Bool). written_if (b && not (same_row (with_fields text complete sort row) row)) (with_fields text complete sort row)) (sym seen) ∙ update_todo-found row e
+    unfolding may_change
+    update_todo-allowed row e may = set-allowed (key_text (record { kind = kinds.Todo; id = id })) (λ x. may_edit user (list_of x) rows) (with_fields text complete sort) (fields-keep text complete sort) row e may
 
-    pub update_todo-unseen : (row : Row) → find_by row_text (key_text (record { kind = kinds.Todo; id = id })) rows ≡ Some row → sees user (list_of row) rows ≡ false
+    pub update_todo-refused : (row : Row) → find_by row_text (key_text (record { kind = kinds.Todo; id = id })) rows ≡ Some row → may_edit user (list_of row) rows ≡ false
         → ◌≡◌ {A = Staged} (record { rows = []; keys = [] }) (staged rows user (UpdateTodo id text complete sort))
-    update_todo-unseen row e unseen = ap (λ (b : Bool). written_if (b && not (same_row (with_fields text complete sort row) row)) (with_fields text complete sort row)) (sym unseen) ∙ update_todo-found row e
+    unfolding may_change
+    update_todo-refused row e may_not = set-refused (key_text (record { kind = kinds.Todo; id = id })) (λ x. may_edit user (list_of x) rows) (with_fields text complete sort) (fields-keep text complete sort) row e may_not
 
     pub update_todo-absent : find_by row_text (key_text (record { kind = kinds.Todo; id = id })) rows ≡ None → ◌≡◌ {A = Staged} (record { rows = []; keys = [] }) (staged rows user (UpdateTodo id text complete sort))
-    update_todo-absent e = sym (ap (λ (o : Option Row). option_map_or (λ x. written_if (set_if x) (with_fields text complete sort x)) o (record { rows = []; keys = [] })) e) ∙ update_todo-is
+    unfolding may_change
+    update_todo-absent e = set-absent (key_text (record { kind = kinds.Todo; id = id })) (λ x. may_edit user (list_of x) rows) (with_fields text complete sort) (fields-keep text complete sort) e
+
+  -- a share's role is set where it is another
+  module _ (user id : List ℕ) (role : Role) where
+    pub update_share-allowed : (row : Row) → find_by row_text (key_text (record { kind = kinds.Share; id = id })) rows ≡ Some row → list_any (owns user (list_of row)) rows ≡ true
+        → written_if (not (same_row (with_role role row) row)) (with_role role row) ≡ staged rows user (UpdateShare id role)
+    unfolding may_set_role
+    update_share-allowed row e may = set-allowed (key_text (record { kind = kinds.Share; id = id })) (λ x. list_any (owns user (list_of x)) rows) (with_role role) (role-keeps role) row e may
+
+    pub update_share-refused : (row : Row) → find_by row_text (key_text (record { kind = kinds.Share; id = id })) rows ≡ Some row → list_any (owns user (list_of row)) rows ≡ false
+        → ◌≡◌ {A = Staged} (record { rows = []; keys = [] }) (staged rows user (UpdateShare id role))
+    unfolding may_set_role
+    update_share-refused row e may_not = set-refused (key_text (record { kind = kinds.Share; id = id })) (λ x. list_any (owns user (list_of x)) rows) (with_role role) (role-keeps role) row e may_not
+
+    pub update_share-absent : find_by row_text (key_text (record { kind = kinds.Share; id = id })) rows ≡ None → ◌≡◌ {A = Staged} (record { rows = []; keys = [] }) (staged rows user (UpdateShare id role))
+    unfolding may_set_role
+    update_share-absent e = set-absent (key_text (record { kind = kinds.Share; id = id })) (λ x. list_any (owns user (list_of x)) rows) (with_role role) (role-keeps role) e

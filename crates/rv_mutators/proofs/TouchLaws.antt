@@ -4,31 +4,32 @@ use Rattle.std.specs.Prelude.{IfOk}
 use Rattle.std.specs.Str.{bytes_eq}
 use Rattle.std.specs.List.{filter, list_any}
 use Rattle.std.specs.Option.{option_map_or}
+use Rattle.std.proofs.lemmas.Option.{none-some, same_Some}
 use Rattle.rv_base.specs.Sorted.{find_by, InOrder}
 use Rattle.rv_base.specs.Positions.{equals, found-any, none_found, found-sorted, find_put}
 use Rattle.rv_base.specs.Arranged.{distinct-in_order, distinct-push, sorted-in_order, sorted-push, find-changed, in_order-map}
 use Rattle.rv_rows.specs.declared.key.Key.{Key}
 use Rattle.rv_rows.specs.declared.key.Kind.TheVariants as kinds
+use Rattle.rv_rows.specs.declared.role.Role.{Role}
 use Rattle.rv_rows.specs.declared.row.Row.{Row}
 use Rattle.rv_rows.specs.declared.row.Row.TheVariants as variants
 use Rattle.rv_rows.specs.declared.call.Call.{Call}
-use Rattle.rv_rows.specs.declared.call.Call.TheVariants.{CreateList, DeleteList, CreateShare, DeleteShare, CreateTodo, UpdateTodo, DeleteTodo, Void}
+use Rattle.rv_rows.specs.declared.call.Call.TheVariants.{CreateList, DeleteList, CreateShare, UpdateShare, DeleteShare, CreateTodo, UpdateTodo, DeleteTodo, Void}
 use Rattle.rv_rows.specs.Keys.{key_text, row_key, row_text, row_at, has_row, in_key_order}
 use Rattle.rv_rows.specs.Held.{Stored, rows_in, AreRows}
-use Rattle.rv_rows.specs.Sharing.{is_list, owns, shares, sees, list_of}
-use Rattle.rv_rows.specs.Effects.{is_outside, is_other, is_unchanged, may_change, ends, with_fields, after_update, next_sort, effect}
+use Rattle.rv_rows.specs.Sharing.{is_list, owns, shares, sees, may_edit, list_of}
+use Rattle.rv_rows.specs.Effects.{is_outside, is_other, is_unchanged, may_change, may_set_role, ends, with_fields, with_role, after_update, after_role, next_sort, effect}
 use Rattle.rv_rows.specs.Changes.{same_row, is_gone, written, lost, version_after}
-use Rattle.rv_rows.specs.EffectLaws.{same_row-Decides, sees-sorted}
+use Rattle.rv_rows.specs.EffectLaws.{sees-sorted}
 use Rattle.rv_sharing.specs.Affected.{sees_key, AreAffected}
 use Rattle.rv_mutators.specs.declared.staged.Staged.{Staged}
 use Rattle.rv_mutators.specs.Staging.{staged, with_staged, IsStagedOn, written_if}
 use Rattle.rv_mutators.specs.Touched.{touched, AreTouched, sees_with, AddsReaders}
-use Rattle.rv_rows.specs.declared.row.TodoRow.{TodoRow}
 use Rattle.rv_mutators.proofs.Picked.{by_flag, by_found, find-key}
 use Rattle.rv_mutators.proofs.Changed.{changes, at_own, changes-none, changes-push, changes-filter, changes-map}
 use Rattle.rv_rows.specs.HeldLaws.{in_order-rows}
 use Rattle.rv_mutators.proofs.Applied.{applied-changes}
-use Rattle.rv_mutators.proofs.Calls.{free_first, free_second, keeps, set_if, update_todo-is}
+use Rattle.rv_mutators.proofs.Calls.{free_first, free_second, set_at, keeps, set_if, set-is, fields-keep, role-keeps}
 use Rattle.rv_mutators.proofs.ReaderLaws.{list_any-push}
 
 -- whether a user sees a touched key before or after, told by the removed keys before and the written rows
@@ -81,6 +82,26 @@ any-map : (p : Row → Bool) (f : Row → Row) (rows : List Row) → ((x : Row) 
 any-map p f [] same = refl
 any-map p f (x ∷ rows) same = rw (same x, any-map p f rows same) refl
 
+-- a row that is found among others adds nothing to what one of them shows
+is_among : {X : Type 0} (key : X → List ℕ) (p : X → Bool) (k : List ℕ) (xs : List X) (x : X) → find_by key k xs ≡ Some x → (p x || list_any p xs) ≡ list_any p xs
+is_among {X = X} key p k [] x e = absurd (none-some x e)
+is_among {X = X} key p k (y ∷ ys) x e =
+    by_flag (λ b. cond b (Some y) (find_by key k ys) ≡ Some x → (p x || (p y || list_any p ys)) ≡ (p y || list_any p ys)) (bytes_eq k (key y))
+    (λ t f. subst (λ (z : X). (p z || (p y || list_any p ys)) ≡ (p y || list_any p ys)) (same_Some y x f) (twice (p y) (list_any p ys)))
+    (λ t f. moved (p x) (p y) (list_any p ys) (is_among key p k ys x f)) e
+  where
+    twice : (a b : Bool) → (a || (a || b)) ≡ (a || b)
+    twice true b = refl
+    twice false b = refl
+
+    moved : (a b c : Bool) → (a || c) ≡ c → (a || (b || c)) ≡ (b || c)
+    moved true b c e = rw (sym e) (or_true b)
+      where
+        or_true : (b : Bool) → true ≡ (b || true)
+        or_true true = refl
+        or_true false = refl
+    moved false b c e = refl
+
 both_true : (b c : Bool) → (b && c) ≡ true → b ≡ true
 both_true true c e = refl
 both_true false c e = absurd (cc)
@@ -100,79 +121,105 @@ module _ (before : List Row) (h : InOrder row_text before) (user caller : List �
   viewers-filter_if true p = viewers-rest user before (filter p before) (ap (λ (s : Staged). s.rows) (changes-filter before p h))
   viewers-filter_if false p = viewers-none
 
-  -- a todo's fields are set
-  module _ (id : List ℕ) (text : Option (List ℕ)) (complete : Option Bool) (sort : Option ℕ) where
+  -- a row at a key is replaced by one that shows the same to the same users
+  module _ (k : List ℕ) (allowed : Row → Bool) (new : Row → Row) (keeps_key : (x : Row) → row_text (new x) ≡ row_text x) (same_list : (x : Row) → list_of (new x) ≡ list_of x)
+      (owns_same : (list : List ℕ) (x : Row) → owns user list (new x) ≡ owns user list x) (is_list_same : (list : List ℕ) (x : Row) → is_list list (new x) ≡ is_list list x) (shares_same : (list : List ℕ) (x : Row) → shares user list (new x) ≡ shares user list x) where
     abbrev set : Row → Row
-    set = after_update caller before id text complete sort
-
-    todo_key : List ℕ
-    todo_key = key_text (record { kind = kinds.Todo; id = id })
+    set = set_at before h k allowed new keeps_key
 
     sorted : in_key_order (map set before) ≡ map set before
-    sorted = sorted-in_order row_text (map set before) (in_order-map row_text set before (keeps before h caller id text complete sort) h)
+    sorted = sorted-in_order row_text (map set before) (in_order-map row_text set before (keeps before h k allowed new keeps_key) h)
 
-    same_by : (p : Row → Bool) → ((x : Row) → p (with_fields text complete sort x) ≡ p x) → (x : Row) → p (set x) ≡ p x
-    same_by p same x = elim (may_change caller before id x) as (λ b. p (cond b (with_fields text complete sort x) x) ≡ p x) [ true ↦ same x | false ↦ refl ]
+    same_by : (p : Row → Bool) → ((x : Row) → p (new x) ≡ p x) → (x : Row) → p (set x) ≡ p x
+    same_by p same x = elim (bytes_eq k (row_text x) && allowed x) as (λ b. p (cond b (new x) x) ≡ p x) [ true ↦ same x | false ↦ refl ]
 
     sees-set : (list : List ℕ) → sees user list (map set before) ≡ sees user list before
     unfolding sees
-    sees-set list = rw (any-map (owns user list) set before (same_by (owns user list) owns_same), any-map (is_list list) set before (same_by (is_list list) is_list_same), any-map (shares user list) set before (same_by (shares user list) shares_same)) refl
-      where
-        owns_same : (x : Row) → owns user list (with_fields text complete sort x) ≡ owns user list x
-        owns_same (variants.List x) = refl
-        owns_same (variants.Share x) = refl
-        owns_same (variants.Todo x) = refl
+    sees-set list = rw (any-map (owns user list) set before (same_by (owns user list) (owns_same list)), any-map (is_list list) set before (same_by (is_list list) (is_list_same list)), any-map (shares user list) set before (same_by (shares user list) (shares_same list))) refl
 
-        is_list_same : (x : Row) → is_list list (with_fields text complete sort x) ≡ is_list list x
-        is_list_same (variants.List x) = refl
-        is_list_same (variants.Share x) = refl
-        is_list_same (variants.Todo x) = refl
+    -- beside the others it shows no more than the row that it replaces, which is among them
+    sees-beside : (x : Row) (list : List ℕ) → find_by row_text k before ≡ Some x → sees user list (new x ∷ before) ≡ sees user list before
+    unfolding sees
+    sees-beside x list e =
+        rw (owns_same list x, is_list_same list x, shares_same list x, is_among row_text (owns user list) k before x e, is_among row_text (is_list list) k before x e, is_among row_text (shares user list) k before x e) refl
 
-        shares_same : (x : Row) → shares user list (with_fields text complete sort x) ≡ shares user list x
-        shares_same (variants.List x) = refl
-        shares_same (variants.Share x) = refl
-        shares_same (variants.Todo x) = refl
-
-    viewers-set : (x : TodoRow) → find_by row_text (key_text (record { kind = kinds.Todo; id = id })) before ≡ Some (variants.Todo x) → sees caller x.list before ≡ true
-        → HasViewers before (in_key_order (map set before)) user (record { rows = with_fields text complete sort (variants.Todo x) ∷ []; keys = [] })
-    unfolding may_change sees
-    viewers-set x e seen =
-        let k = key_text (record { kind = kinds.Todo; id = id }) in
-        let own = at_own k before (variants.Todo x) e in
-        let at : bytes_eq k (row_text (variants.Todo x)) ≡ true = subst (λ (t : List ℕ). bytes_eq t (row_text (variants.Todo x)) ≡ true) (sym (find-key row_text k before (variants.Todo x) e)) (equals (row_text (variants.Todo x))) in
-        viewers-written user before (in_key_order (map set before)) (with_fields text complete sort (variants.Todo x))
-        (rw (sorted, find-changed row_text set (row_text (variants.Todo x)) before (keeps before h caller id text complete sort), own, at, seen) refl)
-        (rw sorted (sees-set x.list))
-        (λ t. rw own at t)
+    viewers-set : (x : Row) → find_by row_text k before ≡ Some x → allowed x ≡ true → HasViewers before (in_key_order (map set before)) user (record { rows = new x ∷ []; keys = [] })
+    viewers-set x e may =
+        let own = at_own k before x e in
+        let at : bytes_eq k (row_text x) ≡ true = subst (λ (t : List ℕ). bytes_eq t (row_text x) ≡ true) (sym (find-key row_text k before x e)) (equals (row_text x)) in
+        viewers-written user before (in_key_order (map set before)) (new x)
+        (rw (keeps_key x, sorted, find-changed row_text set (row_text x) before (keeps before h k allowed new keeps_key), own, at, may) refl)
+        (rw sorted (sees-set (list_of (new x)) ∙ sym (sees-beside x (list_of (new x)) e)))
+        (λ t. sees-beside x (list_of (new x)) e ∙ ap (λ (list : List ℕ). sees user list before) (same_list x) ∙ (rw (keeps_key x, own) at t))
 
     viewers-still : HasViewers before (in_key_order (map set before)) user (record { rows = []; keys = [] })
-    viewers-still = viewers-removed user before (map set before) [] (ap (λ (s : Staged). s.keys) (changes-map before set (keeps before h caller id text complete sort) h))
+    viewers-still = viewers-removed user before (map set before) [] (ap (λ (s : Staged). s.keys) (changes-map before set (keeps before h k allowed new keeps_key) h))
 
-    and-false : (b : Bool) → (b && false) ≡ false
-    and-false true = refl
-    and-false false = refl
-
-    viewers-other : (x : Row) → with_fields text complete sort x ≡ x → HasViewers before (in_key_order (map set before)) user (written_if (set_if before h caller id text complete sort x) (with_fields text complete sort x))
-    viewers-other x same =
-        let never : set_if before h caller id text complete sort x ≡ false = rw ((same_row-Decides (with_fields text complete sort x) x).1 same) (and-false (sees caller (list_of x) before)) in
-        subst (λ (b : Bool). HasViewers before (in_key_order (map set before)) user (written_if b (with_fields text complete sort x))) (sym never) viewers-still
-
-    viewers-found : (x : Row) → find_by row_text (key_text (record { kind = kinds.Todo; id = id })) before ≡ Some x
-        → HasViewers before (in_key_order (map set before)) user (written_if (set_if before h caller id text complete sort x) (with_fields text complete sort x))
-    viewers-found (variants.List x) e = viewers-other (variants.List x) refl
-    viewers-found (variants.Share x) e = viewers-other (variants.Share x) refl
-    viewers-found (variants.Todo x) e =
-        by_flag (λ b. HasViewers before (in_key_order (map set before)) user (written_if b (with_fields text complete sort (variants.Todo x)))) (set_if before h caller id text complete sort (variants.Todo x))
-        (λ t. viewers-set x e (both_true (sees caller x.list before) (not (same_row (with_fields text complete sort (variants.Todo x)) (variants.Todo x))) t))
+    viewers-found : (x : Row) → find_by row_text k before ≡ Some x → HasViewers before (in_key_order (map set before)) user (written_if (set_if before h k allowed new keeps_key x) (new x))
+    viewers-found x e =
+        by_flag (λ b. HasViewers before (in_key_order (map set before)) user (written_if b (new x))) (set_if before h k allowed new keeps_key x)
+        (λ t. viewers-set x e (both_true (allowed x) (not (same_row (new x) x)) t))
         (λ t. viewers-still)
 
-    viewers-update : HasViewers before (in_key_order (map set before)) user (staged before caller (UpdateTodo id text complete sort))
-    viewers-update =
-        subst (HasViewers before (in_key_order (map set before)) user) (update_todo-is before h caller id text complete sort)
-        (by_found (λ o. HasViewers before (in_key_order (map set before)) user (option_map_or (λ x. written_if (set_if before h caller id text complete sort x) (with_fields text complete sort x)) o (record { rows = []; keys = [] })))
-        (find_by row_text (key_text (record { kind = kinds.Todo; id = id })) before)
+    viewers-map : HasViewers before (in_key_order (map set before)) user (changes before (map set before))
+    viewers-map =
+        subst (HasViewers before (in_key_order (map set before)) user) (set-is before h k allowed new keeps_key)
+        (by_found (λ o. HasViewers before (in_key_order (map set before)) user (option_map_or (λ x. written_if (set_if before h k allowed new keeps_key x) (new x)) o (record { rows = []; keys = [] })))
+        (find_by row_text k before)
         (λ e. viewers-still)
         (λ x e. viewers-found x e))
+
+  -- a todo's fields are set
+  viewers-fields : (id : List ℕ) (text : Option (List ℕ)) (complete : Option Bool) (sort : Option ℕ) → HasViewers before (in_key_order (map (after_update caller before id text complete sort) before)) user (staged before caller (UpdateTodo id text complete sort))
+  unfolding may_change
+  viewers-fields id text complete sort =
+      viewers-map (key_text (record { kind = kinds.Todo; id = id })) (λ x. may_edit caller (list_of x) before) (with_fields text complete sort) (fields-keep before h text complete sort) same_list owns_same is_list_same shares_same
+    where
+      same_list : (x : Row) → list_of (with_fields text complete sort x) ≡ list_of x
+      same_list (variants.List x) = refl
+      same_list (variants.Share x) = refl
+      same_list (variants.Todo x) = refl
+
+      owns_same : (list : List ℕ) (x : Row) → owns user list (with_fields text complete sort x) ≡ owns user list x
+      owns_same list (variants.List x) = refl
+      owns_same list (variants.Share x) = refl
+      owns_same list (variants.Todo x) = refl
+
+      is_list_same : (list : List ℕ) (x : Row) → is_list list (with_fields text complete sort x) ≡ is_list list x
+      is_list_same list (variants.List x) = refl
+      is_list_same list (variants.Share x) = refl
+      is_list_same list (variants.Todo x) = refl
+
+      shares_same : (list : List ℕ) (x : Row) → shares user list (with_fields text complete sort x) ≡ shares user list x
+      shares_same list (variants.List x) = refl
+      shares_same list (variants.Share x) = refl
+      shares_same list (variants.Todo x) = refl
+
+  -- a share's role is set
+  viewers-role : (id : List ℕ) (role : Role) → HasViewers before (in_key_order (map (after_role caller before id role) before)) user (staged before caller (UpdateShare id role))
+  unfolding may_set_role
+  viewers-role id role =
+      viewers-map (key_text (record { kind = kinds.Share; id = id })) (λ x. list_any (owns caller (list_of x)) before) (with_role role) (role-keeps before h role) same_list owns_same is_list_same shares_same
+    where
+      same_list : (x : Row) → list_of (with_role role x) ≡ list_of x
+      same_list (variants.List x) = refl
+      same_list (variants.Share x) = refl
+      same_list (variants.Todo x) = refl
+
+      owns_same : (list : List ℕ) (x : Row) → owns user list (with_role role x) ≡ owns user list x
+      owns_same list (variants.List x) = refl
+      owns_same list (variants.Share x) = refl
+      owns_same list (variants.Todo x) = refl
+
+      is_list_same : (list : List ℕ) (x : Row) → is_list list (with_role role x) ≡ is_list list x
+      is_list_same list (variants.List x) = refl
+      is_list_same list (variants.Share x) = refl
+      is_list_same list (variants.Todo x) = refl
+
+      shares_same : (list : List ℕ) (x : Row) → shares user list (with_role role x) ≡ shares user list x
+      shares_same list (variants.List x) = refl
+      shares_same list (variants.Share x) = refl
+      shares_same list (variants.Todo x) = refl
 
   -- each call
   viewers : (call : Call) → HasViewers before (in_key_order (effect before caller call)) user (staged before caller call)
@@ -180,14 +227,15 @@ module _ (before : List Row) (h : InOrder row_text before) (user caller : List �
       viewers-push_if (not (has_row (key_text (record { kind = kinds.List; id = id })) before) && bytes_eq owner caller) (variants.List (record { id = id; name = name; owner = owner }))
       (free_first before h (has_row (key_text (record { kind = kinds.List; id = id })) before) (bytes_eq owner caller))
   viewers (DeleteList id) = viewers-filter_if (list_any (owns caller id) before) (is_outside id)
-  viewers (CreateShare id list other) =
-      viewers-push_if (list_any (owns caller list) before && not (has_row (key_text (record { kind = kinds.Share; id = id })) before) && not (bytes_eq other caller) && not (list_any (shares other list) before)) (variants.Share (record { id = id; list = list; user = other }))
+  viewers (CreateShare id list other role) =
+      viewers-push_if (list_any (owns caller list) before && not (has_row (key_text (record { kind = kinds.Share; id = id })) before) && not (bytes_eq other caller) && not (list_any (shares other list) before)) (variants.Share (record { id = id; list = list; user = other; role = role }))
       (free_second before h (list_any (owns caller list) before) (has_row (key_text (record { kind = kinds.Share; id = id })) before) (not (bytes_eq other caller)) (not (list_any (shares other list) before)))
+  viewers (UpdateShare id role) = viewers-role id role
   viewers (DeleteShare id) = viewers-filter_if (list_any (ends caller before id) before) (is_other kinds.Share id)
   viewers (CreateTodo id list text complete) =
-      viewers-push_if (not (has_row (key_text (record { kind = kinds.Todo; id = id })) before) && sees caller list before) (variants.Todo (record { id = id; list = list; text = text; complete = complete; sort = next_sort list before }))
-      (free_first before h (has_row (key_text (record { kind = kinds.Todo; id = id })) before) (sees caller list before))
-  viewers (UpdateTodo id text complete sort) = viewers-update id text complete sort
+      viewers-push_if (not (has_row (key_text (record { kind = kinds.Todo; id = id })) before) && may_edit caller list before) (variants.Todo (record { id = id; list = list; text = text; complete = complete; sort = next_sort list before }))
+      (free_first before h (has_row (key_text (record { kind = kinds.Todo; id = id })) before) (may_edit caller list before))
+  viewers (UpdateTodo id text complete sort) = viewers-fields id text complete sort
   viewers (DeleteTodo id) = viewers-filter_if true (is_unchanged caller before id)
   viewers (Void reason) = viewers-none
 

@@ -4,7 +4,7 @@ ghost use Rattle.rv_rows.specs.Changes.{after};
 ghost use Rattle.rv_mutators.specs.Staging.{staged, with_staged};
 
 use crate::lists::{create_list, delete_list};
-use crate::shares::{create_share, delete_share};
+use crate::shares::{create_share, delete_share, update_share};
 use crate::staged::Staged;
 use crate::todos::{create_todo, delete_todo, update_todo};
 use rv_base::{Memory, User};
@@ -39,7 +39,9 @@ fn changes(alloc: Global, tables: &Tables, user: &User, call: &Call) -> Result<S
             id,
             list,
             user: other,
-        } => create_share(alloc, tables, user, id, list, other),
+            role,
+        } => create_share(alloc, tables, user, id, list, other, *role),
+        Call::UpdateShare { id, role } => update_share(alloc, tables, user, id, *role),
         Call::DeleteShare { id } => delete_share(alloc, tables, user, id),
         Call::CreateTodo {
             id,

@@ -2,7 +2,7 @@
 ghost use Rattle.std.specs.Prelude.{◌≡◌, IfOk, ◌&&◌, not};
 ghost use Rattle.rv_rows.specs.Held.{rows_in, AreRows};
 ghost use Rattle.rv_rows.specs.Keys.{key_text, has_row};
-ghost use Rattle.rv_rows.specs.Sharing.{sees};
+ghost use Rattle.rv_rows.specs.Sharing.{may_edit};
 ghost use Rattle.rv_rows.specs.Effects.{with_fields};
 ghost use Rattle.rv_rows.specs.Changes.{same_row};
 ghost use Rattle.rv_rows.specs.declared.call.Call.TheVariants.{CreateTodo, UpdateTodo, DeleteTodo};
@@ -14,10 +14,10 @@ use crate::lists::has_row;
 use crate::staged::Staged;
 use rv_base::{Id, Memory, Num, Text, User};
 use rv_rows::{Kind, Row, Tables, TodoRow};
-use rv_sharing::sees;
+use rv_sharing::may_edit;
 use std::alloc::Global;
 
-// A todo that is not there, at the end of a list that the user sees.
+// A todo that is not there, at the end of a list that the user may edit.
 pub(crate) fn create_todo(
     alloc: Global,
     tables: &Tables,
@@ -44,14 +44,14 @@ pub(crate) fn create_todo(
     }
 }
 
-// Whether no todo has the id, and the user sees the list.
+// Whether no todo has the id, and the user may edit the list.
 fn may_create(tables: &Tables, user: &User, id: &Id, list: &Id) -> bool
-    ensures { result ≡ (not (has_row (key_text (record { kind = TodoKind; id = id.now })) (rows_in tables.now.rows)) && sees user.now list.now (rows_in tables.now.rows)) }
+    ensures { result ≡ (not (has_row (key_text (record { kind = TodoKind; id = id.now })) (rows_in tables.now.rows)) && may_edit user.now list.now (rows_in tables.now.rows)) }
 {
-    !has_row(tables, Kind::Todo, id) && sees(tables, user, list)
+    !has_row(tables, Kind::Todo, id) && may_edit(tables, user, list)
 }
 
-// The fields that are named, of a todo whose list the user sees.
+// The fields that are named, of a todo whose list the user may edit.
 pub(crate) fn update_todo(
     alloc: Global,
     tables: &Tables,
@@ -66,7 +66,7 @@ pub(crate) fn update_todo(
 {
     match tables.row(Kind::Todo, id) {
         Some((row, _version)) => {
-            if sees(tables, user, row.list()) {
+            if may_edit(tables, user, row.list()) {
                 set_fields(alloc, row, text, complete, sort)
             } else {
                 Ok(Staged::nothing(alloc))
@@ -111,7 +111,7 @@ fn has_fields(row: &TodoRow, text: &Option<Text>, complete: Option<bool>, sort: 
         && sort.unwrap_or(row.sort) == row.sort
 }
 
-// A todo goes, whose list the user sees.
+// A todo goes, whose list the user may edit.
 pub(crate) fn delete_todo(
     alloc: Global,
     tables: &Tables,
@@ -123,7 +123,7 @@ pub(crate) fn delete_todo(
 {
     match tables.row(Kind::Todo, id) {
         Some((row, _version)) => {
-            if sees(tables, user, row.list()) {
+            if may_edit(tables, user, row.list()) {
                 Staged::removes(alloc, row.key(alloc)?)
             } else {
                 Ok(Staged::nothing(alloc))
