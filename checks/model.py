@@ -30,14 +30,19 @@ def is_number(value):
     return isinstance(value, int) and not is_flag(value) and 0 <= value <= GREATEST
 
 
+def is_role(value):
+    return isinstance(value, str) and value in ("view", "edit")
+
+
 # the members that a call's arguments must have, and those that they may have
 NEEDED = {
     "createList": {"id": is_id, "name": is_text, "ownerID": is_user},
     "createShare": {"id": is_id, "listID": is_id, "userID": is_user},
     "createTodo": {"id": is_id, "listID": is_id, "text": is_text, "complete": is_flag},
+    "updateShare": {"id": is_id, "role": is_role},
     "updateTodo": {"id": is_id},
 }
-OPTIONAL = {"updateTodo": {"text": is_text, "complete": is_flag, "sort": is_number}}
+OPTIONAL = {"createShare": {"role": is_role}, "updateTodo": {"text": is_text, "complete": is_flag, "sort": is_number}}
 BY_ID = ("deleteList", "deleteShare", "deleteTodo")
 
 
@@ -66,6 +71,19 @@ def sees(rows, user, list_id):
     return found is not None and (found["ownerID"] == user or shared)
 
 
+def may_edit(rows, user, list_id):
+    """Whether a user may edit the todos of a list."""
+    found = find(rows, "list", list_id)
+    shares = [r for k, r in rows if k == "share" and r["listID"] == list_id and r["userID"] == user]
+    return found is not None and (found["ownerID"] == user or any("role" not in share for share in shares))
+
+
+def with_role(share, role):
+    """A share with a role: one that lets edit names none."""
+    bare = {member: share[member] for member in share if member != "role"}
+    return {**bare, "role": "view"} if role == "view" else bare
+
+
 def without(rows, kind, row_id):
     return [(k, r) for k, r in rows if not (k == kind and r["id"] == row_id)]
 
@@ -87,7 +105,14 @@ def effect(rows, user, name, args):
         found = find(rows, "list", args["listID"])
         twice = any(k == "share" and r["listID"] == args["listID"] and r["userID"] == args["userID"] for k, r in rows)
         fits = found is not None and found["ownerID"] == user and args["userID"] != user
-        return rows + [("share", args)] if fits and not twice and find(rows, "share", row_id) is None else rows
+        fits = fits and not twice and find(rows, "share", row_id) is None
+        return rows + [("share", with_role(args, args.get("role")))] if fits else rows
+    if name == "updateShare":
+        found = find(rows, "share", row_id)
+        owner = None if found is None else find(rows, "list", found["listID"])
+        if owner is None or owner["ownerID"] != user:
+            return rows
+        return [(k, with_role(r, args["role"]) if k == "share" and r["id"] == row_id else r) for k, r in rows]
     if name == "deleteShare":
         found = find(rows, "share", row_id)
         owner = None if found is None else find(rows, "list", found["listID"])
@@ -95,11 +120,11 @@ def effect(rows, user, name, args):
         return without(rows, "share", row_id) if fits else rows
     found = find(rows, "todo", row_id)
     if name == "createTodo":
-        if found is not None or not sees(rows, user, args["listID"]):
+        if found is not None or not may_edit(rows, user, args["listID"]):
             return rows
         greatest = max((r["sort"] for k, r in rows if k == "todo" and r["listID"] == args["listID"]), default=0)
         return rows + [("todo", {**args, "sort": min(greatest + 1, GREATEST)})]
-    if found is None or not sees(rows, user, found["listID"]):
+    if found is None or not may_edit(rows, user, found["listID"]):
         return rows
     if name == "deleteTodo":
         return without(rows, "todo", row_id)
@@ -245,7 +270,8 @@ def call_value(name, args):
         return ["void", "BadArgs" if name in NEEDED or name in BY_ID else "UnknownName"]
     members = {
         "createList": ["id", "name", "ownerID"],
-        "createShare": ["id", "listID", "userID"],
+        "createShare": ["id", "listID", "userID"] + ["role"] * (args.get("role") == "view"),
+        "updateShare": ["id", "role"],
         "createTodo": ["id", "listID", "text", "complete"],
         "updateTodo": ["id", "text", "complete", "sort"],
     }
@@ -331,7 +357,7 @@ USERS = ["ann", "bob", "cat"]
 GROUPS = ["g0", "g1", "g2", "g3", "g4"]
 CLIENTS = ["c0", "c1", "c2", "c3", "c4", "c5"]
 NAMES = {
-    "createList": 3, "deleteList": 1, "createShare": 3, "deleteShare": 2,
+    "createList": 3, "deleteList": 1, "createShare": 3, "updateShare": 2, "deleteShare": 2,
     "createTodo": 4, "updateTodo": 5, "deleteTodo": 2, "paint": 1,
 }
 
@@ -356,7 +382,10 @@ class Requests:
         if name == "createList":
             return {"id": list_id, "name": chance.choice(["Home", ""]), "ownerID": chance.choice([user] * 3 + ["bob"])}
         if name == "createShare":
-            return {"id": share, "listID": list_id, "userID": chance.choice(USERS)}
+            role = chance.choice([{}, {}, {"role": "view"}, {"role": "edit"}, {"role": chance.choice(["", "Edit", None, 1])}])
+            return {"id": share, "listID": list_id, "userID": chance.choice(USERS), **role}
+        if name == "updateShare":
+            return {"id": share, "role": chance.choice(["view", "view", "edit", "edit", "owner"])}
         if name == "createTodo":
             return {"id": todo, "listID": list_id, "text": chance.choice(["milk", 'ä"\\\n']), "complete": self.one_in(2)}
         if name == "updateTodo":

@@ -354,6 +354,34 @@ def check_share_taken(ann, bob, pictures):
     print(f"sharing: a share that was taken away had emptied the other window after {took * 1000:.0f} ms, and a list was left")
 
 
+def check_roles(ann, bob, pictures):
+    """A share that lets look alone: the other window shows the list and changes nothing, also of what it did offline."""
+    role = "#shares li .role"
+    ann.waits("bob may edit", "return document.querySelector(arguments[0])?.textContent === 'may edit'", role)
+    bob.set_network(False)
+    bob.add("made as it was taken away")
+    bob.in_state("offline", 1)
+    ann.window.click(role)
+    ann.waits("bob may look", "return document.querySelector(arguments[0]).textContent === 'may look'", role)
+    ann.in_step()
+    bob.set_network(True)
+    bob.in_step()
+    bob.waits("that it may look alone", """
+        const [form, told, check] = ["todo-form", "looks-alone", "todos"].map((id) => document.getElementById(id));
+        return form.hidden && !told.hidden && [...check.querySelectorAll(".check")].every((one) => one.disabled);""")
+    if any(text == "made as it was taken away" for text, _ in bob.shown()):
+        wrong("what bob may only look at has a todo that bob made")
+    pictures.take_all_looks(bob, "looks-alone")
+    pictures.take(ann, "role")
+    come_together(ann, bob)
+    ann.window.click(role)
+    ann.waits("bob may edit again", "return document.querySelector(arguments[0]).textContent === 'may edit'", role)
+    bob.waits("that it may edit again", "return !document.getElementById('todo-form').hidden")
+    bob.add("made as it was given back")
+    come_together(ann, bob)
+    print("roles: a share that lets look alone showed the list, and what was done offline had no effect")
+
+
 def check_refusals(ann, bob, site, pictures):
     """A key that is no longer taken, a version that is not served, and a client group that was ended."""
     site.kill_server()
@@ -366,7 +394,7 @@ def check_refusals(ann, bob, site, pictures):
     ann.window.type("#key-again", "new key", "Enter")
     ann.in_step()
     site.kill_server()
-    site.write_accounts(KEYS, schemas=("2",))
+    site.write_accounts(KEYS, schemas=("9",))
     site.start_server()
     bob.add("while the version is refused")
     bob.notice("another version")
@@ -498,6 +526,7 @@ def main():
         check_kills(ann, bob, site)
         check_tabs(ann, bob)
         check_share_taken(ann, bob, pictures)
+        check_roles(ann, bob, pictures)
         check_refusals(ann, bob, site, pictures)
         check_restore(ann, bob, site, pictures)
         check_wrong_name(driver, site)

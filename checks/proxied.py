@@ -53,7 +53,7 @@ class Site:
         self.proxy = subprocess.Popen(["haproxy", "-f", str(TOP / "examples/deploy/haproxy.cfg")], stdin=subprocess.DEVNULL, stdout=log, stderr=log,
                                       env={**os.environ, **{name: str(value) for name, value in environment.items()}})
 
-    def write_accounts(self, keys, schemas=("", "1")):
+    def write_accounts(self, keys, schemas=("", "1", "2")):
         accounts = "".join(f"[[account]]\nkey = {json.dumps(key)}\nuser = {json.dumps(user)}\n" for user, key in keys.items())
         self.accounts.write_text(f"schemas = {json.dumps(schemas)}\n{accounts}")
 

@@ -1,5 +1,5 @@
 /**
- * The seven mutators, on the rows that this browser knows: a map of rows by the protocol's keys, `list/ID`, `share/ID` and
+ * The eight mutators, on the rows that this browser knows: a map of rows by the protocol's keys, `list/ID`, `share/ID` and
  * `todo/ID`. The server has the last word by the same rules over all rows (docs/protocol.md, "Mutators"): a call whose
  * condition fails has no effect, there as here.
  */
@@ -11,6 +11,18 @@ function sharesOf(view, listID) {
 export function sees(view, user, listID) {
   const list = view.get(`list/${listID}`);
   return list !== undefined && (list.ownerID === user || sharesOf(view, listID).some((share) => share.userID === user));
+}
+
+/** Whether the user may edit the list's todos: they own it, or a share of it that is not for looking alone names them. */
+export function mayEdit(view, user, listID) {
+  const list = view.get(`list/${listID}`);
+  const lets = (share) => share.userID === user && share.role !== "view";
+  return list !== undefined && (list.ownerID === user || sharesOf(view, listID).some(lets));
+}
+
+/** A share with a role; as the server's, one that lets edit names none. */
+function withRole({ id, listID, userID }, role) {
+  return role === "view" ? { id, listID, role, userID } : { id, listID, userID };
 }
 
 export const mutators = {
@@ -26,10 +38,16 @@ export const mutators = {
     }
   },
 
-  createShare(view, user, { id, listID, userID }) {
+  createShare(view, user, { id, listID, userID, role }) {
     if (view.get(`list/${listID}`)?.ownerID !== user || userID === user || view.has(`share/${id}`)) return;
     if (sharesOf(view, listID).some((share) => share.userID === userID)) return;
-    view.set(`share/${id}`, { id, listID, userID });
+    view.set(`share/${id}`, withRole({ id, listID, userID }, role));
+  },
+
+  updateShare(view, user, { id, role }) {
+    const share = view.get(`share/${id}`);
+    if (share === undefined || view.get(`list/${share.listID}`)?.ownerID !== user) return;
+    view.set(`share/${id}`, withRole(share, role));
   },
 
   deleteShare(view, user, id) {
@@ -39,7 +57,7 @@ export const mutators = {
   },
 
   createTodo(view, user, { id, listID, text, complete }) {
-    if (view.has(`todo/${id}`) || !sees(view, user, listID)) return;
+    if (view.has(`todo/${id}`) || !mayEdit(view, user, listID)) return;
     const sorts = [...view.values()].filter((row) => row.sort !== undefined && row.listID === listID).map((row) => row.sort);
     const sort = Math.min(Math.max(0, ...sorts) + 1, Number.MAX_SAFE_INTEGER);
     view.set(`todo/${id}`, { id, listID, text, complete, sort });
@@ -47,12 +65,12 @@ export const mutators = {
 
   updateTodo(view, user, { id, text, complete, sort }) {
     const todo = view.get(`todo/${id}`);
-    if (todo === undefined || !sees(view, user, todo.listID)) return;
+    if (todo === undefined || !mayEdit(view, user, todo.listID)) return;
     view.set(`todo/${id}`, { ...todo, text: text ?? todo.text, complete: complete ?? todo.complete, sort: sort ?? todo.sort });
   },
 
   deleteTodo(view, user, id) {
     const todo = view.get(`todo/${id}`);
-    if (todo !== undefined && sees(view, user, todo.listID)) view.delete(`todo/${id}`);
+    if (todo !== undefined && mayEdit(view, user, todo.listID)) view.delete(`todo/${id}`);
   },
 };

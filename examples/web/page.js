@@ -138,7 +138,8 @@ export class Page {
       this.#announce(`${userID} already sees this list`);
       return;
     }
-    this.#actions.mutate({ name: "createShare", args: { id: crypto.randomUUID(), listID, userID } });
+    const role = byId("share-edit").checked ? "edit" : "view";
+    this.#actions.mutate({ name: "createShare", args: { id: crypto.randomUUID(), listID, userID, role } });
   }
 
   async #deleteList() {
@@ -211,7 +212,10 @@ export class Page {
     setText(byId("list-title"), list.name);
     setText(byId("list-done"), list.todos.length > 0 ? `${done} of ${list.todos.length} done` : "");
     Object.assign(byId("list-progress"), { max: Math.max(1, list.todos.length), value: done });
-    this.#todos.show(list.todos, this.#waitingIDs);
+    this.#todos.show(list.todos, list.isEditable, this.#waitingIDs);
+    byId("todo-form").hidden = !list.isEditable;
+    byId("looks-alone").hidden = list.isEditable;
+    setText(byId("looks-alone"), `You can look at this list. ${list.ownerID} can let you edit it.`);
     this.#showSharing(list);
   }
 
@@ -222,12 +226,20 @@ export class Page {
     const make = (id) => {
       const remove = element("button", { className: "remove", type: "button" });
       remove.addEventListener("click", () => this.#actions.mutate({ name: "deleteShare", args: id }));
-      return element("li", {}, element("span"), remove);
+      const role = element("button", { className: "role", type: "button" });
+      role.addEventListener("click", () => this.#actions.mutate({ name: "updateShare", args: { id, role: role.dataset.other } }));
+      return element("li", {}, element("span"), role, remove);
     };
-    follow(byId("shares"), shares, make, (item, { userID }) => {
-      setText(item.firstElementChild, userID);
-      item.lastElementChild.ariaLabel = `Stop sharing with ${userID}`;
-      item.lastElementChild.hidden = !isOwn;
+    follow(byId("shares"), shares, make, (item, { userID, role: named }) => {
+      const [name, role, remove] = item.children;
+      const isEditor = named !== "view";
+      setText(name, userID);
+      setText(role, isEditor ? "may edit" : "may look");
+      role.dataset.other = isEditor ? "view" : "edit";
+      role.title = isOwn ? (isEditor ? `Let ${userID} only look` : `Let ${userID} edit`) : "";
+      role.disabled = !isOwn;
+      remove.ariaLabel = `Stop sharing with ${userID}`;
+      remove.hidden = !isOwn;
     });
     byId("share-form").hidden = !isOwn;
     byId("delete-list").hidden = !isOwn;

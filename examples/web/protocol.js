@@ -8,7 +8,7 @@
  * - `version`: the server does not speak this version of the protocol or of the rows (`VersionNotSupported`);
  * - `refused`: anything else, with the `status` and the `error` that was told.
  */
-const SCHEMA_VERSION = "1";
+const SCHEMA_VERSION = "2";
 /** How many milliseconds an answer may take. */
 const PATIENCE = 15_000;
 

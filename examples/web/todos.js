@@ -5,6 +5,7 @@ import { moveCalls } from "./view.js";
 
 export class Todos {
   #todos = [];
+  #isEditable = true;
   #mutate;
   #announce;
 
@@ -14,9 +15,14 @@ export class Todos {
     this.#announce = announce;
   }
 
-  /** Shows these todos; those whose ids are among `waiting` have mutations that the server has not confirmed. */
-  show(todos, waiting) {
+  /**
+   * Shows these todos, to be changed or only to be seen; those whose ids are among `waiting` have mutations that the server has
+   * not confirmed.
+   */
+  show(todos, isEditable, waiting) {
     this.#todos = todos;
+    this.#isEditable = isEditable;
+    byId("todos").classList.toggle("only-seen", !isEditable);
     follow(byId("todos"), todos, (id) => this.#make(id), (item, todo) => this.#update(item, todo, waiting.has(todo.id)));
     byId("no-todos").hidden = todos.length > 0;
   }
@@ -33,7 +39,9 @@ export class Todos {
     const item = element("li", { className: "todo" }, grip, check, text, remove);
     makeMovable(item, grip, (from, to) => this.#move(from, to));
     check.addEventListener("change", () => this.#mutate({ name: "updateTodo", args: { id, complete: check.checked } }));
-    text.addEventListener("click", () => this.#rename(item, this.#find(id)));
+    text.addEventListener("click", () => {
+      if (this.#isEditable) this.#rename(item, this.#find(id));
+    });
     remove.addEventListener("click", () => this.#remove(item));
     return item;
   }
@@ -43,9 +51,10 @@ export class Todos {
     item.classList.toggle("complete", complete);
     item.classList.toggle("waiting", isWaiting);
     check.checked = complete;
+    check.disabled = !this.#isEditable;
     check.ariaLabel = text;
     setText(shown, text);
-    shown.title = isWaiting ? "Rename (waits to be sent)" : "Rename";
+    shown.title = !this.#isEditable ? "" : isWaiting ? "Rename (waits to be sent)" : "Rename";
     grip.ariaLabel = `Move ${text}, with the arrow keys`;
     remove.ariaLabel = `Delete ${text}`;
   }

@@ -1,5 +1,5 @@
 /** What is shown: the base view with the pending mutations on top of it, and the lists, shares and todos in it. */
-import { mutators, sees } from "./mutators.js";
+import { mayEdit, mutators, sees } from "./mutators.js";
 
 /** Replays what is pending over the base view, so a pull that brings another base rebases it. */
 export function shownView({ session, rows, pending }) {
@@ -19,10 +19,10 @@ export function isForOther({ session, rows }) {
   return rowsOf(rows, "list").some(({ id }) => !sees(rows, session.user, id));
 }
 
-/** The lists that the user sees, by their names; each with its shares and its todos. */
+/** The lists that the user sees, by their names; each with its shares, its todos, and whether the user may edit them. */
 export function listsOf(view, user) {
   const lists = rowsOf(view, "list").filter((list) => sees(view, user, list.id));
-  const found = new Map(lists.map((list) => [list.id, { ...list, shares: [], todos: [] }]));
+  const found = new Map(lists.map((list) => [list.id, { ...list, isEditable: mayEdit(view, user, list.id), shares: [], todos: [] }]));
   for (const share of rowsOf(view, "share")) found.get(share.listID)?.shares.push(share);
   for (const todo of rowsOf(view, "todo")) found.get(todo.listID)?.todos.push(todo);
   for (const { shares, todos } of found.values()) {

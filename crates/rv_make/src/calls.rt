@@ -1,12 +1,13 @@
 // What the pushes ask for.
 ghost use Rattle.std.specs.Prelude.{◌≡◌, ◌<◌, IfOk, codes, Some, None, true, false};
 ghost use Rattle.rv_rows.specs.declared.call.Call.TheVariants as calls;
+ghost use Rattle.rv_rows.specs.declared.role.Role.TheVariants as roles;
 ghost use Rattle.rv_make.specs.Names.{lettered, user_name};
 ghost use Rattle.rv_make.specs.Calls.{call_of};
 
 use crate::names::name;
 use rv_base::{Id, Memory, User};
-use rv_rows::Call;
+use rv_rows::{Call, Role};
 use std::alloc::Global;
 
 // The user of this number.
@@ -46,12 +47,13 @@ fn create_list(alloc: Global, user: u32, list: u32) -> Result<Call, Memory>
 }
 
 fn create_share(alloc: Global, share: u32, list: u32, user: u32) -> Result<Call, Memory>
-    ensures { IfOk result (λ call. call ≡ calls.CreateShare (lettered (codes "s") share) (lettered (codes "l") list) (user_name user)) }
+    ensures { IfOk result (λ call. call ≡ calls.CreateShare (lettered (codes "s") share) (lettered (codes "l") list) (user_name user) roles.Edit) }
 {
     Ok(Call::CreateShare {
         id: share_id(alloc, share)?,
         list: list_id(alloc, list)?,
         user: user_of(alloc, user)?,
+        role: Role::Edit,
     })
 }
 

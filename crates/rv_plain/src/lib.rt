@@ -9,6 +9,7 @@ mod history;
 mod looks;
 mod rows;
 mod server;
+mod sharing;
 
 pub use book::{last, rows_of};
 pub use rows::seen;

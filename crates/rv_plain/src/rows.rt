@@ -1,14 +1,15 @@
-//! Lists of rows: their order, who sees which of them, and what a call makes of them. Nothing here is a sorted table.
+//! Lists of rows: their order, which of them a user sees, and what a call makes of them. Nothing here is a sorted table.
 ghost use Rattle.std.specs.Prelude.{◌≡◌, IfOk, OnOk, map};
 ghost use Rattle.rv_base.specs.Sorted.{InOrder, put_by, IsPositionOf};
 ghost use Rattle.rv_rows.specs.Keys.{key_text, row_text, has_row, in_key_order};
-ghost use Rattle.rv_rows.specs.Sharing.{is_list, owns, shares, sees, seen};
-ghost use Rattle.rv_rows.specs.Effects.{is_at, is_other, is_outside, may_change, is_unchanged, may_end, ends, sort_in, greatest_sort, next_sort, with_fields, after_update, effect};
+ghost use Rattle.rv_rows.specs.Sharing.{seen};
+ghost use Rattle.rv_rows.specs.Effects.{is_at, is_other, is_outside, may_change, is_unchanged, may_set_role, with_role, after_role, may_end, ends, sort_in, greatest_sort, next_sort, with_fields, after_update, effect};
 ghost use Rattle.rv_rows.specs.declared.call.Call.TheVariants.{CreateList, CreateShare, CreateTodo};
 ghost use Rattle.std.specs.List.{filter, list_any};
 
+use crate::sharing::{has_share, may_edit, owns_list, sees};
 use rv_base::{Id, Memory, Num, Text, User};
-use rv_rows::{Call, Kind, ListRow, Row, ShareRow, TodoRow};
+use rv_rows::{Call, Kind, ListRow, Role, Row, ShareRow, TodoRow};
 use std::alloc::Global;
 
 // Whether the row has the key of this kind and id.
@@ -23,54 +24,6 @@ pub(crate) fn has_row(rows: &[Row], kind: Kind, id: &Id) -> bool
     ensures { result ≡ has_row (key_text (record { kind = kind; id = id.now })) rows.now }
 {
     rows.iter().any(|row| is_at(kind, id, row))
-}
-
-// Whether the row is this list.
-fn is_list(list: &Id, row: &Row) -> bool
-    ensures { result ≡ is_list list.now row.now }
-{
-    match row {
-        Row::List(row) => row.id == *list,
-        Row::Share(_) => false,
-        Row::Todo(_) => false,
-    }
-}
-
-// Whether the row is this list, and the user owns it.
-fn owns(user: &User, list: &Id, row: &Row) -> bool
-    ensures { result ≡ owns user.now list.now row.now }
-{
-    match row {
-        Row::List(row) => row.id == *list && row.owner == *user,
-        Row::Share(_) => false,
-        Row::Todo(_) => false,
-    }
-}
-
-fn owns_list(user: &User, list: &Id, rows: &[Row]) -> bool
-    ensures { result ≡ list_any (owns user.now list.now) rows.now }
-{
-    rows.iter().any(|row| owns(user, list, row))
-}
-
-fn has_share(user: &User, list: &Id, rows: &[Row]) -> bool
-    ensures { result ≡ list_any (shares user.now list.now) rows.now }
-{
-    rows.iter().any(|row| row.shares(user, list))
-}
-
-fn has_list(list: &Id, rows: &[Row]) -> bool
-    ensures { result ≡ list_any (is_list list.now) rows.now }
-{
-    rows.iter().any(|row| is_list(list, row))
-}
-
-// Whether the user sees the list: it is there, and the user owns it or a share of it names the user.
-#[tactic(auto, unfolding(rv_rows::specs::Sharing::sees))]
-fn sees(user: &User, list: &Id, rows: &[Row]) -> bool
-    ensures { result ≡ sees user.now list.now rows.now }
-{
-    owns_list(user, list, rows) || (has_list(list, rows) && has_share(user, list, rows))
 }
 
 // The rows that neither are the list nor belong to it.
@@ -101,15 +54,15 @@ fn without_row(alloc: Global, rows: &[Row], kind: Kind, id: &Id) -> Result<Vec<R
     Ok(kept)
 }
 
-// Whether the row is this todo, and the user sees its list.
+// Whether the row is this todo, and the user may edit its list.
 #[tactic(auto, unfolding(rv_rows::specs::Effects::may_change))]
 fn may_change(user: &User, rows: &[Row], id: &Id, row: &Row) -> bool
     ensures { result ≡ may_change user.now rows.now id.now row.now }
 {
-    is_at(Kind::Todo, id, row) && sees(user, row.list(), rows)
+    is_at(Kind::Todo, id, row) && may_edit(user, row.list(), rows)
 }
 
-// The rows but for this todo, where the user sees its list.
+// The rows but for this todo, where the user may edit its list.
 #[tactic(auto, using(std::proofs::lemmas::List::Elements::filter_more))]
 fn without_todo(alloc: Global, rows: &[Row], user: &User, id: &Id) -> Result<Vec<Row>, Memory>
     ensures { IfOk result (λ v. v.items ≡ filter (is_unchanged user.now rows.now id.now) rows.now) }
@@ -208,8 +161,9 @@ fn create_share(
     id: &Id,
     list: &Id,
     other: &User,
+    role: Role,
 ) -> Result<Vec<Row>, Memory>
-    ensures { IfOk result (λ new. new.items ≡ effect rows.items user.now (CreateShare id.now list.now other.now)) }
+    ensures { IfOk result (λ new. new.items ≡ effect rows.items user.now (CreateShare id.now list.now other.now role)) }
 {
     if owns_list(user, list, &rows)
         && !has_row(&rows, Kind::Share, id)
@@ -220,9 +174,51 @@ fn create_share(
             id: id.copy(alloc)?,
             list: list.copy(alloc)?,
             user: other.copy(alloc)?,
+            role,
         }))?;
     }
     Ok(rows)
+}
+
+// Whether the row is this share, and the user owns its list.
+#[tactic(auto, unfolding(rv_rows::specs::Effects::may_set_role))]
+fn may_set_role(user: &User, rows: &[Row], id: &Id, row: &Row) -> bool
+    ensures { result ≡ may_set_role user.now rows.now id.now row.now }
+{
+    is_at(Kind::Share, id, row) && owns_list(user, row.list(), rows)
+}
+
+// The row with the role, where it is a share.
+fn with_role(alloc: Global, role: Role, row: &Row) -> Result<Row, Memory>
+    ensures { IfOk result (λ new. new ≡ with_role role row.now) }
+{
+    match row {
+        Row::List(row) => Ok(Row::List(row.copy(alloc)?)),
+        Row::Share(row) => Ok(Row::Share(row.with_role(alloc, role)?)),
+        Row::Todo(row) => Ok(Row::Todo(row.copy(alloc)?)),
+    }
+}
+
+// The rows after a share's role was asked for.
+#[tactic(auto, using(std::proofs::lemmas::List::map_more))]
+fn update_share(
+    alloc: Global,
+    rows: &[Row],
+    user: &User,
+    id: &Id,
+    role: Role,
+) -> Result<Vec<Row>, Memory>
+    ensures { IfOk result (λ v. v.items ≡ map (after_role user.now rows.now id.now role) rows.now) }
+{
+    let mut updated = Vec::new(alloc);
+    for row in rows {
+        if may_set_role(user, rows, id, row) {
+            updated.push(with_role(alloc, role, row)?)?;
+        } else {
+            updated.push(row.copy(alloc)?)?;
+        }
+    }
+    Ok(updated)
 }
 
 // The rows after a todo was asked for.
@@ -237,7 +233,7 @@ fn create_todo(
 ) -> Result<Vec<Row>, Memory>
     ensures { IfOk result (λ new. new.items ≡ effect rows.items user.now (CreateTodo id.now list.now text.now complete)) }
 {
-    if !has_row(&rows, Kind::Todo, id) && sees(user, list, &rows) {
+    if !has_row(&rows, Kind::Todo, id) && may_edit(user, list, &rows) {
         let sort = TodoRow::sort_after(greatest_sort(list, &rows));
         rows.push(Row::Todo(TodoRow {
             id: id.copy(alloc)?,
@@ -296,7 +292,9 @@ pub(crate) fn effect(
             id,
             list,
             user: other,
-        } => create_share(alloc, rows, user, id, list, other),
+            role,
+        } => create_share(alloc, rows, user, id, list, other, *role),
+        Call::UpdateShare { id, role } => update_share(alloc, &rows, user, id, *role),
         Call::DeleteShare { id } => {
             if ends_any(user, &rows, id) {
                 without_row(alloc, &rows, Kind::Share, id)

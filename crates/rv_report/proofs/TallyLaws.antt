@@ -15,7 +15,7 @@ use Rattle.rv_base.specs.Sorted.{find_by, put_by, InOrder}
 use Rattle.rv_base.specs.Positions.{Above, equals, below_is, same_from, differs, differs_back, above_chain, not_same, sorted_more, in_order-sorted, map-put, found-sorted}
 use Rattle.rv_base.specs.Arranged.{find-map}
 use Rattle.rv_rows.specs.declared.call.Call.{Call}
-use Rattle.rv_rows.specs.declared.call.Call.TheVariants.{CreateList, DeleteList, CreateShare, DeleteShare, CreateTodo, UpdateTodo, DeleteTodo, Void}
+use Rattle.rv_rows.specs.declared.call.Call.TheVariants.{CreateList, DeleteList, CreateShare, UpdateShare, DeleteShare, CreateTodo, UpdateTodo, DeleteTodo, Void}
 use Rattle.rv_book.specs.declared.entry.Entry.{Entry}
 use Rattle.rv_book.specs.declared.entry.Entry.TheVariants.{Act, Look, Retire}
 use Rattle.rv_book.specs.Book.{Book, book_of, entry_at, size, up_to, with_entry}
@@ -67,7 +67,8 @@ is_by user entry = option_map_or (λ other. bytes_eq other user) (entry_user ent
 void_by : (user other group client : List ℕ) (id : ℕ) (call : Call) → is_void_by user (Act other group client id call) ≡ (is_void call && bytes_eq other user)
 void_by user other group client id (CreateList list name owner) = refl
 void_by user other group client id (DeleteList list) = refl
-void_by user other group client id (CreateShare share list with) = refl
+void_by user other group client id (CreateShare share list with role) = refl
+void_by user other group client id (UpdateShare share role) = refl
 void_by user other group client id (DeleteShare share) = refl
 void_by user other group client id (CreateTodo todo list text complete) = refl
 void_by user other group client id (UpdateTodo todo text complete sort) = refl

@@ -46,6 +46,32 @@ fn add_list_call(
     append_parts(alloc, text, &call)
 }
 
+// What a share lets its user do: nothing is said, or one of the two, or now and then what is neither.
+fn role(draws: &mut Draws) -> &'static str {
+    match draws.below(9) {
+        0..=3 => "",
+        4..=5 => ",\"role\":\"view\"",
+        6..=7 => ",\"role\":\"edit\"",
+        _ => ",\"role\":\"Edit\"",
+    }
+}
+
+fn add_new_role(
+    alloc: Global,
+    text: &mut String,
+    draws: &mut Draws,
+    share: u64,
+) -> Result<(), Memory> {
+    let call = [
+        Text("\"updateShare\",\"args\":{\"id\":\"s"),
+        Number(share),
+        Text("\""),
+        Text(role(draws)),
+        Text("}"),
+    ];
+    append_parts(alloc, text, &call)
+}
+
 fn add_share_call(alloc: Global, text: &mut String, draws: &mut Draws) -> Result<(), Memory> {
     let list = drawn(draws, 3);
     let share = drawn(draws, 4);
@@ -57,6 +83,9 @@ fn add_share_call(alloc: Global, text: &mut String, draws: &mut Draws) -> Result
         ];
         return append_parts(alloc, text, &call);
     }
+    if draws.once_in(3) {
+        return add_new_role(alloc, text, draws, share);
+    }
     let call = [
         Text("\"createShare\",\"args\":{\"id\":\"s"),
         Number(share),
@@ -64,7 +93,9 @@ fn add_share_call(alloc: Global, text: &mut String, draws: &mut Draws) -> Result
         Number(list),
         Text("\",\"userID\":\""),
         Text(name(draws.below(USERS))),
-        Text("\"}"),
+        Text("\""),
+        Text(role(draws)),
+        Text("}"),
     ];
     append_parts(alloc, text, &call)
 }

@@ -1,0 +1,71 @@
+//! Who sees a list of rows, and who may edit it.
+ghost use Rattle.std.specs.Prelude.{◌≡◌};
+ghost use Rattle.std.specs.List.{list_any};
+ghost use Rattle.rv_rows.specs.Sharing.{is_list, owns, shares, lets_edit, sees, may_edit};
+
+use rv_base::{Id, User};
+use rv_rows::Row;
+
+// Whether the row is this list.
+fn is_list(list: &Id, row: &Row) -> bool
+    ensures { result ≡ is_list list.now row.now }
+{
+    match row {
+        Row::List(row) => row.id == *list,
+        Row::Share(_) => false,
+        Row::Todo(_) => false,
+    }
+}
+
+// Whether the row is this list, and the user owns it.
+fn owns(user: &User, list: &Id, row: &Row) -> bool
+    ensures { result ≡ owns user.now list.now row.now }
+{
+    match row {
+        Row::List(row) => row.id == *list && row.owner == *user,
+        Row::Share(_) => false,
+        Row::Todo(_) => false,
+    }
+}
+
+/// Whether the list is there, and the user owns it.
+pub(crate) fn owns_list(user: &User, list: &Id, rows: &[Row]) -> bool
+    ensures { result ≡ list_any (owns user.now list.now) rows.now }
+{
+    rows.iter().any(|row| owns(user, list, row))
+}
+
+/// Whether a share of the list names the user.
+pub(crate) fn has_share(user: &User, list: &Id, rows: &[Row]) -> bool
+    ensures { result ≡ list_any (shares user.now list.now) rows.now }
+{
+    rows.iter().any(|row| row.shares(user, list))
+}
+
+fn has_list(list: &Id, rows: &[Row]) -> bool
+    ensures { result ≡ list_any (is_list list.now) rows.now }
+{
+    rows.iter().any(|row| is_list(list, row))
+}
+
+/// Whether the user sees the list: it is there, and the user owns it or a share of it names the user.
+#[tactic(auto, unfolding(rv_rows::specs::Sharing::sees))]
+pub(crate) fn sees(user: &User, list: &Id, rows: &[Row]) -> bool
+    ensures { result ≡ sees user.now list.now rows.now }
+{
+    owns_list(user, list, rows) || (has_list(list, rows) && has_share(user, list, rows))
+}
+
+fn has_edit_share(user: &User, list: &Id, rows: &[Row]) -> bool
+    ensures { result ≡ list_any (lets_edit user.now list.now) rows.now }
+{
+    rows.iter().any(|row| row.lets_edit(user, list))
+}
+
+/// Whether the user may edit the list's todos: it is there, and the user owns it or a share of it with role edit names the user.
+#[tactic(auto, unfolding(rv_rows::specs::Sharing::may_edit))]
+pub(crate) fn may_edit(user: &User, list: &Id, rows: &[Row]) -> bool
+    ensures { result ≡ may_edit user.now list.now rows.now }
+{
+    owns_list(user, list, rows) || (has_list(list, rows) && has_edit_share(user, list, rows))
+}
