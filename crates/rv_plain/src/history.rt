@@ -37,7 +37,10 @@ fn same_row(a: &Row, b: &Row) -> bool
 {
     match (a, b) {
         (Row::List(a), Row::List(b)) => a.id == b.id && a.name == b.name && a.owner == b.owner,
-        (Row::Share(a), Row::Share(b)) => a.id == b.id && a.list == b.list && a.user == b.user,
+        (Row::Share(a), Row::Share(b)) => a.id == b.id
+            && a.list == b.list
+            && a.user == b.user
+            && a.role == b.role,
         (Row::Todo(a), Row::Todo(b)) => same_todo(a, b),
         (Row::List(_), Row::Share(_)) => false,
         (Row::List(_), Row::Todo(_)) => false,
