@@ -3,7 +3,7 @@
 
 PROGRAM is the program `rv` as it was built. It serves with 4 workers behind HAProxy, over TLS. IDLE clients (500) keep their connections
 and say nothing: one more is answered at once. Clients that push at once are all answered, also while the server is killed and started
-again; 16 links for pokes are served, and one more is turned away. Prints a line for each, and ends with status 1 at the first thing that
+again, and so is a body that is too large; 16 links for pokes are served, and one more is turned away. Prints a line for each, and ends with status 1 at the first thing that
 is wrong. Needs Debian's haproxy and openssl; where one is not installed it says so, and checks nothing.
 """
 import contextlib
@@ -19,7 +19,7 @@ import time
 from concurrent.futures import ThreadPoolExecutor
 
 from links import connected, same, wrong
-from proxied import POKES, WORKERS, Site, asked, missing_tools
+from proxied import KEYS, POKES, WORKERS, Site, asked, missing_tools
 
 # In seconds: an answer at once, on a busy machine too. An idle connection would hold it up for up to 30.
 AT_ONCE = 5
@@ -116,6 +116,16 @@ def check_busy(site, clients=64, each=50):
     print(f"busy: {clients} clients at once had {clients * each} pushes answered in {time.monotonic() - start:.1f} s, each with 200, the slowest after {max(took):.2f} s")
 
 
+def check_too_large(site):
+    """A client that sends a body above the limit reads its answer through the proxy too."""
+    for size in (4_194_305, 20_000_000):
+        connection = site.connection()
+        connection.request("POST", "/push", b" " * size, {"Authorization": KEYS["ann"]})
+        answer = connection.getresponse()
+        same(f"the answer to {size} bytes", (413, b'{"error":"BodyTooLarge"}'), (answer.status, answer.read()))
+    print("too large: bodies of one byte more than the limit and of 20 MB were answered 413")
+
+
 def check_restart(site, clients=8, kills=5):
     """While clients push the server is killed and started again: a few requests are cut, and each push is answered in the end."""
     took, again, over = [], [], threading.Event()
@@ -180,6 +190,7 @@ def main():
         check_direct(site)
         check_idle(site, idle)
         check_busy(site)
+        check_too_large(site)
         check_restart(site)
         check_pokes(site)
         site.kill_server()
