@@ -372,6 +372,7 @@ def check_roles(ann, bob, pictures):
     if any(text == "made as it was taken away" for text, _ in bob.shown()):
         wrong("what bob may only look at has a todo that bob made")
     pictures.take_all_looks(bob, "looks-alone")
+    ann.window.run("document.getElementById('share-form').scrollIntoView({ block: 'center' })")
     pictures.take(ann, "role")
     come_together(ann, bob)
     ann.window.click(role)
