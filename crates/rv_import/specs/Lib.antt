@@ -1,0 +1,5 @@
+pub mod Records
+pub mod Views
+pub mod Left
+pub mod RowReading
+pub mod Writing
