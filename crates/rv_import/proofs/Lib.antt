@@ -7,3 +7,4 @@ pub mod Fronts
 pub mod RowTextLaws
 pub mod Again
 pub mod ViewLaws
+pub mod Sizes

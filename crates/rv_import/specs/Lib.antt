@@ -3,3 +3,4 @@ pub mod Views
 pub mod Left
 pub mod RowReading
 pub mod Writing
+pub mod Imports

@@ -1,0 +1,7 @@
+use Rattle.std.proofs.Common.{◌∙◌, arith}
+use Rattle.rv_import.specs.Imports.{group_id}
+use Rattle.rv_import.proofs.Sizes.{is_id}
+use Rattle.rv_import.proofs.importing.import_group.Goals as goal
+
+pub id_of-requires : goal.id_of-requires
+id_of-requires c = is_id 68 _ (group_id c.args.user.now) (omega arith) (c.as_str.ensures.value ∙ c.in_ok-text.ensures.text) c.in_ok-text.ensures.fits
