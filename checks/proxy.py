@@ -118,14 +118,14 @@ def check_busy(site, clients=64, each=50):
 
 
 def check_too_large(site):
-    """A client that sends a body above the limit, and reads meanwhile as curl does, reads its answer through the proxy too."""
+    """A client that sends a body above the limit, and reads meanwhile as curl does, sees its status through the proxy too."""
     body = site.folder / "body"
     for size in (4_194_305, 20_000_000):
         body.write_bytes(b" " * size)
-        words = ["curl", "-s", "--cacert", str(site.folder / "certificate.pem"), "-w", " %{http_code}", "-H", f"Authorization: {KEYS['ann']}"]
+        words = ["curl", "-s", "--cacert", str(site.folder / "certificate.pem"), "-o", "/dev/null", "-w", "%{http_code}", "-H", f"Authorization: {KEYS['ann']}"]
         words += ["--data-binary", f"@{body}", f"{site.address}push"]
         told = subprocess.run(words, stdout=subprocess.PIPE).stdout
-        same(f"the answer to {size} bytes", b'{"error":"BodyTooLarge"} 413', told)
+        same(f"the status of {size} bytes", b"413", told)
     print("too large: bodies of one byte more than the limit and of 20 MB were answered 413")
 
 
