@@ -9,7 +9,7 @@ use Rattle.rv_lines.specs.Reading.{unread, ReadsFor}
 use Rattle.rv_lines.specs.Taken.{Taken, ReadOn}
 use Rattle.rv_lines.specs.TakenLaws.{taken_none, taken_line, read_on, read_to_end, read_to_fault, read_too_long, read_line, read_last}
 use Rattle.rv_history.specs.Served.{Served}
-use Rattle.rv_keeper.specs.declared.loaded.Loaded.{Loaded}
+use Rattle.rv_keeper.specs.declared.keeper.Keeper.{Ghosts}
 use Rattle.rv_record.specs.declared.fault.Damage.{Damage}
 use Rattle.rv_answering.specs.declared.line.Line.{Line}
 use Rattle.rv_answering.specs.declared.line.Line.TheVariants.{Asks, Stop}
@@ -242,35 +242,35 @@ module _ (Told : Type 0) (begun : Served) where
       )
 
   -- how a line that was examined ends the run
-  ends_examined : {K : Type 0} (tells : K → Type 0) (holds : K → Loaded → Type 0) (faults : K → ℕ) (start old new : InputState) (first out out' : OutputState) (pending line : List ℕ) (number : ℕ) (now next : Served) (ending : Ending)
-      → (w : Going Told begun start old first out pending number now) → Examined start old new line w.lines → new.faults ≡ old.faults → length line ≤ longest_line → number < 2 ^ 32 → EndsLine tells holds faults Told now line number next out out' ending
+  ends_examined : {K : Type 0} (G : Ghosts K) (start old new : InputState) (first out out' : OutputState) (pending line : List ℕ) (number : ℕ) (now next : Served) (ending : Ending)
+      → (w : Going Told begun start old first out pending number now) → Examined start old new line w.lines → new.faults ≡ old.faults → length line ≤ longest_line → number < 2 ^ 32 → EndsLine G Told now line number next out out' ending
       → Feeds Told begun next start new first out' ending
-  ends_examined tells holds faults start old new first out out' pending line number now next Done w l still le lt never = absurd never
-  ends_examined tells holds faults start old new first out out' pending line number now next Read w l still le lt never = absurd never
-  ends_examined tells holds faults start old new first out out' pending line number now next Write w l still le lt cut = line_cut start old new first out out' pending line number now next w l still le lt cut
-  ends_examined tells holds faults start old new first out out' pending line number now next Memory w l still le lt (same, kept) =
+  ends_examined G start old new first out out' pending line number now next Done w l still le lt never = absurd never
+  ends_examined G start old new first out out' pending line number now next Read w l still le lt never = absurd never
+  ends_examined G start old new first out out' pending line number now next Write w l still le lt cut = line_cut start old new first out out' pending line number now next w l still le lt cut
+  ends_examined G start old new first out out' pending line number now next Memory w l still le lt (same, kept) =
       subst (λ (s : Served). Feeds Told begun s start new first out' Memory) (sym same) (subst (λ (o : OutputState). Feeds Told begun now start new first o Memory) (sym kept) (line_memory start old new first out pending line number now w l still))
-  ends_examined tells holds faults start old new first out out' pending line number now next (Malformed n) w l still le lt (is, none, same, kept) =
+  ends_examined G start old new first out out' pending line number now next (Malformed n) w l still le lt (is, none, same, kept) =
       subst (λ (s : Served). Feeds Told begun s start new first out' (Malformed n)) (sym same) (subst (λ (o : OutputState). Feeds Told begun now start new first o (Malformed n)) (sym kept)
       (subst (λ (m : ℕ). Feeds Told begun now start new first out (Malformed m)) (sym is) (line_malformed start old new first out pending line number now w l still (is_at number line None le lt none))))
-  ends_examined tells holds faults start old new first out out' pending line number now next Keeper w l still le lt (stop, same, kept) =
+  ends_examined G start old new first out out' pending line number now next Keeper w l still le lt (stop, same, kept) =
       subst (λ (s : Served). Feeds Told begun s start new first out' Keeper) (sym same) (subst (λ (o : OutputState). Feeds Told begun now start new first o Keeper) (sym kept) (line_memory_or_closed start old new first out pending line number now w l still le lt stop).0)
-  ends_examined tells holds faults start old new first out out' pending line number now next (Damaged damage) w l still le lt (stop, same, kept) =
+  ends_examined G start old new first out out' pending line number now next (Damaged damage) w l still le lt (stop, same, kept) =
       subst (λ (s : Served). Feeds Told begun s start new first out' (Damaged damage)) (sym same) (subst (λ (o : OutputState). Feeds Told begun now start new first o (Damaged damage)) (sym kept) ((line_memory_or_closed start old new first out pending line number now w l still le lt stop).1 damage))
 
   -- the line ended at an LF
-  pub ends_line : {K : Type 0} (tells : K → Type 0) (holds : K → Loaded → Type 0) (faults : K → ℕ) (start old new : InputState) (first out out' : OutputState) (pending pending' line : List ℕ) (number : ℕ) (now next : Served) (ending : Ending)
+  pub ends_line : {K : Type 0} (G : Ghosts K) (start old new : InputState) (first out out' : OutputState) (pending pending' line : List ℕ) (number : ℕ) (now next : Served) (ending : Ending)
       → Going Told begun start old first out pending number now → ReadsFor pending old new false false → HasNoLf line → length line ≤ longest_line → Consumes (unread pending old.left) (unread pending' new.left) (line ++ 10 ∷ [])
-      → number < 2 ^ 32 → EndsLine tells holds faults Told now line number next out out' ending → Feeds Told begun next start new first out' ending
-  ends_line tells holds faults start old new first out out' pending pending' line number now next ending w r h le c lt e =
-      ends_examined tells holds faults start old new first out out' pending line number now next ending w (examined_line start old new pending pending' line w.lines w.taken r h c) r.faults le lt e
+      → number < 2 ^ 32 → EndsLine G Told now line number next out out' ending → Feeds Told begun next start new first out' ending
+  ends_line G start old new first out out' pending pending' line number now next ending w r h le c lt e =
+      ends_examined G start old new first out out' pending line number now next ending w (examined_line start old new pending pending' line w.lines w.taken r h c) r.faults le lt e
 
   -- or with the input
-  pub ends_last : {K : Type 0} (tells : K → Type 0) (holds : K → Loaded → Type 0) (faults : K → ℕ) (start old new : InputState) (first out out' : OutputState) (pending pending' line : List ℕ) (number : ℕ) (now next : Served) (ending : Ending)
+  pub ends_last : {K : Type 0} (G : Ghosts K) (start old new : InputState) (first out out' : OutputState) (pending pending' line : List ℕ) (number : ℕ) (now next : Served) (ending : Ending)
       → Going Told begun start old first out pending number now → ReadsFor pending old new true false → HasNoLf line → 0 < length line → length line ≤ longest_line → Consumes (unread pending old.left) (unread pending' new.left) line → IsAtEnd (unread pending' new.left)
-      → number < 2 ^ 32 → EndsLine tells holds faults Told now line number next out out' ending → Feeds Told begun next start new first out' ending
-  ends_last tells holds faults start old new first out out' pending pending' line number now next ending w r h some le c e lt ends =
-      ends_examined tells holds faults start old new first out out' pending line number now next ending w (examined_last start old new pending pending' line w.lines w.taken r h some c e) r.faults le lt ends
+      → number < 2 ^ 32 → EndsLine G Told now line number next out out' ending → Feeds Told begun next start new first out' ending
+  ends_last G start old new first out out' pending pending' line number now next ending w r h some le c e lt ends =
+      ends_examined G start old new first out out' pending line number now next ending w (examined_last start old new pending pending' line w.lines w.taken r h some c e) r.faults le lt ends
 
   -- all lines were taken, the last with the input's end
   lines_done : (start old new : InputState) (first out' : OutputState) (pending pending' line text : List ℕ) (lines : List (List ℕ)) (next : Served)

@@ -1,5 +1,5 @@
 -- From the desk of a store, or a check of it, and the keeper that went back, to what a report promises.
-use Rattle.std.proofs.Common.{◌≡◌, ℕ, ◌-◌, ◌^◌, ◌++◌, List, None, Result, Ok, Err, IsOk, IsErr, IsErrAnd, IfOk, refl, sym, ap, ◌∙◌, subst, arith, decimal, codes, inl}
+use Rattle.std.proofs.Common.{◌≡◌, ℕ, ◌-◌, ◌^◌, ◌++◌, List, Option, None, Result, Ok, Err, IsOk, IsErr, IsErrAnd, IfOk, refl, sym, ap, ◌∙◌, subst, arith, decimal, codes, inl}
 use Rattle.rv_base.specs.Outside.{OutputState}
 use Rattle.rv_base.specs.declared.memory.Memory.{Memory as Refused}
 use Rattle.rv_keeper.specs.declared.fault.KeepFault.{KeepFault}
@@ -7,9 +7,9 @@ use Rattle.rv_keeper.specs.declared.loaded.Loaded.{Loaded}
 use Rattle.rv_keeper.specs.declared.keeper.Keeper.{Ghosts}
 use Rattle.rv_keeper.specs.declared.place.Place.{Ghosts as PlaceGhosts}
 use Rattle.rv_keeper.specs.Keeping.{HasKeepCause}
-use Rattle.rv_keeper.specs.Stores.{OpensWith}
+use Rattle.rv_keeper.specs.Stores.{LeavesAsGiven, OpensWith}
 use Rattle.rv_book.specs.Book.{Book}
-use Rattle.rv_desk.specs.Seated.{Seated, served, HoldsBook}
+use Rattle.rv_desk.specs.Seated.{Seated, served, KeepsBook}
 use Rattle.rv_cli.specs.declared.ending.Ending.{Ending}
 use Rattle.rv_cli.specs.declared.ending.Ending.TheVariants.{Done, Keeper, Damaged, Read, Write, Memory, Malformed}
 use Rattle.rv_cli.specs.Change.{change}
@@ -44,44 +44,46 @@ module _ {P K : Type 0} (place : PlaceGhosts P K) (G : Ghosts K) (store : List �
 
   -- the desk was opened and reported of, and its keeper went back
   pub has_reported : (Reports : Book → List ℕ → Type 0) (old mid new : P) (desk : Seated K) (keeper : K) (out out' : OutputState) (ending : Ending)
-      → HasOpened place G store old desk mid → keeper ≡ desk.keeper → (G.tells desk.keeper → HoldsBook (G.holds desk.keeper) desk.book desk.doubt)
+      → HasOpened place G store old desk mid → keeper ≡ desk.keeper → KeepsBook G desk.keeper desk.book desk.doubt
       → Back mid new keeper → WritesReport (Reports desk.book) out out' ending
       → Reported (change place store old new) Reports out out' ending
-  has_reported Reports old mid new desk keeper out out' ending opened is held back w =
+  has_reported Reports old mid new desk keeper out out' ending opened is kept back w =
       let home = subst (λ (k : K). Back mid new k) is back in
       record {
         first = served G.faults desk;
         begins = begins place G store old mid new desk desk.keeper opened (λ t. t) home;
         writes = w;
-        leaves = leaves place G store old mid new (served G.faults desk) desk.keeper opened.same (record { held = held; later = omega arith }) home;
+        leaves = leaves place G store old mid new (served G.faults desk) desk.keeper opened.same (record { kept = kept; later = omega arith }) home;
       }
 
   -- the store's keeper was fetched and checked
-  pub store_checked : (kept : K) (old mid new : P) (result : Result ℕ Ending) → (place.tells mid → place.is_out mid store × OpensWith store (place.holds old store) (G.holds kept)) → G.faults kept ≡ 0 → place.faults mid ≡ place.faults old
+  pub store_checked : (kept : K) (old mid new : P) (result : Result ℕ Ending) → (place.tells mid → place.is_out mid store) → (place.tells mid → G.tells kept → OpensWith store (place.holds old store) (G.holds kept)) → (place.honest mid → G.honest kept → LeavesAsGiven store (place.may_leave old store) (G.may_leave kept))
+      → (place.tells mid → place.honest mid) → G.faults kept ≡ 0 → place.faults mid ≡ place.faults old
       → ChecksKept place G store kept mid result new → ChecksStore place store old result new
-  store_checked kept old mid new (Ok entries) got none still checked =
+  store_checked kept old mid new (Ok entries) out got gave honestly none still checked =
       let sound = checked none in
       record {
         loaded = sound.loaded;
         book = sound.book;
-        stored = λ t held was. sound.stored t held ((got (sound.told t)).1 held was);
+        stored = λ t held was. sound.stored t held (got (sound.told t).0 (sound.told t).1 held was);
         opens = sound.opens;
         length = sound.length;
         held = sound.held;
+        left = sound.left;
         same = sound.same ∙ still;
       }
-  store_checked kept old mid new (Err ending) got none still checked =
-      store_opened place G store kept old mid new (Err ending) got none still checked
+  store_checked kept old mid new (Err ending) out got gave honestly none still checked =
+      store_opened place G store kept old mid new (Err ending) out got gave honestly none still checked
 
   -- the place gave no keeper, and so nothing was checked
   pub check_refused : {T : Type 0} (old new : P) (fault : KeepFault) (result : Result ℕ Ending) → HasKeepCause {T = T} (place.faults old) (place.faults new) (Err fault) → IsErr result × IsErrAnd result (λ ending. ending ≡ keep_ending fault) → (place.tells new → (held : Loaded) → place.holds old store held → place.holds new store held)
-      → ChecksStore place store old result new
-  check_refused old new fault (Ok entries) cause is same = absurd (let is = is.0 in cc)
-  check_refused old new fault (Err ending) cause is same = (not_given (change place store old new) fault ending cause is.1, λ t. inl (same t))
+      → (place.tells new → (left : Option Loaded) → place.may_leave new store left → place.may_leave old store left) → ChecksStore place store old result new
+  check_refused old new fault (Ok entries) cause is same left = absurd (let is = is.0 in cc)
+  check_refused old new fault (Err ending) cause is same left = (not_given (change place store old new) fault ending cause is.1, record { held = λ t. inl (same t); left = λ t x may. inl (left t x may) })
 
   -- a store is found sound only where it was there
   pub checked_there : (There : Type 0) (kept : K) (mid new : P) (result : Result ℕ Ending) → (place.tells mid → There) → G.faults kept ≡ 0 → ChecksKept place G store kept mid result new → place.tells new → IsOk result → There
-  checked_there There kept mid new (Ok entries) there none checked t ok = there ((checked none).told t)
+  checked_there There kept mid new (Ok entries) there none checked t ok = there ((checked none).told t).0
   checked_there There kept mid new (Err ending) there none checked t ok = absurd (cc)
 
 -- the store was checked, and told to be sound
@@ -92,5 +94,5 @@ has_checked place store old new entries out out' ending was w = record {
   first = record { book = was.book; limit = 2 ^ 32 - 1; doubt = None; faults = 0 };
   begins = record { loaded = was.loaded; stored = was.stored; opens = was.opens; limit = refl; doubt = refl; faults = refl };
   writes = reports_text (ReportsSound was.book) _ out out' ending (ap (λ n. codes "ok " ++ (decimal n ++ codes "\n")) (sym was.length)) w;
-  leaves = record { held = λ t. (was.loaded, was.held t, inl was.opens.kept); kept = 0; later = omega arith; taken = was.same };
+  leaves = record { held = λ t. (was.loaded, was.held t, inl was.opens.kept); left = was.left; kept = 0; later = omega arith; taken = was.same };
 }

@@ -9,7 +9,7 @@ use Rattle.rv_keeper.specs.declared.keeper.Keeper.{Ghosts}
 use Rattle.rv_keeper.specs.declared.loaded.Loaded.{Loaded}
 use Rattle.rv_keeper.specs.declared.place.Place.{Ghosts as PlaceGhosts}
 use Rattle.rv_keeper.specs.Stores.{OpensAs}
-use Rattle.rv_desk.specs.Seated.{Seated, HoldsBook, served}
+use Rattle.rv_desk.specs.Seated.{Seated, KeepsBook, served}
 use Rattle.rv_book.specs.Book.{Book, size}
 use Rattle.rv_base.specs.declared.memory.Memory.{Memory as MemoryFault}
 use Rattle.rv_room.specs.declared.view.SeatView.{SeatView}
@@ -76,21 +76,25 @@ module _ {P K : Type 0} (place : PlaceGhosts P K) (G : Ghosts K) (store name : L
     accounts = said;
     says = says_later (place.tells new) old mid (Ok said) before read.gives_accounts.0;
     why = not_opened_before (change place store mid new) (change place store old new) other (λ t. t) (λ t. opens_as store (place.holds old store) (place.holds mid store) (λ held was. read.stays (before t) store held was)) (λ t held was. was) read.gives_accounts.1 refl why;
-    left = λ t. ⊎_elim (λ same. inl (λ held was. same held (read.stays (before t) store held was)))
-        (λ same. inr (λ held was. same held (opens_as store (place.holds old store) (place.holds mid store) (λ h w. read.stays (before t) store h w) held was))) (left t);
+    left = record {
+      held = λ t. ⊎_elim (λ same. inl (λ held was. same held (read.stays (before t) store held was)))
+          (λ same. inr (λ held was. same held (opens_as store (place.holds old store) (place.holds mid store) (λ h w. read.stays (before t) store h w) held was))) (left.held t);
+      left = λ t x may. ⊎_elim (λ might. inl (read.left (before t) store x might))
+          (λ opens. inr (λ held was. opens held (opens_as store (place.holds old store) (place.holds mid store) (λ h w. read.stays (before t) store h w) held was))) (left.left t x may);
+    };
     text = text;
   }
 
   -- the store was opened, its desk came from the first to the last, and its keeper went back
   module _ (old mid opened new : P) (said : AccountsServed) (first last : Seated K) (keeper : K) (read : Read old (Ok said) mid)
-      (opens : HasOpened place G store mid first opened) (before : place.tells opened → place.tells mid) (is : keeper ≡ last.keeper)
-      (held : G.tells last.keeper → HoldsBook (G.holds last.keeper) last.book last.doubt) (kept_before : G.tells last.keeper → G.tells first.keeper)
+      (opens : HasOpened place G store mid first opened) (before : place.tells opened → G.tells first.keeper → place.tells mid) (is : keeper ≡ last.keeper)
+      (kept : KeepsBook G last.keeper last.book last.doubt) (kept_before : G.tells last.keeper → G.tells first.keeper)
       (back : WentBack place G store opened new keeper) where
     home : WentBack place G store opened new last.keeper
     home = subst (λ (k : K). WentBack place G store opened new k) is back
 
     told : place.tells new → place.tells mid
-    told t = before (home.told t).0
+    told t = before (home.told t).0 (kept_before (home.told t).1)
 
     pub serve_begins : Begins (change place store old new) (served G.faults first)
     serve_begins =
@@ -106,7 +110,7 @@ module _ {P K : Type 0} (place : PlaceGhosts P K) (G : Ghosts K) (store name : L
 
     pub serve_leaves : Leaves (change place store old new) (served G.faults last)
     serve_leaves = leaves place G store old opened new (served G.faults last) last.keeper
-        (opens.same ∙ read.gives_accounts.1) (record { held = held; later = omega arith }) home
+        (opens.same ∙ read.gives_accounts.1) (record { kept = kept; later = omega arith }) home
 
     pub serve_says : FileSays (place.tells new) (place.accounts old name) (Ok said)
     serve_says = says_later (place.tells new) old mid (Ok said) told read.gives_accounts.0
@@ -169,8 +173,8 @@ net_before Is kept_tells before after old new (Err nets.Memory) same = λ t. sub
 module _ {P K : Type 0} (place : PlaceGhosts P K) (G : Ghosts K) (store name : List ℕ) where
   -- the store was opened, the net was served or not, and what is told of it
   pub serve_ended : (old mid opened new : P) (said : AccountsServed) (first last : Seated K) (keeper : K) → AccountsRead place name old (Ok said) mid
-      → HasOpened place G store mid first opened → (place.tells opened → place.tells mid) → keeper ≡ last.keeper
-      → (G.tells last.keeper → HoldsBook (G.holds last.keeper) last.book last.doubt) → IsSound (served G.faults last)
+      → HasOpened place G store mid first opened → (place.tells opened → G.tells first.keeper → place.tells mid) → keeper ≡ last.keeper
+      → KeepsBook G last.keeper last.book last.doubt → IsSound (served G.faults last)
       → WentBack place G store opened new keeper
       → (Serves : AccountsServed → Seated K → Seated K → Type 0) (net net' : ℕ) (result : Result (Unit {0}) NetFault) (entries : ℕ) (out out' : OutputState) (ending : ServeEnding)
       → NetResult (Serves said first last) G.tells net net' first last result

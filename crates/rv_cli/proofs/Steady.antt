@@ -2,7 +2,7 @@
 use Rattle.std.proofs.Common.{codes, decimal, ◌≡◌, ◌≢◌, ℕ, ◌-◌, ◌^◌, ◌++◌, List, Result, Ok, Err, IsErrOf, refl, sym, ap, ◌∙◌, subst, arith}
 use Rattle.rv_keeper.specs.declared.fault.KeepFault.{KeepFault}
 use Rattle.rv_keeper.specs.declared.fault.KeepFault.TheVariants as keeping
-use Rattle.rv_keeper.specs.declared.loaded.Loaded.{Loaded}
+use Rattle.rv_keeper.specs.declared.keeper.Keeper.{Ghosts}
 use Rattle.rv_keeper.specs.Keeping.{HasKeepCause}
 use Rattle.rv_keeper.specs.Stores.{TakesUp}
 use Rattle.rv_desk.specs.Seated.{Seated}
@@ -70,9 +70,9 @@ pub check_not_given : {T : Type 0} (fault : KeepFault) (result : Result ℕ Endi
 check_not_given fault (Ok entries) never is = absurd (let is = is.0 in cc)
 check_not_given fault (Err ending) never is = not_given fault ending never is.1
 
-module _ {K : Type 0} (tells steady : K → Type 0) (holds : K → Loaded → Type 0) (faults : K → ℕ) where
+module _ {K : Type 0} (G : Ghosts K) where
   -- opening over what fails never more is not refused for a fault, and never fault is counted
-  pub refused_for : (kept now : K) (fault : OpenFault) → steady kept → IsRefused tells steady holds faults (2 ^ 32 - 1) kept fault now → (fault_ending fault ≡ Keeper → ⊥) × (faults now ≡ faults kept)
+  pub refused_for : (kept now : K) (fault : OpenFault) → G.fails_no_more kept → IsRefused G (2 ^ 32 - 1) kept fault now → (fault_ending fault ≡ Keeper → ⊥) × (G.faults now ≡ G.faults kept)
   refused_for kept now faulting.Keeper s (rose, unsteady) = absurd (unsteady s)
   refused_for kept now (faulting.Damaged damage) s damaged = (λ e. absurd (cc), damaged.still)
   refused_for kept now faulting.Memory s same = (λ e. absurd (cc), same)

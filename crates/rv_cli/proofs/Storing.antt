@@ -1,5 +1,5 @@
 -- From the desk of a store, what was fed to it, and the keeper that went back, to what a run promises.
-use Rattle.std.proofs.Common.{◌≡◌, ◌≢◌, ℕ, zero, suc, ◌<◌, List, Option, Some, None, IfSome, Result, Ok, Err, IsOk, IsErr, IsErrAnd, refl, sym, ap, ◌∙◌, subst, arith, inl, inr}
+use Rattle.std.proofs.Common.{◌≡◌, ◌≢◌, ◌⊎◌, ℕ, zero, suc, ◌<◌, ◌-◌, ◌^◌, List, [], codes, Option, Some, None, IfSome, Result, Ok, Err, IsOk, IsErr, IsErrAnd, refl, sym, ap, ◌∙◌, subst, arith, inl, inr}
 use Rattle.rv_base.specs.Causes.{Rose}
 use Rattle.rv_base.specs.Outside.{InputState, OutputState, Writes}
 use Rattle.rv_history.specs.Served.{Served}
@@ -7,19 +7,22 @@ use Rattle.rv_keeper.specs.declared.fault.KeepFault.{KeepFault}
 use Rattle.rv_keeper.specs.declared.loaded.Loaded.{Loaded}
 use Rattle.rv_keeper.specs.declared.keeper.Keeper.{Ghosts}
 use Rattle.rv_keeper.specs.declared.place.Place.{Ghosts as PlaceGhosts}
-use Rattle.rv_keeper.specs.Keeping.{HasKeepCause}
-use Rattle.rv_keeper.specs.Stores.{OpensWith, TakesUp}
+use Rattle.rv_keeper.specs.Keeping.{HasKeepCause, holding}
+use Rattle.rv_keeper.specs.Stores.{LeavesAsGiven, OpensAs, OpensWith, TakesUp}
 use Rattle.rv_desk.specs.Seated.{Seated, served}
+use Rattle.rv_desk.specs.Opened.{IsLeft, IsRefused}
+use Rattle.rv_desk.specs.declared.open_fault.OpenFault.{OpenFault}
+use Rattle.rv_desk.specs.declared.open_fault.OpenFault.TheVariants as faulting
 use Rattle.rv_answering.specs.declared.answer.Answer.{Answer}
 use Rattle.rv_answering.specs.declared.request.Request.TheVariants.{Retire}
 use Rattle.rv_cli.specs.declared.ending.Ending.{Ending}
 use Rattle.rv_cli.specs.declared.ending.Ending.TheVariants.{Done, Keeper, Damaged, Read, Write, Memory, Malformed}
-use Rattle.rv_cli.specs.Texts.{keep_ending, status_of, status_text}
+use Rattle.rv_cli.specs.Texts.{fault_ending, keep_ending, status_of, status_text}
 use Rattle.rv_cli.specs.Change.{StoreChange, change, kept_change}
 use Rattle.rv_cli.specs.Headline.{Ends, Begins, Leaves, IsNotOpened, KeepsSo, HasFed, Replied}
 use Rattle.rv_cli.specs.Feeding.{IsLeftWith, RoseAt, FedAnswers, Feeds, FeedsWith}
 use Rattle.rv_cli.specs.Replying.{Retired, WritesReply}
-use Rattle.rv_cli.specs.Storing.{HasOpened, OpensStore, OpensKept}
+use Rattle.rv_cli.specs.Storing.{HasOpened, OpensStore, OpensKept, ToldBefore}
 use Rattle.rv_cli.specs.RunLaws.{answered_later, step_later}
 use Rattle.rv_cli.proofs.Ended.{ended}
 use Rattle.rv_keeper.specs.declared.fault.KeepFault.TheVariants as keeping
@@ -95,31 +98,49 @@ module _ {P K : Type 0} (place : PlaceGhosts P K) (G : Ghosts K) (store : List �
   -- a keeper that went back to the place
   pub record WentBack (before after : P) (keeper : K) : Type 0 where
     pub told : place.tells after → place.tells before × G.tells keeper
+    pub honest : place.honest after → place.honest before × G.honest keeper
     pub held : place.tells after → (held : Loaded) → G.holds keeper held → place.holds after store held
+    pub left : place.honest after → (left : Option Loaded) → place.may_leave after store left → G.may_leave keeper left
     pub taken : TakesUp (G.faults keeper) (place.faults before) (place.faults after)
 
   -- the store's keeper was fetched, and its desk opened or not
-  pub store_opened : (kept : K) (old mid new : P) (result : Result (Seated K) Ending) → (place.tells mid → place.is_out mid store × OpensWith store (place.holds old store) (G.holds kept)) → G.faults kept ≡ 0 → place.faults mid ≡ place.faults old
+  pub store_opened : (kept : K) (old mid new : P) (result : Result (Seated K) Ending) → (place.tells mid → place.is_out mid store) → (place.tells mid → G.tells kept → OpensWith store (place.holds old store) (G.holds kept)) → (place.honest mid → G.honest kept → LeavesAsGiven store (place.may_leave old store) (G.may_leave kept))
+      → (place.tells mid → place.honest mid) → G.faults kept ≡ 0 → place.faults mid ≡ place.faults old
       → OpensKept place G store kept mid result new → OpensStore place G store old result new
-  store_opened kept old mid new (Ok desk) got none still opened = record {
+  store_opened kept old mid new (Ok desk) out got gave honestly none still opened = record {
     loaded = opened.loaded;
-    stored = λ t now held was. opened.stored now held ((got (subst (λ (p : P). place.tells p) opened.same t)).1 held was);
+    stored = λ t now held was. opened.stored now held (got (subst (λ (p : P). place.tells p) opened.same t) (opened.told now) held was);
     opens = opened.opens;
     limit = opened.limit;
     doubt = opened.doubt;
     none = opened.still ∙ none;
-    out = λ t. subst (λ (p : P). place.is_out p store) (sym opened.same) (got (subst (λ (p : P). place.tells p) opened.same t)).0;
+    out = λ t. subst (λ (p : P). place.is_out p store) (sym opened.same) (out (subst (λ (p : P). place.tells p) opened.same t));
     same = ap place.faults opened.same ∙ still;
   }
-  store_opened kept old mid new (Err ending) got none still opened =
-      let (told, why, back) = opened none in
-      (again ending told why, λ t. inr (λ held was. back t held ((got (told t)).1 held was)))
+  store_opened kept old mid new (Err ending) out got gave honestly none still opened =
+      let (told, why, back, left) = opened none in (
+        again ending told why,
+        record {
+          held = λ t. inr (λ held was. back t held (got (told t).0 (told t).1 held was));
+          left = λ t x may. elim ((left t).1 x may) [
+            | inl was ↦ elim (gave (honestly (told t).0) (left t).0 x was) [
+              | inl memory ↦ inr (λ held was. of_memory x memory.0 memory.1 held was)
+              | inr other ↦ inl other.1
+            ]
+            | inr holds ↦ inr (λ held was. holds held (got (told t).0 (told t).1 held was))
+          ];
+        },
+      )
     where
-      again : (ending : Ending) → (place.tells new → place.tells mid) → IsNotOpened (kept_change place G store kept mid new) ending
+      of_memory : (x : Option Loaded) → store ≡ codes "memory" → x ≡ Some (holding [] 0) → (held : Loaded) → OpensAs store (place.holds old store) held → x ≡ Some held
+      of_memory x same is held (inl was) = is ∙ ap Some (sym was.1)
+      of_memory x same is held (inr was) = absurd (was.0 same)
+
+      again : (ending : Ending) → (place.tells new → place.tells mid × G.tells kept) → IsNotOpened (kept_change place G store kept mid new) ending
           → IsNotOpened (change place store old new) ending
       again Keeper told rose = subst (λ (n : ℕ). Rose n (place.faults new)) still rose
       again (Damaged damage) told (loaded, stored, damaged, left, same) =
-          (loaded, λ t held was. stored t held ((got (told t)).1 held was), damaged, λ t held was. left t held ((got (told t)).1 held was), same ∙ still)
+          (loaded, λ t held was. stored t held (got (told t).0 (told t).1 held was), damaged, λ t held was. left t held (got (told t).0 (told t).1 held was), same ∙ still)
       again Memory told free = tt
       again Done told never = never
       again Read told never = never
@@ -128,9 +149,37 @@ module _ {P K : Type 0} (place : PlaceGhosts P K) (G : Ghosts K) (store : List �
 
   -- the place gave no keeper, and so there is no desk
   pub store_refused : {T : Type 0} (old new : P) (fault : KeepFault) (result : Result (Seated K) Ending) → HasKeepCause {T = T} (place.faults old) (place.faults new) (Err fault) → IsErr result × IsErrAnd result (λ ending. ending ≡ keep_ending fault) → (place.tells new → (held : Loaded) → place.holds old store held → place.holds new store held)
-      → OpensStore place G store old result new
-  store_refused old new fault (Ok desk) cause is same = absurd (let is = is.0 in cc)
-  store_refused old new fault (Err ending) cause is same = (not_given (change place store old new) fault ending cause is.1, λ t. inl (same t))
+      → (place.tells new → (left : Option Loaded) → place.may_leave new store left → place.may_leave old store left) → OpensStore place G store old result new
+  store_refused old new fault (Ok desk) cause is same left = absurd (let is = is.0 in cc)
+  store_refused old new fault (Err ending) cause is same left = (not_given (change place store old new) fault ending cause is.1, record { held = λ t. inl (same t); left = λ t x may. inl (left t x may) })
+
+  -- a keeper whose desk was refused went back
+  pub kept_refused : (kept keeper : K) (old new : P) (fault : OpenFault) → (place.tells new → place.honest new) → IsRefused G (2 ^ 32 - 1) kept fault keeper × IsLeft G kept keeper → WentBack old new keeper → OpensKept place G store kept old (Err (fault_ending fault)) new
+  kept_refused kept keeper old new fault honestly (refused, was) back none =
+      (λ t. ((back.told t).0, was.told (back.told t).1), why fault refused, λ t held h. back.held t held (was.held (back.told t).1 held h), λ t. (was.honest (back.honest (honestly t)).1, λ x may. of_left (was.crash (back.honest (honestly t)).1 x (back.left (honestly t) x may))))
+    where
+      of_left : {x : Option Loaded} → G.may_leave kept x ⊎ (G.tells kept × ((held : Loaded) → G.holds kept held → x ≡ Some held)) → G.may_leave kept x ⊎ ((held : Loaded) → G.holds kept held → x ≡ Some held)
+      of_left (inl might) = inl might
+      of_left (inr holds) = inr holds.1
+
+      same : G.faults keeper ≡ G.faults kept → place.faults new ≡ place.faults old
+      same still = none_taken (G.faults keeper) (place.faults old) (place.faults new) (still ∙ none) back.taken
+
+      why : (fault : OpenFault) → IsRefused G (2 ^ 32 - 1) kept fault keeper → IsNotOpened (kept_change place G store kept old new) (fault_ending fault)
+      why faulting.Keeper (rose, unsteady) = rises (G.faults keeper) (place.faults old) (place.faults new) (above_none (G.faults keeper) (subst (λ (n : ℕ). Rose n (G.faults keeper)) none rose)) back.taken
+      why (faulting.Damaged damage) damaged =
+          (damaged.loaded, λ t held h. damaged.was.told (back.told t).1 held h, damaged.damaged, λ t held h. back.held t held (was.held (back.told t).1 held h), same damaged.still)
+      why faulting.Memory still = tt
+
+  -- a keeper was given, which told only where the place did
+  pub told_before : (kept : K) (old mid new : P) (result : Result (Seated K) Ending) → (place.tells mid → G.tells kept → place.tells old) → G.faults kept ≡ 0 → OpensKept place G store kept mid result new → ToldBefore place G old result new
+  told_before kept old mid new (Ok desk) got none opened = λ t now. got (subst (λ (p : P). place.tells p) opened.same t) (opened.told now)
+  told_before kept old mid new (Err ending) got none opened = λ t. let (was, tells) = (opened none).0 t in got was tells
+
+  -- no keeper was given
+  pub told_refused : (old new : P) (result : Result (Seated K) Ending) → IsErr result → (place.tells new → place.tells old) → ToldBefore place G old result new
+  told_refused old new (Ok desk) is told = absurd (cc)
+  told_refused old new (Err ending) is told = told
 
   -- a desk is opened only of a store that was there
   pub opened_there : (There : Type 0) (kept : K) (mid new : P) (result : Result (Seated K) Ending) → (place.tells mid → There) → OpensKept place G store kept mid result new → place.tells new → IsOk result → There
@@ -138,7 +187,7 @@ module _ {P K : Type 0} (place : PlaceGhosts P K) (G : Ghosts K) (store : List �
   opened_there There kept mid new (Err ending) there opened t ok = absurd (cc)
 
   keeps_so : (old mid new : P) (desk : Seated K) (keeper : K) (ending : Ending) → G.faults desk.keeper ≡ 0 → place.faults mid ≡ place.faults old → WentBack mid new keeper
-      → RoseAt G.tells G.holds G.faults ending (G.faults desk.keeper) keeper → KeepsSo (change place store old new) ending
+      → RoseAt G ending (G.faults desk.keeper) keeper → KeepsSo (change place store old new) ending
   keeps_so old mid new desk keeper Keeper none same back rose =
       subst (λ (n : ℕ). Rose n (place.faults new)) same (rises (G.faults keeper) (place.faults mid) (place.faults new) (above_none (G.faults keeper) (subst (λ (n : ℕ). Rose n (G.faults keeper)) none rose)) back.taken)
   keeps_so old mid new desk keeper Done none same taken rose = tt
@@ -159,9 +208,10 @@ module _ {P K : Type 0} (place : PlaceGhosts P K) (G : Ghosts K) (store : List �
     faults = opened.none;
   }
 
-  pub leaves : (old mid new : P) (now : Served) (keeper : K) → place.faults mid ≡ place.faults old → IsLeftWith G.tells G.holds G.faults now keeper → WentBack mid new keeper → Leaves (change place store old new) now
+  pub leaves : (old mid new : P) (now : Served) (keeper : K) → place.faults mid ≡ place.faults old → IsLeftWith G now keeper → WentBack mid new keeper → Leaves (change place store old new) now
   leaves old mid new now keeper same left back = record {
-    held = λ t. let (h, was, with) = left.held (back.told t).1 in (h, back.held t h was, with);
+    held = λ t. let (h, was, with) = left.kept.held (back.told t).1 in (h, back.held t h was, with);
+    left = λ honest x may. left.kept.left (back.honest honest).1 x (back.left honest x may);
     kept = G.faults keeper;
     later = left.later;
     taken = subst (λ (n : ℕ). TakesUp (G.faults keeper) n (place.faults new)) same back.taken;
@@ -169,7 +219,7 @@ module _ {P K : Type 0} (place : PlaceGhosts P K) (G : Ghosts K) (store : List �
 
   -- the desk was opened and fed, and its keeper went back
   pub has_fed : {T E : Type 0} (old mid new : P) (desk : Seated K) (ended' : Ending × K) (input input' : InputState) (first out out' : OutputState) (result : Result T E)
-      → HasOpened place G store old desk mid → FeedsWith G.tells G.holds G.faults desk input input' first out ended' → WentBack mid new ended'.1 → Writes out out' result (status_text ended'.0)
+      → HasOpened place G store old desk mid → FeedsWith G desk input input' first out ended' → WentBack mid new ended'.1 → Writes out out' result (status_text ended'.0)
       → HasFed (change place store old new) input input' first out' ended'.0
   has_fed old mid new desk ended' input input' first out out' result opened fed back w =
       let later = feeds_later (G.tells ended'.1) (place.tells new) (λ t. (back.told t).1) (served G.faults desk) fed.now input input' first out ended'.0 fed.feeds in
@@ -187,7 +237,7 @@ module _ {P K : Type 0} (place : PlaceGhosts P K) (G : Ghosts K) (store : List �
 
   -- the same of one retirement
   pub has_replied : (old mid new : P) (desk : Seated K) (group : List ℕ) (told : Answer × K) (first out : OutputState) (ending : Ending)
-      → HasOpened place G store old desk mid → Retired G.tells G.holds G.faults desk group told → WentBack mid new told.1 → WritesReply first out told.0 ending
+      → HasOpened place G store old desk mid → Retired G desk group told → WentBack mid new told.1 → WritesReply first out told.0 ending
       → Replied (change place store old new) (Ok (Retire group)) first out ending
   has_replied old mid new desk group told first out Done opened retired back (appended, still) = record {
     first = served G.faults desk;

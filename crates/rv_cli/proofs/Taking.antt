@@ -17,7 +17,7 @@ use Rattle.rv_store.specs.OpeningLaws.{opens-not_damaged}
 use Rattle.rv_store.specs.StoreBooks.{doubt_fits, settled_unique}
 use Rattle.rv_store.specs.StoreCells.{IsKeptAs, IsKeptWith}
 use Rattle.rv_keeper.specs.declared.keeper.Keeper.{Ghosts}
-use Rattle.rv_desk.specs.Seated.{Assures, DeskTakes, Seated, HoldsBook, served}
+use Rattle.rv_desk.specs.Seated.{Assures, DeskTakes, Seated, HoldsBook, KeepsBook, served}
 use Rattle.rv_desk.specs.Opened.{Opens, IsDamagedIn, IsRefused, IsLeft}
 use Rattle.rv_desk.specs.declared.open_fault.OpenFault.{OpenFault}
 use Rattle.rv_answering.specs.declared.answer.Answer.{Answer}
@@ -46,12 +46,12 @@ none_next : (book : Book) (limit : ℕ) (doubt : Doubt) → doubt ≡ None → M
 none_next book limit None none = tt
 none_next book limit (Some entry) none = absurd (cc)
 
-module _ {K : Type 0} (tells fails_no_more : K → Type 0) (holds : K → Loaded → Type 0) (faults : K → ℕ) where
+module _ {K : Type 0} (G : Ghosts K) where
   -- the desk that is opened from the keeper of a closed one
-  pub reopened : (old new : Seated K) (kept : K) → kept ≡ old.keeper → AllByRecursion EntryFits old.book.entries × IfSome old.doubt EntryFits → (tells old.keeper → HoldsBook (holds old.keeper) old.book old.doubt)
-      → Opens tells fails_no_more holds faults (2 ^ 32 - 1) kept new → Reopens (tells new.keeper) (served faults old) (served faults new) × (tells new.keeper → tells old.keeper)
+  pub reopened : (old new : Seated K) (kept : K) → kept ≡ old.keeper → AllByRecursion EntryFits old.book.entries × IfSome old.doubt EntryFits → KeepsBook G old.keeper old.book old.doubt
+      → Opens G (2 ^ 32 - 1) kept new → Reopens (G.tells new.keeper) (served G.faults old) (served G.faults new) × (G.tells new.keeper → G.tells old.keeper)
   reopened old new kept is fits held opens =
-      let told : tells new.keeper → tells old.keeper = λ now. subst (λ (k : K). tells k) is (opens.told now) in (
+      let told : G.tells new.keeper → G.tells old.keeper = λ now. subst (λ (k : K). G.tells k) is (opens.told now) in (
         record {
           sound = record {
             lawful = opens.opens.sound.lawful;
@@ -60,25 +60,31 @@ module _ {K : Type 0} (tells fails_no_more : K → Type 0) (holds : K → Loaded
           };
           limit = opens.most;
           doubt = opens.doubt;
-          faults = opens.still ∙ ap faults is;
-          settled = λ now. settle now (held (told now));
+          faults = opens.still ∙ ap G.faults is;
+          settled = λ now. settle now (held.held (told now));
         },
         told,
       )
     where
-      settle : tells new.keeper → HoldsBook (holds old.keeper) old.book old.doubt → Settles old.book old.doubt new.book
+      settle : G.tells new.keeper → HoldsBook (G.holds old.keeper) old.book old.doubt → Settles old.book old.doubt new.book
       settle now (h, was, with) =
-          let same : h ≡ opens.loaded = opens.was.told now h (subst (λ (k : K). holds k h) (sym is) was) in
+          let same : h ≡ opens.loaded = opens.was.told now h (subst (λ (k : K). G.holds k h) (sym is) was) in
           settled_unique old.book new.book old.doubt opens.loaded fits.0 fits.1 opens.opens.sound.fits opens.opens.kept (subst (λ (l : Loaded). IsKeptWith old.book old.doubt l) same with)
 
   -- the keeper of a desk that is not opened again
-  left_closed : (old : Seated K) (kept now : K) → kept ≡ old.keeper → (tells old.keeper → HoldsBook (holds old.keeper) old.book old.doubt) → IsLeft tells fails_no_more holds faults kept now
-      → IsLeftWith tells holds faults (served faults old) now × (tells now → tells old.keeper)
-  left_closed old kept now is held left =
-      let told : tells now → tells old.keeper = λ t. subst (λ (k : K). tells k) is (left.told t) in (
+  left_closed : (old : Seated K) (kept now : K) → kept ≡ old.keeper → KeepsBook G old.keeper old.book old.doubt → IsLeft G kept now
+      → IsLeftWith G (served G.faults old) now × (G.tells now → G.tells old.keeper)
+  left_closed old kept now is keeps left =
+      let told : G.tells now → G.tells old.keeper = λ t. subst (λ (k : K). G.tells k) is (left.told t) in (
         record {
-          held = λ t. let (h, was, with) = held (told t) in (h, left.held t h (subst (λ (k : K). holds k h) (sym is) was), with);
-          later = subst (λ (k : K). faults k ≤ faults now) is left.later;
+          kept = record {
+            held = λ t. let (h, was, with) = keeps.held (told t) in (h, left.held t h (subst (λ (k : K). G.holds k h) (sym is) was), with);
+            left = λ honest x may. elim (left.crash honest x may) [
+              | inl was ↦ keeps.left (subst G.honest is (left.honest honest)) x (subst (λ (k : K). G.may_leave k x) is was)
+              | inr (tells, holds) ↦ let (h, was, with) = keeps.held (subst G.tells is tells) in (h, holds h (subst (λ (k : K). G.holds k h) (sym is) was), with)
+            ];
+          };
+          later = subst (λ (k : K). G.faults k ≤ G.faults now) is left.later;
         },
         told,
       )
@@ -110,18 +116,18 @@ module _ {K : Type 0} (tells fails_no_more : K → Type 0) (holds : K → Loaded
       by_kept (inr kept) = by_doubt old.doubt fits.1 next kept
 
   untold : (old : Seated K) (kept now : K) (damage : Damage) → kept ≡ old.keeper → IsLawful old.book → AllByRecursion EntryFits old.book.entries × IfSome old.doubt EntryFits → (size old.book ≤ old.limit) × (old.limit < 2 ^ 32) → MayStand old.book old.limit old.doubt
-      → (tells old.keeper → HoldsBook (holds old.keeper) old.book old.doubt) → IsLeft tells fails_no_more holds faults kept now → IsDamagedIn tells fails_no_more holds faults (2 ^ 32 - 1) kept now damage → tells now → ⊥
+      → KeepsBook G old.keeper old.book old.doubt → IsLeft G kept now → IsDamagedIn G (2 ^ 32 - 1) kept now damage → G.tells now → ⊥
   untold old kept now damage is lawful fits within next held left damaged t =
-      let (h, was, with) = held (subst (λ (k : K). tells k) is (left.told t)) in
-      let same : h ≡ damaged.loaded = damaged.was.told t h (subst (λ (k : K). holds k h) (sym is) was) in
+      let (h, was, with) = held.held (subst (λ (k : K). G.tells k) is (left.told t)) in
+      let same : h ≡ damaged.loaded = damaged.was.told t h (subst (λ (k : K). G.holds k h) (sym is) was) in
       let (book, opens) = may_open old h lawful fits within next with in
       opens-not_damaged (2 ^ 32 - 1) book damaged.loaded damage (subst (λ (l : Loaded). MayOpen (2 ^ 32 - 1) book l) same opens) damaged.damaged
 
   pub not_reopened : (old : Seated K) (kept now : K) (fault : OpenFault) → kept ≡ old.keeper → IsLawful old.book → AllByRecursion EntryFits old.book.entries × IfSome old.doubt EntryFits → (size old.book ≤ old.limit) × (old.limit < 2 ^ 32) → MayStand old.book old.limit old.doubt
-      → (tells old.keeper → HoldsBook (holds old.keeper) old.book old.doubt)
-      → IsRefused tells fails_no_more holds faults (2 ^ 32 - 1) kept fault now × IsLeft tells fails_no_more holds faults kept now → ReopensOrNot tells holds faults old (Err (fault_ending fault, now))
+      → KeepsBook G old.keeper old.book old.doubt
+      → IsRefused G (2 ^ 32 - 1) kept fault now × IsLeft G kept now → ReopensOrNot G old (Err (fault_ending fault, now))
   not_reopened old kept now faulting.Keeper is lawful fits within next held ((rose, unsteady), left) =
-      let (with, told) = left_closed old kept now is held left in (tt, with, told, subst (λ (k : K). Rose (faults k) (faults now)) is rose)
+      let (with, told) = left_closed old kept now is held left in (tt, with, told, subst (λ (k : K). Rose (G.faults k) (G.faults now)) is rose)
   not_reopened old kept now (faulting.Damaged damage) is lawful fits within next held (damaged, left) =
       let (with, told) = left_closed old kept now is held left in (tt, with, told, untold old kept now damage is lawful fits within next held left damaged)
   not_reopened old kept now faulting.Memory is lawful fits within next held (free, left) =
@@ -129,8 +135,8 @@ module _ {K : Type 0} (tells fails_no_more : K → Type 0) (holds : K → Loaded
 
   -- the keeper of a desk tells only if it told, and one that fails no more goes on so, with no fault
   pub record Before (old new : Seated K) : Type 0 where
-    pub told : tells new.keeper → tells old.keeper
-    pub steady : fails_no_more old.keeper → fails_no_more new.keeper × (faults new.keeper ≡ faults old.keeper)
+    pub told : G.tells new.keeper → G.tells old.keeper
+    pub steady : G.fails_no_more old.keeper → G.fails_no_more new.keeper × (G.faults new.keeper ≡ G.faults old.keeper)
 
   before_same : (s : Seated K) → Before s s
   before_same s = record { told = λ t. t; steady = λ f. (f, refl) }
@@ -140,54 +146,54 @@ module _ {K : Type 0} (tells fails_no_more : K → Type 0) (holds : K → Loaded
 
   -- a turn of a desk, with what is known besides
   abbrev desk_takes : Seated K → Ask → Outcome → Seated K → Type 0
-  desk_takes old ask outcome new = TakesTurn pull_json (served faults old) ask outcome (served faults new) × Assures tells fails_no_more old.keeper (trouble_of outcome) new.keeper
+  desk_takes old ask outcome new = TakesTurn pull_json (served G.faults old) ask outcome (served G.faults new) × Assures G.tells G.fails_no_more old.keeper (trouble_of outcome) new.keeper
 
-  pub turn_before : (old new : Seated K) (ask : Ask) (outcome : Outcome) → TakesTurn pull_json (served faults old) ask outcome (served faults new) → Assures tells fails_no_more old.keeper (trouble_of outcome) new.keeper → Before old new
+  pub turn_before : (old new : Seated K) (ask : Ask) (outcome : Outcome) → TakesTurn pull_json (served G.faults old) ask outcome (served G.faults new) → Assures G.tells G.fails_no_more old.keeper (trouble_of outcome) new.keeper → Before old new
   turn_before old new ask outcome taken assured = record {
     told = assured.told;
-    steady = λ f. (assured.goes_on f, still_of pull_json ask outcome (served faults old) (served faults new) taken (assured.sure f));
+    steady = λ f. (assured.goes_on f, still_of pull_json ask outcome (served G.faults old) (served G.faults new) taken (assured.sure f));
   }
 
   desk_goes : (old new : Seated K) (asked : Parsed) (answer : Answer)
-      → steps.Handles desk_takes old asked answer new → Handles (served faults old) asked answer (served faults new) × Before old new
-  desk_goes old new asked answer step = handled_shown (served faults) Before before_same before_on (TakesTurn pull_json) old new asked answer
-      (map_handled desk_takes (shown_takes (served faults) Before before_same before_on (TakesTurn pull_json))
+      → steps.Handles desk_takes old asked answer new → Handles (served G.faults old) asked answer (served G.faults new) × Before old new
+  desk_goes old new asked answer step = handled_shown (served G.faults) Before before_same before_on (TakesTurn pull_json) old new asked answer
+      (map_handled desk_takes (shown_takes (served G.faults) Before before_same before_on (TakesTurn pull_json))
       (λ old new ask outcome (taken, assured). (taken, turn_before old new ask outcome taken assured))
       old new asked answer step)
 
   -- a turn tells that another changed what is kept only where its keeper does not tell
   desk_near : (old new : Seated K) (asked : Parsed) (answer : Answer) → steps.Handles desk_takes old asked answer new
-      → (tells new.keeper → tells old.keeper) × (AnswersChange (Some answer) → tells new.keeper → ⊥)
-  desk_near = any_step_causes (λ found. IsChanged (Some found)) desk_takes (λ (old new : Seated K). tells new.keeper → tells old.keeper) (λ (old new : Seated K). tells new.keeper → ⊥)
+      → (G.tells new.keeper → G.tells old.keeper) × (AnswersChange (Some answer) → G.tells new.keeper → ⊥)
+  desk_near = any_step_causes (λ found. IsChanged (Some found)) desk_takes (λ (old new : Seated K). G.tells new.keeper → G.tells old.keeper) (λ (old new : Seated K). G.tells new.keeper → ⊥)
       (λ s t. t) (λ s t u first next told. first (next told)) (λ s t u goes rises. rises)
       (λ ask old new outcome (taken, assured). (assured.told, λ (found, is, changed) t. assured.near t (subst IsChanged (sym is) changed)))
 
   -- the answer to a retirement
   pub desk_retired : (old new : Seated K) (keeper : K) (group : List ℕ) (outcome : Outcome) (answer : Answer) → answer ≡ steps.answer_of outcome → desk_takes old (Ask.retirement group) outcome new → keeper ≡ new.keeper
-      → TakesStep (tells keeper) (served faults old) (Ok (Retire group)) answer (served faults new)
+      → TakesStep (G.tells keeper) (served G.faults old) (Ok (Retire group)) answer (served G.faults new)
   desk_retired old new keeper group outcome answer is (taken, assured) same = record {
     step = (false, (outcome, taken, is, refl));
-    near = λ told change. (desk_near old new (Ok (Retire group)) answer (false, (outcome, (taken, assured), is, refl))).1 change (subst tells same told);
+    near = λ told change. (desk_near old new (Ok (Retire group)) answer (false, (outcome, (taken, assured), is, refl))).1 change (subst G.tells same told);
   }
 
   pub desk_step : (old new : Seated K) (asked : Parsed) (answer : Answer)
-      → steps.Handles desk_takes old asked answer new → TakesStep (tells new.keeper) (served faults old) asked answer (served faults new) × Before old new
+      → steps.Handles desk_takes old asked answer new → TakesStep (G.tells new.keeper) (served G.faults old) asked answer (served G.faults new) × Before old new
   desk_step old new asked answer step =
       let (is, goes) = desk_goes old new asked answer step in
       (record { step = is; near = λ told change. (desk_near old new asked answer step).1 change told }, goes)
 
-  pub serves_whole : {E : Type 0} (old new : Seated K) (asked : Parsed) (answer : Answer) (before now : OutputState) (result : Result (Unit {0}) E) → result ≡ Ok tt → TakesStep (tells new.keeper) (served faults old) asked answer (served faults new) × Before old new
-      → Writes before now result (text_of answer) → ServesOrNot tells holds faults old asked (Ok new) before now
+  pub serves_whole : {E : Type 0} (old new : Seated K) (asked : Parsed) (answer : Answer) (before now : OutputState) (result : Result (Unit {0}) E) → result ≡ Ok tt → TakesStep (G.tells new.keeper) (served G.faults old) asked answer (served G.faults new) × Before old new
+      → Writes before now result (text_of answer) → ServesOrNot G old asked (Ok new) before now
   serves_whole {E} old new asked answer before now result is (step, goes) w =
       let all = subst (λ (r : Result (Unit {0}) E). Writes before now r (text_of answer)) is w in
       ((answer, step, all.bytes), record { faults = all.cause.still; refusals = all.memory.still }, goes.told)
 
-  pub serves_front : {T E : Type 0} (old new : Seated K) (keeper : K) (asked : Parsed) (answer : Answer) (before now : OutputState) (result : Result T E) (fault : E) → result ≡ Err fault → TakesStep (tells new.keeper) (served faults old) asked answer (served faults new) × Before old new
-      → Writes before now result (text_of answer) → keeper ≡ new.keeper → (tells new.keeper → HoldsBook (holds new.keeper) new.book new.doubt) → ServesOrNot tells holds faults old asked (Err (Write, keeper)) before now
-  serves_front {T} {E} old new keeper asked answer before now result fault is (step, goes) w same held =
+  pub serves_front : {T E : Type 0} (old new : Seated K) (keeper : K) (asked : Parsed) (answer : Answer) (before now : OutputState) (result : Result T E) (fault : E) → result ≡ Err fault → TakesStep (G.tells new.keeper) (served G.faults old) asked answer (served G.faults new) × Before old new
+      → Writes before now result (text_of answer) → keeper ≡ new.keeper → KeepsBook G new.keeper new.book new.doubt → ServesOrNot G old asked (Err (Write, keeper)) before now
+  serves_front {T} {E} old new keeper asked answer before now result fault is (step, goes) w same kept =
       let part = subst (λ (r : Result T E). Writes before now r (text_of answer)) is w in
-      subst (λ (k : K). ServesOrNot tells holds faults old asked (Err (Write, k)) before now) (sym same)
-      ((answer, served faults new, step, part.bytes, record { held = held; later = omega arith }), part.cause.failed, goes.told)
+      subst (λ (k : K). ServesOrNot G old asked (Err (Write, k)) before now) (sym same)
+      ((answer, served G.faults new, step, part.bytes, record { kept = kept; later = omega arith }), part.cause.failed, goes.told)
 
   -- a line that asks something
   lines_ask : (line : List ℕ) (read : Parsed) → AreLines (line_of line) (Some (Asks read)) → (asked : Parsed) × (line_of line ≡ Some (Asks asked)) × IsReading asked read
@@ -211,9 +217,9 @@ module _ {K : Type 0} (tells fails_no_more : K → Type 0) (holds : K → Loaded
       stop_of Stop e h = e
 
   served_line : (old : Seated K) (line : List ℕ) (number : ℕ) (asked : Parsed) (result : Result (Seated K) (Ending × K)) (before now : OutputState) → line_of line ≡ Some (Asks asked)
-      → ServesOrNot tells holds faults old asked result before now → TakesLine tells holds faults old line number result before now
+      → ServesOrNot G old asked result before now → TakesLine G old line number result before now
   served_line old line number asked (Ok new) before now is ((answer, step, appended), counts, told) =
-      (LineGoesOn.answered (record { answer = answer; step = record { asked = asked; asks = is; step = step }; appended = appended; counts = counts }), told, (step_causes (served faults old) (served faults new) asked answer step.step).0)
+      (LineGoesOn.answered (record { answer = answer; step = record { asked = asked; asks = is; step = step }; appended = appended; counts = counts }), told, (step_causes (served G.faults old) (served G.faults new) asked answer step.step).0)
   served_line old line number asked (Err (Write, keeper)) before now is ((answer, new, step, front, left), rose, told) = record {
     new = new;
     ends = record { answer = answer; step = record { asked = asked; asks = is; step = step }; front = front; rose = rose };
@@ -229,50 +235,50 @@ module _ {K : Type 0} (tells fails_no_more : K → Type 0) (holds : K → Loaded
   served_line old line number asked (Err (Malformed n, keeper)) before now is never = absurd never
 
   pub takes_asked : (old : Seated K) (line : List ℕ) (number : ℕ) (read : Parsed) (result : Result (Seated K) (Ending × K)) (before now : OutputState) → AreLines (line_of line) (Some (Asks read))
-      → ((asked : Parsed) → IsReading asked read → ServesOrNot tells holds faults old asked result before now) → TakesLine tells holds faults old line number result before now
+      → ((asked : Parsed) → IsReading asked read → ServesOrNot G old asked result before now) → TakesLine G old line number result before now
   takes_asked old line number read result before now lines serves =
       let (asked, is, reading) = lines_ask line read lines in
       served_line old line number asked result before now is (serves asked reading)
 
-  stopped_line : (old : Seated K) (line : List ℕ) (number : ℕ) (result : Result (Seated K) (Ending × K)) (out : OutputState) → line_of line ≡ Some Stop → ReopensOrNot tells holds faults old result → TakesLine tells holds faults old line number result out out
+  stopped_line : (old : Seated K) (line : List ℕ) (number : ℕ) (result : Result (Seated K) (Ending × K)) (out : OutputState) → line_of line ≡ Some Stop → ReopensOrNot G old result → TakesLine G old line number result out out
   stopped_line old line number (Ok new) out stop (reopens, told) = (LineGoesOn.stopped (record { stop = stop; reopens = reopens; kept = refl }), told, (let n = reopens.faults in omega (arith, n)))
-  stopped_line old line number (Err (Keeper, keeper)) out stop (none, left, told, rose) = record { new = served faults old; ends = (stop, refl, refl); left = left; told = told; rose = rose }
-  stopped_line old line number (Err (Damaged damage, keeper)) out stop (none, left, told, rose) = record { new = served faults old; ends = (stop, refl, refl); left = left; told = told; rose = rose }
-  stopped_line old line number (Err (Memory, keeper)) out stop (none, left, told, rose) = record { new = served faults old; ends = (refl, refl); left = left; told = told; rose = rose }
+  stopped_line old line number (Err (Keeper, keeper)) out stop (none, left, told, rose) = record { new = served G.faults old; ends = (stop, refl, refl); left = left; told = told; rose = rose }
+  stopped_line old line number (Err (Damaged damage, keeper)) out stop (none, left, told, rose) = record { new = served G.faults old; ends = (stop, refl, refl); left = left; told = told; rose = rose }
+  stopped_line old line number (Err (Memory, keeper)) out stop (none, left, told, rose) = record { new = served G.faults old; ends = (refl, refl); left = left; told = told; rose = rose }
   stopped_line old line number (Err (Done, keeper)) out stop (none, left, told, rose) = absurd none
   stopped_line old line number (Err (Read, keeper)) out stop (none, left, told, rose) = absurd none
   stopped_line old line number (Err (Write, keeper)) out stop (none, left, told, rose) = absurd none
   stopped_line old line number (Err (Malformed n, keeper)) out stop (none, left, told, rose) = absurd none
 
-  pub takes_stop : (old : Seated K) (line : List ℕ) (number : ℕ) (result : Result (Seated K) (Ending × K)) (out : OutputState) → AreLines (line_of line) (Some Stop) → ReopensOrNot tells holds faults old result → TakesLine tells holds faults old line number result out out
+  pub takes_stop : (old : Seated K) (line : List ℕ) (number : ℕ) (result : Result (Seated K) (Ending × K)) (out : OutputState) → AreLines (line_of line) (Some Stop) → ReopensOrNot G old result → TakesLine G old line number result out out
   takes_stop old line number result out lines reopens = stopped_line old line number result out (lines_stop line lines) reopens
 
   -- the last line of the input
-  pub last_done : (old new : Seated K) (keeper : K) (line : List ℕ) (number : ℕ) (before now : OutputState) → keeper ≡ new.keeper → (tells new.keeper → HoldsBook (holds new.keeper) new.book new.doubt)
-      → TakesLine tells holds faults old line number (Ok new) before now → LastLine tells holds faults old line number (Done, keeper) before now
-  last_done old new keeper line number before now is held taken = LastLine.done new taken (record { held = held; later = omega arith }) (ap (λ (k : K). (Done, k)) is)
+  pub last_done : (old new : Seated K) (keeper : K) (line : List ℕ) (number : ℕ) (before now : OutputState) → keeper ≡ new.keeper → KeepsBook G new.keeper new.book new.doubt
+      → TakesLine G old line number (Ok new) before now → LastLine G old line number (Done, keeper) before now
+  last_done old new keeper line number before now is kept taken = LastLine.done new taken (record { kept = kept; later = omega arith }) (ap (λ (k : K). (Done, k)) is)
 
   -- ---- What fails no more.
 
   -- the lines end with a keeper that has gone on so
-  pub ends_steady : (before : K) (new : Seated K) (keeper : K) (ending : Ending) → keeper ≡ new.keeper → (ending ≡ Keeper → ⊥) → fails_no_more new.keeper × (faults new.keeper ≡ faults before)
-      → KeeperIsSteady fails_no_more faults before (ending, keeper)
-  ends_steady before new keeper ending is never (goes, same) = record { goes_on = subst fails_no_more (sym is) goes; still = ap faults is ∙ same; no_fault = never }
+  pub ends_steady : (before : K) (new : Seated K) (keeper : K) (ending : Ending) → keeper ≡ new.keeper → (ending ≡ Keeper → ⊥) → G.fails_no_more new.keeper × (G.faults new.keeper ≡ G.faults before)
+      → KeeperIsSteady G.fails_no_more G.faults before (ending, keeper)
+  ends_steady before new keeper ending is never (goes, same) = record { goes_on = subst G.fails_no_more (sym is) goes; still = ap G.faults is ∙ same; no_fault = never }
 
-  pub later_steady : (before mid : K) (ended : Ending × K) → faults mid ≡ faults before → KeeperIsSteady fails_no_more faults mid ended → KeeperIsSteady fails_no_more faults before ended
+  pub later_steady : (before mid : K) (ended : Ending × K) → G.faults mid ≡ G.faults before → KeeperIsSteady G.fails_no_more G.faults mid ended → KeeperIsSteady G.fails_no_more G.faults before ended
   later_steady before mid ended same e = record { goes_on = e.goes_on; still = e.still ∙ same; no_fault = e.no_fault }
 
-  pub reopened_steady : (old new : Seated K) (kept : K) → kept ≡ old.keeper → Opens tells fails_no_more holds faults (2 ^ 32 - 1) kept new → fails_no_more old.keeper → LineKeepsSteady fails_no_more faults old.keeper (Ok new)
-  reopened_steady old new kept is opens f = (opens.goes_on (subst fails_no_more (sym is) f), opens.still ∙ ap faults is)
+  pub reopened_steady : (old new : Seated K) (kept : K) → kept ≡ old.keeper → Opens G (2 ^ 32 - 1) kept new → G.fails_no_more old.keeper → LineKeepsSteady G.fails_no_more G.faults old.keeper (Ok new)
+  reopened_steady old new kept is opens f = (opens.goes_on (subst G.fails_no_more (sym is) f), opens.still ∙ ap G.faults is)
 
-  pub refused_steady : (old : Seated K) (kept now : K) (fault : OpenFault) → kept ≡ old.keeper → IsRefused tells fails_no_more holds faults (2 ^ 32 - 1) kept fault now × IsLeft tells fails_no_more holds faults kept now → fails_no_more old.keeper
-      → KeeperIsSteady fails_no_more faults old.keeper (fault_ending fault, now)
-  refused_steady old kept now faulting.Keeper is ((rose, unsteady), left) f = absurd (unsteady (subst fails_no_more (sym is) f))
-  refused_steady old kept now (faulting.Damaged damage) is (damaged, left) f = record { goes_on = left.goes_on (subst fails_no_more (sym is) f); still = damaged.still ∙ ap faults is; no_fault = λ e. absurd (cc) }
-  refused_steady old kept now faulting.Memory is (same, left) f = record { goes_on = left.goes_on (subst fails_no_more (sym is) f); still = same ∙ ap faults is; no_fault = λ e. absurd (cc) }
+  pub refused_steady : (old : Seated K) (kept now : K) (fault : OpenFault) → kept ≡ old.keeper → IsRefused G (2 ^ 32 - 1) kept fault now × IsLeft G kept now → G.fails_no_more old.keeper
+      → KeeperIsSteady G.fails_no_more G.faults old.keeper (fault_ending fault, now)
+  refused_steady old kept now faulting.Keeper is ((rose, unsteady), left) f = absurd (unsteady (subst G.fails_no_more (sym is) f))
+  refused_steady old kept now (faulting.Damaged damage) is (damaged, left) f = record { goes_on = left.goes_on (subst G.fails_no_more (sym is) f); still = damaged.still ∙ ap G.faults is; no_fault = λ e. absurd (cc) }
+  refused_steady old kept now faulting.Memory is (same, left) f = record { goes_on = left.goes_on (subst G.fails_no_more (sym is) f); still = same ∙ ap G.faults is; no_fault = λ e. absurd (cc) }
 
   pub asked_steady : (before : K) (line : List ℕ) (read : Parsed) (result : Result (Seated K) (Ending × K)) → AreLines (line_of line) (Some (Asks read))
-      → ((asked : Parsed) → IsReading asked read → fails_no_more before → LineKeepsSteady fails_no_more faults before result) → fails_no_more before → LineKeepsSteady fails_no_more faults before result
+      → ((asked : Parsed) → IsReading asked read → G.fails_no_more before → LineKeepsSteady G.fails_no_more G.faults before result) → G.fails_no_more before → LineKeepsSteady G.fails_no_more G.faults before result
   asked_steady before line read result lines serves f = let (asked, is, reading) = lines_ask line read lines in serves asked reading f
 
 -- the endings that tell of no keeper
@@ -293,7 +299,7 @@ not_malformed number e = absurd (cc)
 
 -- what a desk handles, by what a keeper shows
 pub desk_handles : {K : Type 0} (G : Ghosts K) (old new : Seated K) (asked : Parsed) (answer : Answer)
-    → steps.Handles (DeskTakes G) old asked answer new → TakesStep (G.tells new.keeper) (served G.faults old) asked answer (served G.faults new) × Before G.tells G.fails_no_more G.holds G.faults old new
-desk_handles {K} G old new asked answer step = desk_step G.tells G.fails_no_more G.holds G.faults old new asked answer
+    → steps.Handles (DeskTakes G) old asked answer new → TakesStep (G.tells new.keeper) (served G.faults old) asked answer (served G.faults new) × Before G old new
+desk_handles {K} G old new asked answer step = desk_step G old new asked answer
     (map_handled (DeskTakes G) (λ (old : Seated K) (ask : Ask) (outcome : Outcome) (new : Seated K). TakesTurn pull_json (served G.faults old) ask outcome (served G.faults new) × Assures G.tells G.fails_no_more old.keeper (trouble_of outcome) new.keeper)
     (λ old new ask outcome takes. (takes.turn, takes.assured)) old new asked answer step)

@@ -4,9 +4,9 @@ use Rattle.std.specs.Io.KnownBytes.{Consumes, Appends}
 use Rattle.rv_base.specs.Causes.{Rose}
 use Rattle.rv_base.specs.Outside.{InputState, OutputState}
 use Rattle.rv_base.specs.Writes.{AppendsFront}
-use Rattle.rv_keeper.specs.declared.loaded.Loaded.{Loaded}
+use Rattle.rv_keeper.specs.declared.keeper.Keeper.{Ghosts}
 use Rattle.rv_history.specs.Served.{Served}
-use Rattle.rv_desk.specs.Seated.{Seated, HoldsBook, served}
+use Rattle.rv_desk.specs.Seated.{Seated, KeepsBook, served}
 use Rattle.rv_answering.specs.declared.answer.Answer.{Answer}
 use Rattle.rv_answering.specs.declared.line.Line.TheVariants.{Asks, Stop}
 use Rattle.rv_answering.specs.Requests.{Parsed, line_of}
@@ -53,38 +53,38 @@ IsNoStop (Damaged damage) = Unit {0}
 IsNoStop Memory = Unit {0}
 IsNoStop ending = ⊥
 
-module _ {K : Type 0} (tells : K → Type 0) (holds : K → Loaded → Type 0) (faults : K → ℕ) where
-  -- A keeper that is left with this state: where it tells, it holds the book, with what is in doubt; and its count of faults is not
-  -- below that of the state.
+module _ {K : Type 0} (G : Ghosts K) where
+  -- A keeper that is left with this state: it keeps the book, with what is in doubt; and its count of faults is not below that of the
+  -- state.
   pub record IsLeftWith (now : Served) (keeper : K) : Type 0 where
-    pub held : tells keeper → HoldsBook (holds keeper) now.book now.doubt
-    pub later : now.faults ≤ faults keeper
+    pub kept : KeepsBook G keeper now.book now.doubt
+    pub later : now.faults ≤ G.faults keeper
 
   -- a request is answered, and its answer written; or only a front of the answer was
   abbrev pub ServesOrNot : Seated K → Parsed → Result (Seated K) (Ending × K) → OutputState → OutputState → Type 0
   ServesOrNot old asked (Ok new) before now =
-      ((answer : Answer) × TakesStep (tells new.keeper) (served faults old) asked answer (served faults new) × Appends before.written now.written (text_of answer)) × OutputStays before now × (tells new.keeper → tells old.keeper)
+      ((answer : Answer) × TakesStep (G.tells new.keeper) (served G.faults old) asked answer (served G.faults new) × Appends before.written now.written (text_of answer)) × OutputStays before now × (G.tells new.keeper → G.tells old.keeper)
   ServesOrNot old asked (Err (Write, keeper)) before now =
-      ((answer : Answer) × (new : Served) × TakesStep (tells keeper) (served faults old) asked answer new × AppendsFront before.written now.written (text_of answer) × IsLeftWith new keeper)
-      × Rose before.faults now.faults × (tells keeper → tells old.keeper)
+      ((answer : Answer) × (new : Served) × TakesStep (G.tells keeper) (served G.faults old) asked answer new × AppendsFront before.written now.written (text_of answer) × IsLeftWith new keeper)
+      × Rose before.faults now.faults × (G.tells keeper → G.tells old.keeper)
   ServesOrNot old asked (Err (ending, keeper)) before now = ⊥
 
   -- at the ending of that name the keeper failed, and a damage comes only of one that doesn't tell
   abbrev pub RoseAt : Ending → ℕ → K → Type 0
-  RoseAt Keeper before keeper = Rose before (faults keeper)
-  RoseAt (Damaged damage) before keeper = tells keeper → ⊥
+  RoseAt Keeper before keeper = Rose before (G.faults keeper)
+  RoseAt (Damaged damage) before keeper = G.tells keeper → ⊥
   RoseAt ending before keeper = Unit {0}
 
   -- a stop: the desk is open again; or it is not, and the keeper is left as it was
   abbrev pub ReopensOrNot : Seated K → Result (Seated K) (Ending × K) → Type 0
-  ReopensOrNot old (Ok new) = Reopens (tells new.keeper) (served faults old) (served faults new) × (tells new.keeper → tells old.keeper)
+  ReopensOrNot old (Ok new) = Reopens (G.tells new.keeper) (served G.faults old) (served G.faults new) × (G.tells new.keeper → G.tells old.keeper)
   ReopensOrNot old (Err (ending, keeper)) =
-      IsNoStop ending × IsLeftWith (served faults old) keeper × (tells keeper → tells old.keeper) × RoseAt ending (faults old.keeper) keeper
+      IsNoStop ending × IsLeftWith (served G.faults old) keeper × (G.tells keeper → G.tells old.keeper) × RoseAt ending (G.faults old.keeper) keeper
 
   -- a line after which the lines go on: it was answered, or was a stop
   pub data LineGoesOn (old : Seated K) (line : List ℕ) (new : Seated K) (before now : OutputState) : Type 0 where
-    answered : WritesAnswer (tells new.keeper) (served faults old) line (served faults new) before now → LineGoesOn old line new before now
-    stopped : Stopped (tells new.keeper) (served faults old) line (served faults new) before now → LineGoesOn old line new before now
+    answered : WritesAnswer (G.tells new.keeper) (served G.faults old) line (served G.faults new) before now → LineGoesOn old line new before now
+    stopped : Stopped (G.tells new.keeper) (served G.faults old) line (served G.faults new) before now → LineGoesOn old line new before now
 
   -- a line with this number at which the lines end so, with this state
   abbrev pub EndsLine : Type 0 → Served → List ℕ → ℕ → Served → OutputState → OutputState → Ending → Type 0
@@ -98,19 +98,19 @@ module _ {K : Type 0} (tells : K → Type 0) (holds : K → Loaded → Type 0) (
 
   pub record EndedLine (old : Seated K) (line : List ℕ) (number : ℕ) (ended : Ending × K) (before now : OutputState) : Type 0 where
     pub new : Served
-    pub ends : EndsLine (tells ended.1) (served faults old) line number new before now ended.0
+    pub ends : EndsLine (G.tells ended.1) (served G.faults old) line number new before now ended.0
     pub left : IsLeftWith new ended.1
-    pub told : tells ended.1 → tells old.keeper
-    pub rose : RoseAt ended.0 (faults old.keeper) ended.1
+    pub told : G.tells ended.1 → G.tells old.keeper
+    pub rose : RoseAt ended.0 (G.faults old.keeper) ended.1
 
   -- what becomes of a line
   abbrev pub TakesLine : Seated K → List ℕ → ℕ → Result (Seated K) (Ending × K) → OutputState → OutputState → Type 0
-  TakesLine old line number (Ok new) before now = LineGoesOn old line new before now × (tells new.keeper → tells old.keeper) × (faults old.keeper ≤ faults new.keeper)
+  TakesLine old line number (Ok new) before now = LineGoesOn old line new before now × (G.tells new.keeper → G.tells old.keeper) × (G.faults old.keeper ≤ G.faults new.keeper)
   TakesLine old line number (Err ended) before now = EndedLine old line number ended before now
 
   -- the last line was taken, or ended the lines itself
   pub data LastLine (old : Seated K) (line : List ℕ) (number : ℕ) (ended : Ending × K) (before now : OutputState) : Type 0 where
-    done : (new : Seated K) → TakesLine old line number (Ok new) before now → IsLeftWith (served faults new) new.keeper → ended ≡ (Done, new.keeper) → LastLine old line number ended before now
+    done : (new : Seated K) → TakesLine old line number (Ok new) before now → IsLeftWith (served G.faults new) new.keeper → ended ≡ (Done, new.keeper) → LastLine old line number ended before now
     ends : EndedLine old line number ended before now → LastLine old line number ended before now
 
 -- what was read, and the text of answers that was added
@@ -138,9 +138,9 @@ pub record Feeds (Told : Type 0) (first now : Served) (input input' : InputState
   pub fed : IfSome input.left (λ bytes. FedAnswers Told first now bytes input' output output' ending)
 
 -- how the lines end, and with which keeper
-pub record FeedsWith {K : Type 0} (tells : K → Type 0) (holds : K → Loaded → Type 0) (faults : K → ℕ) (first : Seated K) (input input' : InputState) (output output' : OutputState) (ended : Ending × K) : Type 0 where
+pub record FeedsWith {K : Type 0} (G : Ghosts K) (first : Seated K) (input input' : InputState) (output output' : OutputState) (ended : Ending × K) : Type 0 where
   pub now : Served
-  pub feeds : Feeds (tells ended.1) (served faults first) now input input' output output' ended.0
-  pub left : IsLeftWith tells holds faults now ended.1
-  pub told : tells ended.1 → tells first.keeper
-  pub rose : RoseAt tells holds faults ended.0 (faults first.keeper) ended.1
+  pub feeds : Feeds (G.tells ended.1) (served G.faults first) now input input' output output' ended.0
+  pub left : IsLeftWith G now ended.1
+  pub told : G.tells ended.1 → G.tells first.keeper
+  pub rose : RoseAt G ended.0 (G.faults first.keeper) ended.1

@@ -18,6 +18,8 @@ use Rattle.rv_history.specs.Replay.{IsReplay}
 use Rattle.rv_history.specs.Laws.{act_ids, look_orders, ReplyShows}
 use Rattle.rv_keeper.specs.declared.loaded.Loaded.{Loaded}
 use Rattle.rv_keeper.specs.Stores.{TakesUp}
+use Rattle.rv_keeper.specs.Crashes.{LeavesMore}
+use Rattle.rv_desk.specs.Seated.{LeavesBook}
 use Rattle.rv_store.specs.Opening.{MayOpen, IsDamaged}
 use Rattle.rv_store.specs.StoreCells.{IsKeptWith}
 use Rattle.rv_report.specs.Lists.{lists_text}
@@ -243,10 +245,11 @@ pub record Begins (c : StoreChange) (first : Served) : Type 0 where
   pub doubt : first.doubt ≡ None
   pub faults : first.faults ≡ 0
 
--- Where the place tells, the store holds the cells of the book, or of the book with what is in doubt. The
--- place takes up the faults of the keeper, of which each trouble in the run was one.
+-- Where the place tells, the store holds the cells of the book, or of the book with what is in doubt; where it is honest, a crash
+-- leaves the same. The place takes up the faults of the keeper, of which each trouble in the run was one.
 pub record Leaves (c : StoreChange) (now : Served) : Type 0 where
   pub held : c.told → (held : Loaded) × c.holds held × IsKeptWith now.book now.doubt held
+  pub left : c.honest → LeavesBook c.may_leave now.book now.doubt
   pub kept : ℕ
   pub later : now.faults ≤ kept
   pub taken : TakesUp kept c.before c.after
@@ -260,9 +263,11 @@ IsNotOpened c (Damaged damage) =
 IsNotOpened c Memory = Unit {0}
 IsNotOpened c ending = ⊥
 
--- Where the place tells, a store that did not open holds what it held: it was not given, or its keeper went back as it was opened.
-abbrev pub IsLeftAs : StoreChange → Type 0
-IsLeftAs c = c.told → ((held : Loaded) → c.held held → c.holds held) ⊎ ((held : Loaded) → c.opens held → c.holds held)
+-- Where the place tells, a store that did not open holds what it held: it was not given, or its keeper went back as it was opened. A
+-- crash leaves what it might before, or what the store is opened with.
+pub record IsLeftAs (c : StoreChange) : Type 0 where
+  pub held : c.told → ((held : Loaded) → c.held held → c.holds held) ⊎ ((held : Loaded) → c.opens held → c.holds held)
+  pub left : c.told → LeavesMore c.might_leave c.may_leave (λ left. (held : Loaded) → c.opens held → left ≡ Some held)
 
 -- At a stop a trouble with what keeps the book is told only where the place's count of faults rose, and a damage only where the
 -- place doesn't tell.

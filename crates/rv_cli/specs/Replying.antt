@@ -4,7 +4,7 @@ use Rattle.std.specs.Io.KnownBytes.{Appends}
 use Rattle.rv_base.specs.Causes.{Rose}
 use Rattle.rv_base.specs.Outside.{OutputState}
 use Rattle.rv_base.specs.Writes.{AppendsFront}
-use Rattle.rv_keeper.specs.declared.loaded.Loaded.{Loaded}
+use Rattle.rv_keeper.specs.declared.keeper.Keeper.{Ghosts}
 use Rattle.rv_history.specs.Served.{Served}
 use Rattle.rv_desk.specs.Seated.{Seated, served}
 use Rattle.rv_answering.specs.declared.answer.Answer.{Answer}
@@ -16,11 +16,11 @@ use Rattle.rv_cli.specs.Headline.{TakesStep}
 use Rattle.rv_cli.specs.Feeding.{IsLeftWith}
 
 -- the answer to a retirement, and the keeper that is left
-pub record Retired {K : Type 0} (tells : K → Type 0) (holds : K → Loaded → Type 0) (faults : K → ℕ) (old : Seated K) (group : List ℕ) (told : Answer × K) : Type 0 where
+pub record Retired {K : Type 0} (G : Ghosts K) (old : Seated K) (group : List ℕ) (told : Answer × K) : Type 0 where
   pub new : Served
-  pub step : TakesStep (tells told.1) (served faults old) (Ok (Retire group)) told.0 new
-  pub left : IsLeftWith tells holds faults new told.1
-  pub before : tells told.1 → tells old.keeper
+  pub step : TakesStep (G.tells told.1) (served G.faults old) (Ok (Retire group)) told.0 new
+  pub left : IsLeftWith G new told.1
+  pub before : G.tells told.1 → G.tells old.keeper
 
 -- the answer was written, or a front of it
 abbrev pub WritesReply : OutputState → OutputState → Answer → Ending → Type 0

@@ -1,5 +1,5 @@
 -- A report and the store that it is of, before both are put together.
-use Rattle.std.specs.Prelude.{◌≡◌, ◌-◌, ◌^◌, ℕ, List, Result, Ok, Err}
+use Rattle.std.specs.Prelude.{◌≡◌, ◌-◌, ◌^◌, ℕ, List, Some, None, Result, Ok, Err}
 use Rattle.std.specs.Io.KnownBytes.{Appends}
 use Rattle.rv_base.specs.Causes.{Rose}
 use Rattle.rv_base.specs.Outside.{OutputState}
@@ -8,8 +8,10 @@ use Rattle.rv_base.specs.declared.memory.Memory.{Memory as Refused}
 use Rattle.rv_keeper.specs.declared.keeper.Keeper.{Ghosts}
 use Rattle.rv_keeper.specs.declared.loaded.Loaded.{Loaded}
 use Rattle.rv_keeper.specs.declared.place.Place.{Ghosts as PlaceGhosts}
+use Rattle.rv_keeper.specs.Crashes.{LeavesMore}
 use Rattle.rv_keeper.specs.Stores.{OpensAs}
 use Rattle.rv_book.specs.Book.{Book, size}
+use Rattle.rv_desk.specs.Seated.{LeavesBook}
 use Rattle.rv_store.specs.Opening.{MayOpen}
 use Rattle.rv_cli.specs.declared.ending.Ending.{Ending}
 use Rattle.rv_cli.specs.declared.ending.Ending.TheVariants.{Done, Write, Memory}
@@ -37,6 +39,7 @@ module _ {P K : Type 0} (place : PlaceGhosts P K) where
     pub opens : MayOpen (2 ^ 32 - 1) book loaded
     pub length : size book ≡ entries
     pub held : place.tells new → place.holds new store loaded
+    pub left : place.honest new → LeavesBook (place.may_leave new store) book None
     pub same : place.faults new ≡ place.faults old
 
   abbrev pub ChecksStore : List ℕ → P → Result ℕ Ending → P → Type 0
@@ -49,13 +52,16 @@ module _ {P K : Type 0} (place : PlaceGhosts P K) where
     pub record KeptSound (store : List ℕ) (kept : K) (old new : P) (entries : ℕ) : Type 0 where
       pub loaded : Loaded
       pub book : Book
-      pub told : place.tells new → place.tells old
+      pub told : place.tells new → place.tells old × G.tells kept
       pub stored : place.tells new → (held : Loaded) → G.holds kept held → held ≡ loaded
       pub opens : MayOpen (2 ^ 32 - 1) book loaded
       pub length : size book ≡ entries
       pub held : place.tells new → place.holds new store loaded
+      pub left : place.honest new → LeavesBook (place.may_leave new store) book None
       pub same : place.faults new ≡ place.faults old
 
     abbrev pub ChecksKept : List ℕ → K → P → Result ℕ Ending → P → Type 0
     ChecksKept store kept old (Ok entries) new = G.faults kept ≡ 0 → KeptSound store kept old new entries
-    ChecksKept store kept old (Err ending) new = G.faults kept ≡ 0 → (place.tells new → place.tells old) × IsNotOpened (kept_change place G store kept old new) ending × (place.tells new → (held : Loaded) → G.holds kept held → place.holds new store held)
+    ChecksKept store kept old (Err ending) new = G.faults kept ≡ 0 → (place.tells new → place.tells old × G.tells kept)
+        × IsNotOpened (kept_change place G store kept old new) ending × (place.tells new → (held : Loaded) → G.holds kept held → place.holds new store held)
+        × (place.tells new → G.honest kept × LeavesMore (G.may_leave kept) (place.may_leave new store) (λ left. (held : Loaded) → G.holds kept held → left ≡ Some held))

@@ -45,6 +45,7 @@ GivesAccounts Told HasFile before after (Err ending) = HasNoAccounts Told HasFil
 pub record AccountsRead {P K : Type 0} (place : PlaceGhosts P K) (name : List ℕ) (old : P) (result : Result AccountsServed ServeEnding) (new : P) : Type 0 where
   pub told : place.tells new → place.tells old
   pub stays : place.tells new → (store : List ℕ) (held : Loaded) → place.holds old store held → place.holds new store held
+  pub left : place.tells new → (store : List ℕ) (left : Option Loaded) → place.may_leave new store left → place.may_leave old store left
   pub gives_accounts : GivesAccounts (place.tells new) (place.accounts old name) (place.faults old) (place.faults new) result
 
 -- Of one kind of listeners these were given, the first that were to be, and none has come back.

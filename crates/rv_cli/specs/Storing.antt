@@ -1,8 +1,9 @@
 -- What opening the desk of a store leaves of the place.
-use Rattle.std.specs.Prelude.{◌≡◌, ◌-◌, ◌^◌, ℕ, List, None, Result, Ok, Err}
+use Rattle.std.specs.Prelude.{◌≡◌, ◌-◌, ◌^◌, ℕ, List, Some, None, Result, Ok, Err}
 use Rattle.rv_keeper.specs.declared.keeper.Keeper.{Ghosts}
 use Rattle.rv_keeper.specs.declared.loaded.Loaded.{Loaded}
 use Rattle.rv_keeper.specs.declared.place.Place.{Ghosts as PlaceGhosts}
+use Rattle.rv_keeper.specs.Crashes.{LeavesMore}
 use Rattle.rv_keeper.specs.Stores.{OpensAs}
 use Rattle.rv_store.specs.Opening.{MayOpen}
 use Rattle.rv_desk.specs.Seated.{Seated}
@@ -22,6 +23,11 @@ module _ {P K : Type 0} (place : PlaceGhosts P K) (G : Ghosts K) where
     pub out : place.tells new → place.is_out new store
     pub same : place.faults new ≡ place.faults old
 
+  -- what tells after an opening told before: the place, where the keeper of a desk that was opened tells
+  abbrev pub ToldBefore : P → Result (Seated K) Ending → P → Type 0
+  ToldBefore old (Ok desk) new = place.tells new → G.tells desk.keeper → place.tells old
+  ToldBefore old (Err ending) new = place.tells new → place.tells old
+
   abbrev pub OpensStore : List ℕ → P → Result (Seated K) Ending → P → Type 0
   OpensStore store old (Ok desk) new = HasOpened store old desk new
   OpensStore store old (Err ending) new =
@@ -30,6 +36,7 @@ module _ {P K : Type 0} (place : PlaceGhosts P K) (G : Ghosts K) where
   -- the same of a keeper that is out, which holds this
   pub record KeptOpened (kept : K) (old : P) (desk : Seated K) (new : P) : Type 0 where
     pub loaded : Loaded
+    pub told : G.tells desk.keeper → G.tells kept
     pub stored : G.tells desk.keeper → (held : Loaded) → G.holds kept held → held ≡ loaded
     pub opens : MayOpen (2 ^ 32 - 1) desk.book loaded
     pub limit : desk.limit ≡ 2 ^ 32 - 1
@@ -39,4 +46,6 @@ module _ {P K : Type 0} (place : PlaceGhosts P K) (G : Ghosts K) where
 
   abbrev pub OpensKept : List ℕ → K → P → Result (Seated K) Ending → P → Type 0
   OpensKept store kept old (Ok desk) new = KeptOpened kept old desk new
-  OpensKept store kept old (Err ending) new = G.faults kept ≡ 0 → (place.tells new → place.tells old) × IsNotOpened (kept_change place G store kept old new) ending × (place.tells new → (held : Loaded) → G.holds kept held → place.holds new store held)
+  OpensKept store kept old (Err ending) new = G.faults kept ≡ 0 → (place.tells new → place.tells old × G.tells kept)
+      × IsNotOpened (kept_change place G store kept old new) ending × (place.tells new → (held : Loaded) → G.holds kept held → place.holds new store held)
+      × (place.tells new → G.honest kept × LeavesMore (G.may_leave kept) (place.may_leave new store) (λ left. (held : Loaded) → G.holds kept held → left ≡ Some held))

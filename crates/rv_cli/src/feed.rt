@@ -24,7 +24,7 @@ fn take_last<K: Keeper, O: Sink>(
     number: u64,
     out: &mut O,
 ) -> (Ending, K)
-    ensures takes { LastLine K.tells K.holds K.faults desk line.now number result (O.state out.old) (O.state out.new) }
+    ensures takes { LastLine K.Keeper desk line.now number result (O.state out.old) (O.state out.new) }
     ensures steady { O.fails_no_more out.old → OutputIsSteady (O.fails_no_more out.new) (O.state out.old).refusals (O.state out.new).refusals result.0 }
     ensures steady_keeper { K.fails_no_more desk.keeper → KeeperIsSteady K.fails_no_more K.faults desk.keeper result }
 {
@@ -41,7 +41,7 @@ pub(crate) fn feed<K: Keeper, S: Source, O: Sink>(
     input: &mut S,
     out: &mut O,
 ) -> (Ending, K)
-    ensures feeds { FeedsWith K.tells K.holds K.faults desk (S.state input.old) (S.state input.new) (O.state out.old) (O.state out.new) result }
+    ensures feeds { FeedsWith K.Keeper desk (S.state input.old) (S.state input.new) (O.state out.old) (O.state out.new) result }
     ensures steady_input { S.fails_no_more input.old → InputIsSteady (S.fails_no_more input.new) result.0 }
     ensures steady_output { O.fails_no_more out.old → OutputIsSteady (O.fails_no_more out.new) (O.state out.old).refusals (O.state out.new).refusals result.0 }
     ensures steady_keeper { K.fails_no_more desk.keeper → KeeperIsSteady K.fails_no_more K.faults desk.keeper result }

@@ -21,7 +21,7 @@ fn serve<K: Keeper, O: Sink>(
     read: Parsed,
     out: &mut O,
 ) -> Result<Desk<K>, (Ending, K)>
-    ensures serves { (asked : Parsed) → IsReading asked read → ServesOrNot K.tells K.holds K.faults desk asked result (O.state out.old) (O.state out.new) }
+    ensures serves { (asked : Parsed) → IsReading asked read → ServesOrNot K.Keeper desk asked result (O.state out.old) (O.state out.new) }
     ensures steady { O.fails_no_more out.old → LineIsSteady (O.fails_no_more out.new) (O.state out.old).refusals (O.state out.new).refusals result }
     ensures steady_keeper { (asked : Parsed) → IsReading asked read → K.fails_no_more desk.keeper → LineKeepsSteady K.fails_no_more K.faults desk.keeper result }
 {
@@ -35,7 +35,7 @@ fn serve<K: Keeper, O: Sink>(
 
 // Closes the desk, and opens it again from its keeper.
 fn reopen<K: Keeper>(alloc: Global, desk: Desk<K>) -> Result<Desk<K>, (Ending, K)>
-    ensures reopens { ReopensOrNot K.tells K.holds K.faults desk result }
+    ensures reopens { ReopensOrNot K.Keeper desk result }
     ensures steady_keeper { K.fails_no_more desk.keeper → LineKeepsSteady K.fails_no_more K.faults desk.keeper result }
 {
     match Desk::open(alloc, desk.close(), BOOK_LIMIT) {
@@ -53,7 +53,7 @@ pub(crate) fn take_line<K: Keeper, O: Sink>(
     number: u64,
     out: &mut O,
 ) -> Result<Desk<K>, (Ending, K)>
-    ensures takes { TakesLine K.tells K.holds K.faults desk line.now number result (O.state out.old) (O.state out.new) }
+    ensures takes { TakesLine K.Keeper desk line.now number result (O.state out.old) (O.state out.new) }
     ensures steady { O.fails_no_more out.old → LineIsSteady (O.fails_no_more out.new) (O.state out.old).refusals (O.state out.new).refusals result }
     ensures steady_keeper { K.fails_no_more desk.keeper → LineKeepsSteady K.fails_no_more K.faults desk.keeper result }
 {

@@ -55,7 +55,7 @@ pub fn run_feed<P: Place, S: Source, O: Sink>(
     ensures steady_output { O.fails_no_more out.old → O.fails_no_more out.new × (Rose (O.state out.old).refusals (O.state out.new).refusals ⊎ (result ≢ 7)) }
 
     // Stores and files of other names are as they were. Over a place that fails no more the status is no fault of it.
-    ensures others { P.tells place.new → OthersStay P.holds P.is_out P.has P.accounts store.now place.old place.new }
+    ensures others { P.tells place.new → OthersStay P.holds P.may_leave P.is_out P.has P.accounts store.now place.old place.new }
     ensures steady_place { P.fails_no_more place.old → PlaceIsSteady P.fails_no_more P.faults place.old place.new result }
 {
     match open_desk(alloc, place, store) {
@@ -71,7 +71,7 @@ pub fn run_feed<P: Place, S: Source, O: Sink>(
 
 // The answer of a desk to a retirement, with its keeper.
 fn retired<K: Keeper>(desk: Desk<K>, group: &Id) -> (Answer, K)
-    ensures retired { Retired K.tells K.holds K.faults desk group.now result }
+    ensures retired { Retired K.Keeper desk group.now result }
     ensures steady { K.fails_no_more desk.keeper → K.fails_no_more result.1 × (K.faults result.1 ≡ K.faults desk.keeper) }
 {
     let mut desk = desk;
@@ -104,7 +104,7 @@ pub fn run_retire<P: Place, O: Sink>(
     // Where the place tells, and the store kept a lawful book within the limit, the status is no damage.
     ensures sound { P.tells place.new → KeptSound (OpensAs store.now (P.holds place.old store.now)) → result ≢ 5 }
     ensures steady { O.fails_no_more out.old → O.fails_no_more out.new × (Rose (O.state out.old).refusals (O.state out.new).refusals ⊎ (result ≢ 7)) }
-    ensures others { P.tells place.new → OthersStay P.holds P.is_out P.has P.accounts store.now place.old place.new }
+    ensures others { P.tells place.new → OthersStay P.holds P.may_leave P.is_out P.has P.accounts store.now place.old place.new }
     ensures steady_place { P.fails_no_more place.old → PlaceIsSteady P.fails_no_more P.faults place.old place.new result }
 {
     match open_desk(alloc, place, store) {
@@ -268,7 +268,7 @@ where
         → N.fails_no_more net.old → options.workers ≤ length (N.listeners net.old).to_give → options.pokes ≤ length (N.pokes net.old).to_give → result ≢ 9 }
 
     // The stores that the words do not name are as they were, and so are the accounts files.
-    ensures others { (store : List ℕ) → IsOfStore store (asked_by words.now) → P.tells place.new → OthersStay P.holds P.is_out P.has P.accounts store place.old place.new }
+    ensures others { (store : List ℕ) → IsOfStore store (asked_by words.now) → P.tells place.new → OthersStay P.holds P.may_leave P.is_out P.has P.accounts store place.old place.new }
 {
     match command_of(alloc, words) {
         Ok(Some(Command::Feed { store })) => run_feed(alloc, place, store.as_str(), input, out),

@@ -64,7 +64,7 @@ pub fn run_lists<P: Place, O: Sink>(alloc: Global, place: &mut P, store: &str, o
 
     // A store that isn't there is not made.
     ensures none_made { P.tells place.new → P.has place.new store.now → P.has place.old store.now }
-    ensures others { P.tells place.new → OthersStay P.holds P.is_out P.has P.accounts store.now place.old place.new }
+    ensures others { P.tells place.new → OthersStay P.holds P.may_leave P.is_out P.has P.accounts store.now place.old place.new }
     ensures steady_place { P.fails_no_more place.old → P.has place.old store.now → PlaceIsSteady P.fails_no_more P.faults place.old place.new result }
     ensures steady { O.fails_no_more out.old → O.fails_no_more out.new × (Rose (O.state out.old).refusals (O.state out.new).refusals ⊎ (result ≢ 7)) }
 {
@@ -85,7 +85,7 @@ pub fn run_activity<P: Place, O: Sink>(alloc: Global, place: &mut P, store: &str
     ensures sound { P.tells place.new → KeptSound (OpensAs store.now (P.holds place.old store.now)) → result ≢ 5 }
     ensures absent { P.tells place.new → result ≡ 0 → P.has place.old store.now }
     ensures none_made { P.tells place.new → P.has place.new store.now → P.has place.old store.now }
-    ensures others { P.tells place.new → OthersStay P.holds P.is_out P.has P.accounts store.now place.old place.new }
+    ensures others { P.tells place.new → OthersStay P.holds P.may_leave P.is_out P.has P.accounts store.now place.old place.new }
     ensures steady_place { P.fails_no_more place.old → P.has place.old store.now → PlaceIsSteady P.fails_no_more P.faults place.old place.new result }
     ensures steady { O.fails_no_more out.old → O.fails_no_more out.new × (Rose (O.state out.old).refusals (O.state out.new).refusals ⊎ (result ≢ 7)) }
 {
@@ -106,7 +106,7 @@ pub fn run_check<P: Place, O: Sink>(alloc: Global, place: &mut P, store: &str, o
     ensures sound { P.tells place.new → KeptSound (OpensAs store.now (P.holds place.old store.now)) → result ≢ 5 }
     ensures absent { P.tells place.new → result ≡ 0 → P.has place.old store.now }
     ensures none_made { P.tells place.new → P.has place.new store.now → P.has place.old store.now }
-    ensures others { P.tells place.new → OthersStay P.holds P.is_out P.has P.accounts store.now place.old place.new }
+    ensures others { P.tells place.new → OthersStay P.holds P.may_leave P.is_out P.has P.accounts store.now place.old place.new }
     ensures steady_place { P.fails_no_more place.old → P.has place.old store.now → PlaceIsSteady P.fails_no_more P.faults place.old place.new result }
     ensures steady { O.fails_no_more out.old → O.fails_no_more out.new × (Rose (O.state out.old).refusals (O.state out.new).refusals ⊎ (result ≢ 7)) }
 {

@@ -43,7 +43,7 @@ fn accounts_in(alloc: Global, bytes: &Bytes) -> Result<Accounts, ServeEnding>
 // The accounts of the file of this name; or why there are none.
 fn accounts_of<P: Place>(alloc: Global, place: &mut P, name: &str) -> Result<Accounts, ServeEnding>
     ensures read { AccountsRead P.Place name.now place.old result place.new }
-    ensures stays { P.tells place.new → PlaceStays P.holds P.is_out P.has P.accounts place.old place.new }
+    ensures stays { P.tells place.new → PlaceStays P.holds P.may_leave P.is_out P.has P.accounts place.old place.new }
     ensures steady { P.fails_no_more place.old → HasFile (P.accounts place.old) name.now → P.fails_no_more place.new × AccountsAreSteady result }
 {
     match place.read_accounts(name) {
@@ -228,7 +228,7 @@ where
     ensures unserved { WasUnserved N.Net net.old net.new result }
     ensures wanted { WasWanted N.Net net.old net.new options.now }
     ensures steady { O.fails_no_more out.old → O.fails_no_more out.new × (Rose (O.state out.old).refusals (O.state out.new).refusals ⊎ (result ≢ 7)) }
-    ensures others { P.tells place.new → OthersStay P.holds P.is_out P.has P.accounts store.now place.old place.new }
+    ensures others { P.tells place.new → OthersStay P.holds P.may_leave P.is_out P.has P.accounts store.now place.old place.new }
     ensures steady_place { P.fails_no_more place.old → HasFile (P.accounts place.old) options.now.accounts → P.fails_no_more place.new × (result ≢ 4) }
     ensures steady_net { N.fails_no_more net.old → options.now.workers ≤ length (N.listeners net.old).to_give → options.now.pokes ≤ length (N.pokes net.old).to_give → result ≢ 9 }
 {
@@ -285,7 +285,7 @@ where
     ensures write_told { result ≡ 7 ⊎ (O.state out.new).faults ≡ (O.state out.old).faults ⊎ ((result ≢ 0) × Rose (O.state out.old).faults (O.state out.new).faults) }
     ensures complete { result ≡ 0 ⊎ result ≡ 3 ⊎ result ≡ 4 ⊎ result ≡ 5 ⊎ result ≡ 7 ⊎ result ≡ 8 ⊎ result ≡ 9 }
     ensures steady { O.fails_no_more out.old → O.fails_no_more out.new × (Rose (O.state out.old).refusals (O.state out.new).refusals ⊎ (result ≢ 7)) }
-    ensures others { P.tells place.new → OthersStay P.holds P.is_out P.has P.accounts store.now place.old place.new }
+    ensures others { P.tells place.new → OthersStay P.holds P.may_leave P.is_out P.has P.accounts store.now place.old place.new }
     ensures steady_place { P.fails_no_more place.old → HasFile (P.accounts place.old) options.now.accounts → P.fails_no_more place.new × (result ≢ 4) }
     ensures steady_net { N.fails_no_more net.old → options.now.workers ≤ length (N.listeners net.old).to_give → options.now.pokes ≤ length (N.pokes net.old).to_give → result ≢ 9 }
 {

@@ -4,7 +4,7 @@ ghost use Rattle.rv_cli.specs.Texts.{status_of, status_text};
 ghost use Rattle.rv_cli.specs.Headline.{WritesOnly};
 ghost use Rattle.rv_keeper.specs.Stores.{OthersStay};
 ghost use Rattle.rv_cli.specs.Steadiness.{CheckIsSteady, DeskIsSteady};
-ghost use Rattle.rv_cli.specs.Storing.{OpensKept, OpensStore};
+ghost use Rattle.rv_cli.specs.Storing.{OpensKept, OpensStore, ToldBefore};
 ghost use Rattle.rv_cli.specs.Reporting.{ChecksKept, ChecksStore};
 
 use crate::ending::Ending;
@@ -26,7 +26,7 @@ fn open_kept<P: Place>(
     requires { P.tells place.old → P.is_out place.old store.now }
     ensures opens { OpensKept P.Place P.Kept.Keeper store.now kept place.old result place.new }
     ensures told { P.tells place.new → P.tells place.old }
-    ensures others { P.tells place.new → OthersStay P.holds P.is_out P.has P.accounts store.now place.old place.new }
+    ensures others { P.tells place.new → OthersStay P.holds P.may_leave P.is_out P.has P.accounts store.now place.old place.new }
     ensures steady { P.fails_no_more place.old → P.Kept.fails_no_more kept → P.Kept.faults kept ≡ 0 → P.fails_no_more place.new × (P.faults place.new ≡ P.faults place.old) × DeskIsSteady P.Kept.fails_no_more P.Kept.faults result }
 {
     match Desk::open(alloc, kept, BOOK_LIMIT) {
@@ -45,8 +45,8 @@ pub(crate) fn open_desk<P: Place>(
     store: &str,
 ) -> Result<Desk<P::Kept>, Ending>
     ensures opens { OpensStore P.Place P.Kept.Keeper store.now place.old result place.new }
-    ensures told { P.tells place.new → P.tells place.old }
-    ensures others { P.tells place.new → OthersStay P.holds P.is_out P.has P.accounts store.now place.old place.new }
+    ensures told { ToldBefore P.Place P.Kept.Keeper place.old result place.new }
+    ensures others { P.tells place.new → OthersStay P.holds P.may_leave P.is_out P.has P.accounts store.now place.old place.new }
     ensures steady { P.fails_no_more place.old → P.fails_no_more place.new × (P.faults place.new ≡ P.faults place.old) × DeskIsSteady P.Kept.fails_no_more P.Kept.faults result }
 {
     let kept = place.open_keeper(store)?;
@@ -62,7 +62,7 @@ pub(crate) fn open_existing_desk<P: Place>(
     ensures opens { OpensStore P.Place P.Kept.Keeper store.now place.old result place.new }
     ensures there { P.tells place.new → IsOk result → P.has place.old store.now }
     ensures none_made { P.tells place.new → P.has place.new store.now → P.has place.old store.now }
-    ensures others { P.tells place.new → OthersStay P.holds P.is_out P.has P.accounts store.now place.old place.new }
+    ensures others { P.tells place.new → OthersStay P.holds P.may_leave P.is_out P.has P.accounts store.now place.old place.new }
     ensures steady { P.fails_no_more place.old → P.has place.old store.now → P.fails_no_more place.new × (P.faults place.new ≡ P.faults place.old) × DeskIsSteady P.Kept.fails_no_more P.Kept.faults result }
 {
     let kept = place.open_existing(store)?;
@@ -79,7 +79,7 @@ fn check_kept<P: Place>(
     requires { P.tells place.old → P.is_out place.old store.now }
     ensures checks { ChecksKept P.Place P.Kept.Keeper store.now kept place.old result place.new }
     ensures told { P.tells place.new → P.tells place.old }
-    ensures others { P.tells place.new → OthersStay P.holds P.is_out P.has P.accounts store.now place.old place.new }
+    ensures others { P.tells place.new → OthersStay P.holds P.may_leave P.is_out P.has P.accounts store.now place.old place.new }
     ensures steady { P.fails_no_more place.old → P.Kept.fails_no_more kept → P.Kept.faults kept ≡ 0 → P.fails_no_more place.new × (P.faults place.new ≡ P.faults place.old) × CheckIsSteady result }
 {
     let (answer, keeper) = check(alloc, kept);
@@ -101,7 +101,7 @@ pub(crate) fn check_store<P: Place>(
     ensures checks { ChecksStore P.Place store.now place.old result place.new }
     ensures there { P.tells place.new → IsOk result → P.has place.old store.now }
     ensures none_made { P.tells place.new → P.has place.new store.now → P.has place.old store.now }
-    ensures others { P.tells place.new → OthersStay P.holds P.is_out P.has P.accounts store.now place.old place.new }
+    ensures others { P.tells place.new → OthersStay P.holds P.may_leave P.is_out P.has P.accounts store.now place.old place.new }
     ensures steady { P.fails_no_more place.old → P.has place.old store.now → P.fails_no_more place.new × (P.faults place.new ≡ P.faults place.old) × CheckIsSteady result }
 {
     let kept = place.open_existing(store)?;

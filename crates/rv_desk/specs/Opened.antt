@@ -1,7 +1,9 @@
 -- What opening a desk over a keeper answers.
 use Rattle.std.specs.Prelude.{◌≡◌, ◌≤◌, ℕ, Option, Some, None, Result, Ok, Err}
 use Rattle.rv_base.specs.Causes.{Rose}
+use Rattle.rv_keeper.specs.declared.keeper.Keeper.{Ghosts}
 use Rattle.rv_keeper.specs.declared.loaded.Loaded.{Loaded}
+use Rattle.rv_keeper.specs.Crashes.{IsHeld, LeavesMore}
 use Rattle.rv_keeper.specs.Cells.{AreCells}
 use Rattle.rv_record.specs.declared.fault.Damage.{Damage}
 use Rattle.rv_store.specs.Opening.{MayOpen, IsDamaged}
@@ -18,39 +20,45 @@ pub record WasLoaded (Tells : Type 0) (Held : Loaded → Type 0) (loaded : Loade
 abbrev pub IsLoaded : (Option Loaded → Type 0) → Loaded → Type 0
 IsLoaded Leaves loaded = (left : Option Loaded) → Leaves left → left ≡ Some loaded
 
-module _ {K : Type 0} (tells fails_no_more : K → Type 0) (holds : K → Loaded → Type 0) (faults : K → ℕ) where
-  -- nothing is in doubt, and the book is kept as what was loaded; the keeper's count of faults stays
+module _ {K : Type 0} (G : Ghosts K) where
+  -- Nothing is in doubt, and the book is kept as what was loaded; a crash leaves of a keeper that is honest what it might before, or what
+  -- was held; the keeper's count of faults stays.
   pub record Opens (limit : ℕ) (before : K) (desk : Seated K) : Type 0 where
     pub loaded : Loaded
-    pub was : WasLoaded (tells desk.keeper) (holds before) loaded
+    pub was : WasLoaded (G.tells desk.keeper) (G.holds before) loaded
     pub opens : MayOpen limit desk.book loaded
-    pub held : tells desk.keeper → holds desk.keeper loaded
+    pub held : G.tells desk.keeper → G.holds desk.keeper loaded
     pub most : desk.limit ≡ limit
     pub doubt : desk.doubt ≡ None
-    pub told : tells desk.keeper → tells before
-    pub still : faults desk.keeper ≡ faults before
-    pub goes_on : fails_no_more before → fails_no_more desk.keeper
+    pub told : G.tells desk.keeper → G.tells before
+    pub honest : G.honest desk.keeper → G.honest before
+    pub crash : G.honest desk.keeper → LeavesMore (G.may_leave before) (G.may_leave desk.keeper) (IsHeld (G.tells before) (G.holds before))
+    pub still : G.faults desk.keeper ≡ G.faults before
+    pub goes_on : G.fails_no_more before → G.fails_no_more desk.keeper
 
   -- what was loaded is damaged first at this place; the keeper's count of faults stays
   pub record IsDamagedIn (limit : ℕ) (before now : K) (damage : Damage) : Type 0 where
     pub loaded : Loaded
-    pub was : WasLoaded (tells now) (holds before) loaded
+    pub was : WasLoaded (G.tells now) (G.holds before) loaded
     pub damaged : IsDamaged limit loaded damage
-    pub still : faults now ≡ faults before
+    pub still : G.faults now ≡ G.faults before
 
-  -- a keeper that tells has told before, and holds what it held; its count of faults has not fallen; one that fails no more goes on so
+  -- A keeper that tells has told before, and holds what it held; a crash leaves of one that is honest what it might before, or what was
+  -- held; its count of faults has not fallen; one that fails no more goes on so.
   pub record IsLeft (before now : K) : Type 0 where
-    pub told : tells now → tells before
-    pub held : tells now → (held : Loaded) → holds before held → holds now held
-    pub later : faults before ≤ faults now
-    pub goes_on : fails_no_more before → fails_no_more now
+    pub told : G.tells now → G.tells before
+    pub held : G.tells now → (held : Loaded) → G.holds before held → G.holds now held
+    pub honest : G.honest now → G.honest before
+    pub crash : G.honest now → LeavesMore (G.may_leave before) (G.may_leave now) (IsHeld (G.tells before) (G.holds before))
+    pub later : G.faults before ≤ G.faults now
+    pub goes_on : G.fails_no_more before → G.fails_no_more now
 
   -- Why a desk is not opened: the keeper failed, so it is none that fails no more, and its count of faults rose; the store is damaged; or
   -- memory was refused, and the count stays.
   abbrev pub IsRefused : ℕ → K → OpenFault → K → Type 0
-  IsRefused limit before Keeper now = Rose (faults before) (faults now) × ¬ fails_no_more before
+  IsRefused limit before Keeper now = Rose (G.faults before) (G.faults now) × ¬ G.fails_no_more before
   IsRefused limit before (Damaged damage) now = IsDamagedIn limit before now damage
-  IsRefused limit before Memory now = faults now ≡ faults before
+  IsRefused limit before Memory now = G.faults now ≡ G.faults before
 
   abbrev pub OpensOrNot : ℕ → K → Result (Seated K) (OpenFault × K) → Type 0
   OpensOrNot limit before (Ok desk) = Opens limit before desk

@@ -49,6 +49,11 @@ HoldsBook Holds book doubt = (held : Loaded) × Holds held × IsKeptWith book do
 abbrev pub LeavesBook : (Option Loaded → Type 0) → Book → Doubt → Type 0
 LeavesBook Leaves book doubt = (left : Option Loaded) → Leaves left → (held : Loaded) × (left ≡ Some held) × IsKeptWith book doubt held
 
+-- a keeper of a book, with what is in doubt: where it tells, it holds it; and where it is honest, a crash leaves it
+pub record KeepsBook {K : Type 0} (G : Ghosts K) (keeper : K) (book : Book) (doubt : Doubt) : Type 0 where
+  pub held : G.tells keeper → HoldsBook (G.holds keeper) book doubt
+  pub left : G.honest keeper → LeavesBook (G.may_leave keeper) book doubt
+
 -- a server by its parts: the state, what is prepared and in doubt, and the count of faults
 abbrev pub parts_served : Standing → Option Prepared → ℕ → Served
 parts_served state doubt faults = record { book = state.book; limit = state.limit; doubt = option_map entry_of doubt; faults = faults }

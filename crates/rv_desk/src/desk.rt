@@ -57,7 +57,7 @@ impl<K: Keeper> Desk<K> {
     /// refusals give the keeper back: the keeper failed, and its count of faults rose; the cells are not just those of a lawful
     /// book of at most so many entries, first at this place; or memory was refused.
     pub fn open(alloc: Global, keeper: K, limit: u32) -> Result<Desk<K>, (OpenFault, K)>
-        ensures { OpensOrNot K.tells K.fails_no_more K.holds K.faults limit keeper result }
+        ensures { OpensOrNot K.Keeper limit keeper result }
     {
         let mut keeper = keeper;
         match keeper.load() {
@@ -140,7 +140,7 @@ impl<K: Keeper> Desk<K> {
         requires order { AreCells loaded.cells }
         requires holds { K.tells keeper → K.holds keeper loaded }
         requires left { K.honest keeper → IsLoaded (K.may_leave keeper) loaded }
-        ensures { OpensLoaded K.tells K.fails_no_more K.holds K.faults limit loaded keeper result }
+        ensures { OpensLoaded K.Keeper limit loaded keeper result }
     {
         match restore(alloc, &loaded, limit) {
             Ok(state) => Ok(Desk {

@@ -1,5 +1,5 @@
 -- What is found among the stores and the accounts files of a place, and what a write of one of them leaves.
-use Rattle.std.proofs.Common.{◌≡◌, ◌≢◌, ℕ, ◌<◌, ◌||◌, Bool, true, false, not, cond, List, [], ◌∷◌, ◌++◌, codes, length, get_or, set, drop, Some, None, Result, Ok, Err, IfOk, OnOk, OnErr, IsErrOf, unwrap_or, refl, sym, ap, ◌∙◌, subst, arith, inl, inr}
+use Rattle.std.proofs.Common.{◌≡◌, ◌≢◌, ◌⊎◌, ℕ, ◌<◌, ◌||◌, Bool, true, false, not, cond, List, [], ◌∷◌, ◌++◌, codes, length, get_or, set, drop, Some, None, Result, Ok, Err, IfOk, OnOk, OnErr, IsErrOf, Option, unwrap_or, refl, sym, ap, ◌∙◌, subst, arith, inl, inr}
 use Rattle.std.specs.List.{AllByRecursion, position_from}
 use Rattle.std.specs.Option.{is_some}
 use Rattle.std.specs.Str.{bytes_eq}
@@ -18,9 +18,9 @@ use Rattle.rv_keeper.specs.Keeping.{holding}
 use Rattle.rv_keeper.specs.Schedules.{KeeperFailsNoMore, counted_fault, has_failed, next_call}
 use Rattle.rv_keeper.specs.declared.fault.KeepFault.TheVariants.{Failed, Memory}
 use Rattle.rv_base.specs.InMemoryLaws.{fails_no_more_later, not_next}
-use Rattle.rv_keeper.specs.Stores.{CallIsSteady, OpensAs, OpensWith, OthersStay, PlaceStays}
+use Rattle.rv_keeper.specs.Stores.{CallIsSteady, LeavesAsGiven, OpensAs, OpensWith, OthersStay, PlaceStays}
 use Rattle.rv_keeper.specs.declared.memory_place.MemoryPlace.{MemoryPlace}
-use Rattle.rv_keeper.specs.PlaceStates.{IsSteadyKeeper, IsSteadyPlace, place_file, place_has, place_holds, place_out}
+use Rattle.rv_keeper.specs.PlaceStates.{IsSteadyKeeper, IsSteadyPlace, place_file, place_has, place_holds, place_leaves, place_out}
 use Rattle.rv_keeper.specs.MemoryStores.{store_of, has_store, with_store, empty_store, found_store, StoreHolds, StoreIsOut, kept_store, out_store, given, StandsAt, accounts_file, with_file, first_schedule}
 use Rattle.rv_keeper.proofs.Named as named
 
@@ -122,12 +122,22 @@ pub given_opens : (name : List ℕ) (stores : List Store) (held : Loaded) → Op
 given_opens name stores held (inl h) = subst (λ (b : Bool). held ≡ cond b (holding [] 0) (holding (found_store name stores).shelves (found_store name stores).generation)) (sym (ap (λ (t : List ℕ). bytes_eq t (codes "memory")) h.0 ∙ equals (codes "memory"))) h.1
 given_opens name stores held (inr h) = rw (named.apart name (codes "memory") h.0) h.1.1
 
+-- and a crash leaves of it what it might leave of the store
+pub given_leaves : (name : List ℕ) (store : Store) (left : Option Loaded) → left ≡ Some (given name store) → ((name ≡ codes "memory") × (left ≡ Some (holding [] 0))) ⊎ ((name ≢ codes "memory") × (left ≡ Some (holding store.shelves store.generation)))
+given_leaves name store left is =
+    elim (bytes_eq name (codes "memory")) as (λ b. bytes_eq name (codes "memory") ≡ b → left ≡ Some (cond b (holding [] 0) (holding store.shelves store.generation))
+    → ((name ≡ codes "memory") × (left ≡ Some (holding [] 0))) ⊎ ((name ≢ codes "memory") × (left ≡ Some (holding store.shelves store.generation)))) [
+      | true ↦ λ e h. inl ((bytes_eq-Decides name (codes "memory")).0 e, h)
+      | false ↦ λ e h. inr (λ same. let f : true ≡ false = sym (ap (λ (t : List ℕ). bytes_eq t (codes "memory")) same ∙ equals (codes "memory")) ∙ e in absurd (cc), h)
+    ] refl is
+
 -- a store whose keeper is out is there
 pub is_there : (name : List ℕ) (stores : List Store) → StoreIsOut stores name → store_of name stores ≡ None → ⊥
 is_there name stores out none = let empty : false ≡ true = rw none at out in cc
 
 -- what is so of the stores of other names, where one of this name is written
 pub record OthersAre (name : List ℕ) (old new : List Store) : Type 0 where
+  pub found : (other : List ℕ) → other ≢ name → found_store other new ≡ found_store other old
   pub held : (other : List ℕ) (held : Loaded) → other ≢ name → StoreHolds old other held → StoreHolds new other held
   pub out : (other : List ℕ) → other ≢ name → StoreIsOut old other → StoreIsOut new other
   pub stores : (other : List ℕ) → has_store old other ≡ true → has_store new other ≡ true
@@ -135,6 +145,7 @@ pub record OthersAre (name : List ℕ) (old new : List Store) : Type 0 where
 
 others_are : (new : Store) (stores : List Store) → OthersAre new.name stores (with_store new stores)
 others_are new stores = record {
+  found = λ other ne. ap (λ (o : Option Store). unwrap_or o (empty_store other)) (named.found_other store_name other new stores ne);
   held = λ other held ne h. others_hold other new stores held ne h;
   out = λ other ne h. rw (named.found_other store_name other new stores ne) h;
   stores = λ other h. still_there new stores other h;
@@ -142,12 +153,13 @@ others_are new stores = record {
 }
 
 same_others : (name : List ℕ) (stores : List Store) → OthersAre name stores stores
-same_others name stores = record { held = λ other held ne h. h; out = λ other ne h. h; stores = λ other h. h; no_more = λ other ne h. h }
+same_others name stores = record { found = λ other ne. refl; held = λ other held ne h. h; out = λ other ne h. h; stores = λ other h. h; no_more = λ other ne h. h }
 
 -- and so of the place
-pub others_stay : (name : List ℕ) (old new : MemoryPlace) → OthersAre name old.stores.items new.stores.items → new.files ≡ old.files → OthersStay place_holds place_out place_has place_file name old new
+pub others_stay : (name : List ℕ) (old new : MemoryPlace) → OthersAre name old.stores.items new.stores.items → new.files ≡ old.files → OthersStay place_holds place_leaves place_out place_has place_file name old new
 others_stay name old new are same = record {
   held = are.held;
+  left = λ other left ne h. h ∙ ap (λ (store : Store). Some (holding store.shelves store.generation)) (are.found other ne);
   out = are.out;
   stores = are.stores;
   no_more = are.no_more;
@@ -155,9 +167,10 @@ others_stay name old new are same = record {
 }
 
 -- where its stores and files are the same, nothing has changed
-pub all_stays : (old new : MemoryPlace) → new.stores.items ≡ old.stores.items → new.files ≡ old.files → PlaceStays place_holds place_out place_has place_file old new
+pub all_stays : (old new : MemoryPlace) → new.stores.items ≡ old.stores.items → new.files ≡ old.files → PlaceStays place_holds place_leaves place_out place_has place_file old new
 all_stays old new stores files = record {
   held = λ name held h. rw stores h;
+  left = λ name left h. rw stores at h;
   out = λ name h. rw stores h;
   stores = λ name h. rw stores h;
   no_more = λ name h. rw stores at h;
@@ -184,7 +197,7 @@ pub record OpensSo (name : List ℕ) (old new : MemoryPlace) (fails : Bool) (res
   pub after : new ≡ record old { stores = new.stores; schedules = new.schedules; calls = next_call old.calls; faults = counted_fault (has_failed result) old.faults }
 
 module _ (name : List ℕ) (old new : MemoryPlace) (fails : Bool) where
-  pub so_refused : (result : Result MemoryKeeper KeepFault) → OpensSo name old new fails result → OnErr result (PlaceStays place_holds place_out place_has place_file old new)
+  pub so_refused : (result : Result MemoryKeeper KeepFault) → OpensSo name old new fails result → OnErr result (PlaceStays place_holds place_leaves place_out place_has place_file old new)
   so_refused (Ok x) so = tt
   so_refused (Err fault) so = all_stays old new so.err.0 (ap (λ (place : MemoryPlace). place.files) so.after)
 
@@ -211,7 +224,9 @@ module _ (name : List ℕ) (old new : MemoryPlace) (fails : Bool) where
 -- what is so once a store was to be opened, with this answer
 module _ (name : List ℕ) (old new : List Store) where
   pub record Opened (result : Result MemoryKeeper KeepFault) : Type 0 where
-    pub kept : IfOk result (λ kept. StoreIsOut new name × OpensWith name (StoreHolds old name) (λ held. held ≡ holding kept.shelves kept.generation))
+    pub kept : IfOk result (λ kept. OpensWith name (StoreHolds old name) (λ held. held ≡ holding kept.shelves kept.generation))
+    pub out : OnOk result (StoreIsOut new name)
+    pub left : IfOk result (λ kept. LeavesAsGiven name (λ left. left ≡ Some (holding (found_store name old).shelves (found_store name old).generation)) (λ left. left ≡ Some (holding kept.shelves kept.generation)))
     pub others : OthersAre name old new
     pub made : OnOk result (has_store new name ≡ true)
     pub none_made : (OnOk result (has_store old name ≡ true)) → (other : List ℕ) → has_store new other ≡ true → has_store old other ≡ true
@@ -220,10 +235,9 @@ module _ (name : List ℕ) (old new : List Store) where
   pub opened : (result : Result MemoryKeeper KeepFault) (schedules schedules' : List (List Fails)) → IfOk result (λ kept. (holding kept.shelves kept.generation ≡ given name (found_store name old)) × (kept.schedule.items ≡ first_schedule schedules))
       → OnOk result ((new ≡ with_store (out_store name) old) × (schedules' ≡ drop 1 schedules)) → OnErr result ((new ≡ old) × (schedules' ≡ schedules)) → Opened result
   opened (Ok kept) schedules schedules' gives (written, rest) unchanged = record {
-    kept = (
-      subst (λ (stores : List Store). StoreIsOut stores name) (sym written) (rw (named.found_same store_name (out_store name) old) refl),
-      λ held h. given_opens name old held h ∙ sym gives.0,
-    );
+    kept = λ held h. given_opens name old held h ∙ sym gives.0;
+    out = subst (λ (stores : List Store). StoreIsOut stores name) (sym written) (rw (named.found_same store_name (out_store name) old) refl);
+    left = λ left h. given_leaves name (found_store name old) left (h ∙ ap Some gives.0);
     others = subst (λ (stores : List Store). OthersAre name old stores) (sym written) (others_are (out_store name) old);
     made = subst (λ (stores : List Store). has_store stores name ≡ true) (sym written) (then_there (out_store name) old);
     none_made = λ was other h. none_more (out_store name) old other was (subst (λ (stores : List Store). has_store stores other ≡ true) written h);
@@ -231,6 +245,8 @@ module _ (name : List ℕ) (old new : List Store) where
   }
   opened (Err fault) schedules schedules' gives written (unchanged, rest) = record {
     kept = tt;
+    out = tt;
+    left = tt;
     others = subst (λ (stores : List Store). OthersAre name old stores) (sym unchanged) (same_others name old);
     made = tt;
     none_made = λ was other h. subst (λ (stores : List Store). has_store stores other ≡ true) unchanged h;
@@ -246,6 +262,7 @@ was_there (Err fault) there fails e = tt
 -- and once it came back
 pub record Closed (name : List ℕ) (old new : List Store) (keeps : Loaded) : Type 0 where
   pub kept : StoreHolds new name keeps
+  pub found : found_store name new ≡ kept_store name keeps.cells keeps.generation
   pub others : OthersAre name old new
 
 pub closed : (name : List ℕ) (old new : List Store) (keeps : Loaded) → new ≡ with_store (kept_store name keeps.cells keeps.generation) old → Closed name old new keeps
@@ -253,5 +270,6 @@ closed name old new keeps is =
     let store = kept_store name keeps.cells keeps.generation in
     subst (λ (stores : List Store). Closed name old stores keeps) (sym is) (record {
       kept = rw (named.found_same store_name store old) (refl, refl);
+      found = rw (named.found_same store_name store old) refl;
       others = others_are store old;
     })

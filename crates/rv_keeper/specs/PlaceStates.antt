@@ -1,14 +1,19 @@
 -- What a place in memory shows of its stores and accounts files, and that it fails no more.
-use Rattle.std.specs.Prelude.{◌≡◌, ℕ, List, Some, true}
+use Rattle.std.specs.Prelude.{◌≡◌, ℕ, List, Option, Some, true}
+use Rattle.rv_keeper.specs.Keeping.{holding}
 use Rattle.rv_keeper.specs.declared.loaded.Loaded.{Loaded}
 use Rattle.rv_keeper.specs.declared.memory_keeper.MemoryKeeper.{MemoryKeeper}
 use Rattle.rv_keeper.specs.declared.memory_place.MemoryPlace.{MemoryPlace}
-use Rattle.rv_keeper.specs.MemoryStores.{PlaceFailsNoMore, StoreHolds, StoreIsOut, bytes_of, has_store}
+use Rattle.rv_keeper.specs.MemoryStores.{PlaceFailsNoMore, StoreHolds, StoreIsOut, bytes_of, found_store, has_store}
 use Rattle.rv_keeper.specs.Schedules.{KeeperFailsNoMore}
 
 -- the store of this name holds this
 abbrev pub place_holds : MemoryPlace → List ℕ → Loaded → Type 0
 place_holds place name held = StoreHolds place.stores.items name held
+
+-- a crash leaves of the store of this name what it has
+abbrev pub place_leaves : MemoryPlace → List ℕ → Option Loaded → Type 0
+place_leaves place name left = let store = found_store name place.stores.items in left ≡ Some (holding store.shelves store.generation)
 
 -- the keeper of the store of this name is out
 abbrev pub place_out : MemoryPlace → List ℕ → Type 0

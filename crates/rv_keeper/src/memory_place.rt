@@ -1,5 +1,5 @@
 // A place in memory, which fails at the calls of a list.
-ghost use Rattle.std.specs.Prelude.{◌≡◌, ◌≤◌, ◌≢◌, ◌||◌, ℕ, List, [], true, false, drop, nat_lt, not, codes, if◌then◌else◌, is_none, Some, IsOk, IfOk, OnOk, OnErr, IfSome, IfNone};
+ghost use Rattle.std.specs.Prelude.{◌≡◌, ◌≤◌, ◌≢◌, ◌||◌, ℕ, List, [], true, false, drop, nat_lt, not, codes, if◌then◌else◌, is_none, Option, Some, IsOk, IfOk, OnOk, OnErr, IfSome, IfNone};
 ghost use Rattle.std.specs.List.{position_from};
 ghost use Rattle.std.specs.Option.{option_copied};
 ghost use Rattle.std.specs.Str.{bytes_eq};
@@ -10,9 +10,9 @@ ghost use Rattle.rv_keeper.specs.declared.loaded.Loaded.{Loaded};
 ghost use Rattle.rv_keeper.specs.Keeping.{HasKeepCause, holding};
 ghost use Rattle.rv_keeper.specs.MemoryStores.{StandsAt, StoreHolds, StoreIsOut, accounts_file, bytes_of, file_of, first_schedule, found_store, given, has_store, kept_store, out_store, store_of, with_file, with_store};
 ghost use Rattle.rv_keeper.specs.Schedules.{counted_fault, has_failed, next_call};
-ghost use Rattle.rv_keeper.specs.PlaceStates.{IsSteadyKeeper, IsSteadyPlace, place_file, place_has, place_holds, place_out};
+ghost use Rattle.rv_keeper.specs.PlaceStates.{IsSteadyKeeper, IsSteadyPlace, place_file, place_has, place_holds, place_leaves, place_out};
 ghost use Rattle.rv_keeper.specs.AbsentStores.{absent_holds};
-ghost use Rattle.rv_keeper.specs.Stores.{CallIsSteady, OpensWith, OthersStay, PlaceStays, TakesUp};
+ghost use Rattle.rv_keeper.specs.Stores.{CallIsSteady, LeavesAsGiven, OpensWith, OthersStay, PlaceStays, TakesUp};
 
 use crate::accounts_file::{self, AccountsFile};
 use crate::fault::KeepFault;
@@ -244,6 +244,11 @@ impl Place for MemoryPlace {
 
     ghost holds = { place_holds };
 
+    ghost honest = { λ s. Unit {0} };
+
+    // A crash leaves what they hold.
+    ghost may_leave = { place_leaves };
+
     ghost is_out = { place_out };
 
     ghost has = { place_has };
@@ -262,10 +267,12 @@ impl Place for MemoryPlace {
     }
 
     fn open_keeper(&mut self, name: &str) -> Result<MemoryKeeper, KeepFault>
-        ensures kept { IfOk result (λ kept. StoreIsOut self.new.stores.items name.now × OpensWith name.now (StoreHolds self.old.stores.items name.now) (λ held. held ≡ holding kept.shelves kept.generation)) }
-        ensures others { OthersStay place_holds place_out place_has place_file name.now self.old self.new }
+        ensures kept { IfOk result (λ kept. OpensWith name.now (StoreHolds self.old.stores.items name.now) (λ held. held ≡ holding kept.shelves kept.generation)) }
+        ensures out { OnOk result (StoreIsOut self.new.stores.items name.now) }
+        ensures crash { IfOk result (λ kept. LeavesAsGiven name.now (place_leaves self.old name.now) (λ left. left ≡ Some (holding kept.shelves kept.generation))) }
+        ensures others { OthersStay place_holds place_leaves place_out place_has place_file name.now self.old self.new }
         ensures made { OnOk result (has_store self.new.stores.items name.now ≡ true) }
-        ensures refused { OnErr result (PlaceStays place_holds place_out place_has place_file self.old self.new) }
+        ensures refused { OnErr result (PlaceStays place_holds place_leaves place_out place_has place_file self.old self.new) }
         ensures steady { IsSteadyPlace self.old → CallIsSteady (IsSteadyPlace self.new) (Unit {0}) result × IfOk result IsSteadyKeeper }
         ensures cause { HasKeepCause self.old.faults self.new.faults result }
         ensures fails { has_failed result ≡ fails_next self.old.calls self.old.failing.items }
@@ -279,11 +286,13 @@ impl Place for MemoryPlace {
     }
 
     fn open_existing(&mut self, name: &str) -> Result<MemoryKeeper, KeepFault>
-        ensures kept { IfOk result (λ kept. StoreIsOut self.new.stores.items name.now × OpensWith name.now (StoreHolds self.old.stores.items name.now) (λ held. held ≡ holding kept.shelves kept.generation)) }
-        ensures others { OthersStay place_holds place_out place_has place_file name.now self.old self.new }
+        ensures kept { IfOk result (λ kept. OpensWith name.now (StoreHolds self.old.stores.items name.now) (λ held. held ≡ holding kept.shelves kept.generation)) }
+        ensures out { OnOk result (StoreIsOut self.new.stores.items name.now) }
+        ensures crash { IfOk result (λ kept. LeavesAsGiven name.now (place_leaves self.old name.now) (λ left. left ≡ Some (holding kept.shelves kept.generation))) }
+        ensures others { OthersStay place_holds place_leaves place_out place_has place_file name.now self.old self.new }
         ensures there { IsOk result → has_store self.old.stores.items name.now ≡ true }
         ensures none_made { (other : List ℕ) → has_store self.new.stores.items other ≡ true → has_store self.old.stores.items other ≡ true }
-        ensures refused { OnErr result (PlaceStays place_holds place_out place_has place_file self.old self.new) }
+        ensures refused { OnErr result (PlaceStays place_holds place_leaves place_out place_has place_file self.old self.new) }
         ensures steady { IsSteadyPlace self.old → CallIsSteady (IsSteadyPlace self.new) (has_store self.old.stores.items name.now ≡ true) result × IfOk result IsSteadyKeeper }
         ensures cause { HasKeepCause self.old.faults self.new.faults result }
         ensures fails { has_failed result ≡ (not (has_store self.old.stores.items name.now) || fails_next self.old.calls self.old.failing.items) }
@@ -300,7 +309,8 @@ impl Place for MemoryPlace {
     fn close_keeper(&mut self, name: &str, kept: MemoryKeeper)
         requires { StoreIsOut self.old.stores.items name.now }
         ensures kept { StoreHolds self.new.stores.items name.now (holding kept.shelves kept.generation) }
-        ensures others { OthersStay place_holds place_out place_has place_file name.now self.old self.new }
+        ensures crash { (left : Option Loaded) → place_leaves self.new name.now left → left ≡ Some (holding kept.shelves kept.generation) }
+        ensures others { OthersStay place_holds place_leaves place_out place_has place_file name.now self.old self.new }
         ensures faults { TakesUp kept.faults self.old.faults self.new.faults }
         ensures steady { IsSteadyPlace self.old → IsSteadyPlace self.new }
         ensures stores { self.new.stores.items ≡ with_store (kept_store name.now kept.shelves kept.generation) self.old.stores.items }
@@ -313,7 +323,7 @@ impl Place for MemoryPlace {
     fn read_accounts(&mut self, name: &str) -> Result<Bytes, KeepFault>
         ensures reads { (file : List ℕ) → bytes_of name.now self.old.files.items ≡ Some file → IfOk result (λ bytes. bytes ≡ file) }
         ensures there { IfOk result (λ bytes. bytes_of name.now self.old.files.items ≡ Some bytes) }
-        ensures stays { PlaceStays place_holds place_out place_has place_file self.old self.new }
+        ensures stays { PlaceStays place_holds place_leaves place_out place_has place_file self.old self.new }
         ensures steady { IsSteadyPlace self.old → CallIsSteady (IsSteadyPlace self.new) ((file : List ℕ) × (bytes_of name.now self.old.files.items ≡ Some file)) result }
         ensures cause { HasKeepCause self.old.faults self.new.faults result }
         ensures fails { has_failed result ≡ is_none (file_of name.now self.old.files.items) }
@@ -329,6 +339,8 @@ impl Place for MemoryPlace {
     }
 
     ghost steady_tells = { λ place steady. tt };
+
+    ghost tells_honestly = { λ place told. tt };
 
     ghost holds_one = { λ place name one two told is also. is.1 ∙ sym also.1 };
 

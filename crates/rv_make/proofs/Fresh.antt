@@ -34,7 +34,7 @@ only_empty book loaded is opens = no_entries_in book.entries (sym (ap (λ (l : L
 
 module _ {K : Type 0} (G : Ghosts K) (steady_tells : (keeper : K) → G.fails_no_more keeper → G.tells keeper) (keeper : K) (holds : G.holds keeper (holding [] 0)) (steady : G.fails_no_more keeper) where
   -- its desk is fresh
-  pub fresh_opened : (desk : Seated K) → G.faults keeper ≡ 0 → Opens G.tells G.fails_no_more G.holds G.faults (2 ^ 32 - 1) keeper desk → served G.faults desk ≡ fresh
+  pub fresh_opened : (desk : Seated K) → G.faults keeper ≡ 0 → Opens G (2 ^ 32 - 1) keeper desk → served G.faults desk ≡ fresh
   fresh_opened desk none opens =
       let told : G.tells desk.keeper = steady_tells desk.keeper (opens.goes_on steady) in
       let empty : desk.book ≡ empty_book = only_empty desk.book opens.loaded (sym (opens.was.told told (holding [] 0) holds)) opens.opens in
@@ -42,7 +42,7 @@ module _ {K : Type 0} (G : Ghosts K) (steady_tells : (keeper : K) → G.fails_no
       λ i. record { book = empty i; limit = opens.most i; doubt = opens.doubt i; faults = faults i }
 
   -- and it is not damaged
-  pub fresh_sound : (now : K) (damage : Damage) → IsDamagedIn G.tells G.fails_no_more G.holds G.faults (2 ^ 32 - 1) keeper now damage → IsLeft G.tells G.fails_no_more G.holds G.faults keeper now → ⊥
+  pub fresh_sound : (now : K) (damage : Damage) → IsDamagedIn G (2 ^ 32 - 1) keeper now damage → IsLeft G keeper now → ⊥
   fresh_sound now damage damaged left =
       let told : G.tells now = steady_tells now (left.goes_on steady) in
       opens-not_damaged (2 ^ 32 - 1) empty_book damaged.loaded damage (subst (MayOpen (2 ^ 32 - 1) empty_book) (damaged.was.told told (holding [] 0) holds) nothing_opens) damaged.damaged

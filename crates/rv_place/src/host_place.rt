@@ -3,16 +3,14 @@ ghost use Rattle.rv_base.specs.Causes.{Rose};
 ghost use Rattle.rv_keeper.specs.Keeping.{HasKeepCause};
 ghost use Rattle.rv_place.specs.Stored.{IsFresh, stored_faults};
 
+use crate::host_keeper::HostKeeper;
 use crate::store_keeper::StoreKeeper;
 use rv_base::Bytes;
 use rv_keeper::{KeepFault, Keeper, MemoryKeeper, Place};
 use rv_sqlite::{SqliteKeeper, fault_of};
-use sqlite::{Connection, File, FileStore};
+use sqlite::Connection;
 use std::fs;
 use std::io::{self, ErrorKind};
-
-/// What keeps a store of this machine.
-pub type HostKeeper = StoreKeeper<FileStore<File>>;
 
 /// The stores of this machine: the store `memory`, which is a fresh one in memory each time, and else the SQLite file at the path
 /// that the name is. A file that is not there is made, but where it is to be there. The accounts files are the files at their
@@ -83,23 +81,26 @@ fn read_file(rt: &HostRuntime, path: &str) -> Result<Bytes, KeepFault> {
 }
 
 // The keeper of the file at a path.
-fn open_file(rt: &HostRuntime, path: &str) -> Result<HostKeeper, KeepFault>
+fn open_file<'a>(rt: &'a HostRuntime, path: &str) -> Result<HostKeeper<'a>, KeepFault>
     requires { path.now ≢ codes "memory" }
-    ensures { IfOk result (IsFresh path.now) }
+    ensures { IfOk result (λ keeper. IsFresh path.now keeper.kept) }
 {
     match Connection::open(rt, path) {
-        Ok(connection) => Ok(StoreKeeper::Sqlite(SqliteKeeper::adopt(rt.alloc(), connection))),
+        Ok(connection) => Ok(HostKeeper::new(StoreKeeper::Sqlite(SqliteKeeper::adopt(
+            rt.alloc(),
+            connection,
+        )))),
         Err(error) => Err(fault_of(error)),
     }
 }
 
 // The keeper of the store of a name.
-fn open_store(rt: &HostRuntime, name: &str) -> Result<HostKeeper, KeepFault>
-    ensures { IfOk result (IsFresh name.now) }
+fn open_store<'a>(rt: &'a HostRuntime, name: &str) -> Result<HostKeeper<'a>, KeepFault>
+    ensures { IfOk result (λ keeper. IsFresh name.now keeper.kept) }
 {
     if name == "memory" {
         let alloc = rt.alloc();
-        Ok(StoreKeeper::Memory(MemoryKeeper::new(alloc, Vec::new(alloc))))
+        Ok(HostKeeper::new(StoreKeeper::Memory(MemoryKeeper::new(alloc, Vec::new(alloc)))))
     } else {
         open_file(rt, name)
     }
@@ -107,8 +108,8 @@ fn open_store(rt: &HostRuntime, name: &str) -> Result<HostKeeper, KeepFault>
 
 // The keeper of the store of a name, which is there. An opening always makes a file that is missing, so the path is looked at
 // first. A file that is taken away between the two is made anew, and empty.
-fn open_found(rt: &HostRuntime, name: &str) -> Result<HostKeeper, KeepFault>
-    ensures { IfOk result (IsFresh name.now) }
+fn open_found<'a>(rt: &'a HostRuntime, name: &str) -> Result<HostKeeper<'a>, KeepFault>
+    ensures { IfOk result (λ keeper. IsFresh name.now keeper.kept) }
 {
     match find_store(rt, name) {
         Ok(()) => open_store(rt, name),
@@ -118,18 +119,22 @@ fn open_found(rt: &HostRuntime, name: &str) -> Result<HostKeeper, KeepFault>
 
 // Closes the file, if there is one. That it was not closed is nothing that anybody is told: what was committed is in the file or
 // its log, and the next opening reads both.
-fn close_file(kept: HostKeeper) {
+fn close_file(kept: HostKeeper<'_>) {
     if let Some(connection) = kept.into_connection() {
         let _ = connection.close();
     }
 }
 
-impl Place for HostPlace<'_> {
-    type Kept = HostKeeper;
+impl<'a> Place for HostPlace<'a> {
+    type Kept = HostKeeper<'a>;
 
     ghost tells = { λ s. ⊥ };
 
     ghost holds = { λ s name held. ⊥ };
+
+    ghost honest = { λ s. ⊥ };
+
+    ghost may_leave = { λ s name left. ⊥ };
 
     ghost is_out = { λ s name. ⊥ };
 
@@ -146,23 +151,23 @@ impl Place for HostPlace<'_> {
         self.faults
     }
 
-    fn open_keeper(&mut self, name: &str) -> Result<HostKeeper, KeepFault>
-        ensures fresh { IfOk result (λ kept. stored_faults kept ≡ 0) }
+    fn open_keeper(&mut self, name: &str) -> Result<HostKeeper<'a>, KeepFault>
+        ensures fresh { IfOk result (λ keeper. stored_faults keeper.kept ≡ 0) }
         ensures cause { HasKeepCause self.old.faults self.new.faults result }
-        ensures opened { IfOk result (IsFresh name.now) }
+        ensures opened { IfOk result (λ keeper. IsFresh name.now keeper.kept) }
     {
         counted(&mut self.faults, open_store(self.rt, name))
     }
 
-    fn open_existing(&mut self, name: &str) -> Result<HostKeeper, KeepFault>
-        ensures fresh { IfOk result (λ kept. stored_faults kept ≡ 0) }
+    fn open_existing(&mut self, name: &str) -> Result<HostKeeper<'a>, KeepFault>
+        ensures fresh { IfOk result (λ keeper. stored_faults keeper.kept ≡ 0) }
         ensures cause { HasKeepCause self.old.faults self.new.faults result }
-        ensures opened { IfOk result (IsFresh name.now) }
+        ensures opened { IfOk result (λ keeper. IsFresh name.now keeper.kept) }
     {
         counted(&mut self.faults, open_found(self.rt, name))
     }
 
-    fn close_keeper(&mut self, _name: &str, kept: HostKeeper) {
+    fn close_keeper(&mut self, _name: &str, kept: HostKeeper<'a>) {
         if kept.fault_count() > 0 {
             count(&mut self.faults);
         }
@@ -174,6 +179,8 @@ impl Place for HostPlace<'_> {
     }
 
     ghost steady_tells = { λ place steady. steady };
+
+    ghost tells_honestly = { λ place told. told };
 
     ghost holds_one = { λ place name one two told is also. absurd told };
 

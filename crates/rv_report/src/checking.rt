@@ -8,7 +8,7 @@ use std::alloc::Global;
 /// Whether the keeper holds just the cells of a lawful book of at most 4,294,967,295 entries, as a server that opens it would find.
 /// Nothing is changed, and the keeper is given back.
 pub fn check<K: Keeper>(alloc: Global, keeper: K) -> (CheckAnswer, K)
-    ensures { Checks K.tells K.fails_no_more K.holds K.faults keeper result }
+    ensures { Checks K.Keeper keeper result }
 {
     match Desk::open(alloc, keeper, u32::MAX) {
         Ok(desk) => {

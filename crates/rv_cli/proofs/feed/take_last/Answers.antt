@@ -3,7 +3,7 @@ use Rattle.rv_cli.proofs.feed.take_last.Goals as goal
 
 pub returns-in-Ok-clause-takes : goal.returns-in-Ok-clause-takes
 returns-in-Ok-clause-takes g c =
-    last_done g.K.Keeper.tells g.K.Keeper.fails_no_more g.K.Keeper.holds g.K.Keeper.faults c.args.desk c.in-Ok.desk c.close.result c.args.line.now c.args.number (g.O.Sink.state c.args.out.now) (g.O.Sink.state c.take_line.new.out) c.close.ensures.keeper c.close.ensures.held c.in-Ok.ensures.takes
+    last_done g.K.Keeper c.args.desk c.in-Ok.desk c.close.result c.args.line.now c.args.number (g.O.Sink.state c.args.out.now) (g.O.Sink.state c.take_line.new.out) c.close.ensures.keeper (record { held = c.close.ensures.held; left = c.close.ensures.left }) c.in-Ok.ensures.takes
 
 pub returns-in-Ok-clause-steady_keeper : goal.returns-in-Ok-clause-steady_keeper
-returns-in-Ok-clause-steady_keeper g c = λ f. ends_steady g.K.Keeper.tells g.K.Keeper.fails_no_more g.K.Keeper.holds g.K.Keeper.faults c.args.desk.keeper c.in-Ok.desk c.close.result _ c.close.ensures.keeper not_done (c.in-Ok.ensures.steady_keeper f)
+returns-in-Ok-clause-steady_keeper g c = λ f. ends_steady g.K.Keeper c.args.desk.keeper c.in-Ok.desk c.close.result _ c.close.ensures.keeper not_done (c.in-Ok.ensures.steady_keeper f)

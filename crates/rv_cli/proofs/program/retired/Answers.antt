@@ -1,12 +1,12 @@
 use Rattle.std.proofs.Common.{ap, ◌∙◌, sym, subst, arith}
-use Rattle.rv_desk.specs.Seated.{HoldsBook, served}
+use Rattle.rv_desk.specs.Seated.{KeepsBook, served}
 use Rattle.rv_cli.proofs.Taking.{desk_retired, turn_before}
 use Rattle.rv_cli.proofs.program.retired.Goals as goal
 
 pub returns-clause-steady : goal.returns-clause-steady
 returns-clause-steady g c = λ f.
     let (outcome, takes, is, none) = c.retire_group-answer.ensures in
-    let (goes, same) = (turn_before g.K.Keeper.tells g.K.Keeper.fails_no_more g.K.Keeper.holds g.K.Keeper.faults c.args.desk c.retire_group-answer.new.turns _ outcome takes.turn takes.assured).steady f in
+    let (goes, same) = (turn_before g.K.Keeper c.args.desk c.retire_group-answer.new.turns _ outcome takes.turn takes.assured).steady f in
     (subst g.K.Keeper.fails_no_more (sym c.close.ensures.keeper) goes, ap g.K.Keeper.faults c.close.ensures.keeper ∙ same)
 
 pub returns-clause-retired : goal.returns-clause-retired
@@ -15,9 +15,9 @@ returns-clause-retired g c =
     let same = c.close.ensures.keeper in
     record {
       new = served g.K.Keeper.faults c.retire_group-answer.new.turns;
-      step = desk_retired g.K.Keeper.tells g.K.Keeper.fails_no_more g.K.Keeper.holds g.K.Keeper.faults c.args.desk c.retire_group-answer.new.turns c.close.result c.args.group.now outcome c.retire_group-answer.result is (takes.turn, takes.assured) same;
+      step = desk_retired g.K.Keeper c.args.desk c.retire_group-answer.new.turns c.close.result c.args.group.now outcome c.retire_group-answer.result is (takes.turn, takes.assured) same;
       left = record {
-        held = λ told. subst (λ (k : _). HoldsBook (g.K.Keeper.holds k) c.retire_group-answer.new.turns.book c.retire_group-answer.new.turns.doubt) (sym same) (c.close.ensures.held (subst g.K.Keeper.tells same told));
+        kept = subst (λ (k : _). KeepsBook g.K.Keeper k c.retire_group-answer.new.turns.book c.retire_group-answer.new.turns.doubt) (sym same) (record { held = c.close.ensures.held; left = c.close.ensures.left });
         later = rw (← same) (omega arith);
       };
       before = λ told. takes.assured.told (subst g.K.Keeper.tells same told);

@@ -55,22 +55,22 @@ returns-in-Ok-Some-Serve-clause-unserved g c = λ store options asks. c.run_serv
 pub returns-in-Ok-Some-Feed-clause-others : goal.returns-in-Ok-Some-Feed-clause-others
 returns-in-Ok-Some-Feed-clause-others g c = λ store names told.
     let is = rw (c.in-Ok-Some-Feed.field-0-is, c.in-Ok-Some-Feed.field-0-0-is) at c.in-Ok-Some-Feed.ensures in
-    subst (λ (name : List ℕ). OthersStay g.P.Place.holds g.P.Place.is_out g.P.Place.has g.P.Place.accounts name c.args.place.now c.run_feed.new.place) (names_feed _ _ _ store is c.as_str.ensures names) (c.run_feed.ensures.others told)
+    subst (λ (name : List ℕ). OthersStay g.P.Place.holds g.P.Place.may_leave g.P.Place.is_out g.P.Place.has g.P.Place.accounts name c.args.place.now c.run_feed.new.place) (names_feed _ _ _ store is c.as_str.ensures names) (c.run_feed.ensures.others told)
 
 pub returns-in-Ok-Some-Retire-clause-others : goal.returns-in-Ok-Some-Retire-clause-others
 returns-in-Ok-Some-Retire-clause-others g c = λ store names told.
     let is = rw (c.in-Ok-Some-Retire.field-0-is, c.in-Ok-Some-Retire.field-0-0-is) at c.in-Ok-Some-Retire.ensures in
-    subst (λ (name : List ℕ). OthersStay g.P.Place.holds g.P.Place.is_out g.P.Place.has g.P.Place.accounts name c.args.place.now c.run_retire.new.place) (names_retire _ _ _ store _ is c.as_str-in-Ok-Some-Retire.ensures names) (c.run_retire.ensures.others told)
+    subst (λ (name : List ℕ). OthersStay g.P.Place.holds g.P.Place.may_leave g.P.Place.is_out g.P.Place.has g.P.Place.accounts name c.args.place.now c.run_retire.new.place) (names_retire _ _ _ store _ is c.as_str-in-Ok-Some-Retire.ensures names) (c.run_retire.ensures.others told)
 
 pub returns-in-Ok-Some-Serve-clause-others : goal.returns-in-Ok-Some-Serve-clause-others
 returns-in-Ok-Some-Serve-clause-others g c = λ store names told.
     let is = rw (c.in-Ok-Some-Serve.field-0-is, c.in-Ok-Some-Serve.field-0-0-is) at c.in-Ok-Some-Serve.ensures in
-    subst (λ (name : List ℕ). OthersStay g.P.Place.holds g.P.Place.is_out g.P.Place.has g.P.Place.accounts name c.args.place.now c.run_serve.new.place) (names_serve _ _ _ store _ is c.as_str-in-Ok-Some-Serve.ensures names) (c.run_serve.ensures.others told)
+    subst (λ (name : List ℕ). OthersStay g.P.Place.holds g.P.Place.may_leave g.P.Place.is_out g.P.Place.has g.P.Place.accounts name c.args.place.now c.run_serve.new.place) (names_serve _ _ _ store _ is c.as_str-in-Ok-Some-Serve.ensures names) (c.run_serve.ensures.others told)
 
 pub returns-in-Ok-Some-Lists-clause-others : goal.returns-in-Ok-Some-Lists-clause-others
 returns-in-Ok-Some-Lists-clause-others g c = λ store names told.
     let is = rw (c.in-Ok-Some-Lists.field-0-is, c.in-Ok-Some-Lists.field-0-0-is) at c.in-Ok-Some-Lists.ensures in
-    subst (λ (name : List ℕ). OthersStay g.P.Place.holds g.P.Place.is_out g.P.Place.has g.P.Place.accounts name c.args.place.now c.run_lists.new.place) (names_lists _ _ _ store is c.as_str-in-Ok-Some-Lists.ensures names) (c.run_lists.ensures.others told)
+    subst (λ (name : List ℕ). OthersStay g.P.Place.holds g.P.Place.may_leave g.P.Place.is_out g.P.Place.has g.P.Place.accounts name c.args.place.now c.run_lists.new.place) (names_lists _ _ _ store is c.as_str-in-Ok-Some-Lists.ensures names) (c.run_lists.ensures.others told)
 
 pub returns-in-Ok-Some-Lists-clause-steady_reports : goal.returns-in-Ok-Some-Lists-clause-steady_reports
 returns-in-Ok-Some-Lists-clause-steady_reports g c = λ store names steady there.
@@ -80,7 +80,7 @@ returns-in-Ok-Some-Lists-clause-steady_reports g c = λ store names steady there
 pub returns-in-Ok-Some-Activity-clause-others : goal.returns-in-Ok-Some-Activity-clause-others
 returns-in-Ok-Some-Activity-clause-others g c = λ store names told.
     let is = rw (c.in-Ok-Some-Activity.field-0-is, c.in-Ok-Some-Activity.field-0-0-is) at c.in-Ok-Some-Activity.ensures in
-    subst (λ (name : List ℕ). OthersStay g.P.Place.holds g.P.Place.is_out g.P.Place.has g.P.Place.accounts name c.args.place.now c.run_activity.new.place) (names_activity _ _ _ store is c.as_str-in-Ok-Some-Activity.ensures names) (c.run_activity.ensures.others told)
+    subst (λ (name : List ℕ). OthersStay g.P.Place.holds g.P.Place.may_leave g.P.Place.is_out g.P.Place.has g.P.Place.accounts name c.args.place.now c.run_activity.new.place) (names_activity _ _ _ store is c.as_str-in-Ok-Some-Activity.ensures names) (c.run_activity.ensures.others told)
 
 pub returns-in-Ok-Some-Activity-clause-steady_reports : goal.returns-in-Ok-Some-Activity-clause-steady_reports
 returns-in-Ok-Some-Activity-clause-steady_reports g c = λ store names steady there.
@@ -90,7 +90,7 @@ returns-in-Ok-Some-Activity-clause-steady_reports g c = λ store names steady th
 pub returns-in-Ok-Some-Check-clause-others : goal.returns-in-Ok-Some-Check-clause-others
 returns-in-Ok-Some-Check-clause-others g c = λ store names told.
     let is = rw (c.in-Ok-Some-Check.field-0-is, c.in-Ok-Some-Check.field-0-0-is) at c.in-Ok-Some-Check.ensures in
-    subst (λ (name : List ℕ). OthersStay g.P.Place.holds g.P.Place.is_out g.P.Place.has g.P.Place.accounts name c.args.place.now c.run_check.new.place) (names_check _ _ _ store is c.as_str-in-Ok-Some-Check.ensures names) (c.run_check.ensures.others told)
+    subst (λ (name : List ℕ). OthersStay g.P.Place.holds g.P.Place.may_leave g.P.Place.is_out g.P.Place.has g.P.Place.accounts name c.args.place.now c.run_check.new.place) (names_check _ _ _ store is c.as_str-in-Ok-Some-Check.ensures names) (c.run_check.ensures.others told)
 
 pub returns-in-Ok-Some-Check-clause-steady_reports : goal.returns-in-Ok-Some-Check-clause-steady_reports
 returns-in-Ok-Some-Check-clause-steady_reports g c = λ store names steady there.

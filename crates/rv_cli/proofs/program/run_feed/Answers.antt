@@ -14,7 +14,7 @@ returns-in-Ok-clause-feed g c = (
   c.status.ensures,
   inr (has_fed g.P.Place g.P.Kept.Keeper c.args.store.now c.args.place.now c.open_desk.new.place c.close_keeper.new.self c.in-Ok.desk c.feed-ending.result
       (g.S.Source.state c.args.input.now) (g.S.Source.state c.feed-ending.new.input) (g.O.Sink.state c.args.out.now) (g.O.Sink.state c.feed-ending.new.out) (g.O.Sink.state c.write_ending.new.out) c.write_ending.result
-      c.in-Ok.ensures.opens c.feed-ending.ensures.feeds (record { told = c.close_keeper.ensures.tells; held = c.close_keeper.ensures.kept; taken = c.close_keeper.ensures.faults }) c.write_ending.ensures.writes),
+      c.in-Ok.ensures.opens c.feed-ending.ensures.feeds (record { told = c.close_keeper.ensures.tells; honest = c.close_keeper.ensures.honest; held = c.close_keeper.ensures.kept; left = c.close_keeper.ensures.crash; taken = c.close_keeper.ensures.faults }) c.write_ending.ensures.writes),
 )
 
 pub returns-in-Ok-clause-complete : goal.returns-in-Ok-clause-complete
@@ -30,7 +30,7 @@ returns-in-Err-clause-sound g c = λ told kept. refused_sound (change g.P.Place 
 
 pub returns-in-Ok-clause-others : goal.returns-in-Ok-clause-others
 returns-in-Ok-clause-others g c = λ t.
-    others_on g.P.Place.holds g.P.Place.is_out g.P.Place.has g.P.Place.accounts c.args.store.now c.args.place.now c.open_desk.new.place c.close_keeper.new.self (c.open_desk.ensures.others (c.close_keeper.ensures.tells t).0) (c.close_keeper.ensures.others t)
+    others_on g.P.Place.holds g.P.Place.may_leave g.P.Place.is_out g.P.Place.has g.P.Place.accounts c.args.store.now c.args.place.now c.open_desk.new.place c.close_keeper.new.self (c.open_desk.ensures.others (c.close_keeper.ensures.tells t).0) (c.close_keeper.ensures.others t)
 
 pub returns-in-Ok-clause-steady_place : goal.returns-in-Ok-clause-steady_place
 returns-in-Ok-clause-steady_place g c = λ steady.

@@ -12,7 +12,7 @@ returns-in-Ok-clause-retire g c = (
   c.status.ensures,
   inr (has_replied g.P.Place g.P.Kept.Keeper c.args.store.now c.args.place.now c.open_desk.new.place c.close_keeper.new.self c.in-Ok.desk c.args.group.now c.retired-answer.result
       (g.O.Sink.state c.args.out.now) (g.O.Sink.state c.write_reply.new.out) c.write_reply.result
-      c.in-Ok.ensures.opens c.retired-answer.ensures.retired (record { told = c.close_keeper.ensures.tells; held = c.close_keeper.ensures.kept; taken = c.close_keeper.ensures.faults }) c.write_reply.ensures.replies),
+      c.in-Ok.ensures.opens c.retired-answer.ensures.retired (record { told = c.close_keeper.ensures.tells; honest = c.close_keeper.ensures.honest; held = c.close_keeper.ensures.kept; left = c.close_keeper.ensures.crash; taken = c.close_keeper.ensures.faults }) c.write_reply.ensures.replies),
 )
 
 pub returns-in-Ok-clause-sound : goal.returns-in-Ok-clause-sound
@@ -23,7 +23,7 @@ returns-in-Err-clause-sound g c = λ told kept. refused_sound (change g.P.Place 
 
 pub returns-in-Ok-clause-others : goal.returns-in-Ok-clause-others
 returns-in-Ok-clause-others g c = λ t.
-    others_on g.P.Place.holds g.P.Place.is_out g.P.Place.has g.P.Place.accounts c.args.store.now c.args.place.now c.open_desk.new.place c.close_keeper.new.self (c.open_desk.ensures.others (c.close_keeper.ensures.tells t).0) (c.close_keeper.ensures.others t)
+    others_on g.P.Place.holds g.P.Place.may_leave g.P.Place.is_out g.P.Place.has g.P.Place.accounts c.args.store.now c.args.place.now c.open_desk.new.place c.close_keeper.new.self (c.open_desk.ensures.others (c.close_keeper.ensures.tells t).0) (c.close_keeper.ensures.others t)
 
 pub returns-in-Ok-clause-steady_place : goal.returns-in-Ok-clause-steady_place
 returns-in-Ok-clause-steady_place g c = λ steady.

@@ -15,7 +15,7 @@ returns-in-Ok-clause-report g c = (
   c.status.ensures,
   inr (has_reported g.P.Place g.P.Kept.Keeper c.args.store.now ReportsActivity c.args.place.now c.open_existing_desk.new.place c.close_keeper.new.self c.in-Ok.desk c.close.result
       (g.O.Sink.state c.args.out.now) (g.O.Sink.state c.write_report.new.out) c.write_report.result
-      c.in-Ok.ensures.opens c.close.ensures.keeper c.close.ensures.held (record { told = c.close_keeper.ensures.tells; held = c.close_keeper.ensures.kept; taken = c.close_keeper.ensures.faults })
+      c.in-Ok.ensures.opens c.close.ensures.keeper (record { held = c.close.ensures.held; left = c.close.ensures.left }) (record { told = c.close_keeper.ensures.tells; honest = c.close_keeper.ensures.honest; held = c.close_keeper.ensures.kept; left = c.close_keeper.ensures.crash; taken = c.close_keeper.ensures.faults })
       (reports_made (ReportsActivity c.in-Ok.desk.book) c.activity_text-report.result (g.O.Sink.state c.args.out.now) (g.O.Sink.state c.write_report.new.out) c.write_report.result (λ text is. if_ok (λ t. t ≡ activity_text c.book.result.now.book) c.activity_text-report.result text c.activity_text-report.ensures is ∙ ap activity_text c.book.ensures.book) c.write_report.ensures.writes)),
 )
 
@@ -27,7 +27,7 @@ returns-in-Err-clause-absent g c = λ told none. absurd (refused_fails (change g
 
 pub returns-in-Ok-clause-others : goal.returns-in-Ok-clause-others
 returns-in-Ok-clause-others g c = λ t.
-    others_on g.P.Place.holds g.P.Place.is_out g.P.Place.has g.P.Place.accounts c.args.store.now c.args.place.now c.open_existing_desk.new.place c.close_keeper.new.self (c.open_existing_desk.ensures.others (c.close_keeper.ensures.tells t).0) (c.close_keeper.ensures.others t)
+    others_on g.P.Place.holds g.P.Place.may_leave g.P.Place.is_out g.P.Place.has g.P.Place.accounts c.args.store.now c.args.place.now c.open_existing_desk.new.place c.close_keeper.new.self (c.open_existing_desk.ensures.others (c.close_keeper.ensures.tells t).0) (c.close_keeper.ensures.others t)
 
 pub returns-in-Ok-clause-steady_place : goal.returns-in-Ok-clause-steady_place
 returns-in-Ok-clause-steady_place g c = λ steady there.

@@ -1,9 +1,9 @@
 use Rattle.rv_keeper.specs.StoreLaws.{others_of, others_on}
-use Rattle.std.proofs.Common.{inl, inr, ap, sym, ◌∙◌}
+use Rattle.std.proofs.Common.{inl, inr, ap, subst, sym, ◌∙◌}
 use Rattle.rv_cli.proofs.Steady.{no_accounts_not_nine, no_store_not_four, no_store_not_nine, serve_not_four, serve_not_nine, served_not_four, served_not_nine}
 use Rattle.rv_book.specs.Book.{size}
 use Rattle.rv_cli.specs.declared.serve_ending.ServeEnding.TheVariants.{NotOpened}
-use Rattle.rv_cli.proofs.Serving.{has_no_store, serve_ended, unserved_by}
+use Rattle.rv_cli.proofs.Serving.{has_no_store, net_before, serve_ended, unserved_by}
 use Rattle.rv_cli.proofs.serve.serve_all.Goals as goal
 
 pub returns-in-Err-open_desk-clause-serve : goal.returns-in-Err-open_desk-clause-serve
@@ -13,7 +13,7 @@ returns-in-Err-open_desk-clause-serve g c =
       NotOpened c.in-Err-open_desk.ending,
       text,
       inr (inl (has_no_store g.P.Place g.P.Kept.Keeper c.args.store.now c.args.options.now.accounts c.args.place.now c.accounts_of.new.place c.open_desk.new.place c.in-Ok.accounts c.in-Err-open_desk.ending
-          (g.O.Sink.state c.args.out.now) (g.O.Sink.state c.tell-in-Err-open_desk.new.out) read c.open_desk.ensures.told c.in-Err-open_desk.ensures.opens c.tell-in-Err-open_desk.ensures.text)),
+          (g.O.Sink.state c.args.out.now) (g.O.Sink.state c.tell-in-Err-open_desk.new.out) read c.in-Err-open_desk.ensures.told c.in-Err-open_desk.ensures.opens c.tell-in-Err-open_desk.ensures.text)),
     )
 
 pub returns-clause-serve : goal.returns-clause-serve
@@ -22,9 +22,9 @@ returns-clause-serve g c =
       c.write_served.result,
       c.status-2.ensures,
       inr (inr (serve_ended g.P.Place g.P.Kept.Keeper c.args.store.now c.args.options.now.accounts
-          c.args.place.now c.accounts_of.new.place c.open_desk.new.place c.close_keeper.new.self c.in-Ok.accounts c.in-Ok-open_desk.desk c.serve_net-served.result.1 c.close.result read c.in-Ok-open_desk.ensures.opens c.open_desk.ensures.told c.close.ensures.keeper c.close.ensures.held
+          c.args.place.now c.accounts_of.new.place c.open_desk.new.place c.close_keeper.new.self c.in-Ok.accounts c.in-Ok-open_desk.desk c.serve_net-served.result.1 c.close.result read c.in-Ok-open_desk.ensures.opens c.in-Ok-open_desk.ensures.told c.close.ensures.keeper (record { held = c.close.ensures.held; left = c.close.ensures.left })
           (record { lawful = c.close.ensures.lawful; within = c.close.ensures.within.0; next = c.close.ensures.next })
-          (record { told = c.close_keeper.ensures.tells; held = c.close_keeper.ensures.kept; taken = c.close_keeper.ensures.faults })
+          (record { told = c.close_keeper.ensures.tells; honest = c.close_keeper.ensures.honest; held = c.close_keeper.ensures.kept; left = c.close_keeper.ensures.crash; taken = c.close_keeper.ensures.faults })
           _ _ _ c.serve_net-served.result.0 c.len-entries.result (g.O.Sink.state c.args.out.now) (g.O.Sink.state c.write_served.new.out) c.write_served.result
           c.serve_net-served.ensures.serves (c.len-entries.ensures.value ∙ ap size c.book.ensures.book) c.write_served.ensures.writes)),
     )
@@ -36,19 +36,19 @@ pub returns-clause-wanted : goal.returns-clause-wanted
 returns-clause-wanted g c = inr (λ told. (c.serve_net-served.ensures.wanted told, c.serve_net-served.ensures.wanted_pokes told))
 
 pub returns-in-Err-clause-others : goal.returns-in-Err-clause-others
-returns-in-Err-clause-others g c = λ told. others_of g.P.Place.holds g.P.Place.is_out g.P.Place.has g.P.Place.accounts c.args.store.now c.args.place.now c.accounts_of.new.place (c.accounts_of.ensures.stays told)
+returns-in-Err-clause-others g c = λ told. others_of g.P.Place.holds g.P.Place.may_leave g.P.Place.is_out g.P.Place.has g.P.Place.accounts c.args.store.now c.args.place.now c.accounts_of.new.place (c.accounts_of.ensures.stays told)
 
 pub returns-in-Err-open_desk-clause-others : goal.returns-in-Err-open_desk-clause-others
 returns-in-Err-open_desk-clause-others g c = λ told.
-    let mid = c.open_desk.ensures.told told in
-    others_on g.P.Place.holds g.P.Place.is_out g.P.Place.has g.P.Place.accounts c.args.store.now c.args.place.now c.accounts_of.new.place c.open_desk.new.place (others_of g.P.Place.holds g.P.Place.is_out g.P.Place.has g.P.Place.accounts c.args.store.now c.args.place.now c.accounts_of.new.place (c.accounts_of.ensures.stays mid)) (c.open_desk.ensures.others told)
+    let mid = c.in-Err-open_desk.ensures.told told in
+    others_on g.P.Place.holds g.P.Place.may_leave g.P.Place.is_out g.P.Place.has g.P.Place.accounts c.args.store.now c.args.place.now c.accounts_of.new.place c.open_desk.new.place (others_of g.P.Place.holds g.P.Place.may_leave g.P.Place.is_out g.P.Place.has g.P.Place.accounts c.args.store.now c.args.place.now c.accounts_of.new.place (c.accounts_of.ensures.stays mid)) (c.open_desk.ensures.others told)
 
 pub returns-clause-others : goal.returns-clause-others
 returns-clause-others g c = λ told.
-    let opened = (c.close_keeper.ensures.tells told).0 in
-    let mid = c.open_desk.ensures.told opened in
-    others_on g.P.Place.holds g.P.Place.is_out g.P.Place.has g.P.Place.accounts c.args.store.now c.args.place.now c.open_desk.new.place c.close_keeper.new.self
-    (others_on g.P.Place.holds g.P.Place.is_out g.P.Place.has g.P.Place.accounts c.args.store.now c.args.place.now c.accounts_of.new.place c.open_desk.new.place (others_of g.P.Place.holds g.P.Place.is_out g.P.Place.has g.P.Place.accounts c.args.store.now c.args.place.now c.accounts_of.new.place (c.accounts_of.ensures.stays mid)) (c.open_desk.ensures.others opened))
+    let (opened, kept) = c.close_keeper.ensures.tells told in
+    let mid = c.in-Ok-open_desk.ensures.told opened (net_before _ g.P.Kept.Keeper.tells _ _ c.in-Ok-open_desk.desk c.serve_net-served.result.1 c.serve_net-served.result.0 c.serve_net-served.ensures.serves (subst g.P.Kept.Keeper.tells c.close.ensures.keeper kept)) in
+    others_on g.P.Place.holds g.P.Place.may_leave g.P.Place.is_out g.P.Place.has g.P.Place.accounts c.args.store.now c.args.place.now c.open_desk.new.place c.close_keeper.new.self
+    (others_on g.P.Place.holds g.P.Place.may_leave g.P.Place.is_out g.P.Place.has g.P.Place.accounts c.args.store.now c.args.place.now c.accounts_of.new.place c.open_desk.new.place (others_of g.P.Place.holds g.P.Place.may_leave g.P.Place.is_out g.P.Place.has g.P.Place.accounts c.args.store.now c.args.place.now c.accounts_of.new.place (c.accounts_of.ensures.stays mid)) (c.open_desk.ensures.others opened))
     (c.close_keeper.ensures.others told)
 
 pub returns-in-Err-clause-steady_place : goal.returns-in-Err-clause-steady_place

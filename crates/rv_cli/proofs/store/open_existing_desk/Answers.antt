@@ -7,7 +7,7 @@ use Rattle.rv_cli.proofs.store.open_existing_desk.Goals as goal
 pub returns-clause-opens : goal.returns-clause-opens
 returns-clause-opens g c =
     store_opened g.P.Place g.P.Kept.Keeper c.args.store.now c.in_ok-kept.kept c.args.place.now c.open_existing.new.self c.open_kept.new.place c.open_kept.result
-    (λ t. let kept = c.in_ok-kept.ensures.kept t in (kept.1, kept.2)) c.in_ok-kept.ensures.fresh c.in_ok-kept.ensures.cause.still c.open_kept.ensures.opens
+    c.in_ok-kept.ensures.out c.in_ok-kept.ensures.kept c.in_ok-kept.ensures.crash (g.met.P.Place.tells_honestly c.open_existing.new.self) c.in_ok-kept.ensures.fresh c.in_ok-kept.ensures.cause.still c.open_kept.ensures.opens
 
 pub returns-clause-there : goal.returns-clause-there
 returns-clause-there g c =
@@ -16,10 +16,10 @@ returns-clause-there g c =
 
 pub returns-in_err-kept-clause-opens : goal.returns-in_err-kept-clause-opens
 returns-in_err-kept-clause-opens g c =
-    store_refused g.P.Place g.P.Kept.Keeper c.args.store.now c.args.place.now c.open_existing.new.self _ c.from_residual.result c.in_err-kept.ensures.cause c.from_residual.ensures (λ t held was. (c.in_err-kept.ensures.refused t).held c.args.store.now held was)
+    store_refused g.P.Place g.P.Kept.Keeper c.args.store.now c.args.place.now c.open_existing.new.self _ c.from_residual.result c.in_err-kept.ensures.cause c.from_residual.ensures (λ t held was. (c.in_err-kept.ensures.refused t).held c.args.store.now held was) (λ t x may. (c.in_err-kept.ensures.refused t).left c.args.store.now x may)
 
 pub returns-clause-others : goal.returns-clause-others
-returns-clause-others g c = λ t. others_on g.P.Place.holds g.P.Place.is_out g.P.Place.has g.P.Place.accounts c.args.store.now c.args.place.now c.open_existing.new.self c.open_kept.new.place (c.in_ok-kept.ensures.others (c.open_kept.ensures.told t)) (c.open_kept.ensures.others t)
+returns-clause-others g c = λ t. others_on g.P.Place.holds g.P.Place.may_leave g.P.Place.is_out g.P.Place.has g.P.Place.accounts c.args.store.now c.args.place.now c.open_existing.new.self c.open_kept.new.place (c.in_ok-kept.ensures.others (c.open_kept.ensures.told t)) (c.open_kept.ensures.others t)
 
 pub returns-clause-steady : goal.returns-clause-steady
 returns-clause-steady g c = λ steady there.
@@ -28,7 +28,7 @@ returns-clause-steady g c = λ steady there.
     (on, same ∙ c.in_ok-kept.ensures.cause.still, rest)
 
 pub returns-in_err-kept-clause-others : goal.returns-in_err-kept-clause-others
-returns-in_err-kept-clause-others g c = λ t. others_of g.P.Place.holds g.P.Place.is_out g.P.Place.has g.P.Place.accounts c.args.store.now c.args.place.now c.open_existing.new.self (c.in_err-kept.ensures.refused t)
+returns-in_err-kept-clause-others g c = λ t. others_of g.P.Place.holds g.P.Place.may_leave g.P.Place.is_out g.P.Place.has g.P.Place.accounts c.args.store.now c.args.place.now c.open_existing.new.self (c.in_err-kept.ensures.refused t)
 
 pub returns-in_err-kept-clause-steady : goal.returns-in_err-kept-clause-steady
 returns-in_err-kept-clause-steady g c = λ steady there.

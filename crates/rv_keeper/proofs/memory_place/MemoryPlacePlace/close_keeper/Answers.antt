@@ -1,5 +1,6 @@
-use Rattle.std.proofs.Common.{ap, ◌∙◌}
+use Rattle.std.proofs.Common.{Some, ap, ◌∙◌}
 use Rattle.rv_keeper.specs.declared.memory_place.MemoryPlace.{MemoryPlace}
+use Rattle.rv_keeper.specs.declared.store.Store.{Store}
 use Rattle.rv_keeper.specs.Keeping.{holding}
 use Rattle.rv_keeper.proofs.MemoryStores.{Closed, closed, others_stay}
 use Rattle.rv_keeper.proofs.memory_place.MemoryPlacePlace.close_keeper.Goals as goal
@@ -12,6 +13,9 @@ is_closed c =
 
 pub returns-clause-kept : goal.returns-clause-kept
 returns-clause-kept c = (is_closed c).kept
+
+pub returns-clause-crash : goal.returns-clause-crash
+returns-clause-crash c left h = h ∙ ap (λ (store : Store). Some (holding store.shelves store.generation)) (is_closed c).found
 
 pub returns-clause-others : goal.returns-clause-others
 returns-clause-others c =

@@ -14,6 +14,12 @@ is_opened c =
 pub returns-clause-kept : goal.returns-clause-kept
 returns-clause-kept c = (is_opened c).kept
 
+pub returns-clause-out : goal.returns-clause-out
+returns-clause-out c = (is_opened c).out
+
+pub returns-clause-crash : goal.returns-clause-crash
+returns-clause-crash c = (is_opened c).left
+
 pub returns-clause-others : goal.returns-clause-others
 returns-clause-others c = others_stay c.args.name.now c.args.self.now c.open_store.new.self (is_opened c).others (ap (λ (place : MemoryPlace). place.files) c.open_store.ensures.after)
 
