@@ -7,4 +7,5 @@ pub mod Fronts
 pub mod RowTextLaws
 pub mod Again
 pub mod ViewLaws
+pub mod ExportLaws
 pub mod Sizes

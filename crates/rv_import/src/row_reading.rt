@@ -17,7 +17,7 @@ use serde_json::Value;
 use std::alloc::Global;
 
 // Every row's texts are UTF-8 and within their bounds.
-fn is_row(row: &Row)
+pub(crate) fn is_row(row: &Row)
     ensures { IsRow row.now }
 {
     match row {
