@@ -9,3 +9,6 @@ pub mod Again
 pub mod ViewLaws
 pub mod ExportLaws
 pub mod Sizes
+pub mod Counting
+pub mod Askings
+pub mod Takings

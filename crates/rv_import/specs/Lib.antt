@@ -5,3 +5,5 @@ pub mod Left
 pub mod RowReading
 pub mod Writing
 pub mod Imports
+pub mod Importing
+pub mod Steps

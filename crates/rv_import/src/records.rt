@@ -1,4 +1,4 @@
-ghost use Rattle.std.specs.Prelude.{◌≡◌, ◌∷◌, [], IfOk, true};
+ghost use Rattle.std.specs.Prelude.{◌≡◌, ◌∷◌, [], IfOk, OnErr, true, false};
 ghost use Rattle.csv.specs.Records.{fields_of};
 ghost use Rattle.rv_import.specs.Records.{records_of};
 ghost use Rattle.rv_import.specs.Left.{Takes};
@@ -48,7 +48,9 @@ impl<'a> Records<'a> {
 
     // Makes the buffer the next record, where there is one.
     pub(crate) fn read(&mut self, fields: &mut ByteRecord) -> Result<bool, Memory>
-        ensures { IfOk result (λ found. Takes found (fields_of fields.new) self.old self.new) }
+        ensures reads { IfOk result (λ found. Takes found (fields_of fields.new) self.old self.new) }
+        ensures ends { IfOk result (λ found. found ≡ false → self.new ≡ []) }
+        ensures fails { OnErr result (self.new ≡ []) }
     {
         if self.is_over {
             return Ok(false);
