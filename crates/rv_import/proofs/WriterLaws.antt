@@ -1,6 +1,7 @@
 -- What a writer of CSV has written after a record, after each row, and at the end.
 use Rattle.std.proofs.Common.{◌≡◌, ◌≢◌, ℕ, ◌+◌, ◌<◌, ◌≤◌, false, List, [], ◌∷◌, ◌++◌, length, get_or, drop, map, Option, Some, None, sym, ap, ap₂, ◌∙◌, subst, append_assoc, append-nil}
 use Rattle.std.specs.Borrow.{Bor}
+use Rattle.std.specs.List.{AllByRecursion}
 use Rattle.std.specs.Io.KnownBytes.{Appends, Keeps, append_known}
 use Rattle.std.proofs.lemmas.List.{drop_all, drop_more}
 use Rattle.std.proofs.lemmas.Option.{none-some, same_Some}
@@ -10,7 +11,7 @@ use Rattle.csv.specs.declared.writer.Writer.{Writer}
 use Rattle.csv.specs.declared.writer.WriterBuilder.{WriterBuilder}
 use Rattle.rv_rows.specs.declared.row.Row.{Row}
 use Rattle.rv_import.specs.Records.{Record, csv_text}
-use Rattle.rv_import.specs.Views.{row_record}
+use Rattle.rv_import.specs.Views.{row_record, IsRow}
 use Rattle.rv_import.specs.Writing.{HasWritten}
 
 pub plain : (w : WriterBuilder) → w ≡ default_writer → w.style ≢ style.NonNumeric
@@ -59,3 +60,13 @@ one_row rows i pair text whole less is so_far =
 
 pub last_row : (rows : List (Bor Row × ℕ)) (i : ℕ) (text whole : List ℕ) → length rows ≤ i → text ++ rows_csv (drop i rows) ≡ whole → text ≡ whole
 last_row rows i text whole end so_far = sym (append-nil text) ∙ ap (λ (left : List (Bor Row × ℕ)). text ++ rows_csv left) (sym (drop_all i rows end)) ∙ so_far
+
+-- where a row is one, and those after it
+pub row_checked : (rows : List (Bor Row × ℕ)) (i : ℕ) (pair : Bor Row × ℕ) → i < length rows → pair ≡ get_or rows i pair → IsRow pair.0.now → AllByRecursion IsRow (map (λ pair. pair.0.now) (drop (i + 1) rows))
+    → AllByRecursion IsRow (map (λ pair. pair.0.now) (drop i rows))
+row_checked rows i pair less is own later =
+    let next : drop i rows ≡ pair ∷ drop (i + 1) rows = drop_more rows i pair less ∙ ap (λ (y : Bor Row × ℕ). y ∷ drop (i + 1) rows) (sym is) in
+    subst (λ (left : List (Bor Row × ℕ)). AllByRecursion IsRow (map (λ pair. pair.0.now) left)) (sym next) (own, later)
+
+pub rows_checked : (rows : List (Bor Row × ℕ)) (i : ℕ) → length rows ≤ i → AllByRecursion IsRow (map (λ pair. pair.0.now) (drop i rows))
+rows_checked rows i end = subst (λ (left : List (Bor Row × ℕ)). AllByRecursion IsRow (map (λ pair. pair.0.now) left)) (sym (drop_all i rows end)) tt

@@ -6,8 +6,8 @@ use Rattle.rv_import.specs.Records.{Record}
 use Rattle.rv_import.specs.Writing.{HasWritten}
 use Rattle.rv_import.proofs.view_writing.add_row.Goals as goal
 
-pub returns : goal.returns
-returns c =
+pub returns-clause-written : goal.returns-clause-written
+returns-clause-written c =
     let key = c.as_bytes.ensures.value ∙ c.in_ok-key.ensures ∙ ap₂ (λ k i. key_text (record { kind = k; id = i })) c.kind.ensures c.id.ensures in
     let value = c.deref.ensures.value ∙ c.in_ok-value.ensures in
     subst (λ (fields : Record). OnOk c.add_record.result ((text : List ℕ) → HasWritten {A = Vec ℕ Global} (λ v. v.items) c.args.out.now text → HasWritten {A = Vec ℕ Global} (λ v. v.items) c.add_record.new.out (text ++ row_text default_writer fields)))
