@@ -7,3 +7,4 @@ pub mod Writing
 pub mod Imports
 pub mod Importing
 pub mod Steps
+pub mod ActsOnce

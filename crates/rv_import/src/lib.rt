@@ -15,6 +15,7 @@ mod import_calls;
 mod import_end;
 mod import_records;
 mod importing;
+pub mod laws;
 mod records;
 mod row_reading;
 mod taking;

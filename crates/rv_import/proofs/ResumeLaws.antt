@@ -1,0 +1,102 @@
+-- The acts of an import's client stay the first of what is asked for.
+use Rattle.std.proofs.Common.{◌≡◌, ℕ, ◌+◌, List, [], ◌∷◌, ◌++◌, length, map, Option, Some, None, refl, sym, ap, ◌∙◌, subst, arith, append_assoc}
+use Rattle.std.proofs.lemmas.List.{length-append, map-append}
+use Rattle.rv_rows.specs.declared.call.Call.{Call}
+use Rattle.rv_turns.specs.Asks.{Sender, Ask}
+use Rattle.rv_turns.specs.Outcomes.{trouble_of}
+use Rattle.rv_turns.specs.declared.mutation.Mutation.{Mutation}
+use Rattle.rv_turns.specs.declared.outcome.Outcome.{Outcome}
+use Rattle.rv_turns.specs.declared.outcome.Outcome.TheVariants as outcome
+use Rattle.rv_turns.specs.declared.refusal.Trouble.{Trouble}
+use Rattle.rv_turns.specs.declared.refusal.Trouble.TheVariants.{Keeper, Changed}
+use Rattle.rv_book.specs.declared.entry.Entry.{Entry}
+use Rattle.rv_book.specs.declared.entry.Entry.TheVariants.{Act}
+use Rattle.rv_book.specs.Book.{Book, last, with_entry}
+use Rattle.rv_history.specs.Machine.{ReplyText, Step}
+use Rattle.rv_history.specs.Served.{Served, TurnOf, TakesTurn, Doubt, with_doubt}
+use Rattle.rv_import.specs.Imports.{asked_of, client_id}
+use Rattle.rv_import.specs.Importing.{importer, TakesInOrder, Imported, Imports}
+use Rattle.rv_import.specs.declared.import_end.ImportEnd.{ImportEnd}
+use Rattle.rv_import.specs.declared.import_end.ImportEnd.TheVariants.{Done, TooLarge, BadRecord, Refused, Memory}
+use Rattle.rv_import.specs.ActsOnce.{calls_of, calls_asked, HasFirst}
+use Rattle.rv_import.proofs.ActCalls.{Numbered, numbered, numbered_front, calls_count, calls_more, Fronts, fronts_same, fronts_settled}
+
+tail_same : (x y : Call) (xs ys : List Call) → x ∷ xs ≡ y ∷ ys → xs ≡ ys
+tail_same x y xs ys same = cc
+
+-- what comes next, after as many
+next_on : (calls left before after : List Call) (call : Call) → calls ++ left ≡ before ++ call ∷ after → length calls ≡ length before → calls ++ left ≡ (calls ++ call ∷ []) ++ after
+next_on [] left [] after call same count = same
+next_on [] left (y ∷ before) after call same count = absurd (omega (arith, count))
+next_on (x ∷ calls) left [] after call same count = absurd (omega (arith, count))
+next_on (x ∷ calls) left (y ∷ before) after call same count =
+    ap (λ (l : List Call). x ∷ l) (next_on calls left before after call (tail_same x y (calls ++ left) (before ++ call ∷ after) same) (omega (arith, count)))
+
+module _ (write : ReplyText) (from : Sender) (client : List ℕ) (all : List Call) where
+  -- the mutation of the call that comes after these
+  abbrev IsAt : List Call → Mutation → List Call → Type 0
+  IsAt before m after = (m.client ≡ client) × (m.id ≡ length before + 1) × (all ≡ before ++ m.call ∷ after)
+
+  step_fronts : (limit : ℕ) (m : Mutation) (before after : List Call) (book new : Book) (o : Outcome) → IsAt before m after → Step write limit book (Ask.mutation from m) o new → Fronts client all book → Fronts client all new
+  step_fronts limit m before after book new (outcome.Acted place) (who, id, at) (takes, next, below, here, is) (left, has) =
+      let lasts : last m.client book ≡ last client book = ap (λ (c : List ℕ). last c book) who in
+      let count : length (calls_of client book.entries) ≡ length before = omega (arith, calls_count client book.entries, lasts, next, id) in
+      let e : Entry = Act from.user from.group m.client m.id m.call in
+      let more : all ≡ (calls_of client book.entries ++ m.call ∷ []) ++ after = has ∙ next_on (calls_of client book.entries) left before after m.call (sym has ∙ at) count in
+      fronts_same client all (with_entry book e) new is (after, more ∙ ap (λ (x : List Call). x ++ after) (sym (calls_more client from.user from.group m.client m.id m.call book who)))
+  step_fronts limit m before after book new (outcome.Skipped number) at (takes, le, is, same) fronts = fronts_same client all book new same fronts
+  step_fronts limit m before after book new (outcome.Refused refusal) at (why, same) fronts = fronts_same client all book new same fronts
+  step_fronts limit m before after book new (outcome.Pulled reply) at never fronts = absurd never
+  step_fronts limit m before after book new (outcome.Retired place) at never fronts = absurd never
+
+  -- with what is in doubt
+  abbrev FrontsAt : Served → Type 0
+  FrontsAt served = Fronts client all (with_doubt served.book served.doubt)
+
+  turn_fronts : (m : Mutation) (before after : List Call) (old new : Served) (settled : Book) (o : Outcome) (left : Doubt) (trouble : Option Trouble) → IsAt before m after → TurnOf write old settled (Ask.mutation from m) o left trouble new
+      → FrontsAt old → Fronts client all settled → FrontsAt new
+  turn_fronts m before after old new settled o None None at (step, none, still) whole fronts =
+      subst (λ (d : Doubt). Fronts client all (with_doubt new.book d)) (sym none) (step_fronts old.limit m before after settled new.book o at step fronts)
+  turn_fronts m before after old new settled o None (Some trouble) at (same, stays) whole fronts =
+      let (book, doubt) = stays.stays in
+      fronts_same client all (with_doubt old.book old.doubt) (with_doubt new.book new.doubt) (λ i. with_doubt (book i) (doubt i)) whole
+  turn_fronts m before after old new settled o (Some entry) (Some Keeper) at left whole fronts =
+      let more : Fronts client all (with_entry settled entry) = step_fronts old.limit m before after settled (with_entry settled entry) left.outcome at left.step fronts in
+      fronts_same client all (with_entry settled entry) (with_doubt new.book new.doubt) (λ i. with_doubt (left.book i) (left.doubt i)) more
+  turn_fronts m before after old new settled o (Some entry) (Some (Changed kept found)) at never whole fronts = absurd never
+  turn_fronts m before after old new settled o (Some entry) None at never whole fronts = absurd never
+
+  take_fronts : (m : Mutation) (before after : List Call) (old new : Served) (o : Outcome) → IsAt before m after → TakesTurn write old (Ask.mutation from m) o new → FrontsAt old → FrontsAt new
+  take_fronts m before after old new o at taken fronts =
+      turn_fronts m before after old new taken.settled o taken.left (trouble_of o) at taken.turn fronts (fronts_settled client all old.book old.doubt taken.settled taken.settles fronts)
+
+  turns_front : (ms : List Mutation) (before after : List Call) (n : ℕ) (first now : Served) (os : List Outcome) → n ≡ length before + 1 → Numbered client n ms → all ≡ before ++ (map (λ m. m.call) ms ++ after)
+      → TakesInOrder (TakesTurn write) from ms first os now → FrontsAt first → FrontsAt now
+  turns_front [] before after n first now [] at own is same fronts = subst (λ (s : Served). FrontsAt s) (sym same) fronts
+  turns_front [] before after n first now (o ∷ os) at own is never fronts = absurd never
+  turns_front (m ∷ ms) before after n first now [] at own is never fronts = absurd never
+  turns_front (m ∷ ms) before after n first now (o ∷ os) at (who, id, others) is (mid, taken, rest) fronts =
+      let later : List Call = map (λ m. m.call) ms ++ after in
+      let more : n + 1 ≡ length (before ++ m.call ∷ []) + 1 = omega (arith, at, length-append before (m.call ∷ [])) in
+      let next : FrontsAt mid = take_fronts m before later first mid o (who, id ∙ at, is) taken fronts in
+      turns_front ms (before ++ m.call ∷ []) after (n + 1) mid now os more others (is ∙ sym (append_assoc before (m.call ∷ []) later)) rest next
+
+module _ (write : ReplyText) where
+  pub taken_front : (user name bytes : List ℕ) (taken left : List Mutation) (first now : Served) (os : List Outcome) → (asked_of user name bytes).mutations ≡ taken ++ left → TakesInOrder (TakesTurn write) (importer user) taken first os now
+      → HasFirst user name bytes (with_doubt first.book first.doubt) → HasFirst user name bytes (with_doubt now.book now.doubt)
+  taken_front user name bytes taken left first now os is turns fronts =
+      let client : List ℕ = client_id user name in
+      let own : Numbered client 1 taken = numbered_front client 1 taken left (subst (λ (l : List Mutation). Numbered client 1 l) is (numbered user name bytes)) in
+      let calls : calls_asked user name bytes ≡ map (λ m. m.call) taken ++ map (λ m. m.call) left = ap (λ (l : List Mutation). map (λ m. m.call) l) is ∙ map-append (λ m. m.call) taken left in
+      turns_front write (importer user) client (calls_asked user name bytes) taken [] (map (λ m. m.call) left) 1 first now os refl own calls turns fronts
+
+  imported_fronts : (user name bytes : List ℕ) (first now : Served) (end : ImportEnd) → HasFirst user name bytes (with_doubt first.book first.doubt)
+      → Imported (TakesTurn write) (importer user) (asked_of user name bytes) first end now → HasFirst user name bytes (with_doubt now.book now.doubt)
+  imported_fronts user name bytes first now end fronts imported = taken_front user name bytes imported.taken imported.left first now imported.outcomes imported.all imported.turns fronts
+
+  pub goes_on : (user name bytes : List ℕ) (first now : Served) (end : ImportEnd) → HasFirst user name bytes (with_doubt first.book first.doubt) → Imports (TakesTurn write) user name bytes first end now → HasFirst user name bytes (with_doubt now.book now.doubt)
+  goes_on user name bytes first now TooLarge fronts (above, same) = subst (λ (s : Served). HasFirst user name bytes (with_doubt s.book s.doubt)) (sym same) fronts
+  goes_on user name bytes first now (Done counts) fronts (within, imported) = imported_fronts user name bytes first now (Done counts) fronts imported
+  goes_on user name bytes first now (BadRecord n) fronts (within, imported) = imported_fronts user name bytes first now (BadRecord n) fronts imported
+  goes_on user name bytes first now (Refused refusal) fronts (within, imported) = imported_fronts user name bytes first now (Refused refusal) fronts imported
+  goes_on user name bytes first now Memory fronts (within, imported) = imported_fronts user name bytes first now Memory fronts imported
