@@ -1,8 +1,8 @@
 -- The rows that a user sees, as they are read of a table.
-use Rattle.std.proofs.Common.{◌≡◌, ℕ, ◌+◌, ◌<◌, ◌≤◌, Bool, true, false, cond, List, [], ◌∷◌, map, drop, get_or, length, Some, Result, Ok, Err, IfOk, OnOk, refl, sym, ap, ap₂, ◌∙◌, subst}
+use Rattle.std.proofs.Common.{◌≡◌, ℕ, Bool, true, false, cond, List, [], ◌∷◌, map, Some, Result, Ok, Err, IfOk, OnOk, refl, sym, ap, ap₂, ◌∙◌, subst}
 use Rattle.std.specs.Borrow.{Bor}
 use Rattle.std.specs.List.{AllByRecursion, filter}
-use Rattle.std.proofs.lemmas.List.{drop_all, drop_more}
+use Rattle.rv_base.specs.Sorted.{InOrder}
 use Rattle.rv_base.specs.Positions.{Above, differs_back, equals, in_order-filter, in_order-sorted}
 use Rattle.rv_base.specs.Arranged.{sorted-in_order}
 use Rattle.rv_rows.specs.declared.key.Key.{Key}
@@ -13,7 +13,7 @@ use Rattle.rv_rows.specs.HeldLaws.{in_order-rows}
 use Rattle.rv_rows.specs.Sharing.{list_of, seen, sees}
 use Rattle.rv_sharing.specs.Gathered.{keys_at, rows_at, Stand}
 use Rattle.rv_sharing.specs.Visible.{visible}
-use Rattle.rv_import.specs.Views.{IsRow, IsView, view_text}
+use Rattle.rv_import.specs.Views.{IsView, view_text}
 use Rattle.rv_import.specs.Exports.{ReadsBack}
 use Rattle.rv_import.proofs.ViewLaws.{gives_again}
 
@@ -72,25 +72,12 @@ rows_seen_are user stored rows order keys stand =
     rows_at-rows rows ∙ ap rows_in same ∙ rows_filter p stored
     ∙ ap (filter p) (sym (sorted-in_order row_text (rows_in stored) (in_order-rows stored order)))
 
--- and it is a view, where each of the rows is one
-pub seen_is_view : (user : List ℕ) (rows read : List Row) → read ≡ seen user rows → AllByRecursion IsRow read → IsView (seen user rows)
-seen_is_view user rows read is each = (
-  subst (λ (xs : List Row). AllByRecursion IsRow xs) is each,
-  in_order-filter row_text (λ row. sees user (list_of row) rows) (in_key_order rows) (in_order-sorted row_text rows),
-)
-
--- one more of rows that are walked, and the end of them
-pub one_more_row : (rows : List (Bor Row × ℕ)) (i : ℕ) (item : Bor Row × ℕ) → i < length rows → item ≡ get_or rows i item → IsRow item.0.now → AllByRecursion IsRow (map (λ pair. pair.0.now) (drop (i + 1) rows)) → AllByRecursion IsRow (map (λ pair. pair.0.now) (drop i rows))
-one_more_row rows i item lt is row rest =
-    subst (λ (left : List (Bor Row × ℕ)). AllByRecursion IsRow (map (λ pair. pair.0.now) left)) (sym (drop_more rows i item lt ∙ ap (λ (x : Bor Row × ℕ). x ∷ drop (i + 1) rows) (sym is))) (row, rest)
-
-pub all_rows : (rows : List (Bor Row × ℕ)) (i : ℕ) → length rows ≤ i → (AllByRecursion IsRow (map (λ pair. pair.0.now) (drop i rows)) → AllByRecursion IsRow (map (λ pair. pair.0.now) rows)) → AllByRecursion IsRow (map (λ pair. pair.0.now) rows)
-all_rows rows i le all = all (subst (λ (left : List (Bor Row × ℕ)). AllByRecursion IsRow (map (λ pair. pair.0.now) left)) (sym (drop_all i rows le)) tt)
-
--- what holds anyway holds at an Ok
-pub on_any : {T E : Type 0} (A : Type 0) (r : Result T E) → A → OnOk r A
-on_any A (Ok x) holds = holds
-on_any A (Err e) holds = tt
+-- which is in the order of their keys, and so a view
+pub seen_is_view : {T E : Type 0} (user : List ℕ) (rows read : List Row) (made : Result T E) → read ≡ seen user rows → OnOk made (InOrder row_text read → IsView read) → OnOk made (IsView (seen user rows))
+seen_is_view user rows read (Ok x) is view =
+    let P : List Row → Type 0 = λ xs. InOrder row_text xs → IsView xs in
+    subst P is view (in_order-filter row_text (λ row. sees user (list_of row) rows) (in_key_order rows) (in_order-sorted row_text rows))
+seen_is_view user rows read (Err e) is view = tt
 
 -- what reads the text of a view gives its rows
 pub reads_back : {E : Type 0} (rows : List Row) (made : Result (List ℕ) E) → IfOk made (λ text. text ≡ view_text rows) → OnOk made (IsView rows) → IfOk made (ReadsBack rows)

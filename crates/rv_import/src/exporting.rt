@@ -1,28 +1,17 @@
 // What a user sees, as CSV.
-ghost use Rattle.std.specs.Prelude.{◌≡◌, ◌<◌, List, map, IfOk, OnOk};
-ghost use Rattle.std.specs.List.{AllByRecursion};
+ghost use Rattle.std.specs.Prelude.{◌≡◌, ◌<◌, IfOk, OnOk};
 ghost use Rattle.rv_rows.specs.Held.{rows_in};
 ghost use Rattle.rv_rows.specs.Sharing.{seen};
-ghost use Rattle.rv_import.specs.Views.{view_text, IsRow, IsView};
+ghost use Rattle.rv_import.specs.Views.{view_text, IsView};
 ghost use Rattle.rv_import.specs.Exports.{ReadsBack};
 
-use crate::row_reading::is_row;
 use crate::view_writing::view_text;
 use rv_base::{Bytes, Memory, Steps, User};
-use rv_rows::{Row, Tables};
+use rv_rows::Tables;
 use rv_sharing::rows_seen;
 use std::alloc::Global;
 use std::marker::Brand;
 use std::sync::ledger::{Blank, Ledger};
-
-// Every one of the rows is one.
-fn are_rows(rows: &[(&Row, u32)])
-    ensures { AllByRecursion IsRow (map (λ pair. pair.0.now) rows.now) }
-{
-    for pair in rows {
-        is_row(pair.0);
-    }
-}
 
 // The text of what a user sees, with a count of the rows that are read.
 fn text_from<L: Ledger>(
@@ -40,7 +29,6 @@ fn text_from<L: Ledger>(
     let _rows = tables.iter();
     let mut steps = Steps::<L>::new(blank);
     let rows = rows_seen(alloc, tables, user, &mut steps)?;
-    are_rows(&rows);
     view_text(alloc, &rows)
 }
 
