@@ -18,14 +18,16 @@ enum Command {
     WhileOpen,
     Remember,
     Is,
+    Line,
 }
 
-static COMMANDS: [(&str, Command); 5] = [
+static COMMANDS: [(&str, Command); 6] = [
     ("rv", Command::Run),
     ("accounts", Command::Accounts),
     ("while-open", Command::WhileOpen),
     ("remember", Command::Remember),
     ("is", Command::Is),
+    ("line", Command::Line),
 ];
 
 // `remember FILE`: the file's bytes, which `is FILE` compares. Prints whether the file can be read.
@@ -55,6 +57,12 @@ fn compare(rt: &HostRuntime, case: &Case, path: &str) -> Result<String, Memory> 
         Err(_) => "no file\n",
     };
     joined(rt.alloc(), &[Text(text)])
+}
+
+// `line TEXT`: one more line of the input, of any text.
+fn add_line(alloc: Global, case: &mut Case, text: &str) -> Result<String, Memory> {
+    case.add_line(text)?;
+    Ok(String::new(alloc))
 }
 
 // `rv WORD ..`: runs these words over the lines since the last run, and prints what was written and the status.
@@ -120,6 +128,7 @@ fn played<R: Threads + Wait + Sync, P: Place>(
         Command::WhileOpen => run_beside(stage, case, machine, rest),
         Command::Remember => remember(stage.host, case, rest),
         Command::Is => compare(stage.host, case, rest),
+        Command::Line => add_line(stage.host.alloc(), case, rest),
     }
 }
 

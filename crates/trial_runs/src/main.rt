@@ -12,6 +12,7 @@ mod case;
 mod cells;
 mod connections;
 mod crew;
+mod databases;
 mod faults;
 mod files;
 mod machine;
@@ -21,6 +22,7 @@ mod requests;
 mod running;
 mod scripts;
 mod stores;
+mod views;
 mod workers;
 
 use case::Case;

@@ -2,7 +2,7 @@
 use crate::case::{After, Case};
 use crate::machine::Machine;
 use crate::running::Pieces;
-use crate::{faults, stores};
+use crate::{databases, faults, stores, views};
 use rv_base::Memory;
 use rv_keeper::{Fails, Place};
 use std::alloc::Global;
@@ -26,6 +26,8 @@ enum Play {
     Next,
     Held,
     Sqlite,
+    Databases,
+    View,
 }
 
 // What changes the case.
@@ -34,6 +36,7 @@ enum Change {
     Words,
     Word,
     Text,
+    Line,
     Byte,
     Blanks,
     Twice,
@@ -55,7 +58,7 @@ enum Command {
     Changes(Change),
 }
 
-static COMMANDS: [(&str, Command); 27] = [
+static COMMANDS: [(&str, Command); 30] = [
     ("run", Command::Plays(Play::Run)),
     ("once", Command::Plays(Play::Once)),
     ("stops", Command::Plays(Play::Stops)),
@@ -68,9 +71,12 @@ static COMMANDS: [(&str, Command); 27] = [
     ("next", Command::Plays(Play::Next)),
     ("held", Command::Plays(Play::Held)),
     ("sqlite", Command::Plays(Play::Sqlite)),
+    ("databases", Command::Plays(Play::Databases)),
+    ("view", Command::Plays(Play::View)),
     ("words", Command::Changes(Change::Words)),
     ("word", Command::Changes(Change::Word)),
     ("text", Command::Changes(Change::Text)),
+    ("line", Command::Changes(Change::Line)),
     ("byte", Command::Changes(Change::Byte)),
     ("blanks", Command::Changes(Change::Blanks)),
     ("twice", Command::Changes(Change::Twice)),
@@ -138,11 +144,13 @@ fn played<R: Threads + Wait + Sync, P: Place>(
         Play::Next => stores::next(stage, case),
         Play::Held => stores::held(stage.host.alloc(), case, rest),
         Play::Sqlite => stores::compare(stage, case, &mut machine.place),
+        Play::Databases => databases::compare(stage, case),
+        Play::View => views::read(stage.host.alloc(), &case.input),
     }
 }
 
 // Changes the case. `words WORD ..` takes other words, `word TEXT` adds one more; `text TEXT` adds a text to the input that no LF
-// ends, `byte N` a byte, `blanks N` so many blanks; `twice` sends each push twice. `cell SHELF KEY BODY` writes a cell of the store,
+// ends, `line TEXT` one that LF ends, `byte N` a byte, `blanks N` so many blanks; `twice` sends each push twice. `cell SHELF KEY BODY` writes a cell of the store,
 // over one at its place, `remove SHELF KEY` takes one away, and `generation-is N` sets its generation. `open N` fails the Nth call for a keeper; `load N`,
 // `generation N`, `before N` and `after N` the keeper's Nth load, its Nth question for the generation, and its Nth commit, before
 // its changes and after them; `memory N` has memory refused to its Nth commit.
@@ -152,6 +160,7 @@ fn make_change(alloc: Global, case: &mut Case, change: Change, rest: &str) -> Re
         Change::Words => case.say(alloc, rest),
         Change::Word => case.add_word(alloc, rest),
         Change::Text => case.add_bytes(rest.as_bytes()),
+        Change::Line => case.add_line(rest),
         Change::Byte => case.add_bytes(&[number.min(255) as u8]),
         Change::Blanks => case.add_blanks(number),
         Change::Twice => case.push_twice(alloc),

@@ -150,15 +150,17 @@ pub fn held(alloc: Global, case: &mut Case, name: &str) -> Result<String, Memory
     text
 }
 
-// How a run ended, and what the store then holds.
+/// How a run ended, and what the store then holds.
 #[derive(Drop)]
-struct Ended {
-    finished: Finished,
-    held: String,
+pub struct Ended {
+    /// How it ended.
+    pub finished: Finished,
+    /// What the store holds.
+    pub held: String,
 }
 
-// Runs the case over the store in memory with this input.
-fn in_memory<R: Threads + Wait + Sync>(
+/// Runs the case over the store in memory with this input.
+pub fn in_memory<R: Threads + Wait + Sync>(
     stage: &Stage<'_, R>,
     case: &Case,
     input: &[u8],
@@ -171,8 +173,8 @@ fn in_memory<R: Threads + Wait + Sync>(
     })
 }
 
-// What a store of the machine holds.
-fn filed_text<P: Place>(alloc: Global, place: &mut P, name: &str) -> Result<String, Memory> {
+/// What a store holds that is there.
+pub fn filed_text<P: Place>(alloc: Global, place: &mut P, name: &str) -> Result<String, Memory> {
     let Ok(mut keeper) = place.open_existing(name) else {
         return joined(alloc, &[Text("no store\n")]);
     };
@@ -198,8 +200,8 @@ fn in_file<R: Threads + Wait + Sync, P: Place>(
     Ok(Ended { finished, held })
 }
 
-// Whether both runs wrote the same with the same status, and hold the same.
-fn compared(alloc: Global, one: &Ended, other: &Ended) -> Result<String, Memory> {
+/// Whether both runs wrote the same with the same status, and hold the same.
+pub fn compared(alloc: Global, one: &Ended, other: &Ended) -> Result<String, Memory> {
     let answers = if one.finished.is_as(&other.finished) {
         "the same answers, "
     } else {
