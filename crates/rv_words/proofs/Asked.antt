@@ -4,7 +4,7 @@ use Rattle.std.specs.Prelude.{option_and_then, option_map}
 use Rattle.std.specs.Str.{bytes_eq}
 use Rattle.std.specs.Cmp.Lexicographic.{same_text}
 use Rattle.rv_words.specs.Words.{command_in, is_id, retire_group_in}
-use Rattle.rv_words.specs.Plain.{asked_with, is_flag, make_with, retire_with, values_in}
+use Rattle.rv_words.specs.Plain.{asked_with, is_flag, export_with, import_with, make_with, retire_with, values_in}
 use Rattle.rv_words.specs.Laws.{AskForNothing, EachGroupIsAsked, EachStoreIsAsked, OthersAskForNothing, RetireIsAsked, StoresAreAsked, begins_with_hyphen}
 use Rattle.rv_words.specs.declared.command.Command.{Command}
 use Rattle.rv_words.specs.declared.command.Command.TheVariants.{Retire}
@@ -70,9 +70,14 @@ short_lines = record {
   check_alone = λ name. line_is_plain (name ∷ codes "check" ∷ []);
   retire_alone = λ name. line_is_plain (name ∷ codes "retire" ∷ []);
   make_alone = λ name. line_is_plain (name ∷ codes "make" ∷ []);
+  import_alone = λ name. line_is_plain (name ∷ codes "import" ∷ []);
+  export_alone = λ name. line_is_plain (name ∷ codes "export" ∷ []);
   serve_alone = λ name. line_is_plain (name ∷ codes "serve" ∷ []);
   no_requests = λ name seed. line_is_plain (name ∷ codes "make" ∷ seed ∷ []) ∙ alone make_with refl (λ value. refl) seed;
   no_group = λ name store. line_is_plain (name ∷ codes "retire" ∷ store ∷ []) ∙ alone retire_with refl (λ value. refl) store;
+  no_user = λ name store. line_is_plain (name ∷ codes "import" ∷ store ∷ []) ∙ alone import_with refl (λ value. refl) store;
+  no_import = λ name store user. line_is_plain (name ∷ codes "import" ∷ store ∷ user ∷ []) ∙ two import_with refl (λ value. refl) (λ value other. refl) store user;
+  no_user_to_export = λ name store. line_is_plain (name ∷ codes "export" ∷ store ∷ []) ∙ alone export_with refl (λ value. refl) store;
 }
   where
     -- one value, where two are needed
@@ -85,6 +90,24 @@ short_lines = record {
         go false true = refl
         go false false = one value
 
+    through : (asks : List (List ℕ) → Option Command) (value : List ℕ) (o : Option (List (List ℕ)))
+        → option_and_then (λ values. asks (value ∷ values)) o ≡ option_and_then asks (option_map (λ values. value ∷ values) o)
+    through asks value None = refl
+    through asks value (Some values) = refl
+
+    -- two values, where three are needed
+    two : (asks : List (List ℕ) → Option Command) → asks [] ≡ None → ((value : List ℕ) → asks (value ∷ []) ≡ None)
+        → ((value other : List ℕ) → asks (value ∷ other ∷ []) ≡ None) → (value other : List ℕ)
+        → option_and_then asks (values_in (value ∷ other ∷ [])) ≡ None
+    two asks none one both value other = go (bytes_eq value (codes "--")) (is_flag value)
+      where
+        go : (ends flag : Bool)
+            → option_and_then asks (cond ends (Some (other ∷ [])) (cond flag None (option_map (λ values. value ∷ values) (values_in (other ∷ []))))) ≡ None
+        go true flag = one other
+        go false true = refl
+        go false false =
+            sym (through asks value (values_in (other ∷ []))) ∙ alone (λ values. asks (value ∷ values)) (one value) (λ next. both value next) other
+
 differs : (verb known : List ℕ) → verb ≢ known → bytes_eq verb known ≡ false
 differs verb known other = go (bytes_eq verb known) refl
   where
@@ -93,12 +116,14 @@ differs verb known other = go (bytes_eq verb known) refl
     go false is = refl
 
 pub others : OthersAskForNothing
-others name verb words feed retire lists activity check make serve = other_line name verb words (record {
+others name verb words feed retire lists activity check make import export serve = other_line name verb words (record {
   feed = differs verb (codes "feed") feed;
   retire = differs verb (codes "retire") retire;
   lists = differs verb (codes "lists") lists;
   activity = differs verb (codes "activity") activity;
   check = differs verb (codes "check") check;
   make = differs verb (codes "make") make;
+  import = differs verb (codes "import") import;
+  export = differs verb (codes "export") export;
   serve = differs verb (codes "serve") serve;
 })

@@ -1,23 +1,25 @@
 -- What holds of each command that words ask for.
-use Rattle.std.proofs.Common.{◌≡◌, ◌∙◌, ◌&&◌, ◌≤◌, arith, refl, subst, sym, List, [], ◌∷◌, Option, Some, None, option_map, Bool, cond, true, false, codes, decimal, ℕ}
-use Rattle.std.specs.Prelude.{nat_le, option_and_then}
+use Rattle.std.proofs.Common.{◌≡◌, ◌∙◌, ◌==◌, ◌&&◌, ◌≤◌, arith, refl, subst, sym, List, [], ◌∷◌, Option, Some, None, option_map, Bool, cond, true, false, codes, decimal, ℕ}
+use Rattle.std.specs.Prelude.{length, nat_le, not, option_and_then}
 use Rattle.std.specs.Int.{IsInRange}
+use Rattle.std.specs.List.{list_any}
 use Rattle.std.specs.Str.{bytes_eq}
 use Rattle.std.specs.Str.Parse.{digits_value}
 use Rattle.std.proofs.lemmas.Bool.Decides.{nat_tests}
 use Rattle.rv_words.specs.Numbers.{number_in}
-use Rattle.rv_words.specs.Words.{command_in, is_id, make_of, options_with, retire_group_in}
-use Rattle.rv_words.specs.Plain.{Part, asked_with, make_with, on_store_with, parts_from, plainly_in, retire_with, serve_with, the_value, values_in}
-use Rattle.rv_words.specs.Laws.{GroupsAreIds, SeedsAreInBounds}
+use Rattle.rv_words.specs.Words.{as_import_name, as_user, command_in, export_of, import_of, is_id, make_of, options_with, retire_group_in}
+use Rattle.rv_words.specs.Plain.{Part, asked_with, export_with, import_with, make_with, on_store_with, parts_from, plainly_in, retire_with, serve_with, the_value, values_in}
+use Rattle.rv_words.specs.Laws.{GroupsAreIds, IsUser, NamesImport, SeedsAreInBounds, UsersAreUsers}
 use Rattle.rv_words.specs.declared.command.Command.{Command}
-use Rattle.rv_words.specs.declared.command.Command.TheVariants.{Activity, Check, Feed, Lists, Make, Retire, Serve}
+use Rattle.rv_words.specs.declared.command.Command.TheVariants.{Activity, Check, Export, Feed, Import, Lists, Make, Retire, Serve}
 use Rattle.rv_words.specs.declared.serve_options.ServeOptions.{ServeOptions}
 use Rattle.rv_words.proofs.Lines.{line_is_plain}
 
 abbrev AreBounded : ℕ → ℕ → Type 0
 AreBounded seed requests = IsInRange 0 2147483647 seed × IsInRange 0 1000000 requests
 
--- it holds of the commands of stores and of `serve`, of `retire` with an `Id`, and of `make` with numbers in bounds
+-- it holds of the commands of stores and of `serve`, of `retire` with an `Id`, of `make` with numbers in bounds, and of
+-- `import` and `export` with a user and a name
 record HoldsOf (P : Command → Type 0) : Type 0 where
   pub feed : (store : List ℕ) → P (Feed store)
   pub lists : (store : List ℕ) → P (Lists store)
@@ -25,6 +27,8 @@ record HoldsOf (P : Command → Type 0) : Type 0 where
   pub check : (store : List ℕ) → P (Check store)
   pub retire : (store group : List ℕ) → is_id group ≡ true → P (Retire store group)
   pub make : (seed requests : ℕ) → AreBounded seed requests → P (Make seed requests)
+  pub import : (store user name : List ℕ) → IsUser user → NamesImport name → P (Import store user name)
+  pub export : (store user : List ℕ) → IsUser user → P (Export store user)
   pub serve : (store : List ℕ) (options : ServeOptions) → P (Serve store options)
 
 both_true : (a b c : Bool) → (a && b && c) ≡ true → (b ≡ true) × (c ≡ true)
@@ -33,9 +37,9 @@ both_true true true false is = absurd (cc)
 both_true true false c is = absurd (cc)
 both_true false b c is = absurd (cc)
 
-within : (most number : ℕ) → nat_le 0 number ≡ true → nat_le number most ≡ true → IsInRange 0 most number
-within most number low high =
-    let above : 0 ≤ number = grind (arith, nat_tests) in
+within : (least most number : ℕ) → nat_le least number ≡ true → nat_le number most ≡ true → IsInRange least most number
+within least most number low high =
+    let above : least ≤ number = grind (arith, nat_tests) in
     let below : number ≤ most = grind (arith, nat_tests) in
     (above, below)
 
@@ -48,7 +52,40 @@ read_within most number text is = go (bytes_eq (decimal (digits_value 10 text)) 
     go true tests is =
         let both = both_true _ _ _ tests in
         let same : digits_value 10 text ≡ number = cc in
-        subst (λ (n : ℕ). IsInRange 0 most n) same (within most (digits_value 10 text) both.0 both.1)
+        subst (λ (n : ℕ). IsInRange 0 most n) same (within 0 most (digits_value 10 text) both.0 both.1)
+    go false tests is = absurd (cc)
+
+two_true : (a b : Bool) → (a && b) ≡ true → (a ≡ true) × (b ≡ true)
+two_true true true is = (refl, refl)
+two_true true false is = absurd (cc)
+two_true false b is = absurd (cc)
+
+not_true : (a : Bool) → not a ≡ true → a ≡ false
+not_true true is = absurd (cc)
+not_true false is = refl
+
+-- a user that is read is one
+user_read : (text user : List ℕ) → as_user text ≡ Some user → IsUser user
+user_read text user is = go (nat_le 1 (length text) && nat_le (length text) 64) refl is
+  where
+    go : (b : Bool) → (nat_le 1 (length text) && nat_le (length text) 64) ≡ b → cond b (Some text) None ≡ Some user → IsUser user
+    go true tests is =
+        let same : text ≡ user = cc in
+        let both = two_true _ _ tests in
+        subst IsUser same (within 1 64 (length text) both.0 both.1)
+    go false tests is = absurd (cc)
+
+-- the name of an import that is read is one
+import_read : (text name : List ℕ) → as_import_name text ≡ Some name → NamesImport name
+import_read text name is = go (not (list_any (λ byte. byte == 47) text) && nat_le 1 (length text) && nat_le (length text) 48) refl is
+  where
+    go : (b : Bool) → (not (list_any (λ byte. byte == 47) text) && nat_le 1 (length text) && nat_le (length text) 48) ≡ b
+        → cond b (Some text) None ≡ Some name → NamesImport name
+    go true tests is =
+        let same : text ≡ name = cc in
+        let both = both_true _ _ _ tests in
+        let first = (two_true _ _ (two_true _ _ tests).0).0 in
+        subst NamesImport same (within 1 48 (length text) both.0 both.1, not_true _ first)
     go false tests is = absurd (cc)
 
 module _ (P : Command → Type 0) (holds : HoldsOf P) where
@@ -102,12 +139,42 @@ module _ (P : Command → Type 0) (holds : HoldsOf P) where
   by_makes (seed ∷ requests ∷ []) command is = by_numbers seed requests command is
   by_makes (seed ∷ requests ∷ more ∷ values) command is = absurd (cc)
 
-  by_values : (verb : List ℕ) (retire make : Bool) (o : Option (List (List ℕ)))
-      → AllHold (option_and_then (λ values. cond retire (retire_with values) (cond make (make_with values) (on_store_with verb values))) o)
-  by_values verb retire make None command is = absurd (cc)
-  by_values verb true make (Some values) command is = by_retires values command is
-  by_values verb false true (Some values) command is = by_makes values command is
-  by_values verb false false (Some values) command is = by_stores verb values command is
+  by_import : (from user name : List ℕ) → AllHold (import_of from user name)
+  by_import from user name = go (as_user user) (as_import_name name) refl refl
+    where
+      go : (u n : Option (List ℕ)) → as_user user ≡ u → as_import_name name ≡ n → AllHold (option_and_then (λ x. option_map (λ y. Import from x y) n) u)
+      go None n is_user named command is = absurd (cc)
+      go (Some x) None is_user named command is = absurd (cc)
+      go (Some x) (Some y) is_user named command is = this_holds _ command (holds.import from x y (user_read user x is_user) (import_read name y named)) is
+
+  by_imports : (values : List (List ℕ)) → AllHold (import_with values)
+  by_imports [] command is = absurd (cc)
+  by_imports (from ∷ []) command is = absurd (cc)
+  by_imports (from ∷ user ∷ []) command is = absurd (cc)
+  by_imports (from ∷ user ∷ name ∷ []) command is = by_import from user name command is
+  by_imports (from ∷ user ∷ name ∷ more ∷ values) command is = absurd (cc)
+
+  by_export : (from user : List ℕ) → AllHold (export_of from user)
+  by_export from user = go (as_user user) refl
+    where
+      go : (u : Option (List ℕ)) → as_user user ≡ u → AllHold (option_map (λ x. Export from x) u)
+      go None is_user command is = absurd (cc)
+      go (Some x) is_user command is = this_holds _ command (holds.export from x (user_read user x is_user)) is
+
+  by_exports : (values : List (List ℕ)) → AllHold (export_with values)
+  by_exports [] command is = absurd (cc)
+  by_exports (from ∷ []) command is = absurd (cc)
+  by_exports (from ∷ user ∷ []) command is = by_export from user command is
+  by_exports (from ∷ user ∷ more ∷ values) command is = absurd (cc)
+
+  by_values : (verb : List ℕ) (retire make import export : Bool) (o : Option (List (List ℕ)))
+      → AllHold (option_and_then (λ values. cond retire (retire_with values) (cond make (make_with values) (cond import (import_with values) (cond export (export_with values) (on_store_with verb values))))) o)
+  by_values verb retire make import export None command is = absurd (cc)
+  by_values verb true make import export (Some values) command is = by_retires values command is
+  by_values verb false true import export (Some values) command is = by_makes values command is
+  by_values verb false false true export (Some values) command is = by_imports values command is
+  by_values verb false false false true (Some values) command is = by_exports values command is
+  by_values verb false false false false (Some values) command is = by_stores verb values command is
 
   by_serve : (store : Option (List ℕ)) (options : Option ServeOptions) → AllHold (option_and_then (λ s. option_map (λ o. Serve s o) options) store)
   by_serve None options command is = absurd (cc)
@@ -121,7 +188,8 @@ module _ (P : Command → Type 0) (holds : HoldsOf P) where
   by_verb : (verb : List ℕ) (words : List (List ℕ)) (serve : Bool)
       → AllHold (cond serve (option_and_then serve_with (parts_from None words)) (option_and_then (asked_with verb) (values_in words)))
   by_verb verb words true command is = by_parts (parts_from None words) command is
-  by_verb verb words false command is = by_values verb (bytes_eq verb (codes "retire")) (bytes_eq verb (codes "make")) (values_in words) command is
+  by_verb verb words false command is = by_values verb (bytes_eq verb (codes "retire")) (bytes_eq verb (codes "make"))
+      (bytes_eq verb (codes "import")) (bytes_eq verb (codes "export")) (values_in words) command is
 
   by_line : (words : List (List ℕ)) → AllHold (plainly_in words)
   by_line [] command is = absurd (cc)
@@ -132,7 +200,7 @@ module _ (P : Command → Type 0) (holds : HoldsOf P) where
   all_hold : (words : List (List ℕ)) → AllHold (command_in words)
   all_hold words command is = by_line words command (sym (line_is_plain words) ∙ is)
 
--- ---- what is asked to retire is an `Id`, and what `make` asks for is in bounds
+-- ---- what is asked to retire is an `Id`, what `make` asks for is in bounds, and users and names of imports are such
 
 abbrev HasId : Command → Type 0
 HasId (Feed store) = Unit {0}
@@ -141,11 +209,13 @@ HasId (Lists store) = Unit {0}
 HasId (Activity store) = Unit {0}
 HasId (Check store) = Unit {0}
 HasId (Make seed requests) = Unit {0}
+HasId (Import store user name) = Unit {0}
+HasId (Export store user) = Unit {0}
 HasId (Serve store options) = Unit {0}
 
 pub group_is_id : GroupsAreIds
 group_is_id words store group is = all_hold HasId
-    (record { feed = λ s. tt; lists = λ s. tt; activity = λ s. tt; check = λ s. tt; retire = λ s g id. id; make = λ s n bounded. tt; serve = λ s o. tt })
+    (record { feed = λ s. tt; lists = λ s. tt; activity = λ s. tt; check = λ s. tt; retire = λ s g id. id; make = λ s n bounded. tt; import = λ s u n is named. tt; export = λ s u is. tt; serve = λ s o. tt })
     words (Retire store group) is
 
 abbrev HasBounds : Command → Type 0
@@ -155,9 +225,32 @@ HasBounds (Lists store) = Unit {0}
 HasBounds (Activity store) = Unit {0}
 HasBounds (Check store) = Unit {0}
 HasBounds (Make seed requests) = AreBounded seed requests
+HasBounds (Import store user name) = Unit {0}
+HasBounds (Export store user) = Unit {0}
 HasBounds (Serve store options) = Unit {0}
 
 pub seeds_in_bounds : SeedsAreInBounds
 seeds_in_bounds words seed requests is = all_hold HasBounds
-    (record { feed = λ s. tt; lists = λ s. tt; activity = λ s. tt; check = λ s. tt; retire = λ s g id. tt; make = λ s n bounded. bounded; serve = λ s o. tt })
+    (record { feed = λ s. tt; lists = λ s. tt; activity = λ s. tt; check = λ s. tt; retire = λ s g id. tt; make = λ s n bounded. bounded; import = λ s u n is named. tt; export = λ s u is. tt; serve = λ s o. tt })
     words (Make seed requests) is
+
+abbrev HasUser : Command → Type 0
+HasUser (Feed store) = Unit {0}
+HasUser (Retire store group) = Unit {0}
+HasUser (Lists store) = Unit {0}
+HasUser (Activity store) = Unit {0}
+HasUser (Check store) = Unit {0}
+HasUser (Make seed requests) = Unit {0}
+HasUser (Import store user name) = IsUser user × NamesImport name
+HasUser (Export store user) = IsUser user
+HasUser (Serve store options) = Unit {0}
+
+all_have_users : (words : List (List ℕ)) (command : Command) → command_in words ≡ Some command → HasUser command
+all_have_users = all_hold HasUser
+    (record { feed = λ s. tt; lists = λ s. tt; activity = λ s. tt; check = λ s. tt; retire = λ s g id. tt; make = λ s n bounded. tt; import = λ s u n is named. (is, named); export = λ s u is. is; serve = λ s o. tt })
+
+pub users_are : UsersAreUsers
+users_are = record {
+  imports = λ words store user name. all_have_users words (Import store user name);
+  exports = λ words store user. all_have_users words (Export store user);
+}

@@ -6,6 +6,7 @@ pub mod Defaults
 pub mod Leaves
 pub mod Verbs
 pub mod Makes
+pub mod Imports
 pub mod Rules
 pub mod Serving
 pub mod Lines
@@ -13,5 +14,6 @@ pub mod Asked
 pub mod Commands
 pub mod ServeLaws
 pub mod Made
+pub mod Imported
 pub mod Pokes
 pub mod Bounds

@@ -14,11 +14,12 @@ use Rattle.clap.proofs.WalkLemmas.{walk_stopped}
 use Rattle.clap.proofs.FaultLemmas.{stopped_fault}
 use Rattle.clap.proofs.OnLiterals.{clap_on_literals}
 use Rattle.rv_words.specs.Table.{bare_app, commands, rv_app, with_commands}
-use Rattle.rv_words.specs.Words.{command_in, is_taken, command_named, make_in, on_store_in, retire_in, serve_in}
+use Rattle.rv_words.specs.Words.{command_in, is_taken, command_named, export_in, import_in, make_in, on_store_in, retire_in, serve_in}
 use Rattle.rv_words.specs.Plain.{asked_with, is_flag, on_store_with, parts_from, plainly_in, serve_with, values_in}
 use Rattle.rv_words.specs.declared.command.Command.{Command}
 use Rattle.rv_words.proofs.Leaves.{HasNoFlags, at, flag_fails, more_fails, not_empty, plain_turn, read_from}
 use Rattle.rv_words.proofs.Makes.{make_1, make_leaf}
+use Rattle.rv_words.proofs.Imports.{export_0, export_leaf, import_0, import_leaf}
 use Rattle.rv_words.proofs.Serving.{served}
 use Rattle.rv_words.proofs.Verbs.{retire_1, retire_leaf, serve_leaf, store_1, store_leaf}
 
@@ -91,6 +92,8 @@ pub record IsOtherVerb (verb : Text) : Type 0 where
   pub activity : bytes_eq verb (codes "activity") ≡ false
   pub check : bytes_eq verb (codes "check") ≡ false
   pub make : bytes_eq verb (codes "make") ≡ false
+  pub import : bytes_eq verb (codes "import") ≡ false
+  pub export : bytes_eq verb (codes "export") ≡ false
   pub serve : bytes_eq verb (codes "serve") ≡ false
 
 top_flags : HasNoFlags top
@@ -108,8 +111,10 @@ not_named verb is =
     let no_activity : bytes_eq (codes "activity") verb ≡ false = not_same verb (codes "activity") is.activity in
     let no_check : bytes_eq (codes "check") verb ≡ false = not_same verb (codes "check") is.check in
     let no_make : bytes_eq (codes "make") verb ≡ false = not_same verb (codes "make") is.make in
+    let no_import : bytes_eq (codes "import") verb ≡ false = not_same verb (codes "import") is.import in
+    let no_export : bytes_eq (codes "export") verb ≡ false = not_same verb (codes "export") is.export in
     let no_serve : bytes_eq (codes "serve") verb ≡ false = not_same verb (codes "serve") is.serve in
-    rw (no_feed, no_lists, no_activity, no_check, no_retire, no_make, no_serve) refl
+    rw (no_feed, no_lists, no_activity, no_check, no_retire, no_make, no_import, no_export, no_serve) refl
 
 turn_alone : (verb : Text) → subcommand_met names idle verb ≡ None → turn_fault top names begin verb ≡ turn_fault top [] (at [] None 1 false) verb
 turn_alone verb none = ap (λ o. or_else (other_fault top o verb begin.held)
@@ -133,9 +138,9 @@ other_line name verb words is = go (bytes_eq verb (codes "--")) refl (is_flag ve
         (ap is_taken (turn_alone verb (not_named verb is) ∙ plain_turn top [] None 1 verb (goes_on, is_it)))
 
 other_asks : (verb : Text) (values : List Text) → IsOtherVerb verb → asked_with verb values ≡ None
-other_asks verb [] is = rw (is.retire, is.make) refl
-other_asks verb (store ∷ []) is = rw (is.retire, is.make, is.feed, is.lists, is.activity, is.check) refl
-other_asks verb (store ∷ more ∷ values) is = rw (is.retire, is.make) refl
+other_asks verb [] is = rw (is.retire, is.make, is.import, is.export) refl
+other_asks verb (store ∷ []) is = rw (is.retire, is.make, is.import, is.export, is.feed, is.lists, is.activity, is.check) refl
+other_asks verb (store ∷ more ∷ values) is = rw (is.retire, is.make, is.import, is.export) refl
 
 other_values : (verb : Text) (o : Option (List Text)) → IsOtherVerb verb → option_and_then (asked_with verb) o ≡ None
 other_values verb None is = refl
@@ -165,9 +170,11 @@ verb_line name verb words =
     by_name P verb (codes "check") (store_line (codes "check") (refl, refl, refl, λ rows. refl) name words) (λ check.
     by_name P verb (codes "retire") (named_line name (codes "retire") words retire_leaf retire_in (refl, refl, refl, λ rows. refl) ∙ retire_1 words) (λ retire.
     by_name P verb (codes "make") (named_line name (codes "make") words make_leaf make_in (refl, refl, refl, λ rows. refl) ∙ make_1 words) (λ make.
+    by_name P verb (codes "import") (named_line name (codes "import") words import_leaf import_in (refl, refl, refl, λ rows. refl) ∙ import_0 words) (λ import.
+    by_name P verb (codes "export") (named_line name (codes "export") words export_leaf export_in (refl, refl, refl, λ rows. refl) ∙ export_0 words) (λ export.
     by_name P verb (codes "serve") (serve_line name words) (λ serve.
-    let is : IsOtherVerb verb = record { feed = feed; retire = retire; lists = lists; activity = activity; check = check; make = make; serve = serve } in
-    other_line name verb words is ∙ sym (ap (λ b. cond b (option_and_then serve_with (parts_from None words)) (option_and_then (asked_with verb) (values_in words))) serve ∙ other_values verb (values_in words) is))))))))
+    let is : IsOtherVerb verb = record { feed = feed; retire = retire; lists = lists; activity = activity; check = check; make = make; import = import; export = export; serve = serve } in
+    other_line name verb words is ∙ sym (ap (λ b. cond b (option_and_then serve_with (parts_from None words)) (option_and_then (asked_with verb) (values_in words))) serve ∙ other_values verb (values_in words) is))))))))))
 
 pub line_is_plain : (words : List Text) → command_in words ≡ plainly_in words
 unfolding command_in rv_app clap_on_literals

@@ -1,10 +1,11 @@
 -- What follows of what the words ask for.
 use Rattle.std.specs.Int.{IsInRange}
-use Rattle.std.specs.Prelude.{◌≡◌, ◌≢◌, ◌==◌, Bool, true, false, ℕ, List, [], ◌∷◌, Some, None, codes, decimal}
+use Rattle.std.specs.Prelude.{◌≡◌, ◌≢◌, ◌==◌, ◌++◌, Bool, true, false, ℕ, List, [], ◌∷◌, Some, None, codes, decimal, length}
+use Rattle.std.specs.List.{list_any}
 use Rattle.rv_words.specs.Words.{command_in, is_id}
 use Rattle.rv_words.specs.Plain.{plainly_in}
 use Rattle.rv_words.specs.declared.command.Command.{Command}
-use Rattle.rv_words.specs.declared.command.Command.TheVariants.{Activity, Check, Feed, Lists, Make, Retire}
+use Rattle.rv_words.specs.declared.command.Command.TheVariants.{Activity, Check, Export, Feed, Import, Lists, Make, Retire}
 
 -- a first `-` (45)
 abbrev pub begins_with_hyphen : List ℕ → Bool
@@ -60,6 +61,35 @@ pub record MakeIsAsked : Type 0 where
 abbrev pub SeedsAreInBounds : Type 0
 SeedsAreInBounds = (words : List (List ℕ)) (seed requests : ℕ) → command_in words ≡ Some (Make seed requests) → IsInRange 0 2147483647 seed × IsInRange 0 1000000 requests
 
+-- none of these words begins with `-`
+abbrev pub NoneBeginsWithHyphen : List (List ℕ) → Type 0
+NoneBeginsWithHyphen words = list_any begins_with_hyphen words ≡ false
+
+-- a command's name and its values ask for this where no value begins with `-`; where `--` stands, those after it may
+pub record IsAskedWith (verb : List ℕ) (values : List (List ℕ)) (command : Command) : Type 0 where
+  pub plain : (name : List ℕ) → NoneBeginsWithHyphen values → command_in (name ∷ verb ∷ values) ≡ Some command
+  pub after_hyphens : (name : List ℕ) (before after : List (List ℕ)) → before ++ after ≡ values → NoneBeginsWithHyphen before
+      → command_in (name ∷ verb ∷ (before ++ codes "--" ∷ after)) ≡ Some command
+
+abbrev pub IsUser : List ℕ → Type 0
+IsUser text = IsInRange 1 64 (length text)
+
+-- no byte is a `/` (47)
+abbrev pub NamesImport : List ℕ → Type 0
+NamesImport text = IsInRange 1 48 (length text) × (list_any (λ byte. byte == 47) text ≡ false)
+
+abbrev pub ImportIsAsked : Type 0
+ImportIsAsked = (store user import : List ℕ) → IsUser user → NamesImport import
+    → IsAskedWith (codes "import") (store ∷ user ∷ import ∷ []) (Import store user import)
+
+abbrev pub ExportIsAsked : Type 0
+ExportIsAsked = (store user : List ℕ) → IsUser user → IsAskedWith (codes "export") (store ∷ user ∷ []) (Export store user)
+
+-- no other users are, and imports go by no other names
+pub record UsersAreUsers : Type 0 where
+  pub imports : (words : List (List ℕ)) (store user import : List ℕ) → command_in words ≡ Some (Import store user import) → IsUser user × NamesImport import
+  pub exports : (words : List (List ℕ)) (store user : List ℕ) → command_in words ≡ Some (Export store user) → IsUser user
+
 -- lines that end too early
 pub record AskForNothing : Type 0 where
   pub no_words : command_in [] ≡ None
@@ -70,12 +100,18 @@ pub record AskForNothing : Type 0 where
   pub check_alone : (name : List ℕ) → command_in (name ∷ codes "check" ∷ []) ≡ None
   pub retire_alone : (name : List ℕ) → command_in (name ∷ codes "retire" ∷ []) ≡ None
   pub make_alone : (name : List ℕ) → command_in (name ∷ codes "make" ∷ []) ≡ None
+  pub import_alone : (name : List ℕ) → command_in (name ∷ codes "import" ∷ []) ≡ None
+  pub export_alone : (name : List ℕ) → command_in (name ∷ codes "export" ∷ []) ≡ None
   pub serve_alone : (name : List ℕ) → command_in (name ∷ codes "serve" ∷ []) ≡ None
   pub no_requests : (name seed : List ℕ) → command_in (name ∷ codes "make" ∷ seed ∷ []) ≡ None
   pub no_group : (name store : List ℕ) → command_in (name ∷ codes "retire" ∷ store ∷ []) ≡ None
+  pub no_user : (name store : List ℕ) → command_in (name ∷ codes "import" ∷ store ∷ []) ≡ None
+  pub no_import : (name store user : List ℕ) → command_in (name ∷ codes "import" ∷ store ∷ user ∷ []) ≡ None
+  pub no_user_to_export : (name store : List ℕ) → command_in (name ∷ codes "export" ∷ store ∷ []) ≡ None
 
 -- no command goes by any other name: not by `help`, `--help`, `-h`, `--version` or `--` either
 abbrev pub OthersAskForNothing : Type 0
 OthersAskForNothing = (name verb : List ℕ) (words : List (List ℕ))
-    → verb ≢ codes "feed" → verb ≢ codes "retire" → verb ≢ codes "lists" → verb ≢ codes "activity" → verb ≢ codes "check" → verb ≢ codes "make" → verb ≢ codes "serve"
+    → verb ≢ codes "feed" → verb ≢ codes "retire" → verb ≢ codes "lists" → verb ≢ codes "activity" → verb ≢ codes "check" → verb ≢ codes "make"
+    → verb ≢ codes "import" → verb ≢ codes "export" → verb ≢ codes "serve"
     → command_in (name ∷ verb ∷ words) ≡ None

@@ -3,7 +3,7 @@ use Rattle.std.specs.Prelude.{ℕ, ◌==◌, ◌&&◌, ◌++◌, List, [], ◌�
 use Rattle.std.specs.List.{after_first, before_first, list_any}
 use Rattle.std.specs.Option.{option_map_or}
 use Rattle.std.specs.Str.{bytes_eq, chars}
-use Rattle.rv_words.specs.Words.{make_of, on_store, retire_group_in, serve_by}
+use Rattle.rv_words.specs.Words.{export_of, import_of, make_of, on_store, retire_group_in, serve_by}
 use Rattle.rv_words.specs.declared.command.Command.{Command}
 
 -- a `-` (45) with a character after it
@@ -32,10 +32,20 @@ abbrev pub make_with : List (List ℕ) → Option Command
 make_with (seed ∷ requests ∷ []) = make_of seed requests
 make_with other = None
 
+abbrev pub import_with : List (List ℕ) → Option Command
+import_with (store ∷ user ∷ name ∷ []) = import_of store user name
+import_with other = None
+
+abbrev pub export_with : List (List ℕ) → Option Command
+export_with (store ∷ user ∷ []) = export_of store user
+export_with other = None
+
 abbrev pub asked_with : List ℕ → List (List ℕ) → Option Command
 asked_with verb values =
     if bytes_eq verb (codes "retire") then retire_with values
     else if bytes_eq verb (codes "make") then make_with values
+    else if bytes_eq verb (codes "import") then import_with values
+    else if bytes_eq verb (codes "export") then export_with values
     else on_store_with verb values
 
 -- ---- serve

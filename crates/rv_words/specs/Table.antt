@@ -27,6 +27,14 @@ retire_app = with_rule (store_app (codes "retire")) (required_value (codes "GROU
 abbrev pub make_app : App
 make_app = with_rule (with_rule (new_app (codes "make")) (required_value (codes "SEED"))) (required_value (codes "N"))
 
+-- import STORE USER NAME
+abbrev pub import_app : App
+import_app = with_rule (with_rule (store_app (codes "import")) (required_value (codes "USER"))) (required_value (codes "NAME"))
+
+-- export STORE USER
+abbrev pub export_app : App
+export_app = with_rule (store_app (codes "export")) (required_value (codes "USER"))
+
 -- the options of serve: --accounts FILE --port PORT --workers WORKERS --connections CONNECTIONS [--poke-port PORT] [--pokes POKES]
 abbrev pub serve_options : List Rule
 serve_options =
@@ -47,7 +55,7 @@ bare_app = on_top (λ shape. record shape {
 }) (new_app (codes "rv"))
 
 abbrev pub commands : List App
-commands = store_app (codes "feed") ∷ store_app (codes "lists") ∷ store_app (codes "activity") ∷ store_app (codes "check") ∷ retire_app ∷ make_app ∷ serve_app ∷ []
+commands = store_app (codes "feed") ∷ store_app (codes "lists") ∷ store_app (codes "activity") ∷ store_app (codes "check") ∷ retire_app ∷ make_app ∷ import_app ∷ export_app ∷ serve_app ∷ []
 
 abbrev pub with_commands : App → List App → App
 with_commands = fold (λ app command. with_subcommand app command.top)

@@ -1,5 +1,6 @@
 -- What the words of a command line ask for. The first is the program's name.
-use Rattle.std.specs.Prelude.{◌≡◌, ◌&&◌, List, [], ◌∷◌, Option, Some, None, Bool, true, false, codes, length, nat_le, if◌then◌else◌, option_and_then, option_map}
+use Rattle.std.specs.Prelude.{◌≡◌, ◌==◌, ◌&&◌, List, [], ◌∷◌, Option, Some, None, Bool, true, false, codes, length, nat_le, not, if◌then◌else◌, option_and_then, option_map}
+use Rattle.std.specs.List.{list_any}
 use Rattle.std.specs.Str.{bytes_eq}
 use Rattle.clap.specs.Words.{Kinds, Row, Text, first_of, fault_of, subcommand_of, subcommand_rows_of}
 use Rattle.clap.specs.declared.parser.ArgMatches.{ArgMatches}
@@ -7,7 +8,7 @@ use Rattle.rv_base.specs.Options.{◌>>=◌}
 use Rattle.rv_words.specs.Numbers.{number_in}
 use Rattle.rv_words.specs.Table.{rv_app}
 use Rattle.rv_words.specs.declared.command.Command.{Command}
-use Rattle.rv_words.specs.declared.command.Command.TheVariants.{Activity, Check, Feed, Lists, Make, Retire, Serve}
+use Rattle.rv_words.specs.declared.command.Command.TheVariants.{Activity, Check, Export, Feed, Import, Lists, Make, Retire, Serve}
 use Rattle.rv_words.specs.declared.serve_options.ServeOptions.{ServeOptions}
 
 -- the text is an `Id`
@@ -39,6 +40,28 @@ make_of seed requests = option_and_then (λ s. option_map (λ n. Make s n) (numb
 abbrev pub make_in : List Row → Option Command
 make_in rows = option_and_then (λ seed. option_and_then (make_of seed) (first_of (codes "N") rows)) (first_of (codes "SEED") rows)
 
+-- the text, where it is a `User`
+abbrev pub as_user : Text → Option Text
+as_user text = if nat_le 1 (length text) && nat_le (length text) 64 then Some text else None
+
+-- the text, where it may name an import: no byte is a `/` (47)
+abbrev pub as_import_name : Text → Option Text
+as_import_name text = if not (list_any (λ byte. byte == 47) text) && nat_le 1 (length text) && nat_le (length text) 48 then Some text else None
+
+-- what `import` asks for with a user and the name of an import
+abbrev pub import_of : Text → Text → Text → Option Command
+import_of store user name = option_and_then (λ u. option_map (λ n. Import store u n) (as_import_name name)) (as_user user)
+
+abbrev pub import_in : List Row → Option Command
+import_in rows = option_and_then (λ store. option_and_then (λ user. option_and_then (import_of store user) (first_of (codes "NAME") rows)) (first_of (codes "USER") rows))
+    (first_of (codes "STORE") rows)
+
+abbrev pub export_of : Text → Text → Option Command
+export_of store user = option_map (λ u. Export store u) (as_user user)
+
+abbrev pub export_in : List Row → Option Command
+export_in rows = option_and_then (λ store. option_and_then (export_of store) (first_of (codes "USER") rows)) (first_of (codes "STORE") rows)
+
 -- how requests are served, by the values of the names: a port, a number of workers, one of connections, a port for
 -- pokes, and a number of poke jobs
 unfoldable pub options_with : (Text → Option Text) → Text → Option ServeOptions
@@ -62,6 +85,8 @@ abbrev pub command_named : Text × List Row → Option Command
 command_named named =
     if bytes_eq named.0 (codes "retire") then retire_in named.1
     else if bytes_eq named.0 (codes "make") then make_in named.1
+    else if bytes_eq named.0 (codes "import") then import_in named.1
+    else if bytes_eq named.0 (codes "export") then export_in named.1
     else if bytes_eq named.0 (codes "serve") then serve_in named.1
     else on_store_in named.0 named.1
 

@@ -1,6 +1,9 @@
 use crate::name::Name;
 use crate::serve_options::ServeOptions;
-use rv_base::Id;
+use rv_base::{Bounded, Id, User};
+
+/// The name of an import: 1 to 48 bytes. None of them is a `/` where words ask for it.
+pub type ImportName = Bounded<1, 48>;
 
 /// What the words of a command line ask for.
 #[derive(Debug, Drop)]
@@ -38,6 +41,22 @@ pub enum Command {
         seed: u32,
         /// How many requests, from 0 to 1,000,000.
         requests: u32,
+    },
+    /// `import STORE USER NAME`: take todos as CSV, for a user.
+    Import {
+        /// The name of the store.
+        store: Name,
+        /// The name of the user.
+        user: User,
+        /// The name of the import. It has no `/`.
+        name: ImportName,
+    },
+    /// `export STORE USER`: tell as CSV what a user sees.
+    Export {
+        /// The name of the store.
+        store: Name,
+        /// The name of the user.
+        user: User,
     },
     /// `serve STORE` and options: answer the requests of connections.
     Serve {

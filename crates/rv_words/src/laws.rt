@@ -4,13 +4,16 @@ ghost use Rattle.rv_words.specs.Laws.{
   AskForNothing,
   EachGroupIsAsked,
   EachStoreIsAsked,
+  ExportIsAsked,
   GroupsAreIds,
+  ImportIsAsked,
   LinesArePlain,
   MakeIsAsked,
   OthersAskForNothing,
   RetireIsAsked,
   SeedsAreInBounds,
   StoresAreAsked,
+  UsersAreUsers,
 };
 
 /// What `clap` makes of any words is what they ask for said without `clap`: the program's name, the command's, and its
@@ -55,6 +58,24 @@ pub fn make_is_asked()
 /// Words that ask for `make` ask for it with numbers within these bounds.
 pub fn seeds_are_in_bounds()
     ensures { SeedsAreInBounds }
+{}
+
+/// The words `import STORE USER NAME` ask for that, for each text as STORE, each `User`, and each NAME of 1 to 48 bytes
+/// without `/`, that don't begin with `-`. With `--` before one of them, or at the end, it and those after it may.
+pub fn import_is_asked()
+    ensures { ImportIsAsked }
+{}
+
+/// The words `export STORE USER` ask for that, for each text as STORE and each `User`, that don't begin with `-`. With `--`
+/// before one of them, or at the end, it and those after it may.
+pub fn export_is_asked()
+    ensures { ExportIsAsked }
+{}
+
+/// Words that ask for `import` or `export` ask for it for a user of 1 to 64 bytes, and an import has a name of 1 to 48 bytes
+/// without `/`.
+pub fn users_are_users()
+    ensures { UsersAreUsers }
 {}
 
 /// Lines that end too early ask for nothing.

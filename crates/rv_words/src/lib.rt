@@ -12,7 +12,7 @@ mod reading;
 mod serve_options;
 mod table;
 
-pub use command::Command;
+pub use command::{Command, ImportName};
 pub use name::Name;
 pub use reading::command_of;
 pub use serve_options::ServeOptions;

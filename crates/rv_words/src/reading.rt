@@ -3,16 +3,16 @@ ghost use Rattle.std.specs.Int.{IsInRange};
 ghost use Rattle.std.specs.Prelude.{◌≡◌, IfOk, IfSome, codes, map, option_and_then, option_map, string_bytes};
 ghost use Rattle.clap.specs.Words.{first_of, found_of, rows_of, subcommand_rows_of};
 ghost use Rattle.rv_words.specs.Numbers.{number_in};
-ghost use Rattle.rv_words.specs.Words.{command_in, command_named, make_in, make_of, on_store, on_store_in, options_with, retire_in, retire_group_in, serve_in, Parses};
+ghost use Rattle.rv_words.specs.Words.{as_import_name, as_user, command_in, command_named, export_in, export_of, import_in, import_of, make_in, make_of, on_store, on_store_in, options_with, retire_in, retire_group_in, serve_in, Parses};
 
-use crate::command::Command;
+use crate::command::{Command, ImportName};
 use crate::name::Name;
 use crate::number::number_of;
 use crate::serve_options::ServeOptions;
 use crate::table::rv;
 use clap::ArgMatches;
 use clap::error::ErrorKind;
-use rv_base::{Id, Memory, TextRefusal};
+use rv_base::{Id, Memory, TextRefusal, User};
 use std::alloc::Global;
 
 // What `clap` finds in the words, where it takes them.
@@ -120,6 +120,83 @@ fn make(matches: &ArgMatches<'_>) -> Option<Command>
     make_of(seed, requests)
 }
 
+// The text, where it is a user.
+fn user_of(alloc: Global, text: &str) -> Result<Option<User>, Memory>
+    ensures { IfOk result (λ user. user ≡ as_user text.now) }
+{
+    match User::new(alloc, text) {
+        Ok(user) => Ok(Some(user)),
+        Err(TextRefusal::TooShort) => Ok(None),
+        Err(TextRefusal::TooLong(_)) => Ok(None),
+        Err(TextRefusal::Memory) => Err(Memory),
+    }
+}
+
+// The text, where it may name an import.
+fn import_name_of(alloc: Global, text: &str) -> Result<Option<ImportName>, Memory>
+    ensures { IfOk result (λ name. name ≡ as_import_name text.now) }
+{
+    if text.as_bytes().contains(&b'/') {
+        return Ok(None);
+    }
+    match ImportName::new(alloc, text) {
+        Ok(name) => Ok(Some(name)),
+        Err(TextRefusal::TooShort) => Ok(None),
+        Err(TextRefusal::TooLong(_)) => Ok(None),
+        Err(TextRefusal::Memory) => Err(Memory),
+    }
+}
+
+// An import of this name is asked for, for a user.
+fn import_of(alloc: Global, store: Name, user: &str, name: &str) -> Result<Option<Command>, Memory>
+    ensures { IfOk result (λ command. command ≡ import_of store user.now name.now) }
+{
+    let Some(user) = user_of(alloc, user)? else {
+        return Ok(None);
+    };
+    let Some(name) = import_name_of(alloc, name)? else {
+        return Ok(None);
+    };
+    Ok(Some(Command::Import { store, user, name }))
+}
+
+fn import(alloc: Global, matches: &ArgMatches<'_>) -> Result<Option<Command>, Memory>
+    ensures { IfOk result (λ command. command ≡ import_in (rows_of (found_of matches.now))) }
+{
+    let Some(store) = store_of(alloc, matches)? else {
+        return Ok(None);
+    };
+    let Some(user) = value(matches, "USER") else {
+        return Ok(None);
+    };
+    let Some(name) = value(matches, "NAME") else {
+        return Ok(None);
+    };
+    import_of(alloc, store, user, name)
+}
+
+// An export is asked for, for a user.
+fn export_of(alloc: Global, store: Name, user: &str) -> Result<Option<Command>, Memory>
+    ensures { IfOk result (λ command. command ≡ export_of store user.now) }
+{
+    match user_of(alloc, user)? {
+        Some(user) => Ok(Some(Command::Export { store, user })),
+        None => Ok(None),
+    }
+}
+
+fn export(alloc: Global, matches: &ArgMatches<'_>) -> Result<Option<Command>, Memory>
+    ensures { IfOk result (λ command. command ≡ export_in (rows_of (found_of matches.now))) }
+{
+    let Some(store) = store_of(alloc, matches)? else {
+        return Ok(None);
+    };
+    let Some(user) = value(matches, "USER") else {
+        return Ok(None);
+    };
+    export_of(alloc, store, user)
+}
+
 // The number of this name, if one between these bounds was given.
 fn number_at(matches: &ArgMatches<'_>, name: &str, least: u32, most: u32) -> Option<u32>
     ensures number { result ≡ option_and_then (number_in least most) (first_of name.now (rows_of (found_of matches.now))) }
@@ -177,6 +254,8 @@ fn named(alloc: Global, name: &str, matches: &ArgMatches<'_>) -> Result<Option<C
     match name {
         "retire" => retire(alloc, matches),
         "make" => Ok(make(matches)),
+        "import" => import(alloc, matches),
+        "export" => export(alloc, matches),
         "serve" => serve(alloc, matches),
         verb => on_found_store(alloc, verb, matches),
     }

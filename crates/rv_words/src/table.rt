@@ -2,7 +2,7 @@
 ghost use Rattle.std.specs.Prelude.{◌≡◌, IfOk, false};
 ghost use Rattle.clap.specs.Words.{app_of, with_rule};
 ghost use Rattle.clap.specs.declared.builder.command.Command.TheViews.{out-Command};
-ghost use Rattle.rv_words.specs.Table.{bare_app, option_with_default, required_option, required_value, make_app, retire_app, rv_app, serve_app, store_app};
+ghost use Rattle.rv_words.specs.Table.{bare_app, export_app, import_app, option_with_default, required_option, required_value, make_app, retire_app, rv_app, serve_app, store_app};
 
 use clap::{Arg, Command};
 use std::alloc::{AllocError, Global};
@@ -67,6 +67,21 @@ fn make<'a>(alloc: Global) -> Result<Command<'a>, AllocError>
     with_required(alloc, command, "N")
 }
 
+fn import<'a>(alloc: Global) -> Result<Command<'a>, AllocError>
+    ensures app { IfOk result (λ r. app_of r ≡ import_app) }
+    ensures local { IfOk result (λ r. (out-Command r).has_globals ≡ false) }
+{
+    let command = with_required(alloc, of_store(alloc, "import")?, "USER")?;
+    with_required(alloc, command, "NAME")
+}
+
+fn export<'a>(alloc: Global) -> Result<Command<'a>, AllocError>
+    ensures app { IfOk result (λ r. app_of r ≡ export_app) }
+    ensures local { IfOk result (λ r. (out-Command r).has_globals ≡ false) }
+{
+    with_required(alloc, of_store(alloc, "export")?, "USER")
+}
+
 fn serve<'a>(alloc: Global) -> Result<Command<'a>, AllocError>
     ensures app { IfOk result (λ r. app_of r ≡ serve_app) }
     ensures local { IfOk result (λ r. (out-Command r).has_globals ≡ false) }
@@ -103,5 +118,7 @@ pub fn rv<'a>(alloc: Global) -> Result<Command<'a>, AllocError>
         .subcommand(of_store(alloc, "check")?)?
         .subcommand(retire(alloc)?)?
         .subcommand(make(alloc)?)?
+        .subcommand(import(alloc)?)?
+        .subcommand(export(alloc)?)?
         .subcommand(serve(alloc)?)
 }

@@ -12,5 +12,7 @@ returns c =
     let check = subcommand_added _ _ _ _ _ c.in_ok-subcommand-4.ensures c.in_ok-of_store-4.ensures.local activity c.in_ok-of_store-4.ensures.app in
     let retire = subcommand_added _ _ _ _ _ c.in_ok-subcommand-5.ensures c.in_ok-retire.ensures.local check c.in_ok-retire.ensures.app in
     let make = subcommand_added _ _ _ _ _ c.in_ok-subcommand-6.ensures c.in_ok-make.ensures.local retire c.in_ok-make.ensures.app in
-    IfOk-weaker c.subcommand-7.result _ _ (λ r adds. subcommand_added _ _ r _ _ adds c.in_ok-serve.ensures.local make c.in_ok-serve.ensures.app)
-    c.subcommand-7.ensures
+    let import = subcommand_added _ _ _ _ _ c.in_ok-subcommand-7.ensures c.in_ok-import.ensures.local make c.in_ok-import.ensures.app in
+    let export = subcommand_added _ _ _ _ _ c.in_ok-subcommand-8.ensures c.in_ok-export.ensures.local import c.in_ok-export.ensures.app in
+    IfOk-weaker c.subcommand-9.result _ _ (λ r adds. subcommand_added _ _ r _ _ adds c.in_ok-serve.ensures.local export c.in_ok-serve.ensures.app)
+    c.subcommand-9.ensures
