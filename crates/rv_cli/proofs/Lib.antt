@@ -8,6 +8,8 @@ pub mod ServedRuns
 pub mod Troubled
 pub mod Fed
 pub mod Sound
+mod Inputs
+mod Imported
 mod Reporting
 mod Steady
 mod Named

@@ -1,7 +1,7 @@
 -- The store that a command names.
 use Rattle.std.proofs.Common.{◌≡◌, ℕ, List, Option, Some, sym, ◌∙◌, subst}
 use Rattle.rv_words.specs.declared.command.Command.{Command}
-use Rattle.rv_words.specs.declared.command.Command.TheVariants.{Feed, Retire, Lists, Activity, Check, Serve}
+use Rattle.rv_words.specs.declared.command.Command.TheVariants.{Feed, Retire, Lists, Activity, Check, Serve, Export, Import}
 use Rattle.rv_words.specs.declared.serve_options.ServeOptions.{ServeOptions}
 use Rattle.rv_cli.specs.Commands.{IsOfStore, IsReportOf}
 
@@ -24,6 +24,12 @@ names_activity asked named at store is same names = same ∙ subst (IsOfStore st
 pub names_check : (asked : Option Command) (named at store : List ℕ) → Some (Check named) ≡ asked → at ≡ named → IsOfStore store asked → at ≡ store
 names_check asked named at store is same names = same ∙ subst (IsOfStore store) (sym is) names
 
+pub names_export : (asked : Option Command) (named at store user : List ℕ) → Some (Export named user) ≡ asked → at ≡ named → IsOfStore store asked → at ≡ store
+names_export asked named at store user is same names = same ∙ subst (IsOfStore store) (sym is) names
+
+pub names_import : (asked : Option Command) (named at store user name : List ℕ) → Some (Import named user name) ≡ asked → at ≡ named → IsOfStore store asked → at ≡ store
+names_import asked named at store user name is same names = same ∙ subst (IsOfStore store) (sym is) names
+
 pub reports_lists : (asked : Option Command) (named at store : List ℕ) → Some (Lists named) ≡ asked → at ≡ named → IsReportOf store asked → at ≡ store
 reports_lists asked named at store is same names = same ∙ subst (IsReportOf store) (sym is) names
 
@@ -32,6 +38,9 @@ reports_activity asked named at store is same names = same ∙ subst (IsReportOf
 
 pub reports_check : (asked : Option Command) (named at store : List ℕ) → Some (Check named) ≡ asked → at ≡ named → IsReportOf store asked → at ≡ store
 reports_check asked named at store is same names = same ∙ subst (IsReportOf store) (sym is) names
+
+pub reports_export : (asked : Option Command) (named at store user : List ℕ) → Some (Export named user) ≡ asked → at ≡ named → IsReportOf store asked → at ≡ store
+reports_export asked named at store user is same names = same ∙ subst (IsReportOf store) (sym is) names
 
 pub feeds_same : (asked : Option Command) (named at store : List ℕ) → Some (Feed named) ≡ asked → at ≡ named → asked ≡ Some (Feed store) → at ≡ store
 feeds_same asked named at store is same asks =
@@ -63,6 +72,21 @@ retires_same asked named at store got group is same asks =
     let one : named ≡ store = cc in
     (same ∙ one, cc)
 
+pub exports_same : (asked : Option Command) (named at store got user : List ℕ) → Some (Export named got) ≡ asked → at ≡ named → asked ≡ Some (Export store user) → (at ≡ store) × (got ≡ user)
+exports_same asked named at store got user is same asks =
+    let both : Some (Export named got) ≡ Some (Export store user) = is ∙ asks in
+    let one : named ≡ store = cc in
+    (same ∙ one, cc)
+
+pub imports_same : (asked : Option Command) (named at store got user called name : List ℕ) → Some (Import named got called) ≡ asked → at ≡ named → asked ≡ Some (Import store user name) → (at ≡ store) × (got ≡ user) × (called ≡ name)
+imports_same asked named at store got user called name is same asks =
+    let both : Some (Import named got called) ≡ Some (Import store user name) = is ∙ asks in
+    let one : named ≡ store = cc in
+    (same ∙ one, cc, cc)
+
 -- what holds of a name and a group holds of those that are the same
 pub of_both : (Q : List ℕ → List ℕ → Type 0) (name store got group : List ℕ) → name ≡ store → got ≡ group → Q name got → Q store group
 of_both Q name store got group is same q = subst (λ (at : List ℕ). Q store at) same (subst (λ (at : List ℕ). Q at got) is q)
+
+pub of_three : (Q : List ℕ → List ℕ → List ℕ → Type 0) (name store got user called file : List ℕ) → name ≡ store → got ≡ user → called ≡ file → Q name got called → Q store user file
+of_three Q name store got user called file is same also q = subst (λ (at : List ℕ). Q store user at) also (of_both (λ at one. Q at one called) name store got user is same q)

@@ -1,5 +1,5 @@
 -- From the desk of a store, or a check of it, and the keeper that went back, to what a report promises.
-use Rattle.std.proofs.Common.{◌≡◌, ℕ, ◌-◌, ◌^◌, ◌++◌, List, Option, None, Result, Ok, Err, IsOk, IsErr, IsErrAnd, IfOk, refl, sym, ap, ◌∙◌, subst, arith, decimal, codes, inl}
+use Rattle.std.proofs.Common.{◌≡◌, ℕ, ◌-◌, ◌^◌, ◌++◌, List, Option, None, Result, Ok, Err, IsOk, IsErr, IsErrAnd, IfOk, OnOk, refl, sym, ap, ◌∙◌, subst, arith, decimal, codes, inl}
 use Rattle.rv_base.specs.Outside.{OutputState}
 use Rattle.rv_base.specs.declared.memory.Memory.{Memory as Refused}
 use Rattle.rv_keeper.specs.declared.fault.KeepFault.{KeepFault}
@@ -37,6 +37,10 @@ reports_made Reports (Err refused) old new ending is (e, w) = subst (λ (ending 
 -- what holds of the value at an Ok holds of it where the result is that
 pub if_ok : {T E : Type 0} (P : T → Type 0) (r : Result T E) (x : T) → IfOk r P → r ≡ Ok x → P x
 if_ok P r x holds is = let Q : Result _ _ → Type 0 = λ r. IfOk r P in subst Q is holds
+
+-- and so does what holds where it is an Ok
+pub on_ok : {T E : Type 0} (A : Type 0) (r : Result T E) (x : T) → OnOk r A → r ≡ Ok x → A
+on_ok A r x holds is = let Q : Result _ _ → Type 0 = λ r. OnOk r A in subst Q is holds
 
 module _ {P K : Type 0} (place : PlaceGhosts P K) (G : Ghosts K) (store : List ℕ) where
   abbrev Back : P → P → K → Type 0

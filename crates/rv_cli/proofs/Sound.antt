@@ -106,6 +106,9 @@ activity_memory asked named store is same asks = same ∙ subst (λ (a : Option 
 pub check_memory : (asked : Option Command) (named store : List ℕ) → Some (commands.Check named) ≡ asked → store ≡ named → IsReportOf (codes "memory") asked → store ≡ codes "memory"
 check_memory asked named store is same asks = same ∙ subst (λ (a : Option Command). IsReportOf (codes "memory") a) (sym is) asks
 
+pub export_memory : (asked : Option Command) (named store user : List ℕ) → Some (commands.Export named user) ≡ asked → store ≡ named → IsReportOf (codes "memory") asked → store ≡ codes "memory"
+export_memory asked named store user is same asks = same ∙ subst (λ (a : Option Command). IsReportOf (codes "memory") a) (sym is) asks
+
 -- and with words that ask to serve it
 pub serves_memory : (asked : Option Command) (named store : List ℕ) (chosen options : ServeOptions) → Some (commands.Serve named chosen) ≡ asked → store ≡ named → asked ≡ Some (commands.Serve (codes "memory") options) → store ≡ codes "memory"
 serves_memory asked named store chosen options is same asks = cc

@@ -3,7 +3,7 @@ use Rattle.std.specs.Prelude.{◌≡◌, ℕ, List, Option, Some, None, String, 
 use Rattle.std.specs.Global.{Global}
 use Rattle.rv_words.specs.Words.{command_in}
 use Rattle.rv_words.specs.declared.command.Command.{Command}
-use Rattle.rv_words.specs.declared.command.Command.TheVariants.{Feed, Retire, Lists, Activity, Check, Make, Serve}
+use Rattle.rv_words.specs.declared.command.Command.TheVariants.{Feed, Retire, Lists, Activity, Check, Make, Serve, Export, Import}
 
 -- what the words of a run ask for
 abbrev pub asked_by : List (String Global) → Option Command
@@ -16,9 +16,11 @@ IsReportOf store (Some (Feed other)) = ⊥
 IsReportOf store (Some (Retire other group)) = ⊥
 IsReportOf store (Some (Serve other options)) = ⊥
 IsReportOf store (Some (Make seed requests)) = ⊥
+IsReportOf store (Some (Import other user name)) = ⊥
 IsReportOf store (Some (Lists other)) = other ≡ store
 IsReportOf store (Some (Activity other)) = other ≡ store
 IsReportOf store (Some (Check other)) = other ≡ store
+IsReportOf store (Some (Export other user)) = other ≡ store
 
 -- the words name the store
 abbrev pub IsOfStore : List ℕ → Option Command → Type 0
@@ -30,6 +32,8 @@ IsOfStore store (Some (Serve other options)) = other ≡ store
 IsOfStore store (Some (Lists other)) = other ≡ store
 IsOfStore store (Some (Activity other)) = other ≡ store
 IsOfStore store (Some (Check other)) = other ≡ store
+IsOfStore store (Some (Export other user)) = other ≡ store
+IsOfStore store (Some (Import other user name)) = other ≡ store
 
 -- there is an accounts file of the name
 abbrev pub HasFile : (List ℕ → List ℕ → Type 0) → List ℕ → Type 0

@@ -11,7 +11,8 @@ use Rattle.rv_base.specs.Outside.{InputState, OutputState, counted}
 use Rattle.rv_base.specs.Writes.{AppendsFront, IsFront}
 use Rattle.rv_lines.specs.Lines.{lines_of, ended_lines_of, longest_line}
 use Rattle.rv_lines.specs.Taken.{IsNeeded}
-use Rattle.rv_rows.specs.Held.{Stored as StoredRow}
+use Rattle.rv_rows.specs.Held.{Stored as StoredRow, rows_in}
+use Rattle.rv_rows.specs.Sharing.{seen}
 use Rattle.rv_book.specs.Book.{Book, last, size, Extends}
 use Rattle.rv_history.specs.Served.{Served, Settles, IsSound, TakesTurn}
 use Rattle.rv_history.specs.Replay.{IsReplay}
@@ -24,6 +25,7 @@ use Rattle.rv_store.specs.Opening.{MayOpen, IsDamaged}
 use Rattle.rv_store.specs.StoreCells.{IsKeptWith}
 use Rattle.rv_report.specs.Lists.{lists_text}
 use Rattle.rv_report.specs.Activity.{activity_text}
+use Rattle.rv_import.specs.Views.{IsView, view_text}
 use Rattle.rv_answering.specs.declared.request.Request.TheVariants.{Pull}
 use Rattle.rv_answering.specs.declared.answer.Answer.{Answer}
 use Rattle.rv_answering.specs.declared.answer.Answer.TheVariants.{Pulled, Refused}
@@ -348,6 +350,10 @@ ReportsLists book text = (rows : List StoredRow) × IsReplay book rows × (text 
 -- the text of who did how much in the book
 abbrev pub ReportsActivity : Book → List ℕ → Type 0
 ReportsActivity book text = text ≡ activity_text book
+
+-- the text of exactly the rows that the user sees among those that the book leaves, which are a view
+abbrev pub ReportsView : List ℕ → Book → List ℕ → Type 0
+ReportsView user book text = (rows : List StoredRow) × IsReplay book rows × IsView (seen user (rows_in rows)) × (text ≡ view_text (seen user (rows_in rows)))
 
 -- that the store is sound, and how many entries the book has
 abbrev pub ReportsSound : Book → List ℕ → Type 0

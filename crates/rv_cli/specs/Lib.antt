@@ -10,4 +10,6 @@ pub mod Reporting
 pub mod Commands
 pub mod Serving
 pub mod ServingSteps
+pub mod Input
+pub mod Importing
 pub mod Promises

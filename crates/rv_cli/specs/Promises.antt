@@ -1,5 +1,5 @@
 -- What each command promises, by the place before the run and after it, and by the input, the output and the net.
-use Rattle.std.specs.Prelude.{◌≡◌, ◌⊎◌, ℕ, List, Option, Some, Ok}
+use Rattle.std.specs.Prelude.{◌≡◌, ◌≢◌, ◌⊎◌, ℕ, List, Option, Some, Ok, codes}
 use Rattle.rv_base.specs.declared.outside.Source.{Ghosts as SourceGhosts}
 use Rattle.rv_base.specs.declared.outside.Sink.{Ghosts as SinkGhosts}
 use Rattle.rv_keeper.specs.declared.place.Place.{Ghosts as PlaceGhosts}
@@ -16,9 +16,12 @@ use Rattle.rv_words.specs.declared.serve_options.ServeOptions.{ServeOptions}
 use Rattle.rv_cli.specs.declared.ending.Ending.TheVariants.{Memory}
 use Rattle.rv_cli.specs.Change.{change}
 use Rattle.rv_cli.specs.Texts.{status_text}
-use Rattle.rv_cli.specs.Headline.{RunsFeed, RunsOne, RunsReport, WritesOnly}
+use Rattle.rv_cli.specs.Headline.{KeptSound, RunsFeed, RunsOne, RunsReport, WritesOnly}
+use Rattle.rv_cli.specs.Importing.{IsImportStatus, RunsImport}
 use Rattle.rv_cli.specs.Serving.{IsNetServed, RunsServe, Unserved, listeners_wanted}
 use Rattle.rv_cli.specs.ServingSteps.{MayWantPokes}
+use Rattle.rv_cli.specs.Steadiness.{PlaceIsSteady}
+use Rattle.rv_keeper.specs.Stores.{OpensAs}
 
 module _ {P Kept O : Type 0} (place : PlaceGhosts P Kept) (output : SinkGhosts O) (store : List ℕ) (old new : P) where
   -- Of `feed`: what is written are the answers of a run from the book that the store kept over the lines that were read, and the store
@@ -33,6 +36,21 @@ module _ {P Kept O : Type 0} (place : PlaceGhosts P Kept) (output : SinkGhosts O
   -- Of a report: what is written is a text of the book that the store kept, which it still keeps.
   abbrev pub WasReported : (Book → List ℕ → Type 0) → O → O → ℕ → Type 0
   WasReported Reports out out' = RunsReport (change place store old new) Reports (output.state out) (output.state out')
+
+  -- Of `import`: what was entered are the turns of the records that were read, from the book that the store kept, and the store keeps the
+  -- book that they leave.
+  abbrev pub WasImported : {S : Type 0} → SourceGhosts S → List ℕ → List ℕ → S → S → O → O → ℕ → Type 0
+  WasImported input user name read read' out out' = RunsImport (change place store old new) user name (input.state read) (input.state read') (output.state out) (output.state out')
+
+  -- All that `run` promises of `import`: that; or memory was refused in reading the words, and nothing else has changed. The status is one
+  -- of these. Where the place tells, and the store kept a lawful book within the limit, it is no damage, and so none over the store in
+  -- memory. Over a place that fails no more it is no fault of it.
+  pub record KeepsImport {S : Type 0} (input : SourceGhosts S) (user name : List ℕ) (read read' : S) (out out' : O) (status : ℕ) : Type 0 where
+    pub run : WasImported input user name read read' out out' status ⊎ ((status ≡ 8) × (read' ≡ read) × (new ≡ old) × WritesOnly (output.state out) (output.state out') (status_text Memory))
+    pub complete : IsImportStatus status
+    pub sound : place.tells new → KeptSound (OpensAs store (place.holds old store)) → status ≢ 5
+    pub in_memory : place.tells new → store ≡ codes "memory" → status ≢ 5
+    pub steady : place.fails_no_more old → PlaceIsSteady place.fails_no_more place.faults old new status
 
   -- The same; or memory was refused in reading the words, which the status and its text tell, and nothing else has changed.
   abbrev pub WasFedOrNot : {S : Type 0} → SourceGhosts S → S → S → O → O → ℕ → Type 0

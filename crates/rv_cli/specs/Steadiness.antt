@@ -5,6 +5,8 @@ use Rattle.rv_base.specs.Causes.{Rose}
 use Rattle.rv_desk.specs.Seated.{Seated}
 use Rattle.rv_cli.specs.declared.ending.Ending.{Ending}
 use Rattle.rv_cli.specs.declared.ending.Ending.TheVariants.{Keeper, Read, Write}
+use Rattle.rv_cli.specs.declared.import_ending.ImportEnding.{ImportEnding}
+use Rattle.rv_cli.specs.declared.import_ending.ImportEnding.TheVariants as imports
 use Rattle.rv_cli.specs.declared.serve_ending.ServeEnding.{ServeEnding}
 use Rattle.rv_cli.specs.declared.serve_ending.ServeEnding.TheVariants as serves
 
@@ -22,6 +24,11 @@ pub record OutputIsSteady (steady : Type 0) (before now : ℕ) (ending : Ending)
 pub record ServeIsSteady (steady : Type 0) (before now : ℕ) (ending : ServeEnding) : Type 0 where
   pub goes_on : steady
   pub only_memory : ending ≡ serves.Write → Rose before now
+
+-- and of one of `import`
+pub record ImportIsSteady (steady : Type 0) (before now : ℕ) (ending : ImportEnding) : Type 0 where
+  pub goes_on : steady
+  pub only_memory : ending ≡ imports.Write → Rose before now
 
 -- the same after a line
 abbrev pub LineIsSteady : {T K : Type 0} → Type 0 → ℕ → ℕ → Result T (Ending × K) → Type 0

@@ -6,11 +6,15 @@ use Rattle.rv_keeper.specs.declared.fault.KeepFault.{KeepFault}
 use Rattle.rv_keeper.specs.declared.fault.KeepFault.TheVariants as keeping
 use Rattle.rv_record.specs.declared.fault.Damage.{Damage}
 use Rattle.rv_answering.specs.declared.answer.Answer.{Answer}
+use Rattle.rv_answering.specs.declared.answer.Answer.TheVariants as answers
+use Rattle.rv_wire.specs.declared.error_body.ErrorBody.TheVariants as errors
 use Rattle.rv_answering.specs.Texts.{answer_status, answer_body}
 use Rattle.rv_desk.specs.declared.open_fault.OpenFault.{OpenFault}
 use Rattle.rv_desk.specs.declared.open_fault.OpenFault.TheVariants as faults
 use Rattle.rv_cli.specs.declared.ending.Ending.{Ending}
 use Rattle.rv_cli.specs.declared.ending.Ending.TheVariants.{Done, Keeper, Damaged, Read, Write, Memory, Malformed}
+use Rattle.rv_cli.specs.declared.import_ending.ImportEnding.{ImportEnding}
+use Rattle.rv_cli.specs.declared.import_ending.ImportEnding.TheVariants as imports
 use Rattle.rv_cli.specs.declared.serve_ending.ServeEnding.{ServeEnding}
 use Rattle.rv_cli.specs.declared.serve_ending.ServeEnding.TheVariants as serves
 
@@ -79,5 +83,25 @@ serve_text serves.Net = codes "net\n"
 serve_text serves.Memory = codes "memory\n"
 serve_text serves.Write = []
 
+-- and of one of `import`
+abbrev pub import_status : ImportEnding → ℕ
+import_status imports.Done = 0
+import_status imports.Read = 6
+import_status imports.TooLarge = 11
+import_status (imports.BadRecord number) = 11
+import_status (imports.Refused refusal) = 12
+import_status imports.Memory = 8
+import_status imports.Write = 7
+
+-- The line of a refusal is that of its answer.
+abbrev pub import_ending_text : ImportEnding → List ℕ
+import_ending_text imports.Done = []
+import_ending_text imports.Read = codes "read\n"
+import_ending_text imports.TooLarge = codes "csv size\n"
+import_ending_text (imports.BadRecord number) = codes "csv " ++ (decimal number ++ codes "\n")
+import_ending_text (imports.Refused refusal) = text_of (answers.Refused (errors.Refused refusal))
+import_ending_text imports.Memory = codes "memory\n"
+import_ending_text imports.Write = []
+
 abbrev pub usage_text : List ℕ
-usage_text = codes "usage: rv feed|serve|retire|lists|activity|check|make\n"
+usage_text = codes "usage: rv feed|serve|retire|lists|activity|check|make|import|export\n"

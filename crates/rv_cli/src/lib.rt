@@ -2,12 +2,17 @@
 //!
 //! `feed STORE` reads request lines and writes answer lines. Its theorem is the clause of [`run`]: what is written are the answers of
 //! a run over the lines that were read, from the book that the store kept, and the store keeps the book that the run leaves
-//! (`specs/Headline.antt`). `retire STORE GROUP` is one answer so, and `lists`, `activity` and `check` are reports of that book. `make SEED N` is the summary
-//! of a run over a fresh store in memory.
+//! (`specs/Headline.antt`). `retire STORE GROUP` is one answer so, and `lists`, `activity`, `check` and `export STORE USER` are reports
+//! of that book. `import STORE USER NAME` reads CSV, whose records are turns at that book (`specs/Importing.antt`). `make SEED N` is the
+//! summary of a run over a fresh store in memory.
 #![tactic(auto)]
 
 mod ending;
 mod feed;
+mod import;
+mod import_ending;
+mod input;
+mod input_fault;
 pub mod laws;
 mod line;
 mod make;
@@ -19,8 +24,10 @@ mod store;
 mod texts;
 
 pub use ending::Ending;
+pub use import::run_import;
+pub use import_ending::ImportEnding;
 pub use make::run_make;
 pub use program::{run, run_feed, run_retire};
-pub use reports::{run_activity, run_check, run_lists};
+pub use reports::{run_activity, run_check, run_export, run_lists};
 pub use serve::run_serve;
 pub use serve_ending::ServeEnding;

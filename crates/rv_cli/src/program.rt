@@ -6,8 +6,8 @@ ghost use Rattle.rv_words.specs.declared.serve_options.ServeOptions.{ServeOption
 ghost use Rattle.rv_keeper.specs.Stores.{OpensAs, OthersStay};
 ghost use Rattle.rv_answering.specs.declared.request.Request.TheVariants.{Retire};
 ghost use Rattle.rv_cli.specs.Texts.{usage_text, status_of, status_text};
-ghost use Rattle.rv_cli.specs.Headline.{ReportsActivity, ReportsLists, ReportsSound, RunsMake, WritesOnly, AllAsk, IsOther, KeptSound};
-ghost use Rattle.rv_cli.specs.Promises.{ServesAsAsked, WasFed, WasFedOrNot, WasReportedOrNot, WasRetired, WasRetiredOrNot, WasUnserved, WasWanted};
+ghost use Rattle.rv_cli.specs.Headline.{ReportsActivity, ReportsLists, ReportsSound, ReportsView, RunsMake, WritesOnly, AllAsk, IsOther, KeptSound};
+ghost use Rattle.rv_cli.specs.Promises.{KeepsImport, ServesAsAsked, WasFed, WasFedOrNot, WasReportedOrNot, WasRetired, WasRetiredOrNot, WasUnserved, WasWanted};
 ghost use Rattle.rv_cli.specs.Commands.{HasFile, asked_by, IsOfStore, IsReportOf};
 ghost use Rattle.rv_cli.specs.Replying.{Retired, WritesReply};
 ghost use Rattle.rv_cli.specs.Steadiness.{OutputIsSteady, PlaceIsSteady};
@@ -15,8 +15,9 @@ ghost use Rattle.rv_cli.specs.declared.ending.Ending.TheVariants as endings;
 
 use crate::ending::Ending;
 use crate::feed::feed;
+use crate::import::run_import;
 use crate::make::run_make;
-use crate::reports::{run_activity, run_check, run_lists};
+use crate::reports::{run_activity, run_check, run_export, run_lists};
 use crate::serve::run_serve;
 use crate::store::{open_desk, refuse_opening};
 use crate::texts::{write_answer, write_ending, write_usage};
@@ -142,13 +143,16 @@ fn give_up<O: Sink>(out: &mut O) -> u8
 /// The first word is the program's name and is not read. `feed STORE` answers the lines of the input, each as it was read, from the
 /// book that the store keeps; `serve STORE` answers the requests of connections so, which workers serve side by side, and pokes clients;
 /// `retire STORE GROUP` retires a client group there; `lists STORE`, `activity STORE` and `check STORE` are reports of the store,
-/// which stays as it is; `make SEED N` tells what comes of N requests that a seed makes over a fresh store in memory, and touches no
-/// other. STORE is `memory`, which begins empty, or the name of a store of the place.
+/// which stays as it is, and so is `export STORE USER`, the rows that the user sees as CSV; `make SEED N` tells what comes of N
+/// requests that a seed makes over a fresh store in memory, and touches no other. `import STORE USER NAME` reads the input whole, which
+/// is CSV, and enters a todo of the user for each of its records. STORE is `memory`, which begins empty, or the name of a store of the
+/// place.
 ///
 /// Status 0: the input was read to its end, and all that was asked is answered. 2: the words are no line of the command set. 3: the
 /// accounts file is not of the form. 4: the place or the keeper failed in opening, the accounts file could not be read, or a report
 /// is asked of a store that isn't there. 5: the store is damaged, first at this shelf and key. 6: a read failed. 7: a write failed.
-/// 8: memory was refused outside a request. 9: the net failed. 10: the line that is named is not of the form. Each but 0 and 7 has a
+/// 8: memory was refused outside a request. 9: the net failed. 10: the line that is named is not of the form. 11: the CSV has more than
+/// 16,777,216 bytes, or the record that is named is not of the form. 12: a record was refused as the line says. Each but 0 and 7 has a
 /// text of its own, which is written last.
 pub fn run<R: Wait + Sync, P: Place, S: Source, O: Sink, N: Net, C: Crew>(
     alloc: Global,
@@ -165,11 +169,12 @@ where
     <N::Listen as Listen>::Out: Send,
     <N::Pokes as PokeListen>::Link: PokeLink + Send,
     // The words are no line of the set exactly at 2, unless memory was refused in reading them. Then, and for every command
-    // but `feed`, the input is not read.
+    // but `feed` and `import`, the input is not read.
     ensures usage { result ≡ 2 → asked_by words.now ≡ None }
     ensures usage_only { asked_by words.now ≡ None → result ≡ 2 ⊎ ((result ≡ 8) × WritesOnly (O.state out.old) (O.state out.new) (status_text endings.Memory)) }
     ensures usage_text { result ≡ 2 → WritesOnly (O.state out.old) (O.state out.new) usage_text }
-    ensures reads { ((store : List ℕ) → asked_by words.now ≡ Some (commands.Feed store) → ⊥) → input.new ≡ input.old }
+    ensures reads { ((store : List ℕ) → asked_by words.now ≡ Some (commands.Feed store) → ⊥)
+        → ((store user name : List ℕ) → asked_by words.now ≡ Some (commands.Import store user name) → ⊥) → input.new ≡ input.old }
     ensures stays { asked_by words.now ≡ None → place.new ≡ place.old }
 
     // For every command but `serve` the net is let alone.
@@ -183,6 +188,11 @@ where
     // And so over the one line that retires the group.
     ensures retire { (store group : List ℕ) → asked_by words.now ≡ Some (commands.Retire store group)
         → WasRetiredOrNot P.Place O.Sink store place.old place.new group out.old out.new result }
+
+    // What `import` enters are the turns of the records that were read, from the book that the store kept, and the store keeps the book
+    // that they leave; or memory was refused in reading the words.
+    ensures import { (store user name : List ℕ) → asked_by words.now ≡ Some (commands.Import store user name)
+        → KeepsImport P.Place O.Sink store place.old place.new S.Source user name input.old input.new out.old out.new result }
 
     // What is written to connections are the answers to their requests, over turns of seats at one book from the one that the store
     // kept, and the store keeps the book that they leave. What is sent over links are pokes, by looks of seats at that book.
@@ -204,6 +214,8 @@ where
         → WasReportedOrNot P.Place O.Sink store place.old place.new ReportsActivity out.old out.new result }
     ensures check { (store : List ℕ) → asked_by words.now ≡ Some (commands.Check store)
         → WasReportedOrNot P.Place O.Sink store place.old place.new ReportsSound out.old out.new result }
+    ensures export { (store user : List ℕ) → asked_by words.now ≡ Some (commands.Export store user)
+        → WasReportedOrNot P.Place O.Sink store place.old place.new (ReportsView user) out.old out.new result }
 
     // What `make` writes is the summary of a run of the first requests that the seed makes, over a fresh server; where memory was
     // refused, in reading the words too, there is none. The place is let alone.
@@ -282,6 +294,22 @@ where
         Ok(Some(Command::Lists { store })) => run_lists(alloc, place, store.as_str(), out),
         Ok(Some(Command::Activity { store })) => run_activity(alloc, place, store.as_str(), out),
         Ok(Some(Command::Check { store })) => run_check(alloc, place, store.as_str(), out),
+        Ok(Some(Command::Export { store, user })) => run_export(
+            alloc,
+            place,
+            store.as_str(),
+            &user,
+            out,
+        ),
+        Ok(Some(Command::Import { store, user, name })) => run_import(
+            alloc,
+            place,
+            store.as_str(),
+            &user,
+            &name,
+            input,
+            out,
+        ),
         Ok(Some(Command::Make { seed, requests })) => run_make(alloc, seed, requests, out),
         Ok(Some(Command::Serve { store, options })) => run_serve(
             alloc,

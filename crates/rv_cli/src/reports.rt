@@ -2,7 +2,7 @@
 ghost use Rattle.std.specs.Prelude.{◌≡◌, ◌≢◌, ◌⊎◌, ◌++◌, codes, decimal};
 ghost use Rattle.rv_base.specs.Causes.{Rose};
 ghost use Rattle.rv_keeper.specs.Stores.{OpensAs, OthersStay};
-ghost use Rattle.rv_cli.specs.Headline.{KeptSound, ReportsActivity, ReportsLists, ReportsSound};
+ghost use Rattle.rv_cli.specs.Headline.{KeptSound, ReportsActivity, ReportsLists, ReportsSound, ReportsView};
 ghost use Rattle.rv_cli.specs.Promises.{WasReported};
 ghost use Rattle.rv_cli.specs.Reporting.{WritesMade, WritesUntil};
 ghost use Rattle.rv_cli.specs.Steadiness.{OutputIsSteady, PlaceIsSteady};
@@ -10,7 +10,8 @@ ghost use Rattle.rv_cli.specs.Steadiness.{OutputIsSteady, PlaceIsSteady};
 use crate::ending::Ending;
 use crate::store::{check_store, open_existing_desk, refuse_opening};
 use crate::texts::{write_count, write_ending};
-use rv_base::{Bytes, Failed, Memory, Sink, write_all};
+use rv_base::{Bytes, Failed, Memory, Sink, User, write_all};
+use rv_import::export_text;
 use rv_keeper::Place;
 use rv_report::{activity_text, lists_text};
 use std::alloc::Global;
@@ -92,6 +93,34 @@ pub fn run_activity<P: Place, O: Sink>(alloc: Global, place: &mut P, store: &str
     match open_existing_desk(alloc, place, store) {
         Ok(desk) => {
             let report = activity_text(alloc, desk.book());
+            place.close_keeper(store, desk.close());
+            write_report(out, &report).status()
+        }
+        Err(ending) => refuse_opening(out, &ending),
+    }
+}
+
+/// Writes the rows that the user sees in the book that the store keeps, as [`export_text`](rv_import::export_text): the command
+/// `export STORE USER`. The status is 0, 4, 5, 7 or 8; it is 4 where the store isn't there, and none is made. The store stays as it
+/// is.
+pub fn run_export<P: Place, O: Sink>(
+    alloc: Global,
+    place: &mut P,
+    store: &str,
+    user: &User,
+    out: &mut O,
+) -> u8
+    ensures report { WasReported P.Place O.Sink store.now place.old place.new (ReportsView user.now) out.old out.new result }
+    ensures sound { P.tells place.new → KeptSound (OpensAs store.now (P.holds place.old store.now)) → result ≢ 5 }
+    ensures absent { P.tells place.new → result ≡ 0 → P.has place.old store.now }
+    ensures none_made { P.tells place.new → P.has place.new store.now → P.has place.old store.now }
+    ensures others { P.tells place.new → OthersStay P.holds P.may_leave P.is_out P.has P.accounts store.now place.old place.new }
+    ensures steady_place { P.fails_no_more place.old → P.has place.old store.now → PlaceIsSteady P.fails_no_more P.faults place.old place.new result }
+    ensures steady { O.fails_no_more out.old → O.fails_no_more out.new × (Rose (O.state out.old).refusals (O.state out.new).refusals ⊎ (result ≢ 7)) }
+{
+    match open_existing_desk(alloc, place, store) {
+        Ok(desk) => {
+            let report = export_text(alloc, desk.tables(), user);
             place.close_keeper(store, desk.close());
             write_report(out, &report).status()
         }

@@ -3,9 +3,10 @@ ghost use Rattle.std.specs.Prelude.{◌++◌, decimal, codes};
 ghost use Rattle.rv_base.specs.Outside.{Writes, IsSteady};
 ghost use Rattle.rv_answering.specs.declared.answer.Answer.TheVariants.{Refused, Retired};
 ghost use Rattle.std.specs.List.{flat_map};
-ghost use Rattle.rv_cli.specs.Texts.{line_text, place_text, shown_byte, text_of, serve_text, status_text, usage_text};
+ghost use Rattle.rv_cli.specs.Texts.{import_ending_text, line_text, place_text, shown_byte, text_of, serve_text, status_text, usage_text};
 
 use crate::ending::Ending;
+use crate::import_ending::ImportEnding;
 use crate::serve_ending::ServeEnding;
 use itoa::Buffer;
 use percent_encoding::percent_encode_byte;
@@ -184,6 +185,22 @@ pub(crate) fn write_serve_ending<O: Sink>(out: &mut O, ending: &ServeEnding) -> 
     }
 }
 
+/// Writes the text of an ending of `import`.
+pub(crate) fn write_import_ending<O: Sink>(out: &mut O, ending: &ImportEnding) -> Result<(), Failed>
+    ensures writes { Writes (O.state out.old) (O.state out.new) result (import_ending_text ending.now) }
+    ensures steady { O.fails_no_more out.old → IsSteady (O.fails_no_more out.new) (O.state out.old) (O.state out.new) result }
+{
+    match ending {
+        ImportEnding::Done => Ok(()),
+        ImportEnding::Read => write_all(out, b"read\n"),
+        ImportEnding::TooLarge => write_all(out, b"csv size\n"),
+        ImportEnding::BadRecord(number) => write_count(out, b"csv ", u64::from(*number)),
+        ImportEnding::Refused(refusal) => write_refusal(out, &ErrorBody::Refused(*refusal)),
+        ImportEnding::Memory => write_all(out, b"memory\n"),
+        ImportEnding::Write => Ok(()),
+    }
+}
+
 /// Writes the text of words that are no line of the command set.
 pub(crate) fn write_usage<O: Sink>(out: &mut O) -> Result<(), Failed>
     ensures writes { Writes (O.state out.old) (O.state out.new) result usage_text }
@@ -191,6 +208,6 @@ pub(crate) fn write_usage<O: Sink>(out: &mut O) -> Result<(), Failed>
 {
     write_all(
         out,
-        b"usage: rv feed|serve|retire|lists|activity|check|make\n",
+        b"usage: rv feed|serve|retire|lists|activity|check|make|import|export\n",
     )
 }

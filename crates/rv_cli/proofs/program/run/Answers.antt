@@ -1,10 +1,10 @@
-use Rattle.std.proofs.Common.{ℕ, List, inl, subst, sym}
+use Rattle.std.proofs.Common.{ℕ, List, arith, inl, inr, refl, subst, sym}
 use Rattle.rv_keeper.specs.Stores.{OthersStay}
 use Rattle.rv_cli.specs.declared.ending.Ending.TheVariants.{Memory}
-use Rattle.rv_cli.specs.Promises.{WasFed, WasReported, WasRetired}
-use Rattle.rv_cli.specs.Headline.{ReportsActivity, ReportsLists, ReportsSound}
-use Rattle.rv_cli.proofs.Named.{activity_same, checks_same, feeds_same, lists_same, names_activity, names_check, names_feed, names_lists, names_retire, names_serve, of_both, reports_activity, reports_check, reports_lists, retires_same}
-use Rattle.rv_cli.proofs.Sound.{activity_memory, check_memory, lists_memory, memory_sound, feeds_memory, retires_in_memory, serves_memory, serves_same}
+use Rattle.rv_cli.specs.Promises.{KeepsImport, WasFed, WasReported, WasRetired}
+use Rattle.rv_cli.specs.Headline.{ReportsActivity, ReportsLists, ReportsSound, ReportsView}
+use Rattle.rv_cli.proofs.Named.{activity_same, checks_same, exports_same, feeds_same, imports_same, lists_same, names_activity, names_check, names_export, names_feed, names_import, names_lists, names_retire, names_serve, of_both, of_three, reports_activity, reports_check, reports_export, reports_lists, retires_same}
+use Rattle.rv_cli.proofs.Sound.{activity_memory, check_memory, export_memory, lists_memory, memory_sound, feeds_memory, retires_in_memory, serves_memory, serves_same}
 use Rattle.rv_cli.proofs.program.run.Goals as goal
 
 pub returns-in-Ok-Some-Feed-clause-sound_memory : goal.returns-in-Ok-Some-Feed-clause-sound_memory
@@ -31,6 +31,11 @@ pub returns-in-Ok-Some-Check-clause-sound_memory_reports : goal.returns-in-Ok-So
 returns-in-Ok-Some-Check-clause-sound_memory_reports g c = λ asks told.
     let is = rw (c.in-Ok-Some-Check.field-0-is, c.in-Ok-Some-Check.field-0-0-is) at c.in-Ok-Some-Check.ensures in
     c.run_check.ensures.sound told (memory_sound _ _ (check_memory _ _ _ is c.as_str-in-Ok-Some-Check.ensures asks))
+
+pub returns-in-Ok-Some-Export-clause-sound_memory_reports : goal.returns-in-Ok-Some-Export-clause-sound_memory_reports
+returns-in-Ok-Some-Export-clause-sound_memory_reports g c = λ asks told.
+    let is = rw (c.in-Ok-Some-Export.field-0-is, c.in-Ok-Some-Export.field-0-0-is) at c.in-Ok-Some-Export.ensures in
+    c.run_export.ensures.sound told (memory_sound _ _ (export_memory _ _ _ _ is c.as_str-in-Ok-Some-Export.ensures asks))
 
 pub returns-in-Ok-Some-Serve-clause-sound_memory_serve : goal.returns-in-Ok-Some-Serve-clause-sound_memory_serve
 returns-in-Ok-Some-Serve-clause-sound_memory_serve g c = λ options asks told.
@@ -92,10 +97,20 @@ returns-in-Ok-Some-Check-clause-others g c = λ store names told.
     let is = rw (c.in-Ok-Some-Check.field-0-is, c.in-Ok-Some-Check.field-0-0-is) at c.in-Ok-Some-Check.ensures in
     subst (λ (name : List ℕ). OthersStay g.P.Place.holds g.P.Place.may_leave g.P.Place.is_out g.P.Place.has g.P.Place.accounts name c.args.place.now c.run_check.new.place) (names_check _ _ _ store is c.as_str-in-Ok-Some-Check.ensures names) (c.run_check.ensures.others told)
 
+pub returns-in-Ok-Some-Export-clause-others : goal.returns-in-Ok-Some-Export-clause-others
+returns-in-Ok-Some-Export-clause-others g c = λ store names told.
+    let is = rw (c.in-Ok-Some-Export.field-0-is, c.in-Ok-Some-Export.field-0-0-is) at c.in-Ok-Some-Export.ensures in
+    subst (λ (name : List ℕ). OthersStay g.P.Place.holds g.P.Place.may_leave g.P.Place.is_out g.P.Place.has g.P.Place.accounts name c.args.place.now c.run_export.new.place) (names_export _ _ _ store _ is c.as_str-in-Ok-Some-Export.ensures names) (c.run_export.ensures.others told)
+
 pub returns-in-Ok-Some-Check-clause-steady_reports : goal.returns-in-Ok-Some-Check-clause-steady_reports
 returns-in-Ok-Some-Check-clause-steady_reports g c = λ store names steady there.
     let is = rw (c.in-Ok-Some-Check.field-0-is, c.in-Ok-Some-Check.field-0-0-is) at c.in-Ok-Some-Check.ensures in
     c.run_check.ensures.steady_place steady (subst (λ (name : List ℕ). g.P.Place.has c.args.place.now name) (sym (reports_check _ _ _ store is c.as_str-in-Ok-Some-Check.ensures names)) there)
+
+pub returns-in-Ok-Some-Export-clause-steady_reports : goal.returns-in-Ok-Some-Export-clause-steady_reports
+returns-in-Ok-Some-Export-clause-steady_reports g c = λ store names steady there.
+    let is = rw (c.in-Ok-Some-Export.field-0-is, c.in-Ok-Some-Export.field-0-0-is) at c.in-Ok-Some-Export.ensures in
+    c.run_export.ensures.steady_place steady (subst (λ (name : List ℕ). g.P.Place.has c.args.place.now name) (sym (reports_export _ _ _ store _ is c.as_str-in-Ok-Some-Export.ensures names)) there)
 
 pub returns-in-Ok-Some-Serve-clause-steady_serve : goal.returns-in-Ok-Some-Serve-clause-steady_serve
 returns-in-Ok-Some-Serve-clause-steady_serve g c = λ store options asks steady there.
@@ -136,6 +151,12 @@ returns-in-Ok-Some-Check-clause-check g c = λ store asks.
     let is = rw (c.in-Ok-Some-Check.field-0-is, c.in-Ok-Some-Check.field-0-0-is) at c.in-Ok-Some-Check.ensures in
     inl (subst (λ (name : List ℕ). WasReported g.P.Place g.O.Sink name c.args.place.now c.run_check.new.place ReportsSound c.args.out.now c.run_check.new.out c.run_check.result) (checks_same _ _ _ store is c.as_str-in-Ok-Some-Check.ensures asks) c.run_check.ensures.report)
 
+pub returns-in-Ok-Some-Export-clause-export : goal.returns-in-Ok-Some-Export-clause-export
+returns-in-Ok-Some-Export-clause-export g c = λ store user asks.
+    let is = rw (c.in-Ok-Some-Export.field-0-is, c.in-Ok-Some-Export.field-0-0-is) at c.in-Ok-Some-Export.ensures in
+    let (named, seen_by) = exports_same _ _ _ store _ user is c.as_str-in-Ok-Some-Export.ensures asks in
+    inl (of_both (λ name got. WasReported g.P.Place g.O.Sink name c.args.place.now c.run_export.new.place (ReportsView got) c.args.out.now c.run_export.new.out c.run_export.result) _ store _ user named seen_by c.run_export.ensures.report)
+
 pub returns-in-Ok-Some-Lists-clause-none_made : goal.returns-in-Ok-Some-Lists-clause-none_made
 returns-in-Ok-Some-Lists-clause-none_made g c = λ store names told has.
     let is = rw (c.in-Ok-Some-Lists.field-0-is, c.in-Ok-Some-Lists.field-0-0-is) at c.in-Ok-Some-Lists.ensures in
@@ -154,5 +175,43 @@ returns-in-Ok-Some-Check-clause-none_made g c = λ store names told has.
     let same = reports_check _ _ _ store is c.as_str-in-Ok-Some-Check.ensures names in
     subst (λ (name : List ℕ). g.P.Place.has c.args.place.now name) same (c.run_check.ensures.none_made told (subst (λ (name : List ℕ). g.P.Place.has c.run_check.new.place name) (sym same) has))
 
+pub returns-in-Ok-Some-Export-clause-none_made : goal.returns-in-Ok-Some-Export-clause-none_made
+returns-in-Ok-Some-Export-clause-none_made g c = λ store names told has.
+    let is = rw (c.in-Ok-Some-Export.field-0-is, c.in-Ok-Some-Export.field-0-0-is) at c.in-Ok-Some-Export.ensures in
+    let same = reports_export _ _ _ store _ is c.as_str-in-Ok-Some-Export.ensures names in
+    subst (λ (name : List ℕ). g.P.Place.has c.args.place.now name) same (c.run_export.ensures.none_made told (subst (λ (name : List ℕ). g.P.Place.has c.run_export.new.place name) (sym same) has))
+
 pub returns-in-Err-clause-make : goal.returns-in-Err-clause-make
 returns-in-Err-clause-make g c = λ seed requests asks. (Memory, c.give_up.ensures.status, c.give_up.ensures.text)
+
+pub returns-in-Ok-Some-Import-clause-import : goal.returns-in-Ok-Some-Import-clause-import
+returns-in-Ok-Some-Import-clause-import g c = λ store user name asks.
+    let is = rw (c.in-Ok-Some-Import.field-0-is, c.in-Ok-Some-Import.field-0-0-is) at c.in-Ok-Some-Import.ensures in
+    let (named, owned, called) = imports_same _ _ _ store _ user _ name is c.as_str-in-Ok-Some-Import.ensures asks in
+    of_three (λ at one file. KeepsImport g.P.Place g.O.Sink at c.args.place.now c.run_import.new.place g.S.Source one file c.args.input.now c.run_import.new.input c.args.out.now c.run_import.new.out c.run_import.result) _ store _ user _ name named owned called
+    (record {
+      run = inl c.run_import.ensures.import;
+      complete = c.run_import.ensures.complete;
+      sound = c.run_import.ensures.sound;
+      in_memory = λ told memory. c.run_import.ensures.sound told (memory_sound _ _ memory);
+      steady = c.run_import.ensures.steady_place;
+    })
+
+pub returns-in-Ok-Some-Import-clause-others : goal.returns-in-Ok-Some-Import-clause-others
+returns-in-Ok-Some-Import-clause-others g c = λ store names told.
+    let is = rw (c.in-Ok-Some-Import.field-0-is, c.in-Ok-Some-Import.field-0-0-is) at c.in-Ok-Some-Import.ensures in
+    subst (λ (name : List ℕ). OthersStay g.P.Place.holds g.P.Place.may_leave g.P.Place.is_out g.P.Place.has g.P.Place.accounts name c.args.place.now c.run_import.new.place) (names_import _ _ _ store _ _ is c.as_str-in-Ok-Some-Import.ensures names) (c.run_import.ensures.others told)
+
+pub returns-in-Ok-Some-Import-clause-reads : goal.returns-in-Ok-Some-Import-clause-reads
+returns-in-Ok-Some-Import-clause-reads g c = λ never none.
+    let is = rw (c.in-Ok-Some-Import.field-0-is, c.in-Ok-Some-Import.field-0-0-is) at c.in-Ok-Some-Import.ensures in
+    absurd (none _ _ _ (sym is))
+
+pub returns-in-Err-clause-import : goal.returns-in-Err-clause-import
+returns-in-Err-clause-import g c = λ store user name asks. record {
+  run = inr (c.give_up.ensures.status, refl, refl, c.give_up.ensures.text);
+  complete = inr (inr (inr (inr (inr (inl c.give_up.ensures.status)))));
+  sound = λ told kept five. let eight = c.give_up.ensures.status in omega (arith, eight, five);
+  in_memory = λ told memory five. let eight = c.give_up.ensures.status in omega (arith, eight, five);
+  steady = λ steady. record { goes_on = steady; still = refl; no_fault = λ four. let eight = c.give_up.ensures.status in omega (arith, eight, four) };
+}

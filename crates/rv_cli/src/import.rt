@@ -1,0 +1,153 @@
+// The command `import`: the store is opened, the input is read whole, and its records are turns of the desk.
+ghost use Rattle.std.specs.Prelude.{◌≡◌, ◌≢◌, ◌⊎◌};
+ghost use Rattle.rv_base.specs.Causes.{Rose};
+ghost use Rattle.rv_keeper.specs.Stores.{OpensAs, OthersStay};
+ghost use Rattle.rv_import.specs.Importing.{import_text};
+ghost use Rattle.rv_cli.specs.Headline.{KeptSound, WritesOnly};
+ghost use Rattle.rv_cli.specs.Importing.{IsImportStatus, ImportsInput, ImportsWith, WritesCounts, WritesCame};
+ghost use Rattle.rv_cli.specs.Input.{WholeIsSteady};
+ghost use Rattle.rv_cli.specs.Promises.{WasImported};
+ghost use Rattle.rv_cli.specs.Steadiness.{ImportIsSteady, PlaceIsSteady};
+ghost use Rattle.rv_cli.specs.Texts.{import_ending_text};
+
+use crate::import_ending::ImportEnding;
+use crate::input::read_input;
+use crate::input_fault::InputFault;
+use crate::store::{open_desk, refuse_opening};
+use crate::texts::write_import_ending;
+use rv_base::{Bytes, Failed, Memory, Sink, Source, User, write_all};
+use rv_desk::Desk;
+use rv_import::{ImportCounts, ImportEnd, ImportName, import};
+use rv_keeper::{Keeper, Place};
+use rv_turns::Turns;
+use std::alloc::Global;
+
+// Reads the input whole, and takes the turns of its records.
+fn import_input<T: Turns, S: Source>(
+    alloc: Global,
+    turns: &mut T,
+    user: &User,
+    name: &ImportName,
+    input: &mut S,
+) -> Result<ImportEnd, InputFault>
+    ensures imports { ImportsInput T.takes user.now name.now turns.old (S.state input.old) (S.state input.new) result turns.new }
+    ensures steady { S.fails_no_more input.old → WholeIsSteady (S.fails_no_more input.new) result }
+{
+    let bytes = read_input(alloc, input)?;
+    Ok(import(alloc, turns, user, name, bytes.as_slice()))
+}
+
+// The same at a desk, with the keeper that is left.
+fn import_at<K: Keeper, S: Source>(
+    alloc: Global,
+    desk: Desk<K>,
+    user: &User,
+    name: &ImportName,
+    input: &mut S,
+) -> (Result<ImportEnd, InputFault>, K)
+    ensures imports { ImportsWith K.Keeper desk user.now name.now (S.state input.old) (S.state input.new) result }
+    ensures steady_input { S.fails_no_more input.old → WholeIsSteady (S.fails_no_more input.new) result.0 }
+    ensures steady_keeper { K.fails_no_more desk.keeper → K.fails_no_more result.1 × (K.faults result.1 ≡ K.faults desk.keeper) }
+{
+    let mut desk = desk;
+    let came = import_input(alloc, &mut desk, user, name, input);
+    (came, desk.close())
+}
+
+// Ends so, with the text of the ending.
+fn end_with<O: Sink>(out: &mut O, ending: ImportEnding) -> ImportEnding
+    ensures same { result ≡ ending }
+    ensures text { WritesOnly (O.state out.old) (O.state out.new) (import_ending_text ending) }
+    ensures steady { O.fails_no_more out.old → O.fails_no_more out.new }
+{
+    let _ = write_import_ending(out, &ending);
+    ending
+}
+
+// Writes the text of the counts.
+fn write_counted<O: Sink>(out: &mut O, text: &Bytes) -> ImportEnding
+    ensures writes { WritesCounts (O.state out.old) (O.state out.new) text.now result }
+    ensures steady { O.fails_no_more out.old → ImportIsSteady (O.fails_no_more out.new) (O.state out.old).refusals (O.state out.new).refusals result }
+{
+    match write_all(out, text.as_slice()) {
+        Ok(()) => ImportEnding::Done,
+        Err(Failed) => ImportEnding::Write,
+    }
+}
+
+// Writes how many records there were.
+fn write_counts<O: Sink>(alloc: Global, out: &mut O, counts: &ImportCounts) -> ImportEnding
+    ensures writes { WritesCounts (O.state out.old) (O.state out.new) (import_text counts.now) result }
+    ensures steady { O.fails_no_more out.old → ImportIsSteady (O.fails_no_more out.new) (O.state out.old).refusals (O.state out.new).refusals result }
+{
+    match counts.text(alloc) {
+        Ok(text) => write_counted(out, &text),
+        Err(Memory) => end_with(out, ImportEnding::Memory),
+    }
+}
+
+// Writes what came of the input.
+fn write_came<O: Sink>(
+    alloc: Global,
+    out: &mut O,
+    came: &Result<ImportEnd, InputFault>,
+) -> ImportEnding
+    ensures writes { WritesCame (O.state out.old) (O.state out.new) came.now result }
+    ensures steady { O.fails_no_more out.old → ImportIsSteady (O.fails_no_more out.new) (O.state out.old).refusals (O.state out.new).refusals result }
+{
+    match came {
+        Ok(ImportEnd::Done(counts)) => write_counts(alloc, out, counts),
+        Ok(ImportEnd::TooLarge) => end_with(out, ImportEnding::TooLarge),
+        Ok(ImportEnd::BadRecord(number)) => end_with(out, ImportEnding::BadRecord(*number)),
+        Ok(ImportEnd::Refused(refusal)) => end_with(out, ImportEnding::Refused(*refusal)),
+        Ok(ImportEnd::Memory) => end_with(out, ImportEnding::Memory),
+        Err(InputFault::Read) => end_with(out, ImportEnding::Read),
+        Err(InputFault::TooLarge) => end_with(out, ImportEnding::TooLarge),
+        Err(InputFault::Memory) => end_with(out, ImportEnding::Memory),
+    }
+}
+
+/// Enters the records of the input, which is CSV, as todos of a user, one mutation each: the command `import STORE USER NAME`. The
+/// store is opened first, and the input is read whole before the first turn. The status is 0, 4, 5, 6, 7, 8, 11 or 12, as
+/// [`run`](crate::run) says.
+pub fn run_import<P: Place, S: Source, O: Sink>(
+    alloc: Global,
+    place: &mut P,
+    store: &str,
+    user: &User,
+    name: &ImportName,
+    input: &mut S,
+    out: &mut O,
+) -> u8
+    // What was entered are the turns of the records that were read, from the book that the store kept, and the store keeps the book that
+    // they leave.
+    ensures import { WasImported P.Place O.Sink store.now place.old place.new S.Source user.now name.now input.old input.new out.old out.new result }
+    ensures complete { IsImportStatus result }
+
+    // Where the place tells, and the store kept a lawful book within the limit, the status is no damage.
+    ensures sound { P.tells place.new → KeptSound (OpensAs store.now (P.holds place.old store.now)) → result ≢ 5 }
+
+    // A fault is told exactly where one rose, but for a write of a status's own text that failed.
+    ensures keeper { result ≡ 4 → Rose (P.faults place.old) (P.faults place.new) }
+    ensures read { result ≡ 6 → Rose (S.state input.old).faults (S.state input.new).faults }
+    ensures read_told { result ≡ 6 ⊎ (S.state input.new).faults ≡ (S.state input.old).faults }
+    ensures write { result ≡ 7 → Rose (O.state out.old).faults (O.state out.new).faults }
+    ensures write_told { result ≡ 7 ⊎ (O.state out.new).faults ≡ (O.state out.old).faults ⊎ ((result ≢ 0) × Rose (O.state out.old).faults (O.state out.new).faults) }
+
+    // Over an input and an output that fail no more it is none of the faults, but for want of memory in the output.
+    ensures steady_input { S.fails_no_more input.old → S.fails_no_more input.new × (result ≢ 6) }
+    ensures steady_output { O.fails_no_more out.old → O.fails_no_more out.new × (Rose (O.state out.old).refusals (O.state out.new).refusals ⊎ (result ≢ 7)) }
+
+    // Stores and files of other names are as they were. Over a place that fails no more the status is no fault of it.
+    ensures others { P.tells place.new → OthersStay P.holds P.may_leave P.is_out P.has P.accounts store.now place.old place.new }
+    ensures steady_place { P.fails_no_more place.old → PlaceIsSteady P.fails_no_more P.faults place.old place.new result }
+{
+    match open_desk(alloc, place, store) {
+        Ok(desk) => {
+            let (came, keeper) = import_at(alloc, desk, user, name, input);
+            place.close_keeper(store, keeper);
+            write_came(alloc, out, &came).status()
+        }
+        Err(ending) => refuse_opening(out, &ending),
+    }
+}
