@@ -56,5 +56,13 @@ pub fn compare<R: Threads + Wait + Sync>(
     let third = in_database(stage, on_disks(alloc)?, &input)?;
     let in_memory = compared(alloc, &one, &other)?;
     let on_disks = compared(alloc, &one, &third)?;
-    joined(alloc, &[Text("in memory "), Text(in_memory.as_str()), Text("on disks "), Text(on_disks.as_str())])
+    joined(
+        alloc,
+        &[
+            Text("in memory "),
+            Text(in_memory.as_str()),
+            Text("on disks "),
+            Text(on_disks.as_str()),
+        ],
+    )
 }
