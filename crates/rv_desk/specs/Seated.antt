@@ -31,16 +31,6 @@ module _ {K : Type 0} (tells fails_no_more : K → Type 0) where
   abbrev pub Assures : K → Option Trouble → K → Type 0
   Assures old trouble new = IsAssured (tells old) (tells new) (fails_no_more old) (fails_no_more new) trouble
 
--- A turn of a desk: it is one of its server, whose replies are written as JSON, and this is known besides of its keeper.
-pub record DeskTakes {K : Type 0} (G : Ghosts K) (old : Seated K) (ask : Ask) (outcome : Outcome) (new : Seated K) : Type 0 where
-  pub turn : TakesTurn pull_json (served G.faults old) ask outcome (served G.faults new)
-  pub assured : Assures G.tells G.fails_no_more old.keeper (trouble_of outcome) new.keeper
-
--- The same with the steps that were counted before it and after: at most as many were taken as the walks of what is asked have entries
--- at the book as it settled.
-abbrev pub DeskTakesWithin : {K : Type 0} → Ghosts K → Seated K → Ask → Outcome → Seated K → ℕ → ℕ → Type 0
-DeskTakesWithin G old ask outcome new before after = (taken : DeskTakes G old ask outcome new) × (after ≤ before + turn_entries ask taken.turn.settled)
-
 -- what the keeper holds, where it tells, are the cells of the book, or of the book with what is in doubt
 abbrev pub HoldsBook : (Loaded → Type 0) → Book → Doubt → Type 0
 HoldsBook Holds book doubt = (held : Loaded) × Holds held × IsKeptWith book doubt held
@@ -53,6 +43,18 @@ LeavesBook Leaves book doubt = (left : Option Loaded) → Leaves left → (held 
 pub record KeepsBook {K : Type 0} (G : Ghosts K) (keeper : K) (book : Book) (doubt : Doubt) : Type 0 where
   pub held : G.tells keeper → HoldsBook (G.holds keeper) book doubt
   pub left : G.honest keeper → LeavesBook (G.may_leave keeper) book doubt
+
+-- A turn of a desk: it is one of its server, whose replies are written as JSON, and this is known besides of its keeper; as the turn ends, it
+-- keeps the book, with what is in doubt then.
+pub record DeskTakes {K : Type 0} (G : Ghosts K) (old : Seated K) (ask : Ask) (outcome : Outcome) (new : Seated K) : Type 0 where
+  pub turn : TakesTurn pull_json (served G.faults old) ask outcome (served G.faults new)
+  pub assured : Assures G.tells G.fails_no_more old.keeper (trouble_of outcome) new.keeper
+  pub kept : KeepsBook G new.keeper new.book new.doubt
+
+-- The same with the steps that were counted before it and after: at most as many were taken as the walks of what is asked have entries
+-- at the book as it settled.
+abbrev pub DeskTakesWithin : {K : Type 0} → Ghosts K → Seated K → Ask → Outcome → Seated K → ℕ → ℕ → Type 0
+DeskTakesWithin G old ask outcome new before after = (taken : DeskTakes G old ask outcome new) × (after ≤ before + turn_entries ask taken.turn.settled)
 
 -- a server by its parts: the state, what is prepared and in doubt, and the count of faults
 abbrev pub parts_served : Standing → Option Prepared → ℕ → Served

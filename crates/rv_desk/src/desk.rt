@@ -51,7 +51,7 @@ impl<K: Keeper> Desk<K> {
     ghost use Rattle.rv_keeper.specs.declared.loaded.Loaded.{Loaded};
     ghost use Rattle.rv_news.specs.Records.{AreRecords};
     ghost use Rattle.rv_record.specs.EntryReading.{EntryFits};
-    ghost use Rattle.rv_desk.specs.Seated.{HoldsBook, LeavesBook};
+    ghost use Rattle.rv_desk.specs.Seated.{HoldsBook, KeepsBook, LeavesBook};
 
     /// The desk of the book that the keeper holds, which takes at most so many entries. Whatever is kept is left as it is. The
     /// refusals give the keeper back: the keeper failed, and its count of faults rose; the cells are not just those of a lawful
@@ -97,7 +97,8 @@ impl<K: Keeper> Desk<K> {
     /// The mark of a user in the book, without an entry in doubt: the greatest place of an act that is by the user, or after which what the
     /// user sees is another; 0 where there is none. Takes no memory.
     pub fn mark(&self, user: &User) -> u32
-        ensures { IsMark user.now self.now.book result }
+        ensures mark { IsMark user.now self.now.book result }
+        ensures kept { KeepsBook K.Keeper self.now.keeper self.now.book self.now.doubt }
     {
         self.state.mark(user)
     }

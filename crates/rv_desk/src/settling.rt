@@ -1,6 +1,6 @@
 // Settling what is in doubt: the keeper's generation tells whether the entry was kept.
 ghost use Rattle.std.specs.Prelude.{◌≡◌, None, Some};
-ghost use Rattle.rv_desk.specs.Seated.{Assures, AreInStep, LeavesInStep, parts_served, served};
+ghost use Rattle.rv_desk.specs.Seated.{Assures, AreInStep, KeepsBook, LeavesInStep, parts_served, served};
 ghost use Rattle.rv_desk.specs.Settling.{HasSettled, settle_trouble};
 ghost use Rattle.rv_state.specs.Ready.{IsPrepared};
 
@@ -17,6 +17,7 @@ impl<K: Keeper> Desk<K> {
     pub fn settle(&mut self) -> Result<(), Trouble>
         ensures settled { HasSettled (served K.faults self.old) result (served K.faults self.new) }
         ensures assured { Assures K.tells K.fails_no_more self.old.keeper (settle_trouble result) self.new.keeper }
+        ensures kept { KeepsBook K.Keeper self.new.keeper self.new.book self.new.doubt }
     {
         settle(&mut self.state, &mut self.doubt, &mut self.keeper)
     }

@@ -17,7 +17,7 @@ use Rattle.rv_history.specs.TurnLaws.{Adds, step_adds}
 use Rattle.rv_history.specs.Reading.{turn_entries}
 use Rattle.rv_history.specs.Served.{Doubt, Served, Settles, TurnOf, TakesTurn}
 use Rattle.rv_keeper.specs.declared.keeper.Keeper.{Ghosts}
-use Rattle.rv_desk.specs.Seated.{Assures, DeskTakes, Seated, served}
+use Rattle.rv_desk.specs.Seated.{Assures, DeskTakes, KeepsBook, Seated, served}
 use Rattle.rv_desk.specs.Settling.{HasSettled, settle_trouble}
 use Rattle.rv_desk.specs.TurnLaws.{assures_on, no_doubt, none_settles, turn_after, turn_unsettled}
 use Rattle.rv_room.specs.declared.view.SeatView.{SeatView}
@@ -141,7 +141,7 @@ module _ {K : Type 0} (G : Ghosts K) where
     keeps = of.2;
     begins = begins;
     follows = later;
-    takes = record { turn = turn_after pull_json ask outcome (served G.faults d) (served G.faults mid) (served G.faults d') settled takes.turn; assured = assures_on G.tells G.fails_no_more d.keeper mid.keeper d'.keeper (trouble_of outcome) assured takes.assured };
+    takes = record { turn = turn_after pull_json ask outcome (served G.faults d) (served G.faults mid) (served G.faults d') settled takes.turn; assured = assures_on G.tells G.fails_no_more d.keeper mid.keeper d'.keeper (trouble_of outcome) assured takes.assured; kept = takes.kept };
     stays = refl;
     seen = refl;
     ends = refl;
@@ -153,9 +153,9 @@ module _ {K : Type 0} (G : Ghosts K) where
   }
 
   pub seat_held : (v : SeatView K) (t : ℕ) (d d' : Seated K) (trouble : Trouble) (ask : Ask) → IsOf G v d → Extends d.book v.seen → FollowsAll G v.after d.keeper
-      → HasSettled (served G.faults d) (Err trouble) (served G.faults d') → Assures G.tells G.fails_no_more d.keeper (Some trouble) d'.keeper
+      → HasSettled (served G.faults d) (Err trouble) (served G.faults d') → Assures G.tells G.fails_no_more d.keeper (Some trouble) d'.keeper → KeepsBook G d'.keeper d'.book d'.doubt
       → IsSeatTurn G v ask (Refused (refusals.Trouble trouble)) (held_view (on_turn G.faults (waiting v t) d) d'.keeper)
-  seat_held v t d d' trouble ask of begins later settled assured =
+  seat_held v t d d' trouble ask of begins later settled assured kept =
       let same : d'.book ≡ d.book = settled.settled.stays.0 in
       let none : since (size d.book) d.book ≡ [] = drop_self d.book.entries in record {
         opened = of.0;
@@ -165,7 +165,7 @@ module _ {K : Type 0} (G : Ghosts K) where
         keeps = of.2;
         begins = begins;
         follows = later;
-        takes = record { turn = turn_unsettled pull_json ask (served G.faults d) (served G.faults d') trouble settled; assured = assured };
+        takes = record { turn = turn_unsettled pull_json ask (served G.faults d) (served G.faults d') trouble settled; assured = assured; kept = kept };
         stays = refl;
         seen = sym same;
         ends = ap (λ (b : Book). v.ends ++ size b ∷ []) (sym same);
@@ -207,22 +207,22 @@ module _ {K : Type 0} (G : Ghosts K) where
       )
 
   pub held_within : (v : SeatView K) (d d' : Seated K) (m : Knows K) (ask : Ask) (w : SeatView K) (why : Trouble) → HasTaken G v d m → IsOf G v d → Extends d.book v.seen → FollowsAll G v.after d.keeper
-      → (settled : Result (Unit {0}) Trouble) → settled ≡ Err why → HasSettled (served G.faults d) settled (served G.faults d') → Assures G.tells G.fails_no_more d.keeper (settle_trouble settled) d'.keeper
+      → (settled : Result (Unit {0}) Trouble) → settled ≡ Err why → HasSettled (served G.faults d) settled (served G.faults d') → Assures G.tells G.fails_no_more d.keeper (settle_trouble settled) d'.keeper → KeepsBook G d'.keeper d'.book d'.doubt
       → w ≡ held_view m.0 d'.keeper
       → (before : ℕ) → IsSeatTurnWithin G v ask (Refused (refusals.Trouble why)) w before before
-  held_within v d d' m ask w why taken of begins later settled err is assured view before =
+  held_within v d d' m ask w why taken of begins later settled err is assured kept view before =
       subst (λ (s : SeatView K). IsSeatTurnWithin G v ask (Refused (refusals.Trouble why)) s before before) (sym (view ∙ ap (λ (m : Knows K). held_view m.0 d'.keeper) taken.1)) (
         seat_held G v taken.0 d d' why ask of begins later (subst (λ (r : Result (Unit {0}) Trouble). HasSettled (served G.faults d) r (served G.faults d')) err is)
-            (subst (λ (r : Result (Unit {0}) Trouble). Assures G.tells G.fails_no_more d.keeper (settle_trouble r) d'.keeper) err assured),
+            (subst (λ (r : Result (Unit {0}) Trouble). Assures G.tells G.fails_no_more d.keeper (settle_trouble r) d'.keeper) err assured) kept,
         omega arith,
       )
 
 -- ---- All of a turn that leaves the desk as it is.
 
 module _ {K : Type 0} (G : Ghosts K) where
-  seat_mark : (v : SeatView K) (t : ℕ) (d : Seated K) (user : List ℕ) (mark : ℕ) → IsOf G v d → Extends d.book v.seen → FollowsAll G v.after d.keeper → IsMark user d.book mark
+  seat_mark : (v : SeatView K) (t : ℕ) (d : Seated K) (user : List ℕ) (mark : ℕ) → IsOf G v d → Extends d.book v.seen → FollowsAll G v.after d.keeper → IsMark user d.book mark → KeepsBook G d.keeper d.book d.doubt
       → IsSeatMark G v user mark (held_view (on_turn G.faults (waiting v t) d) d.keeper)
-  seat_mark v t d user mark of begins later is = record {
+  seat_mark v t d user mark of begins later is kept = record {
     opened = of.0;
     desk = d;
     room = of.1;
@@ -230,6 +230,7 @@ module _ {K : Type 0} (G : Ghosts K) where
     begins = begins;
     follows = later;
     marks = is;
+    kept = kept;
     stays = refl;
     seen = refl;
     ends = refl;
@@ -240,8 +241,8 @@ module _ {K : Type 0} (G : Ghosts K) where
     after = refl;
   }
 
-  pub marked_turn : (v : SeatView K) (d : Seated K) (m : Knows K) (user : List ℕ) (mark : ℕ) (w : SeatView K) → HasTaken G v d m → IsOf G v d → Extends d.book v.seen → FollowsAll G v.after d.keeper → IsMark user d.book mark
+  pub marked_turn : (v : SeatView K) (d : Seated K) (m : Knows K) (user : List ℕ) (mark : ℕ) (w : SeatView K) → HasTaken G v d m → IsOf G v d → Extends d.book v.seen → FollowsAll G v.after d.keeper → IsMark user d.book mark → KeepsBook G d.keeper d.book d.doubt
       → w ≡ held_view m.0 d.keeper
       → IsSeatMark G v user mark w
-  marked_turn v d m user mark w taken of begins later is view =
-      subst (IsSeatMark G v user mark) (sym (view ∙ ap (λ (m : Knows K). held_view m.0 d.keeper) taken.1)) (seat_mark v taken.0 d user mark of begins later is)
+  marked_turn v d m user mark w taken of begins later is kept view =
+      subst (IsSeatMark G v user mark) (sym (view ∙ ap (λ (m : Knows K). held_view m.0 d.keeper) taken.1)) (seat_mark v taken.0 d user mark of begins later is kept)

@@ -3,14 +3,14 @@ use Rattle.std.specs.Prelude.{◌≡◌, ℕ, List, [], ◌∷◌, ◌++◌, Som
 use Rattle.rv_book.specs.Book.{size, Extends}
 use Rattle.rv_history.specs.Marks.{IsMark}
 use Rattle.rv_keeper.specs.declared.keeper.Keeper.{Ghosts}
-use Rattle.rv_desk.specs.Seated.{Seated}
+use Rattle.rv_desk.specs.Seated.{KeepsBook, Seated}
 use Rattle.rv_room.specs.declared.view.SeatView.{SeatView}
 use Rattle.rv_room.specs.Following.{FollowsAll}
 use Rattle.rv_room.specs.Rule.{Keeps}
 
 -- A mark that a seat is told, by what it knows before and after: it is the user's in the book of a desk, as the desk in the room stood, which
--- the seat has for a turn and leaves as it is. That desk is of the room as in a turn of the seat, and its book goes on from what the seat had
--- seen. Then the seat has seen that book; it has nothing more of its own.
+-- the seat has for a turn and leaves as it is. That desk is of the room as in a turn of the seat, its keeper keeps its book, and that goes on
+-- from what the seat had seen. Then the seat has seen that book; it has nothing more of its own.
 pub record IsSeatMark {K : Type 0} (G : Ghosts K) (old : SeatView K) (user : List ℕ) (mark : ℕ) (new : SeatView K) : Type 0 where
   pub opened : Seated K
   pub desk : Seated K
@@ -19,6 +19,7 @@ pub record IsSeatMark {K : Type 0} (G : Ghosts K) (old : SeatView K) (user : Lis
   pub begins : Extends desk.book old.seen
   pub follows : FollowsAll G old.after desk.keeper
   pub marks : IsMark user desk.book mark
+  pub kept : KeepsBook G desk.keeper desk.book desk.doubt
   pub stays : new.opened ≡ old.opened
   pub seen : new.seen ≡ desk.book
   pub ends : new.ends ≡ old.ends ++ size desk.book ∷ []

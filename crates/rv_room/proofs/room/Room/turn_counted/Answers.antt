@@ -57,7 +57,7 @@ pub returns-in-Err-clause-turn : goal.returns-in-Err-clause-turn
 returns-in-Err-clause-turn g c =
     let M : Type 0 = Knows g.row.K.Denot in
     held_within g.K.Keeper c.args.seat.now.token.me.0 c.begin-desk.result c.settle.new.self c.begin-desk.new.token.me (ask_of c.args.asked) c.end_held.new.token.me.0 c.in-Err.trouble c.begin-desk.ensures.view c.begin-desk.ensures.of c.begin-desk.ensures.begins c.begin-desk.ensures.later
-    c.settle.result c.in-Err.is c.settle.ensures.settled c.settle.ensures.assured (ap (λ (m : M). m.0) c.end_held.ensures.ended) c.args.steps.now
+    c.settle.result c.in-Err.is c.settle.ensures.settled c.settle.ensures.assured c.settle.ensures.kept (ap (λ (m : M). m.0) c.end_held.ensures.ended) c.args.steps.now
 
 pub invariant_of-seat : goal.invariant_of-seat
 invariant_of-seat g c =

@@ -18,4 +18,4 @@ pub returns-clause-mark : goal.returns-clause-mark
 returns-clause-mark g c =
     let M : Type 0 = Knows g.row.K.Denot in
     marked_turn g.K.Keeper c.args.seat.now.token.me.0 c.begin-desk.result c.begin-desk.new.token.me c.args.user.now c.mark-mark.result c.end_held.new.token.me.0 c.begin-desk.ensures.view c.begin-desk.ensures.of c.begin-desk.ensures.begins
-    c.begin-desk.ensures.later c.mark-mark.ensures (ap (λ (m : M). m.0) c.end_held.ensures.ended)
+    c.begin-desk.ensures.later c.mark-mark.ensures.mark c.mark-mark.ensures.kept (ap (λ (m : M). m.0) c.end_held.ensures.ended)
