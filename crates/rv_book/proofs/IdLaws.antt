@@ -13,11 +13,13 @@ use Rattle.rv_base.specs.Arranged.{in_order-same, find-map}
 use Rattle.rv_book.specs.declared.entry.Entry.{Entry}
 use Rattle.rv_book.specs.declared.entry.Entry.TheVariants.{Act, Look, Retire}
 use Rattle.rv_book.specs.declared.clients.ClientRow.{ClientRow}
-use Rattle.rv_book.specs.Entries.{is_act_of, group_of_in}
-use Rattle.rv_book.specs.Book.{Book, last, group_of, belongs, client_in, ids}
-use Rattle.rv_book.specs.Indexes.{first_where, actor, client_of_row, row_from, client_row}
-use Rattle.rv_book.specs.Members.{member_key, client_of_key, acting_client, group_of_member, key_of_member, is_member, info_by, row_with_key, member_row, AreMemberRows}
-use Rattle.rv_book.proofs.IndexLaws.{bytes_eq_back, found_key, found_all}
+use Rattle.rv_book.specs.Entries.{is_act_of}
+use Rattle.rv_book.specs.Book.{Book, last, group_of, acting_client, belongs, client_in, clients_named, ids}
+use Rattle.rv_book.specs.Indexes.{acting, first_where, actor, client_of_row, row_from, client_row}
+use Rattle.rv_book.specs.Members.{member_key, client_of_key, group_of_member, key_of_member, is_member, info_by, row_with_key, member_row, AreMemberRows}
+use Rattle.rv_book.specs.BookWords.{bytes_eq_back}
+use Rattle.rv_book.specs.RegisterLaws.{client_is_named}
+use Rattle.rv_book.proofs.IndexLaws.{found_key, found_all}
 use Rattle.rv_book.proofs.ClientLaws.{act_is, no_group}
 use Rattle.rv_book.proofs.MemberKeys.{same-member_key, client-member_key, in_order-group}
 
@@ -31,15 +33,13 @@ first pair = pair.0
 abbrev Own : Book → Pair → Type 0
 Own book pair = pair.1 ≡ last pair.0 book
 
-own_client : (group : List ℕ) (book : Book) (xs : List Entry) → AllByRecursion (Own book) (filter_map (client_in group book) xs)
+own_client : (group : List ℕ) (book : Book) (names : List (List ℕ)) → AllByRecursion (Own book) (filter_map (client_in group book) names)
 own_client group book [] = tt
-own_client group book (Act user other client id call ∷ xs) =
-    elim (belongs client group book) as (λ b. AllByRecursion (Own book) (cons_option (cond b (Some (client, last client book)) None) (filter_map (client_in group book) xs))) [
-      | true ↦ (refl, own_client group book xs)
-      | false ↦ own_client group book xs
+own_client group book (client ∷ names) =
+    elim (belongs client group book) as (λ b. AllByRecursion (Own book) (cons_option (cond b (Some (client, last client book)) None) (filter_map (client_in group book) names))) [
+      | true ↦ (refl, own_client group book names)
+      | false ↦ own_client group book names
     ]
-own_client group book (Look user other order base ∷ xs) = own_client group book xs
-own_client group book (Retire other ∷ xs) = own_client group book xs
 
 all_after : (P : Pair → Type 0) (xs sorted : List Pair) → AllByRecursion P xs → AllByRecursion P sorted → AllByRecursion P (fold (λ s x. put_by first x s) sorted xs)
 all_after P [] sorted all h = h
@@ -56,13 +56,7 @@ found_own book k xs all =
     pair : (x : Pair) → x.0 ≡ k → x.1 ≡ last x.0 book → Some x ≡ Some (k, last k book)
     pair x is own = let all : x.1 ≡ last k book = own ∙ ap (λ (t : List ℕ). last t book) is in (λ i. Some (is i, all i))
 
--- a client of the group has acts, and each of them is found
-has_act : (k : List ℕ) (entries : List Entry) → is_some (group_of_in k entries) ≡ list_any (is_act_of k) entries
-has_act k [] = refl
-has_act k (Act user group client id call ∷ entries) = elim (bytes_eq client k) as (λ b. is_some (cond b (Some group) (group_of_in k entries)) ≡ (b || list_any (is_act_of k) entries)) [ true ↦ refl | false ↦ has_act k entries ]
-has_act k (Look user group order base ∷ entries) = has_act k entries
-has_act k (Retire group ∷ entries) = has_act k entries
-
+-- a client of the group is named, and each name is found
 one_act : (b c mine rest : Bool) (pair : Pair) (k : List ℕ) (pairs : List Pair) → list_any (λ p. bytes_eq k p.0) pairs ≡ (c && rest) → bytes_eq k pair.0 ≡ mine → (mine ≡ true → b ≡ c)
     → list_any (λ p. bytes_eq k p.0) (cons_option (cond b (Some pair) None) pairs) ≡ (c && (mine || rest))
 one_act true true true rest pair k pairs h is same = rw is refl
@@ -72,16 +66,14 @@ one_act false true true rest pair k pairs h is same = absurd (let e : false ≡ 
 one_act false false true rest pair k pairs h is same = h
 one_act false c false rest pair k pairs h is same = h
 
-any_act : (k group : List ℕ) (book : Book) (xs : List Entry) → list_any (λ p. bytes_eq k p.0) (filter_map (client_in group book) xs) ≡ (belongs k group book && list_any (is_act_of k) xs)
-any_act k group book [] = elim (belongs k group book) as (λ b. false ≡ (b && false)) [ true ↦ refl | false ↦ refl ]
-any_act k group book (Act user other client id call ∷ xs) =
-    one_act (belongs client group book) (belongs k group book) (bytes_eq client k) (list_any (is_act_of k) xs) (client, last client book) k (filter_map (client_in group book) xs)
-    (any_act k group book xs) (bytes_eq_back k client) (λ e. ap (λ (t : List ℕ). belongs t group book) ((bytes_eq-Decides client k).0 e))
-any_act k group book (Look user other order base ∷ xs) = any_act k group book xs
-any_act k group book (Retire other ∷ xs) = any_act k group book xs
+any_client : (k group : List ℕ) (book : Book) (names : List (List ℕ)) → list_any (λ p. bytes_eq k p.0) (filter_map (client_in group book) names) ≡ (belongs k group book && list_any (λ name. bytes_eq name k) names)
+any_client k group book [] = elim (belongs k group book) as (λ b. false ≡ (b && false)) [ true ↦ refl | false ↦ refl ]
+any_client k group book (client ∷ names) =
+    one_act (belongs client group book) (belongs k group book) (bytes_eq client k) (list_any (λ name. bytes_eq name k) names) (client, last client book) k (filter_map (client_in group book) names)
+    (any_client k group book names) (bytes_eq_back k client) (λ e. ap (λ (t : List ℕ). belongs t group book) ((bytes_eq-Decides client k).0 e))
 
-belongs_acts : (k group : List ℕ) (book : Book) → (belongs k group book && list_any (is_act_of k) book.entries) ≡ belongs k group book
-belongs_acts k group book = ap (λ (b : Bool). belongs k group book && b) (sym (has_act k book.entries)) ∙ both (group_of k book)
+belongs_named : (k group : List ℕ) (book : Book) → (belongs k group book && list_any (λ name. bytes_eq name k) (clients_named book)) ≡ belongs k group book
+belongs_named k group book = ap (λ (b : Bool). belongs k group book && b) (client_is_named k book) ∙ both (group_of k book)
   where
     both : (o : Option (List ℕ)) → (option_map_or (λ other. bytes_eq other group) o false && is_some o) ≡ option_map_or (λ other. bytes_eq other group) o false
     both None = refl
@@ -90,9 +82,9 @@ belongs_acts k group book = ap (λ (b : Bool). belongs k group book && b) (sym (
 -- what is found in the group's ids
 find_ids : (k group : List ℕ) (book : Book) → find_by first k (ids group book) ≡ cond (belongs k group book) (Some (k, last k book)) None
 find_ids k group book =
-    let pairs = filter_map (client_in group book) book.entries in
-    found_own book k (ids group book) (all_after (Own book) pairs [] (own_client group book book.entries) tt)
-    ∙ ap (λ (b : Bool). cond b (Some (k, last k book)) None) (found-sorted first k pairs ∙ any_act k group book book.entries ∙ belongs_acts k group book)
+    let pairs = filter_map (client_in group book) (clients_named book) in
+    found_own book k (ids group book) (all_after (Own book) pairs [] (own_client group book (clients_named book)) tt)
+    ∙ ap (λ (b : Bool). cond b (Some (k, last k book)) None) (found-sorted first k pairs ∙ any_client k group book (clients_named book) ∙ belongs_named k group book)
 
 abbrev pair_of : Book → ClientRow → Pair
 pair_of book row = (client_of_row book row, row.acts)
@@ -117,15 +109,15 @@ act_info c acts (Retire group) is = absurd (cc)
 row_names : (c : List ℕ) (book : Book) (row : ClientRow) → client_row book c ≡ Some row → (info_by book row ≡ Some (pair_of book row)) × (pair_of book row ≡ (c, last c book))
 unfolding client_row client_of_row
 row_names c book row is =
-    elim (first_where (is_act_of c) book.entries) as (λ o. first_where (is_act_of c) book.entries ≡ o → option_map (row_from book c) o ≡ Some row → (info_by book row ≡ Some (pair_of book row)) × (pair_of book row ≡ (c, last c book))) [
+    elim (first_where (is_act_of c) (acting book)) as (λ o. first_where (is_act_of c) (acting book) ≡ o → option_map (row_from book c) o ≡ Some row → (info_by book row ≡ Some (pair_of book row)) × (pair_of book row ≡ (c, last c book))) [
       | None ↦ λ e h. absurd (cc)
-      | Some i ↦ λ e h. subst (λ (r : ClientRow). (info_by book r ≡ Some (pair_of book r)) × (pair_of book r ≡ (c, last c book))) (same_Some (row_from book c i) row h) (info i (first_at (is_act_of c) book.entries i e))
+      | Some i ↦ λ e h. subst (λ (r : ClientRow). (info_by book r ≡ Some (pair_of book r)) × (pair_of book r ≡ (c, last c book))) (same_Some (row_from book c i) row h) (info i (first_at (is_act_of c) (acting book) i e))
     ] refl is
   where
-    info : (i : ℕ) → (e : Entry) × (slice_get book.entries i ≡ Some e) × (is_act_of c e ≡ true) → (info_by book (row_from book c i) ≡ Some (pair_of book (row_from book c i))) × (pair_of book (row_from book c i) ≡ (c, last c book))
+    info : (i : ℕ) → (e : Entry) × (slice_get (acting book) i ≡ Some e) × (is_act_of c e ≡ true) → (info_by book (row_from book c i) ≡ Some (pair_of book (row_from book c i))) × (pair_of book (row_from book c i) ≡ (c, last c book))
     info i there =
         let acts = last c book in
-        let actor_is : option_map_or actor (slice_get book.entries i) [] ≡ actor there.0 = ap (λ (o : Option Entry). option_map_or actor o []) there.1 in (
+        let actor_is : option_map_or actor (slice_get (acting book) i) [] ≡ actor there.0 = ap (λ (o : Option Entry). option_map_or actor o []) there.1 in (
           ap (λ (o : Option Entry). option_map {U = Pair} (λ client. (client, acts)) (option_and_then acting_client o)) there.1 ∙ act_info c acts there.0 there.2 ∙ (λ j. Some (sym actor_is j, acts)),
           (λ j. ((actor_is ∙ (act_is c there.0 there.2).0) j, acts)),
         )
@@ -222,7 +214,7 @@ row_found k group book =
 pub ids-members : (group : List ℕ) (book : Book) (rows : List ClientRow) → AreMemberRows book rows → filter_map (info_by book) (filter (is_member group book) rows) ≡ ids group book
 ids-members group book rows h =
     filter_map-info (info_by book) (pair_of book) kept (all-filter _ (is_member group book) rows (member_info book rows h))
-    ∙ in_order-same first (map (pair_of book) kept) (ids group book) (in_order-view first (pair_of book) kept order) (in_order-sorted first (filter_map (client_in group book) book.entries)) same
+    ∙ in_order-same first (map (pair_of book) kept) (ids group book) (in_order-view first (pair_of book) kept order) (in_order-sorted first (filter_map (client_in group book) (clients_named book))) same
   where
     kept : List ClientRow
     kept = filter (is_member group book) rows
@@ -240,7 +232,7 @@ ids-members group book rows h =
         ∙ sym (find_ids k group book)
 
 pub ids-in_order : (group : List ℕ) (book : Book) → InOrder first (ids group book)
-ids-in_order group book = in_order-sorted first (filter_map (client_in group book) book.entries)
+ids-in_order group book = in_order-sorted first (filter_map (client_in group book) (clients_named book))
 
 -- one more row of a walk
 pub rows_more : {X Y : Type 0} (h : X → Option Y) (rows : List X) (i : ℕ) (row : X) → i < length rows → filter_map h (take (i + 1) rows) ≡ filter_map h (take i rows) ++ cons_option (h (get_or rows i row)) []

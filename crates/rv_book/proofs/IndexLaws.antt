@@ -13,13 +13,6 @@ use Rattle.rv_base.specs.Sorted.{find_by, put_by, InOrder, IsPositionOf}
 use Rattle.rv_base.specs.Positions.{Below, Above, equals, not_same, in_order-put, find_put, all-put, settles}
 use Rattle.rv_book.specs.Indexes.{IsIndex, StandsAt}
 
-pub bytes_eq_back : (a b : List ℕ) → bytes_eq a b ≡ bytes_eq b a
-bytes_eq_back a b =
-    elim (bytes_eq a b) as (λ t. bytes_eq a b ≡ t → t ≡ bytes_eq b a) [
-      | true ↦ λ e. sym (subst (λ (c : List ℕ). bytes_eq c a ≡ true) ((bytes_eq-Decides a b).0 e) (equals a))
-      | false ↦ λ e. sym (not_same a b e)
-    ] refl
-
 module _ {X : Type 0} (key other : X → List ℕ) where
   -- two ways to read the keys of the rows give the same
   abbrev pub Alike : List X → Type 0

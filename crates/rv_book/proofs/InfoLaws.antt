@@ -1,7 +1,7 @@
 -- What the rows of the clients and of the groups tell: the registers of the book.
-use Rattle.std.proofs.Common.{◌≡◌, ℕ, suc, ◌||◌, Bool, true, false, cond, List, [], ◌∷◌, Option, Some, None, refl, sym, ap, ◌∙◌}
+use Rattle.std.proofs.Common.{◌≡◌, ℕ, suc, length, ◌||◌, Bool, true, false, cond, List, [], ◌∷◌, Option, Some, None, refl, sym, ap, ◌∙◌}
 use Rattle.std.specs.List.{slice_get}
-use Rattle.std.specs.Option.{option_map, option_and_then, is_some}
+use Rattle.std.specs.Option.{option_map, option_map_or, option_and_then, is_some}
 use Rattle.std.specs.Str.{bytes_eq}
 use Rattle.std.proofs.Math.Bool.{or-true}
 use Rattle.std.proofs.lemmas.Option.{same_Some, none-some}
@@ -11,13 +11,14 @@ use Rattle.rv_book.specs.declared.entry.Entry.TheVariants.{Act, Look, Retire}
 use Rattle.rv_book.specs.declared.clients.ClientRow.{ClientRow}
 use Rattle.rv_book.specs.declared.groups.GroupRow.{GroupRow}
 use Rattle.rv_book.specs.Entries.{is_act_of, bound_in, retired_in}
-use Rattle.rv_book.specs.Book.{Book, size, last, group_of, bound, last_order, retired}
-use Rattle.rv_book.specs.Indexes.{first_where, acted_in, acting_with, client_of_row, client_row, AreClientRows, info_by_client, named_in, names_group, group_of_row, group_row, AreGroupRows, user_of_row, info_by_group}
+use Rattle.rv_book.specs.Book.{Book, last, group_of, bound, last_order, page_group, retired}
+use Rattle.rv_book.specs.Indexes.{acting, naming, first_where, acted_in, acting_with, client_of_row, client_row, AreClientRows, info_by_client, named_in, names_group, group_of_row, group_row, AreGroupRows, user_of_row, info_by_group}
 use Rattle.rv_book.specs.Registers.{client_named, clients_of, group_named, groups_of, RetiresBound}
 use Rattle.rv_book.specs.RegisterLaws.{found_client, clients-in_order, found_group, groups-in_order}
 use Rattle.rv_book.proofs.IdLaws.{first_at}
 use Rattle.rv_book.proofs.ClientLaws.{gives_client, no_group, no_row, first_of}
 use Rattle.rv_book.proofs.GroupLaws.{group_row_at, row_gives, bound-found}
+use Rattle.rv_book.proofs.PageLaws.{bound-naming, retired-naming}
 use Rattle.rv_book.proofs.RowsInfo.{GivesItem, info-at}
 
 abbrev Client : Type 0
@@ -34,9 +35,9 @@ acting_is client acts (Retire group) is = absurd (cc)
 
 -- the row of a client tells what is said of the client
 row_info : (client : List ℕ) (book : Book) (row : ClientRow) → client_row book client ≡ Some row → info_by_client book row ≡ client_named client book
-row_info client book row is = go (first_at (is_act_of client) book.entries row.first (sym (first_of book client (Some row) (sym is))))
+row_info client book row is = go (first_at (is_act_of client) (acting book) row.first (sym (first_of book client (Some row) (sym is))))
   where
-    go : (e : Entry) × (slice_get book.entries row.first ≡ Some e) × (is_act_of client e ≡ true) → info_by_client book row ≡ client_named client book
+    go : (e : Entry) × (slice_get (acting book) row.first ≡ Some e) × (is_act_of client e ≡ true) → info_by_client book row ≡ client_named client book
     go there =
         let gives = gives_client book client row (sym is) in
         let group : acted_in there.0 ≡ group_of client book = ap (option_and_then acted_in) (sym there.1) ∙ gives.group in
@@ -59,7 +60,7 @@ named_by_row client book =
 -- the client at an index is what the row there tells
 pub client-at : (book : Book) (rows : List ClientRow) (index : ℕ) → AreClientRows book rows → option_and_then (info_by_client book) (slice_get rows index) ≡ slice_get (clients_of book) index
 client-at book rows index h =
-    info-at (client_of_row book) client_key (info_by_client book) (λ row. row.first) (size book) (client_row book) rows (clients_of book) index h (clients-in_order book)
+    info-at (client_of_row book) client_key (info_by_client book) (λ row. row.first) (length (acting book)) (client_row book) rows (clients_of book) index h (clients-in_order book)
     (λ client row is. client_gives client book row is) (λ client. found_client client book ∙ named_by_row client book)
 
 abbrev Group : Type 0
@@ -92,8 +93,10 @@ named_as group (Retire other ∷ entries) =
     ]
 
 -- where every group that is retired is bound, one has a row exactly where it is bound
-has_row : (group : List ℕ) (book : Book) → RetiresBound book → is_some (first_where (names_group group) book.entries) ≡ is_some (bound group book)
-has_row group book h = named_as group book.entries ∙ either (is_some (bound group book)) (retired group book) (h group)
+has_row : (group : List ℕ) (book : Book) → RetiresBound book → is_some (first_where (names_group group) (naming book)) ≡ is_some (bound group book)
+has_row group book h =
+    named_as group (naming book) ∙ (λ i. is_some (sym (bound-naming group book) i) || retired-naming group book i)
+    ∙ either (is_some (bound group book)) (retired_in group book.entries) (λ gone. h group (ap (λ (b : Bool). option_map_or (λ g. g.3) (page_group group book.page) false || b) gone ∙ or-true (option_map_or (λ g. g.3) (page_group group book.page) false)))
   where
     either : (b c : Bool) → (c ≡ true → b ≡ true) → (b || c) ≡ b
     either true c is = refl
@@ -101,19 +104,19 @@ has_row group book h = named_as group book.entries ∙ either (is_some (bound gr
     either false false is = refl
 
 -- the row of a group names an entry of the group
-names_it : (group : List ℕ) (book : Book) (row : GroupRow) → group_row book group ≡ Some row → first_where (names_group group) book.entries ≡ Some row.named
+names_it : (group : List ℕ) (book : Book) (row : GroupRow) → group_row book group ≡ Some row → first_where (names_group group) (naming book) ≡ Some row.named
 unfolding group_row
 names_it group book row is =
-    elim (first_where (names_group group) book.entries) as (λ o. option_map (group_row_at book group) o ≡ Some row → o ≡ Some row.named) [
+    elim (first_where (names_group group) (naming book)) as (λ o. option_map (group_row_at book group) o ≡ Some row → o ≡ Some row.named) [
       | None ↦ λ h. absurd (none-some row h)
       | Some index ↦ λ h. ap (λ (r : GroupRow). Some r.named) (same_Some (group_row_at book group index) row h)
     ] is
 
 -- the row of a group tells what is said of the group
 group_row_info : (group : List ℕ) (book : Book) (row : GroupRow) → group_row book group ≡ Some row → info_by_group book row ≡ group_named group book
-group_row_info group book row is = go (first_at (names_group group) book.entries row.named (names_it group book row is))
+group_row_info group book row is = go (first_at (names_group group) (naming book) row.named (names_it group book row is))
   where
-    go : (e : Entry) × (slice_get book.entries row.named ≡ Some e) × (names_group group e ≡ true) → info_by_group book row ≡ group_named group book
+    go : (e : Entry) × (slice_get (naming book) row.named ≡ Some e) × (names_group group e ≡ true) → info_by_group book row ≡ group_named group book
     go there =
         let gives = row_gives book group row (sym is) in
         let name : named_in there.0 ≡ group = (bytes_eq-Decides (named_in there.0) group).0 there.2 in
@@ -130,7 +133,7 @@ group_gives group book row h is =
 without_row : (group : List ℕ) (book : Book) → RetiresBound book → group_row book group ≡ None → bound group book ≡ None
 unfolding group_row
 without_row group book h none =
-    elim (first_where (names_group group) book.entries) as (λ o. is_some o ≡ is_some (bound group book) → option_map (group_row_at book group) o ≡ None → bound group book ≡ None) [
+    elim (first_where (names_group group) (naming book)) as (λ o. is_some o ≡ is_some (bound group book) → option_map (group_row_at book group) o ≡ None → bound group book ≡ None) [
       | None ↦ λ some is. unbound (bound group book) (sym some)
       | Some index ↦ λ some is. absurd (cc)
     ] (has_row group book h) none
@@ -149,5 +152,5 @@ named_by_group_row group book h =
 -- the group at an index is what the row there tells
 pub group-at : (book : Book) (rows : List GroupRow) (index : ℕ) → RetiresBound book → AreGroupRows book rows → option_and_then (info_by_group book) (slice_get rows index) ≡ slice_get (groups_of book) index
 group-at book rows index bounds h =
-    info-at (group_of_row book) group_key (info_by_group book) (λ row. row.named) (size book) (group_row book) rows (groups_of book) index h (groups-in_order book)
+    info-at (group_of_row book) group_key (info_by_group book) (λ row. row.named) (length (naming book)) (group_row book) rows (groups_of book) index h (groups-in_order book)
     (λ group row is. group_gives group book row bounds is) (λ group. found_group group book ∙ named_by_group_row group book bounds)

@@ -1,5 +1,6 @@
 pub mod IndexLaws
 pub mod BookLaws
+pub mod PageLaws
 pub mod ClientLaws
 pub mod GroupLaws
 pub mod LookRowLaws

@@ -1,14 +1,19 @@
 -- Laws of the words for books: how many entries there are, the entries up to a place and those since, and more entries at the end.
-use Rattle.std.proofs.Common.{◌≡◌, ◌≢◌, ℕ, zero, suc, ◌+◌, ◌-◌, ◌<◌, ◌≤◌, ◌==◌, Bool, true, false, cond, List, [], ◌∷◌, ◌++◌, length, take, Some, None, refl, sym, ap, ◌∙◌, arith, ◌||◌, append_assoc, append-nil}
-use Rattle.std.specs.List.{slice_get, count_by}
-use Rattle.std.proofs.lemmas.Bool.Decides.{Decides-eqb}
-use Rattle.std.proofs.lemmas.List.{length_push, length-append, take_all, drop_all, take-append-drop, take-append-le, drop-append-le, drop_more}
+use Rattle.std.proofs.Common.{◌≡◌, ℕ, zero, suc, ◌+◌, ◌-◌, ◌<◌, ◌≤◌, nat_lt, Bool, true, false, cond, List, [], ◌∷◌, ◌++◌, length, take, drop, map, Some, None, refl, sym, ap, ◌∙◌, subst, arith, ◌||◌, append_assoc, append-nil}
+use Rattle.std.specs.List.{slice_get, count_by, filter_map, cons_option, list_any}
+use Rattle.std.specs.Option.{option_map_or}
+use Rattle.std.proofs.lemmas.Bool.{le-ltb, lt-ltb, ltb-true}
+use Rattle.std.proofs.lemmas.List.{length_push, length-append, length-take-le, take_all, drop_all, take-append-drop, take-append-le, drop-append-le, drop_more}
+use Rattle.std.proofs.lemmas.List.Elements.{filter_map-append}
 use Rattle.std.proofs.lemmas.List.Folds.{list_any-append}
 use Rattle.std.proofs.lemmas.List.Sums.{fold_push}
 use Rattle.std.proofs.lemmas.Option.{slice_get_past, slice_get_within, get_or_from_slice_get, none-some}
+use Rattle.std.proofs.lemmas.Slice.Eq.{bytes_eq-Decides}
+use Rattle.std.specs.Str.{bytes_eq}
+use Rattle.rv_base.specs.Positions.{equals, not_same}
 use Rattle.rv_book.specs.declared.entry.Entry.{Entry}
-use Rattle.rv_book.specs.Entries.{retires, is_act_of, order_after}
-use Rattle.rv_book.specs.Book.{Book, book_of, size, up_to, since, with_entries, with_entry, Extends, entry_at, retired, last, last_order}
+use Rattle.rv_book.specs.Entries.{retires, is_act_of, order_after, retired_in, last_in}
+use Rattle.rv_book.specs.Book.{Book, book_from, size, up_to, since, with_entries, with_entry, Extends, entry_at, page_client, page_group, retired, last, last_order, acting_client, clients_named}
 
 -- the entry at an index, where one more follows
 pub at_before : {A : Type 0} (xs : List A) (x : A) (i : ℕ) → i < length xs → slice_get (xs ++ x ∷ []) i ≡ slice_get xs i
@@ -21,37 +26,43 @@ at_end [] x = refl
 at_end (y ∷ ys) x = at_end ys x
 
 pub size-with_entry : (book : Book) (entry : Entry) → size (with_entry book entry) ≡ size book + 1
-size-with_entry book entry = length_push book.entries entry
+size-with_entry book entry = omega (arith, length_push book.entries entry)
 
 pub size-with_entries : (book : Book) (more : List Entry) → size (with_entries book more) ≡ size book + length more
-size-with_entries book more = length-append book.entries more
+size-with_entries book more = omega (arith, length-append book.entries more)
 
 -- the book is what stands up to a place and what stands since
 pub up_to-since : (place : ℕ) (book : Book) → with_entries (up_to place book) (since place book) ≡ book
-up_to-since place book = ap book_of (take-append-drop place book.entries)
+up_to-since place book = ap (book_from book.page) (take-append-drop (place - book.page.at) book.entries)
 
 -- at its end and beyond
 pub up_to-all : (place : ℕ) (book : Book) → size book ≤ place → up_to place book ≡ book
-up_to-all place book le = ap book_of (take_all place book.entries le)
+up_to-all place book le = ap (book_from book.page) (take_all (place - book.page.at) book.entries (omega (arith, le)))
 
 pub since-all : (place : ℕ) (book : Book) → size book ≤ place → since place book ≡ []
-since-all place book le = drop_all place book.entries le
+since-all place book le = drop_all (place - book.page.at) book.entries (omega (arith, le))
+
+-- a book up to a place is as long as that place says
+pub size-up_to : (place : ℕ) (book : Book) → book.page.at ≤ place → place ≤ size book → size (up_to place book) ≡ place
+size-up_to place book from within =
+    let count : length (take (place - book.page.at) book.entries) ≡ place - book.page.at = length-take-le (place - book.page.at) book.entries (omega (arith, within)) in
+    omega (arith, count, from)
 
 -- more entries at the end
 pub with_entries-none : (book : Book) → with_entries book [] ≡ book
-with_entries-none book = ap book_of (append-nil book.entries)
+with_entries-none book = ap (book_from book.page) (append-nil book.entries)
 
 pub with_entries-more : (book : Book) (more rest : List Entry) → with_entries (with_entries book more) rest ≡ with_entries book (more ++ rest)
-with_entries-more book more rest = ap book_of (append_assoc book.entries more rest)
+with_entries-more book more rest = ap (book_from book.page) (append_assoc book.entries more rest)
 
 pub with_entry-more : (book : Book) (entry : Entry) (more : List Entry) → with_entries (with_entry book entry) more ≡ with_entries book (entry ∷ more)
 with_entry-more book entry more = with_entries-more book (entry ∷ []) more
 
 pub up_to-with_entries : (place : ℕ) (book : Book) (more : List Entry) → place ≤ size book → up_to place (with_entries book more) ≡ up_to place book
-up_to-with_entries place book more le = ap book_of (take-append-le place book.entries more le)
+up_to-with_entries place book more le = ap (book_from book.page) (take-append-le (place - book.page.at) book.entries more (omega (arith, le)))
 
 pub since-with_entries : (place : ℕ) (book : Book) (more : List Entry) → place ≤ size book → since place (with_entries book more) ≡ since place book ++ more
-since-with_entries place book more le = drop-append-le place book.entries more le
+since-with_entries place book more le = drop-append-le (place - book.page.at) book.entries more (omega (arith, le))
 
 -- a book goes on from itself, and from what a book that it goes on from goes on from
 pub extends_same : (new old : Book) → new ≡ old → Extends new old
@@ -80,50 +91,45 @@ up_to-before book entry =
     ap (λ (place : ℕ). up_to place (with_entry book entry)) n ∙ up_to-with_entry (size book) book entry (omega arith) ∙ up_to-all (size book) book (omega arith)
 
 -- the entry at a place
-pub entry_at-next : (index : ℕ) (book : Book) → entry_at (index + 1) book ≡ slice_get book.entries index
-entry_at-next index book = go (index + 1 == 0) refl
-  where
-    same : (index + 1) - 1 ≡ index
-    same = omega arith
+pub entry_at-index : (place : ℕ) (book : Book) → book.page.at < place → entry_at place book ≡ slice_get book.entries (place - (book.page.at + 1))
+entry_at-index place book above = ap (λ (b : Bool). cond b (slice_get book.entries (place - (book.page.at + 1))) None) (lt-ltb book.page.at place above)
 
-    go : (b : Bool) → index + 1 == 0 ≡ b → cond b None (slice_get book.entries ((index + 1) - 1)) ≡ slice_get book.entries index
-    go true e = absurd (omega (arith, (Decides-eqb (index + 1) 0).0 e))
-    go false e = ap (slice_get book.entries) same
+pub entry_at-next : (index : ℕ) (book : Book) → entry_at (book.page.at + (index + 1)) book ≡ slice_get book.entries index
+entry_at-next index book =
+    let same : (book.page.at + (index + 1)) - (book.page.at + 1) ≡ index = omega arith in
+    entry_at-index (book.page.at + (index + 1)) book (omega arith) ∙ ap (slice_get book.entries) same
 
-pub entry_at-index : (place : ℕ) (book : Book) → 0 < place → entry_at place book ≡ slice_get book.entries (place - 1)
-entry_at-index place book first =
-    let next : place ≡ (place - 1) + 1 = omega (arith, first) in
-    ap (λ (n : ℕ). entry_at n book) next ∙ entry_at-next (place - 1) book
+-- no entry stands up to the page's place, nor past the end
+pub entry_at-page : (place : ℕ) (book : Book) → place ≤ book.page.at → entry_at place book ≡ None
+entry_at-page place book le = ap (λ (b : Bool). cond b (slice_get book.entries (place - (book.page.at + 1))) None) (le-ltb book.page.at place le)
 
--- no entry stands outside
 pub entry_at-past : (place : ℕ) (book : Book) → size book < place → entry_at place book ≡ None
-entry_at-past place book past = entry_at-index place book (omega (arith, past)) ∙ slice_get_past book.entries (place - 1) (omega (arith, past))
+entry_at-past place book past = entry_at-index place book (omega (arith, past)) ∙ slice_get_past book.entries (place - (book.page.at + 1)) (omega (arith, past))
 
-above : (place : ℕ) → place == 0 ≡ false → 0 < place
-above place e = let other : place ≢ 0 = (λ same. let both : true ≡ false = sym ((Decides-eqb place 0).1 same) ∙ e in cc) in omega arith
-
-some_at : (place : ℕ) (book : Book) (entry : Entry) → entry_at place book ≡ Some entry → (0 < place) × (slice_get book.entries (place - 1) ≡ Some entry)
-some_at place book entry there = go (place == 0) refl there
+some_at : (place : ℕ) (book : Book) (entry : Entry) → entry_at place book ≡ Some entry → (book.page.at < place) × (slice_get book.entries (place - (book.page.at + 1)) ≡ Some entry)
+some_at place book entry there = go (nat_lt book.page.at place) refl there
   where
-    go : (b : Bool) → place == 0 ≡ b → cond b None (slice_get book.entries (place - 1)) ≡ Some entry → (0 < place) × (slice_get book.entries (place - 1) ≡ Some entry)
-    go true e f = absurd (cc)
-    go false e f = (above place e, f)
+    go : (b : Bool) → nat_lt book.page.at place ≡ b → cond b (slice_get book.entries (place - (book.page.at + 1))) None ≡ Some entry → (book.page.at < place) × (slice_get book.entries (place - (book.page.at + 1)) ≡ Some entry)
+    go true e f = (ltb-true book.page.at place e, f)
+    go false e f = absurd (cc)
 
-pub entry_at-within : (place : ℕ) (book : Book) (entry : Entry) → entry_at place book ≡ Some entry → (0 < place) × (place ≤ size book)
+pub entry_at-within : (place : ℕ) (book : Book) (entry : Entry) → entry_at place book ≡ Some entry → (book.page.at < place) × (place ≤ size book)
 entry_at-within place book entry there =
     let is = some_at place book entry there in
-    let lt : place - 1 < size book = slice_get_within book.entries (place - 1) entry is.1 in
+    let lt : place - (book.page.at + 1) < length book.entries = slice_get_within book.entries (place - (book.page.at + 1)) entry is.1 in
     (is.0, omega (arith, is.0, lt))
 
 pub entry_at-with_entry : (place : ℕ) (book : Book) (entry : Entry) → place ≤ size book → entry_at place (with_entry book entry) ≡ entry_at place book
 entry_at-with_entry place book entry le =
-    elim (place == 0) as (λ b. place == 0 ≡ b → cond b None (slice_get (with_entry book entry).entries (place - 1)) ≡ cond b None (slice_get book.entries (place - 1))) [
-      | true ↦ λ e. refl
-      | false ↦ λ e. at_before book.entries entry (place - 1) (omega (arith, above place e))
+    elim (nat_lt book.page.at place) as (λ b. nat_lt book.page.at place ≡ b → cond b (slice_get (with_entry book entry).entries (place - (book.page.at + 1))) None ≡ cond b (slice_get book.entries (place - (book.page.at + 1))) None) [
+      | true ↦ λ e. at_before book.entries entry (place - (book.page.at + 1)) (omega (arith, ltb-true book.page.at place e, le))
+      | false ↦ λ e. refl
     ] refl
 
 pub entry_at-end : (book : Book) (entry : Entry) → entry_at (size book + 1) (with_entry book entry) ≡ Some entry
-entry_at-end book entry = entry_at-next (size book) (with_entry book entry) ∙ at_end book.entries entry
+entry_at-end book entry =
+    let next : size book + 1 ≡ book.page.at + (length book.entries + 1) = omega arith in
+    ap (λ (n : ℕ). entry_at n (with_entry book entry)) next ∙ entry_at-next (length book.entries) (with_entry book entry) ∙ at_end book.entries entry
 
 -- the entries up to a place are those of the book
 front_at : (xs : List Entry) (n i : ℕ) (x : Entry) → slice_get (take n xs) i ≡ Some x → slice_get xs i ≡ Some x
@@ -135,15 +141,17 @@ front_at (y ∷ ys) (suc n) (suc i) x there = front_at ys n i x there
 pub entry_at-up_to : (place later : ℕ) (book : Book) (entry : Entry) → entry_at place (up_to later book) ≡ Some entry → entry_at place book ≡ Some entry
 entry_at-up_to place later book entry there =
     let is = some_at place (up_to later book) entry there in
-    entry_at-index place book is.0 ∙ front_at book.entries later (place - 1) entry is.1
+    entry_at-index place book is.0 ∙ front_at book.entries (later - book.page.at) (place - (book.page.at + 1)) entry is.1
 
 -- what stands since an entry
 pub since-entry : (place : ℕ) (book : Book) (entry : Entry) → entry_at place book ≡ Some entry → since (place - 1) book ≡ entry ∷ since place book
 since-entry place book entry there =
     let is = some_at place book entry there in
-    let lt : place - 1 < size book = slice_get_within book.entries (place - 1) entry is.1 in
-    let next : (place - 1) + 1 ≡ place = omega (arith, is.0) in
-    drop_more book.entries (place - 1) entry lt ∙ (λ i. get_or_from_slice_get book.entries (place - 1) entry entry is.1 i ∷ since (next i) book)
+    let lt : place - (book.page.at + 1) < length book.entries = slice_get_within book.entries (place - (book.page.at + 1)) entry is.1 in
+    let here : (place - 1) - book.page.at ≡ place - (book.page.at + 1) = omega (arith, is.0) in
+    let next : (place - (book.page.at + 1)) + 1 ≡ place - book.page.at = omega (arith, is.0) in
+    ap (λ (n : ℕ). drop n book.entries) here
+    ∙ drop_more book.entries (place - (book.page.at + 1)) entry lt ∙ (λ i. get_or_from_slice_get book.entries (place - (book.page.at + 1)) entry entry is.1 i ∷ drop (next i) book.entries)
 
 or_nothing : (b : Bool) → (b || false) ≡ b
 or_nothing true = refl
@@ -151,13 +159,36 @@ or_nothing false = refl
 
 -- what is counted and looked up when one more entry follows
 pub retired-with_entry : (group : List ℕ) (book : Book) (entry : Entry) → retired group (with_entry book entry) ≡ (retired group book || retires group entry)
-retired-with_entry group book entry = list_any-append (retires group) book.entries (entry ∷ []) ∙ ap (λ (b : Bool). retired group book || b) (or_nothing (retires group entry))
+retired-with_entry group book entry =
+    let before = option_map_or (λ g. g.3) (page_group group book.page) false in
+    ap (λ (b : Bool). before || b) (list_any-append (retires group) book.entries (entry ∷ []) ∙ ap (λ (b : Bool). retired_in group book.entries || b) (or_nothing (retires group entry)))
+    ∙ either before (retired_in group book.entries) (retires group entry)
+  where
+    either : (a b c : Bool) → (a || (b || c)) ≡ ((a || b) || c)
+    either true b c = refl
+    either false b c = refl
 
 pub count-push : {A : Type 0} (p : A → Bool) (xs : List A) (x : A) → count_by p (xs ++ x ∷ []) ≡ count_by p xs + cond (p x) 1 0
 count-push p xs x = fold_push _ _ xs x
 
 pub last-with_entry : (client : List ℕ) (book : Book) (entry : Entry) → last client (with_entry book entry) ≡ last client book + cond (is_act_of client entry) 1 0
-last-with_entry client book entry = count-push (is_act_of client) book.entries entry
+last-with_entry client book entry =
+    let more : last_in client (book.entries ++ entry ∷ []) ≡ last_in client book.entries + cond (is_act_of client entry) 1 0 = count-push (is_act_of client) book.entries entry in
+    omega (arith, more)
 
 pub last_order-with_entry : (group : List ℕ) (book : Book) (entry : Entry) → last_order group (with_entry book entry) ≡ order_after group (last_order group book) entry
-last_order-with_entry group book entry = fold_push (order_after group) 0 book.entries entry
+last_order-with_entry group book entry = fold_push (order_after group) (option_map_or (λ g. g.2) (page_group group book.page) 0) book.entries entry
+
+pub clients_named-with_entry : (book : Book) (entry : Entry) → clients_named (with_entry book entry) ≡ clients_named book ++ cons_option (acting_client entry) []
+clients_named-with_entry book entry =
+    let page = map (λ (c : List ℕ × List ℕ × ℕ). c.0) book.page.clients in
+    ap (λ (names : List (List ℕ)). page ++ names) (filter_map-append acting_client book.entries (entry ∷ []))
+    ∙ sym (append_assoc page (filter_map acting_client book.entries) (cons_option (acting_client entry) []))
+
+-- two texts are the same either way round
+pub bytes_eq_back : (a b : List ℕ) → bytes_eq a b ≡ bytes_eq b a
+bytes_eq_back a b =
+    elim (bytes_eq a b) as (λ t. bytes_eq a b ≡ t → t ≡ bytes_eq b a) [
+      | true ↦ λ e. sym (subst (λ (c : List ℕ). bytes_eq c a ≡ true) ((bytes_eq-Decides a b).0 e) (equals a))
+      | false ↦ λ e. sym (not_same a b e)
+    ] refl

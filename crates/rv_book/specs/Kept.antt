@@ -1,5 +1,5 @@
 -- Looks, and which of them are kept: a cookie that names a kept look has a base.
-use Rattle.std.specs.Prelude.{ℕ, suc, ◌-◌, List, [], ◌∷◌, Bool, false, Option, Some, None, ◌&&◌, not, nat_lt, count_by, option_map, option_and_then, find, if◌then◌else◌}
+use Rattle.std.specs.Prelude.{ℕ, suc, ◌+◌, ◌-◌, List, [], ◌∷◌, Bool, false, Option, Some, None, ◌&&◌, not, nat_lt, count_by, option_map, option_and_then, find, if◌then◌else◌}
 use Rattle.std.specs.List.{range_with_len}
 use Rattle.std.specs.Option.{option_map_or, option_or}
 use Rattle.std.specs.Str.{bytes_eq}
@@ -41,7 +41,7 @@ last_where p (entry ∷ entries) = option_or (option_map suc (last_where p entri
 
 -- the place of the group's last look
 unfoldable pub last_look : List ℕ → Book → Option ℕ
-last_look group book = option_map suc (last_where (is_look_of group) book.entries)
+last_look group book = option_map (λ index. book.page.at + (index + 1)) (last_where (is_look_of group) book.entries)
 
 -- of the look at a place: the place of its group's look before it
 unfoldable pub look_before : ℕ → Book → Option ℕ

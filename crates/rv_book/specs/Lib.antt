@@ -5,8 +5,10 @@ pub mod Kept
 pub mod LookLaws
 pub mod LookWalks
 pub mod Recorded
+pub mod Logs
 pub mod Indexes
 pub mod Members
 pub mod Indexed
+pub mod SoundPages
 pub mod Registers
 pub mod RegisterLaws

@@ -23,7 +23,7 @@ some_entry : (o : Option Entry) (look : List ℕ × List ℕ × ℕ) → option_
 some_entry None look h = absurd (cc)
 some_entry (Some entry) look h = (entry, refl, h)
 
-pub look_at-within : (place : ℕ) (book : Book) (look : List ℕ × List ℕ × ℕ) → look_at place book ≡ Some look → (0 < place) × (place ≤ size book)
+pub look_at-within : (place : ℕ) (book : Book) (look : List ℕ × List ℕ × ℕ) → look_at place book ≡ Some look → (book.page.at < place) × (place ≤ size book)
 look_at-within place book look there = let found = some_entry (entry_at place book) look there in entry_at-within place book found.0 found.1
 
 -- looks when one more entry follows
@@ -102,18 +102,19 @@ count_from group book place later is =
     ∙ omega arith
 
 -- fewer stand since a later place
-since_falls : (group : List ℕ) (book : Book) (place more : ℕ) → later_looks group (place + more) book ≤ later_looks group place book
-since_falls group book place more =
+since_falls : (group : List ℕ) (book : Book) (place more : ℕ) → book.page.at ≤ place → later_looks group (place + more) book ≤ later_looks group place book
+since_falls group book place more from =
+    let there : (place - book.page.at) + more ≡ (place + more) - book.page.at = omega (arith, from) in
     let whole : count_by (is_look_of group) (take more (since place book)) + count_by (is_look_of group) (drop more (since place book)) ≡ later_looks group place book =
     sym (sum_by-append (λ (e : Entry). cond (is_look_of group e) 1 0) (take more (since place book)) (drop more (since place book))) ∙ ap (count_by (is_look_of group)) (take-append-drop more (since place book)) in
-    let rest : count_by (is_look_of group) (drop more (since place book)) ≡ later_looks group (place + more) book = ap (count_by (is_look_of group)) (drop-drop more place book.entries) in
+    let rest : count_by (is_look_of group) (drop more (since place book)) ≡ later_looks group (place + more) book = ap (count_by (is_look_of group)) (drop-drop more (place - book.page.at) book.entries ∙ ap (λ (n : ℕ). drop n book.entries) there) in
     omega (arith, whole, rest)
 
 -- two looks of a group with as many later ones are one
 look_before_look : (group : List ℕ) (book : Book) (place other later : ℕ) → place < other → IsLookOf group book place later → IsLookOf group book other later → ⊥
 look_before_look group book place other later lt is also =
     let more : place + ((other - 1) - place) ≡ other - 1 = omega (arith, lt) in
-    let falls : later_looks group (other - 1) book ≤ later_looks group place book = subst (λ (n : ℕ). later_looks group n book ≤ later_looks group place book) more (since_falls group book place ((other - 1) - place)) in
+    let falls : later_looks group (other - 1) book ≤ later_looks group place book = subst (λ (n : ℕ). later_looks group n book ≤ later_looks group place book) more (since_falls group book place ((other - 1) - place) (omega (arith, (entry_at-within place book is.entry is.there).0))) in
     omega (arith, falls, count_from group book other later also, is.count)
 
 pub one_look : (group : List ℕ) (book : Book) (place other later : ℕ) → IsLookOf group book place later → IsLookOf group book other later → place ≡ other

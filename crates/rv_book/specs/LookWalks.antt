@@ -19,18 +19,22 @@ last_where-push : (p : Entry → Bool) (entries : List Entry) (entry : Entry) �
 last_where-push p [] entry = refl
 last_where-push p (e ∷ entries) entry = ap (λ (o : Option ℕ). option_or (option_map suc o) (cond (p e) (Some 0) None)) (last_where-push p entries entry) ∙ push_suc (last_where p entries) (p entry) (length entries) (p e)
 
-map_cond : (b : Bool) (n : ℕ) (o : Option ℕ) → option_map suc (cond b (Some n) o) ≡ cond b (Some (suc n)) (option_map suc o)
-map_cond true n o = refl
-map_cond false n o = refl
+map_cond : (f : ℕ → ℕ) (b : Bool) (n : ℕ) (o : Option ℕ) → option_map f (cond b (Some n) o) ≡ cond b (Some (f n)) (option_map f o)
+map_cond f true n o = refl
+map_cond f false n o = refl
+
+-- the place of the entry at an index
+abbrev place_of : Book → ℕ → ℕ
+place_of book index = book.page.at + (index + 1)
 
 -- the last look of a group, when one more entry follows
 pub last_look-with_entry : (group : List ℕ) (book : Book) (entry : Entry) → last_look group (with_entry book entry) ≡ cond (is_look_of group entry) (Some (size book + 1)) (last_look group book)
 unfolding last_look
 last_look-with_entry group book entry =
-    let n : suc (size book) ≡ size book + 1 = omega arith in
-    ap (option_map suc) (last_where-push (is_look_of group) book.entries entry)
-    ∙ map_cond (is_look_of group entry) (size book) (last_where (is_look_of group) book.entries)
-    ∙ ap (λ (m : ℕ). cond (is_look_of group entry) (Some m) (option_map suc (last_where (is_look_of group) book.entries))) n
+    let n : place_of book (length book.entries) ≡ size book + 1 = omega arith in
+    ap (option_map (place_of book)) (last_where-push (is_look_of group) book.entries entry)
+    ∙ map_cond (place_of book) (is_look_of group entry) (length book.entries) (last_where (is_look_of group) book.entries)
+    ∙ ap (λ (m : ℕ). cond (is_look_of group entry) (Some m) (option_map (place_of book) (last_where (is_look_of group) book.entries))) n
 
 -- where no entry passes, none is counted
 none_last : (p : Entry → Bool) (entries : List Entry) → last_where p entries ≡ None → count_by p entries ≡ 0
@@ -59,20 +63,20 @@ last_found p (x ∷ entries) i is =
 pub last_look-some : (group : List ℕ) (book : Book) (place : ℕ) → last_look group book ≡ Some place → IsLookOf group book place 0
 unfolding last_look
 last_look-some group book place is =
-    elim (last_where (is_look_of group) book.entries) as (λ o. last_where (is_look_of group) book.entries ≡ o → option_map suc o ≡ Some place → IsLookOf group book place 0) [
+    elim (last_where (is_look_of group) book.entries) as (λ o. last_where (is_look_of group) book.entries ≡ o → option_map (place_of book) o ≡ Some place → IsLookOf group book place 0) [
       | None ↦ λ f h. absurd (none-some place h)
-      | Some i ↦ λ f h. subst (λ (n : ℕ). IsLookOf group book n 0) (same_Some (suc i) place h) (found i (last_found (is_look_of group) book.entries i f))
+      | Some i ↦ λ f h. subst (λ (n : ℕ). IsLookOf group book n 0) (same_Some (place_of book i) place h) (found i (last_found (is_look_of group) book.entries i f))
     ] refl is
   where
-    found : (i : ℕ) → (e : Entry) × (slice_get book.entries i ≡ Some e) × (is_look_of group e ≡ true) × (count_by (is_look_of group) (since (suc i) book) ≡ 0) → IsLookOf group book (suc i) 0
+    found : (i : ℕ) → (e : Entry) × (slice_get book.entries i ≡ Some e) × (is_look_of group e ≡ true) × (count_by (is_look_of group) (drop (suc i) book.entries) ≡ 0) → IsLookOf group book (place_of book i) 0
     found i is =
-        let n : suc i ≡ i + 1 = omega arith in
-        record { entry = is.0; there = ap (λ (m : ℕ). entry_at m book) n ∙ entry_at-next i book ∙ is.1; of_group = is.2; count = is.3 }
+        let n : place_of book i - book.page.at ≡ suc i = omega arith in
+        record { entry = is.0; there = entry_at-next i book ∙ is.1; of_group = is.2; count = ap (λ (m : ℕ). count_by (is_look_of group) (drop m book.entries)) n ∙ is.3 }
 
 pub last_look-none : (group : List ℕ) (book : Book) → last_look group book ≡ None → count_by (is_look_of group) book.entries ≡ 0
 unfolding last_look
 last_look-none group book none =
-    elim (last_where (is_look_of group) book.entries) as (λ o. last_where (is_look_of group) book.entries ≡ o → option_map suc o ≡ None → count_by (is_look_of group) book.entries ≡ 0) [
+    elim (last_where (is_look_of group) book.entries) as (λ o. last_where (is_look_of group) book.entries ≡ o → option_map (place_of book) o ≡ None → count_by (is_look_of group) book.entries ≡ 0) [
       | None ↦ λ f h. none_last (is_look_of group) book.entries f
       | Some i ↦ λ f h. absurd (cc)
     ] refl none

@@ -1,9 +1,10 @@
 -- Laws of the registers of a book: what is found in them, and what one more entry makes of them.
-use Rattle.std.proofs.Common.{◌≡◌, ℕ, ◌+◌, ◌⊎◌, inl, inr, ◌||◌, Bool, true, false, cond, not, List, [], ◌∷◌, Option, Some, None, refl, sym, ap, ◌∙◌, subst, arith, ◌++◌}
+use Rattle.std.proofs.Common.{◌≡◌, ℕ, ◌+◌, ◌⊎◌, inl, inr, ◌||◌, Bool, true, false, cond, not, map, List, [], ◌∷◌, Option, Some, None, refl, sym, ap, ◌∙◌, subst, arith, ◌++◌}
 use Rattle.std.specs.List.{fold, filter_map, cons_option, list_any}
 use Rattle.std.specs.Option.{option_map, option_map_or, option_or, option_and_then, is_some, IsSome}
 use Rattle.std.specs.Str.{bytes_eq}
 use Rattle.std.proofs.Math.Bool.{or-false, or-true}
+use Rattle.std.proofs.lemmas.List.Folds.{list_any-append}
 use Rattle.std.proofs.lemmas.Option.{same_Some}
 use Rattle.std.proofs.lemmas.Slice.Eq.{bytes_eq-Decides}
 use Rattle.rv_base.specs.Sorted.{find_by, put_by, InOrder, sorted_by}
@@ -13,15 +14,12 @@ use Rattle.rv_rows.specs.declared.call.Call.{Call}
 use Rattle.rv_book.specs.declared.entry.Entry.{Entry}
 use Rattle.rv_book.specs.declared.entry.Entry.TheVariants.{Act, Look, Retire}
 use Rattle.rv_book.specs.Entries.{is_act_of, order_after, retires, bound_in, group_of_in}
-use Rattle.rv_book.specs.Book.{Book, with_entry, bound, group_of, last, last_order, retired, empty_book}
-use Rattle.rv_book.specs.BookWords.{last-with_entry, last_order-with_entry, retired-with_entry}
+use Rattle.rv_book.specs.declared.page.Page.{Page}
+use Rattle.rv_book.specs.Book.{Book, book_from, with_entry, acting_client, bound, clients_named, group_of, last, last_order, page_client, page_group, retired}
+use Rattle.rv_book.specs.BookWords.{bytes_eq_back, last-with_entry, last_order-with_entry, retired-with_entry}
 use Rattle.rv_book.specs.Indexes.{binds, named_in, names_group, user_of}
-use Rattle.rv_book.specs.Members.{acting_client, acting_group}
-use Rattle.rv_book.specs.Registers.{client_named, client_info, clients_of, group_named, group_info, groups_of, RetiresBound}
-
--- the element names k
-abbrev names : {A : Type 0} → (A → Option (List ℕ)) → List ℕ → A → Bool
-names name k a = option_map_or (λ (other : List ℕ). bytes_eq other k) (name a) false
+use Rattle.rv_book.specs.Members.{acting_group}
+use Rattle.rv_book.specs.Registers.{binding_group, client_named, clients_of, group_named, groups_named, groups_of, RetiresBound}
 
 or_false : {X : Type 0} (b : Bool) (o : Option X) → cond b o None ≡ cond (b || false) o None
 or_false true o = refl
@@ -35,8 +33,8 @@ where_none : {X : Type 0} (b : Bool) (o : Option X) → o ≡ None → cond b o 
 where_none true o none = refl
 where_none false o none = sym none
 
--- Items that are said of the names in a list: each element names one or none, and what is said of it depends on that name.
-module _ {A X : Type 0} (key : X → List ℕ) (name : A → Option (List ℕ)) (of : List ℕ → Option X) (info : A → Option X) where
+-- Items that are said of the names in a list.
+module _ {X : Type 0} (key : X → List ℕ) (of : List ℕ → Option X) where
   -- a name of which nothing is told
   found_absent : (k other : List ℕ) (b : Bool) (sorted : List X) → of other ≡ None → find_by key k sorted ≡ cond b (of k) None → find_by key k sorted ≡ cond (b || bytes_eq other k) (of k) None
   found_absent k other b sorted none h =
@@ -63,30 +61,39 @@ module _ {A X : Type 0} (key : X → List ℕ) (name : A → Option (List ℕ)) 
   either_of true b c o = refl
   either_of false b c o = refl
 
-  -- one more element, before those of which it is known
-  found_after : (k : List ℕ) (o : Option (List ℕ)) (items : List X) (rest b : Bool) (sorted : List X) → ((other : List ℕ) (x : X) → of other ≡ Some x → key x ≡ other)
-      → ((b : Bool) (sorted : List X) → find_by key k sorted ≡ cond b (of k) None → find_by key k (fold (λ s x. put_by key x s) sorted items) ≡ cond (b || rest) (of k) None)
-      → find_by key k sorted ≡ cond b (of k) None
-      → find_by key k (fold (λ s x. put_by key x s) sorted (cons_option (option_and_then of o) items)) ≡ cond (b || (option_map_or (λ (other : List ℕ). bytes_eq other k) o false || rest)) (of k) None
-  found_after k None items rest b sorted keyed later h = later b sorted h
-  found_after k (Some other) items rest b sorted keyed later h =
-      (elim (of other) as (λ o. of other ≡ o → find_by key k (fold (λ s x. put_by key x s) sorted (cons_option o items)) ≡ cond ((b || bytes_eq other k) || rest) (of k) None) [
-        | None ↦ λ none. later (b || bytes_eq other k) sorted (found_absent k other b sorted none h)
-        | Some x ↦ λ some. later (b || bytes_eq other k) (put_by key x sorted) (found_present k other b x sorted some (keyed other x some) h)
+  found_info : (k : List ℕ) (names : List (List ℕ)) (b : Bool) (sorted : List X) → ((other : List ℕ) (x : X) → of other ≡ Some x → key x ≡ other) → find_by key k sorted ≡ cond b (of k) None
+      → find_by key k (fold (λ s x. put_by key x s) sorted (filter_map of names)) ≡ cond (b || list_any (λ name. bytes_eq name k) names) (of k) None
+  found_info k [] b sorted keyed h = h ∙ or_false b (of k)
+  found_info k (other ∷ names) b sorted keyed h =
+      (elim (of other) as (λ o. of other ≡ o → find_by key k (fold (λ s x. put_by key x s) sorted (cons_option o (filter_map of names))) ≡ cond ((b || bytes_eq other k) || list_any (λ name. bytes_eq name k) names) (of k) None) [
+        | None ↦ λ none. found_info k names (b || bytes_eq other k) sorted keyed (found_absent k other b sorted none h)
+        | Some x ↦ λ some. found_info k names (b || bytes_eq other k) (put_by key x sorted) keyed (found_present k other b x sorted some (keyed other x some) h)
       ] refl)
-      ∙ either_of b (bytes_eq other k) rest (of k)
+      ∙ either_of b (bytes_eq other k) (list_any (λ name. bytes_eq name k) names) (of k)
 
-  found_info : (k : List ℕ) (xs : List A) (b : Bool) (sorted : List X) → ((a : A) → info a ≡ option_and_then of (name a)) → ((other : List ℕ) (x : X) → of other ≡ Some x → key x ≡ other)
-      → find_by key k sorted ≡ cond b (of k) None → find_by key k (fold (λ s x. put_by key x s) sorted (filter_map info xs)) ≡ cond (b || list_any (names name k) xs) (of k) None
-  found_info k [] b sorted is keyed h = h ∙ or_false b (of k)
-  found_info k (a ∷ xs) b sorted is keyed h =
-      ap (λ (o : Option X). find_by key k (fold (λ s x. put_by key x s) sorted (cons_option o (filter_map info xs)))) (is a)
-      ∙ found_after k (name a) (filter_map info xs) (list_any (names name k) xs) b sorted keyed (λ b sorted h. found_info k xs b sorted is keyed h) h
+  -- what is found at a name: what is said of it, where it is in the list
+  pub find-info : (k : List ℕ) (names : List (List ℕ)) → ((other : List ℕ) (x : X) → of other ≡ Some x → key x ≡ other)
+      → find_by key k (sorted_by key (filter_map of names)) ≡ cond (list_any (λ name. bytes_eq name k) names) (of k) None
+  find-info k names keyed = found_info k names false [] keyed refl
 
-  -- what is found at a name: what is said of it, where an element names it
-  find-info : (k : List ℕ) (xs : List A) → ((a : A) → info a ≡ option_and_then of (name a)) → ((other : List ℕ) (x : X) → of other ≡ Some x → key x ≡ other)
-      → find_by key k (sorted_by key (filter_map info xs)) ≡ cond (list_any (names name k) xs) (of k) None
-  find-info k xs is keyed = found_info k xs false [] is keyed refl
+-- a key stands among those of a list where an item with it is found
+any_found : {X : Type 0} (key : X → List ℕ) (k : List ℕ) (xs : List X) → list_any (λ name. bytes_eq name k) (map key xs) ≡ is_some (find_by key k xs)
+any_found key k [] = refl
+any_found key k (x ∷ xs) =
+    ap (λ (b : Bool). b || list_any (λ name. bytes_eq name k) (map key xs)) (bytes_eq_back (key x) k)
+    ∙ (elim (bytes_eq k (key x)) as (λ b. (b || list_any (λ name. bytes_eq name k) (map key xs)) ≡ is_some (cond b (Some x) (find_by key k xs))) [
+      | true ↦ refl
+      | false ↦ any_found key k xs
+    ])
+
+either_some : {A B : Type 0} (f : A → B) (o : Option A) (p : Option B) → (is_some o || is_some p) ≡ is_some (option_or (option_map f o) p)
+either_some f None p = refl
+either_some f (Some a) p = refl
+
+-- a name stands among those of the page and of the entries
+any_named : {X : Type 0} (key : X → List ℕ) (k : List ℕ) (xs : List X) (name : Entry → Option (List ℕ)) (entries : List Entry) (found : Bool) → list_any (λ name. bytes_eq name k) (filter_map name entries) ≡ found
+    → list_any (λ name. bytes_eq name k) (map key xs ++ filter_map name entries) ≡ (is_some (find_by key k xs) || found)
+any_named key k xs name entries found is = list_any-append (λ name. bytes_eq name k) (map key xs) (filter_map name entries) ∙ (λ i. any_found key k xs i || is i)
 
 -- Two registers, of which the second is told a new item of one name, and of each other name what the first is told.
 put-same : {X : Type 0} (key : X → List ℕ) (before after : List ℕ → Option X) (new : X) (xs ys : List X) → InOrder key xs → InOrder key ys → ((k : List ℕ) → find_by key k xs ≡ before k) → ((k : List ℕ) → find_by key k ys ≡ after k)
@@ -108,11 +115,6 @@ Client = List ℕ × List ℕ × ℕ
 abbrev client_key : Client → List ℕ
 client_key client = client.0
 
-act_info : (book : Book) (entry : Entry) → client_info book entry ≡ option_and_then (λ client. client_named client book) (acting_client entry)
-act_info book (Act user group client id call) = refl
-act_info book (Look user group order base) = refl
-act_info book (Retire group) = refl
-
 client_keyed : (book : Book) (client : List ℕ) (x : Client) → client_named client book ≡ Some x → x.0 ≡ client
 client_keyed book client x is =
     elim (group_of client book) as (λ o. option_map {U = Client} (λ group. (client, group, last client book)) o ≡ Some x → x.0 ≡ client) [
@@ -120,12 +122,18 @@ client_keyed book client x is =
       | Some group ↦ λ h. sym (ap client_key (same_Some _ x h))
     ] is
 
--- a client has a group where an act names it
-has_group : (client : List ℕ) (entries : List Entry) → list_any (names acting_client client) entries ≡ is_some (group_of_in client entries)
-has_group client [] = refl
-has_group client (Act user group actor id call ∷ entries) = elim (bytes_eq actor client) as (λ b. (b || list_any (names acting_client client) entries) ≡ is_some (cond b (Some group) (group_of_in client entries))) [ true ↦ refl | false ↦ has_group client entries ]
-has_group client (Look user group order base ∷ entries) = has_group client entries
-has_group client (Retire group ∷ entries) = has_group client entries
+-- a client has a group where the page or an act names it
+has_act : (client : List ℕ) (entries : List Entry) → list_any (λ name. bytes_eq name client) (filter_map acting_client entries) ≡ is_some (group_of_in client entries)
+has_act client [] = refl
+has_act client (Act user group actor id call ∷ entries) =
+    elim (bytes_eq actor client) as (λ b. (b || list_any (λ name. bytes_eq name client) (filter_map acting_client entries)) ≡ is_some (cond b (Some group) (group_of_in client entries))) [ true ↦ refl | false ↦ has_act client entries ]
+has_act client (Look user group order base ∷ entries) = has_act client entries
+has_act client (Retire group ∷ entries) = has_act client entries
+
+pub client_is_named : (client : List ℕ) (book : Book) → list_any (λ name. bytes_eq name client) (clients_named book) ≡ is_some (group_of client book)
+client_is_named client book =
+    any_named client_key client book.page.clients acting_client book.entries (is_some (group_of_in client book.entries)) (has_act client book.entries)
+    ∙ either_some (λ (c : Client). c.1) (page_client client book.page) (group_of_in client book.entries)
 
 where_some : {A X : Type 0} (f : A → X) (o : Option A) → cond (is_some o) (option_map f o) None ≡ option_map f o
 where_some f None = refl
@@ -134,15 +142,15 @@ where_some f (Some a) = refl
 -- what is found in the register of the clients
 pub found_client : (client : List ℕ) (book : Book) → find_by (λ (c : List ℕ × List ℕ × ℕ). c.0) client (clients_of book) ≡ client_named client book
 found_client client book =
-    find-info client_key acting_client (λ c. client_named c book) (client_info book) client book.entries (act_info book) (client_keyed book)
-    ∙ ap (λ (b : Bool). cond b (client_named client book) None) (has_group client book.entries)
+    find-info client_key (λ c. client_named c book) client (clients_named book) (client_keyed book)
+    ∙ ap (λ (b : Bool). cond b (client_named client book) None) (client_is_named client book)
     ∙ where_some (λ group. (client, group, last client book)) (group_of client book)
 
 pub clients-in_order : (book : Book) → InOrder (λ (c : List ℕ × List ℕ × ℕ). c.0) (clients_of book)
-clients-in_order book = in_order-sorted client_key (filter_map (client_info book) book.entries)
+clients-in_order book = in_order-sorted client_key (filter_map (λ client. client_named client book) (clients_named book))
 
 -- the group of a client, when one more entry follows
-pub group_of_in-push : (client : List ℕ) (entries : List Entry) (entry : Entry) → group_of_in client (entries ++ entry ∷ []) ≡ option_or (group_of_in client entries) (cond (is_act_of client entry) (Some (acting_group entry)) None)
+group_of_in-push : (client : List ℕ) (entries : List Entry) (entry : Entry) → group_of_in client (entries ++ entry ∷ []) ≡ option_or (group_of_in client entries) (cond (is_act_of client entry) (Some (acting_group entry)) None)
 group_of_in-push client [] (Act user group actor id call) = refl
 group_of_in-push client [] (Look user group order base) = refl
 group_of_in-push client [] (Retire group) = refl
@@ -154,6 +162,15 @@ group_of_in-push client (Act user group actor id call ∷ entries) entry =
 group_of_in-push client (Look user group order base ∷ entries) entry = group_of_in-push client entries entry
 group_of_in-push client (Retire group ∷ entries) entry = group_of_in-push client entries entry
 
+or_or : {X : Type 0} (o p q : Option X) → option_or o (option_or p q) ≡ option_or (option_or o p) q
+or_or None p q = refl
+or_or (Some x) p q = refl
+
+pub group_of-push : (client : List ℕ) (book : Book) (entry : Entry) → group_of client (with_entry book entry) ≡ option_or (group_of client book) (cond (is_act_of client entry) (Some (acting_group entry)) None)
+group_of-push client book entry =
+    let page = option_map (λ (c : Client). c.1) (page_client client book.page) in
+    ap (option_or page) (group_of_in-push client book.entries entry) ∙ or_or page (group_of_in client book.entries) (cond (is_act_of client entry) (Some (acting_group entry)) None)
+
 or_none : {X : Type 0} (o : Option X) → option_or o None ≡ o
 or_none None = refl
 or_none (Some x) = refl
@@ -161,7 +178,7 @@ or_none (Some x) = refl
 -- what is said of a client, when an entry follows that is no act of it
 other_client : (client : List ℕ) (book : Book) (entry : Entry) → is_act_of client entry ≡ false → client_named client (with_entry book entry) ≡ client_named client book
 other_client client book entry other =
-    let group : group_of client (with_entry book entry) ≡ group_of client book = group_of_in-push client book.entries entry ∙ ap (λ (b : Bool). option_or (group_of client book) (cond b (Some (acting_group entry)) None)) other ∙ or_none (group_of client book) in
+    let group : group_of client (with_entry book entry) ≡ group_of client book = group_of-push client book entry ∙ ap (λ (b : Bool). option_or (group_of client book) (cond b (Some (acting_group entry)) None)) other ∙ or_none (group_of client book) in
     let none : last client book + 0 ≡ last client book = omega arith in
     let count : last client (with_entry book entry) ≡ last client book = last-with_entry client book entry ∙ ap (λ (b : Bool). last client book + cond b 1 0) other ∙ none in
     (λ i. option_map (λ g. (client, g, count i)) (group i))
@@ -204,7 +221,7 @@ pub clients_after_home_act : (book : Book) (user group client : List ℕ) (id : 
 clients_after_home_act book user group client id call home =
     let act = Act user group client id call in
     clients_after_act book user group client id call group
-    (group_of_in-push client book.entries act ∙ ap (λ (b : Bool). option_or (group_of client book) (cond b (Some group) None)) (equals client) ∙ or_this group (group_of client book) home)
+    (group_of-push client book act ∙ ap (λ (b : Bool). option_or (group_of client book) (cond b (Some group) None)) (equals client) ∙ or_this group (group_of client book) home)
 
 -- an entry that is no act leaves the clients
 clients_after_other : (book : Book) (entry : Entry) → ((client : List ℕ) → is_act_of client entry ≡ false) → clients_of (with_entry book entry) ≡ clients_of book
@@ -226,17 +243,6 @@ Group = List ℕ × List ℕ × ℕ × Bool
 abbrev group_key : Group → List ℕ
 group_key group = group.0
 
--- the group that an act or a look names
-abbrev binding_group : Entry → Option (List ℕ)
-binding_group (Act user group client id call) = Some group
-binding_group (Look user group order base) = Some group
-binding_group (Retire group) = None
-
-binding_info : (book : Book) (entry : Entry) → group_info book entry ≡ option_and_then (λ group. group_named group book) (binding_group entry)
-binding_info book (Act user group client id call) = refl
-binding_info book (Look user group order base) = refl
-binding_info book (Retire group) = refl
-
 group_keyed : (book : Book) (group : List ℕ) (x : Group) → group_named group book ≡ Some x → x.0 ≡ group
 group_keyed book group x is =
     elim (bound group book) as (λ o. option_map {U = Group} (λ user. (group, user, last_order group book, retired group book)) o ≡ Some x → x.0 ≡ group) [
@@ -244,25 +250,32 @@ group_keyed book group x is =
       | Some user ↦ λ h. sym (ap group_key (same_Some _ x h))
     ] is
 
--- a group is bound where an act or a look names it
-is_bound : (group : List ℕ) (entries : List Entry) → list_any (names binding_group group) entries ≡ is_some (bound_in group entries)
-is_bound group [] = refl
-is_bound group (Act user other client id call ∷ entries) = elim (bytes_eq other group) as (λ b. (b || list_any (names binding_group group) entries) ≡ is_some (cond b (Some user) (bound_in group entries))) [ true ↦ refl | false ↦ is_bound group entries ]
-is_bound group (Look user other order base ∷ entries) = elim (bytes_eq other group) as (λ b. (b || list_any (names binding_group group) entries) ≡ is_some (cond b (Some user) (bound_in group entries))) [ true ↦ refl | false ↦ is_bound group entries ]
-is_bound group (Retire other ∷ entries) = is_bound group entries
+-- a group is bound where the page, an act or a look names it
+is_bound_in : (group : List ℕ) (entries : List Entry) → list_any (λ name. bytes_eq name group) (filter_map binding_group entries) ≡ is_some (bound_in group entries)
+is_bound_in group [] = refl
+is_bound_in group (Act user other client id call ∷ entries) =
+    elim (bytes_eq other group) as (λ b. (b || list_any (λ name. bytes_eq name group) (filter_map binding_group entries)) ≡ is_some (cond b (Some user) (bound_in group entries))) [ true ↦ refl | false ↦ is_bound_in group entries ]
+is_bound_in group (Look user other order base ∷ entries) =
+    elim (bytes_eq other group) as (λ b. (b || list_any (λ name. bytes_eq name group) (filter_map binding_group entries)) ≡ is_some (cond b (Some user) (bound_in group entries))) [ true ↦ refl | false ↦ is_bound_in group entries ]
+is_bound_in group (Retire other ∷ entries) = is_bound_in group entries
+
+pub group_is_named : (group : List ℕ) (book : Book) → list_any (λ name. bytes_eq name group) (groups_named book) ≡ is_some (bound group book)
+group_is_named group book =
+    any_named group_key group book.page.groups binding_group book.entries (is_some (bound_in group book.entries)) (is_bound_in group book.entries)
+    ∙ either_some (λ (g : Group). g.1) (page_group group book.page) (bound_in group book.entries)
 
 -- what is found in the register of the groups
 pub found_group : (group : List ℕ) (book : Book) → find_by (λ (g : List ℕ × List ℕ × ℕ × Bool). g.0) group (groups_of book) ≡ group_named group book
 found_group group book =
-    find-info group_key binding_group (λ g. group_named g book) (group_info book) group book.entries (binding_info book) (group_keyed book)
-    ∙ ap (λ (b : Bool). cond b (group_named group book) None) (is_bound group book.entries)
+    find-info group_key (λ g. group_named g book) group (groups_named book) (group_keyed book)
+    ∙ ap (λ (b : Bool). cond b (group_named group book) None) (group_is_named group book)
     ∙ where_some (λ user. (group, user, last_order group book, retired group book)) (bound group book)
 
 pub groups-in_order : (book : Book) → InOrder (λ (g : List ℕ × List ℕ × ℕ × Bool). g.0) (groups_of book)
-groups-in_order book = in_order-sorted group_key (filter_map (group_info book) book.entries)
+groups-in_order book = in_order-sorted group_key (filter_map (λ group. group_named group book) (groups_named book))
 
 -- the user of a group, when one more entry follows
-pub bound_in-push : (group : List ℕ) (entries : List Entry) (entry : Entry) → bound_in group (entries ++ entry ∷ []) ≡ option_or (bound_in group entries) (cond (binds group entry) (user_of entry) None)
+bound_in-push : (group : List ℕ) (entries : List Entry) (entry : Entry) → bound_in group (entries ++ entry ∷ []) ≡ option_or (bound_in group entries) (cond (binds group entry) (user_of entry) None)
 bound_in-push group [] (Act user other client id call) = refl
 bound_in-push group [] (Look user other order base) = refl
 bound_in-push group [] (Retire other) = refl
@@ -278,11 +291,16 @@ bound_in-push group (Look user other order base ∷ entries) entry =
     ]
 bound_in-push group (Retire other ∷ entries) entry = bound_in-push group entries entry
 
+pub bound-push : (group : List ℕ) (book : Book) (entry : Entry) → bound group (with_entry book entry) ≡ option_or (bound group book) (cond (binds group entry) (user_of entry) None)
+bound-push group book entry =
+    let page = option_map (λ (g : Group). g.1) (page_group group book.page) in
+    ap (option_or page) (bound_in-push group book.entries entry) ∙ or_or page (bound_in group book.entries) (cond (binds group entry) (user_of entry) None)
+
 -- what is said of a group, when an entry follows that leaves what it is told by
 left_group : (group : List ℕ) (book : Book) (entry : Entry) → binds group entry ≡ false → order_after group (last_order group book) entry ≡ last_order group book → retires group entry ≡ false
     → group_named group (with_entry book entry) ≡ group_named group book
 left_group group book entry unbound same stands =
-    let user : bound group (with_entry book entry) ≡ bound group book = bound_in-push group book.entries entry ∙ ap (λ (b : Bool). option_or (bound group book) (cond b (user_of entry) None)) unbound ∙ or_none (bound group book) in
+    let user : bound group (with_entry book entry) ≡ bound group book = bound-push group book entry ∙ ap (λ (b : Bool). option_or (bound group book) (cond b (user_of entry) None)) unbound ∙ or_none (bound group book) in
     let order : last_order group (with_entry book entry) ≡ last_order group book = last_order-with_entry group book entry ∙ same in
     let gone : retired group (with_entry book entry) ≡ retired group book = retired-with_entry group book entry ∙ ap (λ (b : Bool). retired group book || b) stands ∙ or-false (retired group book) in
     (λ i. option_map (λ u. (group, u, order i, gone i)) (user i))
@@ -305,7 +323,7 @@ groups_after book entry user order gone own last stands =
 -- the user of an act or a look, whose group is bound to no other
 bound_by : (book : Book) (entry : Entry) (user : List ℕ) → binds (named_in entry) entry ≡ true → user_of entry ≡ Some user → NoneBut user (bound (named_in entry) book) → bound (named_in entry) (with_entry book entry) ≡ Some user
 bound_by book entry user own is free =
-    bound_in-push (named_in entry) book.entries entry ∙ (λ i. option_or (bound (named_in entry) book) (cond (own i) (is i) None)) ∙ or_this user (bound (named_in entry) book) free
+    bound-push (named_in entry) book entry ∙ (λ i. option_or (bound (named_in entry) book) (cond (own i) (is i) None)) ∙ or_this user (bound (named_in entry) book) free
 
 -- an act puts its group, bound to its user
 pub groups_after_act : (book : Book) (user group client : List ℕ) (id : ℕ) (call : Call) → NoneBut user (bound group book)
@@ -325,12 +343,16 @@ groups_after_look book user group order base free =
 pub groups_after_retire : (book : Book) (group user : List ℕ) → bound group book ≡ Some user
     → groups_of (with_entry book (Retire group)) ≡ put_by (λ (g : List ℕ × List ℕ × ℕ × Bool). g.0) (group, user, last_order group book, true) (groups_of book)
 groups_after_retire book group user is =
-    groups_after book (Retire group) user (last_order group book) true (bound_in-push group book.entries (Retire group) ∙ or_none (bound group book) ∙ is) refl
+    groups_after book (Retire group) user (last_order group book) true (bound-push group book (Retire group) ∙ or_none (bound group book) ∙ is) refl
     (ap (λ (b : Bool). retired group book || b) (equals group) ∙ or-true (retired group book))
 
--- Every group that is retired is bound: in the empty book, and after one more entry that keeps to it.
-pub retires_bound-empty : RetiresBound empty_book
-retires_bound-empty = λ group gone. absurd (cc)
+-- Every group that is retired is bound: in a book as it opens, and after one more entry that keeps to it.
+pub retires_bound-opening : (page : Page) → RetiresBound (book_from page [])
+retires_bound-opening page = λ group gone. known (page_group group page) gone
+  where
+    known : (o : Option Group) → (option_map_or (λ g. g.3) o false || false) ≡ true → IsSome (option_or (option_map (λ g. g.1) o) None)
+    known None gone = absurd (cc)
+    known (Some g) gone = refl
 
 -- the entry retires no group, or one that is bound
 abbrev pub BoundIfRetired : Book → Entry → Type 0
@@ -340,7 +362,7 @@ BoundIfRetired book (Retire group) = IsSome (bound group book)
 
 -- a group that is bound stays so
 bound_stays : (group : List ℕ) (book : Book) (entry : Entry) → IsSome (bound group book) → IsSome (bound group (with_entry book entry))
-bound_stays group book entry is = ap is_some (bound_in-push group book.entries entry) ∙ either (bound group book) (cond (binds group entry) (user_of entry) None) is
+bound_stays group book entry is = ap is_some (bound-push group book entry) ∙ either (bound group book) (cond (binds group entry) (user_of entry) None) is
   where
     either : (o p : Option (List ℕ)) → is_some o ≡ true → is_some (option_or o p) ≡ true
     either None p some = absurd (cc)

@@ -3,31 +3,36 @@ ghost use Rattle.std.specs.Option.{option_map_or};
 ghost use Rattle.rv_base.specs.Sorted.{InOrder};
 ghost use Rattle.rv_book.specs.Book.{bound, empty_book, entry_at, group_of, ids, last, last_order, retired, size, with_entry};
 ghost use Rattle.rv_book.specs.Kept.{falls_out, kept, last_look, look_at, look_before};
+ghost use Rattle.rv_book.specs.Logs.{logged};
 ghost use Rattle.rv_book.specs.Registers.{clients_of, groups_of, RetiresBound};
 ghost use Rattle.rv_book.specs.declared.fault.BookFault.TheVariants as BookFault;
 
 use crate::clients::{ClientInfo, ClientRef, ClientRow};
-use crate::entry::{Entry, entry_at};
+use crate::entry::Entry;
 use crate::fault::BookFault;
 use crate::found::Found;
 use crate::group_clients::GroupClients;
 use crate::groups::{GroupInfo, GroupRef, GroupRow};
+use crate::log::Log;
 use crate::look::{LookRef, LookRow, look_at};
+use crate::page::Page;
 use crate::{clients, groups, look, members};
 use rv_base::{Id, Memory, Num, Sequence, User};
 use rv_rows::Clients;
 use std::alloc::Global;
 use std::marker::Model;
 
-/// The entries in order, of which there may be at most so many.
+/// A book: its opening page, if it has one, and its entries in order, up to a place at most.
 #[derive(Debug, Drop)]
 pub struct Book {
+    // The opening page; at 0 where there is none.
+    page: Page,
     entries: Vec<Entry>,
     // Of each entry its look row, by which looks are counted and followed back.
     look_rows: Vec<LookRow>,
     groups: Vec<GroupRow>,
     clients: Vec<ClientRow>,
-    // The same rows by group: in the order of the groups of the clients' first acts, and then of the clients.
+    // The same rows by group: in the order of the clients' groups, and then of the clients.
     members: Vec<ClientRow>,
     limit: u32,
     alloc: Global,
@@ -35,15 +40,15 @@ pub struct Book {
 
 impl Model for Book {
     ghost use Rattle.std.specs.Prelude.{min};
-    ghost use Rattle.rv_book.specs.Book.{book_of};
+    ghost use Rattle.rv_book.specs.Book.{book_from};
     ghost use Rattle.rv_book.specs.Recorded.{Recorded, free};
     ghost use Rattle.rv_book.specs.Indexed.{IsIndexed};
 
     ghost Value = { Recorded };
 
-    ghost view = { λ b. record { book = book_of b.entries.items; limit = b.limit; spare = min (min (free b.entries) (free b.look_rows)) (min (free b.groups) (min (free b.clients) (free b.members))) } };
+    ghost view = { λ b. record { book = book_from b.page b.entries.items; limit = b.limit; spare = min (min (free b.entries) (free b.look_rows)) (min (free b.groups) (min (free b.clients) (free b.members))) } };
 
-    ghost invariant = { λ b. IsIndexed (book_of b.entries.items) b.limit b.look_rows.items b.groups.items b.clients.items b.members.items };
+    ghost invariant = { λ b. IsIndexed (book_from b.page b.entries.items) b.limit b.look_rows.items b.groups.items b.clients.items b.members.items };
 }
 
 impl Book {
@@ -53,6 +58,7 @@ impl Book {
         ensures limit { result.limit ≡ limit }
     {
         Book {
+            page: Page::none(alloc),
             entries: Vec::new(alloc),
             look_rows: Vec::new(alloc),
             groups: Vec::new(alloc),
@@ -63,7 +69,17 @@ impl Book {
         }
     }
 
-    /// How many entries there are.
+    // What look-ups read.
+    fn log(&self) -> Log<'_>
+        ensures { logged result ≡ self.now.book }
+    {
+        Log {
+            page: &self.page,
+            entries: &self.entries,
+        }
+    }
+
+    /// How long the book is: the place of its last entry, or of its page.
     pub fn len(&self) -> u32
         ensures value { result ≡ size self.now.book }
         ensures bound { size self.now.book ≤ self.now.limit }
@@ -71,10 +87,18 @@ impl Book {
     {
         // The limit is read so that its type's bound, which the length has by the invariant, is known here.
         let _limit = self.limit;
-        self.entries.len() as u32
+        self.log().len()
     }
 
-    /// Whether there are as many entries as there may be.
+    /// The place of the opening page, after which the entries stand; 0 where there is none.
+    pub fn opened_at(&self) -> u32
+        ensures value { result ≡ self.now.book.page.at }
+        ensures bound { self.now.book.page.at ≤ size self.now.book }
+    {
+        self.page.at
+    }
+
+    /// Whether the book is as long as it may be.
     pub fn is_full(&self) -> bool
         ensures value { IsTrue result ↔ (size self.now.book ≡ self.now.limit) }
         ensures bound { size self.now.book ≤ self.now.limit }
@@ -82,25 +106,25 @@ impl Book {
         self.len() == self.limit
     }
 
-    /// The entry at a place, from 1.
+    /// The entry at a place; the first stands after the page's, or at 1.
     pub fn entry(&self, place: u32) -> Option<&Entry>
         ensures { option_map (λ entry. entry.now) result ≡ entry_at place self.now.book }
     {
-        entry_at(&self.entries, place)
+        self.log().entry_at(place)
     }
 
     /// The user whom a group is bound to: that of the first act or look that names it.
     pub fn bound(&self, group: &Id) -> Option<&User>
         ensures { option_map (λ user. user.now) result ≡ bound group.now self.now.book }
     {
-        groups::bound(&self.entries, &self.groups, group)
+        groups::bound(self.log(), &self.groups, group)
     }
 
     /// The group of a client's first act.
     pub fn group_of(&self, client: &Id) -> Option<&Id>
         ensures { option_map (λ group. group.now) result ≡ group_of client.now self.now.book }
     {
-        clients::group_of(&self.entries, &self.clients, client)
+        clients::group_of(self.log(), &self.clients, client)
     }
 
     /// The last mutation id of a client: the number of its acts.
@@ -108,28 +132,28 @@ impl Book {
         ensures value { result ≡ last client.now self.now.book }
         ensures bound { result ≤ size self.now.book }
     {
-        Num::from_u64(clients::acts(&self.entries, &self.clients, client) as u64)
+        Num::from_u64(u64::from(clients::acts(self.log(), &self.clients, client)))
     }
 
     /// The order of a group's last look, or 0.
     pub fn last_order(&self, group: &Id) -> Num
         ensures { result ≡ last_order group.now self.now.book }
     {
-        groups::row(&self.entries, &self.groups, group).order
+        groups::row(self.log(), &self.groups, group).order
     }
 
     /// The same. The group's row is looked for at an index first, where it was found before.
     pub fn last_order_at(&self, group: &Id, at: usize) -> Num
         ensures { result ≡ last_order group.now self.now.book }
     {
-        groups::row_from(&self.entries, &self.groups, group, at).order
+        groups::row_from(self.log(), &self.groups, group, at).order
     }
 
     /// Whether a group is retired.
     pub fn retired(&self, group: &Id) -> bool
         ensures { result ≡ retired group.now self.now.book }
     {
-        groups::row(&self.entries, &self.groups, group).retired
+        groups::row(self.log(), &self.groups, group).retired
     }
 
     /// All that the book says of a group for a mutation, found by one search.
@@ -138,7 +162,7 @@ impl Book {
         ensures retired { result.retired ≡ retired group.now self.now.book }
         ensures last_order { result.last_order ≡ last_order group.now self.now.book }
     {
-        groups::info(&self.entries, &self.groups, group)
+        groups::info(self.log(), &self.groups, group)
     }
 
     /// All that the book says of a client for a mutation, found by one search. Of a client without an act there is nothing to
@@ -148,7 +172,7 @@ impl Book {
         ensures last { option_map_or (λ info. info.last) result 0 ≡ last client.now self.now.book }
         ensures bound { IfSome result (λ info. info.last ≤ size self.now.book) }
     {
-        clients::info(&self.entries, &self.clients, client)
+        clients::info(self.log(), &self.clients, client)
     }
 
     /// The client at an index, from 0, of the clients that have an act, in the order of their bytes; `None` from their number
@@ -156,7 +180,7 @@ impl Book {
     pub fn client_at(&self, index: u32) -> Option<ClientInfo<'_>>
         ensures { option_map (λ info. (info.client.now, info.group.now, info.last)) result ≡ slice_get (clients_of self.now.book) index }
     {
-        clients::info_at(&self.entries, &self.clients, index)
+        clients::info_at(self.log(), &self.clients, index)
     }
 
     /// The group at an index, from 0, of the groups that an act or a look names, in the order of their bytes; `None` from their
@@ -166,7 +190,7 @@ impl Book {
         requires { RetiresBound self.now.book }
         ensures { option_map (λ info. (info.group.now, info.user.now, info.last_order, info.retired)) result ≡ slice_get (groups_of self.now.book) index }
     {
-        groups::info_at(&self.entries, &self.groups, index)
+        groups::info_at(self.log(), &self.groups, index)
     }
 
     /// The clients of a group with their last mutation ids, in the order of the clients' bytes. Takes no memory.
@@ -174,7 +198,7 @@ impl Book {
         ensures ids { result ≡ ids group.now self.now.book }
         ensures order { InOrder (λ pair. pair.0) (ids group.now self.now.book) }
     {
-        members::of_group(&self.entries, &self.members, group)
+        members::of_group(self.log(), &self.members, group)
     }
 
     /// The same as a list.
@@ -193,7 +217,7 @@ impl Book {
     pub fn look(&self, place: u32) -> Option<LookRef<'_>>
         ensures { option_map (λ look. (look.user.now, look.group.now, look.order)) result ≡ look_at place self.now.book }
     {
-        look_at(&self.entries, place)
+        look_at(self.log(), place)
     }
 
     /// Whether the look at a place is kept: its group is not retired, and fewer than [`KEPT_LOOKS`](crate::KEPT_LOOKS) later
@@ -201,21 +225,21 @@ impl Book {
     pub fn kept(&self, place: u32) -> bool
         ensures { result ≡ kept place self.now.book }
     {
-        look::kept(&self.entries, &self.groups, &self.look_rows, place)
+        look::kept(self.log(), &self.groups, &self.look_rows, place)
     }
 
     /// The place of a group's last look.
     pub fn last_look(&self, group: &Id) -> Option<u32>
         ensures { result ≡ last_look group.now self.now.book }
     {
-        groups::row(&self.entries, &self.groups, group).last_look
+        groups::row(self.log(), &self.groups, group).last_look
     }
 
     /// Of the look at a place: the place of its group's look before it.
     pub fn look_before(&self, place: u32) -> Option<u32>
         ensures { result ≡ look_before place self.now.book }
     {
-        look::before(&self.entries, &self.look_rows, place)
+        look::before(self.log(), &self.look_rows, place)
     }
 
     /// The place of the look that falls out with a group's next look: it is of the group and kept, and would not be kept any
@@ -223,7 +247,7 @@ impl Book {
     pub fn falls_out(&self, group: &Id) -> Option<u32>
         ensures { result ≡ falls_out group.now self.now.book }
     {
-        look::falls_out(&self.entries, &self.groups, &self.look_rows, group)
+        look::falls_out(self.log(), &self.groups, &self.look_rows, group)
     }
 
     /// Makes space for one more entry, and for what is looked up by it.
@@ -264,14 +288,18 @@ impl Book {
         ensures limit { self.new.limit ≡ self.old.limit }
         ensures spare { self.old.spare ≤ self.new.spare + 1 }
     {
-        let look_row = look::look_row(&self.entries, &self.groups, &entry);
+        let log = Log {
+            page: &self.page,
+            entries: &self.entries,
+        };
+        let look_row = look::look_row(log, &self.groups, &entry);
         match self.look_rows.push(look_row) {
             Ok(()) => {}
             Err(_) => unreachable!(),
         }
-        groups::enter(&self.entries, &mut self.groups, &entry, found.group);
-        let first_group = clients::enter(&self.entries, &mut self.clients, &entry, found.client);
-        members::enter(&self.entries, &mut self.members, &entry, first_group);
+        groups::enter(log, &mut self.groups, &entry, found.group);
+        let first_group = clients::enter(log, &mut self.clients, &entry, found.client);
+        members::enter(log, &mut self.members, &entry, first_group);
         match self.entries.push(entry) {
             Ok(()) => {}
             Err(_) => unreachable!(),

@@ -3,12 +3,14 @@ ghost use Rattle.std.specs.Option.{option_map_or};
 ghost use Rattle.rv_base.specs.Sorted.{IsPositionOf};
 ghost use Rattle.rv_book.specs.declared.entry.Entry.{Entry};
 ghost use Rattle.rv_book.specs.Entries.{is_act_of};
-ghost use Rattle.rv_book.specs.Book.{book_of, group_of, last, with_entry};
-ghost use Rattle.rv_book.specs.Indexes.{acted_in, AreClientRows, StandsAt, client_of_row, client_row, first_where, info_by_client};
+ghost use Rattle.rv_book.specs.Book.{group_of, last, size, with_entry};
+ghost use Rattle.rv_book.specs.Logs.{logged};
+ghost use Rattle.rv_book.specs.Indexes.{acted_in, acting, AreClientRows, LastsFit, StandsAt, client_of_row, client_row, first_where, info_by_client};
 ghost use Rattle.rv_book.specs.Members.{group_before};
 ghost use Rattle.rv_book.specs.Registers.{clients_of};
 
 use crate::entry::Entry;
+use crate::log::Log;
 use rv_base::{Id, Num};
 
 /// A client that has an act in the book: the group of its first one, and its last mutation id, which is the number of its acts.
@@ -33,127 +35,120 @@ pub struct ClientInfo<'a> {
     pub last: Num,
 }
 
-// Of a client with an act: the index of its first act, and the number of its acts.
+// Of a client that the page or an act names: the index of what names it first, and its last mutation id.
 #[derive(Clone, Copy, Debug)]
 pub(crate) struct ClientRow {
-    pub(crate) first: u32,
+    pub(crate) first: usize,
     pub(crate) acts: u32,
 }
 
 // The client of a row, and an empty text where the row names no act.
 #[tactic(auto, unfolding(crate::specs::Indexes::client_of_row))]
-pub(crate) fn key<'b>(entries: &'b [Entry], row: &ClientRow) -> &'b str
-    ensures { result.now ≡ client_of_row (book_of entries.now) row.now }
+pub(crate) fn key<'b>(log: Log<'b>, row: &ClientRow) -> &'b str
+    ensures { result.now ≡ client_of_row (logged log.entry) row.now }
 {
-    match entries.get(row.first as usize) {
-        Some(Entry::Act { client, .. }) => client.as_str(),
-        Some(Entry::Look { .. }) => "",
-        Some(Entry::Retire { .. }) => "",
+    match log.acting_at(row.first) {
+        Some((client, _)) => client.as_str(),
         None => "",
     }
 }
 
 // Where the row of a client stands, or where it would go.
-fn place(entries: &[Entry], rows: &[ClientRow], client: &Id) -> Result<usize, usize>
-    requires { AreClientRows (book_of entries.now) rows.now }
-    ensures now { IsPositionOf (client_of_row (book_of entries.now)) client.now rows.now result }
-    ensures next { (entry : Entry) → IsPositionOf (client_of_row (with_entry (book_of entries.now) entry)) client.now rows.now result }
+fn place(log: Log<'_>, rows: &[ClientRow], client: &Id) -> Result<usize, usize>
+    requires { AreClientRows (logged log) rows.now }
+    ensures now { IsPositionOf (client_of_row (logged log.entry)) client.now rows.now result }
+    ensures next { (entry : Entry) → IsPositionOf (client_of_row (with_entry (logged log.entry) entry)) client.now rows.now result }
 {
-    rows.binary_search_by(|row| key(entries, row).cmp(client.as_str()))
+    rows.binary_search_by(|row| key(log, row).cmp(client.as_str()))
 }
 
 // Whether the row of the client stands there.
-fn stands_at(entries: &[Entry], rows: &[ClientRow], client: &Id, at: usize) -> bool
-    ensures { IsTrue result → StandsAt (client_of_row (book_of entries.now)) client.now rows.now at }
+fn stands_at(log: Log<'_>, rows: &[ClientRow], client: &Id, at: usize) -> bool
+    ensures { IsTrue result → StandsAt (client_of_row (logged log.entry)) client.now rows.now at }
 {
     match rows.get(at) {
-        Some(row) => key(entries, row) == client.as_str(),
+        Some(row) => key(log, row) == client.as_str(),
         None => false,
     }
 }
 
 // Where the row of a client stands, or where it would go. It is looked for at an index, and searched for where it is not there.
-fn place_from(entries: &[Entry], rows: &[ClientRow], client: &Id, at: usize) -> Result<usize, usize>
-    requires { AreClientRows (book_of entries.now) rows.now }
-    ensures now { IsPositionOf (client_of_row (book_of entries.now)) client.now rows.now result }
-    ensures next { (entry : Entry) → IsPositionOf (client_of_row (with_entry (book_of entries.now) entry)) client.now rows.now result }
+fn place_from(log: Log<'_>, rows: &[ClientRow], client: &Id, at: usize) -> Result<usize, usize>
+    requires { AreClientRows (logged log) rows.now }
+    ensures now { IsPositionOf (client_of_row (logged log.entry)) client.now rows.now result }
+    ensures next { (entry : Entry) → IsPositionOf (client_of_row (with_entry (logged log.entry) entry)) client.now rows.now result }
 {
-    if stands_at(entries, rows, client, at) {
+    if stands_at(log, rows, client, at) {
         Ok(at)
     } else {
-        place(entries, rows, client)
+        place(log, rows, client)
     }
 }
 
 // The row of a client, where it has an act.
-fn find(entries: &[Entry], rows: &[ClientRow], client: &Id) -> Option<ClientRow>
-    requires { AreClientRows (book_of entries.now) rows.now }
-    ensures { result ≡ client_row (book_of entries.now) client.now }
+fn find(log: Log<'_>, rows: &[ClientRow], client: &Id) -> Option<ClientRow>
+    requires { AreClientRows (logged log) rows.now }
+    ensures { result ≡ client_row (logged log.entry) client.now }
 {
-    match place(entries, rows, client) {
+    match place(log, rows, client) {
         Ok(at) => Some(rows[at]),
         Err(_) => None,
     }
 }
 
-// The index of a client's first act.
-fn first(entries: &[Entry], rows: &[ClientRow], client: &Id) -> Option<u32>
-    requires { AreClientRows (book_of entries.now) rows.now }
-    ensures { result ≡ first_where (is_act_of client.now) entries.now }
+// The index of what names a client first.
+fn first(log: Log<'_>, rows: &[ClientRow], client: &Id) -> Option<usize>
+    requires { AreClientRows (logged log) rows.now }
+    ensures { result ≡ first_where (is_act_of client.now) (acting (logged log.entry)) }
 {
-    match find(entries, rows, client) {
+    match find(log, rows, client) {
         Some(row) => Some(row.first),
         None => None,
     }
 }
 
-// The group of the act at an index.
-fn group_at(entries: &[Entry], index: u32) -> Option<&Id>
-    ensures { option_map (λ group. group.now) result ≡ option_and_then acted_in (slice_get entries.now index) }
+// The group that is named at an index.
+fn group_at<'b>(log: Log<'b>, index: usize) -> Option<&'b Id>
+    ensures { option_map (λ group. group.now) result ≡ option_and_then acted_in (slice_get (acting (logged log.entry)) index) }
 {
-    match entries.get(index as usize)? {
-        Entry::Act { group, .. } => Some(group),
-        Entry::Look { .. } => None,
-        Entry::Retire { .. } => None,
-    }
+    let (_, group) = log.acting_at(index)?;
+    Some(group)
 }
 
 // The group of a client's first act.
-pub(crate) fn group_of<'b>(entries: &'b [Entry], rows: &[ClientRow], client: &Id) -> Option<&'b Id>
-    requires { AreClientRows (book_of entries.now) rows.now }
-    ensures { option_map (λ group. group.now) result ≡ group_of client.now (book_of entries.now) }
+pub(crate) fn group_of<'b>(log: Log<'b>, rows: &[ClientRow], client: &Id) -> Option<&'b Id>
+    requires { AreClientRows (logged log) rows.now }
+    ensures { option_map (λ group. group.now) result ≡ group_of client.now (logged log.entry) }
 {
-    match first(entries, rows, client) {
-        Some(index) => group_at(entries, index),
+    match first(log, rows, client) {
+        Some(index) => group_at(log, index),
         None => None,
     }
 }
 
 // The number of a client's acts.
-pub(crate) fn acts(entries: &[Entry], rows: &[ClientRow], client: &Id) -> u32
-    requires { AreClientRows (book_of entries.now) rows.now }
-    ensures value { result ≡ last client.now (book_of entries.now) }
-    ensures bound { result ≤ length entries.now }
+pub(crate) fn acts(log: Log<'_>, rows: &[ClientRow], client: &Id) -> u32
+    requires lasts { LastsFit log.page.now }
+    requires rows { AreClientRows (logged log) rows.now }
+    ensures value { result ≡ last client.now (logged log.entry) }
+    ensures bound { result ≤ size (logged log.entry) }
 {
-    match find(entries, rows, client) {
+    match find(log, rows, client) {
         Some(row) => row.acts,
         None => 0,
     }
 }
 
 // What is said of a client.
-pub(crate) fn info<'b>(
-    entries: &'b [Entry],
-    rows: &[ClientRow],
-    client: &Id,
-) -> Option<ClientRef<'b>>
-    requires { AreClientRows (book_of entries.now) rows.now }
-    ensures group { option_map (λ info. info.group.now) result ≡ group_of client.now (book_of entries.now) }
-    ensures last { option_map_or (λ info. info.last) result 0 ≡ last client.now (book_of entries.now) }
-    ensures bound { IfSome result (λ info. info.last ≤ length entries.now) }
+pub(crate) fn info<'b>(log: Log<'b>, rows: &[ClientRow], client: &Id) -> Option<ClientRef<'b>>
+    requires lasts { LastsFit log.page.now }
+    requires rows { AreClientRows (logged log) rows.now }
+    ensures group { option_map (λ info. info.group.now) result ≡ group_of client.now (logged log.entry) }
+    ensures last { option_map_or (λ info. info.last) result 0 ≡ last client.now (logged log.entry) }
+    ensures bound { IfSome result (λ info. info.last ≤ size (logged log.entry)) }
 {
-    match place(entries, rows, client) {
-        Ok(at) => match group_at(entries, rows[at].first) {
+    match place(log, rows, client) {
+        Ok(at) => match group_at(log, rows[at].first) {
             Some(group) => Some(ClientRef {
                 group,
                 last: Num::from_u64(rows[at].acts as u64),
@@ -166,56 +161,45 @@ pub(crate) fn info<'b>(
 }
 
 // What a row says of its client, by the act that it names.
-fn info_by<'b>(entries: &'b [Entry], row: &ClientRow) -> Option<ClientInfo<'b>>
-    ensures { option_map (λ info. (info.client.now, info.group.now, info.last)) result ≡ info_by_client (book_of entries.now) row.now }
+fn info_by<'b>(log: Log<'b>, row: &ClientRow) -> Option<ClientInfo<'b>>
+    ensures { option_map (λ info. (info.client.now, info.group.now, info.last)) result ≡ info_by_client (logged log.entry) row.now }
 {
-    match entries.get(row.first as usize)? {
-        Entry::Act { client, group, .. } => Some(ClientInfo {
-            client,
-            group,
-            last: Num::from_u64(row.acts as u64),
-        }),
-        Entry::Look { .. } => None,
-        Entry::Retire { .. } => None,
-    }
+    let (client, group) = log.acting_at(row.first)?;
+    Some(ClientInfo {
+        client,
+        group,
+        last: Num::from_u64(row.acts as u64),
+    })
 }
 
 // The client at an index, from 0, of those that have an act, in the order of their bytes.
-pub(crate) fn info_at<'b>(
-    entries: &'b [Entry],
-    rows: &[ClientRow],
-    index: u32,
-) -> Option<ClientInfo<'b>>
-    requires { AreClientRows (book_of entries.now) rows.now }
-    ensures { option_map (λ info. (info.client.now, info.group.now, info.last)) result ≡ slice_get (clients_of (book_of entries.now)) index }
+pub(crate) fn info_at<'b>(log: Log<'b>, rows: &[ClientRow], index: u32) -> Option<ClientInfo<'b>>
+    requires { AreClientRows (logged log) rows.now }
+    ensures { option_map (λ info. (info.client.now, info.group.now, info.last)) result ≡ slice_get (clients_of (logged log.entry)) index }
 {
-    info_by(entries, rows.get(index as usize)?)
+    info_by(log, rows.get(index as usize)?)
 }
 
 // Enters an act of a client, which follows the entries, and answers the group of the client's first act among these. The client's
 // row is looked for at an index first.
-fn enter_act<'b>(
-    entries: &'b [Entry],
-    rows: &mut Vec<ClientRow>,
-    client: &Id,
-    at: usize,
-) -> Option<&'b Id>
-    requires rows { AreClientRows (book_of entries.now) rows.old.items }
+fn enter_act<'b>(log: Log<'b>, rows: &mut Vec<ClientRow>, client: &Id, at: usize) -> Option<&'b Id>
+    requires lasts { LastsFit log.page.now }
+    requires rows { AreClientRows (logged log) rows.old.items }
     requires spare { 1 ≤ vec_capacity rows.old - vec_len rows.old }
-    requires length { length entries.now + 1 < 2 ^ 32 }
-    ensures rows { (entry : Entry) → is_act_of client.now entry ≡ true → AreClientRows (with_entry (book_of entries.now) entry) rows.new.items }
+    requires length { size (logged log) + 1 < 2 ^ 32 }
+    ensures rows { (entry : Entry) → is_act_of client.now entry ≡ true → AreClientRows (with_entry (logged log.entry) entry) rows.new.items }
     ensures spare { vec_capacity rows.old - vec_len rows.old ≤ (vec_capacity rows.new - vec_len rows.new) + 1 }
-    ensures group { option_map (λ group. group.now) result ≡ group_of client.now (book_of entries.now) }
+    ensures group { option_map (λ group. group.now) result ≡ group_of client.now (logged log.entry) }
 {
-    match place_from(entries, rows, client, at) {
+    match place_from(log, rows, client, at) {
         Ok(at) => {
             let row = &mut rows[at];
             row.acts += 1;
-            group_at(entries, row.first)
+            group_at(log, row.first)
         }
         Err(at) => {
             let row = ClientRow {
-                first: entries.len() as u32,
+                first: log.acting_len(),
                 acts: 1,
             };
             match rows.insert(at, row) {
@@ -229,20 +213,21 @@ fn enter_act<'b>(
 // Enters an entry, which follows the others. Of an act it answers the group of its client's first act among these; the client's row
 // is looked for at an index first.
 pub(crate) fn enter<'b>(
-    entries: &'b [Entry],
+    log: Log<'b>,
     rows: &mut Vec<ClientRow>,
     entry: &Entry,
     at: usize,
 ) -> Option<&'b Id>
-    requires rows { AreClientRows (book_of entries.now) rows.old.items }
+    requires lasts { LastsFit log.page.now }
+    requires rows { AreClientRows (logged log) rows.old.items }
     requires spare { 1 ≤ vec_capacity rows.old - vec_len rows.old }
-    requires length { length entries.now + 1 < 2 ^ 32 }
-    ensures rows { AreClientRows (with_entry (book_of entries.now) entry.now) rows.new.items }
+    requires length { size (logged log) + 1 < 2 ^ 32 }
+    ensures rows { AreClientRows (with_entry (logged log.entry) entry.now) rows.new.items }
     ensures spare { vec_capacity rows.old - vec_len rows.old ≤ (vec_capacity rows.new - vec_len rows.new) + 1 }
-    ensures group { option_map (λ group. group.now) result ≡ group_before (book_of entries.now) entry.now }
+    ensures group { option_map (λ group. group.now) result ≡ group_before (logged log.entry) entry.now }
 {
     match entry {
-        Entry::Act { client, .. } => enter_act(entries, rows, client, at),
+        Entry::Act { client, .. } => enter_act(log, rows, client, at),
         Entry::Look { .. } => None,
         Entry::Retire { .. } => None,
     }

@@ -1,5 +1,5 @@
 ghost use Rattle.std.specs.Prelude.{◌≡◌, IfOk, option_map};
-ghost use Rattle.rv_book.specs.Book.{book_of, entry_at};
+ghost use Rattle.rv_book.specs.Indexes.{named_in, user_of};
 
 use rv_base::{Id, Memory, Num, User};
 use rv_rows::Call;
@@ -76,12 +76,24 @@ impl Entry {
     }
 }
 
-// The entry at a place, from 1.
-pub(crate) fn entry_at(entries: &[Entry], place: u32) -> Option<&Entry>
-    ensures { option_map (λ entry. entry.now) result ≡ entry_at place (book_of entries.now) }
+// The group that an entry names.
+pub(crate) fn named(entry: &Entry) -> &Id
+    ensures { result.now ≡ named_in entry.now }
 {
-    if place == 0 {
-        return None;
+    match entry {
+        Entry::Act { group, .. } => group,
+        Entry::Look { group, .. } => group,
+        Entry::Retire { group } => group,
     }
-    entries.get(place as usize - 1)
+}
+
+// The user of an act or a look.
+pub(crate) fn user_of(entry: &Entry) -> Option<&User>
+    ensures { option_map (λ user. user.now) result ≡ user_of entry.now }
+{
+    match entry {
+        Entry::Act { user, .. } => Some(user),
+        Entry::Look { user, .. } => Some(user),
+        Entry::Retire { .. } => None,
+    }
 }

@@ -1,11 +1,11 @@
 ghost use Rattle.std.specs.Prelude.{◌≡◌};
 ghost use Rattle.std.specs.Iterator.{YieldsFirstBy, item_count};
 ghost use Rattle.std.specs.List.{filter_map};
-ghost use Rattle.rv_book.specs.Book.{book_of};
+ghost use Rattle.rv_book.specs.Logs.{logged};
 ghost use Rattle.rv_book.specs.Members.{info_by};
 
 use crate::clients::ClientRow;
-use crate::entry::Entry;
+use crate::log::Log;
 use crate::members::info;
 use rv_base::{Id, Num};
 use std::marker::Model;
@@ -15,7 +15,7 @@ use std::marker::Model;
 /// A contract sees the list of those that are left.
 #[derive(Drop)]
 pub struct GroupClients<'b> {
-    entries: &'b [Entry],
+    log: Log<'b>,
     // the rows of those that are left
     rows: &'b [ClientRow],
 }
@@ -23,20 +23,20 @@ pub struct GroupClients<'b> {
 impl<'b> Model for GroupClients<'b> {
     ghost use Rattle.std.specs.Prelude.{List, ℕ};
     ghost use Rattle.std.specs.List.{filter_map};
-    ghost use Rattle.rv_book.specs.Book.{book_of};
+    ghost use Rattle.rv_book.specs.Logs.{logged};
     ghost use Rattle.rv_book.specs.Members.{info_by};
 
     ghost Value = { List (List ℕ × ℕ) };
 
-    ghost view = { λ left. filter_map (info_by (book_of left.entries.now)) left.rows.now };
+    ghost view = { λ left. filter_map (info_by (logged left.log)) left.rows.now };
 }
 
 impl<'b> GroupClients<'b> {
     // The clients that rows name.
-    pub(crate) fn new(entries: &'b [Entry], rows: &'b [ClientRow]) -> GroupClients<'b>
-        ensures { result ≡ filter_map (info_by (book_of entries.now)) rows.now }
+    pub(crate) fn new(log: Log<'b>, rows: &'b [ClientRow]) -> GroupClients<'b>
+        ensures { result ≡ filter_map (info_by (logged log.entry)) rows.now }
     {
-        GroupClients { entries, rows }
+        GroupClients { log, rows }
     }
 }
 
@@ -50,7 +50,7 @@ impl<'b> Iterator for GroupClients<'b> {
     fn next(&mut self) -> Option<(&'b Id, Num)> {
         while let Some((row, rest)) = self.rows.split_first() {
             self.rows = rest;
-            if let Some(client) = info(self.entries, row) {
+            if let Some(client) = info(self.log, row) {
                 return Some(client);
             }
         }

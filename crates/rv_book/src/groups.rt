@@ -1,12 +1,14 @@
 ghost use Rattle.std.specs.Prelude.{◌≡◌, IsTrue, ◌≤◌, ◌<◌, ◌+◌, ◌-◌, ◌^◌, length, count_by, option_map, option_and_then, slice_get, vec_len, vec_capacity};
 ghost use Rattle.rv_base.specs.Sorted.{IsPositionOf};
 ghost use Rattle.rv_book.specs.declared.entry.Entry.{Entry};
-ghost use Rattle.rv_book.specs.Book.{book_of, bound, last_order, retired, with_entry};
+ghost use Rattle.rv_book.specs.Book.{bound, last_order, retired, size, with_entry};
 ghost use Rattle.rv_book.specs.Kept.{is_look_of, last_look};
-ghost use Rattle.rv_book.specs.Indexes.{AreGroupRows, StandsAt, binds, first_where, group_of_row, group_row, named_in, new_row, row_after, info_by_group, user_of, user_of_row};
+ghost use Rattle.rv_book.specs.Logs.{logged};
+ghost use Rattle.rv_book.specs.Indexes.{AreGroupRows, StandsAt, binds, first_where, group_of_row, group_row, naming, new_row, row_after, info_by_group, user_of, user_of_row};
 ghost use Rattle.rv_book.specs.Registers.{groups_of, RetiresBound};
 
-use crate::entry::Entry;
+use crate::entry::{Entry, named};
+use crate::log::Log;
 use rv_base::{Id, Num, User};
 
 /// A client group as the book has it: whose it is, whether it is retired, and the order of its last look.
@@ -35,12 +37,12 @@ pub struct GroupInfo<'a> {
     pub retired: bool,
 }
 
-// Of a group that an entry names: the index of such an entry, the index of the first act or look of the group, the order of
-// its last look, the number of its looks, the place of the last one, and whether it is retired.
+// Of a group that the page or an entry names: the index of what names it, the index of what binds it first, the order of its
+// last look, the number of its looks among the entries, the place of the last one, and whether it is retired.
 #[derive(Clone, Copy, Debug)]
 pub(crate) struct GroupRow {
-    named: u32,
-    bound: Option<u32>,
+    named: usize,
+    bound: Option<usize>,
     pub(crate) order: Num,
     pub(crate) looks: u32,
     pub(crate) last_look: Option<u32>,
@@ -49,7 +51,7 @@ pub(crate) struct GroupRow {
 
 impl GroupRow {
     // The row of a group before the first entry that names it.
-    fn new(index: u32) -> GroupRow
+    fn new(index: usize) -> GroupRow
         ensures { result ≡ new_row index }
     {
         GroupRow {
@@ -62,11 +64,10 @@ impl GroupRow {
         }
     }
 
-    // The row after one more entry of the group.
-    fn after(self, index: u32, entry: &Entry) -> GroupRow
-        requires looks { self.looks + 1 < 2 ^ 32 }
-        requires place { index + 1 < 2 ^ 32 }
-        ensures { result ≡ row_after index entry.now self }
+    // The row after one more entry of the group, which has this index and stands at this place.
+    fn after(self, index: usize, place: u32, entry: &Entry) -> GroupRow
+        requires { self.looks + 1 < 2 ^ 32 }
+        ensures { result ≡ row_after index place entry.now self }
     {
         let bound = self.bound.or(Some(index));
         match entry {
@@ -75,7 +76,7 @@ impl GroupRow {
                 bound,
                 order: *order,
                 looks: self.looks + 1,
-                last_look: Some(index + 1),
+                last_look: Some(place),
                 ..self
             },
             Entry::Retire { .. } => GroupRow {
@@ -86,151 +87,137 @@ impl GroupRow {
     }
 }
 
-// The group that an entry names.
-fn named(entry: &Entry) -> &Id
-    ensures { result.now ≡ named_in entry.now }
-{
-    match entry {
-        Entry::Act { group, .. } => group,
-        Entry::Look { group, .. } => group,
-        Entry::Retire { group } => group,
-    }
-}
-
 // The group of a row, and an empty text where the row names no entry.
 #[tactic(auto, unfolding(crate::specs::Indexes::group_of_row))]
-fn key<'b>(entries: &'b [Entry], row: &GroupRow) -> &'b str
-    ensures { result.now ≡ group_of_row (book_of entries.now) row.now }
+fn key<'b>(log: Log<'b>, row: &GroupRow) -> &'b str
+    ensures { result.now ≡ group_of_row (logged log.entry) row.now }
 {
-    match entries.get(row.named as usize) {
-        Some(entry) => named(entry).as_str(),
+    match log.naming_at(row.named) {
+        Some((group, _)) => group.as_str(),
         None => "",
     }
 }
 
 // Where the row of a group stands, or where it would go.
-fn place(entries: &[Entry], rows: &[GroupRow], group: &Id) -> Result<usize, usize>
-    requires { AreGroupRows (book_of entries.now) rows.now }
-    ensures now { IsPositionOf (group_of_row (book_of entries.now)) group.now rows.now result }
-    ensures next { (entry : Entry) → IsPositionOf (group_of_row (with_entry (book_of entries.now) entry)) group.now rows.now result }
+fn place(log: Log<'_>, rows: &[GroupRow], group: &Id) -> Result<usize, usize>
+    requires { AreGroupRows (logged log) rows.now }
+    ensures now { IsPositionOf (group_of_row (logged log.entry)) group.now rows.now result }
+    ensures next { (entry : Entry) → IsPositionOf (group_of_row (with_entry (logged log.entry) entry)) group.now rows.now result }
 {
-    rows.binary_search_by(|row| key(entries, row).cmp(group.as_str()))
+    rows.binary_search_by(|row| key(log, row).cmp(group.as_str()))
 }
 
 // Whether the row of the group stands there.
-fn stands_at(entries: &[Entry], rows: &[GroupRow], group: &Id, at: usize) -> bool
-    ensures { IsTrue result → StandsAt (group_of_row (book_of entries.now)) group.now rows.now at }
+fn stands_at(log: Log<'_>, rows: &[GroupRow], group: &Id, at: usize) -> bool
+    ensures { IsTrue result → StandsAt (group_of_row (logged log.entry)) group.now rows.now at }
 {
     match rows.get(at) {
-        Some(row) => key(entries, row) == group.as_str(),
+        Some(row) => key(log, row) == group.as_str(),
         None => false,
     }
 }
 
 // Where the row of a group stands, or where it would go. It is looked for at an index, and searched for where it is not there.
-fn place_from(entries: &[Entry], rows: &[GroupRow], group: &Id, at: usize) -> Result<usize, usize>
-    requires { AreGroupRows (book_of entries.now) rows.now }
-    ensures now { IsPositionOf (group_of_row (book_of entries.now)) group.now rows.now result }
-    ensures next { (entry : Entry) → IsPositionOf (group_of_row (with_entry (book_of entries.now) entry)) group.now rows.now result }
+fn place_from(log: Log<'_>, rows: &[GroupRow], group: &Id, at: usize) -> Result<usize, usize>
+    requires { AreGroupRows (logged log) rows.now }
+    ensures now { IsPositionOf (group_of_row (logged log.entry)) group.now rows.now result }
+    ensures next { (entry : Entry) → IsPositionOf (group_of_row (with_entry (logged log.entry) entry)) group.now rows.now result }
 {
-    if stands_at(entries, rows, group, at) {
+    if stands_at(log, rows, group, at) {
         Ok(at)
     } else {
-        place(entries, rows, group)
+        place(log, rows, group)
     }
 }
 
 // The row of a group, where an entry names it. It is looked for at an index first.
-fn find_from(entries: &[Entry], rows: &[GroupRow], group: &Id, at: usize) -> Option<GroupRow>
-    requires { AreGroupRows (book_of entries.now) rows.now }
-    ensures { result ≡ group_row (book_of entries.now) group.now }
+fn find_from(log: Log<'_>, rows: &[GroupRow], group: &Id, at: usize) -> Option<GroupRow>
+    requires { AreGroupRows (logged log) rows.now }
+    ensures { result ≡ group_row (logged log.entry) group.now }
 {
-    match place_from(entries, rows, group, at) {
+    match place_from(log, rows, group, at) {
         Ok(at) => Some(rows[at]),
         Err(_) => None,
     }
 }
 
 // Where the row of a group stands, and 0 where it has none.
-fn index(entries: &[Entry], rows: &[GroupRow], group: &Id) -> usize
-    requires { AreGroupRows (book_of entries.now) rows.now }
+fn index(log: Log<'_>, rows: &[GroupRow], group: &Id) -> usize
+    requires { AreGroupRows (logged log) rows.now }
     ensures { result ≤ length rows.now }
 {
-    match place(entries, rows, group) {
+    match place(log, rows, group) {
         Ok(at) => at,
         Err(_) => 0,
     }
 }
 
 // The row of a group, and that of a group without an entry where none names it.
-pub(crate) fn row(entries: &[Entry], rows: &[GroupRow], group: &Id) -> GroupRow
-    requires { AreGroupRows (book_of entries.now) rows.now }
-    ensures bound { result.bound ≡ first_where (binds group.now) entries.now }
-    ensures order { result.order ≡ last_order group.now (book_of entries.now) }
-    ensures looks { result.looks ≡ count_by (is_look_of group.now) entries.now }
-    ensures last_look { result.last_look ≡ last_look group.now (book_of entries.now) }
-    ensures retired { result.retired ≡ retired group.now (book_of entries.now) }
-    ensures looks_bound { result.looks ≤ length entries.now }
+pub(crate) fn row(log: Log<'_>, rows: &[GroupRow], group: &Id) -> GroupRow
+    requires { AreGroupRows (logged log) rows.now }
+    ensures bound { result.bound ≡ first_where (binds group.now) (naming (logged log.entry)) }
+    ensures order { result.order ≡ last_order group.now (logged log.entry) }
+    ensures looks { result.looks ≡ count_by (is_look_of group.now) log.entry.entries.now }
+    ensures last_look { result.last_look ≡ last_look group.now (logged log.entry) }
+    ensures retired { result.retired ≡ retired group.now (logged log.entry) }
+    ensures looks_bound { result.looks ≤ length log.entry.entries.now }
 {
-    row_from(entries, rows, group, index(entries, rows, group))
+    row_from(log, rows, group, index(log, rows, group))
 }
 
 // The same. The row is looked for at an index first.
-pub(crate) fn row_from(entries: &[Entry], rows: &[GroupRow], group: &Id, at: usize) -> GroupRow
-    requires { AreGroupRows (book_of entries.now) rows.now }
-    ensures bound { result.bound ≡ first_where (binds group.now) entries.now }
-    ensures order { result.order ≡ last_order group.now (book_of entries.now) }
-    ensures looks { result.looks ≡ count_by (is_look_of group.now) entries.now }
-    ensures last_look { result.last_look ≡ last_look group.now (book_of entries.now) }
-    ensures retired { result.retired ≡ retired group.now (book_of entries.now) }
-    ensures looks_bound { result.looks ≤ length entries.now }
+pub(crate) fn row_from(log: Log<'_>, rows: &[GroupRow], group: &Id, at: usize) -> GroupRow
+    requires { AreGroupRows (logged log) rows.now }
+    ensures bound { result.bound ≡ first_where (binds group.now) (naming (logged log.entry)) }
+    ensures order { result.order ≡ last_order group.now (logged log.entry) }
+    ensures looks { result.looks ≡ count_by (is_look_of group.now) log.entry.entries.now }
+    ensures last_look { result.last_look ≡ last_look group.now (logged log.entry) }
+    ensures retired { result.retired ≡ retired group.now (logged log.entry) }
+    ensures looks_bound { result.looks ≤ length log.entry.entries.now }
 {
-    match find_from(entries, rows, group, at) {
+    match find_from(log, rows, group, at) {
         Some(row) => row,
         None => GroupRow::new(0),
     }
 }
 
-// The user of the act or look at an index.
-fn user_at(entries: &[Entry], index: u32) -> Option<&User>
-    ensures { option_map (λ user. user.now) result ≡ option_and_then user_of (slice_get entries.now index) }
+// The user to whom what is named at an index binds its group.
+fn user_at<'b>(log: Log<'b>, index: usize) -> Option<&'b User>
+    ensures { option_map (λ user. user.now) result ≡ option_and_then user_of (slice_get (naming (logged log.entry)) index) }
 {
-    match entries.get(index as usize)? {
-        Entry::Act { user, .. } => Some(user),
-        Entry::Look { user, .. } => Some(user),
-        Entry::Retire { .. } => None,
-    }
+    let (_, user) = log.naming_at(index)?;
+    user
 }
 
 // The user whom the group of a row is bound to.
-fn user_of<'b>(entries: &'b [Entry], row: &GroupRow) -> Option<&'b User>
-    ensures { option_map (λ user. user.now) result ≡ user_of_row (book_of entries.now) row.now }
+fn user_of<'b>(log: Log<'b>, row: &GroupRow) -> Option<&'b User>
+    ensures { option_map (λ user. user.now) result ≡ user_of_row (logged log.entry) row.now }
 {
     match row.bound {
-        Some(index) => user_at(entries, index),
+        Some(index) => user_at(log, index),
         None => None,
     }
 }
 
 // The user whom a group is bound to.
-pub(crate) fn bound<'b>(entries: &'b [Entry], rows: &[GroupRow], group: &Id) -> Option<&'b User>
-    requires { AreGroupRows (book_of entries.now) rows.now }
-    ensures { option_map (λ user. user.now) result ≡ bound group.now (book_of entries.now) }
+pub(crate) fn bound<'b>(log: Log<'b>, rows: &[GroupRow], group: &Id) -> Option<&'b User>
+    requires { AreGroupRows (logged log) rows.now }
+    ensures { option_map (λ user. user.now) result ≡ bound group.now (logged log.entry) }
 {
-    info(entries, rows, group).user
+    info(log, rows, group).user
 }
 
 // What is said of a group.
-pub(crate) fn info<'b>(entries: &'b [Entry], rows: &[GroupRow], group: &Id) -> GroupRef<'b>
-    requires { AreGroupRows (book_of entries.now) rows.now }
-    ensures user { option_map (λ user. user.now) result.user ≡ bound group.now (book_of entries.now) }
-    ensures retired { result.retired ≡ retired group.now (book_of entries.now) }
-    ensures last_order { result.last_order ≡ last_order group.now (book_of entries.now) }
+pub(crate) fn info<'b>(log: Log<'b>, rows: &[GroupRow], group: &Id) -> GroupRef<'b>
+    requires { AreGroupRows (logged log) rows.now }
+    ensures user { option_map (λ user. user.now) result.user ≡ bound group.now (logged log.entry) }
+    ensures retired { result.retired ≡ retired group.now (logged log.entry) }
+    ensures last_order { result.last_order ≡ last_order group.now (logged log.entry) }
 {
-    let at = index(entries, rows, group);
-    let row = row_from(entries, rows, group, at);
+    let at = index(log, rows, group);
+    let row = row_from(log, rows, group, at);
     GroupRef {
-        user: user_of(entries, &row),
+        user: user_of(log, &row),
         retired: row.retired,
         last_order: row.order,
         at,
@@ -238,13 +225,13 @@ pub(crate) fn info<'b>(entries: &'b [Entry], rows: &[GroupRow], group: &Id) -> G
 }
 
 // What a row says of its group, by the entry that it names, where the group is bound.
-fn info_by<'b>(entries: &'b [Entry], row: &GroupRow) -> Option<GroupInfo<'b>>
-    ensures { option_map (λ info. (info.group.now, info.user.now, info.last_order, info.retired)) result ≡ info_by_group (book_of entries.now) row.now }
+fn info_by<'b>(log: Log<'b>, row: &GroupRow) -> Option<GroupInfo<'b>>
+    ensures { option_map (λ info. (info.group.now, info.user.now, info.last_order, info.retired)) result ≡ info_by_group (logged log.entry) row.now }
 {
-    let entry = entries.get(row.named as usize)?;
-    let user = user_of(entries, row)?;
+    let (group, _) = log.naming_at(row.named)?;
+    let user = user_of(log, row)?;
     Some(GroupInfo {
-        group: named(entry),
+        group,
         user,
         last_order: row.order,
         retired: row.retired,
@@ -252,30 +239,27 @@ fn info_by<'b>(entries: &'b [Entry], row: &GroupRow) -> Option<GroupInfo<'b>>
 }
 
 // The group at an index, from 0, of those that an act or a look names, in the order of their bytes.
-pub(crate) fn info_at<'b>(
-    entries: &'b [Entry],
-    rows: &[GroupRow],
-    index: u32,
-) -> Option<GroupInfo<'b>>
-    requires rows { AreGroupRows (book_of entries.now) rows.now }
-    requires bound { RetiresBound (book_of entries.now) }
-    ensures { option_map (λ info. (info.group.now, info.user.now, info.last_order, info.retired)) result ≡ slice_get (groups_of (book_of entries.now)) index }
+pub(crate) fn info_at<'b>(log: Log<'b>, rows: &[GroupRow], index: u32) -> Option<GroupInfo<'b>>
+    requires rows { AreGroupRows (logged log) rows.now }
+    requires bound { RetiresBound (logged log) }
+    ensures { option_map (λ info. (info.group.now, info.user.now, info.last_order, info.retired)) result ≡ slice_get (groups_of (logged log.entry)) index }
 {
-    info_by(entries, rows.get(index as usize)?)
+    info_by(log, rows.get(index as usize)?)
 }
 
 // Enters an entry, which follows the others. The row of its group is looked for at an index first.
-pub(crate) fn enter(entries: &[Entry], rows: &mut Vec<GroupRow>, entry: &Entry, at: usize)
-    requires rows { AreGroupRows (book_of entries.now) rows.old.items }
+pub(crate) fn enter(log: Log<'_>, rows: &mut Vec<GroupRow>, entry: &Entry, at: usize)
+    requires rows { AreGroupRows (logged log) rows.old.items }
     requires spare { 1 ≤ vec_capacity rows.old - vec_len rows.old }
-    requires length { length entries.now + 1 < 2 ^ 32 }
-    ensures rows { AreGroupRows (with_entry (book_of entries.now) entry.now) rows.new.items }
+    requires length { size (logged log) + 1 < 2 ^ 32 }
+    ensures rows { AreGroupRows (with_entry (logged log.entry) entry.now) rows.new.items }
     ensures spare { vec_capacity rows.old - vec_len rows.old ≤ (vec_capacity rows.new - vec_len rows.new) + 1 }
 {
-    let index = entries.len() as u32;
-    match place_from(entries, rows, named(entry), at) {
-        Ok(at) => rows[at] = rows[at].after(index, entry),
-        Err(at) => match rows.insert(at, GroupRow::new(index).after(index, entry)) {
+    let index = log.naming_len();
+    let place = log.len() + 1;
+    match place_from(log, rows, named(entry), at) {
+        Ok(at) => rows[at] = rows[at].after(index, place, entry),
+        Err(at) => match rows.insert(at, GroupRow::new(index).after(index, place, entry)) {
             Ok(()) => {}
             Err(_) => unreachable!(),
         },

@@ -11,8 +11,10 @@ mod fault;
 mod found;
 mod group_clients;
 mod groups;
+mod log;
 mod look;
 mod members;
+mod page;
 
 pub use book::Book;
 pub use clients::{ClientInfo, ClientRef};
@@ -22,3 +24,4 @@ pub use found::Found;
 pub use group_clients::GroupClients;
 pub use groups::{GroupInfo, GroupRef};
 pub use look::{KEPT_LOOKS, LookRef};
+pub use page::Page;

@@ -1,11 +1,13 @@
 ghost use Rattle.std.specs.Prelude.{◌≡◌, ◌<◌, ◌+◌, ◌^◌, length, option_map};
-ghost use Rattle.rv_book.specs.Book.{book_of, with_entry};
+ghost use Rattle.rv_book.specs.Book.{size, with_entry};
+ghost use Rattle.rv_book.specs.Logs.{logged};
 ghost use Rattle.rv_book.specs.Kept.{falls_out, kept, look_at, look_before};
 ghost use Rattle.rv_book.specs.Indexes.{AreGroupRows, AreLookRows, look_row_at};
 
-use crate::entry::{Entry, entry_at};
+use crate::entry::Entry;
 use crate::groups;
 use crate::groups::GroupRow;
+use crate::log::Log;
 use rv_base::{Id, Num, User};
 
 /// A look is kept where fewer than so many later looks of its group stand in the book, and its group is not retired.
@@ -23,10 +25,10 @@ pub struct LookRef<'a> {
 }
 
 // The look at a place.
-pub(crate) fn look_at(entries: &[Entry], place: u32) -> Option<LookRef<'_>>
-    ensures { option_map (λ look. (look.user.now, look.group.now, look.order)) result ≡ look_at place (book_of entries.now) }
+pub(crate) fn look_at(log: Log<'_>, place: u32) -> Option<LookRef<'_>>
+    ensures { option_map (λ look. (look.user.now, look.group.now, look.order)) result ≡ look_at place (logged log.entry) }
 {
-    match entry_at(entries, place)? {
+    match log.entry_at(place)? {
         Entry::Act { .. } => None,
         Entry::Look {
             user,
@@ -50,10 +52,10 @@ pub(crate) struct LookRow {
 }
 
 // The look row of an entry that follows the entries.
-pub(crate) fn look_row(entries: &[Entry], groups: &[GroupRow], entry: &Entry) -> LookRow
-    requires groups { AreGroupRows (book_of entries.now) groups.now }
-    requires length { length entries.now + 1 < 2 ^ 32 }
-    ensures { result ≡ look_row_at (length entries.now) (with_entry (book_of entries.now) entry.now) }
+pub(crate) fn look_row(log: Log<'_>, groups: &[GroupRow], entry: &Entry) -> LookRow
+    requires groups { AreGroupRows (logged log) groups.now }
+    requires length { size (logged log) + 1 < 2 ^ 32 }
+    ensures { result ≡ look_row_at (length log.entry.entries.now) (with_entry (logged log.entry) entry.now) }
 {
     match entry {
         Entry::Act { .. } => LookRow {
@@ -61,7 +63,7 @@ pub(crate) fn look_row(entries: &[Entry], groups: &[GroupRow], entry: &Entry) ->
             before: None,
         },
         Entry::Look { group, .. } => {
-            let row = groups::row(entries, groups, group);
+            let row = groups::row(log, groups, group);
             LookRow {
                 number: row.looks + 1,
                 before: row.last_look,
@@ -75,20 +77,15 @@ pub(crate) fn look_row(entries: &[Entry], groups: &[GroupRow], entry: &Entry) ->
 }
 
 // Whether the look at a place is kept.
-pub(crate) fn kept(
-    entries: &[Entry],
-    groups: &[GroupRow],
-    look_rows: &[LookRow],
-    place: u32,
-) -> bool
-    requires groups { AreGroupRows (book_of entries.now) groups.now }
-    requires look_rows { AreLookRows (book_of entries.now) look_rows.now }
-    ensures { result ≡ kept place (book_of entries.now) }
+pub(crate) fn kept(log: Log<'_>, groups: &[GroupRow], look_rows: &[LookRow], place: u32) -> bool
+    requires groups { AreGroupRows (logged log) groups.now }
+    requires look_rows { AreLookRows (logged log) look_rows.now }
+    ensures { result ≡ kept place (logged log.entry) }
 {
-    match look_at(entries, place) {
+    match look_at(log, place) {
         Some(look) => {
-            let row = groups::row(entries, groups, look.group);
-            let later = row.looks - look_rows[place as usize - 1].number;
+            let row = groups::row(log, groups, look.group);
+            let later = row.looks - look_rows[log.index(place)].number;
             !row.retired && later < KEPT_LOOKS
         }
         None => false,
@@ -96,34 +93,34 @@ pub(crate) fn kept(
 }
 
 // Of the look at a place: the place of its group's look before it.
-pub(crate) fn before(entries: &[Entry], look_rows: &[LookRow], place: u32) -> Option<u32>
-    requires { AreLookRows (book_of entries.now) look_rows.now }
-    ensures { result ≡ look_before place (book_of entries.now) }
+pub(crate) fn before(log: Log<'_>, look_rows: &[LookRow], place: u32) -> Option<u32>
+    requires { AreLookRows (logged log) look_rows.now }
+    ensures { result ≡ look_before place (logged log.entry) }
 {
-    if place == 0 || place as usize > entries.len() {
+    if place <= log.page.at {
         return None;
     }
-    look_rows[place as usize - 1].before
+    look_rows.get(log.index(place))?.before
 }
 
 // The place of the look of a group that falls out with the group's next look.
 pub(crate) fn falls_out(
-    entries: &[Entry],
+    log: Log<'_>,
     groups: &[GroupRow],
     look_rows: &[LookRow],
     group: &Id,
 ) -> Option<u32>
-    requires groups { AreGroupRows (book_of entries.now) groups.now }
-    requires look_rows { AreLookRows (book_of entries.now) look_rows.now }
-    ensures { result ≡ falls_out group.now (book_of entries.now) }
+    requires groups { AreGroupRows (logged log) groups.now }
+    requires look_rows { AreLookRows (logged log) look_rows.now }
+    ensures { result ≡ falls_out group.now (logged log.entry) }
 {
-    let row = groups::row(entries, groups, group);
+    let row = groups::row(log, groups, group);
     if row.retired {
         return None;
     }
     let mut place = row.last_look;
     for _step in 1..KEPT_LOOKS {
-        place = before(entries, look_rows, place?);
+        place = before(log, look_rows, place?);
     }
     place
 }

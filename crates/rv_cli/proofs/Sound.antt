@@ -75,9 +75,9 @@ memory_sound store Stored is = (
   holding [] 0,
   inl (is, refl),
   record {
-    sound = record { lawful = lawful_none; within = omega arith; fits = tt };
+    sound = record { opens = refl; lawful = lawful_none; within = omega arith; fits = tt };
     kept = record {
-      cells = record { rows = []; records = []; replay = replay_none; kept = records_none; made = refl };
+      cells = record { opens = refl; rows = []; records = []; replay = replay_none; kept = records_none; made = refl };
       generation = refl;
     };
   },

@@ -1,5 +1,5 @@
 -- What stays of a place's other stores, and what goes on where nothing fails any more.
-use Rattle.std.proofs.Common.{codes, decimal, ◌≡◌, ◌≢◌, ℕ, ◌-◌, ◌^◌, ◌++◌, List, Result, Ok, Err, IsErrOf, refl, sym, ap, ◌∙◌, subst, arith}
+use Rattle.std.proofs.Common.{codes, decimal, ◌≡◌, ◌≢◌, ◌⊎◌, inl, inr, ℕ, ◌-◌, ◌^◌, ◌++◌, List, Result, Ok, Err, IsErrOf, refl, sym, ap, ◌∙◌, subst, arith}
 use Rattle.rv_keeper.specs.declared.fault.KeepFault.{KeepFault}
 use Rattle.rv_keeper.specs.declared.fault.KeepFault.TheVariants as keeping
 use Rattle.rv_keeper.specs.declared.keeper.Keeper.{Ghosts}
@@ -128,6 +128,21 @@ pub served_not_nine : (result : Result (Unit {0}) NetFault) (entries : ℕ) (old
 served_not_nine (Ok done) entries old new ending tells never is = counted_no_net _ old new ending tells is
 served_not_nine (Err nets.Failed) entries old new ending tells never is = never refl
 served_not_nine (Err nets.Memory) entries old new ending (e, text) never is = absurd (let m = sym e ∙ is in cc)
+
+-- what is written of the book's length ends with status 7 only where the write failed
+counted_seven : (text : List ℕ) (old new : OutputState) (ending : ServeEnding) (P : Type 0) → WritesCount text old new ending → (ending ≡ serves.Write → P) → P ⊎ (serve_status ending ≢ 7)
+counted_seven text old new serves.Done P tells only = inr (λ seven. omega (arith, seven))
+counted_seven text old new serves.Write P tells only = inl (only refl)
+counted_seven text old new (serves.BadAccounts number) P never only = absurd never
+counted_seven text old new (serves.TwiceAccounts number) P never only = absurd never
+counted_seven text old new (serves.NotOpened ending) P never only = absurd never
+counted_seven text old new serves.Net P never only = absurd never
+counted_seven text old new serves.Memory P never only = absurd never
+
+pub served_seven : (result : Result (Unit {0}) NetFault) (entries : ℕ) (old new : OutputState) (ending : ServeEnding) (P : Type 0) → WritesServed result entries old new ending → (ending ≡ serves.Write → P) → P ⊎ (serve_status ending ≢ 7)
+served_seven (Ok done) entries old new ending P tells only = counted_seven _ old new ending P tells only
+served_seven (Err nets.Failed) entries old new ending P (is, text) only = inr (λ seven. omega (arith, seven, ap serve_status is))
+served_seven (Err nets.Memory) entries old new ending P (is, text) only = inr (λ seven. omega (arith, seven, ap serve_status is))
 
 pub no_accounts_not_nine : (Told : Type 0) (HasFile : List ℕ → Type 0) (before after : ℕ) (ending : ServeEnding) → HasNoAccounts Told HasFile before after ending → ending ≡ serves.Net → ⊥
 no_accounts_not_nine Told HasFile before after ending why is = subst (λ (e : ServeEnding). HasNoAccounts Told HasFile before after e) is why

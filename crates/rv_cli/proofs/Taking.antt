@@ -95,7 +95,7 @@ module _ {K : Type 0} (G : Ghosts K) where
   may_open old h lawful fits within next with = by_kept with
     where
       by_book : IsKeptAs old.book h → (book : Book) × MayOpen (2 ^ 32 - 1) book h
-      by_book kept = (old.book, record { sound = record { lawful = lawful; within = omega (arith, within.0, within.1); fits = fits.0 }; kept = kept })
+      by_book kept = (old.book, record { sound = record { opens = kept.cells.opens; lawful = lawful; within = omega (arith, within.0, within.1); fits = fits.0 }; kept = kept })
 
       by_doubt : (doubt : Doubt) → IfSome doubt EntryFits → MayStand old.book old.limit doubt → IsKeptAs (with_doubt old.book doubt) h → (book : Book) × MayOpen (2 ^ 32 - 1) book h
       by_doubt None fit next kept = by_book kept
@@ -103,6 +103,7 @@ module _ {K : Type 0} (G : Ghosts K) where
         with_entry old.book entry,
         record {
           sound = record {
+            opens = kept.cells.opens;
             lawful = lawful_more old.book entry lawful stands;
             within = omega (arith, size-with_entry old.book entry, room, within.1);
             fits = doubt_fits old.book (Some entry) fits.0 fit;

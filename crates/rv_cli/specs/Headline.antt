@@ -13,7 +13,8 @@ use Rattle.rv_lines.specs.Lines.{lines_of, ended_lines_of, longest_line}
 use Rattle.rv_lines.specs.Taken.{IsNeeded}
 use Rattle.rv_rows.specs.Held.{Stored as StoredRow, rows_in}
 use Rattle.rv_rows.specs.Sharing.{seen}
-use Rattle.rv_book.specs.Book.{Book, last, size, Extends}
+use Rattle.rv_book.specs.Book.{Book, last, opening, size, Extends}
+use Rattle.rv_book.specs.Entries.{last_in}
 use Rattle.rv_history.specs.Served.{Served, Settles, IsSound, TakesTurn}
 use Rattle.rv_history.specs.Replay.{IsReplay}
 use Rattle.rv_history.specs.Laws.{act_ids, look_orders, ReplyShows}
@@ -390,12 +391,12 @@ RunsMake seed requests output output' status = (ending : Ending) × (status ≡ 
 
 -- ---- What follows.
 
--- A run from a sound state leaves a sound one: its book is lawful, each client's acts have the ids 1, 2, 3 and so on, and the
--- orders of each group's looks rise. Where what is kept is told, the book goes on from the first.
+-- A run from a sound state leaves a sound one: its book is lawful, each client's acts have the ids 1, 2, 3 and so on, those after a page
+-- from the client's last one there, and the orders of each group's looks rise. Where what is kept is told, the book goes on from the first.
 pub record IsLawfulRun (Told : Type 0) (first now : Served) : Type 0 where
   pub sound : IsSound now
   pub more : Told → Extends now.book first.book
-  pub ids : (client : List ℕ) → act_ids client now.book.entries ≡ range_with_len 1 (last client now.book)
+  pub ids : (client : List ℕ) → act_ids client now.book.entries ≡ range_with_len (last client (opening now.book) + 1) (last_in client now.book.entries)
   pub orders : (group : List ℕ) → IsStrictlyIncreasing (look_orders group now.book.entries)
   pub later : first.faults ≤ now.faults
   pub limit : first.limit ≡ 2 ^ 32 - 1 → now.limit ≡ 2 ^ 32 - 1

@@ -95,7 +95,7 @@ impl<K: Keeper> Desk<K> {
     }
 
     /// The mark of a user in the book, without an entry in doubt: the greatest place of an act that is by the user, or after which what the
-    /// user sees is another; 0 where there is none. Takes no memory.
+    /// user sees is another; where there is none that of the book's page, and 0 without one. Takes no memory.
     pub fn mark(&self, user: &User) -> u32
         ensures mark { IsMark user.now self.now.book result }
         ensures kept { KeepsBook K.Keeper self.now.keeper self.now.book self.now.doubt }

@@ -14,7 +14,7 @@ use Rattle.rv_views.specs.declared.cookie.Cookie.{Cookie}
 use Rattle.rv_views.specs.declared.cookie.Cookie.TheVariants.{Null, Named}
 use Rattle.rv_book.specs.declared.entry.Entry.{Entry}
 use Rattle.rv_book.specs.declared.entry.Entry.TheVariants.{Look}
-use Rattle.rv_book.specs.Book.{Book, client_in, entry_at, ids, size, up_to, with_entries, Extends}
+use Rattle.rv_book.specs.Book.{Book, client_in, clients_named, entry_at, ids, size, up_to, with_entries, Extends}
 use Rattle.rv_book.specs.BookWords.{entry_at-end, entry_at-up_to, size-with_entries, size-with_entry, up_to-all, up_to-with_entries, extends_same, extends_on}
 use Rattle.rv_book.specs.Kept.{look_of, look_at}
 use Rattle.rv_book.specs.LookLaws.{look_at-within}
@@ -77,7 +77,7 @@ find_both k (x ∷ xs) ys =
 -- each last mutation id is found by its client
 ids_found : (group : List ℕ) (book : Book) (pair : List ℕ × ℕ) → Contains (ids group book) pair → find_by key (key pair) (ids group book) ≡ Some pair
 ids_found group book pair there =
-    all_at (λ p. find_by key (key p) (ids group book) ≡ Some p) (ids group book) pair (each_found key (ids group book) (in_order-sorted key (filter_map (client_in group book) book.entries))) there
+    all_at (λ p. find_by key (key p) (ids group book) ≡ Some p) (ids group book) pair (each_found key (ids group book) (in_order-sorted key (filter_map (client_in group book) (clients_named book)))) there
 
 -- what is told and what is held, where each pair of the group is told or held and nothing else is told
 sent_or_held : (group : List ℕ) (book : Book) (told held : Pairs) (pair : List ℕ × ℕ) → Contains (ids group book) pair → ((p : List ℕ × ℕ) → Contains told p → Contains (ids group book) p)

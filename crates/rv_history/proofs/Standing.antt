@@ -3,6 +3,7 @@ use Rattle.std.proofs.Common.{◌≡◌, ℕ, zero, suc, ◌+◌, ◌<◌, ◌�
 use Rattle.std.specs.List.{AllByRecursion, Contains, cons_option, range_with_len}
 use Rattle.std.specs.Option.{MatchOption, option_map_or}
 use Rattle.std.specs.Str.{bytes_eq}
+use Rattle.std.proofs.lemmas.Bool.{cases_lt}
 use Rattle.std.proofs.lemmas.Option.{same_Some}
 use Rattle.std.proofs.lemmas.List.Elements.{Contains-append_left, Contains-append_right}
 use Rattle.std.proofs.lemmas.Slice.Eq.{bytes_eq-Decides}
@@ -16,10 +17,11 @@ use Rattle.rv_turns.specs.declared.outcome.Outcome.TheVariants.{Acted, Skipped, 
 use Rattle.rv_turns.specs.declared.refusal.Refusal.{Refusal}
 use Rattle.rv_book.specs.declared.entry.Entry.{Entry}
 use Rattle.rv_book.specs.declared.entry.Entry.TheVariants.{Act, Look, Retire}
-use Rattle.rv_book.specs.Book.{Book, bound, group_of, last, Extends}
+use Rattle.rv_book.specs.Entries.{last_in}
+use Rattle.rv_book.specs.Book.{Book, bound, group_of, last, opening, Extends}
 use Rattle.rv_history.specs.GroupLaws.{groups_have_one_user, clients_have_one_group}
 use Rattle.rv_history.specs.Lawful.{IsLawful}
-use Rattle.rv_history.specs.LawfulBooks.{ids_count_up}
+use Rattle.rv_history.specs.LawfulBooks.{ids_count_up, last_append}
 use Rattle.rv_history.specs.Laws.{act_ids, IsEntered}
 use Rattle.rv_history.specs.Machine.{ReplyText, Step, TakesMutation}
 use Rattle.rv_history.specs.Served.{Served, IsSound, TakesTurn}
@@ -69,10 +71,16 @@ acted client n (Act user group actor id call ∷ entries) there =
 acted client n (Look user group order base ∷ entries) there = act_later client n (Look user group order base) entries (acted client n entries there)
 acted client n (Retire group ∷ entries) there = act_later client n (Retire group) entries (acted client n entries there)
 
--- in a lawful book each id up to the client's last stands
-has_act : (book : Book) (client : List ℕ) (n : ℕ) → IsLawful book → 1 ≤ n → n ≤ last client book → HasAct client n book.entries
-has_act book client n lawful first le =
-    acted client n book.entries (subst (λ (ids : List ℕ). Contains ids n) (sym (ids_count_up book client lawful)) (in_range 1 (last client book) n first (omega arith)))
+-- in a lawful book each id up to the client's last stands, or is not above its last on the page
+has_act : (book : Book) (client : List ℕ) (n : ℕ) → IsLawful book → n ≤ last client book → HasAct client n book.entries ⊎ (n ≤ last client (opening book))
+has_act book client n lawful le =
+    elim (cases_lt (last client (opening book)) n) as (λ _. HasAct client n book.entries ⊎ (n ≤ last client (opening book))) [
+      | inl above ↦ inl (acted client n book.entries (subst (λ (ids : List ℕ). Contains ids n) (sym (ids_count_up book client lawful)) (in_range (last client (opening book) + 1) (last_in client book.entries) n (omega (arith, above)) (omega (arith, le, whole)))))
+      | inr below ↦ inr below
+    ]
+  where
+    whole : last client book ≡ last client (opening book) + last_in client book.entries
+    whole = last_append client (opening book) book.entries
 
 is_not : (b : Bool) → not b ≡ false → b ≡ true
 is_not true h = refl
@@ -87,28 +95,30 @@ itself : (text : List ℕ) → bytes_eq text text ≡ true
 itself text = (bytes_eq-Decides text text).1 refl
 
 -- and it is an act of the sender
-entered : (from : Sender) (m : Mutation) (book : Book) → IsLawful book → TakesMutation from m.client book → HasAct m.client m.id book.entries → IsEntered from book m
-entered from m book lawful takes (user, group, call, there) =
+entered : (from : Sender) (m : Mutation) (book : Book) → IsLawful book → TakesMutation from m.client book → HasAct m.client m.id book.entries ⊎ (m.id ≤ last m.client (opening book)) → IsEntered from book m
+entered from m book lawful takes (inr below) = inr below
+entered from m book lawful takes (inl (user, group, call, there)) =
     let e : Entry = Act user group m.client m.id call in
     let owner : bound group book ≡ Some user = groups_have_one_user book group user e lawful there (ap (λ (b : Bool). cond b (Some user) None) (itself group)) in
     let home : group_of m.client book ≡ Some group = clients_have_one_group book m.client group e lawful there (ap (λ (b : Bool). cond b (Some group) None) (itself m.client)) in
     let which : group ≡ from.group = same_text (group_of m.client book) group from.group home takes.here in
     let bound_here : bound from.group book ≡ Some user = subst (λ (g : List ℕ). bound g book ≡ Some user) which owner in
     let who : user ≡ from.user = same_text (bound from.group book) user from.user bound_here takes.admits.own in
-    (call, subst (λ (x : Entry). Contains book.entries x) (λ i. Act (who i) (which i) m.client m.id call) there)
+    inl (call, subst (λ (x : Entry). Contains book.entries x) (λ i. Act (who i) (which i) m.client m.id call) there)
 
 stands_on : (from : Sender) (m : Mutation) (book new : Book) → Extends new book → IsEntered from book m → IsEntered from new m
-stands_on from m book new (more, is) (call, there) =
+stands_on from m book new (more, is) (inr below) = inr (subst (λ (b : Book). m.id ≤ last m.client (opening b)) (sym is) below)
+stands_on from m book new (more, is) (inl (call, there)) =
     let e : Entry = Act from.user from.group m.client m.id call in
-    (call, subst (λ (b : Book). Contains b.entries e) (sym is) (Contains-append_left book.entries more e there))
+    inl (call, subst (λ (b : Book). Contains b.entries e) (sym is) (Contains-append_left book.entries more e there))
 
 module _ (write : ReplyText) (from : Sender) where
   pub mutation_stands : (limit : ℕ) (m : Mutation) (book new : Book) (outcome : Outcome) → Step write limit book (Ask.mutation from m) outcome new → refusal_of outcome ≡ None → IsLawful book → 1 ≤ m.id → IsEntered from new m
   mutation_stands limit m book new (Acted place) (takes, next, below, at, is) none lawful first =
       let e : Entry = Act from.user from.group m.client m.id m.call in
-      (m.call, subst (λ (b : Book). Contains b.entries e) (sym is) (Contains-append_right book.entries (e ∷ []) e (0, omega arith, refl)))
+      inl (m.call, subst (λ (b : Book). Contains b.entries e) (sym is) (Contains-append_right book.entries (e ∷ []) e (0, omega arith, refl)))
   mutation_stands limit m book new (Skipped number) (takes, le, is, same) none lawful first =
-      subst (λ (b : Book). IsEntered from b m) (sym same) (entered from m book lawful takes (has_act book m.client m.id lawful first le))
+      subst (λ (b : Book). IsEntered from b m) (sym same) (entered from m book lawful takes (has_act book m.client m.id lawful le))
   mutation_stands limit m book new (Refused refusal) step some lawful first = absurd (cc)
   mutation_stands limit m book new (Pulled reply) never none lawful first = absurd never
   mutation_stands limit m book new (Retired place) never none lawful first = absurd never

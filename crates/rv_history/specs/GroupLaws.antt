@@ -1,6 +1,6 @@
 -- Groups and clients of lawful books, and why no entry stands twice.
-use Rattle.std.proofs.Common.{◌≡◌, ℕ, zero, suc, ◌+◌, ◌<◌, ◌≤◌, Bool, true, false, not, cond, List, [], ◌∷◌, ◌++◌, ◌||◌, Some, None, refl, sym, ap, ◌∙◌, subst, arith, length}
-use Rattle.std.specs.Option.{option_map_or}
+use Rattle.std.proofs.Common.{◌≡◌, ℕ, zero, suc, ◌+◌, ◌<◌, ◌≤◌, Bool, true, false, not, cond, List, [], ◌∷◌, ◌++◌, ◌||◌, Option, Some, None, refl, sym, ap, ◌∙◌, subst, arith, length}
+use Rattle.std.specs.Option.{option_map, option_map_or, option_or}
 use Rattle.std.specs.List.{Contains}
 use Rattle.std.specs.Str.{bytes_eq}
 use Rattle.std.proofs.lemmas.List.Folds.{list_any-append}
@@ -8,7 +8,7 @@ use Rattle.std.proofs.lemmas.Slice.Eq.{bytes_eq-Decides}
 use Rattle.rv_book.specs.declared.entry.Entry.{Entry}
 use Rattle.rv_book.specs.declared.entry.Entry.TheVariants.{Act, Look, Retire}
 use Rattle.rv_book.specs.Entries.{retires, order_after, bound_in, retired_in, last_in, group_of_in}
-use Rattle.rv_book.specs.Book.{Book, bound, retired, group_of, last, last_order, with_entry, book_of, with_entries}
+use Rattle.rv_book.specs.Book.{Book, bound, retired, group_of, last, last_order, page_client, page_group, with_entry, book_from, with_entries}
 use Rattle.rv_book.specs.BookWords.{last_order-with_entry, with_entries-more, with_entry-more}
 use Rattle.rv_history.specs.Groups.{is_of_other, is_elsewhere}
 use Rattle.rv_history.specs.Lawful.{IsLawfulAfter, IsLawful}
@@ -26,7 +26,7 @@ split_in (x ∷ entries) entry (suc k, lt, is) =
 
 -- where an entry of a book stands
 pub split_at : (book : Book) (entry : Entry) → Contains book.entries entry → (before : Book) × (after : List Entry) × (book ≡ with_entries before (entry ∷ after))
-split_at book entry there = let (before, after, is) = split_in book.entries entry there in (book_of before, after, ap book_of is)
+split_at book entry there = let (before, after, is) = split_in book.entries entry there in (book_from book.page before, after, ap (book_from book.page) is)
 
 -- a group that is bound stays so
 pub bound_some : (group : List ℕ) (entries more : List Entry) (user : List ℕ) → bound_in group entries ≡ Some user → bound_in group (entries ++ more) ≡ Some user
@@ -82,7 +82,22 @@ group_none client (Retire g ∷ entries) more h = group_none client entries more
 
 -- a group is retired by the first part of a book or by the second
 pub retired_append : (group : List ℕ) (book : Book) (more : List Entry) → retired group (with_entries book more) ≡ (retired group book || retired_in group more)
-retired_append group book more = list_any-append (retires group) book.entries more
+retired_append group book more =
+    let page = option_map_or (λ g. g.3) (page_group group book.page) false in
+    ap (λ (b : Bool). page || b) (list_any-append (retires group) book.entries more) ∙ either page (retired_in group book.entries) (retired_in group more)
+  where
+    either : (a b c : Bool) → (a || (b || c)) ≡ ((a || b) || c)
+    either true b c = refl
+    either false b c = refl
+
+-- whom a group is bound to and which group a client is of, by the page or else by the entries, as more entries follow
+or_kept : {X : Type 0} (o p q : Option X) (x : X) → (p ≡ Some x → q ≡ Some x) → option_or o p ≡ Some x → option_or o q ≡ Some x
+or_kept None p q x later is = later is
+or_kept (Some y) p q x later is = is
+
+or_later : {X : Type 0} (o p q r : Option X) → (p ≡ None → q ≡ r) → option_or o p ≡ None → option_or o q ≡ r
+or_later None p q r later is = later is
+or_later (Some y) p q r later is = absurd (cc)
 
 -- after its retirement a group is retired
 pub retired_since : (group : List ℕ) (before : Book) (after : List Entry) → retired group (with_entries before (Retire group ∷ after)) ≡ true
@@ -103,15 +118,15 @@ is_not false h = absurd (cc)
 pub owner_is : (user group : List ℕ) (before : Book) (rest : List Entry) → is_of_other user group before ≡ false → bound_in group rest ≡ Some user → bound group (with_entries before rest) ≡ Some user
 owner_is user group before rest own is =
     elim (bound group before) as (λ o. bound group before ≡ o → option_map_or (λ owner. not (bytes_eq owner user)) o false ≡ false → bound group (with_entries before rest) ≡ Some user) [
-      | None ↦ λ none f. bound_none group before.entries rest none ∙ is
-      | Some owner ↦ λ some f. bound_some group before.entries rest user (some ∙ ap (λ (u : List ℕ). Some u) ((bytes_eq-Decides owner user).0 (is_not (bytes_eq owner user) f)))
+      | None ↦ λ none f. or_later (option_map (λ g. g.1) (page_group group before.page)) (bound_in group before.entries) (bound_in group (before.entries ++ rest)) (bound_in group rest) (bound_none group before.entries rest) none ∙ is
+      | Some owner ↦ λ some f. or_kept (option_map (λ g. g.1) (page_group group before.page)) (bound_in group before.entries) (bound_in group (before.entries ++ rest)) user (bound_some group before.entries rest user) (some ∙ ap (λ (u : List ℕ). Some u) ((bytes_eq-Decides owner user).0 (is_not (bytes_eq owner user) f)))
     ] refl own
 
 pub home_is : (client group : List ℕ) (before : Book) (rest : List Entry) → is_elsewhere client group before ≡ false → group_of_in client rest ≡ Some group → group_of client (with_entries before rest) ≡ Some group
 home_is client group before rest home is =
     elim (group_of client before) as (λ o. group_of client before ≡ o → option_map_or (λ other. not (bytes_eq other group)) o false ≡ false → group_of client (with_entries before rest) ≡ Some group) [
-      | None ↦ λ none f. group_none client before.entries rest none ∙ is
-      | Some other ↦ λ some f. group_some client before.entries rest group (some ∙ ap (λ (g : List ℕ). Some g) ((bytes_eq-Decides other group).0 (is_not (bytes_eq other group) f)))
+      | None ↦ λ none f. or_later (option_map (λ c. c.1) (page_client client before.page)) (group_of_in client before.entries) (group_of_in client (before.entries ++ rest)) (group_of_in client rest) (group_none client before.entries rest) none ∙ is
+      | Some other ↦ λ some f. or_kept (option_map (λ c. c.1) (page_client client before.page)) (group_of_in client before.entries) (group_of_in client (before.entries ++ rest)) group (group_some client before.entries rest group) (some ∙ ap (λ (g : List ℕ). Some g) ((bytes_eq-Decides other group).0 (is_not (bytes_eq other group) f)))
     ] refl home
 
 -- the user of an act or a look, who may use its group, is the group's
@@ -135,7 +150,7 @@ one_user before after (Retire other) group user next h = absurd (cc)
 pub groups_have_one_user : (book : Book) (group user : List ℕ) (entry : Entry) → IsLawful book → Contains book.entries entry → user_for_group group entry ≡ Some user → bound group book ≡ Some user
 groups_have_one_user book group user entry lawful within h =
     let (before, after, is) = split_at book entry within in
-    ap (bound group) is ∙ one_user before after entry group user (lawful before after entry is) h
+    ap (bound group) is ∙ one_user before after entry group user (lawful.each before after entry is) h
 
 one_group : (before : Book) (after : List Entry) (entry : Entry) (client group : List ℕ) → IsLawfulAfter before entry → group_for_client client entry ≡ Some group → group_of client (with_entries before (entry ∷ after)) ≡ Some group
 one_group before after (Act user g actor id call) client group next h =
@@ -151,7 +166,7 @@ one_group before after (Retire g) client group next h = absurd (cc)
 pub clients_have_one_group : (book : Book) (client group : List ℕ) (entry : Entry) → IsLawful book → Contains book.entries entry → group_for_client client entry ≡ Some group → group_of client book ≡ Some group
 clients_have_one_group book client group entry lawful within h =
     let (before, after, is) = split_at book entry within in
-    ap (group_of client) is ∙ one_group before after entry client group (lawful before after entry is) h
+    ap (group_of client) is ∙ one_group before after entry client group (lawful.each before after entry is) h
 
 -- a group that is not retired is another than one that is
 rests : (other group : List ℕ) (book : Book) → retired other book ≡ false → retired group book ≡ true → bytes_eq other group ≡ false
@@ -171,7 +186,7 @@ retired_groups_rest book before after group entry lawful is within =
     let (mid, rest, split) = split_in after entry within in
     let front : Book = with_entries before (Retire group ∷ mid) in
     let whole : book ≡ with_entries front (entry ∷ rest) = is ∙ ap (λ (xs : List Entry). with_entries before (Retire group ∷ xs)) split ∙ sym (with_entries-more before (Retire group ∷ mid) (entry ∷ rest)) in
-    unnamed front entry group (lawful front rest entry whole) (retired_since group before mid)
+    unnamed front entry group (lawful.each front rest entry whole) (retired_since group before mid)
 
 -- what may stand after some entries may not stand again after itself
 once : (before : Book) (between : List Entry) (entry : Entry) → IsLawful (with_entries before (entry ∷ between)) → IsLawfulAfter before entry → IsLawfulAfter (with_entries before (entry ∷ between)) entry → ⊥
@@ -201,4 +216,4 @@ pub entries_stand_once : (book before : Book) (between after : List Entry) (entr
 entries_stand_once book before between after entry lawful is =
     let whole : book ≡ with_entries (with_entries before (entry ∷ between)) (entry ∷ after) = is ∙ sym (with_entries-more before (entry ∷ between) (entry ∷ after)) in
     let front : IsLawful (with_entries before (entry ∷ between)) = lawful_front (with_entries before (entry ∷ between)) (entry ∷ after) (subst (λ (b : Book). IsLawful b) whole lawful) in
-    once before between entry front (here before between entry front) (lawful (with_entries before (entry ∷ between)) after entry whole)
+    once before between entry front (here before between entry front) (lawful.each (with_entries before (entry ∷ between)) after entry whole)

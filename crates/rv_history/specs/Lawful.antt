@@ -4,6 +4,7 @@ use Rattle.rv_book.specs.declared.entry.Entry.{Entry}
 use Rattle.rv_book.specs.declared.entry.Entry.TheVariants.{Act, Look, Retire}
 use Rattle.rv_book.specs.Book.{Book, bound, retired, last, last_order, with_entries}
 use Rattle.rv_book.specs.Kept.{look_at, kept}
+use Rattle.rv_book.specs.SoundPages.{IsOpening}
 use Rattle.rv_history.specs.Groups.{is_elsewhere, Admits}
 
 -- a base is none, or the place of a kept look by the user, with an order below this one
@@ -19,6 +20,7 @@ IsLawfulAfter before (Act user group client id call) = Admits user group before 
 IsLawfulAfter before (Look user group order base) = Admits user group before × (last_order group before < order) × (order < 2 ^ 53) × IsBase before user order base
 IsLawfulAfter before (Retire group) = IsSome (bound group before) × (retired group before ≡ false)
 
--- Each entry may stand after those before it.
-abbrev pub IsLawful : Book → Type 0
-IsLawful book = (before : Book) (after : List Entry) (entry : Entry) → book ≡ with_entries before (entry ∷ after) → IsLawfulAfter before entry
+-- The book opens without a page or with a sound one, and each entry may stand after what is before it.
+pub record IsLawful (book : Book) : Type 0 where
+  pub opens : IsOpening book.page
+  pub each : (before : Book) (after : List Entry) (entry : Entry) → book ≡ with_entries before (entry ∷ after) → IsLawfulAfter before entry

@@ -8,7 +8,7 @@ use Rattle.std.proofs.lemmas.Slice.Eq.{bytes_eq-Decides}
 use Rattle.rv_book.specs.declared.entry.Entry.{Entry}
 use Rattle.rv_book.specs.declared.entry.Entry.TheVariants.{Act, Look, Retire}
 use Rattle.rv_book.specs.Entries.{is_act_of, order_after, last_in}
-use Rattle.rv_book.specs.Book.{Book, last, last_order, with_entry, book_of, empty_book, with_entries}
+use Rattle.rv_book.specs.Book.{Book, last, last_order, opening, with_entry, book_from, empty_book, with_entries}
 use Rattle.rv_book.specs.BookWords.{last-with_entry, last_order-with_entry, with_entries-more, with_entry-more}
 use Rattle.rv_history.specs.Lawful.{IsLawfulAfter, IsLawful}
 use Rattle.rv_history.specs.Laws.{act_ids, look_orders}
@@ -18,7 +18,7 @@ no_split [] after entry e = cc
 no_split (b ∷ before) after entry e = cc
 
 pub lawful_none : IsLawful empty_book
-lawful_none before after entry e = absurd (no_split before.entries after entry (ap (λ (b : Book). b.entries) e))
+lawful_none = record { opens = inl refl; each = λ before after entry e. absurd (no_split before.entries after entry (ap (λ (b : Book). b.entries) e)) }
 
 -- where the one entry more stands in a split of the longer list
 last_split : (entries before after : List Entry) (e entry : Entry) → entries ++ e ∷ [] ≡ before ++ entry ∷ after
@@ -36,20 +36,27 @@ last_split (x ∷ entries) (b ∷ before) after e entry h =
     ]
 
 pub lawful_more : (book : Book) (e : Entry) → IsLawful book → IsLawfulAfter book e → IsLawful (with_entry book e)
-lawful_more book e lawful next before after entry h =
-    elim (last_split book.entries before.entries after e entry (ap (λ (b : Book). b.entries) h)) as (λ _. IsLawfulAfter before entry) [
-      | inl here ↦ (let b : IsLawfulAfter before e = subst (λ (xs : List Entry). IsLawfulAfter (book_of xs) e) here.0 next in subst (λ (x : Entry). IsLawfulAfter before x) here.1 b)
-      | inr there ↦ lawful before there.0 entry (ap book_of there.1)
-    ]
+lawful_more book e lawful next = record { opens = lawful.opens; each = each }
+  where
+    -- what stands before an entry opens with the book's page
+    each : (before : Book) (after : List Entry) (entry : Entry) → with_entry book e ≡ with_entries before (entry ∷ after) → IsLawfulAfter before entry
+    each before after entry h =
+        let page : book.page ≡ before.page = ap (λ (b : Book). b.page) h in
+        elim (last_split book.entries before.entries after e entry (ap (λ (b : Book). b.entries) h)) as (λ _. IsLawfulAfter before entry) [
+          | inl here ↦ (let b : IsLawfulAfter before e = subst (λ (b : Book). IsLawfulAfter b e) (λ i. book_from (page i) (here.0 i)) next in subst (λ (x : Entry). IsLawfulAfter before x) here.1 b)
+          | inr there ↦ lawful.each before there.0 entry (λ i. book_from (page i) (there.1 i))
+        ]
 
 -- the front of a lawful book is lawful
 pub lawful_front : (book : Book) (more : List Entry) → IsLawful (with_entries book more) → IsLawful book
-lawful_front book more lawful = λ before after entry h.
-    lawful before (after ++ more) entry (ap (λ (b : Book). with_entries b more) h ∙ with_entries-more before (entry ∷ after) more)
+lawful_front book more lawful = record {
+  opens = lawful.opens;
+  each = λ before after entry h. lawful.each before (after ++ more) entry (ap (λ (b : Book). with_entries b more) h ∙ with_entries-more before (entry ∷ after) more);
+}
 
 -- an entry, and what comes after it
 pub here : (before : Book) (rest : List Entry) (e : Entry) → IsLawful (with_entries before (e ∷ rest)) → IsLawfulAfter before e
-here before rest e lawful = lawful before rest e refl
+here before rest e lawful = lawful.each before rest e refl
 
 pub onward : (before : Book) (rest : List Entry) (e : Entry) → IsLawful (with_entries before (e ∷ rest)) → IsLawful (with_entries (with_entry before e) rest)
 onward before rest e lawful = subst (λ (b : Book). IsLawful b) (sym (with_entry-more before e rest)) lawful
@@ -92,8 +99,8 @@ ids_from client before (Retire group ∷ rest) lawful =
     let grown : last client (with_entry before e) ≡ last client before = last-with_entry client before e ∙ omega arith in
     rw count (next ∙ ap (λ (n : ℕ). range_with_len (n + 1) (last_in client rest)) grown)
 
-pub ids_count_up : (book : Book) (client : List ℕ) → IsLawful book → act_ids client book.entries ≡ range_with_len 1 (last client book)
-ids_count_up book client lawful = ids_from client empty_book book.entries lawful
+pub ids_count_up : (book : Book) (client : List ℕ) → IsLawful book → act_ids client book.entries ≡ range_with_len (last client (opening book) + 1) (last_in client book.entries)
+ids_count_up book client lawful = ids_from client (opening book) book.entries lawful
 
 -- each number is above the one before it
 abbrev Climbs : ℕ → List ℕ → Type 0
@@ -128,7 +135,7 @@ pub orders_rise : (book : Book) (group : List ℕ) → IsLawful book → IsStric
 orders_rise book group lawful = λ k lt.
     let orders : List ℕ = look_orders group book.entries in
     let n : suc k ≡ k + 1 = omega arith in
-    subst (λ (m : ℕ). get_or orders k 0 < get_or orders m 0) n (step_up 0 orders (climbs group empty_book book.entries lawful) k (omega (arith, lt)))
+    subst (λ (m : ℕ). get_or orders k 0 < get_or orders m 0) n (step_up (last_order group (opening book)) orders (climbs group (opening book) book.entries lawful) k (omega (arith, lt)))
 
 order_step : (group : List ℕ) (before : Book) (e : Entry) → IsLawfulAfter before e → last_order group before ≤ order_after group (last_order group before) e
 order_step group before (Act user other client id call) next = omega arith
@@ -152,4 +159,6 @@ orders_stay group before (e ∷ rest) lawful =
 
 -- a client's last id after more entries
 pub last_append : (client : List ℕ) (before : Book) (more : List Entry) → last client (with_entries before more) ≡ last client before + last_in client more
-last_append client before more = sum_by-append (λ (x : Entry). cond (is_act_of client x) 1 0) before.entries more
+last_append client before more =
+    let both : last_in client (before.entries ++ more) ≡ last_in client before.entries + last_in client more = sum_by-append (λ (x : Entry). cond (is_act_of client x) 1 0) before.entries more in
+    omega (arith, both)

@@ -17,7 +17,8 @@ use Rattle.rv_turns.specs.declared.pull.PullRequest.{PullRequest}
 use Rattle.rv_turns.specs.declared.refusal.Refusal.{Refusal}
 use Rattle.rv_book.specs.declared.entry.Entry.{Entry}
 use Rattle.rv_book.specs.declared.entry.Entry.TheVariants.{Act, Look, Retire}
-use Rattle.rv_book.specs.Book.{Book, bound, group_of, last, last_order, ids, size, up_to, with_entry, with_entries}
+use Rattle.rv_book.specs.Entries.{last_in}
+use Rattle.rv_book.specs.Book.{Book, bound, group_of, ids, last, last_order, opening, size, up_to, with_entries, with_entry}
 use Rattle.rv_rows.specs.declared.row.Row.{Row}
 use Rattle.rv_rows.specs.declared.call.Call.{Call}
 use Rattle.rv_rows.specs.Keys.{row_key}
@@ -50,9 +51,9 @@ look_order group (Retire other) = None
 abbrev pub look_orders : List ℕ → List Entry → List ℕ
 look_orders group entries = filter_map (look_order group) entries
 
--- Each client's acts have the ids 1, 2, 3 and so on.
+-- Each client's acts have the ids 1, 2, 3 and so on; those that follow a page go on from the client's last one there.
 abbrev pub IdsCountUp : Type 0
-IdsCountUp = (book : Book) (client : List ℕ) → IsLawful book → act_ids client book.entries ≡ range_with_len 1 (last client book)
+IdsCountUp = (book : Book) (client : List ℕ) → IsLawful book → act_ids client book.entries ≡ range_with_len (last client (opening book) + 1) (last_in client book.entries)
 
 -- The orders of each group's looks rise.
 abbrev pub OrdersRise : Type 0
@@ -100,10 +101,10 @@ TurnsKeepLaw write = (ask : Ask) (old new : Served) (outcome : Outcome) → Take
 abbrev pub PushesKeepLaw : ReplyText → Type 0
 PushesKeepLaw write = (from : Sender) (mutations : List Mutation) (old new : Served) (refused : Option Refusal) (acted : Bool) → Pushes (TakesTurn write) from mutations old refused acted new → IsSound old → KeepsLaw old new
 
--- The mutation stands in the book, as an act of its sender, of its client and with its id. If it was skipped, the call is that of the
--- one that came first.
+-- The mutation stands in the book, as an act of its sender, of its client and with its id; or it had run before the book opened, and its
+-- client's last id on the page says so. If it was skipped, the call is that of the one that came first.
 abbrev pub IsEntered : Sender → Book → Mutation → Type 0
-IsEntered from book m = (call : Call) × Contains book.entries (Act from.user from.group m.client m.id call)
+IsEntered from book m = ((call : Call) × Contains book.entries (Act from.user from.group m.client m.id call)) ⊎ (m.id ≤ last m.client (opening book))
 
 -- A mutation that is run or skipped at a lawful book stands in the book that is left; but for an id of 0, which is skipped and stands
 -- nowhere.

@@ -19,3 +19,7 @@ pub mod LookIds
 pub mod Clients
 pub mod Marks
 pub mod MarkLaws
+pub mod Closing
+pub mod ClosingLaws
+pub mod WholeRows
+pub mod SoundClosing

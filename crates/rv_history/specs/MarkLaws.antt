@@ -13,12 +13,13 @@ use Rattle.rv_history.specs.Marks.{is_act_by, SeesSame, Concerns, IsMark}
 pub mark_none : (user : List ℕ) → IsMark user empty_book 0
 mark_none user = record {
   concerns = λ above. absurd (omega (arith, above));
+  least = omega arith;
   last = λ later above is. absurd (omega (arith, is.first, is.within));
 }
 
 -- A user has one mark.
 mark_above : (user : List ℕ) (book : Book) (mark other : ℕ) → IsMark user book mark → IsMark user book other → mark < other → ⊥
-mark_above user book mark other is also above = is.last other above (also.concerns (omega (arith, above)))
+mark_above user book mark other is also above = is.last other above (also.concerns (omega (arith, above, is.least)))
 
 pub mark_same : (user : List ℕ) (book : Book) (mark other : ℕ) → IsMark user book mark → IsMark user book other → mark ≡ other
 mark_same user book mark other is also =
@@ -55,12 +56,14 @@ concerns_less user book entry place is le = record {
 pub mark_raised : (user : List ℕ) (book : Book) (entry : Entry) → Concerns user (with_entry book entry) (size book + 1) → IsMark user (with_entry book entry) (size book + 1)
 mark_raised user book entry is = record {
   concerns = λ _. is;
+  least = omega arith;
   last = λ later above at. absurd (omega (arith, above, at.within, size-with_entry book entry));
 }
 
 pub mark_stays : (user : List ℕ) (book : Book) (entry : Entry) (mark : ℕ) → ¬ Concerns user (with_entry book entry) (size book + 1) → IsMark user book mark → IsMark user (with_entry book entry) mark
 mark_stays user book entry mark not is = record {
   concerns = λ above. concerns_more user book entry mark (is.concerns above);
+  least = is.least;
   last = λ later above at. elim (cases_lt (size book) later) as (λ _. ⊥) [
     | inl past ↦ (let end : later ≡ size book + 1 = omega (arith, past, at.within, size-with_entry book entry) in not (subst (λ (n : ℕ). Concerns user (with_entry book entry) n) end at))
     | inr le ↦ is.last later above (concerns_less user book entry later at le)

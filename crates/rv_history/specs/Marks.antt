@@ -22,13 +22,14 @@ SeesSame user book other = seen user (rows_of book) ≡ seen user (rows_of other
 -- The entry at the place concerns the user: it is an act by the user, or what the user sees is another after it than before it. A row that it
 -- writes and that the user sees is another row, so it concerns the user too.
 pub record Concerns (user : List ℕ) (book : Book) (place : ℕ) : Type 0 where
-  pub first : 1 ≤ place
+  pub first : book.page.at < place
   pub within : place ≤ size book
   pub concerns : (option_map_or (is_act_by user) (entry_at place book) false ≡ true) ⊎ ¬ SeesSame user (up_to place book) (up_to (place - 1) book)
 
--- It is the greatest place of an entry that concerns the user, or 0 where there is none.
+-- It is the greatest place of an entry that concerns the user; where there is none it is the page's, and 0 without one.
 pub record IsMark (user : List ℕ) (book : Book) (mark : ℕ) : Type 0 where
-  pub concerns : 0 < mark → Concerns user book mark
+  pub concerns : book.page.at < mark → Concerns user book mark
+  pub least : book.page.at ≤ mark
   pub last : (later : ℕ) → mark < later → ¬ Concerns user book later
 
 -- these are the users whom the entry concerns, where it stands next

@@ -23,7 +23,7 @@ use Rattle.rv_turns.specs.declared.op.Op.TheVariants.{Clear, Del, Put}
 use Rattle.rv_book.specs.declared.entry.Entry.{Entry}
 use Rattle.rv_book.specs.Book.{Book, since, up_to}
 use Rattle.rv_book.specs.BookWords.{up_to-since}
-use Rattle.rv_history.specs.Replay.{rows_after, rows_of}
+use Rattle.rv_history.specs.Replay.{page_rows, rows_after, rows_of}
 use Rattle.rv_history.specs.Patches.{ClientView, KeyValue, key_value, client_view, applied}
 use Rattle.rv_history.specs.History.{is_written, is_touched, is_absent, is_news, patch_since}
 use Rattle.rv_history.specs.ReplayLaws.{distinct-rows_of}
@@ -189,7 +189,7 @@ difference_finds k base now rows since h g was stands =
 
 -- the rows at a place, and the entries after it, make the rows of the book
 pub replayed : (book : Book) (place : ℕ) → fold rows_after (rows_of (up_to place book)) (since place book) ≡ rows_of book
-replayed book place = sym (fold-append rows_after [] (up_to place book).entries (since place book)) ∙ ap rows_of (up_to-since place book)
+replayed book place = sym (fold-append rows_after (page_rows book.page) (up_to place book).entries (since place book)) ∙ ap rows_of (up_to-since place book)
 
 pub patch_applies : (user : List ℕ) (book : Book) (place : ℕ) → fold applied (client_view user (up_to place book)) (patch_since user book (Some place)) ≡ client_view user book
 patch_applies user book place =

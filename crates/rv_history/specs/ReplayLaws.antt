@@ -1,5 +1,5 @@
 -- A book goes on by one entry: what becomes of the last writes and of the stored rows.
-use Rattle.std.proofs.Common.{◌≡◌, ℕ, ◌+◌, ◌-◌, ◌≤◌, true, false, cond, List, [], ◌∷◌, Option, Some, None, refl, sym, ap, ◌∙◌, subst, arith, map, inl, inr}
+use Rattle.std.proofs.Common.{◌≡◌, ℕ, ◌+◌, ◌-◌, ◌<◌, ◌≤◌, true, false, cond, List, [], ◌∷◌, Option, Some, None, refl, sym, ap, ◌∙◌, subst, arith, map, ◌⊎◌, inl, inr}
 use Rattle.std.specs.Option.{is_some, IsSome, option_map, option_map_or}
 use Rattle.std.specs.declared.cmp.Ordering.TheVariants.{Less}
 use Rattle.std.specs.Ordering.{nat_cmp}
@@ -18,13 +18,13 @@ use Rattle.rv_rows.specs.Keys.{row_text, row_at, in_key_order}
 use Rattle.rv_rows.specs.Effects.{effect}
 use Rattle.rv_rows.specs.Held.{Stored, AreRows, stored_key, find, rows_in}
 use Rattle.rv_rows.specs.Changes.{same_row, version_after, after}
-use Rattle.rv_base.specs.Arranged.{find-map, find-sorted}
+use Rattle.rv_base.specs.Arranged.{distinct-sorted, find-map, find-sorted}
 use Rattle.rv_rows.specs.EffectLaws.{distinct-effect, effect-sorted, same_row-Decides}
 use Rattle.rv_book.specs.declared.entry.Entry.{Entry}
 use Rattle.rv_book.specs.declared.entry.Entry.TheVariants.{Act, Look, Retire}
 use Rattle.rv_book.specs.Book.{Book, size, with_entry, empty_book, with_entries}
 use Rattle.rv_book.specs.BookWords.{size-with_entries, size-with_entry, up_to-with_entries, up_to-before, up_to-end}
-use Rattle.rv_history.specs.Replay.{rows_after, rows_of, Wrote, IsLastWrite, IsReplay}
+use Rattle.rv_history.specs.Replay.{page_rows, rows_after, rows_of, IsPageVersion, Wrote, IsLastWrite, IsReplay}
 
 -- the row of a key at a book
 abbrev pub At : List ℕ → Book → Option Row
@@ -32,7 +32,7 @@ At k book = row_at k (rows_of book)
 
 -- the rows after one more entry are the entry's step from those before
 pub rows_of-with_entry : (book : Book) (e : Entry) → rows_of (with_entry book e) ≡ rows_after (rows_of book) e
-rows_of-with_entry book e = fold_push _ _ book.entries e
+rows_of-with_entry book e = fold_push rows_after (page_rows book.page) book.entries e
 
 -- more entries leave what was written in the front
 pub wrote_more : (book : Book) (more : List Entry) (k : List ℕ) (p : ℕ) → Wrote book k p → Wrote (with_entries book more) k p
@@ -57,7 +57,7 @@ at_end book e k w same = w.differs (ap (At k) (up_to-end book e) ∙ same ∙ ap
 -- a key that the entry leaves alone keeps its last write
 kept_write : (book : Book) (e : Entry) (k : List ℕ) (p : ℕ) → At k (with_entry book e) ≡ At k book → IsLastWrite book k p → IsLastWrite (with_entry book e) k p
 kept_write book e k p same w = record {
-  wrote = wrote_more book (e ∷ []) k p w.wrote;
+  wrote = elim w.wrote as (λ _. Wrote (with_entry book e) k p ⊎ IsPageVersion book.page k p) [ inl wrote ↦ inl (wrote_more book (e ∷ []) k p wrote) | inr version ↦ inr version ];
   last = λ later lt h. elim (cases_lt (size book) later) as (λ _. ⊥) [
     | inl above ↦ (let is : later ≡ size book + 1 = omega (arith, above, h.within, size-with_entry book e) in at_end book e k (subst (λ (n : ℕ). Wrote (with_entry book e) k n) is h) same)
     | inr le ↦ w.last later lt (wrote_less book (e ∷ []) k later h le)
@@ -67,14 +67,39 @@ kept_write book e k p same w = record {
 -- a key whose row is another afterwards has the entry as its last write
 new_write : (book : Book) (e : Entry) (k : List ℕ) (row : Row) → At k (with_entry book e) ≡ Some row → ¬ (Some row ≡ At k book) → IsLastWrite (with_entry book e) k (size book + 1)
 new_write book e k row is differs = record {
-  wrote = record {
+  wrote = inl (record {
     first = omega arith;
     within = omega (arith, size-with_entry book e);
     stands = ap is_some (ap (At k) (up_to-end book e) ∙ is);
     differs = λ same. differs (sym is ∙ ap (At k) (sym (up_to-end book e)) ∙ same ∙ ap (At k) (up_to-before book e));
-  };
+  });
   last = λ later lt h. absurd (omega (arith, lt, h.within, size-with_entry book e));
 }
+
+-- a last write is no place above the book's end
+pub last_within : (book : Book) (k : List ℕ) (p : ℕ) → IsLastWrite book k p → p ≤ size book
+last_within book k p w = elim w.wrote as (λ _. p ≤ size book) [ inl wrote ↦ wrote.within | inr version ↦ omega (arith, version.0) ]
+
+-- a key has one last write
+pub last_write_unique : (book : Book) (k : List ℕ) (a b : ℕ) → IsLastWrite book k a → IsLastWrite book k b → a ≡ b
+last_write_unique book k a b first second =
+    elim (cases_lt a b) as (λ _. a ≡ b) [
+      | inl lt ↦ absurd (not_before a b first second lt)
+      | inr le ↦ elim (cases_lt b a) as (λ _. a ≡ b) [ inl lt ↦ absurd (not_before b a second first lt) | inr ge ↦ omega (arith, le, ge) ]
+    ]
+  where
+    version_once : (p q : ℕ) → IsPageVersion book.page k p → IsPageVersion book.page k q → p < q → ⊥
+    version_once p q one other lt = let same : p ≡ q = same_Some p q (sym one.1 ∙ other.1) in omega (arith, lt, same)
+
+    not_before : (p q : ℕ) → IsLastWrite book k p → IsLastWrite book k q → p < q → ⊥
+    not_before p q one other lt =
+        elim other.wrote as (λ _. ⊥) [
+          | inl wrote ↦ one.last q lt wrote
+          | inr version ↦ elim one.wrote as (λ _. ⊥) [
+            | inl wrote ↦ omega (arith, lt, wrote.first, version.0)
+            | inr earlier ↦ version_once p q earlier version lt
+          ]
+        ]
 
 all_same : (book new : Book) (xs : List Stored) → ((q : List ℕ) (p : ℕ) → IsLastWrite book q p → IsLastWrite new q p)
     → AllByRecursion (λ s. IsLastWrite book (row_text s.0) s.1) xs → AllByRecursion (λ s. IsLastWrite new (row_text s.0) s.1) xs
@@ -96,7 +121,7 @@ distinct_after rows (Look user group order base ∷ entries) h = distinct_after 
 distinct_after rows (Retire group ∷ entries) h = distinct_after rows entries h
 
 pub distinct-rows_of : (book : Book) → Distinct row_text (rows_of book)
-distinct-rows_of book = distinct_after [] book.entries tt
+distinct-rows_of book = distinct_after (page_rows book.page) book.entries (distinct-sorted row_text (rows_in book.page.rows))
 
 -- what is stored under a key is the book's row
 pub stored_is : (book : Book) (stored : List Stored) (k : List ℕ) → IsReplay book stored → option_map (λ (s : Stored). s.0) (find k stored) ≡ row_at k (rows_of book)

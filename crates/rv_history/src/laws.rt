@@ -1,5 +1,6 @@
 //! What follows from the machine, as contracts of functions that do nothing: a check of the crate proves them.
 ghost use Rattle.rv_history.specs.Clients.{ClientsFollow};
+ghost use Rattle.rv_history.specs.Closing.{ClosedBooksGoOn};
 ghost use Rattle.rv_history.specs.Machine.{ReplyText};
 ghost use Rattle.rv_history.specs.Laws.{IdsCountUp, OrdersRise, GroupsHaveOneUser, ClientsHaveOneGroup, RetiredGroupsRest, EntriesStandOnce, PushesKeepLaw, TurnsKeepLaw, PullsShow, PatchesShow, PatchesArePermitted, MutationsStand, PushesStand};
 
@@ -81,4 +82,10 @@ pub fn pulls_show()
 /// answered, and the last mutation ids of its group there: whatever else the book has, and whichever replies it lost.
 pub fn clients_follow()
     ensures { (write : ReplyText) → ClientsFollow write }
+{}
+
+/// A lawful book goes on from the page that sums it up, one place after its last: the page is sound, ids, orders and versions go on from it, and
+/// the rows are what they were.
+pub fn closed_books_go_on()
+    ensures { ClosedBooksGoOn }
 {}

@@ -2,6 +2,7 @@
 use Rattle.std.proofs.Common.{◌≡◌, ℕ, ◌+◌, inl, inr, Bool, true, false, cond, List, [], ◌∷◌, ◌++◌, length, Option, Some, None, refl, sym, ap, ◌∙◌, subst, arith, append_assoc}
 use Rattle.std.specs.List.{cons_option}
 use Rattle.std.specs.Str.{bytes_eq}
+use Rattle.std.proofs.lemmas.List.{length-append}
 use Rattle.std.proofs.lemmas.List.Elements.{filter_map-append}
 use Rattle.std.proofs.lemmas.Slice.Eq.{bytes_eq-Decides}
 use Rattle.rv_rows.specs.declared.call.Call.{Call}
@@ -9,12 +10,12 @@ use Rattle.rv_turns.specs.declared.mutation.Mutation.{Mutation}
 use Rattle.rv_book.specs.declared.entry.Entry.{Entry}
 use Rattle.rv_book.specs.declared.entry.Entry.TheVariants.{Act, Look, Retire}
 use Rattle.rv_book.specs.Entries.{last_in}
-use Rattle.rv_book.specs.Book.{Book, with_entry}
+use Rattle.rv_book.specs.Book.{Book, last, opening, with_entry}
 use Rattle.rv_history.specs.LawfulBooks.{last_cons}
 use Rattle.rv_history.specs.Served.{Settles, Doubt, with_doubt}
 use Rattle.rv_import.specs.Imports.{asked_from, asked_with, asked_in, asked_of, call_of_record, client_id, todo_id, is_import_header}
 use Rattle.rv_import.specs.Records.{Record, records_of}
-use Rattle.rv_import.specs.ActsOnce.{act_call, calls_of}
+use Rattle.rv_import.specs.ActsOnce.{act_call, calls_of, AreFirst}
 
 -- the number of a client's acts is that of their calls
 pub calls_count : (client : List ℕ) (entries : List Entry) → length (calls_of client entries) ≡ last_in client entries
@@ -71,18 +72,24 @@ settled_is book None settled none (inl same) = same
 settled_is book None settled none (inr same) = same
 settled_is book (Some entry) settled none settles = absurd (cc)
 
--- the calls of the client's acts are the first of these
-abbrev pub Fronts : List ℕ → List Call → Book → Type 0
-Fronts client all book = (left : List Call) × (all ≡ calls_of client book.entries ++ left)
+-- as many calls, those on the page with them, as the client has acts
+pub all_count : (client : List ℕ) (book : Book) (paged : List Call) → length paged ≡ last client (opening book) → length (paged ++ calls_of client book.entries) ≡ last client book
+all_count client book paged count = length-append paged (calls_of client book.entries) ∙ omega (arith, count, calls_count client book.entries)
 
-pub fronts_same : (client : List ℕ) (all : List Call) (book new : Book) → new ≡ book → Fronts client all book → Fronts client all new
-fronts_same client all book new same fronts = subst (λ (b : Book). Fronts client all b) (sym same) fronts
+pub first_same : (client : List ℕ) (all : List Call) (book new : Book) → new ≡ book → AreFirst client all book → AreFirst client all new
+first_same client all book new same fronts = subst (λ (b : Book). AreFirst client all b) (sym same) fronts
 
 -- they are so of the settled book, where they are so with what is in doubt
-pub fronts_settled : (client : List ℕ) (all : List Call) (book : Book) (doubt : Doubt) (settled : Book) → Settles book doubt settled → Fronts client all (with_doubt book doubt) → Fronts client all settled
-fronts_settled client all book doubt settled (inr same) fronts = fronts_same client all (with_doubt book doubt) settled same fronts
-fronts_settled client all book None settled (inl same) fronts = fronts_same client all book settled same fronts
-fronts_settled client all book (Some entry) settled (inl same) (left, is) =
+pub first_settled : (client : List ℕ) (all : List Call) (book : Book) (doubt : Doubt) (settled : Book) → Settles book doubt settled → AreFirst client all (with_doubt book doubt) → AreFirst client all settled
+first_settled client all book doubt settled (inr same) first = first_same client all (with_doubt book doubt) settled same first
+first_settled client all book None settled (inl same) first = first_same client all book settled same first
+first_settled client all book (Some entry) settled (inl same) first =
     let one : List Call = calls_of client (entry ∷ []) in
-    let more : all ≡ calls_of client book.entries ++ (one ++ left) = is ∙ ap (λ (x : List Call). x ++ left) (filter_map-append (act_call client) book.entries (entry ∷ [])) ∙ append_assoc (calls_of client book.entries) one left in
-    fronts_same client all book settled same (one ++ left, more)
+    let here : List Call = first.paged ++ calls_of client book.entries in
+    let more : first.paged ++ calls_of client (with_entry book entry).entries ≡ here ++ one = ap (λ (x : List Call). first.paged ++ x) (filter_map-append (act_call client) book.entries (entry ∷ [])) ∙ sym (append_assoc first.paged (calls_of client book.entries) one) in
+    first_same client all book settled same (record {
+      paged = first.paged;
+      left = one ++ first.left;
+      count = first.count;
+      whole = first.whole ∙ ap (λ (x : List Call). x ++ first.left) more ∙ append_assoc here one first.left;
+    })

@@ -27,8 +27,8 @@ use Rattle.rv_import.specs.Imports.{asked_of, client_id}
 use Rattle.rv_import.specs.Importing.{importer, TakesInOrder, AreDone, is_skipped, Imported, Imports}
 use Rattle.rv_import.specs.declared.import_end.ImportEnd.{ImportEnd}
 use Rattle.rv_import.specs.declared.import_end.ImportEnd.TheVariants.{Done, TooLarge, BadRecord, Refused, Memory}
-use Rattle.rv_import.specs.ActsOnce.{calls_of, calls_asked, HasFirst, HasAll, ActsOnce}
-use Rattle.rv_import.proofs.ActCalls.{Numbered, numbered, numbered_front, calls_count, settled_is, Fronts, fronts_settled}
+use Rattle.rv_import.specs.ActsOnce.{calls_of, calls_asked, AreFirst, AreAll, HasFirst, HasAll, ActsOnce}
+use Rattle.rv_import.proofs.ActCalls.{Numbered, all_count, first_settled, numbered, numbered_front, settled_is}
 use Rattle.rv_import.proofs.ResumeLaws.{taken_front}
 
 itself : (text : List ℕ) → not (bytes_eq text text) ≡ false
@@ -212,9 +212,9 @@ front_all calls [] all is le = sym (append-nil calls) ∙ sym is
 front_all calls (x ∷ left) all is le = absurd (let count = ap (λ (l : List Call). length l) is ∙ length-append calls (x ∷ left) in omega (arith, le, count))
 
 -- where the calls are those of mutations, there are as many acts
-acts_for : (client : List ℕ) (book : Book) (ms : List Mutation) → calls_of client book.entries ≡ map (λ m. m.call) ms → length ms ≤ last client book
+acts_for : (client : List ℕ) (book : Book) (ms : List Mutation) → AreAll client (map (λ m. m.call) ms) book → length ms ≤ last client book
 acts_for client book ms has =
-    let count : last client book ≡ length ms = sym (calls_count client book.entries) ∙ ap (λ (x : List Call). length x) has ∙ length-map ms (λ m. m.call) in
+    let count : last client book ≡ length ms = sym (all_count client book has.paged has.count) ∙ ap (λ (x : List Call). length x) (sym has.whole) ∙ length-map ms (λ m. m.call) in
     omega (arith, count)
 
 module _ (write : ReplyText) where
@@ -225,11 +225,12 @@ module _ (write : ReplyText) where
       let asked : List Call = calls_asked user name bytes in
       let ms : List Mutation = (asked_of user name bytes).mutations in
       let whole : HasFirst user name bytes (with_doubt now.book now.doubt) = taken_front write user name bytes ms [] first now outcomes (sym (append-nil ms)) turns fronts in
-      let here : Fronts client asked now.book = fronts_settled client asked now.book now.doubt now.book (inl refl) whole in
+      let here : AreFirst client asked now.book = first_settled client asked now.book now.doubt now.book (inl refl) whole in
+      let acts : List Call = here.paged ++ calls_of client now.book.entries in
       let many : length ms ≤ last client now.book = as_many write (importer user) ms client first now outcomes (numbered user name bytes) turns done in
-      let enough : length asked ≤ length (calls_of client now.book.entries) = omega (arith, many, calls_count client now.book.entries, length-map ms (λ m. m.call)) in
+      let enough : length asked ≤ length acts = omega (arith, many, all_count client now.book here.paged here.count, length-map ms (λ m. m.call)) in
       record {
-        all = front_all (calls_of client now.book.entries) here.0 asked here.1 enough;
+        all = record { paged = here.paged; count = here.count; whole = sym (front_all acts here.left asked here.whole enough) };
         again = λ taken rest os later is more. again write (importer user) ms taken rest client first now later outcomes os (numbered user name bytes) many turns done is more;
       }
 

@@ -18,8 +18,8 @@ use Rattle.rv_import.specs.Imports.{asked_of, client_id}
 use Rattle.rv_import.specs.Importing.{importer, TakesInOrder, Imported, Imports}
 use Rattle.rv_import.specs.declared.import_end.ImportEnd.{ImportEnd}
 use Rattle.rv_import.specs.declared.import_end.ImportEnd.TheVariants.{Done, TooLarge, BadRecord, Refused, Memory}
-use Rattle.rv_import.specs.ActsOnce.{calls_of, calls_asked, HasFirst}
-use Rattle.rv_import.proofs.ActCalls.{Numbered, numbered, numbered_front, calls_count, calls_more, Fronts, fronts_same, fronts_settled}
+use Rattle.rv_import.specs.ActsOnce.{calls_of, calls_asked, AreFirst, HasFirst}
+use Rattle.rv_import.proofs.ActCalls.{Numbered, all_count, calls_more, first_same, first_settled, numbered, numbered_front}
 
 tail_same : (x y : Call) (xs ys : List Call) → x ∷ xs ≡ y ∷ ys → xs ≡ ys
 tail_same x y xs ys same = cc
@@ -37,38 +37,45 @@ module _ (write : ReplyText) (from : Sender) (client : List ℕ) (all : List Cal
   abbrev IsAt : List Call → Mutation → List Call → Type 0
   IsAt before m after = (m.client ≡ client) × (m.id ≡ length before + 1) × (all ≡ before ++ m.call ∷ after)
 
-  step_fronts : (limit : ℕ) (m : Mutation) (before after : List Call) (book new : Book) (o : Outcome) → IsAt before m after → Step write limit book (Ask.mutation from m) o new → Fronts client all book → Fronts client all new
-  step_fronts limit m before after book new (outcome.Acted place) (who, id, at) (takes, next, below, here, is) (left, has) =
+  step_fronts : (limit : ℕ) (m : Mutation) (before after : List Call) (book new : Book) (o : Outcome) → IsAt before m after → Step write limit book (Ask.mutation from m) o new → AreFirst client all book → AreFirst client all new
+  step_fronts limit m before after book new (outcome.Acted place) (who, id, at) (takes, next, below, within, is) first =
       let lasts : last m.client book ≡ last client book = ap (λ (c : List ℕ). last c book) who in
-      let count : length (calls_of client book.entries) ≡ length before = omega (arith, calls_count client book.entries, lasts, next, id) in
+      let here : List Call = first.paged ++ calls_of client book.entries in
+      let count : length here ≡ length before = omega (arith, all_count client book first.paged first.count, lasts, next, id) in
       let e : Entry = Act from.user from.group m.client m.id m.call in
-      let more : all ≡ (calls_of client book.entries ++ m.call ∷ []) ++ after = has ∙ next_on (calls_of client book.entries) left before after m.call (sym has ∙ at) count in
-      fronts_same client all (with_entry book e) new is (after, more ∙ ap (λ (x : List Call). x ++ after) (sym (calls_more client from.user from.group m.client m.id m.call book who)))
-  step_fronts limit m before after book new (outcome.Skipped number) at (takes, le, is, same) fronts = fronts_same client all book new same fronts
-  step_fronts limit m before after book new (outcome.Refused refusal) at (why, same) fronts = fronts_same client all book new same fronts
+      let more : first.paged ++ calls_of client (with_entry book e).entries ≡ here ++ m.call ∷ [] =
+      ap (λ (x : List Call). first.paged ++ x) (calls_more client from.user from.group m.client m.id m.call book who) ∙ sym (append_assoc first.paged (calls_of client book.entries) (m.call ∷ [])) in
+      first_same client all (with_entry book e) new is (record {
+        paged = first.paged;
+        left = after;
+        count = first.count;
+        whole = first.whole ∙ next_on here first.left before after m.call (sym first.whole ∙ at) count ∙ ap (λ (x : List Call). x ++ after) (sym more);
+      })
+  step_fronts limit m before after book new (outcome.Skipped number) at (takes, le, is, same) fronts = first_same client all book new same fronts
+  step_fronts limit m before after book new (outcome.Refused refusal) at (why, same) fronts = first_same client all book new same fronts
   step_fronts limit m before after book new (outcome.Pulled reply) at never fronts = absurd never
   step_fronts limit m before after book new (outcome.Retired place) at never fronts = absurd never
 
   -- with what is in doubt
   abbrev FrontsAt : Served → Type 0
-  FrontsAt served = Fronts client all (with_doubt served.book served.doubt)
+  FrontsAt served = AreFirst client all (with_doubt served.book served.doubt)
 
   turn_fronts : (m : Mutation) (before after : List Call) (old new : Served) (settled : Book) (o : Outcome) (left : Doubt) (trouble : Option Trouble) → IsAt before m after → TurnOf write old settled (Ask.mutation from m) o left trouble new
-      → FrontsAt old → Fronts client all settled → FrontsAt new
+      → FrontsAt old → AreFirst client all settled → FrontsAt new
   turn_fronts m before after old new settled o None None at (step, none, still) whole fronts =
-      subst (λ (d : Doubt). Fronts client all (with_doubt new.book d)) (sym none) (step_fronts old.limit m before after settled new.book o at step fronts)
+      subst (λ (d : Doubt). AreFirst client all (with_doubt new.book d)) (sym none) (step_fronts old.limit m before after settled new.book o at step fronts)
   turn_fronts m before after old new settled o None (Some trouble) at (same, stays) whole fronts =
       let (book, doubt) = stays.stays in
-      fronts_same client all (with_doubt old.book old.doubt) (with_doubt new.book new.doubt) (λ i. with_doubt (book i) (doubt i)) whole
+      first_same client all (with_doubt old.book old.doubt) (with_doubt new.book new.doubt) (λ i. with_doubt (book i) (doubt i)) whole
   turn_fronts m before after old new settled o (Some entry) (Some Keeper) at left whole fronts =
-      let more : Fronts client all (with_entry settled entry) = step_fronts old.limit m before after settled (with_entry settled entry) left.outcome at left.step fronts in
-      fronts_same client all (with_entry settled entry) (with_doubt new.book new.doubt) (λ i. with_doubt (left.book i) (left.doubt i)) more
+      let more : AreFirst client all (with_entry settled entry) = step_fronts old.limit m before after settled (with_entry settled entry) left.outcome at left.step fronts in
+      first_same client all (with_entry settled entry) (with_doubt new.book new.doubt) (λ i. with_doubt (left.book i) (left.doubt i)) more
   turn_fronts m before after old new settled o (Some entry) (Some (Changed kept found)) at never whole fronts = absurd never
   turn_fronts m before after old new settled o (Some entry) None at never whole fronts = absurd never
 
   take_fronts : (m : Mutation) (before after : List Call) (old new : Served) (o : Outcome) → IsAt before m after → TakesTurn write old (Ask.mutation from m) o new → FrontsAt old → FrontsAt new
   take_fronts m before after old new o at taken fronts =
-      turn_fronts m before after old new taken.settled o taken.left (trouble_of o) at taken.turn fronts (fronts_settled client all old.book old.doubt taken.settled taken.settles fronts)
+      turn_fronts m before after old new taken.settled o taken.left (trouble_of o) at taken.turn fronts (first_settled client all old.book old.doubt taken.settled taken.settles fronts)
 
   turns_front : (ms : List Mutation) (before after : List Call) (n : ℕ) (first now : Served) (os : List Outcome) → n ≡ length before + 1 → Numbered client n ms → all ≡ before ++ (map (λ m. m.call) ms ++ after)
       → TakesInOrder (TakesTurn write) from ms first os now → FrontsAt first → FrontsAt now

@@ -1,11 +1,11 @@
 -- What imports under a name enter: each record once, however often its file is imported.
-use Rattle.std.specs.Prelude.{◌≡◌, ℕ, true, List, ◌++◌, map, Option, Some, None, if◌then◌else◌}
+use Rattle.std.specs.Prelude.{◌≡◌, ℕ, true, List, ◌++◌, length, map, Option, Some, None, if◌then◌else◌}
 use Rattle.std.specs.List.{filter_map, AllByRecursion}
 use Rattle.std.specs.Str.{bytes_eq}
 use Rattle.rv_rows.specs.declared.call.Call.{Call}
 use Rattle.rv_book.specs.declared.entry.Entry.{Entry}
 use Rattle.rv_book.specs.declared.entry.Entry.TheVariants.{Act, Look, Retire}
-use Rattle.rv_book.specs.Book.{Book}
+use Rattle.rv_book.specs.Book.{Book, last, opening}
 use Rattle.rv_turns.specs.declared.mutation.Mutation.{Mutation}
 use Rattle.rv_turns.specs.declared.outcome.Outcome.{Outcome}
 use Rattle.rv_history.specs.Machine.{ReplyText}
@@ -27,13 +27,27 @@ calls_of client entries = filter_map (act_call client) entries
 abbrev pub calls_asked : List ℕ → List ℕ → List ℕ → List Call
 calls_asked user name bytes = map (λ m. m.call) (asked_of user name bytes).mutations
 
+-- The client's acts, those that the book's page sums up and those since, are the first of these calls. Of those on the page the number is
+-- known, and not what they were.
+pub record AreFirst (client : List ℕ) (asked : List Call) (book : Book) : Type 0 where
+  pub paged : List Call
+  pub left : List Call
+  pub count : length paged ≡ last client (opening book)
+  pub whole : asked ≡ (paged ++ calls_of client book.entries) ++ left
+
+-- they are just these calls
+pub record AreAll (client : List ℕ) (asked : List Call) (book : Book) : Type 0 where
+  pub paged : List Call
+  pub count : length paged ≡ last client (opening book)
+  pub whole : asked ≡ paged ++ calls_of client book.entries
+
 -- the acts of the import's client are the first of what the bytes ask for: so it is where nothing but imports of them has used the client
 abbrev pub HasFirst : List ℕ → List ℕ → List ℕ → Book → Type 0
-HasFirst user name bytes book = (left : List Call) × (calls_asked user name bytes ≡ calls_of (client_id user name) book.entries ++ left)
+HasFirst user name bytes book = AreFirst (client_id user name) (calls_asked user name bytes) book
 
 -- they are just what the bytes ask for
 abbrev pub HasAll : List ℕ → List ℕ → List ℕ → Book → Type 0
-HasAll user name bytes book = calls_of (client_id user name) book.entries ≡ calls_asked user name bytes
+HasAll user name bytes book = AreAll (client_id user name) (calls_asked user name bytes) book
 
 module _ (write : ReplyText) where
   -- The acts of the import's client are just what is asked for. Where the same mutations, or the first of them, are taken again, each is

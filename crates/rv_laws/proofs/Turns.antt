@@ -3,7 +3,7 @@ use Rattle.std.proofs.Common.{◌≡◌, ℕ, ◌≤◌, inl, inr, List, [], ◌
 use Rattle.std.specs.List.{AllByRecursion, Contains}
 use Rattle.std.proofs.lemmas.List.Elements.{Contains-append_left}
 use Rattle.rv_book.specs.declared.entry.Entry.TheVariants.{Act}
-use Rattle.rv_book.specs.Book.{Book, Extends}
+use Rattle.rv_book.specs.Book.{Book, last, opening, Extends}
 use Rattle.rv_history.specs.Laws.{IsEntered, PushesStand}
 use Rattle.rv_history.specs.Served.{Served, IsSound, TakesTurn}
 use Rattle.rv_answering.specs.declared.answer.Answer.{Answer}
@@ -59,8 +59,9 @@ step_stands stand point new user push (acted, inr (refused, pushed, is)) sound =
     stand from push.mutations point new acted (subst (λ (r : Option Refusal). Pushes (TakesTurn pull_json) from push.mutations point r acted new) (went refused is) pushed) sound
 
 pub entered_later : (from : Sender) (m : Mutation) (book new : Book) → Extends new book → IsEntered from book m → IsEntered from new m
-entered_later from m book new (more, is) (call, there) =
-    (call, subst (λ (b : Book). Contains b.entries (Act from.user from.group m.client m.id call)) (sym is) (Contains-append_left book.entries more (Act from.user from.group m.client m.id call) there))
+entered_later from m book new (more, is) (inl (call, there)) =
+    inl (call, subst (λ (b : Book). Contains b.entries (Act from.user from.group m.client m.id call)) (sym is) (Contains-append_left book.entries more (Act from.user from.group m.client m.id call) there))
+entered_later from m book new (more, is) (inr early) = inr (subst (λ (b : Book). m.id ≤ last m.client (opening b)) (sym is) early)
 
 pub all_later : (from : Sender) (ms : List Mutation) (book new : Book) → Extends new book → AllByRecursion (λ m. 1 ≤ m.id → IsEntered from book m) ms → AllByRecursion (λ m. 1 ≤ m.id → IsEntered from new m) ms
 all_later from [] book new goes all = tt

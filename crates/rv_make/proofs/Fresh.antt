@@ -1,7 +1,7 @@
 -- A keeper that holds nothing opens as a fresh server.
 use Rattle.std.proofs.Common.{◌≡◌, ◌-◌, ◌^◌, List, [], ◌∷◌, length, refl, sym, ap, ◌∙◌, subst, arith}
 use Rattle.rv_book.specs.declared.entry.Entry.{Entry}
-use Rattle.rv_book.specs.Book.{Book, book_of, empty_book}
+use Rattle.rv_book.specs.Book.{Book, book_from, empty_book, size}
 use Rattle.rv_history.specs.LawfulBooks.{lawful_none}
 use Rattle.rv_history.specs.ReplayLaws.{replay_none}
 use Rattle.rv_news.specs.KeptRecords.{records_none}
@@ -18,19 +18,21 @@ use Rattle.rv_make.specs.Plays.{fresh}
 -- what holds nothing is the empty book
 nothing_opens : MayOpen (2 ^ 32 - 1) empty_book (holding [] 0)
 nothing_opens = record {
-  sound = record { lawful = lawful_none; within = omega arith; fits = tt };
+  sound = record { opens = refl; lawful = lawful_none; within = omega arith; fits = tt };
   kept = record {
-    cells = record { rows = []; records = []; replay = replay_none; kept = records_none; made = refl };
+    cells = record { opens = refl; rows = []; records = []; replay = replay_none; kept = records_none; made = refl };
     generation = refl;
   };
 }
 
-no_entries_in : (entries : List Entry) → 0 ≡ length entries → book_of entries ≡ empty_book
+no_entries_in : (entries : List Entry) → length entries ≡ 0 → entries ≡ []
 no_entries_in [] is = refl
 no_entries_in (entry ∷ entries) is = absurd (omega (arith, is))
 
 only_empty : (book : Book) (loaded : Loaded) → loaded ≡ holding [] 0 → MayOpen (2 ^ 32 - 1) book loaded → book ≡ empty_book
-only_empty book loaded is opens = no_entries_in book.entries (sym (ap (λ (l : Loaded). l.generation) is) ∙ opens.kept.generation)
+only_empty book loaded is opens =
+    let length_is : size book ≡ 0 = sym opens.kept.generation ∙ ap (λ (l : Loaded). l.generation) is in
+    λ i. book_from (opens.sound.opens i) (no_entries_in book.entries (omega (arith, length_is)) i)
 
 module _ {K : Type 0} (G : Ghosts K) (steady_tells : (keeper : K) → G.fails_no_more keeper → G.tells keeper) (keeper : K) (holds : G.holds keeper (holding [] 0)) (steady : G.fails_no_more keeper) where
   -- its desk is fresh

@@ -1,6 +1,6 @@
 -- What the versions of stored rows tell of the entries since a place: a key was touched since exactly where its version is
 -- another.
-use Rattle.std.proofs.Common.{◌≡◌, ℕ, ◌+◌, ◌<◌, true, false, not, ◌||◌, ◌==◌, List, [], ◌∷◌, Some, refl, sym, ◌∙◌, subst, arith, inl, inr}
+use Rattle.std.proofs.Common.{◌≡◌, ℕ, ◌+◌, ◌<◌, true, false, not, ◌||◌, ◌==◌, List, [], ◌∷◌, Some, refl, sym, ◌∙◌, subst, arith, ◌⊎◌, inl, inr}
 use Rattle.std.proofs.lemmas.Bool.{cases_lt}
 use Rattle.std.proofs.lemmas.Bool.Decides.{nat_tests}
 use Rattle.rv_rows.specs.Keys.{row_text}
@@ -8,9 +8,9 @@ use Rattle.rv_rows.specs.Held.{Stored, stored_key, find}
 use Rattle.rv_book.specs.declared.entry.Entry.{Entry}
 use Rattle.rv_book.specs.Book.{Book, since, size, up_to, with_entry, with_entries}
 use Rattle.rv_book.specs.BookWords.{size-with_entry, up_to-since, with_entry-more, size-with_entries}
-use Rattle.rv_history.specs.Replay.{rows_of, Wrote, IsLastWrite, IsReplay}
+use Rattle.rv_history.specs.Replay.{rows_of, IsPageVersion, Wrote, IsLastWrite, IsReplay}
 use Rattle.rv_history.specs.History.{is_written, is_touched}
-use Rattle.rv_history.specs.ReplayLaws.{wrote_more, wrote_less, all_found}
+use Rattle.rv_history.specs.ReplayLaws.{wrote_more, wrote_less, last_within, last_write_unique, all_found}
 use Rattle.rv_history.specs.PatchLaws.{first_false, second_false}
 use Rattle.rv_news.specs.TouchLaws.{IsWrittenAfter, next_touched, touched_after, wrote_step}
 
@@ -31,18 +31,10 @@ untouched_after front (e ∷ since) k h p lt w =
           )
     ]
 
--- a key has one last write
-pub last_once : (book : Book) (k : List ℕ) (v w : ℕ) → IsLastWrite book k v → IsLastWrite book k w → v ≡ w
-last_once book k v w a b =
-    elim (cases_lt v w) as (λ _. v ≡ w) [
-      | inl lt ↦ absurd (a.last w lt b.wrote)
-      | inr le ↦ elim (cases_lt w v) as (λ _. v ≡ w) [ inl lt ↦ absurd (b.last v lt a.wrote) | inr ge ↦ omega (arith, le, ge) ]
-    ]
-
 -- entries that do not touch a key leave its last write
 pub last_stays : (front : Book) (since : List Entry) (k : List ℕ) (v : ℕ) → is_touched k (rows_of front) since ≡ false → IsLastWrite front k v → IsLastWrite (with_entries front since) k v
 last_stays front since k v h a = record {
-  wrote = wrote_more front since k v a.wrote;
+  wrote = elim a.wrote as (λ _. Wrote (with_entries front since) k v ⊎ IsPageVersion front.page k v) [ inl wrote ↦ inl (wrote_more front since k v wrote) | inr version ↦ inr version ];
   last = λ later lt w. elim (cases_lt (size front) later) as (λ _. ⊥) [
     | inl above ↦ untouched_after front since k h later above w
     | inr le ↦ a.last later lt (wrote_less front since k later w le)
@@ -55,7 +47,7 @@ last_rises front since k v w h a b =
     let t : IsWrittenAfter (with_entries front since) k (size front) = touched_after front since k h in
     elim (cases_lt w t.place) as (λ _. v < w) [
       | inl lt ↦ absurd (b.last t.place lt t.wrote)
-      | inr le ↦ omega (arith, le, t.above, a.wrote.within)
+      | inr le ↦ omega (arith, le, t.above, last_within front k v a)
     ]
 
 apart : (v w : ℕ) → v < w → true ≡ not (v == w)
@@ -68,7 +60,7 @@ pub touched_differs : (front : Book) (since : List Entry) (k : List ℕ) (v w : 
 touched_differs front since k v w a b =
     elim (is_touched k (rows_of front) since) as (λ t. is_touched k (rows_of front) since ≡ t → t ≡ not (v == w)) [
       | true ↦ λ h. apart v w (last_rises front since k v w h a b)
-      | false ↦ λ h. alike v w (last_once (with_entries front since) k v w (last_stays front since k v h a) b)
+      | false ↦ λ h. alike v w (last_write_unique (with_entries front since) k v w (last_stays front since k v h a) b)
     ] refl
 
 -- the last write of a key whose row is stored

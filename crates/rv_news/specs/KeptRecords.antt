@@ -96,7 +96,7 @@ found_all P place (x ∷ xs) all there =
 
 -- the empty book has no look
 nowhere : (place : ℕ) → look_at place empty_book ≡ None
-nowhere place = elim (place == 0) as (λ b. option_and_then look_of (cond b None None) ≡ None) [ true ↦ refl | false ↦ refl ]
+nowhere place = elim (nat_lt 0 place) as (λ b. option_and_then look_of (cond b None None) ≡ None) [ true ↦ refl | false ↦ refl ]
 
 -- and so no record
 pub records_none : AreRecords empty_book []

@@ -1,10 +1,9 @@
 -- What is known of the entries since a user's mark: the user sees the same, each row with the same version, and no client of the user's
 -- groups has acted.
-use Rattle.std.proofs.Common.{◌≡◌, ℕ, zero, suc, ◌+◌, ◌-◌, ◌<◌, ◌≤◌, ◌&&◌, Bool, true, false, List, [], ◌∷◌, Option, Some, refl, sym, ap, ◌∙◌, subst, arith, inl, inr}
+use Rattle.std.proofs.Common.{◌≡◌, ℕ, zero, suc, ◌+◌, ◌-◌, ◌<◌, ◌≤◌, ◌&&◌, Bool, true, false, List, [], ◌∷◌, Option, Some, refl, sym, ap, ◌∙◌, subst, arith, ◌⊎◌, inl, inr}
 use Rattle.std.specs.Option.{option_map_or}
 use Rattle.std.specs.Str.{bytes_eq}
 use Rattle.std.proofs.lemmas.Bool.{cases_lt}
-use Rattle.std.proofs.lemmas.List.{length-take-le}
 use Rattle.std.proofs.lemmas.Slice.Eq.{bytes_eq-Decides}
 use Rattle.std.proofs.lemmas.Option.{same_Some}
 use Rattle.rv_rows.specs.declared.row.Row.{Row}
@@ -17,11 +16,11 @@ use Rattle.rv_sharing.specs.SeenLaws.{seen-found}
 use Rattle.rv_book.specs.declared.entry.Entry.{Entry}
 use Rattle.rv_book.specs.declared.entry.Entry.TheVariants.{Act}
 use Rattle.rv_book.specs.Book.{Book, bound, entry_at, since, size, up_to, with_entries}
-use Rattle.rv_book.specs.BookWords.{entry_at-within, since-entry, up_to-all, up_to-since}
+use Rattle.rv_book.specs.BookWords.{entry_at-within, since-entry, size-up_to, up_to-all, up_to-since}
 use Rattle.rv_history.specs.Lawful.{IsLawful}
 use Rattle.rv_history.specs.GroupLaws.{owner_is}
 use Rattle.rv_history.specs.Marks.{Concerns, IsMark, SeesSame, is_act_by}
-use Rattle.rv_history.specs.Replay.{rows_of, IsLastWrite, Wrote}
+use Rattle.rv_history.specs.Replay.{rows_of, IsLastWrite, IsPageVersion, Wrote}
 use Rattle.rv_history.specs.ReplayLaws.{distinct-rows_of, wrote_less, wrote_more}
 
 -- lists of rows that are not other than one another are the same
@@ -63,7 +62,7 @@ not_other xs ys never =
 seen_next : (user : List ℕ) (book : Book) (mark place : ℕ) → IsMark user book mark → mark < place → place ≤ size book → SeesSame user (up_to place book) (up_to (place - 1) book)
 seen_next user book mark place is above within =
     not_other (seen user (rows_of (up_to place book))) (seen user (rows_of (up_to (place - 1) book)))
-    (λ other. is.last place above (record { first = omega (arith, above); within = within; concerns = inr other }))
+    (λ other. is.last place above (record { first = omega (arith, above, is.least); within = within; concerns = inr other }))
 
 seen_on : (user : List ℕ) (book : Book) (mark place more : ℕ) → IsMark user book mark → mark ≤ place → place + more ≤ size book → SeesSame user (up_to (place + more) book) (up_to place book)
 seen_on user book mark place zero is low within = let same : place + 0 ≡ place = omega arith in ap (λ (n : ℕ). seen user (rows_of (up_to n book))) same
@@ -97,22 +96,22 @@ write_concerns user book key row place wrote shown = record {
 pub version_since : (user : List ℕ) (book : Book) (mark place : ℕ) → IsMark user book mark → mark ≤ place → place ≤ size book
     → (key : List ℕ) (row : Row) (version : ℕ) → row_at key (seen user (rows_of book)) ≡ Some row → IsLastWrite book key version → IsLastWrite (up_to place book) key version
 version_since user book mark place is low within key row version shown last = record {
-  wrote = wrote_less (up_to place book) (since place book) key version (subst (λ (b : Book). Wrote b key version) whole last.wrote) (omega (arith, early, length_up_to));
+  wrote = elim last.wrote as (λ _. Wrote (up_to place book) key version ⊎ IsPageVersion book.page key version) [
+    | inl wrote ↦ inl (wrote_less (up_to place book) (since place book) key version (subst (λ (b : Book). Wrote b key version) whole wrote) (omega (arith, early wrote, size-up_to place book (omega (arith, is.least, low)) within)))
+    | inr page ↦ inr page
+  ];
   last = λ later above wrote. last.last later above (subst (λ (b : Book). Wrote b key later) (sym whole) (wrote_more (up_to place book) (since place book) key later wrote));
 }
   where
     whole : book ≡ with_entries (up_to place book) (since place book)
     whole = sym (up_to-since place book)
 
-    length_up_to : size (up_to place book) ≡ place
-    length_up_to = length-take-le place book.entries within
-
     shown_at : (at : ℕ) → mark ≤ at → at ≤ size book → row_at key (seen user (rows_of (up_to at book))) ≡ Some row
     shown_at at high le = ap (row_at key) (sym (seen_since user book mark at is high le)) ∙ shown
 
-    early : version ≤ place
-    early = elim (cases_lt place version) as (λ _. version ≤ place) [
-      | inl past ↦ absurd (is.last version (omega (arith, low, past)) (write_concerns user book key row version last.wrote (shown_at version (omega (arith, low, past)) last.wrote.within)))
+    early : Wrote book key version → version ≤ place
+    early wrote = elim (cases_lt place version) as (λ _. version ≤ place) [
+      | inl past ↦ absurd (is.last version (omega (arith, low, past)) (write_concerns user book key row version wrote (shown_at version (omega (arith, low, past)) wrote.within)))
       | inr le ↦ le
     ]
 
@@ -123,7 +122,7 @@ acts_since user book mark place lawful is above by group client id call there of
     let entry : Entry = Act by group client id call in
     let within = entry_at-within place book entry there in
     let split : book ≡ with_entries (up_to (place - 1) book) (entry ∷ since place book) = sym (up_to-since (place - 1) book) ∙ ap (with_entries (up_to (place - 1) book)) (since-entry place book entry there) in
-    let admitted = lawful (up_to (place - 1) book) (since place book) entry split in
+    let admitted = lawful.each (up_to (place - 1) book) (since place book) entry split in
     let same : bytes_eq group group ≡ true = (bytes_eq-Decides group group).1 refl in
     let owner : bound group book ≡ Some by = ap (bound group) split ∙ owner_is by group (up_to (place - 1) book) (entry ∷ since place book) admitted.0.own (rw same refl) in
     let one : by ≡ user = same_Some by user (sym owner ∙ of_user) in

@@ -1,9 +1,8 @@
 -- A pull whose base is a look of the pull's own group, at the user's mark or after it, has nothing to tell.
-use Rattle.std.proofs.Common.{◌≡◌, ℕ, ◌+◌, ◌-◌, ◌<◌, ◌≤◌, zero, suc, Bool, true, false, not, cond, get_or, List, [], ◌∷◌, ◌++◌, map, Option, Some, None, refl, sym, ap, ◌∙◌, subst, arith, inl, inr, append-nil}
+use Rattle.std.proofs.Common.{◌≡◌, ℕ, ◌+◌, ◌-◌, ◌<◌, ◌≤◌, zero, suc, length, Bool, true, false, not, cond, get_or, List, [], ◌∷◌, ◌++◌, map, Option, Some, None, refl, sym, ap, ◌∙◌, subst, arith, inl, inr, append-nil}
 use Rattle.std.specs.List.{AllByRecursion, cons_option, filter, filter_map}
 use Rattle.std.specs.Option.{option_and_then, option_map, option_map_or, option_or}
 use Rattle.std.specs.Str.{bytes_eq}
-use Rattle.std.proofs.lemmas.List.{length-take-le}
 use Rattle.std.proofs.lemmas.List.Elements.{filter_map-append}
 use Rattle.std.proofs.lemmas.Option.{same_Some, slice_get-get_or}
 use Rattle.std.proofs.lemmas.Slice.Eq.{bytes_eq-Decides}
@@ -22,11 +21,11 @@ use Rattle.rv_book.specs.declared.entry.Entry.{Entry}
 use Rattle.rv_book.specs.declared.entry.Entry.TheVariants.{Act, Look, Retire}
 use Rattle.rv_book.specs.Entries.{is_act_of}
 use Rattle.rv_book.specs.Members.{acting_group}
-use Rattle.rv_book.specs.Book.{Book, belongs, bound, client_in, entry_at, group_of, ids, last, since, size, up_to, with_entries, with_entry}
-use Rattle.rv_book.specs.BookWords.{entry_at-index, entry_at-within, last-with_entry, since-entry, size-with_entry, up_to-all, up_to-since, up_to-with_entries, with_entry-more}
+use Rattle.rv_book.specs.Book.{Book, acting_client, belongs, bound, client_in, clients_named, entry_at, group_of, ids, last, since, size, up_to, with_entries, with_entry}
+use Rattle.rv_book.specs.BookWords.{clients_named-with_entry, size-up_to, entry_at-index, entry_at-within, last-with_entry, since-entry, size-with_entry, up_to-all, up_to-since, up_to-with_entries, with_entry-more}
 use Rattle.rv_book.specs.Kept.{is_look_at, kept, look_at, look_of}
 use Rattle.rv_book.specs.LookLaws.{look_at-within}
-use Rattle.rv_book.specs.RegisterLaws.{NoneBut, group_of_in-push, none_but}
+use Rattle.rv_book.specs.RegisterLaws.{NoneBut, group_of-push, none_but}
 use Rattle.rv_history.specs.Bases.{base_group, base_of}
 use Rattle.rv_history.specs.Based.{base_look}
 use Rattle.rv_history.specs.GroupLaws.{owner_is}
@@ -60,9 +59,6 @@ all_seen user rows = each_found row_text (seen user rows) (seen_in_order user ro
 stands : (rows : List Row) (row : Row) → IsFound rows row → is_absent rows row ≡ false
 stands rows row found = absent_is rows row (row_text row) (Some row) found refl
 
-length_up_to : (place : ℕ) (book : Book) → place ≤ size book → size (up_to place book) ≡ place
-length_up_to place book within = length-take-le place book.entries within
-
 -- a row that the user sees is not touched since a place from the mark on
 quiet : (user : List ℕ) (book : Book) (mark place : ℕ) → IsMark user book mark → mark ≤ place → place ≤ size book → (row : Row) → IsFound (seen user (rows_of book)) row
     → is_touched (row_text row) (rows_of (up_to place book)) (since place book) ≡ false
@@ -78,7 +74,7 @@ quiet user book mark place is low within row shown =
     written : IsWrittenAfter (with_entries (up_to place book) (since place book)) (row_text row) (size (up_to place book)) → ⊥
     written after =
         let wrote : Wrote book (row_text row) after.place = subst (λ (b : Book). Wrote b (row_text row) after.place) (up_to-since place book) after.wrote in
-        let above : mark < after.place = omega (arith, low, after.above, length_up_to place book within) in
+        let above : mark < after.place = omega (arith, low, after.above, size-up_to place book (omega (arith, is.least, low)) within) in
         let later : mark ≤ after.place = omega (arith, above) in
         is.last after.place above (write_concerns user book (row_text row) row after.place wrote (ap (row_at (row_text row)) (sym (seen_since user book mark after.place is later wrote.within)) ∙ shown))
 
@@ -108,7 +104,7 @@ or_none (Some x) = refl
 -- an entry that is no act of the client leaves that
 told_other : (client group : List ℕ) (book : Book) (e : Entry) → is_act_of client e ≡ false → told client group (with_entry book e) ≡ told client group book
 told_other client group book e other =
-    let home : group_of client (with_entry book e) ≡ group_of client book = group_of_in-push client book.entries e ∙ ap (λ (b : Bool). option_or (group_of client book) (cond b (Some (acting_group e)) None)) other ∙ or_none (group_of client book) in
+    let home : group_of client (with_entry book e) ≡ group_of client book = group_of-push client book e ∙ ap (λ (b : Bool). option_or (group_of client book) (cond b (Some (acting_group e)) None)) other ∙ or_none (group_of client book) in
     let none : last client book + 0 ≡ last client book = omega arith in
     let count : last client (with_entry book e) ≡ last client book = last-with_entry client book e ∙ ap (λ (b : Bool). last client book + cond b 1 0) other ∙ none in
     (λ i. cond (option_map_or (λ (g : List ℕ). bytes_eq g group) (home i) false) (Some (client, count i)) None)
@@ -138,7 +134,7 @@ told_act client group book user home actor id call own apart =
     only = none_but home (group_of actor book) own
 
     pushed : group_of actor (with_entry book act) ≡ option_or (group_of actor book) (Some home)
-    pushed = group_of_in-push actor book.entries act ∙ ap (λ (b : Bool). option_or (group_of actor book) (cond b (Some home) None)) (equals actor)
+    pushed = group_of-push actor book act ∙ ap (λ (b : Bool). option_or (group_of actor book) (cond b (Some home) None)) (equals actor)
 
     before : belongs actor group book ≡ false
     before = elsewhere home group (group_of actor book) only apart
@@ -153,21 +149,20 @@ filter_map-same : {X Y : Type 0} (f g : X → Option Y) (xs : List X) → ((x : 
 filter_map-same f g [] same = refl
 filter_map-same f g (x ∷ xs) same = (λ i. cons_option (same x i) (filter_map-same f g xs same i))
 
-client_same : (group : List ℕ) (book new : Book) → ((client : List ℕ) → told client group new ≡ told client group book) → (x : Entry) → client_in group new x ≡ client_in group book x
-client_same group book new same (Act user other client id call) = same client
-client_same group book new same (Look user other order base) = refl
-client_same group book new same (Retire other) = refl
-
 -- the last mutation ids of a group are the same where each client's are, and the entry adds no client
-ids_same : (group : List ℕ) (book : Book) (e : Entry) → ((client : List ℕ) → told client group (with_entry book e) ≡ told client group book) → client_in group book e ≡ None → ids group (with_entry book e) ≡ ids group book
+ids_same : (group : List ℕ) (book : Book) (e : Entry) → ((client : List ℕ) → told client group (with_entry book e) ≡ told client group book) → option_and_then (client_in group book) (acting_client e) ≡ None → ids group (with_entry book e) ≡ ids group book
 ids_same group book e same none =
     let new : Book = with_entry book e in
-    let adds : client_in group new e ≡ None = client_same group book new same e ∙ none in
     ap (sorted_by (λ (pair : List ℕ × ℕ). pair.0))
-    (filter_map-append (client_in group new) book.entries (e ∷ [])
-    ∙ ap (λ (o : Option (List ℕ × ℕ)). filter_map (client_in group new) book.entries ++ cons_option o []) adds
-    ∙ append-nil _
-    ∙ filter_map-same (client_in group new) (client_in group book) book.entries (client_same group book new same))
+    (ap (filter_map (client_in group new)) (clients_named-with_entry book e)
+    ∙ filter_map-append (client_in group new) (clients_named book) (cons_option (acting_client e) [])
+    ∙ ap (λ (pairs : List (List ℕ × ℕ)). filter_map (client_in group new) (clients_named book) ++ pairs) (adds_none (acting_client e) none)
+    ∙ append-nil (filter_map (client_in group new) (clients_named book))
+    ∙ filter_map-same (client_in group new) (client_in group book) (clients_named book) same)
+  where
+    adds_none : (o : Option (List ℕ)) → option_and_then (client_in group book) o ≡ None → filter_map (client_in group (with_entry book e)) (cons_option o []) ≡ []
+    adds_none None none = refl
+    adds_none (Some client) none = ap (λ (o : Option (List ℕ × ℕ)). cons_option o []) (same client ∙ none)
 
 -- the entry is an act of the group
 abbrev is_act_in : List ℕ → Entry → Bool
@@ -183,10 +178,10 @@ ids_next group book (Look user other order base) admitted apart = ids_same group
 ids_next group book (Retire other) admitted apart = ids_same group book (Retire other) (λ client. told_other client group book (Retire other) refl) refl
 
 -- the entry at a place, and the book up to it
-entry_within : (place : ℕ) (book : Book) → 0 < place → place ≤ size book → (e : Entry) × (entry_at place book ≡ Some e)
+entry_within : (place : ℕ) (book : Book) → book.page.at < place → place ≤ size book → (e : Entry) × (entry_at place book ≡ Some e)
 entry_within place book first within =
-    let lt : place - 1 < size book = omega (arith, first, within) in
-    (get_or book.entries (place - 1) (Retire []), entry_at-index place book first ∙ slice_get-get_or book.entries (place - 1) (Retire []) lt)
+    let lt : place - (book.page.at + 1) < length book.entries = omega (arith, first, within) in
+    (get_or book.entries (place - (book.page.at + 1)) (Retire []), entry_at-index place book first ∙ slice_get-get_or book.entries (place - (book.page.at + 1)) (Retire []) lt)
 
 split : (place : ℕ) (book : Book) (e : Entry) → entry_at place book ≡ Some e → book ≡ with_entries (up_to (place - 1) book) (e ∷ since place book)
 split place book e there = sym (up_to-since (place - 1) book) ∙ ap (with_entries (up_to (place - 1) book)) (since-entry place book e there)
@@ -195,8 +190,8 @@ up_to-next : (place : ℕ) (book : Book) (e : Entry) → entry_at place book ≡
 up_to-next place book e there =
     let within = entry_at-within place book e there in
     let front : Book = up_to (place - 1) book in
-    let length : size front ≡ place - 1 = length_up_to (place - 1) book (omega (arith, within.1)) in
-    let ends : size (with_entry front e) ≡ place = omega (arith, within.0, length, size-with_entry front e) in
+    let long : size front ≡ place - 1 = size-up_to (place - 1) book (omega (arith, within.0)) (omega (arith, within.1)) in
+    let ends : size (with_entry front e) ≡ place = omega (arith, within.0, long, size-with_entry front e) in
     let whole : book ≡ with_entries (with_entry front e) (since place book) = split place book e there ∙ sym (with_entry-more front e (since place book)) in
     ap (up_to place) whole ∙ up_to-with_entries place (with_entry front e) (since place book) (omega (arith, ends)) ∙ up_to-all place (with_entry front e) (omega (arith, ends))
 
@@ -213,10 +208,10 @@ not_in user group book mark place (Retire other) lawful is owned above there = r
 ids_on : (user group : List ℕ) (book : Book) (mark place more : ℕ) → IsLawful book → IsMark user book mark → bound group book ≡ Some user → mark ≤ place → place + more ≤ size book → ids group (up_to (place + more) book) ≡ ids group (up_to place book)
 ids_on user group book mark place zero lawful is owned low within = let same : place + 0 ≡ place = omega arith in ap (λ (n : ℕ). ids group (up_to n book)) same
 ids_on user group book mark place (suc more) lawful is owned low within =
-    let first : 0 < place + suc more = omega arith in
+    let first : book.page.at < place + suc more = omega (arith, is.least, low) in
     let above : mark < place + suc more = omega (arith, low) in
     let (e, there) = entry_within (place + suc more) book first within in
-    let admitted : IsLawfulAfter (up_to ((place + suc more) - 1) book) e = lawful (up_to ((place + suc more) - 1) book) (since (place + suc more) book) e (split (place + suc more) book e there) in
+    let admitted : IsLawfulAfter (up_to ((place + suc more) - 1) book) e = lawful.each (up_to ((place + suc more) - 1) book) (since (place + suc more) book) e (split (place + suc more) book e there) in
     let before : (place + suc more) - 1 ≡ place + more = omega arith in
     ap (ids group) (up_to-next (place + suc more) book e there)
     ∙ ids_next group (up_to ((place + suc more) - 1) book) e admitted (not_in user group book mark (place + suc more) e lawful is owned above there)
@@ -248,7 +243,7 @@ look_owner : (user group : List ℕ) (order place : ℕ) (book : Book) → IsLaw
 look_owner user group order place book lawful looked =
     let (base, there) = look_entry (entry_at place book) (user, group, order) looked in
     let look : Entry = Look user group order base in
-    let admitted = lawful (up_to (place - 1) book) (since place book) look (split place book look there) in
+    let admitted = lawful.each (up_to (place - 1) book) (since place book) look (split place book look there) in
     ap (bound group) (split place book look there) ∙ owner_is user group (up_to (place - 1) book) (look ∷ since place book) admitted.0.own (rw (equals group) refl)
 
 -- A pull whose base is a look of the pull's own group, at the user's mark or after it, has nothing to tell.

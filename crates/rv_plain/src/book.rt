@@ -1,8 +1,8 @@
 ghost use Rattle.std.specs.Prelude.{◌≡◌, ◌≤◌, ◌<◌, ◌^◌, length, IfOk, OnOk, option_map};
-ghost use Rattle.std.specs.Option.{option_map_or};
+ghost use Rattle.std.specs.Option.{option_and_then, option_map_or};
 ghost use Rattle.rv_base.specs.Sorted.{InOrder, put_by, IsPositionOf};
 ghost use Rattle.rv_book.specs.Entries.{is_act_of, order_after, retires};
-ghost use Rattle.rv_book.specs.Book.{belongs, book_of, bound, client_in, group_of, ids, last, last_order, retired};
+ghost use Rattle.rv_book.specs.Book.{acting_client, belongs, book_of, bound, client_in, group_of, ids, last, last_order, retired};
 ghost use Rattle.rv_history.specs.Replay.{rows_after, rows_of};
 
 use rv_base::{Id, Memory, Num, Sequence, User};
@@ -129,21 +129,37 @@ fn belongs(book: &[Entry], client: &Id, group: &Id) -> bool
     }
 }
 
-// Of an act by a client of the group: the client, with its last mutation id.
-fn client_in<'b>(book: &'b [Entry], group: &Id, entry: &'b Entry) -> Option<(&'b Id, Num)>
-    requires { length book.now < 2 ^ 53 }
-    ensures { option_map (λ pair. (pair.0.now, pair.1)) result ≡ client_in group.now (book_of book.now) entry.now }
+// The client of an act.
+fn acting_client(entry: &Entry) -> Option<&Id>
+    ensures { option_map (λ client. client.now) result ≡ acting_client entry.now }
 {
     match entry {
-        Entry::Act { client, .. } => {
-            if belongs(book, client, group) {
-                Some((client, Num::from_u64(last(book, client))))
-            } else {
-                None
-            }
-        }
+        Entry::Act { client, .. } => Some(client),
         Entry::Look { .. } => None,
         Entry::Retire { .. } => None,
+    }
+}
+
+// Of a client of the group: the client, with its last mutation id.
+fn client_in<'b>(book: &'b [Entry], group: &Id, client: &'b Id) -> Option<(&'b Id, Num)>
+    requires { length book.now < 2 ^ 53 }
+    ensures { option_map (λ pair. (pair.0.now, pair.1)) result ≡ client_in group.now (book_of book.now) client.now }
+{
+    if belongs(book, client, group) {
+        Some((client, Num::from_u64(last(book, client))))
+    } else {
+        None
+    }
+}
+
+// Of an act by a client of the group: the client, with its last mutation id.
+fn actor_in<'b>(book: &'b [Entry], group: &Id, entry: &'b Entry) -> Option<(&'b Id, Num)>
+    requires { length book.now < 2 ^ 53 }
+    ensures { option_map (λ pair. (pair.0.now, pair.1)) result ≡ option_and_then (client_in group.now (book_of book.now)) (acting_client entry.now) }
+{
+    match acting_client(entry) {
+        Some(client) => client_in(book, group, client),
+        None => None,
     }
 }
 
@@ -183,10 +199,10 @@ fn enter(
 ) -> Result<(), Memory>
     requires order { InOrder (λ pair. pair.0) clients.old.items }
     requires length { length book.now < 2 ^ 53 }
-    ensures clients { OnOk result (clients.new.items ≡ option_map_or (λ pair. put_by (λ p. p.0) pair clients.old.items) (client_in group.now (book_of book.now) entry.now) clients.old.items) }
+    ensures clients { OnOk result (clients.new.items ≡ option_map_or (λ pair. put_by (λ p. p.0) pair clients.old.items) (option_and_then (client_in group.now (book_of book.now)) (acting_client entry.now)) clients.old.items) }
     ensures order { OnOk result (InOrder (λ pair. pair.0) clients.new.items) }
 {
-    match client_in(book, group, entry) {
+    match actor_in(book, group, entry) {
         Some((client, last)) => put(clients, client.copy(alloc)?, last),
         None => Ok(()),
     }

@@ -1,5 +1,5 @@
 -- The tallies of a book, and its groups, entry by entry.
-use Rattle.std.proofs.Common.{◌≡◌, ℕ, ◌+◌, ◌-◌, ◌<◌, ◌^◌, ◌&&◌, ◌||◌, Bool, true, false, cond, List, [], ◌∷◌, ◌++◌, length, take, get_or, map, Option, Some, None, refl, sym, ap, ◌∙◌, subst, arith, count_by, add-zero}
+use Rattle.std.proofs.Common.{◌≡◌, ℕ, ◌+◌, ◌-◌, ◌<◌, ◌≤◌, ◌^◌, ◌&&◌, ◌||◌, Bool, true, false, cond, List, [], ◌∷◌, ◌++◌, length, take, get_or, map, Option, Some, None, refl, sym, ap, ◌∙◌, subst, arith, count_by, add-zero}
 use Rattle.std.specs.declared.cmp.Ordering.TheVariants.{Less, Equal, Greater}
 use Rattle.std.specs.Ordering.{nat_cmp, match_ordering}
 use Rattle.std.specs.Cmp.Lexicographic.{slice_cmp}
@@ -18,25 +18,30 @@ use Rattle.rv_rows.specs.declared.call.Call.{Call}
 use Rattle.rv_rows.specs.declared.call.Call.TheVariants.{CreateList, DeleteList, CreateShare, UpdateShare, DeleteShare, CreateTodo, UpdateTodo, DeleteTodo, Void}
 use Rattle.rv_book.specs.declared.entry.Entry.{Entry}
 use Rattle.rv_book.specs.declared.entry.Entry.TheVariants.{Act, Look, Retire}
-use Rattle.rv_book.specs.Book.{Book, book_of, entry_at, size, up_to, with_entry}
-use Rattle.rv_book.specs.BookWords.{count-push, entry_at-next}
+use Rattle.rv_book.specs.Book.{Book, book_from, entry_at, opening, size, up_to, with_entry}
+use Rattle.rv_book.specs.BookWords.{count-push, entry_at-index, size-up_to}
 use Rattle.rv_report.specs.declared.tally.Tally.{Tally}
 use Rattle.rv_report.specs.Activity.{group_ids, named_group, entry_user, users_of, is_act_by, is_void_by, is_look_by}
 use Rattle.rv_report.specs.Tallies.{Tallied, tallied_key, no_entries, is_void, with_one, MayRise, tally_in, tallied_with, tally_of, tallies_of}
 
--- the entry that comes after so many
-pub entry_next : (book : Book) (before : ℕ) (entry : Entry) → Some entry ≡ entry_at (before + 1) book → (before < size book) × (entry ≡ get_or book.entries before entry)
-entry_next book before entry there =
-    let at = sym (entry_at-next before book) ∙ sym there in
-    (slice_get_within book.entries before entry at, sym (get_or_from_slice_get book.entries before entry entry at))
+entry_follows : (book : Book) (before : ℕ) → book.page.at ≤ before → entry_at (before + 1) book ≡ slice_get book.entries (before - book.page.at)
+entry_follows book before from =
+    let same : (before + 1) - (book.page.at + 1) ≡ before - book.page.at = omega arith in
+    entry_at-index (before + 1) book (omega (arith, from)) ∙ ap (slice_get book.entries) same
 
--- there is one while so many are fewer than all
-pub none_next : (book : Book) (before : ℕ) → None ≡ entry_at (before + 1) book → before < size book → ⊥
-none_next book before there lt =
-    elim book.entries as (λ b. None ≡ slice_get b before → before < length b → ⊥) [
-      | [] ↦ λ e f. omega (arith, f)
-      | first ∷ others ↦ λ e f. none-some _ (e ∙ slice_get-get_or (first ∷ others) before first f)
-    ] (there ∙ entry_at-next before book) lt
+-- the entry that comes at the place after this one, where the page has ended
+pub entry_next : (book : Book) (before : ℕ) (entry : Entry) → book.page.at ≤ before → Some entry ≡ entry_at (before + 1) book → (before - book.page.at < length book.entries) × (entry ≡ get_or book.entries (before - book.page.at) entry)
+entry_next book before entry from there =
+    let at = sym (entry_follows book before from) ∙ sym there in
+    (slice_get_within book.entries (before - book.page.at) entry at, sym (get_or_from_slice_get book.entries (before - book.page.at) entry entry at))
+
+-- there is one while the place is not the last
+pub none_next : (book : Book) (before : ℕ) → book.page.at ≤ before → None ≡ entry_at (before + 1) book → before < size book → ⊥
+none_next book before from there lt = none_within book.entries (before - book.page.at) (there ∙ entry_follows book before from) (omega (arith, from, lt))
+  where
+    none_within : (entries : List Entry) (index : ℕ) → None ≡ slice_get entries index → index < length entries → ⊥
+    none_within [] index none lt = omega (arith, lt)
+    none_within (first ∷ others) index none lt = none-some _ (none ∙ slice_get-get_or (first ∷ others) index first lt)
 
 -- a user with the tally, of which the numbers are told
 abbrev tallied : (List ℕ → Tally) → List ℕ → Tallied
@@ -190,24 +195,43 @@ counted_users book entry (Some user) users by are =
     other : (u : List ℕ) → bytes_eq user u ≡ false → after u ≡ tally_of u book
     other u apart = tally_last u book entry ∙ ap (λ (o : Option (List ℕ)). cond (option_map_or (λ name. bytes_eq name u) o false) (with_one entry (tally_of u book)) (tally_of u book)) by ∙ ap (λ (b : Bool). cond b (with_one entry (tally_of u book)) (tally_of u book)) apart
 
-last_taken : (book : Book) (before : ℕ) (entry : Entry) → before < size book → entry ≡ get_or book.entries before entry → up_to (before + 1) book ≡ with_entry (up_to before book) entry
-last_taken book before entry lt is = ap book_of (take_more book.entries before entry lt ∙ ap (λ (e : Entry). take before book.entries ++ e ∷ []) (sym is))
+-- the book with the first entries, so many
+abbrev first_of : ℕ → Book → Book
+first_of count book = book_from book.page (take count book.entries)
 
-pub tallies_more : (book : Book) (before : ℕ) (entry : Entry) (tallies next : List Tallied) → Some entry ≡ entry_at (before + 1) book → tallies ≡ tallies_of (up_to before book) → next ≡ tallied_with entry tallies → next ≡ tallies_of (up_to (before + 1) book)
-tallies_more book before entry tallies next there so_far counts =
-    let at = entry_next book before entry there in
+last_taken : (book : Book) (index : ℕ) (entry : Entry) → index < length book.entries → entry ≡ get_or book.entries index entry → first_of (index + 1) book ≡ with_entry (first_of index book) entry
+last_taken book index entry lt is = ap (book_from book.page) (take_more book.entries index entry lt ∙ ap (λ (e : Entry). take index book.entries ++ e ∷ []) (sym is))
+
+one_further : (book : Book) (before : ℕ) → book.page.at ≤ before → first_of ((before - book.page.at) + 1) book ≡ up_to (before + 1) book
+one_further book before from =
+    let next : (before - book.page.at) + 1 ≡ (before + 1) - book.page.at = omega (arith, from) in
+    ap (λ (count : ℕ). first_of count book) next
+
+-- nothing stands up to the page's place
+pub up_to_page : (book : Book) → up_to book.page.at book ≡ opening book
+up_to_page book =
+    let none : book.page.at - book.page.at ≡ 0 = omega arith in
+    ap (λ (n : ℕ). book_from book.page (take n book.entries)) none
+
+pub tallies_more : (book : Book) (before : ℕ) (entry : Entry) (tallies next : List Tallied) → book.page.at ≤ before → Some entry ≡ entry_at (before + 1) book → tallies ≡ tallies_of (up_to before book) → next ≡ tallied_with entry tallies → next ≡ tallies_of (up_to (before + 1) book)
+tallies_more book before entry tallies next from there so_far counts =
+    let at = entry_next book before entry from there in
+    let index : ℕ = before - book.page.at in
     counts
     ∙ ap (tallied_with entry) so_far
-    ∙ counted_users (up_to before book) entry (entry_user entry) (users_of (up_to (before + 1) book)) refl (sorted_more text_key entry_user book.entries before entry at.0 at.1)
-    ∙ ap (λ (b : Book). map (tallied (λ user. tally_of user b)) (users_of (up_to (before + 1) book))) (sym (last_taken book before entry at.0 at.1))
+    ∙ counted_users (up_to before book) entry (entry_user entry) (users_of (first_of (index + 1) book)) refl (sorted_more text_key entry_user book.entries index entry at.0 at.1)
+    ∙ ap (λ (b : Book). map (tallied (λ user. tally_of user b)) (users_of (first_of (index + 1) book))) (sym (last_taken book index entry at.0 at.1))
+    ∙ ap (λ (b : Book). tallies_of b) (one_further book before from)
 
-pub groups_more : (book : Book) (before : ℕ) (entry : Entry) (groups next : List (List ℕ)) → Some entry ≡ entry_at (before + 1) book → groups ≡ group_ids (up_to before book) → next ≡ option_map_or (λ group. put_by (λ text. text) group groups) (named_group entry) groups → next ≡ group_ids (up_to (before + 1) book)
-groups_more book before entry groups next there so_far adds =
-    let at = entry_next book before entry there in
+pub groups_more : (book : Book) (before : ℕ) (entry : Entry) (groups next : List (List ℕ)) → book.page.at ≤ before → Some entry ≡ entry_at (before + 1) book → groups ≡ group_ids (up_to before book) → next ≡ option_map_or (λ group. put_by (λ text. text) group groups) (named_group entry) groups → next ≡ group_ids (up_to (before + 1) book)
+groups_more book before entry groups next from there so_far adds =
+    let at = entry_next book before entry from there in
     adds
     ∙ ap (λ (gs : List (List ℕ)). option_map_or (λ group. put_by text_key group gs) (named_group entry) gs) so_far
-    ∙ sym (sorted_more text_key named_group book.entries before entry at.0 at.1)
+    ∙ sym (sorted_more text_key named_group book.entries (before - book.page.at) entry at.0 at.1)
+    ∙ ap (λ (b : Book). group_ids b) (one_further book before from)
 
-pub may_rise : (book : Book) (before : ℕ) (tallies : List Tallied) → before < size book → size book < 2 ^ 32 → tallies ≡ tallies_of (up_to before book) → (user : List ℕ) → MayRise (tally_in user tallies)
-may_rise book before tallies lt short so_far user =
-    subst (λ (ts : List Tallied). MayRise (tally_in user ts)) (sym so_far) (tally_rises user (up_to before book) (omega (arith, length-take-le before book.entries (omega arith))))
+pub may_rise : (book : Book) (before : ℕ) (tallies : List Tallied) → book.page.at ≤ before → before < size book → size book < 2 ^ 32 → tallies ≡ tallies_of (up_to before book) → (user : List ℕ) → MayRise (tally_in user tallies)
+may_rise book before tallies from lt short so_far user =
+    let place = size-up_to before book from (omega (arith, lt)) in
+    subst (λ (ts : List Tallied). MayRise (tally_in user ts)) (sym so_far) (tally_rises user (up_to before book) (omega (arith, place, lt, short)))

@@ -87,13 +87,13 @@ fn add<'b>(groups: &mut Groups<'b>, entry: &'b Entry) -> Result<(), Memory>
     }
 }
 
-/// The users who have an act or a look, each with its tally, and the groups that one names: one walk of the book.
+/// The users who have an act or a look since the book's page, each with its tally, and the groups that one names: one walk of the entries.
 pub(crate) fn walk(alloc: Global, book: &Book) -> Result<(Tallies<'_>, Groups<'_>), Memory>
     ensures { IfOk result (λ told. (shown_users told.0.entries ≡ tallies_of book.now.book) × (shown_groups told.1.keys ≡ group_ids book.now.book)) }
 {
     let mut tallies = BTreeMap::new(alloc);
     let mut groups = BTreeSet::new(alloc);
-    for before in 0..book.len() {
+    for before in book.opened_at()..book.len() {
         if let Some(entry) = book.entry(before + 1) {
             count(&mut tallies, entry)?;
             add(&mut groups, entry)?;

@@ -3,7 +3,7 @@ use Rattle.std.proofs.Common.{◌≡◌, ◌≢◌, ◌⊎◌, ℕ, ◌+◌, ◌
 use Rattle.std.specs.Prelude.{Result, Ok, Err, IfSome}
 use Rattle.rv_book.specs.declared.entry.Entry.{Entry}
 use Rattle.rv_book.specs.Book.{Book, size, since, with_entry, Extends}
-use Rattle.rv_book.specs.BookWords.{size-with_entry}
+use Rattle.rv_book.specs.BookWords.{since-all, size-with_entry}
 use Rattle.rv_turns.specs.Asks.{Ask}
 use Rattle.rv_turns.specs.Outcomes.{trouble_of}
 use Rattle.rv_turns.specs.declared.outcome.Outcome.{Outcome}
@@ -29,7 +29,6 @@ use Rattle.rv_room.specs.Plays.{Knows}
 use Rattle.rv_room.specs.Ends.{end_view, held_view}
 use Rattle.rv_room.specs.SeatMarks.{IsSeatMark}
 use Rattle.rv_room.specs.SeatTurns.{IsSeatTurn, IsSeatTurnWithin}
-use Rattle.rv_room.proofs.Totals.{drop_self}
 
 -- ---- Which way a book settled, and whether a step made an entry.
 
@@ -52,13 +51,13 @@ some_made s book settled now s0 n0 adds apart =
 module _ {K : Type 0} where
   pub entered_none : (v : SeatView K) → entered v v.book ≡ v
   entered_none v =
-      let own : v.own ++ numbered (size v.book) (since (size v.book) v.book) ≡ v.own = ap (λ (l : List Entry). v.own ++ numbered (size v.book) l) (drop_self v.book.entries) ∙ append-nil v.own in
-      let settled : v.settled ++ since (size v.book) v.book ≡ v.settled = ap (λ (l : List Entry). v.settled ++ l) (drop_self v.book.entries) ∙ append-nil v.settled in
+      let own : v.own ++ numbered (size v.book) (since (size v.book) v.book) ≡ v.own = ap (λ (l : List Entry). v.own ++ numbered (size v.book) l) (since-all (size v.book) v.book (omega arith)) ∙ append-nil v.own in
+      let settled : v.settled ++ since (size v.book) v.book ≡ v.settled = ap (λ (l : List Entry). v.settled ++ l) (since-all (size v.book) v.book (omega arith)) ∙ append-nil v.settled in
       λ i. record v { own = own i; settled = settled i }
 
   pub grown_none : (v : SeatView K) → grown v v.book ≡ v
   grown_none v =
-      let own : v.own ++ numbered (size v.book) (since (size v.book) v.book) ≡ v.own = ap (λ (l : List Entry). v.own ++ numbered (size v.book) l) (drop_self v.book.entries) ∙ append-nil v.own in
+      let own : v.own ++ numbered (size v.book) (since (size v.book) v.book) ≡ v.own = ap (λ (l : List Entry). v.own ++ numbered (size v.book) l) (since-all (size v.book) v.book (omega arith)) ∙ append-nil v.own in
       λ i. record v { own = own i }
 
   -- an entry is counted only where one came in
@@ -157,7 +156,7 @@ module _ {K : Type 0} (G : Ghosts K) where
       → IsSeatTurn G v ask (Refused (refusals.Trouble trouble)) (held_view (on_turn G.faults (waiting v t) d) d'.keeper)
   seat_held v t d d' trouble ask of begins later settled assured kept =
       let same : d'.book ≡ d.book = settled.settled.stays.0 in
-      let none : since (size d.book) d.book ≡ [] = drop_self d.book.entries in record {
+      let none : since (size d.book) d.book ≡ [] = since-all (size d.book) d.book (omega arith) in record {
         opened = of.0;
         desk = d;
         now = d';

@@ -12,8 +12,8 @@ use prog.Atomic.{either}
 use Rattle.atomic_table.specs.Table.{State, Me, Act, keeps, takes, gives, stepped, Allows, Valid, carried_after}
 use Rattle.atomic_table.proofs.Lists.{at_set, set_again, set_else, one_turn, exchanged}
 use Rattle.rv_book.specs.declared.entry.Entry.{Entry}
-use Rattle.rv_book.specs.Book.{Book, size, since, with_entry, Extends}
-use Rattle.rv_book.specs.BookWords.{size-with_entry, extends_same, extends_on}
+use Rattle.rv_book.specs.Book.{Book, entry_at, size, since, with_entry, Extends}
+use Rattle.rv_book.specs.BookWords.{entry_at-end, entry_at-with_entry, entry_at-within, extends_on, extends_same, since-all, since-with_entry, size-with_entry}
 use Rattle.rv_history.specs.Served.{Doubt, with_doubt}
 use Rattle.rv_keeper.specs.declared.keeper.Keeper.{Ghosts}
 use Rattle.rv_desk.specs.Seated.{Seated}
@@ -21,9 +21,9 @@ use Rattle.rv_room.specs.declared.view.SeatView.{SeatView}
 use Rattle.rv_room.specs.Following.{KeeperFollows, FollowsAll, follows_same, follows_on}
 use Rattle.rv_room.specs.Lists.{hit, total, once_below, count_at, numbered}
 use Rattle.rv_room.specs.Views.{IsIdle, waiting, on_turn, grown, entered, option_items, noted, with_keeper, ended}
-use Rattle.rv_room.specs.Rule.{seat_parts, waits_of, own_at, IsLeftBySeat, DoubtIsLeft, SeatFits, IsOut, Keeps, IsOf, AtHome, Kept, KeptIn}
+use Rattle.rv_room.specs.Rule.{seat_parts, waits_of, own_at, IsLeftBySeat, DoubtIsLeft, SeatFits, IsOut, Keeps, IsOf, AtHome, Kept, KeptIn, StandsAfter}
 use Rattle.rv_room.specs.Plays.{TakesTicket, TakesIfNext, ChecksTurn, CountsSettled, CountsMade, NotesSettled, NotesKeeper, Passes, Signals}
-use Rattle.rv_room.proofs.Totals.{total_set, total_le, total_has, here, same_at, all_map, all_append, get_front, get_last, count_at-append, below_next, drop_front}
+use Rattle.rv_room.proofs.Totals.{total_set, total_le, total_has, here, same_at, all_map, all_append, get_front, get_last, count_at-append, below_next}
 
 value_or : {X : Type 0} → X → Option X → X
 value_or x None = x
@@ -37,8 +37,12 @@ some_same a b e = ap (value_or a) e
 still : (log : Book) (e : Entry) (now : Book) → now ≡ with_entry log e → (l : Book) → Extends log l → Extends now l
 still log e now longer l s = extends_on now log l (e ∷ [], longer) s
 
-stands : (log : Book) (e : Entry) (now : Book) → now ≡ with_entry log e → (x : ℕ × Entry) → slice_get log.entries x.0 ≡ Some x.1 → slice_get now.entries x.0 ≡ Some x.1
-stands log e now longer x s = ap (λ (l : Book). slice_get l.entries x.0) longer ∙ get_front log.entries (e ∷ []) x.0 x.1 s
+stands : (log : Book) (e : Entry) (now : Book) → now ≡ with_entry log e → (x : ℕ × Entry) → StandsAfter log x → StandsAfter now x
+stands log e now longer x s = ap (λ (l : Book). entry_at (x.0 + 1) l) longer ∙ entry_at-with_entry (x.0 + 1) log e (entry_at-within (x.0 + 1) log x.1 s).1 ∙ s
+
+-- what came in is the one entry
+came : (book : Book) (e : Entry) → since (size book) (with_entry book e) ≡ e ∷ []
+came book e = since-with_entry (size book) book e (omega arith) ∙ ap (λ (l : List Entry). l ++ e ∷ []) (since-all (size book) book (omega arith))
 
 module _ {K : Type 0} where
   abbrev pub At : List (SeatView K) → ℕ → SeatView K → Type 0
@@ -288,7 +292,7 @@ module _ {K : Type 0} (G : Ghosts K) (opened : Seated K) (seats : ℕ) where
                     []
                     none_more
                     (settled_still s.words s.homes s.views k id v w at [] none_more)),
-                ((λ ne. absurd (ne e)), (λ _. (d, (opened, f.knows (omega arith), h.keeps), (f.seen.0, h.book ∙ f.seen.1), subst (λ (x : K). FollowsAll G v.after x) (sym h.keeper_is) f.after, refl))),
+                ((λ ne. absurd (ne e)), (λ _. (d, (opened, f.knows (omega arith), h.keeps), (let seen = f.seen (omega arith) in (seen.0, h.book ∙ seen.1)), subst (λ (x : K). FollowsAll G v.after x) (sym h.keeper_is) f.after, refl))),
               )
 
   -- the view with the turn names the history, and the slot is empty
@@ -337,7 +341,7 @@ module _ {K : Type 0} (G : Ghosts K) (opened : Seated K) (seats : ℕ) where
           zero_if (suc n) le h = absurd (h (omega arith))
 
   longer_fits : (log now : Book) (e : Entry) (front n : ℕ) (keeper : K) (u : SeatView K) → now ≡ with_entry log e → SeatFits G opened log front n keeper u → u.turns ≡ 0 → SeatFits G opened now front n keeper u
-  longer_fits log now e front n keeper u longer f off = record { once = f.once; part = f.part; waits = f.waits; line = f.line; turn = (λ o. absurd (omega arith)); knows = f.knows; seen = still log e now longer u.seen f.seen; joined = all_map _ _ u.joined (still log e now longer) f.joined; own = all_map _ _ u.own (stands log e now longer) f.own; after = f.after; spent = f.spent }
+  longer_fits log now e front n keeper u longer f off = record { once = f.once; part = f.part; waits = f.waits; line = f.line; turn = (λ o. absurd (omega arith)); knows = f.knows; seen = (λ some. still log e now longer u.seen (f.seen some)); joined = all_map _ _ u.joined (still log e now longer) f.joined; own = all_map _ _ u.own (stands log e now longer) f.own; after = f.after; spent = f.spent }
 
   -- the parts of a view that a longer history leaves as they are
   record IsAsBefore (v w : SeatView K) : Type 0 where
@@ -364,7 +368,7 @@ module _ {K : Type 0} (G : Ghosts K) (opened : Seated K) (seats : ℕ) where
       let longer : now ≡ with_entry k.log e = is_longer ∙ ap (λ (l : Book). with_entry l e) o.named in
       let size_is : size now ≡ size k.log + 1 = ap size longer ∙ size-with_entry k.log e in
       let more : (size k.log + 1) % 2 ^ 64 ≡ size now = small (size k.log + 1) (size now) (sym size_is) short in
-      let one : w.own ≡ v.own ++ (size v.book, e) ∷ [] = own ∙ ap (λ (l : List Entry). v.own ++ numbered (size v.book) l) (ap (since (size v.book)) is_longer ∙ drop_front v.book.entries (e ∷ [])) in
+      let one : w.own ≡ v.own ++ (size v.book, e) ∷ [] = own ∙ ap (λ (l : List Entry). v.own ++ numbered (size v.book) l) (ap (since (size v.book)) is_longer ∙ came v.book e) in
       let w1 = same.waits in let t1 = same.turns in let p1 = same.parts in let k1 = same.ticket in let v1 = o.waits in
       changes s.words s.homes s.views id v w k at (slice_set s.words 2 ((slice_index s.words 2 + 1) % 2 ^ 64)) s.homes now k.front n k.keeper
       (omega arith)
@@ -402,10 +406,10 @@ module _ {K : Type 0} (G : Ghosts K) (opened : Seated K) (seats : ℕ) where
             line = (λ _. (omega arith, omega arith));
             turn = (λ _. (k1 ∙ ticket, named, same.keeper ∙ keeper));
             knows = (λ some. same.room ∙ f.knows (omega arith));
-            seen = subst (λ (l : Book). Extends now l) (sym same.seen) (still k.log e now longer v.seen f.seen);
+            seen = (λ some. subst (λ (l : Book). Extends now l) (sym same.seen) (still k.log e now longer v.seen (f.seen (omega arith))));
             joined = subst (λ (l : List Book). AllByRecursion (Extends now) l) (sym same.joined) (all_map _ _ v.joined (still k.log e now longer) f.joined);
-            own = subst (λ (l : List (ℕ × Entry)). AllByRecursion (λ x. slice_get now.entries x.0 ≡ Some x.1) l) (sym one)
-                (all_append _ v.own _ (all_map _ _ v.own (stands k.log e now longer) f.own) ((λ i. slice_get (longer i).entries (size (is i))) ∙ get_last k.log.entries e, tt));
+            own = subst (λ (l : List (ℕ × Entry)). AllByRecursion (StandsAfter now) l) (sym one)
+                (all_append _ v.own _ (all_map _ _ v.own (stands k.log e now longer) f.own) ((λ i. entry_at (size (is i) + 1) (longer i)) ∙ entry_at-end k.log e, tt));
             after = subst (λ (l : List K). FollowsAll G l k.keeper) (sym same.after) f.after;
             spent = λ none. absurd (omega arith);
           }
@@ -418,7 +422,7 @@ module _ {K : Type 0} (G : Ghosts K) (opened : Seated K) (seats : ℕ) where
       let w = entered v now in
       let longer : now ≡ with_entry v.book e = ap (λ (d : Doubt). with_doubt v.book d) is in
       let none_more = sym (append-nil v.left) in
-      let new : since (size v.book) now ≡ e ∷ [] = ap (since (size v.book)) longer ∙ drop_front v.book.entries (e ∷ []) in (
+      let new : since (size v.book) now ≡ e ∷ [] = ap (since (size v.book)) longer ∙ came v.book e in (
         w,
         keeps,
         tt,
@@ -480,9 +484,9 @@ module _ {K : Type 0} (G : Ghosts K) (opened : Seated K) (seats : ℕ) where
               line = (λ ww. let l = f.line v1 in let l0 = l.0 in let l1 = l.1 in (omega arith, omega arith));
               turn = (λ _. (k1 ∙ o.ticket, same.5 ∙ o.named, is_now));
               knows = (λ some. same.4 ∙ f.knows (omega arith));
-              seen = subst (λ (l : Book). Extends k.log l) (sym same.6) f.seen;
+              seen = (λ some. subst (λ (l : Book). Extends k.log l) (sym same.6) (f.seen (omega arith)));
               joined = subst (λ (l : List Book). AllByRecursion (Extends k.log) l) (sym same.7) f.joined;
-              own = subst (λ (l : List (ℕ × Entry)). AllByRecursion (λ x. slice_get k.log.entries x.0 ≡ Some x.1) l) (sym same.8) f.own;
+              own = subst (λ (l : List (ℕ × Entry)). AllByRecursion (StandsAfter k.log) l) (sym same.8) f.own;
               after = subst (λ (l : List K). FollowsAll G l now) (sym same.9) (follows_later G k.keeper now up v.after f.after);
               spent = (λ none. absurd (omega arith));
             })
@@ -558,7 +562,7 @@ module _ {K : Type 0} (G : Ghosts K) (opened : Seated K) (seats : ℕ) where
             k.begun
             (λ p. refl)
             (λ i u ne there. others i u (k.each i u there) (o.others i u ne there) (λ uw same. ne (k.apart i id u v there at uw wait same)) o.ticket some_wait wait)
-            (record { once = omega arith; part = omega arith; waits = omega arith; line = (λ o. absurd (omega arith)); turn = (λ o. absurd (omega arith)); knows = f.knows; seen = extends_same k.log v.book (sym o.named); joined = f.joined; own = f.own; after = all_append _ v.after (option_items v.keeper) f.after (subst (λ (x : Option K). FollowsAll G (option_items x) k.keeper) (sym o.keeper) (follows_same G k.keeper, tt)); spent = f.spent })
+            (record { once = omega arith; part = omega arith; waits = omega arith; line = (λ o. absurd (omega arith)); turn = (λ o. absurd (omega arith)); knows = f.knows; seen = (λ _. extends_same k.log v.book (sym o.named)); joined = f.joined; own = f.own; after = all_append _ v.after (option_items v.keeper) f.after (subst (λ (x : Option K). FollowsAll G (option_items x) k.keeper) (sym o.keeper) (follows_same G k.keeper, tt)); spent = f.spent })
             (λ i u ne there ww uw same. omega arith)
             []
             none_more

@@ -81,14 +81,5 @@ module _ {X : Type 0} where
   count_at-append p [] ys = omega arith
   count_at-append p (x ∷ xs) ys = let r = count_at-append p xs ys in omega arith
 
-  -- what is behind a front
-  pub drop_front : (xs ys : List X) → drop (length xs) (xs ++ ys) ≡ ys
-  drop_front [] ys = refl
-  drop_front (x ∷ xs) ys = drop_front xs ys
-
-  pub drop_self : (xs : List X) → drop (length xs) xs ≡ []
-  drop_self [] = refl
-  drop_self (x ∷ xs) = drop_self xs
-
 pub below_next : (p n : ℕ) → once_below p (n + 1) ≡ hit n p + once_below p n
 below_next p n = let e : n + 1 ≡ suc n = omega arith in ap (once_below p) e

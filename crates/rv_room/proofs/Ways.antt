@@ -18,7 +18,7 @@ use Rattle.rv_room.specs.declared.view.SeatView.{SeatView}
 use Rattle.rv_room.specs.Following.{KeeperFollows, FollowsAll, follows_same}
 use Rattle.rv_room.specs.Lists.{total, once_below, count_at}
 use Rattle.rv_room.specs.Views.{newcomer, spent, IsIdle, less_one, one_more, longer, both}
-use Rattle.rv_room.specs.Rule.{seat_parts, waits_of, own_at, IsLeftBySeat, SeatFits, IsOut, Keeps, AtHome, KeptIn}
+use Rattle.rv_room.specs.Rule.{seat_parts, waits_of, own_at, IsLeftBySeat, SeatFits, IsOut, Keeps, AtHome, KeptIn, StandsAfter}
 use Rattle.rv_room.specs.Closing.{gather, SomeLeft, Closes}
 use Rattle.rv_room.proofs.Totals.{total_set, total_snoc, total_has, total_alone, here, same_at, get_front, get_back, get_split, all_map, all_append, all_split, count_at-append}
 use Rattle.rv_room.proofs.Moves.{At, AllFit, each_set, apart_set, all_set, slot_set, left_set, some_same}
@@ -52,10 +52,10 @@ module _ {K : Type 0} where
 
 module _ {K : Type 0} (G : Ghosts K) where
   new_fits : (opened : Seated K) (log : Book) (front n parts : ℕ) (keeper : K) → Extends log opened.book → SeatFits G opened log front n keeper (newcomer parts opened)
-  new_fits opened log front n parts keeper begun = record { once = omega arith; part = omega arith; waits = omega arith; line = (λ w. absurd (omega arith)); turn = (λ t. absurd (omega arith)); knows = (λ _. refl); seen = begun; joined = tt; own = tt; after = tt; spent = (λ _. (refl, refl)) }
+  new_fits opened log front n parts keeper begun = record { once = omega arith; part = omega arith; waits = omega arith; line = (λ w. absurd (omega arith)); turn = (λ t. absurd (omega arith)); knows = (λ _. refl); seen = (λ _. begun); joined = tt; own = tt; after = tt; spent = (λ _. (refl, refl)) }
 
   spent_fits : (opened : Seated K) (log : Book) (front n : ℕ) (keeper : K) → SeatFits G opened log front n keeper spent
-  spent_fits opened log front n keeper = record { once = omega arith; part = omega arith; waits = omega arith; line = (λ w. absurd (omega arith)); turn = (λ t. absurd (omega arith)); knows = (λ some. absurd (omega arith)); seen = (log.entries, refl); joined = tt; own = tt; after = tt; spent = (λ _. (refl, refl)) }
+  spent_fits opened log front n keeper = record { once = omega arith; part = omega arith; waits = omega arith; line = (λ w. absurd (omega arith)); turn = (λ t. absurd (omega arith)); knows = (λ some. absurd (omega arith)); seen = (λ some. absurd (omega arith)); joined = tt; own = tt; after = tt; spent = (λ _. (refl, refl)) }
 
 module _ {K : Type 0} (G : Ghosts K) (opened : Seated K) (seats : ℕ) where
   abbrev Homes : Type 0
@@ -157,7 +157,7 @@ module _ {K : Type 0} (G : Ghosts K) (opened : Seated K) (seats : ℕ) where
         places = λ p. let t = total_set (own_at p) s.views id v l at in let t' = total_snoc (own_at p) views w in let q = k.places p in omega arith;
         each = subst (λ (n : ℕ). AllFit G opened k.log k.front n k.keeper (views ++ w ∷ [])) now
             (snoc_all (λ _. SeatFits G opened k.log k.front n k.keeper) views w
-            (all_set G opened k.log k.front n k.keeper s.views id l (λ i u _ e. k.each i u e) (record { once = f.once; part = omega arith; waits = f.waits; line = (λ o. absurd (omega arith)); turn = (λ o. absurd (omega arith)); knows = (λ _. refl); seen = f.seen; joined = f.joined; own = f.own; after = f.after; spent = (λ z. (refl, refl)) }))
+            (all_set G opened k.log k.front n k.keeper s.views id l (λ i u _ e. k.each i u e) (record { once = f.once; part = omega arith; waits = f.waits; line = (λ o. absurd (omega arith)); turn = (λ o. absurd (omega arith)); knows = (λ _. refl); seen = (λ _. f.seen (omega arith)); joined = f.joined; own = f.own; after = f.after; spent = (λ z. (refl, refl)) }))
             (λ _. new_fits G opened k.log k.front n 1 k.keeper k.begun));
         apart = λ i j a b ea eb aw bw same.
             let old = apart_set s.views id l k.apart (λ i u _ _ lw. absurd (omega arith)) in
@@ -167,8 +167,8 @@ module _ {K : Type 0} (G : Ghosts K) (opened : Seated K) (seats : ℕ) where
             i a ea aw same;
       }
 
-  pub joins : (id : ℕ) (v : SeatView K) (other : ℕ) (w : SeatView K) → IsIdle v → IsIdle w → 0 < v.parts → Joins Holds id v other w (both v w) spent
-  joins id v other w iv iw some_part s k at apart there =
+  pub joins : (id : ℕ) (v : SeatView K) (other : ℕ) (w : SeatView K) → IsIdle v → IsIdle w → 0 < v.parts → 0 < w.parts → Joins Holds id v other w (both v w) spent
+  joins id v other w iv iw some_part other_part s k at apart there =
       let b = both v w in
       let one = set s.views id b in
       let gone : SeatView K = spent in
@@ -204,8 +204,8 @@ module _ {K : Type 0} (G : Ghosts K) (opened : Seated K) (seats : ℕ) where
               line = (λ o. absurd (omega arith));
               turn = (λ o. absurd (omega arith));
               knows = (λ _. f.knows some_part);
-              seen = longer_is (Extends k.log) v.seen w.seen f.seen h.seen;
-              joined = (f.seen, (h.seen, all_append _ w.joined v.joined h.joined f.joined));
+              seen = (λ _. longer_is (Extends k.log) v.seen w.seen (f.seen some_part) (h.seen other_part));
+              joined = (f.seen some_part, (h.seen other_part, all_append _ w.joined v.joined h.joined f.joined));
               own = all_append _ v.own w.own f.own h.own;
               after = all_append _ v.after w.after f.after h.after;
               spent = (λ z. absurd (omega arith));
@@ -223,14 +223,14 @@ module _ {K : Type 0} (G : Ghosts K) (opened : Seated K) (seats : ℕ) where
     pub begun : Extends desk.book opened.book
     pub seen : Extends desk.book v.seen
     pub joined : AllByRecursion (Extends desk.book) v.joined
-    pub own : AllByRecursion (λ x. slice_get desk.book.entries x.0 ≡ Some x.1) v.own
+    pub own : AllByRecursion (StandsAfter desk.book) v.own
     pub places : (p : ℕ) → count_at p v.own + once_below p (size opened.book) ≡ once_below p (size desk.book)
     pub left : AllByRecursion (λ (e : Entry). (k : ℕ) × (slice_get v.left k ≡ Some e)) v.settled
     pub doubt : (e : Entry) → desk.doubt ≡ Some e → (k : ℕ) × (slice_get v.left k ≡ Some e)
     pub after : FollowsAll G v.after desk.keeper
 
-  pub closing : (id : ℕ) (v : SeatView K) (words : List ℕ) (homes : List (Option (Seated K))) → IsIdle v → v.parts ≡ seats → Final (Seen Holds id v) words homes → Closing v homes
-  closing id v words homes idle all final =
+  pub closing : (id : ℕ) (v : SeatView K) (words : List ℕ) (homes : List (Option (Seated K))) → IsIdle v → v.parts ≡ seats → 0 < seats → Final (Seen Holds id v) words homes → Closing v homes
+  closing id v words homes idle all any final =
       let s = final.0 in
       let k : Holds s = final.1.0 in
       let at : At s.views id v = final.1.1 in
@@ -266,9 +266,9 @@ module _ {K : Type 0} (G : Ghosts K) (opened : Seated K) (seats : ℕ) where
         home = gives 0 (Some d) (ap (λ hs. get_elem? hs 0) h.home);
         keeps = h.keeps;
         begun = subst (λ (l : Book). Extends l opened.book) (sym is) k.begun;
-        seen = subst (λ (l : Book). Extends l v.seen) (sym is) f.seen;
+        seen = subst (λ (l : Book). Extends l v.seen) (sym is) (f.seen (omega arith));
         joined = subst (λ (l : Book). AllByRecursion (Extends l) v.joined) (sym is) f.joined;
-        own = subst (λ (l : Book). AllByRecursion (λ x. slice_get l.entries x.0 ≡ Some x.1) v.own) (sym is) f.own;
+        own = subst (λ (l : Book). AllByRecursion (StandsAfter l) v.own) (sym is) f.own;
         places = λ p. let whole = total_alone (own_at p) seat_parts s.views id v at (k.parts ∙ sym all) (λ i u e z. ap (count_at p) ((k.each i u e).spent z).0) in let q = k.places p in let e : once_below p (size d.book) ≡ once_below p (size k.log) = ap (λ (l : Book). once_below p (size l)) is in omega arith;
         left = all_map _ _ v.settled (λ e l. mine s k at e l) (k.left id v at);
         doubt = λ e is. mine s k at e (h.doubt e is);
@@ -305,7 +305,7 @@ module _ {K : Type 0} (G : Ghosts K) (opened : Seated K) where
   -- what is known of the book that was closed, from what the one view knows
   closes : (v : SeatView K) (ws : List (SeatView K)) (homes : List (Option (Seated K))) (c : Closing G opened (total seat_parts (ws ++ v ∷ [])) (gather v ws) homes) → Closes G opened (ws ++ v ∷ []) c.desk
   closes v ws homes c =
-      let own = gather_all (λ v. v.own) (λ v w. refl) (λ x. slice_get c.desk.book.entries x.0 ≡ Some x.1) v ws c.own in
+      let own = gather_all (λ v. v.own) (λ v w. refl) (StandsAfter c.desk.book) v ws c.own in
       let after = gather_all (λ v. v.after) (λ v w. refl) (λ keeper. KeeperFollows G keeper c.desk.keeper) v ws c.after in
       let seen = gather_seen (Extends c.desk.book) v ws c.seen c.joined in record {
         keeps = c.keeps;
@@ -330,27 +330,27 @@ module _ {K : Type 0} (G : Ghosts K) (opened : Seated K) where
       (λ i. (sym (size_is ∙ ap (λ (x : Seated K). size x.book) is) i, sym (all ∙ ap (λ (x : Seated K). Some x ∷ []) is) i))
       (begins G opened seats signals few sure')
 
-  pub joins_as : (seats id : ℕ) (v : SeatView K) (other : ℕ) (w first : SeatView K) (done : List (SeatView K)) → v ≡ gather first done → IsIdle first → first.parts ≡ 1 → IsIdle w → Joins (KeptIn G opened seats) id v other w (both v w) spent
-  joins_as seats id v other w first done is idle one iw =
+  pub joins_as : (seats id : ℕ) (v : SeatView K) (other : ℕ) (w first : SeatView K) (done : List (SeatView K)) → v ≡ gather first done → IsIdle first → first.parts ≡ 1 → IsIdle w → w.parts ≡ 1 → Joins (KeptIn G opened seats) id v other w (both v w) spent
+  joins_as seats id v other w first done is idle one iw other_one =
       let all = gather_parts first done in let same : v.parts ≡ (gather first done).parts = ap (λ (u : SeatView K). u.parts) is in
-      joins G opened seats id v other w (subst IsIdle (sym is) (gather_idle first done idle)) iw (omega arith)
+      joins G opened seats id v other w (subst IsIdle (sym is) (gather_idle first done idle)) iw (omega arith) (omega arith)
 
   -- the desk of a room that was closed
   pub shut : (seats id : ℕ) (v : SeatView K) (words : List ℕ) (homes : List (Option (Seated K))) (first : SeatView K) (ws : List (SeatView K))
-      → v ≡ gather first ws → IsIdle first → total seat_parts (ws ++ first ∷ []) ≡ seats → Final (Seen (KeptIn G opened seats) id v) words homes
+      → v ≡ gather first ws → IsIdle first → first.parts ≡ 1 → total seat_parts (ws ++ first ∷ []) ≡ seats → Final (Seen (KeptIn G opened seats) id v) words homes
       → (slot : Option (Seated K)) → get_elem? homes 0 ≡ some slot → (d : Seated K) × (slot ≡ Some d) × Closes G opened (ws ++ first ∷ []) d
-  shut seats id v words homes first ws is idle all final slot at =
+  shut seats id v words homes first ws is idle one all final slot at =
       let t = total_snoc seat_parts ws first in
       let p = gather_parts first ws in
       let same : v.parts ≡ (gather first ws).parts = ap (λ (u : SeatView K). u.parts) is in
-      let c : Closing G opened seats v homes = closing G opened seats id v words homes (subst IsIdle (sym is) (gather_idle first ws idle)) (omega arith) final in
+      let c : Closing G opened seats v homes = closing G opened seats id v words homes (subst IsIdle (sym is) (gather_idle first ws idle)) (omega arith) (omega arith) final in
       let c' : Closing G opened (total seat_parts (ws ++ first ∷ [])) (gather first ws) homes = subst (λ (x : ℕ × SeatView K). Closing G opened x.0 x.1 homes) (λ i. (sym all i, is i)) c in
       (c'.desk, some-injective _ _ (sym at ∙ c'.home), closes first ws homes c')
 
   -- the same, of a desk that was found in the slot
   pub shut_at : (seats id : ℕ) (v : SeatView K) (words : List ℕ) (homes : List (Option (Seated K))) (first : SeatView K) (ws : List (SeatView K))
-      → v ≡ gather first ws → IsIdle first → total seat_parts (ws ++ first ∷ []) ≡ seats → Final (Seen (KeptIn G opened seats) id v) words homes
+      → v ≡ gather first ws → IsIdle first → first.parts ≡ 1 → total seat_parts (ws ++ first ∷ []) ≡ seats → Final (Seen (KeptIn G opened seats) id v) words homes
       → (slot : Option (Seated K)) → get_elem? homes 0 ≡ some slot → (d : Seated K) → slot ≡ Some d → Closes G opened (ws ++ first ∷ []) d
-  shut_at seats id v words homes first ws is idle all final slot at d found =
-      let s = shut seats id v words homes first ws is idle all final slot at in
+  shut_at seats id v words homes first ws is idle one all final slot at d found =
+      let s = shut seats id v words homes first ws is idle one all final slot at in
       subst (λ (x : Seated K). Closes G opened (ws ++ first ∷ []) x) (some_same _ _ (sym s.1 ∙ found)) s.2

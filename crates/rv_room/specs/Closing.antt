@@ -8,7 +8,7 @@ use Rattle.rv_desk.specs.Seated.{Seated}
 use Rattle.rv_room.specs.declared.view.SeatView.{SeatView}
 use Rattle.rv_room.specs.Following.{FollowsAll}
 use Rattle.rv_room.specs.Lists.{total, once_below}
-use Rattle.rv_room.specs.Rule.{own_at, Keeps}
+use Rattle.rv_room.specs.Rule.{own_at, Keeps, StandsAfter}
 use Rattle.rv_room.specs.Views.{both}
 
 module _ {K : Type 0} where
@@ -29,7 +29,7 @@ pub record Closes {K : Type 0} (G : Ghosts K) (opened : Seated K) (views : List 
   pub keeps : Keeps G opened desk
   pub begun : Extends desk.book opened.book
   pub seen : AllByRecursion (λ v. Extends desk.book v.seen) views
-  pub own : AllByRecursion (λ v. AllByRecursion (λ x. slice_get desk.book.entries x.0 ≡ Some x.1) v.own) views
+  pub own : AllByRecursion (λ v. AllByRecursion (StandsAfter desk.book) v.own) views
   pub places : (n : ℕ) → total (own_at n) views + once_below n (size opened.book) ≡ once_below n (size desk.book)
   pub left : AllByRecursion (λ v. AllByRecursion (SomeLeft views) v.settled) views
   pub doubt : (e : Entry) → desk.doubt ≡ Some e → SomeLeft views e

@@ -7,13 +7,17 @@ use mathlib.Core.Option as maybe
 use lib.ListN.{get_elem?}
 use Rattle.atomic_table.specs.Table.{State}
 use Rattle.rv_book.specs.declared.entry.Entry.{Entry}
-use Rattle.rv_book.specs.Book.{Book, size, Extends}
+use Rattle.rv_book.specs.Book.{Book, entry_at, size, Extends}
 use Rattle.rv_history.specs.Served.{Doubt}
 use Rattle.rv_keeper.specs.declared.keeper.Keeper.{Ghosts}
 use Rattle.rv_desk.specs.Seated.{Seated}
 use Rattle.rv_room.specs.declared.view.SeatView.{SeatView}
 use Rattle.rv_room.specs.Following.{KeeperFollows, FollowsAll}
 use Rattle.rv_room.specs.Lists.{total, once_below, count_at}
+
+-- the entry stands in the book after so many places
+abbrev pub StandsAfter : Book → ℕ × Entry → Type 0
+StandsAfter book x = entry_at (x.0 + 1) book ≡ Some x.1
 
 module _ {K : Type 0} where
   abbrev pub seat_parts : SeatView K → ℕ
@@ -60,9 +64,9 @@ module _ {K : Type 0} (G : Ghosts K) where
     pub line : v.waits ≡ 1 → (front ≤ v.ticket) × (v.ticket < front + waiting)
     pub turn : v.turns ≡ 1 → (v.ticket ≡ front) × (v.book ≡ log) × (v.keeper ≡ Some keeper)
     pub knows : 0 < v.parts → v.opened ≡ Some opened
-    pub seen : Extends log v.seen
+    pub seen : 0 < v.parts → Extends log v.seen
     pub joined : AllByRecursion (Extends log) v.joined
-    pub own : AllByRecursion (λ x. slice_get log.entries x.0 ≡ Some x.1) v.own
+    pub own : AllByRecursion (StandsAfter log) v.own
     pub after : FollowsAll G v.after keeper
     pub spent : v.parts ≡ 0 → (v.own ≡ []) × (v.left ≡ [])
 

@@ -1,20 +1,21 @@
-use rv_book::Entry;
+use rv_book::{Entry, Page};
 use rv_desk::Desk;
 use rv_keeper::Keeper;
 use std::collections::LinkedList;
 use std::marker::Model;
 
-/// A book, as a seat knows it. It stands in proofs alone: no value of it is made.
+/// A book, its page and its entries, as a seat knows it. It stands in proofs alone: no value of it is made.
 pub struct History {
+    page: Page,
     entries: LinkedList<Entry>,
 }
 
 impl Model for History {
-    ghost use Rattle.rv_book.specs.Book.{Book, book_of};
+    ghost use Rattle.rv_book.specs.Book.{Book, book_from};
 
     ghost Value = { Book };
 
-    ghost view = { λ history. book_of history.entries };
+    ghost view = { λ history. book_from history.page history.entries };
 }
 
 /// What a seat knows. It stands in proofs alone: no value of it is made.

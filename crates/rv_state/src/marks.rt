@@ -42,14 +42,14 @@ impl UserMarks {
         }
     }
 
-    /// The mark of a user, or 0. Takes no memory.
-    pub(crate) fn of(&self, user: &User) -> u32
+    /// The mark of a user, or this least one where it has none. Takes no memory.
+    pub(crate) fn of(&self, user: &User, least: u32) -> u32
         requires { InOrder marked_user self.now.marks }
-        ensures { result ≡ mark_in user.now self.now.marks }
+        ensures { result ≡ mark_in least user.now self.now.marks }
     {
         match position_of(&self.marks, user) {
             Ok(at) => self.marks[at].1,
-            Err(_) => 0,
+            Err(_) => least,
         }
     }
 

@@ -118,12 +118,12 @@ impl State {
         &self.records
     }
 
-    /// The mark of a user: the greatest place of an act that is by the user, or after which what the user sees is another; 0 where there is
-    /// none. Takes no memory.
+    /// The mark of a user: the greatest place of an act that is by the user, or after which what the user sees is another; where there is
+    /// none that of the book's page, and 0 without one. Takes no memory.
     pub fn mark(&self, user: &User) -> u32
         ensures { IsMark user.now self.now.book result }
     {
-        self.marks.of(user)
+        self.marks.of(user, self.book.opened_at())
     }
 
     /// What a pull is told, or `None` where there is nothing to tell. Where its base is a look of its own group at its user's mark or

@@ -6,8 +6,9 @@ use Rattle.std.specs.Cmp.Lexicographic.{slice_cmp}
 use Rattle.std.specs.List.{filter_map, cons_option, fold}
 use Rattle.std.proofs.lemmas.List.{drop_more, drop_all}
 use Rattle.rv_base.specs.Sorted.{put_by, sorted_by}
-use Rattle.rv_book.specs.Book.{Book, size}
-use Rattle.rv_book.specs.Registers.{client_info, clients_of, group_info, groups_of}
+use Rattle.rv_book.specs.declared.page.Page.{Page}
+use Rattle.rv_book.specs.Book.{Book, acting_client, clients_named, no_page, size}
+use Rattle.rv_book.specs.Registers.{binding_group, client_named, clients_of, group_named, groups_named, groups_of}
 use Rattle.rv_keeper.specs.declared.cell.Cell.{Cell}
 use Rattle.rv_record.specs.declared.fault.CellFault.{CellFault}
 use Rattle.rv_store.specs.OpeningSteps.{Departs}
@@ -51,11 +52,19 @@ length-told told (x ∷ xs) = elim (told x) as (λ o. length (cons_option o (fil
 length-register : {X Y : Type 0} (key : Y → List ℕ) (told : X → Option Y) (xs : List X) → length (sorted_by key (filter_map told xs)) ≤ length xs
 length-register key told xs = omega (arith, length-sorted_after key (filter_map told xs) [], length-told told xs)
 
-pub no_more_clients : (book : Book) (index : ℕ) → size book ≤ index → drop index (clients_of book) ≡ []
-no_more_clients book index all = drop_all index (clients_of book) (omega (arith, length-register (λ (c : List ℕ × List ℕ × ℕ). c.0) (client_info book) book.entries))
+few_clients : (book : Book) → book.page ≡ no_page → length (clients_named book) ≤ length book.entries
+few_clients book opens = subst (λ (page : Page). length (map (λ c. c.0) page.clients ++ filter_map acting_client book.entries) ≤ length book.entries) (sym opens) (length-told acting_client book.entries)
 
-pub no_more_groups : (book : Book) (index : ℕ) → size book ≤ index → drop index (groups_of book) ≡ []
-no_more_groups book index all = drop_all index (groups_of book) (omega (arith, length-register (λ (g : List ℕ × List ℕ × ℕ × Bool). g.0) (group_info book) book.entries))
+few_groups : (book : Book) → book.page ≡ no_page → length (groups_named book) ≤ length book.entries
+few_groups book opens = subst (λ (page : Page). length (map (λ g. g.0) page.groups ++ filter_map binding_group book.entries) ≤ length book.entries) (sym opens) (length-told binding_group book.entries)
+
+pub no_more_clients : (book : Book) (index : ℕ) → book.page ≡ no_page → size book ≤ index → drop index (clients_of book) ≡ []
+no_more_clients book index opens all =
+    drop_all index (clients_of book) (omega (arith, length-register (λ (c : List ℕ × List ℕ × ℕ). c.0) (λ client. client_named client book) (clients_named book), few_clients book opens))
+
+pub no_more_groups : (book : Book) (index : ℕ) → book.page ≡ no_page → size book ≤ index → drop index (groups_of book) ≡ []
+no_more_groups book index opens all =
+    drop_all index (groups_of book) (omega (arith, length-register (λ (g : List ℕ × List ℕ × ℕ × Bool). g.0) (λ group. group_named group book) (groups_named book), few_groups book opens))
 
 -- ---- one after another
 

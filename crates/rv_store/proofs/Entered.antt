@@ -10,7 +10,8 @@ use Rattle.std.proofs.lemmas.List.{take-append-drop, take_more, drop_more, drop_
 use Rattle.rv_base.specs.Sorted.{InOrder}
 use Rattle.rv_base.specs.Positions.{Below, Above}
 use Rattle.rv_book.specs.declared.entry.Entry.{Entry}
-use Rattle.rv_book.specs.Book.{Book, empty_book, size, with_entry}
+use Rattle.rv_book.specs.declared.page.Page.{Page}
+use Rattle.rv_book.specs.Book.{Book, empty_book, no_page, size, with_entry}
 use Rattle.rv_book.specs.BookWords.{size-with_entry}
 use Rattle.rv_history.specs.Lawful.{IsLawfulAfter}
 use Rattle.rv_history.specs.LawfulBooks.{lawful_none, lawful_more}
@@ -79,14 +80,19 @@ pub record Entered (limit : ℕ) (cells : List Cell) (index : ℕ) (book : Book)
   pub sound : IsSoundBook limit book
 
 pub none_entered : (limit : ℕ) (cells : List Cell) (book : Book) → book ≡ empty_book → Entered limit cells 0 book
-none_entered limit cells book none = rw none (record { cells_are = refl; sound = record { lawful = lawful_none; within = omega arith; fits = tt } })
+none_entered limit cells book none = rw none (record { cells_are = refl; sound = record { opens = refl; lawful = lawful_none; within = omega arith; fits = tt } })
 
 sound_more : (limit : ℕ) (book : Book) (cell : Cell) (entry : Entry) → IsSoundBook limit book → IsNext limit book cell entry → IsSoundBook limit (with_entry book entry)
 sound_more limit book cell entry sound next = record {
+  opens = sound.opens;
   lawful = lawful_more book entry sound.lawful next.lawful;
   within = omega (arith, size-with_entry book entry, next.below);
   fits = all-append EntryFits book.entries (entry ∷ []) sound.fits (next.fits, tt);
 }
+
+-- a book without a page is as long as it has entries
+pub size-unopened : (book : Book) → book.page ≡ no_page → size book ≡ length book.entries
+size-unopened book opens = let at : book.page.at ≡ 0 = ap (λ (p : Page). p.at) opens in omega (arith, at)
 
 pub one_entered : (limit most : ℕ) (cells : List Cell) (index : ℕ) (cell : Cell) (book next : Book) → most ≡ limit → index < length cells → cell ≡ get_or cells index cell
     → (entry : Entry) × IsNext most book cell entry × (next ≡ with_entry book entry) → Entered limit cells index book → Entered limit cells (index + 1) next
@@ -95,13 +101,19 @@ one_entered limit most cells index cell book next same below is (entry, comes, a
     rw after (record {
       cells_are = take_more cells index cell below ∙ ap (λ (c : Cell). take index cells ++ c ∷ []) (sym is ∙ comes.made)
           ∙ ap (λ (t : List Cell). t ++ entry_cell (size book + 1) entry ∷ []) entered.cells_are
-          ∙ ap (λ (p : ℕ). entry_cells 1 book.entries ++ entry_cell p entry ∷ []) (omega arith) ∙ sym (entry_cells-with_entry 1 book entry);
+          ∙ ap (λ (p : ℕ). entry_cells 1 book.entries ++ entry_cell p entry ∷ []) (next_place entered.sound.opens) ∙ sym (entry_cells-with_entry 1 book entry);
       sound = sound_more limit book cell entry entered.sound comes;
     })
+  where
+    next_place : book.page ≡ no_page → size book + 1 ≡ 1 + length book.entries
+    next_place opens = omega (arith, size-unopened book opens)
 
 -- as many entries as cells
 count_entered : (limit : ℕ) (cells : List Cell) (index : ℕ) (book : Book) → index ≤ length cells → Entered limit cells index book → size book ≡ index
-count_entered limit cells index book le entered = sym (length-entry_cells 1 book.entries) ∙ ap length (sym entered.cells_are) ∙ length-take-le index cells le
+count_entered limit cells index book le entered = whole ∙ sym (length-entry_cells 1 book.entries) ∙ ap length (sym entered.cells_are) ∙ length-take-le index cells le
+  where
+    whole : size book ≡ length book.entries
+    whole = size-unopened book entered.sound.opens
 
 -- ---- the cells beside those of entries
 

@@ -14,7 +14,8 @@ use Rattle.rv_mutators.specs.Staging.{with_staged, staged}
 use Rattle.rv_views.specs.Viewed.{Viewed}
 use Rattle.rv_book.specs.declared.entry.Entry.{Entry}
 use Rattle.rv_book.specs.declared.entry.Entry.TheVariants.{Act, Look, Retire}
-use Rattle.rv_book.specs.Book.{Book, size, with_entry, bound, group_of, last_order}
+use Rattle.rv_book.specs.declared.page.Page.{Page}
+use Rattle.rv_book.specs.Book.{Book, no_page, size, with_entry, bound, group_of, last_order}
 use Rattle.rv_book.specs.Kept.{is_look_at, falls_out, kept}
 use Rattle.rv_book.specs.LookLaws.{is_place}
 use Rattle.rv_book.specs.Registers.{clients_of, groups_of}
@@ -99,10 +100,11 @@ below_end place end [] low fits = tt
 below_end place end (entry ∷ entries) low fits =
     (same_shelf 1 (ten_digits place) (ten_digits end) ∙ ten_digits-order place end (omega (arith, low)) fits, below_end (place + 1) end entries (omega (arith, low)) fits)
 
-entries-leave : (book : Book) (entry : Entry) → size book + 1 < 2 ^ 32 → changed (entry_cells 1 book.entries) (Put (entry_cell (size book + 1) entry) ∷ []) ≡ entry_cells 1 (with_entry book entry).entries
-entries-leave book entry fits =
+entries-leave : (book : Book) (entry : Entry) → book.page ≡ no_page → size book + 1 < 2 ^ 32 → changed (entry_cells 1 book.entries) (Put (entry_cell (size book + 1) entry) ∷ []) ≡ entry_cells 1 (with_entry book entry).entries
+entries-leave book entry opens fits =
+    let at : book.page.at ≡ 0 = ap (λ (p : Page). p.at) opens in
     put-end cell_key (entry_cell (size book + 1) entry) (entry_cells 1 book.entries) (below_end 1 (size book + 1) book.entries (omega arith) (omega (arith, fits)))
-    ∙ ap (λ (place : ℕ). entry_cells 1 book.entries ++ entry_cell place entry ∷ []) (omega arith)
+    ∙ ap (λ (place : ℕ). entry_cells 1 book.entries ++ entry_cell place entry ∷ []) (omega (arith, at))
     ∙ sym (entry_cells-with_entry 1 book entry)
 
 -- a client's and a group's cell
@@ -142,22 +144,23 @@ module _ (book : Book) (stored : List Stored) (user group client : List ℕ) (id
       ∙ ap (λ (b : Bool). map (λ g. group_cell g.0 g.1 g.2 g.3) (put_by (λ (g : List ℕ × List ℕ × ℕ × Bool). g.0) (group, user, last_order group book, b) (groups_of book))) (sym lawful.0.stands)
       ∙ ap (map (λ g. group_cell g.0 g.1 g.2 g.3)) (sym (groups_after_act book user group client id call (none_but user (bound group book) lawful.0.own)))
 
-  act_leaves : (records : List Placed) → changed (cells_of book stored records) (act_changes book user group client id call change) ≡ cells_of (with_entry book act) (with_staged (size book + 1) change stored) records
-  act_leaves records =
+  act_leaves : (records : List Placed) → book.page ≡ no_page → changed (cells_of book stored records) (act_changes book user group client id call change) ≡ cells_of (with_entry book act) (with_staged (size book + 1) change stored) records
+  act_leaves records opens =
       five_leave (Put (entry_cell (size book + 1) act) ∷ []) (row_changes (size book + 1) change) (Put (client_cell client group id) ∷ []) (Put (group_cell group user (last_order group book) false) ∷ []) []
       (one_at 1 _ refl) act_rows (one_at 3 _ refl) (one_at 4 _ refl) (none_at 5) book stored records
-      ∙ (λ i. entries-leave book act fits i ++ (rows-leave (size book + 1) change stored i ++ (act_clients i ++ (act_groups i ++ view_cells records))))
+      ∙ (λ i. entries-leave book act opens fits i ++ (rows-leave (size book + 1) change stored i ++ (act_clients i ++ (act_groups i ++ view_cells records))))
 
   pub act_next : ((version : ℕ) → with_staged version change stored ≡ after stored user call version) → (cells : List Cell) → AreCellsOf book cells
       → AreCellsOf (with_entry book act) (changed cells (act_changes book user group client id call change))
   act_next effect cells are = record {
+    opens = are.opens;
     rows = with_staged (size book + 1) change stored;
     records = are.records;
     replay = subst (IsReplay (with_entry book act)) (sym (effect (size book + 1))) (replay_act book stored user group client id call replay);
     kept = records_act book user group client id call are.records are.kept;
     made =
         ap (λ (c : List Cell). changed c (act_changes book user group client id call change)) (are.made ∙ ap (λ (rows : List Stored). cells_of book rows are.records) (replay_unique book are.rows stored are.replay replay))
-        ∙ act_leaves are.records;
+        ∙ act_leaves are.records are.opens;
   }
 
 -- A look.
@@ -193,15 +196,15 @@ module _ (book : Book) (user group : List ℕ) (order : ℕ) (base : Option ℕ)
   abbrev records_left : List Placed → List Placed
   records_left records = filter (λ r. not (is_place r.0 (falls_out group book))) records ++ (size book + 1, viewed) ∷ []
 
-  look_leaves : (stored : List Stored) (records : List Placed) → AllByRecursion (λ r. r.0 ≤ size book) records
+  look_leaves : (stored : List Stored) (records : List Placed) → AllByRecursion (λ r. r.0 ≤ size book) records → book.page ≡ no_page
       → changed (cells_of book stored records) (look_changes book user group order base viewed) ≡ cells_of (with_entry book look) stored (records_left records)
-  look_leaves stored records within =
+  look_leaves stored records within opens =
       let views : changed (view_cells records) view_changes ≡ view_cells (records_left records) =
       look_views-leave (falls_out group book) records (size book + 1) viewed (omega (arith, fits)) (λ place is. omega (arith, falls_out-within group book place is)) (all records within) in
       let clients : client_cells book ≡ client_cells (with_entry book look) = ap (map (λ c. client_cell c.0 c.1 c.2)) (sym (clients_after_look book user group order base)) in
       five_leave (Put (entry_cell (size book + 1) look) ∷ []) [] [] (Put (group_cell group user order false) ∷ []) view_changes
       (one_at 1 _ refl) (none_at 2) (none_at 3) (one_at 4 _ refl) look_views book stored records
-      ∙ (λ i. entries-leave book look fits i ++ (row_cells stored ++ (clients i ++ (look_groups i ++ views i))))
+      ∙ (λ i. entries-leave book look opens fits i ++ (row_cells stored ++ (clients i ++ (look_groups i ++ views i))))
     where
       all : (rs : List Placed) → AllByRecursion (λ r. r.0 ≤ size book) rs → AllByRecursion (λ r. r.0 < size book + 1) rs
       all [] each = tt
@@ -209,13 +212,14 @@ module _ (book : Book) (user group : List ℕ) (order : ℕ) (base : Option ℕ)
 
   pub look_next : IsViewAt book user group viewed → (cells : List Cell) → AreCellsOf book cells → AreCellsOf (with_entry book look) (changed cells (look_changes book user group order base viewed))
   look_next shown cells are = record {
+    opens = are.opens;
     rows = are.rows;
     records = records_left are.records;
     replay = replay_look book are.rows user group order base are.replay;
     kept = records_look_in_place book user group order base viewed are.records are.kept shown lawful.0.stands;
     made =
         ap (λ (c : List Cell). changed c (look_changes book user group order base viewed)) are.made
-        ∙ look_leaves are.rows are.records (arranged book are.rows are.records (omega (arith, fits)) are.replay are.kept).places;
+        ∙ look_leaves are.rows are.records (arranged book are.rows are.records (omega (arith, fits)) are.replay are.kept).places are.opens;
   }
 
 -- A retirement of a group that is bound to the user.
@@ -245,22 +249,23 @@ module _ (book : Book) (group user : List ℕ) (records : List Placed) (fits : s
   abbrev others : List Placed
   others = filter (λ r. kept r.0 (with_entry book (Retire group))) records
 
-  retire_leaves : (stored : List Stored) → IsReplay book stored → changed (cells_of book stored records) (retire_changes book group user records) ≡ cells_of (with_entry book (Retire group)) stored others
-  retire_leaves stored replay =
+  retire_leaves : (stored : List Stored) → IsReplay book stored → book.page ≡ no_page → changed (cells_of book stored records) (retire_changes book group user records) ≡ cells_of (with_entry book (Retire group)) stored others
+  retire_leaves stored replay opens =
       let views : changed (view_cells records) (gone_views group book records) ≡ view_cells others =
       gone_views-leave group book records (records_order stored replay) ∙ ap view_cells (others_stay book group records kept_records.each) in
       let clients : client_cells book ≡ client_cells (with_entry book (Retire group)) = ap (map (λ c. client_cell c.0 c.1 c.2)) (sym (clients_after_retire book group)) in
       five_leave (Put (entry_cell (size book + 1) (Retire group)) ∷ []) [] [] (Put (group_cell group user (last_order group book) true) ∷ []) (gone_views group book records)
       (one_at 1 _ refl) (none_at 2) (none_at 3) (one_at 4 _ refl) (retire_views stored replay) book stored records
-      ∙ (λ i. entries-leave book (Retire group) fits i ++ (row_cells stored ++ (clients i ++ (retire_groups i ++ views i))))
+      ∙ (λ i. entries-leave book (Retire group) opens fits i ++ (row_cells stored ++ (clients i ++ (retire_groups i ++ views i))))
 
   pub retire_next : (cells : List Cell) → AreCellsOf book cells → AreCellsOf (with_entry book (Retire group)) (changed cells (retire_changes book group user records))
   retire_next cells are = record {
+    opens = are.opens;
     rows = are.rows;
     records = others;
     replay = replay_retire book are.rows group are.replay;
     kept = records_retire book group records kept_records;
     made =
         ap (λ (c : List Cell). changed c (retire_changes book group user records)) (are.made ∙ ap (λ (rs : List Placed). cells_of book are.rows rs) (records_unique book are.records records are.kept kept_records))
-        ∙ retire_leaves are.rows are.replay;
+        ∙ retire_leaves are.rows are.replay are.opens;
   }

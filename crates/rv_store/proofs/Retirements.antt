@@ -2,10 +2,10 @@
 use Rattle.std.proofs.Common.{List, [], ◌∷◌, subst, sym}
 use Rattle.rv_book.specs.declared.entry.Entry.{Entry}
 use Rattle.rv_book.specs.declared.entry.Entry.TheVariants.{Act, Look, Retire}
-use Rattle.rv_book.specs.Book.{Book, empty_book, with_entries, with_entry}
+use Rattle.rv_book.specs.Book.{Book, opening, with_entries, with_entry}
 use Rattle.rv_book.specs.BookWords.{with_entries-none, with_entry-more}
 use Rattle.rv_book.specs.Registers.{RetiresBound}
-use Rattle.rv_book.specs.RegisterLaws.{BoundIfRetired, retires_bound-empty, retires_bound-with_entry}
+use Rattle.rv_book.specs.RegisterLaws.{BoundIfRetired, retires_bound-opening, retires_bound-with_entry}
 use Rattle.rv_history.specs.Lawful.{IsLawful, IsLawfulAfter}
 use Rattle.rv_history.specs.LawfulBooks.{here, onward}
 
@@ -21,4 +21,4 @@ bound_onward before (e ∷ rest) lawful bound =
     (bound_onward (with_entry before e) rest (onward before rest e lawful) (retires_bound-with_entry before e bound (bound_if_retired before e (here before rest e lawful))))
 
 pub lawful_retires_bound : (book : Book) → IsLawful book → RetiresBound book
-lawful_retires_bound book lawful = bound_onward empty_book book.entries lawful retires_bound-empty
+lawful_retires_bound book lawful = bound_onward (opening book) book.entries lawful (retires_bound-opening book.page)

@@ -7,7 +7,7 @@ use Rattle.std.specs.List.{AllByRecursion}
 use Rattle.std.specs.Ordering.{nat_cmp}
 use Rattle.rv_base.specs.Sorted.{find_by}
 use Rattle.rv_book.specs.declared.entry.Entry.{Entry}
-use Rattle.rv_book.specs.Book.{Book, size}
+use Rattle.rv_book.specs.Book.{Book, no_page, size}
 use Rattle.rv_history.specs.Lawful.{IsLawful, IsLawfulAfter}
 use Rattle.rv_keeper.specs.declared.cell.Cell.{Cell}
 use Rattle.rv_keeper.specs.declared.loaded.Loaded.{Loaded}
@@ -21,8 +21,9 @@ use Rattle.rv_record.specs.EntryReading.{EntryFits}
 use Rattle.rv_state.specs.Standing.{Standing}
 use Rattle.rv_store.specs.StoreCells.{AreDerived, IsKeptAs, entry_cells}
 
--- A lawful book of at most so many entries, each of which is of the form.
+-- A lawful book without a page, of at most so many entries, each of which is of the form.
 pub record IsSoundBook (limit : ℕ) (book : Book) : Type 0 where
+  pub opens : book.page ≡ no_page
   pub lawful : IsLawful book
   pub within : size book ≤ limit
   pub fits : AllByRecursion EntryFits book.entries

@@ -3,7 +3,7 @@
 use Rattle.std.proofs.Common.{◌≡◌, ℕ, ◌+◌, ◌≤◌, List, [], ◌∷◌, ◌++◌, length, Some, None, IfSome, refl, sym, ap, ◌∙◌, subst, arith, inl, inr}
 use Rattle.std.specs.List.{AllByRecursion}
 use Rattle.rv_book.specs.declared.entry.Entry.{Entry}
-use Rattle.rv_book.specs.Book.{Book, book_of, size, with_entry}
+use Rattle.rv_book.specs.Book.{Book, book_from, no_page, size, with_entry}
 use Rattle.rv_history.specs.Served.{Doubt, Settles, with_doubt}
 use Rattle.rv_keeper.specs.declared.cell.Cell.{Cell}
 use Rattle.rv_keeper.specs.declared.loaded.Loaded.{Loaded}
@@ -26,7 +26,7 @@ entry_cells-append place (entry ∷ front) more =
     (entry_cells-append (place + 1) front more ∙ ap (λ (p : ℕ). entry_cells (place + 1) front ++ entry_cells p more) (omega arith))
 
 -- one more entry has its cell at the end
-pub entry_cells-with_entry : (place : ℕ) (book : Book) (entry : Entry) → entry_cells place (with_entry book entry).entries ≡ entry_cells place book.entries ++ entry_cell (place + size book) entry ∷ []
+pub entry_cells-with_entry : (place : ℕ) (book : Book) (entry : Entry) → entry_cells place (with_entry book entry).entries ≡ entry_cells place book.entries ++ entry_cell (place + length book.entries) entry ∷ []
 entry_cells-with_entry place book entry = entry_cells-append place book.entries (entry ∷ [])
 
 cons_parts : {X : Type 0} (x y : X) (xs ys : List X) → x ∷ xs ≡ y ∷ ys → (x ≡ y) × (xs ≡ ys)
@@ -75,12 +75,16 @@ kept_parts book held kept = record {
   derived = record { rows = kept.cells.rows; records = kept.cells.records; replay = kept.cells.replay; kept = kept.cells.kept; made = refl };
 }
 
+-- books without a page are the same where their entries are
+pub same_book : (a b : Book) → a.page ≡ no_page → b.page ≡ no_page → a.entries ≡ b.entries → a ≡ b
+same_book a b one other same = (λ i. book_from ((one ∙ sym other) i) (same i))
+
 -- what is kept is that of one book
 pub kept_unique : (a b : Book) (held : Loaded) → AllByRecursion EntryFits a.entries → AllByRecursion EntryFits b.entries → IsKeptAs a held → IsKeptAs b held → a ≡ b
 kept_unique a b held one other kept also =
     let first = kept_parts a held kept in
     let second = kept_parts b held also in
-    ap book_of (entries_beside 1 a.entries b.entries first.others second.others one other first.beside second.beside (sym first.cells ∙ second.cells)).0
+    same_book a b kept.cells.opens also.cells.opens (entries_beside 1 a.entries b.entries first.others second.others one other first.beside second.beside (sym first.cells ∙ second.cells)).0
 
 -- the entries of the book with what is in doubt are of the form
 pub doubt_fits : (book : Book) (doubt : Doubt) → AllByRecursion EntryFits book.entries → IfSome doubt EntryFits → AllByRecursion EntryFits (with_doubt book doubt).entries

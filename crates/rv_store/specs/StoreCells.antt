@@ -1,10 +1,10 @@
--- The cells that a book is kept as: one for each entry, for each row with its version, for each client with an act, for each
+-- The cells that a book without a page is kept as; one with a page is not kept. One cell for each entry, for each row with its version, for each client with an act, for each
 -- group that an act or a look names, and for the view record of each kept look. Beside them stands the generation, which is
 -- the number of the book's entries.
 use Rattle.std.specs.Prelude.{◌≡◌, ℕ, ◌+◌, ◌⊎◌, List, [], ◌∷◌, ◌++◌, map}
 use Rattle.rv_rows.specs.Held.{Stored}
 use Rattle.rv_book.specs.declared.entry.Entry.{Entry}
-use Rattle.rv_book.specs.Book.{Book, size}
+use Rattle.rv_book.specs.Book.{Book, no_page, size}
 use Rattle.rv_book.specs.Registers.{clients_of, groups_of}
 use Rattle.rv_history.specs.Replay.{IsReplay}
 use Rattle.rv_history.specs.Served.{Doubt, with_doubt}
@@ -47,6 +47,7 @@ pub record AreDerived (book : Book) (cells : List Cell) : Type 0 where
 
 -- these are the cells of the book
 pub record AreCellsOf (book : Book) (cells : List Cell) : Type 0 where
+  pub opens : book.page ≡ no_page
   pub rows : List Stored
   pub records : List Placed
   pub replay : IsReplay book rows

@@ -12,6 +12,7 @@ use Rattle.rv_views.specs.Viewed.{Viewed}
 use Rattle.rv_book.specs.Book.{Book, up_to}
 use Rattle.rv_book.specs.Kept.{kept}
 use Rattle.rv_history.specs.Replay.{IsLastWrite, IsReplay}
+use Rattle.rv_history.specs.ReplayLaws.{last_write_unique}
 use Rattle.rv_news.specs.Records.{AreRecords, IsRecord, IsViewAt, Placed, Rise, record_at}
 use Rattle.rv_news.specs.KeptRecords.{record_found}
 use Rattle.rv_keeper.specs.declared.cell.Cell.{Cell}
@@ -19,13 +20,6 @@ use Rattle.rv_store.specs.StoreCells.{AreDerived, derived_cells}
 
 both_ways : (a b : ℕ) → a ≤ b → b ≤ a → a ≡ b
 both_ways a b le ge = omega arith
-
--- a key has one last write
-pub last_write_unique : (book : Book) (key : List ℕ) (a b : ℕ) → IsLastWrite book key a → IsLastWrite book key b → a ≡ b
-last_write_unique book key a b one other = both_ways a b (not_after a b one other) (not_after b a other one)
-  where
-    not_after : (p q : ℕ) → IsLastWrite book key p → IsLastWrite book key q → p ≤ q
-    not_after p q first second = elim (cases_lt q p) as (λ _. p ≤ q) [ inl lt ↦ absurd (second.last p lt first.wrote) | inr le ↦ le ]
 
 -- the same rows, each with the place of its last write
 same_stored : (book : Book) (a b : List Stored) → rows_in a ≡ rows_in b → AllByRecursion (λ s. IsLastWrite book (row_text s.0) s.1) a → AllByRecursion (λ s. IsLastWrite book (row_text s.0) s.1) b → a ≡ b

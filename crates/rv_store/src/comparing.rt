@@ -1,7 +1,7 @@
 // The cells that follow from a book, which are compared one after another with those that were loaded.
 ghost use Rattle.std.specs.Prelude.{◌≡◌, ◌<◌, ◌^◌, ◌∷◌, ◌++◌, [], MatchResult};
 ghost use Rattle.rv_base.specs.Sorted.{InOrder};
-ghost use Rattle.rv_book.specs.Book.{size};
+ghost use Rattle.rv_book.specs.Book.{no_page, size};
 ghost use Rattle.rv_book.specs.Registers.{RetiresBound};
 ghost use Rattle.rv_keeper.specs.Cells.{cell_key};
 ghost use Rattle.rv_store.specs.StoreCells.{client_cells, group_cells, row_cells, view_cells};
@@ -70,6 +70,7 @@ fn meet_records<'a>(
 
 // The loaded cells after those of the clients, where they begin with them.
 fn meet_clients<'a>(alloc: Global, book: &Book, loaded: &'a [Cell]) -> Result<&'a [Cell], CellFault>
+    requires { book.now.book.page ≡ no_page }
     ensures { MatchResult result (λ rest. loaded.now ≡ client_cells book.now.book ++ rest.now) (λ fault. Departs (client_cells book.now.book) loaded.now fault) }
 {
     let mut rest = loaded;
@@ -85,7 +86,8 @@ fn meet_clients<'a>(alloc: Global, book: &Book, loaded: &'a [Cell]) -> Result<&'
 
 // The loaded cells after those of the groups, where they begin with them.
 fn meet_groups<'a>(alloc: Global, book: &Book, loaded: &'a [Cell]) -> Result<&'a [Cell], CellFault>
-    requires { RetiresBound book.now.book }
+    requires opens { book.now.book.page ≡ no_page }
+    requires bound { RetiresBound book.now.book }
     ensures { MatchResult result (λ rest. loaded.now ≡ group_cells book.now.book ++ rest.now) (λ fault. Departs (group_cells book.now.book) loaded.now fault) }
 {
     let mut rest = loaded;
@@ -113,6 +115,7 @@ fn meet_end(alloc: Global, rest: &[Cell]) -> Result<(), CellFault>
 // Whether the loaded cells beside those of the entries are the ones that follow from the book. Each of these is made anew and
 // compared before the next.
 pub(crate) fn compare_others(alloc: Global, state: &State, others: &[Cell]) -> Result<(), CellFault>
+    requires opens { state.now.book.page ≡ no_page }
     requires size { size state.now.book < 2 ^ 32 }
     requires order { InOrder cell_key others.now }
     ensures { ComparesOthers state.now.book others.now result }

@@ -10,7 +10,7 @@ use Rattle.rv_room.specs.declared.view.SeatView.{SeatView}
 use Rattle.rv_room.specs.Closing.{Closes, SomeLeft}
 use Rattle.rv_room.specs.Following.{FollowsAll}
 use Rattle.rv_room.specs.Lists.{count_at, total}
-use Rattle.rv_room.specs.Rule.{own_at}
+use Rattle.rv_room.specs.Rule.{own_at, StandsAfter}
 use Rattle.rv_room.specs.Views.{newcomer}
 use Rattle.rv_workers.specs.Looking.{HasEnteredNothing}
 use Rattle.rv_workers.specs.Serving.{HasOnlyLooked, ServesBothKinds, ServesSeated}
@@ -60,7 +60,7 @@ module _ {K : Type 0} (opened : Seated K) where
       keeps = closes.keeps;
       begun = closes.begun;
       seen = all_front (λ v. Extends desk.book v.seen) vs ws closes.seen;
-      own = all_front (λ v. AllByRecursion (λ x. slice_get desk.book.entries x.0 ≡ Some x.1) v.own) vs ws closes.own;
+      own = all_front (λ v. AllByRecursion (StandsAfter desk.book) v.own) vs ws closes.own;
       places = λ n. let front = own_front n vs ws idle in let all = closes.places n in omega (arith, front, all);
       left = all_so (λ v. AllByRecursion (SomeLeft (vs ++ ws)) v.settled) (λ v. AllByRecursion (SomeLeft vs) v.settled)
           (λ v some. all_so (SomeLeft (vs ++ ws)) (SomeLeft vs) (λ e left. left_front e vs ws idle left) v.settled some)

@@ -3,14 +3,14 @@ use Rattle.std.specs.List.{slice_get}
 use Rattle.std.specs.Option.{option_map, option_and_then}
 use Rattle.std.proofs.lemmas.Option.{slice_get-get_or, slice_get_past}
 use Rattle.rv_book.specs.declared.clients.ClientInfo.{ClientInfo}
-use Rattle.rv_book.specs.Book.{book_of}
+use Rattle.rv_book.specs.Logs.{logged}
 use Rattle.rv_book.specs.Indexes.{info_by_client}
 use Rattle.rv_book.proofs.InfoLaws.{client-at}
 use Rattle.rv_book.proofs.clients.info_at.Goals as goal
 
 pub returns-in_err-get : goal.returns-in_err-get
 returns-in_err-get c =
-    let book = book_of c.args.entries.now in
+    let book = logged c.args.log in
     let rows = c.args.rows.now in
     let none : slice_get rows c.args.index ≡ None = slice_get_past rows c.args.index (omega (arith, c.in_err-get.ensures.lookup)) in
     ap (option_map (λ (info : ClientInfo). (info.client.now, info.group.now, info.last))) c.from_residual.ensures
@@ -19,7 +19,7 @@ returns-in_err-get c =
 
 pub returns : goal.returns
 returns c =
-    let book = book_of c.args.entries.now in
+    let book = logged c.args.log in
     let rows = c.args.rows.now in
     let row = c.in_ok-get.field-0.now in
     let there : slice_get rows c.args.index ≡ Some row = slice_get-get_or rows c.args.index row (omega (arith, c.in_ok-get.ensures.lookup)) ∙ ap Some (sym c.in_ok-get.ensures.lookup.1) in

@@ -3,7 +3,7 @@ use Rattle.std.specs.Ordering.{nat_cmp, is_lt, is_le}
 use Rattle.std.specs.Cmp.Lexicographic.{slice_cmp}
 use Rattle.std.proofs.lemmas.Fn.{always_returns_same}
 use Rattle.std.proofs.lemmas.List.{take_rest}
-use Rattle.rv_book.specs.Book.{book_of}
+use Rattle.rv_book.specs.Logs.{logged}
 use Rattle.rv_book.specs.Indexes.{client_of_row}
 use Rattle.rv_book.specs.Members.{group_of_member}
 use Rattle.rv_book.proofs.MemberKeys.{group_stands_in}
@@ -11,7 +11,7 @@ use Rattle.rv_book.proofs.members.of.Goals as goal
 
 pub returns : goal.returns
 returns c =
-    let book = book_of c.args.entries.now in
+    let book = logged c.args.log in
     let rows = c.args.rows.now in
     let k = c.args.other.now in
     group_stands_in (group_of_member book) (client_of_row book) k rows _ c.partition_point-from.result c.partition_point-count.result (take_rest rows c.partition_point-from.result) c.requires.order

@@ -1,6 +1,7 @@
 use Rattle.rv_keeper.specs.StoreLaws.{others_of, others_on}
-use Rattle.std.proofs.Common.{inl, inr, ap, subst, sym, ◌∙◌}
-use Rattle.rv_cli.proofs.Steady.{no_accounts_not_nine, no_store_not_four, no_store_not_nine, serve_not_four, serve_not_nine, served_not_four, served_not_nine}
+use Rattle.std.proofs.Common.{◌≢◌, ◌⊎◌, ℕ, inl, inr, ap, subst, sym, ◌∙◌}
+use Rattle.rv_base.specs.Causes.{Rose}
+use Rattle.rv_cli.proofs.Steady.{no_accounts_not_nine, no_store_not_four, no_store_not_nine, serve_not_four, serve_not_nine, served_not_four, served_not_nine, served_seven}
 use Rattle.rv_book.specs.Book.{size}
 use Rattle.rv_cli.specs.declared.serve_ending.ServeEnding.TheVariants.{NotOpened}
 use Rattle.rv_cli.proofs.Serving.{has_no_store, net_before, serve_ended, unserved_by}
@@ -27,6 +28,15 @@ returns-clause-serve g c =
           (record { told = c.close_keeper.ensures.tells; honest = c.close_keeper.ensures.honest; held = c.close_keeper.ensures.kept; left = c.close_keeper.ensures.crash; taken = c.close_keeper.ensures.faults })
           _ _ _ c.serve_net-served.result.0 c.len-entries.result (g.O.Sink.state c.args.out.now) (g.O.Sink.state c.write_served.new.out) c.write_served.result
           c.serve_net-served.ensures.serves (c.len-entries.ensures.value ∙ ap size c.book.ensures.book) c.write_served.ensures.writes)),
+    )
+
+pub returns-clause-steady : goal.returns-clause-steady
+returns-clause-steady g c = λ steady.
+    let written = c.write_served.ensures.steady steady in
+    let status = c.status-2.ensures in (
+      written.goes_on,
+      subst (λ (n : ℕ). Rose (g.O.Sink.state c.args.out.now).refusals (g.O.Sink.state c.write_served.new.out).refusals ⊎ (n ≢ 7)) (sym status)
+          (served_seven c.serve_net-served.result.0 c.len-entries.result (g.O.Sink.state c.args.out.now) (g.O.Sink.state c.write_served.new.out) c.write_served.result _ c.write_served.ensures.writes written.only_memory),
     )
 
 pub returns-clause-unserved : goal.returns-clause-unserved

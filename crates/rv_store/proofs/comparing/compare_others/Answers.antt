@@ -10,8 +10,8 @@ returns-in_err-after_rows c = rows_fail _ _ c.book-book.ensures.book _ _ _ c.req
 pub returns-in_err-after_clients : goal.returns-in_err-after_clients
 returns-in_err-after_clients c = clients_fail _ _ c.book-book.ensures.book _ _ _ c.requires.size c.requires.order c.tables-tables.ensures (records_of _ _ _ c.as_slice-records.ensures c.records.ensures) _ c.in_ok-after_rows.ensures _ _ c.from_residual-in_err-after_clients.ensures.1 c.in_err-after_clients.ensures
 
-pub meet_groups-requires : goal.meet_groups-requires
-meet_groups-requires c = lawful_retires_bound _ (subst IsLawful (sym c.book-book.ensures.book) c.book-book.ensures.lawful)
+pub meet_groups-requires-clause-bound : goal.meet_groups-requires-clause-bound
+meet_groups-requires-clause-bound c = lawful_retires_bound _ (subst IsLawful (sym c.book-book.ensures.book) c.book-book.ensures.lawful)
 
 pub returns-in_err-after_groups : goal.returns-in_err-after_groups
 returns-in_err-after_groups c =

@@ -17,4 +17,4 @@ loop-index-preserved c = record {
 }
 
 pub returns : goal.returns
-returns c = each_ends (λ t. group_cell t.0 t.1 t.2 t.3) _ _ _ _ (no_more_groups c.args.book.now.book c.loop-index.index (omega (arith, c.len-index-end.ensures.value))) c.loop-index.invariant.met
+returns c = each_ends (λ t. group_cell t.0 t.1 t.2 t.3) _ _ _ _ (no_more_groups c.args.book.now.book c.loop-index.index c.requires.opens (omega (arith, c.len-index-end.ensures.value))) c.loop-index.invariant.met
