@@ -1,10 +1,12 @@
 -- The changes that an entry makes of the cells of a book name each place once, and leave the cells of the book with the entry.
-use Rattle.std.proofs.Common.{◌≡◌, ℕ, ◌+◌, ◌^◌, ◌<◌, ◌≤◌, Bool, true, false, not, List, [], ◌∷◌, ◌++◌, length, Option, Some, None, refl, sym, ap, ◌∙◌, subst, arith, map}
+use Rattle.std.proofs.Common.{◌≡◌, ℕ, ◌+◌, ◌^◌, ◌<◌, ◌≤◌, Bool, true, false, cond, not, List, [], ◌∷◌, ◌++◌, length, Option, Some, None, refl, sym, ap, ◌∙◌, subst, arith, map, append-nil, inl, inr}
 use Rattle.std.specs.List.{AllByRecursion, filter}
+use Rattle.std.specs.Option.{option_map, option_map_or}
 use Rattle.std.specs.Str.{bytes_eq}
-use Rattle.rv_base.specs.Sorted.{put_by, InOrder, Distinct}
-use Rattle.rv_base.specs.Positions.{Below, differs, in_order-filter}
-use Rattle.rv_base.specs.Arranged.{distinct-in_order}
+use Rattle.std.proofs.lemmas.Slice.Eq.{bytes_eq-Decides}
+use Rattle.rv_base.specs.Sorted.{find_by, put_by, InOrder, Distinct}
+use Rattle.rv_base.specs.Positions.{Below, differs, find_put, in_order-filter, in_order-put}
+use Rattle.rv_base.specs.Arranged.{distinct-in_order, in_order-same}
 use Rattle.rv_rows.specs.declared.call.Call.{Call}
 use Rattle.rv_rows.specs.Held.{Stored, rows_in}
 use Rattle.rv_rows.specs.HeldLaws.{distinct-rows}
@@ -15,11 +17,11 @@ use Rattle.rv_views.specs.Viewed.{Viewed}
 use Rattle.rv_book.specs.declared.entry.Entry.{Entry}
 use Rattle.rv_book.specs.declared.entry.Entry.TheVariants.{Act, Look, Retire}
 use Rattle.rv_book.specs.declared.page.Page.{Page}
-use Rattle.rv_book.specs.Book.{Book, no_page, size, with_entry, bound, group_of, last_order}
+use Rattle.rv_book.specs.Book.{Book, no_page, size, with_entry, bound, group_of, last_order, retired}
 use Rattle.rv_book.specs.Kept.{is_look_at, falls_out, kept}
 use Rattle.rv_book.specs.LookLaws.{is_place}
-use Rattle.rv_book.specs.Registers.{clients_of, groups_of}
-use Rattle.rv_book.specs.RegisterLaws.{none_but, clients_after_home_act, clients_after_look, clients_after_retire, groups_after_act, groups_after_look, groups_after_retire}
+use Rattle.rv_book.specs.Registers.{clients_of, group_named, groups_of}
+use Rattle.rv_book.specs.RegisterLaws.{none_but, clients_after_home_act, clients_after_look, clients_after_retire, found_group, groups-in_order, groups_after_act, groups_after_look, groups_after_retire, NoneBut}
 use Rattle.rv_history.specs.Lawful.{IsLawfulAfter}
 use Rattle.rv_history.specs.Replay.{IsReplay}
 use Rattle.rv_history.specs.ReplayLaws.{replay_act, replay_look, replay_retire, stored_in_order}
@@ -36,7 +38,7 @@ use Rattle.rv_store.specs.StoreOrder.{entries-on, rows-on, clients-on, groups-on
 use Rattle.rv_store.specs.StoreUnique.{replay_unique, records_unique}
 use Rattle.rv_store.specs.StoreBooks.{entry_cells-with_entry}
 use Rattle.rv_store.specs.ShelfLaws.{AreOf, AreAfter, all-append, same_shelf, changed-parts, distinct-parts, put-cells, distinct-changes}
-use Rattle.rv_store.specs.EntryChanges.{row_changes, act_changes, gone_view, look_changes, gone_views, retire_changes}
+use Rattle.rv_store.specs.EntryChanges.{row_changes, act_changes, first_group, gone_view, look_changes, gone_views, retire_changes}
 use Rattle.rv_store.proofs.RowChanges.{rows-leave, rows-of, rows-distinct}
 use Rattle.rv_store.proofs.ViewChanges.{put-end, gone_views-leave, others_stay, falls_out-within, look_views-leave}
 
@@ -115,6 +117,17 @@ group-leaves : (book : Book) (group user : List ℕ) (order : ℕ) (gone : Bool)
     → changed (group_cells book) (Put (group_cell group user order gone) ∷ []) ≡ map (λ g. group_cell g.0 g.1 g.2 g.3) (put_by (λ (g : List ℕ × List ℕ × ℕ × Bool). g.0) (group, user, order, gone) (groups_of book))
 group-leaves book group user order gone = put-cells (λ (g : List ℕ × List ℕ × ℕ × Bool). g.0) 4 (λ g. group_cell g.0 g.1 g.2 g.3) (λ g. refl) (group, user, order, gone) (groups_of book)
 
+-- an item that is there already leaves a list in order as it is
+put_same : {X : Type 0} (key : X → List ℕ) (x : X) (xs : List X) → InOrder key xs → find_by key (key x) xs ≡ Some x → put_by key x xs ≡ xs
+put_same key x xs order there = in_order-same key (put_by key x xs) xs (in_order-put key x xs order) order (λ k. find_put key k x xs ∙ each k)
+  where
+    each : (k : List ℕ) → cond (bytes_eq k (key x)) (Some x) (find_by key k xs) ≡ find_by key k xs
+    each k =
+        elim (bytes_eq k (key x)) as (λ b. bytes_eq k (key x) ≡ b → cond b (Some x) (find_by key k xs) ≡ find_by key k xs) [
+          | true ↦ λ e. sym (ap (λ (name : List ℕ). find_by key name xs) ((bytes_eq-Decides k (key x)).0 e) ∙ there)
+          | false ↦ λ e. refl
+        ] refl
+
 -- An act.
 module _ (book : Book) (stored : List Stored) (user group client : List ℕ) (id : ℕ) (call : Call) (change : Staged) (fits : size book + 1 < 2 ^ 32) (replay : IsReplay book stored)
     (lawful : IsLawfulAfter book (Act user group client id call)) (is : change ≡ staged (rows_in stored) user call) where
@@ -127,10 +140,17 @@ module _ (book : Book) (stored : List Stored) (user group client : List ℕ) (id
     once = subst (λ (c : Staged). Distinct change_key (row_changes (size book + 1) c)) (sym is) (rows-distinct (size book + 1) (rows_in stored) user call (distinct-rows stored (stored_in_order book stored replay)));
   }
 
+  act_group : AreOnce 4 (first_group book user group)
+  act_group = elim (bound group book) as (λ o. AreOnce 4 (option_map_or (λ owner. []) o (Put (group_cell group user (last_order group book) false) ∷ []))) [ None ↦ one_at 4 _ refl | Some owner ↦ none_at 4 ]
+
+  -- nothing comes after the group
+  group_last : Put (entry_cell (size book + 1) act) ∷ (row_changes (size book + 1) change ++ Put (client_cell client group id) ∷ (first_group book user group ++ [])) ≡ act_changes book user group client id call change
+  group_last = ap (λ (changes : List Change). Put (entry_cell (size book + 1) act) ∷ (row_changes (size book + 1) change ++ Put (client_cell client group id) ∷ changes)) (append-nil (first_group book user group))
+
   pub act_are : AreChanges (act_changes book user group client id call change)
   act_are =
-      five_are (Put (entry_cell (size book + 1) act) ∷ []) (row_changes (size book + 1) change) (Put (client_cell client group id) ∷ []) (Put (group_cell group user (last_order group book) false) ∷ []) []
-      (one_at 1 _ refl) act_rows (one_at 3 _ refl) (one_at 4 _ refl) (none_at 5)
+      subst AreChanges group_last
+      (five_are (Put (entry_cell (size book + 1) act) ∷ []) (row_changes (size book + 1) change) (Put (client_cell client group id) ∷ []) (first_group book user group) [] (one_at 1 _ refl) act_rows (one_at 3 _ refl) act_group (none_at 5))
 
   act_clients : changed (client_cells book) (Put (client_cell client group id) ∷ []) ≡ client_cells (with_entry book act)
   act_clients =
@@ -138,16 +158,37 @@ module _ (book : Book) (stored : List Stored) (user group client : List ℕ) (id
       ∙ ap (λ (n : ℕ). map (λ c. client_cell c.0 c.1 c.2) (put_by (λ (c : List ℕ × List ℕ × ℕ). c.0) (client, group, n) (clients_of book))) lawful.2
       ∙ ap (map (λ c. client_cell c.0 c.1 c.2)) (sym (clients_after_home_act book user group client id call (none_but group (group_of client book) lawful.1)))
 
-  act_groups : changed (group_cells book) (Put (group_cell group user (last_order group book) false) ∷ []) ≡ group_cells (with_entry book act)
-  act_groups =
+  new_group : changed (group_cells book) (Put (group_cell group user (last_order group book) false) ∷ []) ≡ group_cells (with_entry book act)
+  new_group =
       group-leaves book group user (last_order group book) false
       ∙ ap (λ (b : Bool). map (λ g. group_cell g.0 g.1 g.2 g.3) (put_by (λ (g : List ℕ × List ℕ × ℕ × Bool). g.0) (group, user, last_order group book, b) (groups_of book))) (sym lawful.0.stands)
       ∙ ap (map (λ g. group_cell g.0 g.1 g.2 g.3)) (sym (groups_after_act book user group client id call (none_but user (bound group book) lawful.0.own)))
 
+  -- a group that is bound is what it was
+  known_group : (owner : List ℕ) → bound group book ≡ Some owner → group_cells book ≡ group_cells (with_entry book act)
+  known_group owner is =
+      let free = none_but user (bound group book) lawful.0.own in
+      let named : group_named group book ≡ Some (group, user, last_order group book, retired group book) = ap (option_map (λ (name : List ℕ). (group, name, last_order group book, retired group book))) (bound_to owner is free) in
+      ap (map (λ g. group_cell g.0 g.1 g.2 g.3))
+      (sym (put_same (λ (g : List ℕ × List ℕ × ℕ × Bool). g.0) (group, user, last_order group book, retired group book) (groups_of book) (groups-in_order book) (found_group group book ∙ named))
+      ∙ sym (groups_after_act book user group client id call free))
+    where
+      bound_to : (owner : List ℕ) → bound group book ≡ Some owner → NoneBut user (bound group book) → bound group book ≡ Some user
+      bound_to owner is (inl none) = absurd (let both : Some owner ≡ None = sym is ∙ none in cc)
+      bound_to owner is (inr same) = same
+
+  act_groups : changed (group_cells book) (first_group book user group) ≡ group_cells (with_entry book act)
+  act_groups =
+      elim (bound group book) as (λ o. bound group book ≡ o → changed (group_cells book) (option_map_or (λ owner. []) o (Put (group_cell group user (last_order group book) false) ∷ [])) ≡ group_cells (with_entry book act)) [
+        | None ↦ λ none. new_group
+        | Some owner ↦ λ is. known_group owner is
+      ] refl
+
   act_leaves : (records : List Placed) → book.page ≡ no_page → changed (cells_of book stored records) (act_changes book user group client id call change) ≡ cells_of (with_entry book act) (with_staged (size book + 1) change stored) records
   act_leaves records opens =
-      five_leave (Put (entry_cell (size book + 1) act) ∷ []) (row_changes (size book + 1) change) (Put (client_cell client group id) ∷ []) (Put (group_cell group user (last_order group book) false) ∷ []) []
-      (one_at 1 _ refl) act_rows (one_at 3 _ refl) (one_at 4 _ refl) (none_at 5) book stored records
+      ap (changed (cells_of book stored records)) (sym group_last)
+      ∙ five_leave (Put (entry_cell (size book + 1) act) ∷ []) (row_changes (size book + 1) change) (Put (client_cell client group id) ∷ []) (first_group book user group) []
+      (one_at 1 _ refl) act_rows (one_at 3 _ refl) act_group (none_at 5) book stored records
       ∙ (λ i. entries-leave book act opens fits i ++ (rows-leave (size book + 1) change stored i ++ (act_clients i ++ (act_groups i ++ view_cells records))))
 
   pub act_next : ((version : ℕ) → with_staged version change stored ≡ after stored user call version) → (cells : List Cell) → AreCellsOf book cells

@@ -2,6 +2,7 @@
 -- what follows from it are written and removed.
 use Rattle.std.specs.Prelude.{ℕ, ◌+◌, List, [], ◌∷◌, ◌++◌, true, false, map, Option, Some, None}
 use Rattle.std.specs.List.{filter}
+use Rattle.std.specs.Option.{option_map_or}
 use Rattle.rv_rows.specs.declared.call.Call.{Call}
 use Rattle.rv_rows.specs.declared.key.Key.{Key}
 use Rattle.rv_rows.specs.declared.row.Row.{Row}
@@ -10,7 +11,7 @@ use Rattle.rv_mutators.specs.declared.staged.Staged.{Staged}
 use Rattle.rv_views.specs.Viewed.{Viewed}
 use Rattle.rv_book.specs.declared.entry.Entry.{Entry}
 use Rattle.rv_book.specs.declared.entry.Entry.TheVariants.{Act, Look, Retire}
-use Rattle.rv_book.specs.Book.{Book, size, last_order, with_entry}
+use Rattle.rv_book.specs.Book.{Book, bound, size, last_order, with_entry}
 use Rattle.rv_book.specs.Kept.{is_look_at, falls_out}
 use Rattle.rv_news.specs.Records.{Placed}
 use Rattle.rv_keeper.specs.declared.cell.Cell.{Cell}
@@ -30,11 +31,15 @@ written_rows version rows = map (λ row. Put (row_cell row version)) rows
 abbrev pub row_changes : ℕ → Staged → List Change
 row_changes version changed = removed_rows changed.keys ++ written_rows version changed.rows
 
--- An act writes and removes rows, and writes its client, with the act's id as the last, and its group, which is not retired.
+-- a group is written by its first act or look, and is not retired then; later acts leave it as it is
+abbrev pub first_group : Book → List ℕ → List ℕ → List Change
+first_group book user group = option_map_or (λ owner. []) (bound group book) (Put (group_cell group user (last_order group book) false) ∷ [])
+
+-- An act writes and removes rows, and writes its client, with the act's id as the last, and its group where that is new.
 abbrev pub act_changes : Book → List ℕ → List ℕ → List ℕ → ℕ → Call → Staged → List Change
 act_changes book user group client id call changed =
     Put (entry_cell (size book + 1) (Act user group client id call))
-    ∷ (row_changes (size book + 1) changed ++ Put (client_cell client group id) ∷ Put (group_cell group user (last_order group book) false) ∷ [])
+    ∷ (row_changes (size book + 1) changed ++ Put (client_cell client group id) ∷ first_group book user group)
 
 -- the view record of the look at a place is removed, if there is a place
 abbrev pub gone_view : Option ℕ → List Change

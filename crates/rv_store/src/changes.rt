@@ -1,16 +1,17 @@
 // The changes of cells that an entry makes.
-ghost use Rattle.std.specs.Prelude.{IfOk, List};
+ghost use Rattle.std.specs.Prelude.{◌≡◌, ◌++◌, IfOk, List, OnOk};
 ghost use Rattle.rv_book.specs.Book.{with_entry};
 ghost use Rattle.rv_keeper.specs.declared.cell.Cell.{Cell};
 ghost use Rattle.rv_keeper.specs.Cells.{AreChanges, changed};
 ghost use Rattle.rv_state.specs.declared.prepared.Prepared.TheVariants as Prepared;
 ghost use Rattle.rv_state.specs.Ready.{IsPrepared, entry_of};
 ghost use Rattle.rv_store.specs.StoreCells.{AreCellsOf};
-ghost use Rattle.rv_store.specs.EntryChanges.{Enters};
+ghost use Rattle.rv_store.specs.EntryChanges.{Enters, first_group};
 
 use crate::row_changes::add_row_changes;
 use crate::view_changes::{add_gone_view, add_gone_views};
-use rv_base::{Id, Memory};
+use rv_base::{Id, Memory, User};
+use rv_book::Book;
 use rv_keeper::Change;
 use rv_record::{
     cell_of_act, cell_of_client, cell_of_group, cell_of_look, cell_of_retirement, cell_of_view,
@@ -18,7 +19,25 @@ use rv_record::{
 use rv_state::{Prepared, PreparedAct, PreparedLook, State};
 use std::alloc::Global;
 
-// Those of an act, which writes and removes rows.
+// Writes the cell of a group that is not bound yet; `at` is where its row is looked for first.
+fn add_first_group(
+    alloc: Global,
+    changes: &mut Vec<Change>,
+    book: &Book,
+    user: &User,
+    group: &Id,
+    at: usize,
+) -> Result<(), Memory>
+    ensures { OnOk result (changes.new.items ≡ changes.old.items ++ first_group book.now.book user.now group.now) }
+{
+    if book.bound(group).is_none() {
+        let order = book.last_order_at(group, at);
+        changes.push(Change::Put(cell_of_group(alloc, group, user, order, false)?))?;
+    }
+    Ok(())
+}
+
+// Those of an act, which writes and removes rows, and whose group is written where the act is its first.
 fn act_changes(alloc: Global, state: &State, act: &PreparedAct) -> Result<Vec<Change>, Memory>
     requires { IsPrepared state.now (Prepared.Act act.now) }
     ensures { IfOk result (λ changes. Enters state.now.book (entry_of (Prepared.Act act.now)) changes.items) }
@@ -39,8 +58,7 @@ fn act_changes(alloc: Global, state: &State, act: &PreparedAct) -> Result<Vec<Ch
     changes.push(Change::Put(cell_of_act(alloc, place, user, group, client, *id, call)?))?;
     add_row_changes(alloc, &mut changes, staged, place)?;
     changes.push(Change::Put(cell_of_client(alloc, client, group, *id)?))?;
-    let order = book.last_order_at(group, found.group);
-    changes.push(Change::Put(cell_of_group(alloc, group, user, order, false)?))?;
+    add_first_group(alloc, &mut changes, book, user, group, found.group)?;
     Ok(changes)
 }
 
