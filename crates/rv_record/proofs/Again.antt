@@ -4,27 +4,31 @@ use Rattle.std.specs.Prelude.{IfOk, IfSome}
 use Rattle.std.specs.Str.{IsUtf8}
 use Rattle.std.proofs.lemmas.Option.{none-some}
 use Rattle.json.proofs.Printed.Utf8.{IsUtf8-are_ascii}
-use Rattle.serde_json.specs.Data.{Data}
+use Rattle.serde_json.specs.Data.{Data, number, unsigned}
 use Rattle.rv_rows.specs.declared.role.Role.{Role}
 use Rattle.rv_rows.specs.declared.role.Role.TheVariants as roles
 use Rattle.rv_rows.specs.declared.row.Row.{Row}
 use Rattle.rv_rows.specs.declared.row.Row.TheVariants as variants
 use Rattle.rv_rows.specs.RowTexts.{row_data, row_in, RowIsWithin}
 use Rattle.rv_rows.proofs.RowLaws.{row_takes, row_again}
-use Rattle.rv_record.specs.CellTexts.{row_body, client_body, group_body, row_cell, client_cell, group_cell}
-use Rattle.rv_record.specs.CellReading.{ClientFits, GroupFits, client_in_cell, group_in_cell}
+use Rattle.rv_record.specs.CellTexts.{row_body, client_body, group_body, row_cell_on, client_cell_on, group_cell_on, page_cell}
+use Rattle.rv_record.specs.CellReading.{ClientFits, GroupFits, client_in_cell, group_in_cell, page_in_cell, PageFits}
 use Rattle.rv_record.specs.RowReading.{HasTexts, RowFits, row_cell_in}
 use Rattle.rv_record.specs.ReadBack.{IsPlain, json_again}
 use Rattle.rv_record.specs.ReadTexts.{within_again, text_again, num_again, place_again, num_plain, place_plain}
 
-pub client_again : (c : List ℕ × List ℕ × ℕ) → ClientFits c → client_in_cell (client_cell c.0 c.1 c.2) ≡ Some c
+pub client_again : (shelf : ℕ) (c : List ℕ × List ℕ × ℕ) → ClientFits c → client_in_cell (client_cell_on shelf c.0 c.1 c.2) ≡ Some c
 unfolding client_in_cell
-client_again c fits =
+client_again shelf c fits =
     rw (text_again 1 128 c.0 fits.0.0 fits.0.1, json_again (client_body c.1 c.2) (fits.1.1, (num_plain c.2 fits.2, tt)), within_again 1 128 c.1 fits.1.0, num_again c.2 fits.2) refl
 
-pub group_again : (g : List ℕ × List ℕ × ℕ × Bool) → GroupFits g → group_in_cell (group_cell g.0 g.1 g.2 g.3) ≡ Some g
+pub page_again : (place : ℕ) → PageFits place → page_in_cell (page_cell place) ≡ Some place
+unfolding page_in_cell
+page_again place fits = rw (json_again (number (unsigned place)) (place_plain place fits), place_again place fits) refl
+
+pub group_again : (shelf : ℕ) (g : List ℕ × List ℕ × ℕ × Bool) → GroupFits g → group_in_cell (group_cell_on shelf g.0 g.1 g.2 g.3) ≡ Some g
 unfolding group_in_cell
-group_again g fits =
+group_again shelf g fits =
     rw (text_again 1 128 g.0 fits.0.0 fits.0.1, json_again (group_body g.1 g.2 g.3) (fits.1.1, (num_plain g.2 fits.2, (tt, tt))), within_again 1 64 g.1 fits.1.0, num_again g.2 fits.2) refl
 
 share_plain : (id list user : List ℕ) (role : Role) (n : ℕ) → IsUtf8 id → IsUtf8 list → IsUtf8 user → IsPlain (row_data (variants.Share (record { id = id; list = list; user = user; role = role }))) (suc n)
@@ -52,9 +56,9 @@ row_plain (variants.Todo r) n fits texts = (
   refl,
 )
 
-pub row_cell_again : (r : Row × ℕ) → RowFits r → row_cell_in (row_cell r.0 r.1) ≡ Some r
+pub row_cell_again : (shelf : ℕ) (r : Row × ℕ) → RowFits r → row_cell_in (row_cell_on shelf r.0 r.1) ≡ Some r
 unfolding row_cell_in
-row_cell_again r fits =
+row_cell_again shelf r fits =
     rw (json_again (row_body r.0 r.1) (place_plain r.1 fits.2, (row_plain r.0 125 fits.0 fits.1, tt)), place_again r.1 fits.2, row_again r.0 fits.0) refl
 
 -- what a reader of rows gives that is exact

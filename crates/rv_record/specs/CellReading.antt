@@ -9,7 +9,7 @@ use Rattle.rv_rows.specs.JsonTexts.{json_in}
 use Rattle.rv_record.specs.declared.fault.CellFault.{CellFault}
 use Rattle.rv_record.specs.declared.fault.CellFault.TheVariants.{BadCell, Memory}
 use Rattle.rv_record.specs.declared.fault.Damage.{Damage}
-use Rattle.rv_record.specs.ValueReading.{utf8_text_in, text_item, num_item, flag_item}
+use Rattle.rv_record.specs.ValueReading.{utf8_text_in, text_item, num_item, flag_item, place_in}
 
 -- the damage at the cell's own place
 abbrev pub damage_at : Cell → Damage
@@ -64,3 +64,12 @@ group_in_cell cell = do
   order ← num_item 1 body
   retired ← flag_item 2 body
   Some (group, user, order, retired)
+
+-- the place of a page
+abbrev pub PageFits : ℕ → Type 0
+PageFits place = place < 2 ^ 32
+
+unfoldable pub page_in_cell : Cell → Option ℕ
+page_in_cell cell = do
+  body ← json_in cell.body
+  place_in body

@@ -4,6 +4,8 @@
 --   shelf 3, key CLIENT: [GROUP,LAST], of a client with an act
 --   shelf 4, key GROUP: [USER,LASTORDER,RETIRED], of a group that an act or a look names; LASTORDER is 0 before the first look
 --   shelf 5, key PLACE: [[[KEY,VERSION],..],[[CLIENT,LAST],..]], of a kept look: what the user saw and the group's clients
+--   shelf 6, empty key: PLACE, where the book opens with a page
+--   shelves 7, 8 and 9: as 2, 3 and 4, what the page that the book opens with has
 use Rattle.std.specs.Prelude.{ℕ, ◌-◌, List, [], ◌∷◌, ◌++◌, Bool, length, map, replicate, decimal}
 use Rattle.serde_json.specs.Data.{Data, boolean, number, unsigned, string}
 use Rattle.serde_json.specs.Written.{compact_text}
@@ -48,14 +50,37 @@ view_body view = array_of (array_of (map seen_data view.rows) ∷ array_of (map 
 abbrev pub entry_cell : ℕ → Entry → Cell
 entry_cell place entry = cell_at 1 (ten_digits place) (entry_data entry)
 
+-- the cells of a row, a client and a group: on the shelves of the book as it ends, and on those of its page
+abbrev pub row_cell_on : ℕ → Row → ℕ → Cell
+row_cell_on shelf row version = cell_at shelf (row_text row) (row_body row version)
+
 abbrev pub row_cell : Row → ℕ → Cell
-row_cell row version = cell_at 2 (row_text row) (row_body row version)
+row_cell row version = row_cell_on 2 row version
+
+abbrev pub page_row_cell : Row → ℕ → Cell
+page_row_cell row version = row_cell_on 7 row version
+
+abbrev pub client_cell_on : ℕ → List ℕ → List ℕ → ℕ → Cell
+client_cell_on shelf client group last = cell_at shelf client (client_body group last)
 
 abbrev pub client_cell : List ℕ → List ℕ → ℕ → Cell
-client_cell client group last = cell_at 3 client (client_body group last)
+client_cell client group last = client_cell_on 3 client group last
+
+abbrev pub page_client_cell : List ℕ → List ℕ → ℕ → Cell
+page_client_cell client group last = client_cell_on 8 client group last
+
+abbrev pub group_cell_on : ℕ → List ℕ → List ℕ → ℕ → Bool → Cell
+group_cell_on shelf group user order retired = cell_at shelf group (group_body user order retired)
 
 abbrev pub group_cell : List ℕ → List ℕ → ℕ → Bool → Cell
-group_cell group user order retired = cell_at 4 group (group_body user order retired)
+group_cell group user order retired = group_cell_on 4 group user order retired
+
+abbrev pub page_group_cell : List ℕ → List ℕ → ℕ → Bool → Cell
+page_group_cell group user order retired = group_cell_on 9 group user order retired
+
+-- the cell of the page that a book opens with: its place
+abbrev pub page_cell : ℕ → Cell
+page_cell place = cell_at 6 [] (number (unsigned place))
 
 abbrev pub view_cell : ℕ → Viewed → Cell
 view_cell place view = cell_at 5 (ten_digits place) (view_body view)

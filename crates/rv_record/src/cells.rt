@@ -1,15 +1,17 @@
 ghost use Rattle.std.specs.Prelude.{◌≡◌, IfOk};
+ghost use Rattle.serde_json.specs.Data.{number, unsigned};
 ghost use Rattle.serde_json.specs.Written.{compact_text};
 ghost use Rattle.rv_rows.specs.Keys.{row_text};
 ghost use Rattle.rv_book.specs.declared.entry.Entry.TheVariants.{Act, Look, Retire};
 ghost use Rattle.rv_record.specs.EntryTexts.{entry_data};
-ghost use Rattle.rv_record.specs.CellTexts.{row_body, client_body, group_body, view_body, entry_cell, row_cell, client_cell, group_cell, view_cell};
+ghost use Rattle.rv_record.specs.CellTexts.{row_body, client_body, group_body, view_body, entry_cell, row_cell, row_cell_on, client_cell, client_cell_on, group_cell, group_cell_on, page_cell, page_client_cell, page_group_cell, page_row_cell, view_cell};
 ghost use Rattle.rv_record.specs.CellReading.{same_cell};
 
 use crate::places::ten_digits;
 use crate::view_writing::write_view;
 use crate::writing::{
-    write_act, write_group_body, write_look, write_pair, write_retirement, write_row_body,
+    write_act, write_group_body, write_look, write_pair, write_place, write_retirement,
+    write_row_body,
 };
 use json::Writer;
 use rv_base::{Bytes, Id, Memory, Num, Sequence, User};
@@ -61,6 +63,14 @@ fn row_body_text(alloc: Global, row: &Row, version: u32) -> Result<Bytes, Memory
 {
     let mut out = Writer::new(Vec::new(alloc));
     write_row_body(&mut out, row, version)?;
+    Ok(Sequence::from_vec(out.into_inner()))
+}
+
+fn page_text(alloc: Global, place: u32) -> Result<Bytes, Memory>
+    ensures { IfOk result (λ text. text ≡ compact_text (number (unsigned place))) }
+{
+    let mut out = Writer::new(Vec::new(alloc));
+    write_place(&mut out, place)?;
     Ok(Sequence::from_vec(out.into_inner()))
 }
 
@@ -175,15 +185,57 @@ pub fn cell_of_entry(alloc: Global, place: u32, entry: &Entry) -> Result<Cell, M
     }
 }
 
+/// The cell of the page that a book opens with, at a place from 1: on shelf 6, under the empty key, the place in decimal.
+pub fn cell_of_page(alloc: Global, place: u32) -> Result<Cell, Memory>
+    ensures { IfOk result (λ cell. cell ≡ page_cell place) }
+{
+    Ok(Cell {
+        shelf: 6,
+        key: Sequence::new(alloc),
+        body: page_text(alloc, place)?,
+    })
+}
+
+// The cell of a row on a shelf.
+pub(crate) fn row_cell_on(alloc: Global, shelf: u8, row: &Row, version: u32) -> Result<Cell, Memory>
+    ensures { IfOk result (λ cell. cell ≡ row_cell_on shelf row.now version) }
+{
+    Ok(Cell {
+        shelf,
+        key: row_key(alloc, row)?,
+        body: row_body_text(alloc, row, version)?,
+    })
+}
+
 /// The cell of a row with its version, the place of the entry that wrote it: on shelf 2, under the text of the row's key,
 /// `[VERSION,ROW]`.
 pub fn cell_of_row(alloc: Global, row: &Row, version: u32) -> Result<Cell, Memory>
     ensures { IfOk result (λ cell. cell ≡ row_cell row.now version) }
 {
+    row_cell_on(alloc, 2, row, version)
+}
+
+/// The cell of a row of the page that a book opens with, with its version: as [`cell_of_row`], on shelf 7.
+pub fn cell_of_page_row(alloc: Global, row: &Row, version: u32) -> Result<Cell, Memory>
+    ensures { IfOk result (λ cell. cell ≡ page_row_cell row.now version) }
+{
+    row_cell_on(alloc, 7, row, version)
+}
+
+// The cell of a client on a shelf.
+pub(crate) fn client_cell_on(
+    alloc: Global,
+    shelf: u8,
+    client: &Id,
+    group: &Id,
+    last: Num,
+) -> Result<Cell, Memory>
+    ensures { IfOk result (λ cell. cell ≡ client_cell_on shelf client.now group.now last) }
+{
     Ok(Cell {
-        shelf: 2,
-        key: row_key(alloc, row)?,
-        body: row_body_text(alloc, row, version)?,
+        shelf,
+        key: name_key(alloc, client)?,
+        body: client_text(alloc, group, last)?,
     })
 }
 
@@ -191,10 +243,36 @@ pub fn cell_of_row(alloc: Global, row: &Row, version: u32) -> Result<Cell, Memor
 pub fn cell_of_client(alloc: Global, client: &Id, group: &Id, last: Num) -> Result<Cell, Memory>
     ensures { IfOk result (λ cell. cell ≡ client_cell client.now group.now last) }
 {
+    client_cell_on(alloc, 3, client, group, last)
+}
+
+/// The cell of a client of the page that a book opens with: as [`cell_of_client`], on shelf 8.
+pub fn cell_of_page_client(
+    alloc: Global,
+    client: &Id,
+    group: &Id,
+    last: Num,
+) -> Result<Cell, Memory>
+    ensures { IfOk result (λ cell. cell ≡ page_client_cell client.now group.now last) }
+{
+    client_cell_on(alloc, 8, client, group, last)
+}
+
+// The cell of a group on a shelf.
+pub(crate) fn group_cell_on(
+    alloc: Global,
+    shelf: u8,
+    group: &Id,
+    user: &User,
+    order: Num,
+    retired: bool,
+) -> Result<Cell, Memory>
+    ensures { IfOk result (λ cell. cell ≡ group_cell_on shelf group.now user.now order retired) }
+{
     Ok(Cell {
-        shelf: 3,
-        key: name_key(alloc, client)?,
-        body: client_text(alloc, group, last)?,
+        shelf,
+        key: name_key(alloc, group)?,
+        body: group_text(alloc, user, order, retired)?,
     })
 }
 
@@ -209,11 +287,20 @@ pub fn cell_of_group(
 ) -> Result<Cell, Memory>
     ensures { IfOk result (λ cell. cell ≡ group_cell group.now user.now order retired) }
 {
-    Ok(Cell {
-        shelf: 4,
-        key: name_key(alloc, group)?,
-        body: group_text(alloc, user, order, retired)?,
-    })
+    group_cell_on(alloc, 4, group, user, order, retired)
+}
+
+/// The cell of a group of the page that a book opens with: as [`cell_of_group`], on shelf 9.
+pub fn cell_of_page_group(
+    alloc: Global,
+    group: &Id,
+    user: &User,
+    order: Num,
+    retired: bool,
+) -> Result<Cell, Memory>
+    ensures { IfOk result (λ cell. cell ≡ page_group_cell group.now user.now order retired) }
+{
+    group_cell_on(alloc, 9, group, user, order, retired)
 }
 
 /// The cell of the view record of the look at a place, from 1: on shelf 5, under the place in ten digits,

@@ -1,8 +1,8 @@
 ghost use Rattle.std.specs.Prelude.{◌≡◌, IfOk};
-ghost use Rattle.rv_record.specs.CellTexts.{client_cell, group_cell};
+ghost use Rattle.rv_record.specs.CellTexts.{client_cell, client_cell_on, group_cell, group_cell_on, page_client_cell, page_group_cell};
 ghost use Rattle.rv_record.specs.CellReading.{ReadsCell, ClientFits, GroupFits, client_in_cell, group_in_cell};
 
-use crate::cells::{cell_of_client, cell_of_group, is_same};
+use crate::cells::{client_cell_on, group_cell_on, is_same};
 use crate::fault::{CellFault, damaged};
 use crate::value_reading::{flag_item, num_item, text_item, text_of_bytes};
 use rv_base::{Id, Memory, Num, User};
@@ -30,19 +30,33 @@ fn client_in_cell(alloc: Global, cell: &Cell) -> Result<Option<(Id, Id, Num)>, M
     Ok(Some((client, group, last)))
 }
 
-/// The client whose cell this is, its group, and the last mutation id. Any other cell is `BadCell`.
-pub fn client_of_cell(alloc: Global, cell: &Cell) -> Result<(Id, Id, Num), CellFault>
-    ensures { ReadsCell (λ c. client_cell c.0 c.1 c.2) ClientFits cell.now result }
+// The client whose cell this is on a shelf, its group, and the last mutation id.
+fn client_on(alloc: Global, shelf: u8, cell: &Cell) -> Result<(Id, Id, Num), CellFault>
+    ensures { ReadsCell (λ c. client_cell_on shelf c.0 c.1 c.2) ClientFits cell.now result }
 {
     let Some(made) = client_in_cell(alloc, cell)? else {
         return Err(damaged(alloc, cell));
     };
-    let again = cell_of_client(alloc, &made.0, &made.1, made.2)?;
+    let again = client_cell_on(alloc, shelf, &made.0, &made.1, made.2)?;
     if is_same(cell, &again) {
         Ok(made)
     } else {
         Err(damaged(alloc, cell))
     }
+}
+
+/// The client whose cell this is, its group, and the last mutation id. Any other cell is `BadCell`.
+pub fn client_of_cell(alloc: Global, cell: &Cell) -> Result<(Id, Id, Num), CellFault>
+    ensures { ReadsCell (λ c. client_cell c.0 c.1 c.2) ClientFits cell.now result }
+{
+    client_on(alloc, 3, cell)
+}
+
+/// The client of a page whose cell this is, its group, and the last mutation id there. Any other cell is `BadCell`.
+pub fn page_client_of_cell(alloc: Global, cell: &Cell) -> Result<(Id, Id, Num), CellFault>
+    ensures { ReadsCell (λ c. page_client_cell c.0 c.1 c.2) ClientFits cell.now result }
+{
+    client_on(alloc, 8, cell)
 }
 
 // What the cell is of, if it is a group's.
@@ -68,18 +82,33 @@ fn group_in_cell(alloc: Global, cell: &Cell) -> Result<Option<(Id, User, Num, bo
     Ok(Some((group, user, order, retired)))
 }
 
-/// The group whose cell this is, its user, the order of its last look, and whether it is retired. Any other cell is
-/// `BadCell`.
-pub fn group_of_cell(alloc: Global, cell: &Cell) -> Result<(Id, User, Num, bool), CellFault>
-    ensures { ReadsCell (λ g. group_cell g.0 g.1 g.2 g.3) GroupFits cell.now result }
+// The group whose cell this is on a shelf, its user, the order of its last look, and whether it is retired.
+fn group_on(alloc: Global, shelf: u8, cell: &Cell) -> Result<(Id, User, Num, bool), CellFault>
+    ensures { ReadsCell (λ g. group_cell_on shelf g.0 g.1 g.2 g.3) GroupFits cell.now result }
 {
     let Some(made) = group_in_cell(alloc, cell)? else {
         return Err(damaged(alloc, cell));
     };
-    let again = cell_of_group(alloc, &made.0, &made.1, made.2, made.3)?;
+    let again = group_cell_on(alloc, shelf, &made.0, &made.1, made.2, made.3)?;
     if is_same(cell, &again) {
         Ok(made)
     } else {
         Err(damaged(alloc, cell))
     }
+}
+
+/// The group whose cell this is, its user, the order of its last look, and whether it is retired. Any other cell is
+/// `BadCell`.
+pub fn group_of_cell(alloc: Global, cell: &Cell) -> Result<(Id, User, Num, bool), CellFault>
+    ensures { ReadsCell (λ g. group_cell g.0 g.1 g.2 g.3) GroupFits cell.now result }
+{
+    group_on(alloc, 4, cell)
+}
+
+/// The group of a page whose cell this is, its user, the order of its last look there, and whether it is retired. Any other cell is
+/// `BadCell`.
+pub fn page_group_of_cell(alloc: Global, cell: &Cell) -> Result<(Id, User, Num, bool), CellFault>
+    ensures { ReadsCell (λ g. page_group_cell g.0 g.1 g.2 g.3) GroupFits cell.now result }
+{
+    group_on(alloc, 9, cell)
 }

@@ -1,11 +1,11 @@
 ghost use Rattle.std.specs.Prelude.{◌≡◌, IfOk};
 ghost use Rattle.serde_json.specs.View.{view};
 ghost use Rattle.rv_rows.specs.RowTexts.{row_in};
-ghost use Rattle.rv_record.specs.CellTexts.{row_cell};
+ghost use Rattle.rv_record.specs.CellTexts.{page_row_cell, row_cell, row_cell_on};
 ghost use Rattle.rv_record.specs.CellReading.{ReadsCell};
 ghost use Rattle.rv_record.specs.RowReading.{RowFits, row_cell_in};
 
-use crate::cells::{cell_of_row, is_same};
+use crate::cells::{is_same, row_cell_on};
 use crate::fault::{CellFault, damaged};
 use crate::value_reading::place_item;
 use rv_base::Memory;
@@ -41,17 +41,31 @@ fn row_in(alloc: Global, cell: &Cell) -> Result<Option<(Row, u32)>, Memory>
     Ok(Some((row, version)))
 }
 
-/// The row whose cell this is, with its version. Any other cell is `BadCell`.
-pub fn row_of_cell(alloc: Global, cell: &Cell) -> Result<(Row, u32), CellFault>
-    ensures { ReadsCell (λ r. row_cell r.0 r.1) RowFits cell.now result }
+// The row whose cell this is on a shelf, with its version.
+fn row_on(alloc: Global, shelf: u8, cell: &Cell) -> Result<(Row, u32), CellFault>
+    ensures { ReadsCell (λ r. row_cell_on shelf r.0 r.1) RowFits cell.now result }
 {
     let Some(made) = row_in(alloc, cell)? else {
         return Err(damaged(alloc, cell));
     };
-    let again = cell_of_row(alloc, &made.0, made.1)?;
+    let again = row_cell_on(alloc, shelf, &made.0, made.1)?;
     if is_same(cell, &again) {
         Ok(made)
     } else {
         Err(damaged(alloc, cell))
     }
+}
+
+/// The row whose cell this is, with its version. Any other cell is `BadCell`.
+pub fn row_of_cell(alloc: Global, cell: &Cell) -> Result<(Row, u32), CellFault>
+    ensures { ReadsCell (λ r. row_cell r.0 r.1) RowFits cell.now result }
+{
+    row_on(alloc, 2, cell)
+}
+
+/// The row of a page whose cell this is, with its version. Any other cell is `BadCell`.
+pub fn page_row_of_cell(alloc: Global, cell: &Cell) -> Result<(Row, u32), CellFault>
+    ensures { ReadsCell (λ r. page_row_cell r.0 r.1) RowFits cell.now result }
+{
+    row_on(alloc, 7, cell)
 }

@@ -278,6 +278,13 @@ pub(crate) fn write_retirement(out: &mut Writer, group: &Id) -> Result<(), Memor
     Ok(())
 }
 
+// Writes the place of a page.
+pub(crate) fn write_place(out: &mut Writer, place: u32) -> Result<(), Memory>
+    ensures { AddsValue result out.old out.new (values.number (values.unsigned place)) }
+{
+    Ok(out.u64(u64::from(place))?)
+}
+
 // Writes a row with its version, as `[VERSION,ROW]`.
 pub(crate) fn write_row_body(out: &mut Writer, row: &Row, version: u32) -> Result<(), Memory>
     ensures { AddsValue result out.old out.new (row_body row.now version) }
