@@ -1,0 +1,3 @@
+pub mod PageCells
+pub mod Begins
+pub mod PageReads

@@ -1,0 +1,118 @@
+ghost use Rattle.std.specs.Prelude.{◌≡◌, ℕ, ◌<◌, ◌^◌, List};
+ghost use Rattle.rv_base.specs.Sorted.{InOrder};
+ghost use Rattle.rv_keeper.specs.declared.cell.Cell.{Cell};
+ghost use Rattle.rv_keeper.specs.Cells.{cell_key};
+ghost use Rattle.rv_opening.specs.PageReads.{BeginsWith, Follows, HasBegun, TakesNext};
+
+use crate::checking::{client_follows, is_within, row_follows};
+use crate::fitting::{client_fits, group_fits, place_fits, row_fits};
+use rv_base::Sequence;
+use rv_book::Page;
+use rv_keeper::Cell;
+use rv_record::{
+    CellFault, damaged, page_client_of_cell, page_group_of_cell, page_of_cell, page_row_of_cell,
+};
+use rv_rows::Tables;
+use std::alloc::Global;
+
+// The shelves of a page's rows, clients and groups.
+const ROWS: u8 = 7;
+
+const CLIENTS: u8 = 8;
+
+const GROUPS: u8 = 9;
+
+/// The page of a book as it is read from its cells, with the tables of its rows.
+#[derive(Debug, Drop)]
+pub struct PageRead {
+    /// The page.
+    pub page: Page,
+    /// Its rows, as tables.
+    pub tables: Tables,
+}
+
+impl PageRead {
+    // The page whose place the first cell tells, and which has nothing yet.
+    pub(crate) fn begin(alloc: Global, cell: &Cell, limit: u32) -> Result<PageRead, CellFault>
+        ensures { (cells : List Cell) → InOrder cell_key cells → BeginsWith limit cells cell.now result }
+    {
+        let at = page_of_cell(alloc, cell)?;
+        place_fits(at);
+        if !is_within(u64::from(at), limit) {
+            return Err(damaged(alloc, cell));
+        }
+        Ok(PageRead {
+            page: Page {
+                at,
+                rows: Sequence::new(alloc),
+                clients: Sequence::new(alloc),
+                groups: Sequence::new(alloc),
+            },
+            tables: Tables::new(alloc),
+        })
+    }
+
+    // Takes the cell of a row.
+    fn take_row(&mut self, alloc: Global, cell: &Cell) -> Result<(), CellFault>
+        requires shelf { cell.now.shelf ≡ 7 }
+        ensures { (limit : ℕ) (cells : List Cell) → HasBegun limit cells self.old → Follows self.old.page cell.now → TakesNext limit cells self.old.page cell.now result self.new }
+    {
+        let (row, version) = page_row_of_cell(alloc, cell)?;
+        row_fits(&row, version);
+        if !row_follows(&self.tables, self.page.at, &row, version) {
+            return Err(damaged(alloc, cell));
+        }
+        self.tables.reserve(1)?;
+        self.page.rows.push((row.copy(alloc)?, version))?;
+        self.tables.put(row, version);
+        Ok(())
+    }
+
+    // Takes the cell of a client, whose group has a cell among these.
+    fn take_client(&mut self, alloc: Global, cell: &Cell, cells: &[Cell]) -> Result<(), CellFault>
+        requires shelf { cell.now.shelf ≡ 8 }
+        requires order { InOrder cell_key cells.now }
+        ensures { (limit : ℕ) → HasBegun limit cells.now self.old → Follows self.old.page cell.now → TakesNext limit cells.now self.old.page cell.now result self.new }
+    {
+        let (client, group, last) = page_client_of_cell(alloc, cell)?;
+        client_fits(&client, &group, last);
+        if !client_follows(cells, self.page.at, &group, last) {
+            return Err(damaged(alloc, cell));
+        }
+        self.page.clients.push((client, group, last))?;
+        Ok(())
+    }
+
+    // Takes the cell of a group.
+    fn take_group(&mut self, alloc: Global, cell: &Cell) -> Result<(), CellFault>
+        requires shelf { cell.now.shelf ≡ 9 }
+        ensures { (limit : ℕ) (cells : List Cell) → HasBegun limit cells self.old → Follows self.old.page cell.now → TakesNext limit cells self.old.page cell.now result self.new }
+    {
+        let (group, user, order, retired) = page_group_of_cell(alloc, cell)?;
+        group_fits(&group, &user, order, retired);
+        self.page.groups.push((group, user, order, retired))?;
+        Ok(())
+    }
+
+    // Takes the next of these cells.
+    pub(crate) fn take(
+        &mut self,
+        alloc: Global,
+        cell: &Cell,
+        cells: &[Cell],
+    ) -> Result<(), CellFault>
+        requires { InOrder cell_key cells.now }
+        ensures { (limit : ℕ) → HasBegun limit cells.now self.old → Follows self.old.page cell.now → TakesNext limit cells.now self.old.page cell.now result self.new }
+    {
+        if cell.shelf == ROWS {
+            return self.take_row(alloc, cell);
+        }
+        if cell.shelf == CLIENTS {
+            return self.take_client(alloc, cell, cells);
+        }
+        if cell.shelf == GROUPS {
+            return self.take_group(alloc, cell);
+        }
+        Err(damaged(alloc, cell))
+    }
+}
