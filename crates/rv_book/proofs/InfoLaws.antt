@@ -19,7 +19,7 @@ use Rattle.rv_book.proofs.IdLaws.{first_at}
 use Rattle.rv_book.proofs.ClientLaws.{gives_client, no_group, no_row, first_of}
 use Rattle.rv_book.proofs.GroupLaws.{group_row_at, row_gives, bound-found}
 use Rattle.rv_book.proofs.PageLaws.{bound-naming, retired-naming}
-use Rattle.rv_book.proofs.RowsInfo.{GivesItem, info-at}
+use Rattle.rv_book.proofs.RowsInfo.{GivesItem, info-at, info-count}
 
 abbrev Client : Type 0
 Client = List ℕ × List ℕ × ℕ
@@ -60,7 +60,13 @@ named_by_row client book =
 -- the client at an index is what the row there tells
 pub client-at : (book : Book) (rows : List ClientRow) (index : ℕ) → AreClientRows book rows → option_and_then (info_by_client book) (slice_get rows index) ≡ slice_get (clients_of book) index
 client-at book rows index h =
-    info-at (client_of_row book) client_key (info_by_client book) (λ row. row.first) (length (acting book)) (client_row book) rows (clients_of book) index h (clients-in_order book)
+    info-at (client_of_row book) client_key (info_by_client book) (λ row. row.first) (length (acting book)) (client_row book) rows (clients_of book) h (clients-in_order book)
+    (λ client row is. client_gives client book row is) (λ client. found_client client book ∙ named_by_row client book) index
+
+-- there are as many clients as rows
+pub client-count : (book : Book) (rows : List ClientRow) → AreClientRows book rows → length rows ≡ length (clients_of book)
+client-count book rows h =
+    info-count (client_of_row book) client_key (info_by_client book) (λ row. row.first) (length (acting book)) (client_row book) rows (clients_of book) h (clients-in_order book)
     (λ client row is. client_gives client book row is) (λ client. found_client client book ∙ named_by_row client book)
 
 abbrev Group : Type 0
@@ -152,5 +158,11 @@ named_by_group_row group book h =
 -- the group at an index is what the row there tells
 pub group-at : (book : Book) (rows : List GroupRow) (index : ℕ) → RetiresBound book → AreGroupRows book rows → option_and_then (info_by_group book) (slice_get rows index) ≡ slice_get (groups_of book) index
 group-at book rows index bounds h =
-    info-at (group_of_row book) group_key (info_by_group book) (λ row. row.named) (length (naming book)) (group_row book) rows (groups_of book) index h (groups-in_order book)
+    info-at (group_of_row book) group_key (info_by_group book) (λ row. row.named) (length (naming book)) (group_row book) rows (groups_of book) h (groups-in_order book)
+    (λ group row is. group_gives group book row bounds is) (λ group. found_group group book ∙ named_by_group_row group book bounds) index
+
+-- there are as many groups as rows
+pub group-count : (book : Book) (rows : List GroupRow) → RetiresBound book → AreGroupRows book rows → length rows ≡ length (groups_of book)
+group-count book rows bounds h =
+    info-count (group_of_row book) group_key (info_by_group book) (λ row. row.named) (length (naming book)) (group_row book) rows (groups_of book) h (groups-in_order book)
     (λ group row is. group_gives group book row bounds is) (λ group. found_group group book ∙ named_by_group_row group book bounds)

@@ -1,5 +1,5 @@
 -- What the rows of an index tell, row by row, is a register of the book: the same items at the same indexes.
-use Rattle.std.proofs.Common.{◌≡◌, ℕ, zero, suc, true, false, cond, List, [], ◌∷◌, Option, Some, refl, sym, ap, ◌∙◌, subst}
+use Rattle.std.proofs.Common.{◌≡◌, ℕ, zero, suc, true, false, cond, List, [], ◌∷◌, length, Option, Some, refl, sym, ap, ◌∙◌, subst}
 use Rattle.std.specs.List.{slice_get, filter_map, cons_option, AllByRecursion}
 use Rattle.std.specs.Option.{option_and_then}
 use Rattle.std.specs.Str.{bytes_eq}
@@ -49,13 +49,24 @@ module _ {R X : Type 0} (row_key : R → List ℕ) (key : X → List ℕ) (info 
         | false ↦ refl
       ])
 
-  -- a register whose items are found by what the rows tell has the items of the rows, at their indexes
-  pub info-at : (named : R → ℕ) (count : ℕ) (row_of : List ℕ → Option R) (rows : List R) (items : List X) (index : ℕ) → IsIndex row_key named count row_of rows → InOrder key items
-      → ((k : List ℕ) (row : R) → row_of k ≡ Some row → GivesItem k row) → ((k : List ℕ) → find_by key k items ≡ option_and_then info (row_of k))
-      → option_and_then info (slice_get rows index) ≡ slice_get items index
-  info-at named count row_of rows items index h sorted gives found =
-      sym (get-info rows index own)
-      ∙ ap (λ (xs : List X). slice_get xs index) (in_order-same key (filter_map info rows) items (in_order-info rows own h.order) sorted (λ k. find-info k rows own ∙ ap (option_and_then info) (h.found k) ∙ sym (found k)))
-    where
-      own : GiveOwn rows
-      own = all_weaker _ _ rows (λ row itself. gives (row_key row) row (sym (h.found (row_key row)) ∙ itself)) (finds_itself row_key rows h.order)
+  -- the number of the items is that of the rows
+  count-info : (rows : List R) → GiveOwn rows → length (filter_map info rows) ≡ length rows
+  count-info [] own = refl
+  count-info (row ∷ rows) own = ap (λ (o : Option X). length (cons_option o (filter_map info rows))) own.0.info_as ∙ ap suc (count-info rows own.1)
+
+  -- a register whose items are found by what the rows tell
+  module _ (named : R → ℕ) (count : ℕ) (row_of : List ℕ → Option R) (rows : List R) (items : List X) (h : IsIndex row_key named count row_of rows) (sorted : InOrder key items)
+      (gives : (k : List ℕ) (row : R) → row_of k ≡ Some row → GivesItem k row) (found : (k : List ℕ) → find_by key k items ≡ option_and_then info (row_of k)) where
+    own : GiveOwn rows
+    own = all_weaker _ _ rows (λ row itself. gives (row_key row) row (sym (h.found (row_key row)) ∙ itself)) (finds_itself row_key rows h.order)
+
+    same_items : filter_map info rows ≡ items
+    same_items = in_order-same key (filter_map info rows) items (in_order-info rows own h.order) sorted (λ k. find-info k rows own ∙ ap (option_and_then info) (h.found k) ∙ sym (found k))
+
+    -- it has the items of the rows, at their indexes
+    pub info-at : (index : ℕ) → option_and_then info (slice_get rows index) ≡ slice_get items index
+    info-at index = sym (get-info rows index own) ∙ ap (λ (xs : List X). slice_get xs index) same_items
+
+    -- and as many
+    pub info-count : length rows ≡ length items
+    info-count = sym (count-info rows own) ∙ ap length same_items

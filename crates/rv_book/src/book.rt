@@ -1,4 +1,4 @@
-ghost use Rattle.std.specs.Prelude.{◌≡◌, ◌≤◌, ◌<◌, ◌+◌, ◌^◌, ◌↔◌, IsTrue, option_map, IfOk, OnOk, Err, IfSome, slice_get};
+ghost use Rattle.std.specs.Prelude.{◌≡◌, ◌≤◌, ◌<◌, ◌+◌, ◌^◌, ◌↔◌, IsTrue, length, option_map, IfOk, OnOk, Err, IfSome, slice_get};
 ghost use Rattle.std.specs.Option.{option_map_or};
 ghost use Rattle.rv_base.specs.Sorted.{InOrder};
 ghost use Rattle.rv_book.specs.Book.{bound, empty_book, entry_at, group_of, ids, last, last_order, retired, size, with_entry};
@@ -175,18 +175,33 @@ impl Book {
         clients::info(self.log(), &self.clients, client)
     }
 
+    /// How many clients have an act.
+    pub fn client_count(&self) -> usize
+        ensures { result ≡ length (clients_of self.now.book) }
+    {
+        self.clients.len()
+    }
+
     /// The client at an index, from 0, of the clients that have an act, in the order of their bytes; `None` from their number
     /// on. It takes no memory, and the time of one look-up by index, however long the book is.
-    pub fn client_at(&self, index: u32) -> Option<ClientInfo<'_>>
+    pub fn client_at(&self, index: usize) -> Option<ClientInfo<'_>>
         ensures { option_map (λ info. (info.client.now, info.group.now, info.last)) result ≡ slice_get (clients_of self.now.book) index }
     {
         clients::info_at(self.log(), &self.clients, index)
     }
 
+    /// How many groups an act or a look names.
+    pub fn group_count(&self) -> usize
+        requires { RetiresBound self.now.book }
+        ensures { result ≡ length (groups_of self.now.book) }
+    {
+        self.groups.len()
+    }
+
     /// The group at an index, from 0, of the groups that an act or a look names, in the order of their bytes; `None` from their
     /// number on. It takes no memory, and the time of one look-up by index, however long the book is. Each group that is retired
     /// has to be named by an act or a look, as it is in every book that the machine makes.
-    pub fn group_at(&self, index: u32) -> Option<GroupInfo<'_>>
+    pub fn group_at(&self, index: usize) -> Option<GroupInfo<'_>>
         requires { RetiresBound self.now.book }
         ensures { option_map (λ info. (info.group.now, info.user.now, info.last_order, info.retired)) result ≡ slice_get (groups_of self.now.book) index }
     {

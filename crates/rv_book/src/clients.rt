@@ -173,11 +173,11 @@ fn info_by<'b>(log: Log<'b>, row: &ClientRow) -> Option<ClientInfo<'b>>
 }
 
 // The client at an index, from 0, of those that have an act, in the order of their bytes.
-pub(crate) fn info_at<'b>(log: Log<'b>, rows: &[ClientRow], index: u32) -> Option<ClientInfo<'b>>
+pub(crate) fn info_at<'b>(log: Log<'b>, rows: &[ClientRow], index: usize) -> Option<ClientInfo<'b>>
     requires { AreClientRows (logged log) rows.now }
     ensures { option_map (λ info. (info.client.now, info.group.now, info.last)) result ≡ slice_get (clients_of (logged log.entry)) index }
 {
-    info_by(log, rows.get(index as usize)?)
+    info_by(log, rows.get(index)?)
 }
 
 // Enters an act of a client, which follows the entries, and answers the group of the client's first act among these. The client's

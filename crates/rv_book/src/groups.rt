@@ -239,12 +239,12 @@ fn info_by<'b>(log: Log<'b>, row: &GroupRow) -> Option<GroupInfo<'b>>
 }
 
 // The group at an index, from 0, of those that an act or a look names, in the order of their bytes.
-pub(crate) fn info_at<'b>(log: Log<'b>, rows: &[GroupRow], index: u32) -> Option<GroupInfo<'b>>
+pub(crate) fn info_at<'b>(log: Log<'b>, rows: &[GroupRow], index: usize) -> Option<GroupInfo<'b>>
     requires rows { AreGroupRows (logged log) rows.now }
     requires bound { RetiresBound (logged log) }
     ensures { option_map (λ info. (info.group.now, info.user.now, info.last_order, info.retired)) result ≡ slice_get (groups_of (logged log.entry)) index }
 {
-    info_by(log, rows.get(index as usize)?)
+    info_by(log, rows.get(index)?)
 }
 
 // Enters an entry, which follows the others. The row of its group is looked for at an index first.
