@@ -1,4 +1,4 @@
-ghost use Rattle.std.specs.Prelude.{◌≡◌, ◌≤◌, ◌<◌, ◌+◌, ◌^◌, ◌↔◌, IsTrue, length, option_map, IfOk, OnOk, Err, IfSome, slice_get};
+ghost use Rattle.std.specs.Prelude.{◌≡◌, ◌≤◌, ◌<◌, ◌+◌, ◌^◌, ◌↔◌, IsTrue, length, option_map, IfOk, OnOk, Err, None, IfSome, slice_get};
 ghost use Rattle.std.specs.Option.{option_map_or};
 ghost use Rattle.rv_base.specs.Sorted.{InOrder};
 ghost use Rattle.rv_book.specs.Book.{bound, empty_book, entry_at, group_of, ids, last, last_order, retired, size, with_entry};
@@ -96,6 +96,17 @@ impl Book {
         ensures bound { self.now.book.page.at ≤ size self.now.book }
     {
         self.page.at
+    }
+
+    /// The page that the book opened with, where there is one: what the entries since have changed is not on it. Takes no memory.
+    pub fn page(&self) -> Option<&Page>
+        ensures page { IfSome result (λ page. page.now ≡ self.now.book.page) }
+        ensures none { (result ≡ None) ↔ (self.now.book.page.at ≡ 0) }
+    {
+        if self.page.at == 0 {
+            return None;
+        }
+        Some(&self.page)
     }
 
     /// Whether the book is as long as it may be.
