@@ -10,3 +10,6 @@ pub mod MemberLaws
 pub mod LookBack
 pub mod RowsInfo
 pub mod InfoLaws
+pub mod Permuted
+pub mod SortedMembers
+pub mod PageRows

@@ -1,10 +1,11 @@
-ghost use Rattle.std.specs.Prelude.{◌≡◌, ◌≤◌, ◌<◌, ◌+◌, ◌^◌, ◌↔◌, IsTrue, length, option_map, IfOk, OnOk, Err, None, IfSome, slice_get};
+ghost use Rattle.std.specs.Prelude.{◌≡◌, ◌≤◌, ◌<◌, ◌+◌, ◌^◌, ◌↔◌, IsTrue, length, [], option_map, IfOk, OnOk, Err, None, IfSome, slice_get};
 ghost use Rattle.std.specs.Option.{option_map_or};
 ghost use Rattle.rv_base.specs.Sorted.{InOrder};
-ghost use Rattle.rv_book.specs.Book.{bound, empty_book, entry_at, group_of, ids, last, last_order, retired, size, with_entry};
+ghost use Rattle.rv_book.specs.Book.{book_from, bound, empty_book, entry_at, group_of, ids, last, last_order, retired, size, with_entry};
 ghost use Rattle.rv_book.specs.Kept.{falls_out, kept, last_look, look_at, look_before};
 ghost use Rattle.rv_book.specs.Logs.{logged};
 ghost use Rattle.rv_book.specs.Registers.{clients_of, groups_of, RetiresBound};
+ghost use Rattle.rv_book.specs.SoundPages.{IsSoundPage};
 ghost use Rattle.rv_book.specs.declared.fault.BookFault.TheVariants as BookFault;
 
 use crate::clients::{ClientInfo, ClientRef, ClientRow};
@@ -67,6 +68,29 @@ impl Book {
             limit,
             alloc,
         }
+    }
+
+    /// The book that opens with a page and has no entries yet, and whose last entry stands at this place at most. It takes the memory
+    /// of what is looked up by; where that is refused, the page is dropped.
+    pub fn from_page(alloc: Global, limit: u32, page: Page) -> Result<Book, Memory>
+        requires sound { IsSoundPage page }
+        requires within { page.at ≤ limit }
+        ensures book { IfOk result (λ book. book.book ≡ book_from page []) }
+        ensures limit { IfOk result (λ book. book.limit ≡ limit) }
+    {
+        let groups = groups::of_page(alloc, &page)?;
+        let clients = clients::of_page(alloc, &page)?;
+        let members = members::of_page(alloc, &page)?;
+        Ok(Book {
+            page,
+            entries: Vec::new(alloc),
+            look_rows: Vec::new(alloc),
+            groups,
+            clients,
+            members,
+            limit,
+            alloc,
+        })
     }
 
     // What look-ups read.

@@ -1,17 +1,20 @@
-ghost use Rattle.std.specs.Prelude.{◌≡◌, IsTrue, true, ◌≤◌, ◌<◌, ◌+◌, ◌-◌, ◌^◌, length, option_map, option_and_then, slice_get, IfSome, vec_len, vec_capacity};
+ghost use Rattle.std.specs.Prelude.{◌≡◌, IsTrue, true, ◌≤◌, ◌<◌, ◌+◌, ◌-◌, ◌^◌, length, [], IfOk, option_map, option_and_then, slice_get, IfSome, vec_len, vec_capacity};
 ghost use Rattle.std.specs.Option.{option_map_or};
 ghost use Rattle.rv_base.specs.Sorted.{IsPositionOf};
 ghost use Rattle.rv_book.specs.declared.entry.Entry.{Entry};
 ghost use Rattle.rv_book.specs.Entries.{is_act_of};
-ghost use Rattle.rv_book.specs.Book.{group_of, last, size, with_entry};
+ghost use Rattle.rv_book.specs.Book.{book_from, group_of, last, size, with_entry};
 ghost use Rattle.rv_book.specs.Logs.{logged};
 ghost use Rattle.rv_book.specs.Indexes.{acted_in, acting, AreClientRows, LastsFit, StandsAt, client_of_row, client_row, first_where, info_by_client};
 ghost use Rattle.rv_book.specs.Members.{group_before};
 ghost use Rattle.rv_book.specs.Registers.{clients_of};
+ghost use Rattle.rv_book.specs.SoundPages.{IsSoundPage};
 
 use crate::entry::Entry;
 use crate::log::Log;
-use rv_base::{Id, Num};
+use crate::page::Page;
+use rv_base::{Id, Memory, Num};
+use std::alloc::Global;
 
 /// A client that has an act in the book: the group of its first one, and its last mutation id, which is the number of its acts.
 #[derive(Clone, Copy, Debug)]
@@ -40,6 +43,22 @@ pub struct ClientInfo<'a> {
 pub(crate) struct ClientRow {
     pub(crate) first: usize,
     pub(crate) acts: u32,
+}
+
+// The rows of a page's clients, before an entry follows.
+pub(crate) fn of_page(alloc: Global, page: &Page) -> Result<Vec<ClientRow>, Memory>
+    requires { IsSoundPage page.now }
+    ensures { IfOk result (λ rows. AreClientRows (book_from page.now []) rows.items) }
+{
+    let clients = page.clients.as_slice();
+    let mut rows = Vec::with_capacity(alloc, clients.len())?;
+    for (first, (_, _, last)) in clients.iter().enumerate() {
+        rows.push(ClientRow {
+            first,
+            acts: last.get() as u32,
+        })?;
+    }
+    Ok(rows)
 }
 
 // The client of a row, and an empty text where the row names no act.

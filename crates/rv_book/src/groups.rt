@@ -1,15 +1,18 @@
-ghost use Rattle.std.specs.Prelude.{◌≡◌, IsTrue, ◌≤◌, ◌<◌, ◌+◌, ◌-◌, ◌^◌, length, count_by, option_map, option_and_then, slice_get, vec_len, vec_capacity};
+ghost use Rattle.std.specs.Prelude.{◌≡◌, IsTrue, ◌≤◌, ◌<◌, ◌+◌, ◌-◌, ◌^◌, length, [], IfOk, count_by, option_map, option_and_then, slice_get, vec_len, vec_capacity};
 ghost use Rattle.rv_base.specs.Sorted.{IsPositionOf};
 ghost use Rattle.rv_book.specs.declared.entry.Entry.{Entry};
-ghost use Rattle.rv_book.specs.Book.{bound, last_order, retired, size, with_entry};
+ghost use Rattle.rv_book.specs.Book.{book_from, bound, last_order, retired, size, with_entry};
 ghost use Rattle.rv_book.specs.Kept.{is_look_of, last_look};
 ghost use Rattle.rv_book.specs.Logs.{logged};
 ghost use Rattle.rv_book.specs.Indexes.{AreGroupRows, StandsAt, binds, first_where, group_of_row, group_row, naming, new_row, row_after, info_by_group, user_of, user_of_row};
 ghost use Rattle.rv_book.specs.Registers.{groups_of, RetiresBound};
+ghost use Rattle.rv_book.specs.SoundPages.{IsSoundPage};
 
 use crate::entry::{Entry, named};
 use crate::log::Log;
-use rv_base::{Id, Num, User};
+use crate::page::Page;
+use rv_base::{Id, Memory, Num, User};
+use std::alloc::Global;
 
 /// A client group as the book has it: whose it is, whether it is retired, and the order of its last look.
 #[derive(Clone, Copy, Debug)]
@@ -85,6 +88,26 @@ impl GroupRow {
             },
         }
     }
+}
+
+// The rows of a page's groups, before an entry follows.
+pub(crate) fn of_page(alloc: Global, page: &Page) -> Result<Vec<GroupRow>, Memory>
+    requires { IsSoundPage page.now }
+    ensures { IfOk result (λ rows. AreGroupRows (book_from page.now []) rows.items) }
+{
+    let groups = page.groups.as_slice();
+    let mut rows = Vec::with_capacity(alloc, groups.len())?;
+    for (named, (_, _, order, retired)) in groups.iter().enumerate() {
+        rows.push(GroupRow {
+            named,
+            bound: Some(named),
+            order: *order,
+            looks: 0,
+            last_look: None,
+            retired: *retired,
+        })?;
+    }
+    Ok(rows)
 }
 
 // The group of a row, and an empty text where the row names no entry.

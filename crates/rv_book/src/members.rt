@@ -1,22 +1,25 @@
 // The clients of each group: the rows of the clients in the order of the groups of their first acts, and then of the clients.
-ghost use Rattle.std.specs.Prelude.{◌≡◌, true, ◌≤◌, ◌<◌, ◌+◌, ◌-◌, ◌^◌, length, Some, option_map, vec_len, vec_capacity};
+ghost use Rattle.std.specs.Prelude.{◌≡◌, true, ◌≤◌, ◌<◌, ◌+◌, ◌-◌, ◌^◌, length, [], IfOk, Some, option_map, vec_len, vec_capacity};
 ghost use Rattle.std.specs.List.{filter};
 ghost use Rattle.std.specs.Cmp.Lexicographic.{slice_cmp};
 ghost use Rattle.std.specs.Ordering.{nat_cmp};
 ghost use Rattle.rv_base.specs.Sorted.{InOrder, IsPositionOf};
 ghost use Rattle.rv_book.specs.declared.entry.Entry.{Entry};
 ghost use Rattle.rv_book.specs.Entries.{is_act_of};
-ghost use Rattle.rv_book.specs.Book.{group_of, ids, size, with_entry};
+ghost use Rattle.rv_book.specs.Book.{book_from, group_of, ids, size, with_entry};
 ghost use Rattle.rv_book.specs.Indexes.{LastsFit};
 ghost use Rattle.rv_book.specs.Logs.{logged};
 ghost use Rattle.rv_book.specs.Members.{AreMemberRows, group_before, group_of_member, is_member, key_of_member, member_key, info_by};
+ghost use Rattle.rv_book.specs.SoundPages.{IsSoundPage};
 
 use crate::clients;
 use crate::clients::ClientRow;
 use crate::entry::Entry;
 use crate::group_clients::GroupClients;
 use crate::log::Log;
-use rv_base::{Id, Num};
+use crate::page::Page;
+use rv_base::{Id, Memory, Num};
+use std::alloc::Global;
 use std::cmp::Ordering;
 
 // The group of a row: that of the act that it names, and an empty text where it names no act.
@@ -31,14 +34,32 @@ fn group<'b>(log: Log<'b>, row: &ClientRow) -> &'b str
 }
 
 // How a row stands to a client of a group.
-fn compare(log: Log<'_>, row: &ClientRow, other: &Id, client: &Id) -> Ordering
+fn compare(log: Log<'_>, row: &ClientRow, other: &str, client: &str) -> Ordering
     ensures { result ≡ slice_cmp nat_cmp (key_of_member (logged log.entry) row.now) (member_key other.now client.now) }
 {
-    match group(log, row).cmp(other.as_str()) {
+    match group(log, row).cmp(other) {
         Ordering::Less => Ordering::Less,
-        Ordering::Equal => clients::key(log, row).cmp(client.as_str()),
+        Ordering::Equal => clients::key(log, row).cmp(client),
         Ordering::Greater => Ordering::Greater,
     }
+}
+
+// How a row stands to another.
+fn compare_rows(log: Log<'_>, row: &ClientRow, other: &ClientRow) -> Ordering
+    ensures { result ≡ slice_cmp nat_cmp (key_of_member (logged log.entry) row.now) (key_of_member (logged log.entry) other.now) }
+{
+    compare(log, row, group(log, other), clients::key(log, other))
+}
+
+// The rows of a page's clients by group, before an entry follows.
+pub(crate) fn of_page(alloc: Global, page: &Page) -> Result<Vec<ClientRow>, Memory>
+    requires { IsSoundPage page.now }
+    ensures { IfOk result (λ rows. AreMemberRows (book_from page.now []) rows.items) }
+{
+    let mut rows = clients::of_page(alloc, page)?;
+    let log = Log { page, entries: &[] };
+    rows.sort_unstable_by(|row, other| compare_rows(log, row, other));
+    Ok(rows)
 }
 
 // Where the row of a client of a group stands, or where it would go.
@@ -47,7 +68,7 @@ fn place(log: Log<'_>, rows: &[ClientRow], group: &Id, client: &Id) -> Result<us
     ensures now { IsPositionOf (key_of_member (logged log.entry)) (member_key group.now client.now) rows.now result }
     ensures next { (entry : Entry) → IsPositionOf (key_of_member (with_entry (logged log.entry) entry)) (member_key group.now client.now) rows.now result }
 {
-    rows.binary_search_by(|row| compare(log, row, group, client))
+    rows.binary_search_by(|row| compare(log, row, group.as_str(), client.as_str()))
 }
 
 // The rows of a group, found by two searches.
