@@ -3,7 +3,7 @@ use Rattle.std.specs.Prelude.{ℕ, ◌-◌, vec_len, vec_capacity}
 use Rattle.std.specs.declared.vec.Vec.{Vec}
 use Rattle.rv_book.specs.Book.{Book}
 
--- the book, the most entries that there may be, and a lower bound of the entries that have space
+-- the book, how long it may be at most, and a lower bound of the entries that have space
 pub record Recorded : Type 0 where
   pub book : Book
   pub limit : ℕ

@@ -53,7 +53,7 @@ impl Model for Book {
 }
 
 impl Book {
-    /// The empty book, which takes at most so many entries.
+    /// The empty book, which may become as long as the limit.
     pub fn new(alloc: Global, limit: u32) -> Book
         ensures book { result.book ≡ empty_book }
         ensures limit { result.limit ≡ limit }
@@ -70,8 +70,8 @@ impl Book {
         }
     }
 
-    /// The book that opens with a page and has no entries yet, and whose last entry stands at this place at most. It takes the memory
-    /// of what is looked up by; where that is refused, the page is dropped.
+    /// The book that opens with a page and has no entries yet, which may become as long as the limit. It takes the memory of its
+    /// indexes; where that is refused, the page is dropped.
     pub fn from_page(alloc: Global, limit: u32, page: Page) -> Result<Book, Memory>
         requires sound { IsSoundPage page }
         requires within { page.at ≤ limit }
@@ -148,21 +148,21 @@ impl Book {
         self.log().entry_at(place)
     }
 
-    /// The user whom a group is bound to: that of the first act or look that names it.
+    /// The user whom a group is bound to: that of the page, or else of the first act or look that names the group.
     pub fn bound(&self, group: &Id) -> Option<&User>
         ensures { option_map (λ user. user.now) result ≡ bound group.now self.now.book }
     {
         groups::bound(self.log(), &self.groups, group)
     }
 
-    /// The group of a client's first act.
+    /// The group of a client: that of the page, or else of its first act.
     pub fn group_of(&self, client: &Id) -> Option<&Id>
         ensures { option_map (λ group. group.now) result ≡ group_of client.now self.now.book }
     {
         clients::group_of(self.log(), &self.clients, client)
     }
 
-    /// The last mutation id of a client: the number of its acts.
+    /// The last mutation id of a client: that of the page, or 0, plus the number of its acts.
     pub fn last(&self, client: &Id) -> Num
         ensures value { result ≡ last client.now self.now.book }
         ensures bound { result ≤ size self.now.book }
@@ -170,7 +170,7 @@ impl Book {
         Num::from_u64(u64::from(clients::acts(self.log(), &self.clients, client)))
     }
 
-    /// The order of a group's last look, or 0.
+    /// The order of a group's last look, or else that of the page, or 0.
     pub fn last_order(&self, group: &Id) -> Num
         ensures { result ≡ last_order group.now self.now.book }
     {
@@ -200,8 +200,8 @@ impl Book {
         groups::info(self.log(), &self.groups, group)
     }
 
-    /// All that the book says of a client for a mutation, found by one search. Of a client without an act there is nothing to
-    /// tell: it has no group, and its last mutation id is 0.
+    /// All that the book says of a client for a mutation, found by one search. Of a client that neither the page nor an act names
+    /// there is nothing to tell: it has no group, and its last mutation id is 0.
     pub fn client(&self, client: &Id) -> Option<ClientRef<'_>>
         ensures group { option_map (λ info. info.group.now) result ≡ group_of client.now self.now.book }
         ensures last { option_map_or (λ info. info.last) result 0 ≡ last client.now self.now.book }
@@ -210,22 +210,22 @@ impl Book {
         clients::info(self.log(), &self.clients, client)
     }
 
-    /// How many clients have an act.
+    /// How many clients the page or an act names.
     pub fn client_count(&self) -> usize
         ensures { result ≡ length (clients_of self.now.book) }
     {
         self.clients.len()
     }
 
-    /// The client at an index, from 0, of the clients that have an act, in the order of their bytes; `None` from their number
-    /// on. It takes no memory, and the time of one look-up by index, however long the book is.
+    /// The client at an index, from 0, of the clients that the page or an act names, in the order of their bytes; `None` from
+    /// their number on. It takes no memory, and the time of one look-up by index, however long the book is.
     pub fn client_at(&self, index: usize) -> Option<ClientInfo<'_>>
         ensures { option_map (λ info. (info.client.now, info.group.now, info.last)) result ≡ slice_get (clients_of self.now.book) index }
     {
         clients::info_at(self.log(), &self.clients, index)
     }
 
-    /// How many groups an act or a look names.
+    /// How many groups the page, an act or a look names. Each group that is retired has to be one of them.
     pub fn group_count(&self) -> usize
         requires { RetiresBound self.now.book }
         ensures { result ≡ length (groups_of self.now.book) }
@@ -233,9 +233,9 @@ impl Book {
         self.groups.len()
     }
 
-    /// The group at an index, from 0, of the groups that an act or a look names, in the order of their bytes; `None` from their
-    /// number on. It takes no memory, and the time of one look-up by index, however long the book is. Each group that is retired
-    /// has to be named by an act or a look, as it is in every book that the machine makes.
+    /// The group at an index, from 0, of the groups that the page, an act or a look names, in the order of their bytes; `None`
+    /// from their number on. It takes no memory, and the time of one look-up by index, however long the book is. Each group that
+    /// is retired has to be one of them, as it is in every book that the machine makes.
     pub fn group_at(&self, index: usize) -> Option<GroupInfo<'_>>
         requires { RetiresBound self.now.book }
         ensures { option_map (λ info. (info.group.now, info.user.now, info.last_order, info.retired)) result ≡ slice_get (groups_of self.now.book) index }
@@ -278,7 +278,7 @@ impl Book {
         look::kept(self.log(), &self.groups, &self.look_rows, place)
     }
 
-    /// The place of a group's last look.
+    /// The place of a group's last look among the entries.
     pub fn last_look(&self, group: &Id) -> Option<u32>
         ensures { result ≡ last_look group.now self.now.book }
     {

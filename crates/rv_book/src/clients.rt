@@ -16,25 +16,25 @@ use crate::page::Page;
 use rv_base::{Id, Memory, Num};
 use std::alloc::Global;
 
-/// A client that has an act in the book: the group of its first one, and its last mutation id, which is the number of its acts.
+/// A client that the page or an act of the book names: its group and its last mutation id.
 #[derive(Clone, Copy, Debug)]
 pub struct ClientRef<'a> {
-    /// The group of the client's first act.
+    /// The client's group: that of the page, or else of its first act.
     pub group: &'a Id,
-    /// The client's last mutation id.
+    /// The client's last mutation id: that of the page, or 0, plus the number of its acts.
     pub last: Num,
     /// The index of the client's row, at which a later look-up begins.
     pub at: usize,
 }
 
-/// A client that has an act in the book, with its name.
+/// A client that the page or an act of the book names, with its name.
 #[derive(Clone, Copy, Debug)]
 pub struct ClientInfo<'a> {
     /// The client.
     pub client: &'a Id,
-    /// The group of the client's first act.
+    /// The client's group: that of the page, or else of its first act.
     pub group: &'a Id,
-    /// The client's last mutation id, which is the number of its acts.
+    /// The client's last mutation id: that of the page, or 0, plus the number of its acts.
     pub last: Num,
 }
 
@@ -61,7 +61,7 @@ pub(crate) fn of_page(alloc: Global, page: &Page) -> Result<Vec<ClientRow>, Memo
     Ok(rows)
 }
 
-// The client of a row, and an empty text where the row names no act.
+// The client of a row, and an empty text where the row names no client.
 #[tactic(auto, unfolding(crate::specs::Indexes::client_of_row))]
 pub(crate) fn key<'b>(log: Log<'b>, row: &ClientRow) -> &'b str
     ensures { result.now ≡ client_of_row (logged log.entry) row.now }
@@ -104,7 +104,7 @@ fn place_from(log: Log<'_>, rows: &[ClientRow], client: &Id, at: usize) -> Resul
     }
 }
 
-// The row of a client, where it has an act.
+// The row of a client, where the page or an act names it.
 fn find(log: Log<'_>, rows: &[ClientRow], client: &Id) -> Option<ClientRow>
     requires { AreClientRows (logged log) rows.now }
     ensures { result ≡ client_row (logged log.entry) client.now }
@@ -134,7 +134,7 @@ fn group_at<'b>(log: Log<'b>, index: usize) -> Option<&'b Id>
     Some(group)
 }
 
-// The group of a client's first act.
+// The group of a client.
 pub(crate) fn group_of<'b>(log: Log<'b>, rows: &[ClientRow], client: &Id) -> Option<&'b Id>
     requires { AreClientRows (logged log) rows.now }
     ensures { option_map (λ group. group.now) result ≡ group_of client.now (logged log.entry) }
@@ -145,7 +145,7 @@ pub(crate) fn group_of<'b>(log: Log<'b>, rows: &[ClientRow], client: &Id) -> Opt
     }
 }
 
-// The number of a client's acts.
+// The last mutation id of a client, and 0 where nothing names it.
 pub(crate) fn acts(log: Log<'_>, rows: &[ClientRow], client: &Id) -> u32
     requires lasts { LastsFit log.page.now }
     requires rows { AreClientRows (logged log) rows.now }
@@ -179,7 +179,7 @@ pub(crate) fn info<'b>(log: Log<'b>, rows: &[ClientRow], client: &Id) -> Option<
     }
 }
 
-// What a row says of its client, by the act that it names.
+// What a row says of its client, by what it names.
 fn info_by<'b>(log: Log<'b>, row: &ClientRow) -> Option<ClientInfo<'b>>
     ensures { option_map (λ info. (info.client.now, info.group.now, info.last)) result ≡ info_by_client (logged log.entry) row.now }
 {
@@ -191,7 +191,7 @@ fn info_by<'b>(log: Log<'b>, row: &ClientRow) -> Option<ClientInfo<'b>>
     })
 }
 
-// The client at an index, from 0, of those that have an act, in the order of their bytes.
+// The client at an index, from 0, of those that the page or an act names, in the order of their bytes.
 pub(crate) fn info_at<'b>(log: Log<'b>, rows: &[ClientRow], index: usize) -> Option<ClientInfo<'b>>
     requires { AreClientRows (logged log) rows.now }
     ensures { option_map (λ info. (info.client.now, info.group.now, info.last)) result ≡ slice_get (clients_of (logged log.entry)) index }
@@ -199,8 +199,8 @@ pub(crate) fn info_at<'b>(log: Log<'b>, rows: &[ClientRow], index: usize) -> Opt
     info_by(log, rows.get(index)?)
 }
 
-// Enters an act of a client, which follows the entries, and answers the group of the client's first act among these. The client's
-// row is looked for at an index first.
+// Enters an act of a client, which follows the entries, and answers the group that the client had before. Its row is looked for at
+// an index first.
 fn enter_act<'b>(log: Log<'b>, rows: &mut Vec<ClientRow>, client: &Id, at: usize) -> Option<&'b Id>
     requires lasts { LastsFit log.page.now }
     requires rows { AreClientRows (logged log) rows.old.items }
@@ -229,8 +229,8 @@ fn enter_act<'b>(log: Log<'b>, rows: &mut Vec<ClientRow>, client: &Id, at: usize
     }
 }
 
-// Enters an entry, which follows the others. Of an act it answers the group of its client's first act among these; the client's row
-// is looked for at an index first.
+// Enters an entry, which follows the others. Of an act it answers the group that its client had before; the client's row is looked
+// for at an index first.
 pub(crate) fn enter<'b>(
     log: Log<'b>,
     rows: &mut Vec<ClientRow>,

@@ -5,7 +5,7 @@ use rv_base::{Id, Memory, Num, User};
 use rv_rows::Call;
 use std::alloc::Global;
 
-/// An entry of the book. Its place is its number in the book, from 1.
+/// An entry of the book. Its place is one more than that of the entry before it, or of the page; the first without a page is at 1.
 #[derive(Debug, Drop)]
 pub enum Entry {
     /// A mutation was run.

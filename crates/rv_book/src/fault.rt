@@ -7,7 +7,7 @@ use thiserror::Error;
 /// Why no space for one more entry was made.
 #[derive(Clone, Copy, Debug, PartialEq, Eq, Error)]
 pub enum BookFault {
-    /// The book has as many entries as it may have.
+    /// The book is as long as it may be.
     #[error("the book is full")]
     Full,
     /// Memory was refused.

@@ -17,24 +17,24 @@ use std::alloc::Global;
 /// A client group as the book has it: whose it is, whether it is retired, and the order of its last look.
 #[derive(Clone, Copy, Debug)]
 pub struct GroupRef<'a> {
-    /// The user whom the group is bound to: that of the first act or look that names it.
+    /// The user whom the group is bound to: that of the page, or else of the first act or look that names it.
     pub user: Option<&'a User>,
     /// Whether the group is retired.
     pub retired: bool,
-    /// The order of the group's last look, or 0.
+    /// The order of the group's last look, or else that of the page, or 0.
     pub last_order: Num,
     /// The index of the group's row, at which a later look-up begins; 0 where it has none.
     pub at: usize,
 }
 
-/// A client group that an act or a look of the book names, with its name.
+/// A client group that the page, an act or a look of the book names, with its name.
 #[derive(Clone, Copy, Debug)]
 pub struct GroupInfo<'a> {
     /// The group.
     pub group: &'a Id,
-    /// The user whom the group is bound to: that of the first act or look that names it.
+    /// The user whom the group is bound to: that of the page, or else of the first act or look that names it.
     pub user: &'a User,
-    /// The order of the group's last look, or 0.
+    /// The order of the group's last look, or else that of the page, or 0.
     pub last_order: Num,
     /// Whether the group is retired.
     pub retired: bool,
@@ -110,7 +110,7 @@ pub(crate) fn of_page(alloc: Global, page: &Page) -> Result<Vec<GroupRow>, Memor
     Ok(rows)
 }
 
-// The group of a row, and an empty text where the row names no entry.
+// The group of a row, and an empty text where the row names nothing.
 #[tactic(auto, unfolding(crate::specs::Indexes::group_of_row))]
 fn key<'b>(log: Log<'b>, row: &GroupRow) -> &'b str
     ensures { result.now ≡ group_of_row (logged log.entry) row.now }
@@ -153,7 +153,7 @@ fn place_from(log: Log<'_>, rows: &[GroupRow], group: &Id, at: usize) -> Result<
     }
 }
 
-// The row of a group, where an entry names it. It is looked for at an index first.
+// The row of a group, where the page or an entry names it. It is looked for at an index first.
 fn find_from(log: Log<'_>, rows: &[GroupRow], group: &Id, at: usize) -> Option<GroupRow>
     requires { AreGroupRows (logged log) rows.now }
     ensures { result ≡ group_row (logged log.entry) group.now }
@@ -175,7 +175,7 @@ fn index(log: Log<'_>, rows: &[GroupRow], group: &Id) -> usize
     }
 }
 
-// The row of a group, and that of a group without an entry where none names it.
+// The row of a group, and a new one where nothing names it.
 pub(crate) fn row(log: Log<'_>, rows: &[GroupRow], group: &Id) -> GroupRow
     requires { AreGroupRows (logged log) rows.now }
     ensures bound { result.bound ≡ first_where (binds group.now) (naming (logged log.entry)) }
@@ -247,7 +247,7 @@ pub(crate) fn info<'b>(log: Log<'b>, rows: &[GroupRow], group: &Id) -> GroupRef<
     }
 }
 
-// What a row says of its group, by the entry that it names, where the group is bound.
+// What a row says of its group, by what it names, where the group is bound.
 fn info_by<'b>(log: Log<'b>, row: &GroupRow) -> Option<GroupInfo<'b>>
     ensures { option_map (λ info. (info.group.now, info.user.now, info.last_order, info.retired)) result ≡ info_by_group (logged log.entry) row.now }
 {
@@ -261,7 +261,7 @@ fn info_by<'b>(log: Log<'b>, row: &GroupRow) -> Option<GroupInfo<'b>>
     })
 }
 
-// The group at an index, from 0, of those that an act or a look names, in the order of their bytes.
+// The group at an index, from 0, of those that the page, an act or a look names, in the order of their bytes.
 pub(crate) fn info_at<'b>(log: Log<'b>, rows: &[GroupRow], index: usize) -> Option<GroupInfo<'b>>
     requires rows { AreGroupRows (logged log) rows.now }
     requires bound { RetiresBound (logged log) }

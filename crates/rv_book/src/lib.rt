@@ -1,7 +1,7 @@
 //! The book: what was entered, entry by entry, and what is looked up in it.
 //!
-//! Contracts see the book and the most entries that there may be. The definitions of what is looked up are in `specs/`, on
-//! books, those that recur on lists of entries. The indexes that answer without a walk of the book are in no contract.
+//! Contracts see the book and how long it may be at most. The definitions of what is looked up are in `specs/`, on books, those
+//! that recur on lists of entries. The indexes that answer without a walk of the book are in no contract.
 #![tactic(auto)]
 
 mod book;

@@ -1,4 +1,4 @@
-// The clients of each group: the rows of the clients in the order of the groups of their first acts, and then of the clients.
+// The clients of each group: the rows of the clients in the order of their groups, and then of the clients.
 ghost use Rattle.std.specs.Prelude.{◌≡◌, true, ◌≤◌, ◌<◌, ◌+◌, ◌-◌, ◌^◌, length, [], IfOk, Some, option_map, vec_len, vec_capacity};
 ghost use Rattle.std.specs.List.{filter};
 ghost use Rattle.std.specs.Cmp.Lexicographic.{slice_cmp};
@@ -22,7 +22,7 @@ use rv_base::{Id, Memory, Num};
 use std::alloc::Global;
 use std::cmp::Ordering;
 
-// The group of a row: that of the act that it names, and an empty text where it names no act.
+// The group of a row: that of what it names, and an empty text where it names no client.
 #[tactic(auto, unfolding(crate::specs::Members::group_of_member))]
 fn group<'b>(log: Log<'b>, row: &ClientRow) -> &'b str
     ensures { result.now ≡ group_of_member (logged log.entry) row.now }
@@ -123,7 +123,7 @@ fn enter_act(log: Log<'_>, rows: &mut Vec<ClientRow>, group: &Id, client: &Id)
     }
 }
 
-// Enters an entry, which follows the others. Of an act the group of its client's first act among these is known.
+// Enters an entry, which follows the others. Of an act the group that its client had before is known.
 pub(crate) fn enter(
     log: Log<'_>,
     rows: &mut Vec<ClientRow>,
