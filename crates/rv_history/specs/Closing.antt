@@ -15,6 +15,12 @@ pub record SumsUp (book : Book) (page : Page) : Type 0 where
   pub clients : page.clients ≡ clients_of book
   pub groups : page.groups ≡ groups_of book
 
+-- The book that a closing leaves: it opens with a page that sums up the one that was closed, and has no entries.
+pub record Closes (book new : Book) : Type 0 where
+  pub page : Page
+  pub sums : SumsUp book page
+  pub is : new ≡ book_from page []
+
 -- The new book goes on from the old one with a page alone: it is lawful and one place longer; clients and groups are what they were, their last
 -- mutation ids and orders too; and so are the rows, in the order of their keys, each with its version.
 pub record GoesOn (book new : Book) : Type 0 where

@@ -23,3 +23,4 @@ pub mod Closing
 pub mod ClosingLaws
 pub mod WholeRows
 pub mod SoundClosing
+pub mod Closable
