@@ -114,6 +114,13 @@ impl Book {
         self.log().len()
     }
 
+    /// How long the book may become.
+    pub fn limit(&self) -> u32
+        ensures { result ≡ self.now.limit }
+    {
+        self.limit
+    }
+
     /// The place of the opening page, after which the entries stand; 0 where there is none.
     pub fn opened_at(&self) -> u32
         ensures value { result ≡ self.now.book.page.at }

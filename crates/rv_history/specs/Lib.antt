@@ -24,3 +24,4 @@ pub mod ClosingLaws
 pub mod WholeRows
 pub mod SoundClosing
 pub mod Closable
+pub mod Openings

@@ -47,7 +47,7 @@ above_rows : (k : List ℕ) (stored : List Stored) → AllByRecursion (λ s. sli
 above_rows k [] all = tt
 above_rows k (s ∷ stored) all = (all.0, above_rows k stored all.1)
 
-in_rows : (stored : List Stored) → AreRows stored → InOrder row_text (rows_in stored)
+pub in_rows : (stored : List Stored) → AreRows stored → InOrder row_text (rows_in stored)
 in_rows [] order = tt
 in_rows (s ∷ stored) order = (above_rows (row_text s.0) stored order.0, in_rows stored order.1)
 

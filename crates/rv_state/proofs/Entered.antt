@@ -17,6 +17,7 @@ use Rattle.rv_history.specs.ReplayLaws.{replay_none, replay_act, replay_look, re
 use Rattle.rv_news.specs.Records.{Placed, AreRecords}
 use Rattle.rv_news.specs.KeptRecords.{records_none, records_act, records_look_in_place, records_retire}
 use Rattle.rv_record.specs.EntryReading.{EntryFits}
+use Rattle.rv_opening.specs.PageCells.{PartsFit}
 use Rattle.rv_state.specs.declared.prepared.Prepared.{Prepared}
 use Rattle.rv_state.specs.declared.prepared.Prepared.TheVariants as prepared
 use Rattle.rv_state.specs.declared.prepared.PreparedAct.{PreparedAct}
@@ -28,10 +29,10 @@ use Rattle.rv_state.specs.Ready.{IsPrepared, entry_of}
 
 -- the book is lawful, the rows, the records and the marks are its own, and its entries are of the form
 abbrev pub Stands : Book → List Stored → List Placed → List UserMark → Type 0
-Stands book rows records marks = IsLawful book × IsReplay book rows × AreRecords book records × AllByRecursion EntryFits book.entries × AreMarks book marks
+Stands book rows records marks = IsLawful book × IsReplay book rows × AreRecords book records × AllByRecursion EntryFits book.entries × AreMarks book marks × PartsFit book.page
 
 pub none_stands : Stands empty_book [] [] []
-none_stands = (lawful_none, replay_none, records_none, tt, marks_none)
+none_stands = (lawful_none, replay_none, records_none, tt, marks_none, record { rows = tt; clients = tt; groups = tt })
 
 -- one more entry of the form
 more_fit : (entries : List Entry) (entry : Entry) → AllByRecursion EntryFits entries → EntryFits entry → AllByRecursion EntryFits (entries ++ entry ∷ [])
@@ -48,33 +49,36 @@ left book group records = filter (λ r. kept r.0 (with_entry book (Retire group)
 
 after_act : (s : Standing) (act : PreparedAct) → Stands s.book s.rows s.records s.marks → IsPrepared s (prepared.Act act)
     → Stands (with_entry s.book (entry_of (prepared.Act act))) (with_staged (size s.book + 1) act.staged s.rows) s.records (fold (with_mark (size s.book + 1)) s.marks act.concerned)
-after_act s act (lawful, replay, records, all, marks) ready =
+after_act s act (lawful, replay, records, all, marks, parts) ready =
     let entry : Entry = Act act.user act.group act.client act.id act.call in (
       lawful_more s.book entry lawful ready.lawful,
       subst (λ (rows : List Stored). IsReplay (with_entry s.book entry) rows) (sym (ready.effect.2 (size s.book + 1))) (replay_act s.book s.rows act.user act.group act.client act.id act.call replay),
       records_act s.book act.user act.group act.client act.id act.call s.records records,
       more_fit s.book.entries entry all ready.fits,
       marks_act s.book entry act.concerned s.marks ready.effect.4 marks,
+      parts,
     )
 
 after_look : (s : Standing) (look : PreparedLook) → Stands s.book s.rows s.records s.marks → IsPrepared s (prepared.Look look)
     → Stands (with_entry s.book (entry_of (prepared.Look look))) s.rows (with_record s.book look.group look.view s.records) s.marks
-after_look s look (lawful, replay, records, all, marks) ready =
+after_look s look (lawful, replay, records, all, marks, parts) ready =
     let entry : Entry = Look look.user look.group look.order look.base in (
       lawful_more s.book entry lawful ready.lawful,
       replay_look s.book s.rows look.user look.group look.order look.base replay,
       records_look_in_place s.book look.user look.group look.order look.base look.view s.records records ready.effect.1 ready.lawful.0.stands,
       more_fit s.book.entries entry all ready.fits,
       marks_look s.book look.user look.group look.order look.base s.marks marks,
+      parts,
     )
 
 after_retirement : (s : Standing) (group : List ℕ) → Stands s.book s.rows s.records s.marks → IsPrepared s (prepared.Retirement group) → Stands (with_entry s.book (Retire group)) s.rows (left s.book group s.records) s.marks
-after_retirement s group (lawful, replay, records, all, marks) ready = (
+after_retirement s group (lawful, replay, records, all, marks, parts) ready = (
   lawful_more s.book (Retire group) lawful ready.lawful,
   replay_retire s.book s.rows group replay,
   records_retire s.book group s.records records,
   more_fit s.book.entries (Retire group) all ready.fits,
   marks_retire s.book group s.marks marks,
+  parts,
 )
 
 -- the same, where t is the state in other words

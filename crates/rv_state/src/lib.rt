@@ -1,9 +1,10 @@
 //! The state of one server: a book of entries, the tables and view records that are its replay, and its users' marks.
 //!
 //! An entry comes into a [`State`] in two steps: it is prepared, which takes memory, and then entered, which can't fail.
-//! [`may_stand`] tells whether an entry may come next.
+//! [`may_stand`] tells whether an entry may come next. A state also opens with the page of a book, and goes on from the page that sums it up.
 #![tactic(auto)]
 
+mod closing;
 mod fitting;
 mod lawful;
 mod marks;

@@ -29,11 +29,11 @@ use std::sync::ledger::Ledger;
 /// is; to enter it takes none and can't fail. It may be entered at any later time, while nothing else was.
 #[derive(Debug, Drop)]
 pub struct State {
-    book: Book,
-    tables: Tables,
-    records: Records,
-    marks: UserMarks,
-    alloc: Global,
+    pub(crate) book: Book,
+    pub(crate) tables: Tables,
+    pub(crate) records: Records,
+    pub(crate) marks: UserMarks,
+    pub(crate) alloc: Global,
 }
 
 impl Model for State {
@@ -43,13 +43,14 @@ impl Model for State {
     ghost use Rattle.rv_news.specs.Records.{AreRecords};
     ghost use Rattle.rv_record.specs.EntryReading.{EntryFits};
     ghost use Rattle.rv_state.specs.Standing.{Standing};
+    ghost use Rattle.rv_opening.specs.PageCells.{PartsFit};
     ghost use Rattle.rv_state.specs.UserMarks.{AreMarks};
 
     ghost Value = { Standing };
 
     ghost view = { λ s. record { book = s.book.book; limit = s.book.limit; spare_entries = s.book.spare; rows = s.tables.rows; spare_rows = s.tables.spare; records = s.records.records; spare_views = s.records.spare; marks = s.marks.marks; spare_marks = s.marks.spare } };
 
-    ghost invariant = { λ s. IsLawful s.book.book × IsReplay s.book.book s.tables.rows × AreRecords s.book.book s.records.records × AllByRecursion EntryFits s.book.book.entries × AreMarks s.book.book s.marks.marks };
+    ghost invariant = { λ s. IsLawful s.book.book × IsReplay s.book.book s.tables.rows × AreRecords s.book.book s.records.records × AllByRecursion EntryFits s.book.book.entries × AreMarks s.book.book s.marks.marks × PartsFit s.book.book.page };
 }
 
 // Makes space for an entry.
@@ -76,6 +77,7 @@ impl State {
     ghost use Rattle.rv_history.specs.Machine.{next_order, reply_to};
     ghost use Rattle.rv_history.specs.Marks.{AreConcerned, IsMark};
     ghost use Rattle.rv_news.specs.Records.{AreRecords};
+    ghost use Rattle.rv_opening.specs.PageCells.{PartsFit};
     ghost use Rattle.rv_wire.specs.Answers.{pull_json};
     ghost use Rattle.rv_state.specs.Ready.{IsPrepared, entry_of};
 
@@ -99,6 +101,7 @@ impl State {
         ensures limit { result.now.limit ≡ self.now.limit }
         ensures lawful { IsLawful self.now.book }
         ensures fits { AllByRecursion EntryFits self.now.book.entries }
+        ensures parts { PartsFit self.now.book.page }
         ensures rows { IsReplay self.now.book self.now.rows }
     {
         &self.book

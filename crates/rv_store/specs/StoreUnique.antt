@@ -12,7 +12,7 @@ use Rattle.rv_views.specs.Viewed.{Viewed}
 use Rattle.rv_book.specs.Book.{Book, up_to}
 use Rattle.rv_book.specs.Kept.{kept}
 use Rattle.rv_history.specs.Replay.{IsLastWrite, IsReplay}
-use Rattle.rv_history.specs.ReplayLaws.{last_write_unique}
+use Rattle.rv_history.specs.Openings.{replay_unique}
 use Rattle.rv_news.specs.Records.{AreRecords, IsRecord, IsViewAt, Placed, Rise, record_at}
 use Rattle.rv_news.specs.KeptRecords.{record_found}
 use Rattle.rv_keeper.specs.declared.cell.Cell.{Cell}
@@ -20,22 +20,6 @@ use Rattle.rv_store.specs.StoreCells.{AreDerived, derived_cells}
 
 both_ways : (a b : ℕ) → a ≤ b → b ≤ a → a ≡ b
 both_ways a b le ge = omega arith
-
--- the same rows, each with the place of its last write
-same_stored : (book : Book) (a b : List Stored) → rows_in a ≡ rows_in b → AllByRecursion (λ s. IsLastWrite book (row_text s.0) s.1) a → AllByRecursion (λ s. IsLastWrite book (row_text s.0) s.1) b → a ≡ b
-same_stored book [] [] same one other = refl
-same_stored book [] (y ∷ ys) same one other = absurd (cc)
-same_stored book (x ∷ xs) [] same one other = absurd (cc)
-same_stored book (x ∷ xs) (y ∷ ys) same one other =
-    let row : x.0 ≡ y.0 = cc in
-    let rest : rows_in xs ≡ rows_in ys = cc in
-    let version : x.1 ≡ y.1 = last_write_unique book (row_text y.0) x.1 y.1 (subst (λ (r : Row). IsLastWrite book (row_text r) x.1) row one.0) other.0 in
-    let others = same_stored book xs ys rest one.1 other.1 in
-    (λ i. (row i, version i) ∷ others i)
-
--- a book has one replay
-pub replay_unique : (book : Book) (a b : List Stored) → IsReplay book a → IsReplay book b → a ≡ b
-replay_unique book a b one other = same_stored book a b (one.rows ∙ sym other.rows) one.versions other.versions
 
 -- a user and a group see one view at a book
 pub view_unique : (book : Book) (user group : List ℕ) (a b : Viewed) → IsViewAt book user group a → IsViewAt book user group b → a ≡ b
