@@ -1,7 +1,6 @@
 -- The page as its cells end, and as they begin.
-use Rattle.std.proofs.Common.{◌≡◌, ℕ, ◌+◌, ◌^◌, ◌<◌, ◌≤◌, ◌↔◌, ◌==◌, Bool, true, false, cond, List, [], ◌∷◌, ◌++◌, length, get_or, take, drop, map, Option, Some, IsTrue, Result, Ok, Err, IsErrAnd, refl, sym, ap, ◌∙◌, subst, arith, append_assoc, inl, inr}
-use Rattle.std.specs.Option.{is_some, IsSome}
-use Rattle.std.specs.Str.{bytes_eq}
+use Rattle.std.proofs.Common.{◌≡◌, ℕ, ◌+◌, ◌^◌, ◌<◌, ◌≤◌, ◌↔◌, ◌==◌, Bool, true, false, cond, List, [], ◌∷◌, ◌++◌, length, get_or, take, drop, map, Option, IsTrue, Result, Ok, Err, IsErrAnd, refl, sym, ap, ◌∙◌, subst, arith, append_assoc, inl, inr}
+use Rattle.std.specs.Option.{IsSome}
 use Rattle.std.specs.List.{AllByRecursion}
 use Rattle.std.proofs.lemmas.Bool.Decides.{Decides-eqb}
 use Rattle.std.proofs.lemmas.List.{take-append-drop, take_more, drop_more, take_all}
@@ -16,22 +15,15 @@ use Rattle.rv_record.specs.declared.fault.CellFault.{CellFault}
 use Rattle.rv_record.specs.declared.fault.CellFault.TheVariants.{BadCell, Memory}
 use Rattle.rv_record.specs.CellReading.{Blames, PageFits, ReadsCell}
 use Rattle.rv_opening.specs.declared.page_read.PageRead.{PageRead}
-use Rattle.rv_opening.specs.PageCells.{PageClient, PageGroup, group_parts, page_cells, parts_of}
+use Rattle.rv_opening.specs.PageCells.{PageClient, PageGroup, page_cells, parts_of}
 use Rattle.rv_opening.specs.Begins.{Begins, BreaksOff, named_groups, with_groups}
 use Rattle.rv_opening.specs.PageReads.{BeginsWith, Follows, HasBegun, IsKeptPage, ReadsPage, TakesNext}
-use Rattle.rv_opening.proofs.Lists.{below-last, cons_parts}
-use Rattle.rv_opening.proofs.Parts.{cells-9, on, place_same, written}
+use Rattle.rv_opening.specs.Lists.{below-last, cons_parts, in_order-left}
+use Rattle.rv_opening.specs.Parts.{on, place_same, written}
+use Rattle.rv_opening.specs.PageLaws.{named_own}
 use Rattle.rv_opening.proofs.Steps.{one_shelf}
 
 -- ---- As they end.
-
-keys_found : (k : List ℕ) (groups : List PageGroup) → is_some (find_by (λ (g : PageGroup). g.0) k (map (λ (c : Cell). (c.key, [], 0, false)) (group_parts groups))) ≡ is_some (find_by (λ (g : PageGroup). g.0) k groups)
-keys_found k [] = refl
-keys_found k (g ∷ groups) = elim (bytes_eq k g.0) as (λ b. is_some (cond b (Some (g.0, [], 0, false)) (find_by (λ (h : PageGroup). h.0) k (map (λ (c : Cell). (c.key, [], 0, false)) (group_parts groups)))) ≡ is_some (cond b (Some g) (find_by (λ (h : PageGroup). h.0) k groups))) [ true ↦ refl | false ↦ keys_found k groups ]
-
--- the groups that a page's cells name are the page's
-named_own : (k : List ℕ) (page : Page) → 1 ≤ page.at → is_some (find_by (λ (g : PageGroup). g.0) k (named_groups (page_cells page))) ≡ is_some (find_by (λ (g : PageGroup). g.0) k page.groups)
-named_own k page from = ap (λ (cells : List Cell). is_some (find_by (λ (g : PageGroup). g.0) k (map (λ (c : Cell). (c.key, [], 0, false)) cells))) (cells-9 page from) ∙ keys_found k page.groups
 
 all_homes : (page : Page) → 1 ≤ page.at → (clients : List PageClient) → AllByRecursion (λ c. IsSome (find_by (λ (g : PageGroup). g.0) c.1 (named_groups (page_cells page)))) clients → AllByRecursion (λ c. IsSome (find_by (λ (g : PageGroup). g.0) c.1 page.groups)) clients
 all_homes page from [] all = tt
@@ -140,14 +132,6 @@ pub record ReadTo (limit : ℕ) (cells : List Cell) (rest : List Cell) (index : 
   pub cells_are : page_cells read.page ≡ first ∷ take index rest
   pub has : HasBegun limit cells read
 
-front_order : (xs ys : List Cell) → InOrder cell_key (xs ++ ys) → InOrder cell_key xs
-front_order [] ys order = tt
-front_order (x ∷ xs) ys order = (left xs order.0, front_order xs ys order.1)
-  where
-    left : (zs : List Cell) → AllByRecursion (λ z. Below (cell_key x) (cell_key z)) (zs ++ ys) → AllByRecursion (λ z. Below (cell_key x) (cell_key z)) zs
-    left [] all = tt
-    left (z ∷ zs) all = (all.0, left zs all.1)
-
 module _ (limit : ℕ) (cells : List Cell) (rest : List Cell) (index : ℕ) (cell : Cell) (read : PageRead) (order : InOrder cell_key cells) (below : index < length rest) (is : cell ≡ get_or rest index cell) (so_far : ReadTo limit cells rest index read) where
   -- the cells up to this one, and those behind it
   parted : cells ≡ page_cells read.page ++ cell ∷ drop (index + 1) rest
@@ -158,7 +142,7 @@ module _ (limit : ℕ) (cells : List Cell) (rest : List Cell) (index : ℕ) (cel
   pub next_follows : Follows read.page cell
   next_follows =
       below-last cell_key (page_cells read.page) cell
-      (front_order (page_cells read.page ++ cell ∷ []) (drop (index + 1) rest) (subst (InOrder cell_key) (parted ∙ sym (append_assoc (page_cells read.page) (cell ∷ []) (drop (index + 1) rest))) order))
+      (in_order-left cell_key (page_cells read.page ++ cell ∷ []) (drop (index + 1) rest) (subst (InOrder cell_key) (parted ∙ sym (append_assoc (page_cells read.page) (cell ∷ []) (drop (index + 1) rest))) order))
 
   pub read_more : (new : PageRead) → (page_cells new.page ≡ page_cells read.page ++ cell ∷ []) × HasBegun limit cells new → ReadTo limit cells rest (index + 1) new
   read_more new taken = record {

@@ -1,5 +1,3 @@
-pub mod Lists
-pub mod Parts
 pub mod Rows
 pub mod Steps
 pub mod Ended

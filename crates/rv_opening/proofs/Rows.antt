@@ -18,7 +18,7 @@ use Rattle.rv_rows.specs.Sharing.{is_list, list_of, owns, shares}
 use Rattle.rv_book.specs.SoundPages.{share_alike, shared_with_owner, AreSharedOnce}
 use Rattle.rv_history.specs.WholeRows.{push_whole, AreWhole}
 use Rattle.rv_opening.specs.PageReads.{stands_with}
-use Rattle.rv_opening.proofs.Lists.{all-last}
+use Rattle.rv_opening.specs.Lists.{all-last}
 
 pub rows_push : (stored : List Stored) (s : Stored) → rows_in (stored ++ s ∷ []) ≡ rows_in stored ++ s.0 ∷ []
 rows_push [] s = refl

@@ -28,8 +28,8 @@ use Rattle.rv_opening.specs.declared.page_read.PageRead.{PageRead}
 use Rattle.rv_opening.specs.PageCells.{PageClient, PageGroup, client_parts, group_parts, page_cells, parts_of, row_parts}
 use Rattle.rv_opening.specs.Begins.{Begins, BreaksOff, named_groups, with_groups}
 use Rattle.rv_opening.specs.PageReads.{ClientFollows, Follows, HasBegun, RowFollows, TakesNext}
-use Rattle.rv_opening.proofs.Lists.{all-last, all-left, all-push, all-right, in_order-push, put-end}
-use Rattle.rv_opening.proofs.Parts.{written, row_same, client_same, row_next, client_next, group_next, no_other, same_place}
+use Rattle.rv_opening.specs.Lists.{all-last, all-left, all-push, all-right, in_order-push, put-end}
+use Rattle.rv_opening.specs.Parts.{written, row_same, client_same, row_next, client_next, group_next, no_other, same_place}
 use Rattle.rv_opening.proofs.Rows.{absent, rows_push, whole_last, whole_more}
 
 -- ---- Places on shelves.

@@ -12,7 +12,7 @@ use Rattle.rv_record.specs.CellReading.{ClientFits, GroupFits, PageFits, client_
 use Rattle.rv_record.specs.RowReading.{RowFits, row_cell_in}
 use Rattle.rv_record.proofs.Again.{client_again, group_again, page_again, row_cell_again}
 use Rattle.rv_opening.specs.PageCells.{PageClient, PageGroup, PartsFit, client_parts, group_parts, page_cells, parts_of, row_parts}
-use Rattle.rv_opening.proofs.Lists.{all-last, all-left, cons_parts, filter-all, filter-none, map-last, not_longer}
+use Rattle.rv_opening.specs.Lists.{all-last, all-left, cons_parts, filter-all, filter-none, map-last, not_longer}
 
 -- a page above place 0 has the cell of its place in front
 pub written : (page : Page) → 1 ≤ page.at → page_cells page ≡ page_cell page.at ∷ parts_of page

@@ -1,10 +1,12 @@
--- Laws of lists: an item more at the end, and what a test leaves of items that all pass it, or none of them.
-use Rattle.std.proofs.Common.{◌≡◌, ℕ, Bool, true, false, cond, List, [], ◌∷◌, ◌++◌, map, refl, ap, ◌∙◌}
+-- Laws of lists: an item more at the end, the first items, what is joined and mapped, and what a test leaves of items that all pass it, or none
+-- of them.
+use Rattle.std.proofs.Common.{◌≡◌, ℕ, zero, suc, ◌-◌, Bool, true, false, cond, List, [], ◌∷◌, ◌++◌, length, take, drop, map, refl, sym, ap, ◌∙◌, subst, arith}
 use Rattle.std.specs.declared.cmp.Ordering.TheVariants.{Greater}
 use Rattle.std.specs.Cmp.Lexicographic.{slice_cmp}
 use Rattle.std.specs.List.{filter, AllByRecursion}
 use Rattle.std.specs.Ordering.{nat_cmp, ordering_reverse}
 use Rattle.std.proofs.lemmas.Cmp.{nat_list_cmp_total}
+use Rattle.std.proofs.lemmas.List.{take-append-drop}
 use Rattle.rv_base.specs.Sorted.{put_by, InOrder}
 use Rattle.rv_base.specs.Positions.{Below}
 
@@ -23,6 +25,21 @@ module _ {X : Type 0} (P : X → Type 0) where
 
   pub all-last : (xs : List X) (x : X) → AllByRecursion P (xs ++ x ∷ []) → P x
   all-last xs x all = (all-right xs (x ∷ []) all).0
+
+  pub all-append : (xs ys : List X) → AllByRecursion P xs → AllByRecursion P ys → AllByRecursion P (xs ++ ys)
+  all-append [] ys all also = also
+  all-append (x ∷ xs) ys all also = (all.0, all-append xs ys all.1 also)
+
+  pub all-take : (n : ℕ) (xs : List X) → AllByRecursion P xs → AllByRecursion P (take n xs)
+  all-take n xs all = all-left (take n xs) (drop n xs) (subst (AllByRecursion P) (sym (take-append-drop n xs)) all)
+
+pub all-weaker : {X : Type 0} (P Q : X → Type 0) (xs : List X) → ((x : X) → P x → Q x) → AllByRecursion P xs → AllByRecursion Q xs
+all-weaker P Q [] weaker all = tt
+all-weaker P Q (x ∷ xs) weaker all = (weaker x all.0, all-weaker P Q xs weaker all.1)
+
+pub all-map : {X Y : Type 0} (P : Y → Type 0) (f : X → Y) (xs : List X) → ((x : X) → P (f x)) → AllByRecursion P (map f xs)
+all-map P f [] each = tt
+all-map P f (x ∷ xs) each = (each x, all-map P f xs each)
 
 pub cons_parts : {X : Type 0} (x y : X) (xs ys : List X) → x ∷ xs ≡ y ∷ ys → (x ≡ y) × (xs ≡ ys)
 cons_parts x y xs ys same = (cc, cc)
@@ -50,6 +67,20 @@ map-last f (z ∷ zs) (x ∷ ys) y same =
     let rest = map-last f zs ys y parts.1 in
     record { front = z ∷ rest.front; last = rest.last; is = ap (λ (l : List _). z ∷ l) rest.is; images = (λ i. parts.0 i ∷ rest.images i); image = rest.image }
 
+-- the first items up to one of them
+pub take-to : {X : Type 0} (xs : List X) (y : X) (ys : List X) → take (suc (length xs)) (xs ++ y ∷ ys) ≡ xs ++ y ∷ []
+take-to [] y ys = refl
+take-to (x ∷ xs) y ys = ap (λ (zs : List _). x ∷ zs) (take-to xs y ys)
+
+-- the first of images and of what stands behind them
+pub take-images : {X Y : Type 0} (f : X → Y) (n : ℕ) (xs : List X) (ys : List Y) → take n (map f xs ++ ys) ≡ map f (take n xs) ++ take (n - length xs) ys
+take-images f zero [] ys = refl
+take-images f zero (x ∷ xs) ys = let nothing : 0 ≡ 0 - length (x ∷ xs) = omega arith in ap (λ (k : ℕ). take k ys) nothing
+take-images f (suc n) [] ys = let all : suc n ≡ suc n - 0 = omega arith in ap (λ (k : ℕ). take k ys) all
+take-images f (suc n) (x ∷ xs) ys =
+    let left : n - length xs ≡ suc n - length (x ∷ xs) = omega arith in
+    ap (λ (zs : List _). f x ∷ zs) (take-images f n xs ys ∙ ap (λ (k : ℕ). map f (take n xs) ++ take k ys) left)
+
 -- a test that all images pass, and one that none does
 pub filter-all : {X Y : Type 0} (test : Y → Bool) (f : X → Y) (xs : List X) → ((x : X) → test (f x) ≡ true) → filter test (map f xs) ≡ map f xs
 filter-all test f [] pass = refl
@@ -75,3 +106,30 @@ module _ {X : Type 0} (key : X → List ℕ) where
   pub below-last : (xs : List X) (x : X) → InOrder key (xs ++ x ∷ []) → AllByRecursion (λ y. Below (key y) (key x)) xs
   below-last [] x order = tt
   below-last (y ∷ xs) x order = (all-last (λ z. Below (key y) (key z)) xs x order.0, below-last xs x order.1)
+
+  -- the first of items in order are in order, and below all behind them
+  pub in_order-left : (xs ys : List X) → InOrder key (xs ++ ys) → InOrder key xs
+  in_order-left [] ys order = tt
+  in_order-left (x ∷ xs) ys order = (all-left (λ z. Below (key x) (key z)) xs ys order.0, in_order-left xs ys order.1)
+
+  pub in_order-take : (n : ℕ) (xs : List X) → InOrder key xs → InOrder key (take n xs)
+  in_order-take n xs order = in_order-left (take n xs) (drop n xs) (subst (InOrder key) (sym (take-append-drop n xs)) order)
+
+  pub in_order-below : (xs ys : List X) → InOrder key (xs ++ ys) → AllByRecursion (λ x. AllByRecursion (λ y. Below (key x) (key y)) ys) xs
+  in_order-below [] ys order = tt
+  in_order-below (x ∷ xs) ys order = (all-right (λ z. Below (key x) (key z)) xs ys order.0, in_order-below xs ys order.1)
+
+  -- items in order behind others, which are below all of them
+  pub in_order-append : (xs ys : List X) → InOrder key xs → InOrder key ys → AllByRecursion (λ x. AllByRecursion (λ y. Below (key x) (key y)) ys) xs → InOrder key (xs ++ ys)
+  in_order-append [] ys order also below = also
+  in_order-append (x ∷ xs) ys order also below = (all-append (λ z. Below (key x) (key z)) xs ys order.0 below.0, in_order-append xs ys order.1 also below.1)
+
+-- images that stand as their items do
+module _ {X Y : Type 0} (key : X → List ℕ) (image_key : Y → List ℕ) (f : X → Y) (below : (a b : X) → Below (key a) (key b) → Below (image_key (f a)) (image_key (f b))) where
+  images_above : (x : X) (xs : List X) → AllByRecursion (λ y. Below (key x) (key y)) xs → AllByRecursion (λ y. Below (image_key (f x)) (image_key y)) (map f xs)
+  images_above x [] all = tt
+  images_above x (y ∷ ys) all = (below x y all.0, images_above x ys all.1)
+
+  pub in_order-images : (xs : List X) → InOrder key xs → InOrder image_key (map f xs)
+  in_order-images [] order = tt
+  in_order-images (x ∷ xs) order = (images_above x xs order.0, in_order-images xs order.1)
