@@ -1,5 +1,5 @@
 -- The state of a book that opens with a page; and the page that sums a book up.
-use Rattle.std.proofs.Common.{◌≡◌, ℕ, suc, ◌+◌, ◌<◌, ◌≤◌, List, [], ◌∷◌, ◌++◌, length, take, drop, slice_get, Option, Some, None, refl, sym, ap, ◌∙◌, subst, arith, inr}
+use Rattle.std.proofs.Common.{◌≡◌, ℕ, zero, suc, ◌+◌, ◌<◌, ◌≤◌, List, [], ◌∷◌, ◌++◌, length, take, drop, slice_get, Option, Some, None, refl, sym, ap, ◌∙◌, subst, arith, inr}
 use Rattle.std.specs.List.{AllByRecursion}
 use Rattle.rv_rows.specs.Held.{Stored}
 use Rattle.rv_book.specs.declared.page.Page.{Page}
@@ -10,6 +10,7 @@ use Rattle.rv_history.specs.Lawful.{IsLawful}
 use Rattle.rv_history.specs.Openings.{closes_lawful, closes_replay, kept_opening, lawful_opening, mark_opening, replay_opening}
 use Rattle.rv_history.specs.Replay.{IsReplay}
 use Rattle.rv_news.specs.Records.{AreRecords, Placed}
+use Rattle.rv_record.specs.EntryReading.{EntryFits}
 use Rattle.rv_opening.specs.PageCells.{PartsFit}
 use Rattle.rv_state.specs.UserMarks.{AreMarks, UserMark}
 use Rattle.rv_state.proofs.Entered.{Stands}
@@ -35,7 +36,7 @@ closed_stands book new rows records marks closes lawful replay fits records_are 
   closes_lawful book new closes lawful,
   closes_replay book new rows closes replay,
   rw records_are (subst (λ (b : Book). AreRecords b []) (sym closes.is) (records_opening closes.page)),
-  subst (λ (b : Book). AllByRecursion _ b.entries) (sym closes.is) tt,
+  subst (λ (b : Book). AllByRecursion EntryFits b.entries) (sym closes.is) tt,
   rw marks_are (subst (λ (b : Book). AreMarks b []) (sym closes.is) (marks_opening closes.page)),
   fits,
 )
@@ -44,10 +45,21 @@ closed_stands book new rows records marks closes lawful replay fits records_are 
 
 pub take_got : {X : Type 0} (xs : List X) (i : ℕ) (x : X) → Some x ≡ slice_get xs i → take (i + 1) xs ≡ take i xs ++ x ∷ []
 take_got [] i x got = absurd (cc)
-take_got (y ∷ xs) 0 x got = let same : x ≡ y = cc in ap (λ z. z ∷ []) (sym same)
-take_got (y ∷ xs) (suc i) x got = ap (λ (ys : List _). y ∷ ys) (take_got xs i x got)
+take_got (y ∷ xs) zero x got = let same : x ≡ y = cc in ap (λ z. z ∷ []) (sym same)
+take_got {X} (y ∷ xs) (suc i) x got = let next : suc i + 1 ≡ suc (i + 1) = omega arith in ap (λ (n : ℕ). take n (y ∷ xs)) next ∙ ap (λ (ys : List X). y ∷ ys) (take_got xs i x got)
 
 pub none_got : {X : Type 0} (xs : List X) (i : ℕ) → None ≡ slice_get xs i → i < length xs → ⊥
 none_got [] i got below = omega arith
-none_got (y ∷ xs) 0 got below = cc
+none_got (y ∷ xs) zero got below = cc
 none_got (y ∷ xs) (suc i) got below = none_got xs i got (omega arith)
+
+-- the items so far, with the next
+pub so_far : {X : Type 0} (xs items more : List X) (i : ℕ) (x next : X) → items ≡ take i xs → Some x ≡ slice_get xs i → more ≡ items ++ next ∷ [] → next ≡ x → more ≡ take (i + 1) xs
+so_far {X} xs items more i x next are got grown is = grown ∙ (λ j. are j ++ is j ∷ []) ∙ sym (take_got xs i x got)
+
+pub all_more : {X : Type 0} (P : X → Type 0) (items more : List X) (next : X) → AllByRecursion P items → P next → more ≡ items ++ next ∷ [] → AllByRecursion P more
+all_more P items more next all one grown = subst (AllByRecursion P) (sym grown) (push items all)
+  where
+    push : (xs : List _) → AllByRecursion P xs → AllByRecursion P (xs ++ next ∷ [])
+    push [] each = (one, tt)
+    push (x ∷ xs) each = (each.0, push xs each.1)
