@@ -1,14 +1,6 @@
 -- What a book has, gone through one after another, while its cells are compared with the loaded ones.
 use Rattle.std.proofs.Common.{◌≡◌, ℕ, Bool, zero, suc, ◌+◌, ◌<◌, ◌≤◌, List, [], ◌∷◌, ◌++◌, length, get_or, drop, map, slice_get, Option, Some, None, Result, Ok, Err, IsErrAnd, MatchResult, refl, sym, ap, ◌∙◌, subst, arith}
-use Rattle.std.specs.declared.cmp.Ordering.TheVariants.{Less, Equal, Greater}
-use Rattle.std.specs.Ordering.{nat_cmp, match_ordering}
-use Rattle.std.specs.Cmp.Lexicographic.{slice_cmp}
-use Rattle.std.specs.List.{filter_map, cons_option, fold}
 use Rattle.std.proofs.lemmas.List.{drop_more, drop_all}
-use Rattle.rv_base.specs.Sorted.{put_by, sorted_by}
-use Rattle.rv_book.specs.declared.page.Page.{Page}
-use Rattle.rv_book.specs.Book.{Book, acting_client, clients_named, no_page, size}
-use Rattle.rv_book.specs.Registers.{binding_group, client_named, clients_of, group_named, groups_named, groups_of}
 use Rattle.rv_keeper.specs.declared.cell.Cell.{Cell}
 use Rattle.rv_record.specs.declared.fault.CellFault.{CellFault}
 use Rattle.rv_store.specs.OpeningSteps.{Departs}
@@ -30,41 +22,9 @@ none_left [] (suc i) none = refl
 none_left (x ∷ xs) zero none = absurd (cc)
 none_left (x ∷ xs) (suc i) none = none_left xs i none
 
--- ---- a book has no more clients, and no more groups, than entries
-
-length-put : {X : Type 0} (key : X → List ℕ) (x : X) (ys : List X) → length (put_by key x ys) ≤ length ys + 1
-length-put key x [] = omega arith
-length-put key x (y ∷ ys) =
-    elim (slice_cmp nat_cmp (key x) (key y)) as (λ o. length (match_ordering o (x ∷ y ∷ ys) (x ∷ ys) (y ∷ put_by key x ys)) ≤ length (y ∷ ys) + 1) [
-      | Less ↦ omega arith
-      | Equal ↦ omega arith
-      | Greater ↦ omega (arith, length-put key x ys)
-    ]
-
-length-sorted_after : {X : Type 0} (key : X → List ℕ) (xs sorted : List X) → length (fold (λ s x. put_by key x s) sorted xs) ≤ length xs + length sorted
-length-sorted_after key [] sorted = omega arith
-length-sorted_after key (x ∷ xs) sorted = omega (arith, length-sorted_after key xs (put_by key x sorted), length-put key x sorted)
-
-length-told : {X Y : Type 0} (told : X → Option Y) (xs : List X) → length (filter_map told xs) ≤ length xs
-length-told told [] = omega arith
-length-told told (x ∷ xs) = elim (told x) as (λ o. length (cons_option o (filter_map told xs)) ≤ length (x ∷ xs)) [ None ↦ omega (arith, length-told told xs) | Some y ↦ omega (arith, length-told told xs) ]
-
-length-register : {X Y : Type 0} (key : Y → List ℕ) (told : X → Option Y) (xs : List X) → length (sorted_by key (filter_map told xs)) ≤ length xs
-length-register key told xs = omega (arith, length-sorted_after key (filter_map told xs) [], length-told told xs)
-
-few_clients : (book : Book) → book.page ≡ no_page → length (clients_named book) ≤ length book.entries
-few_clients book opens = subst (λ (page : Page). length (map (λ c. c.0) page.clients ++ filter_map acting_client book.entries) ≤ length book.entries) (sym opens) (length-told acting_client book.entries)
-
-few_groups : (book : Book) → book.page ≡ no_page → length (groups_named book) ≤ length book.entries
-few_groups book opens = subst (λ (page : Page). length (map (λ g. g.0) page.groups ++ filter_map binding_group book.entries) ≤ length book.entries) (sym opens) (length-told binding_group book.entries)
-
-pub no_more_clients : (book : Book) (index : ℕ) → book.page ≡ no_page → size book ≤ index → drop index (clients_of book) ≡ []
-no_more_clients book index opens all =
-    drop_all index (clients_of book) (omega (arith, length-register (λ (c : List ℕ × List ℕ × ℕ). c.0) (λ client. client_named client book) (clients_named book), few_clients book opens))
-
-pub no_more_groups : (book : Book) (index : ℕ) → book.page ≡ no_page → size book ≤ index → drop index (groups_of book) ≡ []
-no_more_groups book index opens all =
-    drop_all index (groups_of book) (omega (arith, length-register (λ (g : List ℕ × List ℕ × ℕ × Bool). g.0) (λ group. group_named group book) (groups_named book), few_groups book opens))
+-- nothing is left at the end
+pub none_left_at_end : {X : Type 0} (xs : List X) (count index : ℕ) → count ≡ length xs → count ≤ index → drop index xs ≡ []
+none_left_at_end xs count index whole ends = drop_all index xs (omega (arith, whole, ends))
 
 -- ---- one after another
 

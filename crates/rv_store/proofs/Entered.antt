@@ -11,13 +11,12 @@ use Rattle.rv_base.specs.Sorted.{InOrder}
 use Rattle.rv_base.specs.Positions.{Below, Above}
 use Rattle.rv_book.specs.declared.entry.Entry.{Entry}
 use Rattle.rv_book.specs.declared.page.Page.{Page}
-use Rattle.rv_book.specs.Book.{Book, empty_book, no_page, size, with_entry}
+use Rattle.rv_book.specs.Book.{Book, book_from, size, with_entry}
 use Rattle.rv_book.specs.BookWords.{size-with_entry}
 use Rattle.rv_history.specs.Lawful.{IsLawfulAfter}
-use Rattle.rv_history.specs.LawfulBooks.{lawful_none, lawful_more}
+use Rattle.rv_history.specs.LawfulBooks.{lawful_more}
 use Rattle.rv_keeper.specs.declared.cell.Cell.{Cell}
-use Rattle.rv_keeper.specs.declared.loaded.Loaded.{Loaded}
-use Rattle.rv_keeper.specs.Cells.{AreCells, cell_key}
+use Rattle.rv_keeper.specs.Cells.{cell_key}
 use Rattle.rv_record.specs.declared.fault.CellFault.{CellFault}
 use Rattle.rv_record.specs.declared.fault.CellFault.TheVariants.{BadCell, Memory}
 use Rattle.rv_record.specs.declared.fault.Damage.{Damage}
@@ -74,53 +73,46 @@ pub length-entry_cells : (place : ℕ) (entries : List Entry) → length (entry_
 length-entry_cells place [] = refl
 length-entry_cells place (e ∷ entries) = ap suc (length-entry_cells (place + 1) entries)
 
--- the first so many cells are those of the entries of a sound book
-pub record Entered (limit : ℕ) (cells : List Cell) (index : ℕ) (book : Book) : Type 0 where
-  pub cells_are : take index cells ≡ entry_cells 1 book.entries
+-- the book opens with the page, and the first so many cells are those of its entries
+pub record Entered (limit : ℕ) (page : Page) (cells : List Cell) (index : ℕ) (book : Book) : Type 0 where
+  pub opens : book.page ≡ page
+  pub cells_are : take index cells ≡ entry_cells (page.at + 1) book.entries
   pub sound : IsSoundBook limit book
 
-pub none_entered : (limit : ℕ) (cells : List Cell) (book : Book) → book ≡ empty_book → Entered limit cells 0 book
-none_entered limit cells book none = rw none (record { cells_are = refl; sound = record { opens = refl; lawful = lawful_none; within = omega arith; fits = tt } })
+pub none_entered : (limit : ℕ) (page : Page) (cells : List Cell) (book : Book) → book ≡ book_from page [] → IsSoundBook limit book → Entered limit page cells 0 book
+none_entered limit page cells book none sound = record { opens = ap (λ (b : Book). b.page) none; cells_are = ap (λ (b : Book). entry_cells (page.at + 1) b.entries) (sym none); sound = sound }
 
 sound_more : (limit : ℕ) (book : Book) (cell : Cell) (entry : Entry) → IsSoundBook limit book → IsNext limit book cell entry → IsSoundBook limit (with_entry book entry)
 sound_more limit book cell entry sound next = record {
-  opens = sound.opens;
   lawful = lawful_more book entry sound.lawful next.lawful;
   within = omega (arith, size-with_entry book entry, next.below);
   fits = all-append EntryFits book.entries (entry ∷ []) sound.fits (next.fits, tt);
+  parts = sound.parts;
 }
 
--- a book without a page is as long as it has entries
-pub size-unopened : (book : Book) → book.page ≡ no_page → size book ≡ length book.entries
-size-unopened book opens = let at : book.page.at ≡ 0 = ap (λ (p : Page). p.at) opens in omega (arith, at)
-
-pub one_entered : (limit most : ℕ) (cells : List Cell) (index : ℕ) (cell : Cell) (book next : Book) → most ≡ limit → index < length cells → cell ≡ get_or cells index cell
-    → (entry : Entry) × IsNext most book cell entry × (next ≡ with_entry book entry) → Entered limit cells index book → Entered limit cells (index + 1) next
-one_entered limit most cells index cell book next same below is (entry, comes, after) entered =
+pub one_entered : (limit most : ℕ) (page : Page) (cells : List Cell) (index : ℕ) (cell : Cell) (book next : Book) → most ≡ limit → index < length cells → cell ≡ get_or cells index cell
+    → (entry : Entry) × IsNext most book cell entry × (next ≡ with_entry book entry) → Entered limit page cells index book → Entered limit page cells (index + 1) next
+one_entered limit most page cells index cell book next same below is (entry, comes, after) entered =
     let comes : IsNext limit book cell entry = subst (λ (n : ℕ). IsNext n book cell entry) same comes in
+    let place : size book + 1 ≡ (page.at + 1) + length book.entries = omega (arith, ap (λ (p : Page). p.at) entered.opens) in
     rw after (record {
+      opens = entered.opens;
       cells_are = take_more cells index cell below ∙ ap (λ (c : Cell). take index cells ++ c ∷ []) (sym is ∙ comes.made)
           ∙ ap (λ (t : List Cell). t ++ entry_cell (size book + 1) entry ∷ []) entered.cells_are
-          ∙ ap (λ (p : ℕ). entry_cells 1 book.entries ++ entry_cell p entry ∷ []) (next_place entered.sound.opens) ∙ sym (entry_cells-with_entry 1 book entry);
+          ∙ ap (λ (p : ℕ). entry_cells (page.at + 1) book.entries ++ entry_cell p entry ∷ []) place ∙ sym (entry_cells-with_entry (page.at + 1) book entry);
       sound = sound_more limit book cell entry entered.sound comes;
     })
-  where
-    next_place : book.page ≡ no_page → size book + 1 ≡ 1 + length book.entries
-    next_place opens = omega (arith, size-unopened book opens)
 
 -- as many entries as cells
-count_entered : (limit : ℕ) (cells : List Cell) (index : ℕ) (book : Book) → index ≤ length cells → Entered limit cells index book → size book ≡ index
-count_entered limit cells index book le entered = whole ∙ sym (length-entry_cells 1 book.entries) ∙ ap length (sym entered.cells_are) ∙ length-take-le index cells le
-  where
-    whole : size book ≡ length book.entries
-    whole = size-unopened book entered.sound.opens
+count_entered : (limit : ℕ) (page : Page) (cells : List Cell) (index : ℕ) (book : Book) → index ≤ length cells → Entered limit page cells index book → length book.entries ≡ index
+count_entered limit page cells index book le entered = sym (length-entry_cells (page.at + 1) book.entries) ∙ ap length (sym entered.cells_are) ∙ length-take-le index cells le
 
 -- ---- the cells beside those of entries
 
 not_above : (a b : ℕ) (o : Ordering) → ordering_then (nat_cmp a b) o ≡ Less → a ≤ b
 not_above a b o less = grind (arith, nat_tests)
 
-shelf_below : (x y : Cell) → Below (cell_key x) (cell_key y) → x.shelf ≤ y.shelf
+pub shelf_below : (x y : Cell) → Below (cell_key x) (cell_key y) → x.shelf ≤ y.shelf
 shelf_below x y low = not_above x.shelf y.shelf (slice_cmp nat_cmp x.key y.key) low
 
 -- cells beside those of shelf 1
@@ -141,42 +133,45 @@ beside_from (suc index) (x ∷ cells) cell order shelves below is apart = beside
 
 -- ---- what is answered in the end
 
-has_entries : (limit : ℕ) (loaded : Loaded) (index : ℕ) (book : Book) → index ≤ length loaded.cells → Entered limit loaded.cells index book → Beside (drop index loaded.cells) → HasEntries limit book loaded (drop (size book) loaded.cells)
-has_entries limit loaded index book le entered beside =
-    rw (count_entered limit loaded.cells index book le entered) (record {
-      cells = sym (take-append-drop index loaded.cells) ∙ ap (λ (t : List Cell). t ++ drop index loaded.cells) entered.cells_are;
-      beside = beside;
-      sound = entered.sound;
-    })
+module _ (limit : ℕ) (page : Page) (all : List Cell) where
+  has_entries : (index : ℕ) (book : Book) → index ≤ length all → Entered limit page all index book → Beside (drop index all) → HasEntries limit page book all (drop (length book.entries) all)
+  has_entries index book le entered beside =
+      rw (count_entered limit page all index book le entered) (record {
+        opens = entered.opens;
+        cells = sym (take-append-drop index all) ∙ ap (λ (t : List Cell). t ++ drop index all) entered.cells_are;
+        beside = beside;
+        sound = entered.sound;
+      })
 
-pub entered_all : (limit : ℕ) (loaded : Loaded) (cells : List Cell) (index : ℕ) (book : Book) → cells ≡ loaded.cells → index ≡ length cells → Entered limit cells index book → HasEntries limit book loaded (drop (size book) loaded.cells)
-entered_all limit loaded cells index book are all entered =
-    let le : length loaded.cells ≤ index = omega (arith, ap length are) in
-    has_entries limit loaded index book (omega (arith, ap length are)) (subst (λ (t : List Cell). Entered limit t index book) are entered) (rw (drop_all index loaded.cells le) tt)
+  pub entered_all : (index : ℕ) (book : Book) → index ≡ length all → Entered limit page all index book → HasEntries limit page book all (drop (length book.entries) all)
+  entered_all index book whole entered =
+      let le : length all ≤ index = omega (arith, whole) in
+      has_entries index book (omega (arith, whole)) entered (rw (drop_all index all le) tt)
 
-pub entered_first : (limit : ℕ) (loaded : Loaded) (cells : List Cell) (index : ℕ) (cell : Cell) (book : Book) → cells ≡ loaded.cells → AreCells loaded.cells → index < length cells → cell ≡ get_or cells index cell → ¬ (cell.shelf ≡ 1) → Entered limit cells index book
-    → HasEntries limit book loaded (drop (size book) loaded.cells)
-entered_first limit loaded cells index cell book are order below is apart entered =
-    let there : cell ≡ get_or loaded.cells index cell = is ∙ ap (λ (t : List Cell). get_or t index cell) are in
-    let within : index < length loaded.cells = omega (arith, ap length are) in
-    has_entries limit loaded index book (omega arith) (subst (λ (t : List Cell). Entered limit t index book) are entered) (beside_from index loaded.cells cell order.order order.shelves within there apart)
+  pub entered_first : (index : ℕ) (cell : Cell) (book : Book) → InOrder cell_key all → AllByRecursion (λ c. 0 < c.shelf) all → index < length all → cell ≡ get_or all index cell → ¬ (cell.shelf ≡ 1) → Entered limit page all index book
+      → HasEntries limit page book all (drop (length book.entries) all)
+  entered_first index cell book order shelves below is apart entered = has_entries index book (omega (arith, below)) entered (beside_from index all cell order shelves below is apart)
 
-entered_broken : (limit most : ℕ) (loaded : Loaded) (cells : List Cell) (index : ℕ) (cell : Cell) (book : Book) (damage : Damage) → cells ≡ loaded.cells → most ≡ limit → index < length cells → cell ≡ get_or cells index cell
-    → Breaks most book cell (BadCell damage) → Entered limit cells index book → BreaksAt limit loaded damage
-entered_broken limit most loaded cells index cell book damage are same below is breaks entered = record {
-  book = book;
-  cell = cell;
-  others = drop (index + 1) cells;
-  cells = sym are ∙ sym (take-append-drop index cells)
-      ∙ (λ i. entered.cells_are i ++ (drop_more cells index cell below ∙ ap (λ (c : Cell). c ∷ drop (index + 1) cells) (sym is)) i);
-  sound = entered.sound;
-  broken = subst (λ (n : ℕ). IsBrokenEntry n book cell) same breaks.0;
-  at = breaks.1;
-}
+  entered_broken : (most index : ℕ) (cell : Cell) (book : Book) (damage : Damage) → most ≡ limit → index < length all → cell ≡ get_or all index cell → Breaks most book cell (BadCell damage) → Entered limit page all index book → BreaksAt limit page all damage
+  entered_broken most index cell book damage same below is breaks entered = record {
+    book = book;
+    cell = cell;
+    others = drop (index + 1) all;
+    opens = entered.opens;
+    cells = sym (take-append-drop index all)
+        ∙ (λ i. entered.cells_are i ++ (drop_more all index cell below ∙ ap (λ (c : Cell). c ∷ drop (index + 1) all) (sym is)) i);
+    sound = entered.sound;
+    broken = subst (λ (n : ℕ). IsBrokenEntry n book cell) same breaks.0;
+    at = breaks.1;
+  }
 
-pub entered_fails : (limit most : ℕ) (loaded : Loaded) (cells : List Cell) (index : ℕ) (cell : Cell) (book : Book) (fault : CellFault) (r : Result Standing CellFault) → IsErrAnd r (λ d. d ≡ fault) → cells ≡ loaded.cells → most ≡ limit → index < length cells
-    → cell ≡ get_or cells index cell → Breaks most book cell fault → Entered limit cells index book → EntersAll limit loaded r
-entered_fails limit most loaded cells index cell book fault (Ok state) fails are same below is breaks entered = absurd fails
-entered_fails limit most loaded cells index cell book fault (Err (BadCell damage)) fails are same below is breaks entered =
-    entered_broken limit most loaded cells index cell book damage are same below is (subst (Breaks most book cell) (sym fails) breaks) entered
-entered_fails limit most loaded cells index cell book fault (Err Memory) fails are same below is breaks entered = tt
+  pub entered_fails : (most index : ℕ) (cell : Cell) (book : Book) (fault : CellFault) (r : Result Standing CellFault) → IsErrAnd r (λ d. d ≡ fault) → most ≡ limit → index < length all
+      → cell ≡ get_or all index cell → Breaks most book cell fault → Entered limit page all index book → EntersAll limit page all r
+  entered_fails most index cell book fault (Ok state) fails same below is breaks entered = absurd fails
+  entered_fails most index cell book fault (Err (BadCell damage)) fails same below is breaks entered = entered_broken most index cell book damage same below is (subst (Breaks most book cell) (sym fails) breaks) entered
+  entered_fails most index cell book fault (Err Memory) fails same below is breaks entered = tt
+
+  pub begins_fails : (r : Result Standing CellFault) → IsErrAnd r (λ d. d ≡ Memory) → EntersAll limit page all r
+  begins_fails (Ok state) fails = absurd fails
+  begins_fails (Err (BadCell damage)) fails = absurd (let no_memory : BadCell damage ≡ Memory = fails in cc)
+  begins_fails (Err Memory) fails = tt

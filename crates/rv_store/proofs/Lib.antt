@@ -7,5 +7,6 @@ pub mod Meeting
 pub mod Entered
 pub mod Comparisons
 pub mod Retirements
+pub mod Behind
 pub mod Compared
 pub mod Restored

@@ -1,5 +1,5 @@
 -- The changes that an entry makes of the cells of a book name each place once, and leave the cells of the book with the entry.
-use Rattle.std.proofs.Common.{◌≡◌, ℕ, ◌+◌, ◌^◌, ◌<◌, ◌≤◌, Bool, true, false, cond, not, List, [], ◌∷◌, ◌++◌, length, Option, Some, None, refl, sym, ap, ◌∙◌, subst, arith, map, append-nil, inl, inr}
+use Rattle.std.proofs.Common.{◌≡◌, ℕ, ◌+◌, ◌^◌, ◌<◌, ◌≤◌, Bool, true, false, cond, not, List, [], ◌∷◌, ◌++◌, length, Option, Some, None, refl, sym, ap, ◌∙◌, subst, arith, map, append_assoc, append-nil, inl, inr}
 use Rattle.std.specs.List.{AllByRecursion, filter}
 use Rattle.std.specs.Option.{option_map, option_map_or}
 use Rattle.std.specs.Str.{bytes_eq}
@@ -16,8 +16,7 @@ use Rattle.rv_mutators.specs.Staging.{with_staged, staged}
 use Rattle.rv_views.specs.Viewed.{Viewed}
 use Rattle.rv_book.specs.declared.entry.Entry.{Entry}
 use Rattle.rv_book.specs.declared.entry.Entry.TheVariants.{Act, Look, Retire}
-use Rattle.rv_book.specs.declared.page.Page.{Page}
-use Rattle.rv_book.specs.Book.{Book, no_page, size, with_entry, bound, group_of, last_order, retired}
+use Rattle.rv_book.specs.Book.{Book, size, with_entry, bound, group_of, last_order, retired}
 use Rattle.rv_book.specs.Kept.{is_look_at, falls_out, kept}
 use Rattle.rv_book.specs.LookLaws.{is_place}
 use Rattle.rv_book.specs.Registers.{clients_of, group_named, groups_of}
@@ -33,11 +32,14 @@ use Rattle.rv_keeper.specs.declared.change.Change.TheVariants.{Put, Remove}
 use Rattle.rv_keeper.specs.Cells.{AreChanges, cell_key, change_key, change_shelf, changed}
 use Rattle.rv_record.specs.CellTexts.{ten_digits, entry_cell, client_cell, group_cell, view_cell}
 use Rattle.rv_record.specs.PlaceOrder.{ten_digits-order}
+use Rattle.rv_opening.specs.PageCells.{page_cells}
+use Rattle.rv_opening.specs.PageLaws.{page_cells-on}
 use Rattle.rv_store.specs.StoreCells.{entry_cells, row_cells, client_cells, group_cells, view_cells, cells_of, AreCellsOf}
-use Rattle.rv_store.specs.StoreOrder.{entries-on, rows-on, clients-on, groups-on, derived-behind, clients-behind, groups-behind, views-behind, record_key, in_order-records, arranged, places_fit}
-use Rattle.rv_store.specs.StoreUnique.{replay_unique, records_unique}
+use Rattle.rv_store.specs.StoreOrder.{entries-on, rows-on, clients-on, groups-on, views-on, views-behind, record_key, in_order-records, arranged, places_fit}
+use Rattle.rv_history.specs.Openings.{replay_unique}
+use Rattle.rv_store.specs.StoreUnique.{records_unique}
 use Rattle.rv_store.specs.StoreBooks.{entry_cells-with_entry}
-use Rattle.rv_store.specs.ShelfLaws.{AreOf, AreAfter, all-append, same_shelf, changed-parts, distinct-parts, put-cells, distinct-changes}
+use Rattle.rv_store.specs.ShelfLaws.{AreOf, AreAfter, Behind, all-append, behind-on, same_shelf, changed-parts, distinct-parts, put-cells, distinct-changes}
 use Rattle.rv_store.specs.EntryChanges.{row_changes, act_changes, first_group, gone_view, look_changes, gone_views, retire_changes}
 use Rattle.rv_store.proofs.RowChanges.{rows-leave, rows-of, rows-distinct}
 use Rattle.rv_store.proofs.ViewChanges.{put-end, gone_views-leave, others_stay, falls_out-within, look_views-leave}
@@ -56,6 +58,24 @@ one_at shelf change own = record { own = (own, tt); once = (refl, tt) }
 after_of : (s t : ℕ) (changes : List Change) → s < t → AreOf t changes → AreAfter s changes
 after_of s t [] low own = tt
 after_of s t (change ∷ changes) low own = (omega (arith, low, own.0), after_of s t changes low own.1)
+
+-- ---- What stands behind the five shelves.
+
+behind_page : (s : ℕ) (cells : List Cell) → s ≤ 5 → AllByRecursion (λ cell. (5 < cell.shelf) × (cell.shelf < 10)) cells → Behind s cells
+behind_page s [] low all = tt
+behind_page s (cell ∷ cells) low all = (omega (arith, low, all.0.0), behind_page s cells low all.1)
+
+further : (s t : ℕ) (cells : List Cell) → s < t → Behind t cells → Behind s cells
+further s t [] low all = tt
+further s t (cell ∷ cells) low all = (omega (arith, low, all.0), further s t cells low all.1)
+
+all_of : (s : ℕ) (xs ys : List Cell) → Behind s xs → Behind s ys → Behind s (xs ++ ys)
+all_of s xs ys = all-append (λ cell. s < cell.shelf) xs ys
+
+regroup : (a b c d e : List Cell) → (a ++ (b ++ (c ++ d))) ++ e ≡ a ++ (b ++ (c ++ (d ++ e)))
+regroup a b c d e =
+    append_assoc a (b ++ (c ++ d)) e
+    ∙ ap (λ (cells : List Cell). a ++ cells) (append_assoc b (c ++ d) e ∙ ap (λ (cells : List Cell). b ++ cells) (append_assoc c d e))
 
 -- Changes of the five shelves, one shelf after another.
 module _ (entries rows clients groups views : List Change) (first : AreOnce 1 entries) (second : AreOnce 2 rows) (third : AreOnce 3 clients) (fourth : AreOnce 4 groups) (fifth : AreOnce 5 views) where
@@ -82,19 +102,30 @@ module _ (entries rows clients groups views : List Change) (first : AreOnce 1 en
     shelves = all-append (λ change. 0 < change_shelf change) entries (rows ++ (clients ++ (groups ++ views))) (after_of 0 1 entries (omega arith) first.own) (after_first 0 (omega arith));
   }
 
-  -- and each shelf's change its cells alone
+  -- and each shelf's change its cells alone, and leave the page's
   five_leave : (book : Book) (stored : List Stored) (records : List Placed) → changed (cells_of book stored records) (entries ++ (rows ++ (clients ++ (groups ++ views))))
-      ≡ changed (entry_cells 1 book.entries) entries ++ (changed (row_cells stored) rows ++ (changed (client_cells book) clients ++ (changed (group_cells book) groups ++ changed (view_cells records) views)))
+      ≡ changed (entry_cells (book.page.at + 1) book.entries) entries
+      ++ ((changed (row_cells stored) rows ++ (changed (client_cells book) clients ++ (changed (group_cells book) groups ++ changed (view_cells records) views))) ++ page_cells book.page)
   five_leave book stored records =
-      changed-parts 1 (entry_cells 1 book.entries) (row_cells stored ++ (client_cells book ++ (group_cells book ++ view_cells records))) entries (rows ++ (clients ++ (groups ++ views)))
-      (entries-on 1 book.entries) (derived-behind book stored records) first.own (after_first 1 (omega arith))
-      ∙ ap (λ (cells : List Cell). changed (entry_cells 1 book.entries) entries ++ cells)
-      (changed-parts 2 (row_cells stored) (client_cells book ++ (group_cells book ++ view_cells records)) rows (clients ++ (groups ++ views))
-      (rows-on stored) (clients-behind book records) second.own (after_second 2 (omega arith))
+      let page : List Cell = page_cells book.page in
+      let on = page_cells-on book.page in
+      let from_views = all_of 4 (view_cells records) page (views-behind records) (behind_page 4 page (omega arith) on) in
+      let from_groups = all_of 3 (group_cells book) (view_cells records ++ page) (behind-on 3 4 (group_cells book) (omega arith) (groups-on book)) (further 3 4 (view_cells records ++ page) (omega arith) from_views) in
+      let from_clients = all_of 2 (client_cells book) (group_cells book ++ (view_cells records ++ page)) (behind-on 2 3 (client_cells book) (omega arith) (clients-on book)) (further 2 3 (group_cells book ++ (view_cells records ++ page)) (omega arith) from_groups) in
+      let from_rows = all_of 1 (row_cells stored) (client_cells book ++ (group_cells book ++ (view_cells records ++ page))) (behind-on 1 2 (row_cells stored) (omega arith) (rows-on stored)) (further 1 2 (client_cells book ++ (group_cells book ++ (view_cells records ++ page))) (omega arith) from_clients) in
+      ap (λ (cells : List Cell). changed (entry_cells (book.page.at + 1) book.entries ++ cells) (entries ++ (rows ++ (clients ++ (groups ++ views))))) (regroup (row_cells stored) (client_cells book) (group_cells book) (view_cells records) page)
+      ∙ changed-parts 1 (entry_cells (book.page.at + 1) book.entries) (row_cells stored ++ (client_cells book ++ (group_cells book ++ (view_cells records ++ page)))) entries (rows ++ (clients ++ (groups ++ views)))
+      (entries-on (book.page.at + 1) book.entries) from_rows first.own (after_first 1 (omega arith))
+      ∙ ap (λ (cells : List Cell). changed (entry_cells (book.page.at + 1) book.entries) entries ++ cells)
+      (changed-parts 2 (row_cells stored) (client_cells book ++ (group_cells book ++ (view_cells records ++ page))) rows (clients ++ (groups ++ views))
+      (rows-on stored) from_clients second.own (after_second 2 (omega arith))
       ∙ ap (λ (cells : List Cell). changed (row_cells stored) rows ++ cells)
-      (changed-parts 3 (client_cells book) (group_cells book ++ view_cells records) clients (groups ++ views) (clients-on book) (groups-behind book records) third.own (after_third 3 (omega arith))
+      (changed-parts 3 (client_cells book) (group_cells book ++ (view_cells records ++ page)) clients (groups ++ views) (clients-on book) from_groups third.own (after_third 3 (omega arith))
       ∙ ap (λ (cells : List Cell). changed (client_cells book) clients ++ cells)
-      (changed-parts 4 (group_cells book) (view_cells records) groups views (groups-on book) (views-behind records) fourth.own (after_fourth 4 (omega arith)))))
+      (changed-parts 4 (group_cells book) (view_cells records ++ page) groups views (groups-on book) from_views fourth.own (after_fourth 4 (omega arith))
+      ∙ ap (λ (cells : List Cell). changed (group_cells book) groups ++ cells)
+      (ap (changed (view_cells records ++ page)) (sym (append-nil views)) ∙ changed-parts 5 (view_cells records) page views [] (views-on records) (behind_page 5 page (omega arith) on) fifth.own tt)))
+      ∙ sym (regroup (changed (row_cells stored) rows) (changed (client_cells book) clients) (changed (group_cells book) groups) (changed (view_cells records) views) page))
 
 -- The cell of the entry is written after those of the others.
 below_end : (place end : ℕ) (entries : List Entry) → place + length entries ≤ end → end < 10 ^ 10 → AllByRecursion (λ y. Below (cell_key y) (1 ∷ ten_digits end)) (entry_cells place entries)
@@ -102,12 +133,12 @@ below_end place end [] low fits = tt
 below_end place end (entry ∷ entries) low fits =
     (same_shelf 1 (ten_digits place) (ten_digits end) ∙ ten_digits-order place end (omega (arith, low)) fits, below_end (place + 1) end entries (omega (arith, low)) fits)
 
-entries-leave : (book : Book) (entry : Entry) → book.page ≡ no_page → size book + 1 < 2 ^ 32 → changed (entry_cells 1 book.entries) (Put (entry_cell (size book + 1) entry) ∷ []) ≡ entry_cells 1 (with_entry book entry).entries
-entries-leave book entry opens fits =
-    let at : book.page.at ≡ 0 = ap (λ (p : Page). p.at) opens in
-    put-end cell_key (entry_cell (size book + 1) entry) (entry_cells 1 book.entries) (below_end 1 (size book + 1) book.entries (omega arith) (omega (arith, fits)))
-    ∙ ap (λ (place : ℕ). entry_cells 1 book.entries ++ entry_cell place entry ∷ []) (omega (arith, at))
-    ∙ sym (entry_cells-with_entry 1 book entry)
+entries-leave : (book : Book) (entry : Entry) → size book + 1 < 2 ^ 32
+    → changed (entry_cells (book.page.at + 1) book.entries) (Put (entry_cell (size book + 1) entry) ∷ []) ≡ entry_cells (book.page.at + 1) (with_entry book entry).entries
+entries-leave book entry fits =
+    put-end cell_key (entry_cell (size book + 1) entry) (entry_cells (book.page.at + 1) book.entries) (below_end (book.page.at + 1) (size book + 1) book.entries (omega arith) (omega (arith, fits)))
+    ∙ ap (λ (place : ℕ). entry_cells (book.page.at + 1) book.entries ++ entry_cell place entry ∷ []) (omega arith)
+    ∙ sym (entry_cells-with_entry (book.page.at + 1) book entry)
 
 -- a client's and a group's cell
 client-leaves : (book : Book) (client group : List ℕ) (id : ℕ) → changed (client_cells book) (Put (client_cell client group id) ∷ []) ≡ map (λ c. client_cell c.0 c.1 c.2) (put_by (λ (c : List ℕ × List ℕ × ℕ). c.0) (client, group, id) (clients_of book))
@@ -184,24 +215,23 @@ module _ (book : Book) (stored : List Stored) (user group client : List ℕ) (id
         | Some owner ↦ λ is. known_group owner is
       ] refl
 
-  act_leaves : (records : List Placed) → book.page ≡ no_page → changed (cells_of book stored records) (act_changes book user group client id call change) ≡ cells_of (with_entry book act) (with_staged (size book + 1) change stored) records
-  act_leaves records opens =
+  act_leaves : (records : List Placed) → changed (cells_of book stored records) (act_changes book user group client id call change) ≡ cells_of (with_entry book act) (with_staged (size book + 1) change stored) records
+  act_leaves records =
       ap (changed (cells_of book stored records)) (sym group_last)
       ∙ five_leave (Put (entry_cell (size book + 1) act) ∷ []) (row_changes (size book + 1) change) (Put (client_cell client group id) ∷ []) (first_group book user group) []
       (one_at 1 _ refl) act_rows (one_at 3 _ refl) act_group (none_at 5) book stored records
-      ∙ (λ i. entries-leave book act opens fits i ++ (rows-leave (size book + 1) change stored i ++ (act_clients i ++ (act_groups i ++ view_cells records))))
+      ∙ (λ i. entries-leave book act fits i ++ ((rows-leave (size book + 1) change stored i ++ (act_clients i ++ (act_groups i ++ view_cells records))) ++ page_cells book.page))
 
   pub act_next : ((version : ℕ) → with_staged version change stored ≡ after stored user call version) → (cells : List Cell) → AreCellsOf book cells
       → AreCellsOf (with_entry book act) (changed cells (act_changes book user group client id call change))
   act_next effect cells are = record {
-    opens = are.opens;
     rows = with_staged (size book + 1) change stored;
     records = are.records;
     replay = subst (IsReplay (with_entry book act)) (sym (effect (size book + 1))) (replay_act book stored user group client id call replay);
     kept = records_act book user group client id call are.records are.kept;
     made =
         ap (λ (c : List Cell). changed c (act_changes book user group client id call change)) (are.made ∙ ap (λ (rows : List Stored). cells_of book rows are.records) (replay_unique book are.rows stored are.replay replay))
-        ∙ act_leaves are.records are.opens;
+        ∙ act_leaves are.records;
   }
 
 -- A look.
@@ -237,15 +267,15 @@ module _ (book : Book) (user group : List ℕ) (order : ℕ) (base : Option ℕ)
   abbrev records_left : List Placed → List Placed
   records_left records = filter (λ r. not (is_place r.0 (falls_out group book))) records ++ (size book + 1, viewed) ∷ []
 
-  look_leaves : (stored : List Stored) (records : List Placed) → AllByRecursion (λ r. r.0 ≤ size book) records → book.page ≡ no_page
+  look_leaves : (stored : List Stored) (records : List Placed) → AllByRecursion (λ r. r.0 ≤ size book) records
       → changed (cells_of book stored records) (look_changes book user group order base viewed) ≡ cells_of (with_entry book look) stored (records_left records)
-  look_leaves stored records within opens =
+  look_leaves stored records within =
       let views : changed (view_cells records) view_changes ≡ view_cells (records_left records) =
       look_views-leave (falls_out group book) records (size book + 1) viewed (omega (arith, fits)) (λ place is. omega (arith, falls_out-within group book place is)) (all records within) in
       let clients : client_cells book ≡ client_cells (with_entry book look) = ap (map (λ c. client_cell c.0 c.1 c.2)) (sym (clients_after_look book user group order base)) in
       five_leave (Put (entry_cell (size book + 1) look) ∷ []) [] [] (Put (group_cell group user order false) ∷ []) view_changes
       (one_at 1 _ refl) (none_at 2) (none_at 3) (one_at 4 _ refl) look_views book stored records
-      ∙ (λ i. entries-leave book look opens fits i ++ (row_cells stored ++ (clients i ++ (look_groups i ++ views i))))
+      ∙ (λ i. entries-leave book look fits i ++ ((row_cells stored ++ (clients i ++ (look_groups i ++ views i))) ++ page_cells book.page))
     where
       all : (rs : List Placed) → AllByRecursion (λ r. r.0 ≤ size book) rs → AllByRecursion (λ r. r.0 < size book + 1) rs
       all [] each = tt
@@ -253,14 +283,13 @@ module _ (book : Book) (user group : List ℕ) (order : ℕ) (base : Option ℕ)
 
   pub look_next : IsViewAt book user group viewed → (cells : List Cell) → AreCellsOf book cells → AreCellsOf (with_entry book look) (changed cells (look_changes book user group order base viewed))
   look_next shown cells are = record {
-    opens = are.opens;
     rows = are.rows;
     records = records_left are.records;
     replay = replay_look book are.rows user group order base are.replay;
     kept = records_look_in_place book user group order base viewed are.records are.kept shown lawful.0.stands;
     made =
         ap (λ (c : List Cell). changed c (look_changes book user group order base viewed)) are.made
-        ∙ look_leaves are.rows are.records (arranged book are.rows are.records (omega (arith, fits)) are.replay are.kept).places are.opens;
+        ∙ look_leaves are.rows are.records (arranged book are.rows are.records (omega (arith, fits)) are.replay are.kept).places;
   }
 
 -- A retirement of a group that is bound to the user.
@@ -290,23 +319,22 @@ module _ (book : Book) (group user : List ℕ) (records : List Placed) (fits : s
   abbrev others : List Placed
   others = filter (λ r. kept r.0 (with_entry book (Retire group))) records
 
-  retire_leaves : (stored : List Stored) → IsReplay book stored → book.page ≡ no_page → changed (cells_of book stored records) (retire_changes book group user records) ≡ cells_of (with_entry book (Retire group)) stored others
-  retire_leaves stored replay opens =
+  retire_leaves : (stored : List Stored) → IsReplay book stored → changed (cells_of book stored records) (retire_changes book group user records) ≡ cells_of (with_entry book (Retire group)) stored others
+  retire_leaves stored replay =
       let views : changed (view_cells records) (gone_views group book records) ≡ view_cells others =
       gone_views-leave group book records (records_order stored replay) ∙ ap view_cells (others_stay book group records kept_records.each) in
       let clients : client_cells book ≡ client_cells (with_entry book (Retire group)) = ap (map (λ c. client_cell c.0 c.1 c.2)) (sym (clients_after_retire book group)) in
       five_leave (Put (entry_cell (size book + 1) (Retire group)) ∷ []) [] [] (Put (group_cell group user (last_order group book) true) ∷ []) (gone_views group book records)
       (one_at 1 _ refl) (none_at 2) (none_at 3) (one_at 4 _ refl) (retire_views stored replay) book stored records
-      ∙ (λ i. entries-leave book (Retire group) opens fits i ++ (row_cells stored ++ (clients i ++ (retire_groups i ++ views i))))
+      ∙ (λ i. entries-leave book (Retire group) fits i ++ ((row_cells stored ++ (clients i ++ (retire_groups i ++ views i))) ++ page_cells book.page))
 
   pub retire_next : (cells : List Cell) → AreCellsOf book cells → AreCellsOf (with_entry book (Retire group)) (changed cells (retire_changes book group user records))
   retire_next cells are = record {
-    opens = are.opens;
     rows = are.rows;
     records = others;
     replay = replay_retire book are.rows group are.replay;
     kept = records_retire book group records kept_records;
     made =
         ap (λ (c : List Cell). changed c (retire_changes book group user records)) (are.made ∙ ap (λ (rs : List Placed). cells_of book are.rows rs) (records_unique book are.records records are.kept kept_records))
-        ∙ retire_leaves are.rows are.replay are.opens;
+        ∙ retire_leaves are.rows are.replay;
   }

@@ -1,18 +1,22 @@
 -- What the steps of opening answer: the entries are entered one after another, and then the other cells of their book are
 -- compared with the loaded ones.
-use Rattle.std.specs.Prelude.{◌≡◌, ℕ, ◌+◌, ◌<◌, List, ◌++◌, drop, Result, Ok, Err}
+use Rattle.std.specs.Prelude.{◌≡◌, ℕ, ◌+◌, ◌<◌, ◌≤◌, List, ◌++◌, drop, length, Option, Result, Ok, Err}
+use Rattle.std.specs.Option.{option_map_or}
 use Rattle.rv_base.specs.Sorted.{InOrder}
 use Rattle.rv_book.specs.declared.entry.Entry.{Entry}
-use Rattle.rv_book.specs.Book.{Book, size, with_entry}
+use Rattle.rv_book.specs.declared.page.Page.{Page}
+use Rattle.rv_book.specs.SoundPages.{IsSoundPage}
+use Rattle.rv_book.specs.Book.{Book, no_page, size, with_entry}
 use Rattle.rv_history.specs.Lawful.{IsLawfulAfter}
 use Rattle.rv_keeper.specs.declared.cell.Cell.{Cell}
-use Rattle.rv_keeper.specs.declared.loaded.Loaded.{Loaded}
 use Rattle.rv_keeper.specs.Cells.{cell_key}
 use Rattle.rv_record.specs.declared.fault.CellFault.{CellFault}
 use Rattle.rv_record.specs.declared.fault.CellFault.TheVariants.{BadCell, Memory}
 use Rattle.rv_record.specs.CellReading.{damage_at}
 use Rattle.rv_record.specs.CellTexts.{entry_cell}
 use Rattle.rv_record.specs.EntryReading.{EntryFits}
+use Rattle.rv_opening.specs.declared.page_read.PageRead.{PageRead}
+use Rattle.rv_opening.specs.PageCells.{PartsFit}
 use Rattle.rv_state.specs.Standing.{Standing}
 use Rattle.rv_store.specs.StoreCells.{AreDerived}
 use Rattle.rv_store.specs.Opening.{IsBrokenEntry, IsFirstDifference, BreaksAt, HasEntries}
@@ -39,12 +43,24 @@ abbrev pub EntersNext : ℕ → Book → Cell → Book → Result (Unit {0}) Cel
 EntersNext limit book cell next (Ok done) = (entry : Entry) × IsNext limit book cell entry × (next ≡ with_entry book entry)
 EntersNext limit book cell next (Err fault) = Breaks limit book cell fault
 
--- What is answered when all entries are entered: the state of their book, beside which the loaded cells have what stands on
--- the shelves from 2 on; or the cell that breaks off.
-abbrev pub EntersAll : ℕ → Loaded → Result Standing CellFault → Type 0
-EntersAll limit loaded (Ok state) = HasEntries limit state.book loaded (drop (size state.book) loaded.cells) × (state.limit ≡ limit)
-EntersAll limit loaded (Err (BadCell damage)) = BreaksAt limit loaded damage
-EntersAll limit loaded (Err Memory) = Unit {0}
+-- a page that was read: it is sound, at a place from 1 to the limit, of the form, and its rows are the tables'
+pub record Stands (limit : ℕ) (read : PageRead) : Type 0 where
+  pub from : 1 ≤ read.page.at
+  pub within : read.page.at ≤ limit
+  pub sound : IsSoundPage read.page
+  pub fits : PartsFit read.page
+  pub tables : read.tables.rows ≡ read.page.rows
+
+-- the page of a book that opens with what was read
+abbrev pub page_or_none : Option PageRead → Page
+page_or_none read = option_map_or (λ r. r.page) read no_page
+
+-- What is answered when all entries are entered: the state of their book, beside which the cells have what stands on the
+-- shelves from 2 on; or the cell that breaks off.
+abbrev pub EntersAll : ℕ → Page → List Cell → Result Standing CellFault → Type 0
+EntersAll limit page cells (Ok state) = HasEntries limit page state.book cells (drop (length state.book.entries) cells) × (state.limit ≡ limit)
+EntersAll limit page cells (Err (BadCell damage)) = BreaksAt limit page cells damage
+EntersAll limit page cells (Err Memory) = Unit {0}
 
 -- the damage is at the first place where the two hold not the same, or memory was refused
 abbrev pub Differs : List Cell → List Cell → CellFault → Type 0

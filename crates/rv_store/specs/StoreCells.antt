@@ -1,16 +1,17 @@
--- The cells that a book without a page is kept as; one with a page is not kept. One cell for each entry, for each row with its version, for each client with an act, for each
--- group that an act or a look names, and for the view record of each kept look. Beside them stands the generation, which is
--- the number of the book's entries.
+-- The cells that a book is kept as: one for each entry, for each row with its version, for each client and each group of the book, and for the
+-- view record of each kept look; and those of the page that the book opens with, if it has one. Beside them stands the generation, which is how
+-- long the book is.
 use Rattle.std.specs.Prelude.{◌≡◌, ℕ, ◌+◌, ◌⊎◌, List, [], ◌∷◌, ◌++◌, map}
 use Rattle.rv_rows.specs.Held.{Stored}
 use Rattle.rv_book.specs.declared.entry.Entry.{Entry}
-use Rattle.rv_book.specs.Book.{Book, no_page, size}
+use Rattle.rv_book.specs.Book.{Book, size}
 use Rattle.rv_book.specs.Registers.{clients_of, groups_of}
 use Rattle.rv_history.specs.Replay.{IsReplay}
 use Rattle.rv_history.specs.Served.{Doubt, with_doubt}
 use Rattle.rv_news.specs.Records.{Placed, AreRecords}
 use Rattle.rv_keeper.specs.declared.cell.Cell.{Cell}
 use Rattle.rv_keeper.specs.declared.loaded.Loaded.{Loaded}
+use Rattle.rv_opening.specs.PageCells.{page_cells}
 use Rattle.rv_record.specs.CellTexts.{entry_cell, row_cell, client_cell, group_cell, view_cell}
 
 -- the entries, each under its place, of which the first is this
@@ -30,12 +31,12 @@ group_cells book = map (λ g. group_cell g.0 g.1 g.2 g.3) (groups_of book)
 abbrev pub view_cells : List Placed → List Cell
 view_cells records = map (λ r. view_cell r.0 r.1) records
 
--- what stands beside the entries: it follows from them
+-- what stands beside the entries and the page: it follows from them
 abbrev pub derived_cells : Book → List Stored → List Placed → List Cell
 derived_cells book rows records = row_cells rows ++ (client_cells book ++ (group_cells book ++ view_cells records))
 
 abbrev pub cells_of : Book → List Stored → List Placed → List Cell
-cells_of book rows records = entry_cells 1 book.entries ++ derived_cells book rows records
+cells_of book rows records = entry_cells (book.page.at + 1) book.entries ++ (derived_cells book rows records ++ page_cells book.page)
 
 -- these cells follow from the book: its rows and its records are those of its replay
 pub record AreDerived (book : Book) (cells : List Cell) : Type 0 where
@@ -47,7 +48,6 @@ pub record AreDerived (book : Book) (cells : List Cell) : Type 0 where
 
 -- these are the cells of the book
 pub record AreCellsOf (book : Book) (cells : List Cell) : Type 0 where
-  pub opens : book.page ≡ no_page
   pub rows : List Stored
   pub records : List Placed
   pub replay : IsReplay book rows

@@ -1,7 +1,8 @@
 // The cells that follow from a book, which are compared one after another with those that were loaded.
 ghost use Rattle.std.specs.Prelude.{◌≡◌, ◌<◌, ◌^◌, ◌∷◌, ◌++◌, [], MatchResult};
 ghost use Rattle.rv_base.specs.Sorted.{InOrder};
-ghost use Rattle.rv_book.specs.Book.{no_page, size};
+ghost use Rattle.std.specs.List.{AllByRecursion};
+ghost use Rattle.rv_book.specs.Book.{size};
 ghost use Rattle.rv_book.specs.Registers.{RetiresBound};
 ghost use Rattle.rv_keeper.specs.Cells.{cell_key};
 ghost use Rattle.rv_store.specs.StoreCells.{client_cells, group_cells, row_cells, view_cells};
@@ -70,11 +71,10 @@ fn meet_records<'a>(
 
 // The loaded cells after those of the clients, where they begin with them.
 fn meet_clients<'a>(alloc: Global, book: &Book, loaded: &'a [Cell]) -> Result<&'a [Cell], CellFault>
-    requires { book.now.book.page ≡ no_page }
     ensures { MatchResult result (λ rest. loaded.now ≡ client_cells book.now.book ++ rest.now) (λ fault. Departs (client_cells book.now.book) loaded.now fault) }
 {
     let mut rest = loaded;
-    for index in 0..book.len() {
+    for index in 0..book.client_count() {
         let Some(told) = book.client_at(index) else {
             return Ok(rest);
         };
@@ -86,12 +86,11 @@ fn meet_clients<'a>(alloc: Global, book: &Book, loaded: &'a [Cell]) -> Result<&'
 
 // The loaded cells after those of the groups, where they begin with them.
 fn meet_groups<'a>(alloc: Global, book: &Book, loaded: &'a [Cell]) -> Result<&'a [Cell], CellFault>
-    requires opens { book.now.book.page ≡ no_page }
-    requires bound { RetiresBound book.now.book }
+    requires { RetiresBound book.now.book }
     ensures { MatchResult result (λ rest. loaded.now ≡ group_cells book.now.book ++ rest.now) (λ fault. Departs (group_cells book.now.book) loaded.now fault) }
 {
     let mut rest = loaded;
-    for index in 0..book.len() {
+    for index in 0..book.group_count() {
         let Some(told) = book.group_at(index) else {
             return Ok(rest);
         };
@@ -112,13 +111,19 @@ fn meet_end(alloc: Global, rest: &[Cell]) -> Result<(), CellFault>
     }
 }
 
-// Whether the loaded cells beside those of the entries are the ones that follow from the book. Each of these is made anew and
-// compared before the next.
-pub(crate) fn compare_others(alloc: Global, state: &State, others: &[Cell]) -> Result<(), CellFault>
-    requires opens { state.now.book.page ≡ no_page }
+// Whether the loaded cells beside those of the entries are the ones that follow from the book: those on shelves before a page's, and those
+// on shelves behind it, of which there are to be none. Each of the book's is made anew and compared before the next.
+pub(crate) fn compare_others(
+    alloc: Global,
+    state: &State,
+    others: &[Cell],
+    behind: &[Cell],
+) -> Result<(), CellFault>
     requires size { size state.now.book < 2 ^ 32 }
-    requires order { InOrder cell_key others.now }
-    ensures { ComparesOthers state.now.book others.now result }
+    requires order { InOrder cell_key (others.now ++ behind.now) }
+    requires before { AllByRecursion (λ cell. cell.shelf < 6) others.now }
+    requires behind { AllByRecursion (λ cell. 9 < cell.shelf) behind.now }
+    ensures { ComparesOthers state.now.book (others.now ++ behind.now) result }
 {
     let book = state.book();
     let tables = state.tables();
@@ -127,5 +132,6 @@ pub(crate) fn compare_others(alloc: Global, state: &State, others: &[Cell]) -> R
     let after_clients = meet_clients(alloc, book, after_rows)?;
     let after_groups = meet_groups(alloc, book, after_clients)?;
     let left_over = meet_records(alloc, records, after_groups)?;
-    meet_end(alloc, left_over)
+    meet_end(alloc, left_over)?;
+    meet_end(alloc, behind)
 }

@@ -1,12 +1,17 @@
 // The entries of the cells of shelf 1, which are entered one after another.
-ghost use Rattle.std.specs.Prelude.{◌≡◌, ◌+◌, ◌<◌, ◌≤◌, ◌^◌, ◌↔◌, IsTrue};
-ghost use Rattle.rv_book.specs.Book.{size};
+ghost use Rattle.std.specs.Prelude.{◌≡◌, ◌+◌, ◌<◌, ◌≤◌, ◌^◌, ◌↔◌, [], IfOk, IfSome, IsTrue};
+ghost use Rattle.std.specs.List.{AllByRecursion};
+ghost use Rattle.rv_base.specs.Sorted.{InOrder};
+ghost use Rattle.rv_book.specs.Book.{book_from, size};
 ghost use Rattle.rv_history.specs.Lawful.{IsLawfulAfter};
-ghost use Rattle.rv_keeper.specs.Cells.{AreCells};
-ghost use Rattle.rv_store.specs.OpeningSteps.{EntersAll, EntersNext, ReadsNext};
+ghost use Rattle.rv_keeper.specs.Cells.{cell_key};
+ghost use Rattle.rv_store.specs.Opening.{IsSoundBook};
+ghost use Rattle.rv_store.specs.OpeningSteps.{EntersAll, EntersNext, ReadsNext, Stands, page_or_none};
 
+use rv_base::Memory;
 use rv_book::{Book, Entry};
-use rv_keeper::{Cell, Loaded};
+use rv_keeper::Cell;
+use rv_opening::PageRead;
 use rv_record::{CellFault, damaged, entry_of_cell};
 use rv_state::{State, entry_fits, may_stand};
 use std::alloc::Global;
@@ -48,13 +53,36 @@ fn enter_next(alloc: Global, state: &mut State, cell: &Cell) -> Result<(), CellF
     Ok(())
 }
 
-// The state of the entries whose cells stand on shelf 1.
-pub(crate) fn enter_all(alloc: Global, loaded: &Loaded, limit: u32) -> Result<State, CellFault>
-    requires { AreCells loaded.now.cells }
-    ensures { EntersAll limit loaded.now result }
+// The state of the book that opens with a page, if there is one, and has no entries.
+fn begin(alloc: Global, page: Option<PageRead>, limit: u32) -> Result<State, Memory>
+    requires { IfSome page (Stands limit) }
+    ensures book { IfOk result (λ state. state.book ≡ book_from (page_or_none page) []) }
+    ensures sound { IfOk result (λ state. IsSoundBook limit state.book) }
+    ensures limit { IfOk result (λ state. state.limit ≡ limit) }
 {
-    let mut state = State::new(alloc, limit);
-    for cell in loaded.cells.as_slice() {
+    let state = match page {
+        Some(PageRead { page, tables }) => State::opening(alloc, limit, page, tables)?,
+        None => State::new(alloc, limit),
+    };
+    // The book tells that it is lawful, and within its limit.
+    let _length = state.book().len();
+    Ok(state)
+}
+
+// The state of the book that opens with a page, if there is one, and has the entries whose cells stand on shelf 1.
+pub(crate) fn enter_all(
+    alloc: Global,
+    page: Option<PageRead>,
+    cells: &[Cell],
+    limit: u32,
+) -> Result<State, CellFault>
+    requires page { IfSome page (Stands limit) }
+    requires order { InOrder cell_key cells.now }
+    requires shelves { AllByRecursion (λ cell. 0 < cell.shelf) cells.now }
+    ensures { EntersAll limit (page_or_none page) cells.now result }
+{
+    let mut state = begin(alloc, page, limit)?;
+    for cell in cells {
         if cell.shelf != 1 {
             return Ok(state);
         }

@@ -1,7 +1,7 @@
 use Rattle.std.proofs.Common.{arith}
 use Rattle.rv_book.specs.Registers.{clients_of}
 use Rattle.rv_record.specs.CellTexts.{client_cell}
-use Rattle.rv_store.proofs.Comparisons.{each_more, each_fails, each_ends, left_got, none_left, no_more_clients}
+use Rattle.rv_store.proofs.Comparisons.{each_more, each_fails, each_ends, left_got, none_left, none_left_at_end}
 use Rattle.rv_store.proofs.comparing.meet_clients.Goals as goal
 
 pub returns-in_default : goal.returns-in_default
@@ -17,4 +17,4 @@ loop-index-preserved c = record {
 }
 
 pub returns : goal.returns
-returns c = each_ends (λ t. client_cell t.0 t.1 t.2) _ _ _ _ (no_more_clients c.args.book.now.book c.loop-index.index c.requires (omega (arith, c.len-index-end.ensures.value))) c.loop-index.invariant.met
+returns c = each_ends (λ t. client_cell t.0 t.1 t.2) _ _ _ _ (none_left_at_end (clients_of c.args.book.now.book) c.client_count-index-end.result c.loop-index.index c.client_count-index-end.ensures (omega (arith, c.loop-index-test.false))) c.loop-index.invariant.met

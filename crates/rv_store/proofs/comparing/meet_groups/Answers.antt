@@ -1,7 +1,7 @@
 use Rattle.std.proofs.Common.{arith}
 use Rattle.rv_book.specs.Registers.{groups_of}
 use Rattle.rv_record.specs.CellTexts.{group_cell}
-use Rattle.rv_store.proofs.Comparisons.{each_more, each_fails, each_ends, left_got, none_left, no_more_groups}
+use Rattle.rv_store.proofs.Comparisons.{each_more, each_fails, each_ends, left_got, none_left, none_left_at_end}
 use Rattle.rv_store.proofs.comparing.meet_groups.Goals as goal
 
 pub returns-in_default : goal.returns-in_default
@@ -17,4 +17,4 @@ loop-index-preserved c = record {
 }
 
 pub returns : goal.returns
-returns c = each_ends (λ t. group_cell t.0 t.1 t.2 t.3) _ _ _ _ (no_more_groups c.args.book.now.book c.loop-index.index c.requires.opens (omega (arith, c.len-index-end.ensures.value))) c.loop-index.invariant.met
+returns c = each_ends (λ t. group_cell t.0 t.1 t.2 t.3) _ _ _ _ (none_left_at_end (groups_of c.args.book.now.book) c.group_count-index-end.result c.loop-index.index c.group_count-index-end.ensures (omega (arith, c.loop-index-test.false))) c.loop-index.invariant.met
