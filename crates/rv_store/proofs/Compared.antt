@@ -92,6 +92,8 @@ module _ (whole book : Book) (same : book ≡ whole) (rows : List Stored) (recor
 
           pub compared : left ≡ [] → (r : Result (Unit {0}) CellFault) → MatchResult r (λ _. behind ≡ []) (λ d. Differs [] behind d) → ComparesOthers whole (others ++ behind) r
           compared ends (Ok done) none = subst (AreDerived whole) (sym (ap (λ (t : List Cell). others ++ t) none ∙ append-nil others ∙ all_met ends)) derived
-          compared ends (Err fault) differs =
-              (derived_cells book rows records, derived,
-               subst (λ (t : List Cell). Differs (derived_cells book rows records) (t ++ behind) fault) (sym (all_met ends)) (differs_past (derived_cells book rows records) behind fault (derived-low book rows records) far differs))
+          compared ends (Err fault) differs = (
+            derived_cells book rows records,
+            derived,
+            subst (λ (t : List Cell). Differs (derived_cells book rows records) (t ++ behind) fault) (sym (all_met ends)) (differs_past (derived_cells book rows records) behind fault (derived-low book rows records) far differs),
+          )

@@ -23,6 +23,7 @@ use Rattle.rv_state.specs.Standing.{Standing}
 use Rattle.rv_store.specs.Opening.{BreaksAt, HasEntries, IsDamaged, IsPageOf, MayOpen, Restores, another, breaks, breaks_page, differs, other_shelves, page_shelves}
 use Rattle.rv_store.specs.OpeningSteps.{ComparesOthers, Differs, EntersAll, Stands, page_or_none}
 use Rattle.rv_store.specs.StoreBooks.{are_on_page, other_shelves-all, other_shelves-none, page_shelves-all, page_shelves-none}
+use Rattle.rv_store.specs.ShelfLaws.{lower_shelf}
 use Rattle.rv_store.specs.StoreCells.{AreDerived, derived_cells, entry_cells}
 use Rattle.rv_store.proofs.Behind.{derived-low, front_in_order}
 use Rattle.rv_store.proofs.Entered.{length-entry_cells, shelf_below}
@@ -87,7 +88,7 @@ within : (cells : List Cell) → AllByRecursion (λ cell. 6 ≤ cell.shelf) cell
 within [] from to = tt
 within (cell ∷ cells) from to = ((omega (arith, from.0), to.0), within cells from.1 to.1)
 
-all_front : (P : Cell → Type 0) (xs ys : List Cell) → AllByRecursion P (xs ++ ys) → AllByRecursion P xs
+pub all_front : (P : Cell → Type 0) (xs ys : List Cell) → AllByRecursion P (xs ++ ys) → AllByRecursion P xs
 all_front P [] ys all = tt
 all_front P (x ∷ xs) ys all = (all.0, all_front P xs ys all.1)
 
@@ -199,6 +200,9 @@ module _ (limit : ℕ) (loaded : Loaded) (front paged behind : List Cell) (p : P
           differs opened is_page (record { book = state.book; others = others ++ behind; own = told.0; entries = has_longer; derived = told.1; difference = told.2 })
       others_fail fault (Err Memory) fails compares = tt
 
+      pub seen_fail : (seen : List Cell) → seen ≡ others → (fault : CellFault) (r : Result Standing CellFault) → IsErrAnd r (λ d. d ≡ fault) → ComparesOthers state.book (seen ++ behind) (Err fault) → Restores limit loaded r
+      seen_fail seen same fault r fails compares = others_fail fault r fails (subst (λ (cells : List Cell). ComparesOthers state.book (cells ++ behind) (Err fault)) same compares)
+
       pub other_generation : (damage : Damage) → AreDerived state.book (others ++ behind) → ¬ (loaded.generation ≡ size state.book) → damage ≡ record { shelf = 0; key = [] } → IsDamaged limit loaded damage
       other_generation damage derived apart is = another opened is_page (record { book = state.book; others = others ++ behind; entries = has_longer; derived = derived; generation = apart; at = is })
 
@@ -233,3 +237,36 @@ module _ (limit : ℕ) (loaded : Loaded) (front paged behind : List Cell) (p : P
 -- there are as many cells as entries, at least
 pub count_within : (limit : ℕ) (page : Page) (book : Book) (cells others : List Cell) → HasEntries limit page book cells others → length book.entries ≤ length cells
 count_within limit page book cells others has = omega (arith, ap length has.cells, length-append (entry_cells (page.at + 1) book.entries) others, length-entry_cells (page.at + 1) book.entries)
+
+-- ---- What is left of the cells before a page's, with those behind.
+
+pub low_after : (n : ℕ) (cells : List Cell) → AllByRecursion (λ cell. cell.shelf < 6) cells → AllByRecursion (λ cell. cell.shelf < 6) (drop n cells)
+low_after zero cells all = all
+low_after (suc n) [] all = tt
+low_after (suc n) (cell ∷ cells) all = low_after n cells all.1
+
+order_after : (n : ℕ) (cells : List Cell) → InOrder cell_key cells → InOrder cell_key (drop n cells)
+order_after zero cells order = order
+order_after (suc n) [] order = tt
+order_after (suc n) (cell ∷ cells) order = order_after n cells order.1
+
+low_far : (xs ys : List Cell) → AllByRecursion (λ cell. cell.shelf < 6) xs → AllByRecursion (λ cell. 10 ≤ cell.shelf) ys → InOrder cell_key xs → InOrder cell_key ys → InOrder cell_key (xs ++ ys)
+low_far [] ys low far order also = also
+low_far (x ∷ xs) ys low far order also = (above xs order.0, low_far xs ys low.1 far order.1 also)
+  where
+    higher : (zs : List Cell) → AllByRecursion (λ cell. 10 ≤ cell.shelf) zs → Above cell_key (cell_key x) zs
+    higher [] all = tt
+    higher (z ∷ zs) all = (lower_shelf x.shelf z.shelf x.key z.key (omega (arith, low.0, all.0)), higher zs all.1)
+
+    above : (zs : List Cell) → Above cell_key (cell_key x) zs → Above cell_key (cell_key x) (zs ++ ys)
+    above [] all = higher ys far
+    above (z ∷ zs) all = (all.0, above zs all.1)
+
+pub without_page : (all front paged behind : List Cell) → Parted all front paged behind → InOrder cell_key all → (n : ℕ) → InOrder cell_key (drop n front ++ behind)
+without_page all front paged behind p order n =
+    let whole = subst (InOrder cell_key) p.whole order in
+    low_far (drop n front) behind (low_after n front p.low) p.far (order_after n front (front_in_order front (paged ++ behind) whole)) (behind_in_order paged behind (behind_in_order front (paged ++ behind) whole))
+
+-- what was left of the cells is what stands behind as many as the entries
+pub same_others : (whole from : ℕ) (cells others : List Cell) (book : Book) → whole ≡ size book → from ≡ book.page.at → others ≡ drop (whole - from) cells → others ≡ drop (length book.entries) cells
+same_others whole from cells others book long at are = let n : whole - from ≡ length book.entries = omega (arith, long, at) in are ∙ ap (λ (k : ℕ). drop k cells) n

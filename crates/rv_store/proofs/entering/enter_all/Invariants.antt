@@ -4,4 +4,4 @@ use Rattle.rv_store.proofs.Entered.{Entered}
 use Rattle.rv_store.proofs.entering.enter_all.Given as goal
 
 abbrev pub invariant-loop-cell : goal.invariant-loop-cell
-invariant-loop-cell l = record { entered : Entered l.limit (page_or_none l.fn.page) l.cell-items l.cell-index l.state.book; limit : l.state.limit ≡ l.limit }
+invariant-loop-cell l = record { entered : Entered l.limit (page_or_none l.fn.page) l.cells l.cell-index l.state.book; limit : l.state.limit ≡ l.limit }
