@@ -38,7 +38,7 @@ module _ (c : StoreChange) (told : c.told) (kept : KeptSound c.opens) where
   opens_sound damage ending is why =
       let (book, held, was, opens) = kept in
       let (loaded, stored, damaged, left, same) = subst (λ (e : Ending). IsNotOpened c e) is why in
-      opens-not_damaged (2 ^ 32 - 1) book loaded damage (subst (λ (l : Loaded). MayOpen (2 ^ 32 - 1) book l) (stored told held was) opens) damaged
+      opens-not_damaged (2 ^ 32 - 1) book loaded (omega arith) (subst (λ (l : Loaded). MayOpen (2 ^ 32 - 1) book l) (stored told held was) opens) damage damaged
 
   pub refused_sound : (ending : Ending) (status : ℕ) → IsNotOpened c ending → status ≡ status_of ending → status ≢ 5
   refused_sound ending status why is five = no_damage ending (λ damage e. opens_sound damage ending e why) (sym is ∙ five)
@@ -75,9 +75,9 @@ memory_sound store Stored is = (
   holding [] 0,
   inl (is, refl),
   record {
-    sound = record { opens = refl; lawful = lawful_none; within = omega arith; fits = tt };
+    sound = record { lawful = lawful_none; within = omega arith; fits = tt; parts = record { rows = tt; clients = tt; groups = tt } };
     kept = record {
-      cells = record { opens = refl; rows = []; records = []; replay = replay_none; kept = records_none; made = refl };
+      cells = record { rows = []; records = []; replay = replay_none; kept = records_none; made = refl };
       generation = refl;
     };
   },

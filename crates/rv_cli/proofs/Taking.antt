@@ -1,6 +1,7 @@
 -- One line: what becomes of it by what it asks, and the desk that is opened again after a stop.
-use Rattle.std.proofs.Common.{◌≡◌, ℕ, ◌-◌, ◌^◌, ◌≤◌, ◌<◌, List, false, Some, None, IfSome, Result, Ok, Err, refl, sym, ap, ◌∙◌, subst, arith, inl, inr}
+use Rattle.std.proofs.Common.{◌≡◌, ℕ, ◌-◌, ◌^◌, ◌≤◌, ◌<◌, List, [], ◌∷◌, false, Some, None, IfSome, Result, Ok, Err, refl, sym, ap, ◌∙◌, subst, arith, inl, inr}
 use Rattle.std.specs.List.{AllByRecursion}
+use Rattle.rv_store.specs.ShelfLaws.{all-append}
 use Rattle.rv_base.specs.Causes.{Rose}
 use Rattle.rv_base.specs.Outside.{OutputState, Writes}
 use Rattle.rv_book.specs.Book.{Book, size, with_entry}
@@ -12,9 +13,10 @@ use Rattle.rv_history.specs.TurnLaws.{still_of}
 use Rattle.rv_keeper.specs.declared.loaded.Loaded.{Loaded}
 use Rattle.rv_record.specs.declared.fault.Damage.{Damage}
 use Rattle.rv_record.specs.EntryReading.{EntryFits}
-use Rattle.rv_store.specs.Opening.{MayOpen}
+use Rattle.rv_opening.specs.PageCells.{PartsFit}
+use Rattle.rv_store.specs.Opening.{IsSoundBook, MayOpen}
 use Rattle.rv_store.specs.OpeningLaws.{opens-not_damaged}
-use Rattle.rv_store.specs.StoreBooks.{doubt_fits, settled_unique}
+use Rattle.rv_store.specs.StoreBooks.{settled_unique, sound-told}
 use Rattle.rv_store.specs.StoreCells.{IsKeptAs, IsKeptWith}
 use Rattle.rv_keeper.specs.declared.keeper.Keeper.{Ghosts}
 use Rattle.rv_desk.specs.Seated.{Assures, DeskTakes, Seated, HoldsBook, KeepsBook, served}
@@ -46,11 +48,14 @@ none_next : (book : Book) (limit : ℕ) (doubt : Doubt) → doubt ≡ None → M
 none_next book limit None none = tt
 none_next book limit (Some entry) none = absurd (cc)
 
+sound_book : (limit : ℕ) (book : Book) → IsLawful book → size book ≤ limit → AllByRecursion EntryFits book.entries → PartsFit book.page → IsSoundBook limit book
+sound_book limit book lawful within fits parts = record { lawful = lawful; within = within; fits = fits; parts = parts }
+
 module _ {K : Type 0} (G : Ghosts K) where
   -- the desk that is opened from the keeper of a closed one
-  pub reopened : (old new : Seated K) (kept : K) → kept ≡ old.keeper → AllByRecursion EntryFits old.book.entries × IfSome old.doubt EntryFits → KeepsBook G old.keeper old.book old.doubt
+  pub reopened : (old new : Seated K) (kept : K) → kept ≡ old.keeper → IsLawful old.book → AllByRecursion EntryFits old.book.entries × IfSome old.doubt EntryFits → PartsFit old.book.page → (size old.book ≤ old.limit) × (old.limit < 2 ^ 32) → KeepsBook G old.keeper old.book old.doubt
       → Opens G (2 ^ 32 - 1) kept new → Reopens (G.tells new.keeper) (served G.faults old) (served G.faults new) × (G.tells new.keeper → G.tells old.keeper)
-  reopened old new kept is fits held opens =
+  reopened old new kept is lawful fits parts within held opens =
       let told : G.tells new.keeper → G.tells old.keeper = λ now. subst (λ (k : K). G.tells k) is (opens.told now) in (
         record {
           sound = record {
@@ -69,7 +74,7 @@ module _ {K : Type 0} (G : Ghosts K) where
       settle : G.tells new.keeper → HoldsBook (G.holds old.keeper) old.book old.doubt → Settles old.book old.doubt new.book
       settle now (h, was, with) =
           let same : h ≡ opens.loaded = opens.was.told now h (subst (λ (k : K). G.holds k h) (sym is) was) in
-          settled_unique old.book new.book old.doubt opens.loaded fits.0 fits.1 opens.opens.sound.fits opens.opens.kept (subst (λ (l : Loaded). IsKeptWith old.book old.doubt l) same with)
+          settled_unique old.book new.book old.doubt opens.loaded (sound-told old.limit old.book within.1 (sound_book old.limit old.book lawful within.0 fits.0 parts)) fits.1 (sound-told (2 ^ 32 - 1) new.book (omega arith) opens.opens.sound) opens.opens.kept (subst (λ (l : Loaded). IsKeptWith old.book old.doubt l) same with)
 
   -- the keeper of a desk that is not opened again
   left_closed : (old : Seated K) (kept now : K) → kept ≡ old.keeper → KeepsBook G old.keeper old.book old.doubt → IsLeft G kept now
@@ -90,12 +95,12 @@ module _ {K : Type 0} (G : Ghosts K) where
       )
 
   -- what a keeper that tells holds is not damaged
-  may_open : (old : Seated K) (h : Loaded) → IsLawful old.book → AllByRecursion EntryFits old.book.entries × IfSome old.doubt EntryFits → (size old.book ≤ old.limit) × (old.limit < 2 ^ 32) → MayStand old.book old.limit old.doubt
+  may_open : (old : Seated K) (h : Loaded) → IsLawful old.book → AllByRecursion EntryFits old.book.entries × IfSome old.doubt EntryFits → PartsFit old.book.page → (size old.book ≤ old.limit) × (old.limit < 2 ^ 32) → MayStand old.book old.limit old.doubt
       → IsKeptWith old.book old.doubt h → (book : Book) × MayOpen (2 ^ 32 - 1) book h
-  may_open old h lawful fits within next with = by_kept with
+  may_open old h lawful fits parts within next with = by_kept with
     where
       by_book : IsKeptAs old.book h → (book : Book) × MayOpen (2 ^ 32 - 1) book h
-      by_book kept = (old.book, record { sound = record { opens = kept.cells.opens; lawful = lawful; within = omega (arith, within.0, within.1); fits = fits.0 }; kept = kept })
+      by_book kept = (old.book, record { sound = sound_book (2 ^ 32 - 1) old.book lawful (omega (arith, within.0, within.1)) fits.0 parts; kept = kept })
 
       by_doubt : (doubt : Doubt) → IfSome doubt EntryFits → MayStand old.book old.limit doubt → IsKeptAs (with_doubt old.book doubt) h → (book : Book) × MayOpen (2 ^ 32 - 1) book h
       by_doubt None fit next kept = by_book kept
@@ -103,10 +108,10 @@ module _ {K : Type 0} (G : Ghosts K) where
         with_entry old.book entry,
         record {
           sound = record {
-            opens = kept.cells.opens;
             lawful = lawful_more old.book entry lawful stands;
             within = omega (arith, size-with_entry old.book entry, room, within.1);
-            fits = doubt_fits old.book (Some entry) fits.0 fit;
+            fits = all-append EntryFits old.book.entries (entry ∷ []) fits.0 (fit, tt);
+            parts = parts;
           };
           kept = kept;
         },
@@ -116,22 +121,22 @@ module _ {K : Type 0} (G : Ghosts K) where
       by_kept (inl kept) = by_book kept
       by_kept (inr kept) = by_doubt old.doubt fits.1 next kept
 
-  untold : (old : Seated K) (kept now : K) (damage : Damage) → kept ≡ old.keeper → IsLawful old.book → AllByRecursion EntryFits old.book.entries × IfSome old.doubt EntryFits → (size old.book ≤ old.limit) × (old.limit < 2 ^ 32) → MayStand old.book old.limit old.doubt
+  untold : (old : Seated K) (kept now : K) (damage : Damage) → kept ≡ old.keeper → IsLawful old.book → AllByRecursion EntryFits old.book.entries × IfSome old.doubt EntryFits → PartsFit old.book.page → (size old.book ≤ old.limit) × (old.limit < 2 ^ 32) → MayStand old.book old.limit old.doubt
       → KeepsBook G old.keeper old.book old.doubt → IsLeft G kept now → IsDamagedIn G (2 ^ 32 - 1) kept now damage → G.tells now → ⊥
-  untold old kept now damage is lawful fits within next held left damaged t =
+  untold old kept now damage is lawful fits parts within next held left damaged t =
       let (h, was, with) = held.held (subst (λ (k : K). G.tells k) is (left.told t)) in
       let same : h ≡ damaged.loaded = damaged.was.told t h (subst (λ (k : K). G.holds k h) (sym is) was) in
-      let (book, opens) = may_open old h lawful fits within next with in
-      opens-not_damaged (2 ^ 32 - 1) book damaged.loaded damage (subst (λ (l : Loaded). MayOpen (2 ^ 32 - 1) book l) same opens) damaged.damaged
+      let (book, opens) = may_open old h lawful fits parts within next with in
+      opens-not_damaged (2 ^ 32 - 1) book damaged.loaded (omega arith) (subst (λ (l : Loaded). MayOpen (2 ^ 32 - 1) book l) same opens) damage damaged.damaged
 
-  pub not_reopened : (old : Seated K) (kept now : K) (fault : OpenFault) → kept ≡ old.keeper → IsLawful old.book → AllByRecursion EntryFits old.book.entries × IfSome old.doubt EntryFits → (size old.book ≤ old.limit) × (old.limit < 2 ^ 32) → MayStand old.book old.limit old.doubt
+  pub not_reopened : (old : Seated K) (kept now : K) (fault : OpenFault) → kept ≡ old.keeper → IsLawful old.book → AllByRecursion EntryFits old.book.entries × IfSome old.doubt EntryFits → PartsFit old.book.page → (size old.book ≤ old.limit) × (old.limit < 2 ^ 32) → MayStand old.book old.limit old.doubt
       → KeepsBook G old.keeper old.book old.doubt
       → IsRefused G (2 ^ 32 - 1) kept fault now × IsLeft G kept now → ReopensOrNot G old (Err (fault_ending fault, now))
-  not_reopened old kept now faulting.Keeper is lawful fits within next held ((rose, unsteady), left) =
+  not_reopened old kept now faulting.Keeper is lawful fits parts within next held ((rose, unsteady), left) =
       let (with, told) = left_closed old kept now is held left in (tt, with, told, subst (λ (k : K). Rose (G.faults k) (G.faults now)) is rose)
-  not_reopened old kept now (faulting.Damaged damage) is lawful fits within next held (damaged, left) =
-      let (with, told) = left_closed old kept now is held left in (tt, with, told, untold old kept now damage is lawful fits within next held left damaged)
-  not_reopened old kept now faulting.Memory is lawful fits within next held (free, left) =
+  not_reopened old kept now (faulting.Damaged damage) is lawful fits parts within next held (damaged, left) =
+      let (with, told) = left_closed old kept now is held left in (tt, with, told, untold old kept now damage is lawful fits parts within next held left damaged)
+  not_reopened old kept now faulting.Memory is lawful fits parts within next held (free, left) =
       let (with, told) = left_closed old kept now is held left in (tt, with, told, tt)
 
   -- the keeper of a desk tells only if it told, and one that fails no more goes on so, with no fault

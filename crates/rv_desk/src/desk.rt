@@ -50,6 +50,7 @@ impl<K: Keeper> Desk<K> {
     ghost use Rattle.rv_history.specs.Served.{MayStand};
     ghost use Rattle.rv_keeper.specs.declared.loaded.Loaded.{Loaded};
     ghost use Rattle.rv_news.specs.Records.{AreRecords};
+    ghost use Rattle.rv_opening.specs.PageCells.{PartsFit};
     ghost use Rattle.rv_record.specs.EntryReading.{EntryFits};
     ghost use Rattle.rv_desk.specs.Seated.{HoldsBook, KeepsBook, LeavesBook};
 
@@ -73,6 +74,7 @@ impl<K: Keeper> Desk<K> {
         ensures limit { result.now.limit ≡ self.now.limit }
         ensures lawful { IsLawful self.now.book }
         ensures fits { AllByRecursion EntryFits self.now.book.entries }
+        ensures parts { PartsFit self.now.book.page }
         ensures next { MayStand self.now.book self.now.limit self.now.doubt }
         ensures held { K.tells self.now.keeper → HoldsBook (K.holds self.now.keeper) self.now.book self.now.doubt }
         ensures left { K.honest self.now.keeper → LeavesBook (K.may_leave self.now.keeper) self.now.book self.now.doubt }
@@ -115,6 +117,7 @@ impl<K: Keeper> Desk<K> {
         ensures keeper { result ≡ self.keeper }
         ensures lawful { IsLawful self.book }
         ensures fits { AllByRecursion EntryFits self.book.entries × IfSome self.doubt EntryFits }
+        ensures parts { PartsFit self.book.page }
         ensures within { (size self.book ≤ self.limit) × (self.limit < 2 ^ 32) }
         ensures next { MayStand self.book self.limit self.doubt }
         ensures held { K.tells self.keeper → HoldsBook (K.holds self.keeper) self.book self.doubt }

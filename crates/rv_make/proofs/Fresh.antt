@@ -1,7 +1,6 @@
 -- A keeper that holds nothing opens as a fresh server.
-use Rattle.std.proofs.Common.{◌≡◌, ◌-◌, ◌^◌, List, [], ◌∷◌, length, refl, sym, ap, ◌∙◌, subst, arith}
-use Rattle.rv_book.specs.declared.entry.Entry.{Entry}
-use Rattle.rv_book.specs.Book.{Book, book_from, empty_book, size}
+use Rattle.std.proofs.Common.{◌≡◌, ◌-◌, ◌^◌, [], refl, sym, ◌∙◌, subst, arith}
+use Rattle.rv_book.specs.Book.{Book, empty_book}
 use Rattle.rv_history.specs.LawfulBooks.{lawful_none}
 use Rattle.rv_history.specs.ReplayLaws.{replay_none}
 use Rattle.rv_news.specs.KeptRecords.{records_none}
@@ -10,7 +9,7 @@ use Rattle.rv_keeper.specs.declared.loaded.Loaded.{Loaded}
 use Rattle.rv_keeper.specs.Keeping.{holding}
 use Rattle.rv_record.specs.declared.fault.Damage.{Damage}
 use Rattle.rv_store.specs.Opening.{MayOpen}
-use Rattle.rv_store.specs.OpeningLaws.{opens-not_damaged}
+use Rattle.rv_store.specs.OpeningLaws.{opens-not_damaged, opens_one}
 use Rattle.rv_desk.specs.Opened.{IsDamagedIn, IsLeft, Opens}
 use Rattle.rv_desk.specs.Seated.{Seated, served}
 use Rattle.rv_make.specs.Plays.{fresh}
@@ -18,21 +17,15 @@ use Rattle.rv_make.specs.Plays.{fresh}
 -- what holds nothing is the empty book
 nothing_opens : MayOpen (2 ^ 32 - 1) empty_book (holding [] 0)
 nothing_opens = record {
-  sound = record { opens = refl; lawful = lawful_none; within = omega arith; fits = tt };
+  sound = record { lawful = lawful_none; within = omega arith; fits = tt; parts = record { rows = tt; clients = tt; groups = tt } };
   kept = record {
-    cells = record { opens = refl; rows = []; records = []; replay = replay_none; kept = records_none; made = refl };
+    cells = record { rows = []; records = []; replay = replay_none; kept = records_none; made = refl };
     generation = refl;
   };
 }
 
-no_entries_in : (entries : List Entry) → length entries ≡ 0 → entries ≡ []
-no_entries_in [] is = refl
-no_entries_in (entry ∷ entries) is = absurd (omega (arith, is))
-
 only_empty : (book : Book) (loaded : Loaded) → loaded ≡ holding [] 0 → MayOpen (2 ^ 32 - 1) book loaded → book ≡ empty_book
-only_empty book loaded is opens =
-    let length_is : size book ≡ 0 = sym opens.kept.generation ∙ ap (λ (l : Loaded). l.generation) is in
-    λ i. book_from (opens.sound.opens i) (no_entries_in book.entries (omega (arith, length_is)) i)
+only_empty book loaded is opens = opens_one (2 ^ 32 - 1) book empty_book loaded (omega arith) opens (subst (MayOpen (2 ^ 32 - 1) empty_book) (sym is) nothing_opens)
 
 module _ {K : Type 0} (G : Ghosts K) (steady_tells : (keeper : K) → G.fails_no_more keeper → G.tells keeper) (keeper : K) (holds : G.holds keeper (holding [] 0)) (steady : G.fails_no_more keeper) where
   -- its desk is fresh
@@ -47,4 +40,4 @@ module _ {K : Type 0} (G : Ghosts K) (steady_tells : (keeper : K) → G.fails_no
   pub fresh_sound : (now : K) (damage : Damage) → IsDamagedIn G (2 ^ 32 - 1) keeper now damage → IsLeft G keeper now → ⊥
   fresh_sound now damage damaged left =
       let told : G.tells now = steady_tells now (left.goes_on steady) in
-      opens-not_damaged (2 ^ 32 - 1) empty_book damaged.loaded damage (subst (MayOpen (2 ^ 32 - 1) empty_book) (damaged.was.told told (holding [] 0) holds) nothing_opens) damaged.damaged
+      opens-not_damaged (2 ^ 32 - 1) empty_book damaged.loaded (omega arith) (subst (MayOpen (2 ^ 32 - 1) empty_book) (damaged.was.told told (holding [] 0) holds) nothing_opens) damage damaged.damaged

@@ -2,12 +2,12 @@ use Rattle.rv_cli.proofs.Taking.{reopened, reopened_steady, not_reopened, refuse
 use Rattle.rv_cli.proofs.line.reopen.Goals as goal
 
 pub returns-in-Ok-clause-reopens : goal.returns-in-Ok-clause-reopens
-returns-in-Ok-clause-reopens g c = reopened g.K.Keeper c.args.desk _ c.close.result c.close.ensures.keeper c.close.ensures.fits (record { held = c.close.ensures.held; left = c.close.ensures.left }) c.in-Ok.ensures
+returns-in-Ok-clause-reopens g c = reopened g.K.Keeper c.args.desk _ c.close.result c.close.ensures.keeper c.close.ensures.lawful c.close.ensures.fits c.close.ensures.parts c.close.ensures.within (record { held = c.close.ensures.held; left = c.close.ensures.left }) c.in-Ok.ensures
 
 pub returns-in-Err-clause-reopens : goal.returns-in-Err-clause-reopens
 returns-in-Err-clause-reopens g c =
     rw c.of_fault.ensures
-    (not_reopened g.K.Keeper c.args.desk c.close.result c.in-Err.keeper c.in-Err.fault c.close.ensures.keeper c.close.ensures.lawful c.close.ensures.fits c.close.ensures.within c.close.ensures.next (record { held = c.close.ensures.held; left = c.close.ensures.left }) c.in-Err.ensures)
+    (not_reopened g.K.Keeper c.args.desk c.close.result c.in-Err.keeper c.in-Err.fault c.close.ensures.keeper c.close.ensures.lawful c.close.ensures.fits c.close.ensures.parts c.close.ensures.within c.close.ensures.next (record { held = c.close.ensures.held; left = c.close.ensures.left }) c.in-Err.ensures)
 
 pub returns-in-Ok-clause-steady_keeper : goal.returns-in-Ok-clause-steady_keeper
 returns-in-Ok-clause-steady_keeper g c = λ f. reopened_steady g.K.Keeper c.args.desk _ c.close.result c.close.ensures.keeper c.in-Ok.ensures f
