@@ -4,3 +4,4 @@ pub mod Keeping
 pub mod Settling
 pub mod Stepping
 pub mod TurnLaws
+pub mod Closable

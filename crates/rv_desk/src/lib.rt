@@ -5,6 +5,8 @@
 //! the entry is in doubt: it may have been kept. The next turn asks the keeper first, and then drops the entry or enters it.
 #![tactic(auto)]
 
+mod closable_desk;
+mod closing_desk;
 mod desk;
 mod doubt;
 mod keeping;
@@ -15,5 +17,7 @@ mod retiring;
 mod settling;
 mod stepping;
 
+pub use closable_desk::ClosableDesk;
+pub use closing_desk::ClosingDesk;
 pub use desk::Desk;
 pub use open_fault::OpenFault;

@@ -1,0 +1,26 @@
+ghost use Rattle.std.specs.Prelude.{◌≡◌};
+
+use rv_book::Book;
+use rv_keeper::Keeper;
+use rv_state::State;
+use std::alloc::Global;
+use std::marker::Model;
+
+/// A desk of which a closing is in doubt: the closed book may have been kept in the place of the book. The next turn settles it.
+pub struct ClosingDesk<K: Keeper> {
+    pub(crate) state: State,
+    pub(crate) closed: Book,
+    pub(crate) keeper: K,
+    pub(crate) alloc: Global,
+}
+
+impl<K: Keeper> Model for ClosingDesk<K> {
+    ghost use Rattle.rv_desk.specs.Closable.{Closing, KeepsClosable, closing_seat, closing_of};
+    ghost use Rattle.rv_state.specs.Closed.{IsClosed};
+
+    ghost Value = { Closing K };
+
+    ghost view = { λ d. closing_of d.state d.closed.book d.keeper };
+
+    ghost invariant = { λ d. IsClosed d.state d.closed × KeepsClosable K.Keeper (closing_seat (closing_of d.state d.closed.book d.keeper)) };
+}
