@@ -15,7 +15,7 @@ pub struct ClosingDesk<K: Keeper> {
 }
 
 impl<K: Keeper> Model for ClosingDesk<K> {
-    ghost use Rattle.rv_desk.specs.Closable.{Closing, KeepsClosable, closing_seat, closing_of};
+    ghost use Rattle.rv_desk.specs.ClosingSeats.{Closing, KeepsClosable, closing_seat, closing_of};
     ghost use Rattle.rv_state.specs.Closed.{IsClosed};
 
     ghost Value = { Closing K };

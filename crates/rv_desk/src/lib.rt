@@ -6,6 +6,7 @@
 #![tactic(auto)]
 
 mod closable_desk;
+mod closing;
 mod closing_desk;
 mod desk;
 mod doubt;
