@@ -59,3 +59,36 @@ module _ (book closed : Book) (changes : List Change) (leads : (cells : List Cel
   leaves_either Tells Holds Leaves LeavesNow from at held before more left may =
       let now = subst (λ (n : ℕ). LeavesMore Leaves LeavesNow (IsMade Tells Holds n changes)) at more in
       ⊎_elim (λ was. was_kept left (before left was)) (λ made. was_made Holds left (held made.0) made.1) (now left may)
+
+-- what is held as one of two books is told apart by its generation
+module _ (book closed : Book) (closes : Closes book closed) where
+  pub is_book : (held : Loaded) → held.generation ≡ size book → IsKeptAs book held ⊎ IsKeptAs closed held → IsKeptAs book held
+  is_book held is (inl kept) = kept
+  is_book held is (inr kept) = absurd (omega (arith, is, kept.generation, closed_size book closed closes))
+
+  pub is_closed : (held : Loaded) → held.generation ≡ size book + 1 → IsKeptAs book held ⊎ IsKeptAs closed held → IsKeptAs closed held
+  is_closed held is (inl kept) = absurd (omega (arith, is, kept.generation))
+  is_closed held is (inr kept) = kept
+
+  -- and it is at one of two generations
+  pub is_near : (held : Loaded) (found : ℕ) → held.generation ≡ found → ¬ (found ≡ size book) → ¬ (found ≡ size book + 1) → IsKeptAs book held ⊎ IsKeptAs closed held → ⊥
+  is_near held found is not after (inl kept) = not (sym is ∙ kept.generation)
+  is_near held found is not after (inr kept) = after (sym is ∙ kept.generation ∙ closed_size book closed closes)
+
+  -- the closed book was not kept
+  pub holds_dropped : (Held Holds : Loaded → Type 0) (found : ℕ) → found ≡ size book → HoldsEither Held book closed → ((held : Loaded) → Held held → Holds held) → ((held : Loaded) → Held held → held.generation ≡ found) → HoldsBook Holds book None
+  holds_dropped Held Holds found at (held, was, kept) same told = (held, same held was, inl (is_book held (told held was ∙ at) kept))
+
+  -- it was kept
+  pub holds_taken : (Held Holds : Loaded → Type 0) (found : ℕ) → found ≡ size book + 1 → HoldsEither Held book closed → ((held : Loaded) → Held held → Holds held) → ((held : Loaded) → Held held → held.generation ≡ found) → HoldsBook Holds closed None
+  holds_taken Held Holds found at (held, was, kept) same told = (held, same held was, inl (is_closed held (told held was ∙ at) kept))
+
+  -- it is not known
+  pub holds_on : (Held Holds : Loaded → Type 0) → HoldsEither Held book closed → ((held : Loaded) → Held held → Holds held) → HoldsEither Holds book closed
+  holds_on Held Holds (held, was, kept) same = (held, same held was, kept)
+
+  pub leaves_on : (Tells : Type 0) (Holds : Loaded → Type 0) (Leaves LeavesNow : Option Loaded → Type 0) → (Tells → HoldsEither Holds book closed) → LeavesEither Leaves book closed → LeavesMore Leaves LeavesNow (IsHeld Tells Holds) → LeavesEither LeavesNow book closed
+  leaves_on Tells Holds Leaves LeavesNow held before more left may = ⊎_elim (λ was. before left was) (λ is. of_held (held is.0) is.1) (more left may)
+    where
+      of_held : HoldsEither Holds book closed → ((held : Loaded) → Holds held → left ≡ Some held) → (held : Loaded) × (left ≡ Some held) × (IsKeptAs book held ⊎ IsKeptAs closed held)
+      of_held (held, holds, kept) is = (held, is held holds, kept)

@@ -16,6 +16,7 @@ mod open_fault;
 mod pulling;
 mod retiring;
 mod settling;
+mod settling_closing;
 mod stepping;
 
 pub use closable_desk::ClosableDesk;
