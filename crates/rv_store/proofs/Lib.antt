@@ -10,3 +10,8 @@ pub mod Retirements
 pub mod Behind
 pub mod Compared
 pub mod Restored
+pub mod ShelfParts
+pub mod Replacements
+pub mod GoneEntries
+pub mod ClosingCells
+pub mod Closings

@@ -55,7 +55,7 @@ none_at shelf = record { own = tt; once = tt }
 one_at : (shelf : ℕ) (change : Change) → change_shelf change ≡ shelf → AreOnce shelf (change ∷ [])
 one_at shelf change own = record { own = (own, tt); once = (refl, tt) }
 
-after_of : (s t : ℕ) (changes : List Change) → s < t → AreOf t changes → AreAfter s changes
+pub after_of : (s t : ℕ) (changes : List Change) → s < t → AreOf t changes → AreAfter s changes
 after_of s t [] low own = tt
 after_of s t (change ∷ changes) low own = (omega (arith, low, own.0), after_of s t changes low own.1)
 
@@ -72,7 +72,7 @@ further s t (cell ∷ cells) low all = (omega (arith, low, all.0), further s t c
 all_of : (s : ℕ) (xs ys : List Cell) → Behind s xs → Behind s ys → Behind s (xs ++ ys)
 all_of s xs ys = all-append (λ cell. s < cell.shelf) xs ys
 
-regroup : (a b c d e : List Cell) → (a ++ (b ++ (c ++ d))) ++ e ≡ a ++ (b ++ (c ++ (d ++ e)))
+pub regroup : (a b c d e : List Cell) → (a ++ (b ++ (c ++ d))) ++ e ≡ a ++ (b ++ (c ++ (d ++ e)))
 regroup a b c d e =
     append_assoc a (b ++ (c ++ d)) e
     ∙ ap (λ (cells : List Cell). a ++ cells) (append_assoc b (c ++ d) e ∙ ap (λ (cells : List Cell). b ++ cells) (append_assoc c d e))

@@ -56,7 +56,7 @@ pub rows-of : (version : ℕ) (change : Staged) → AreOf 2 (row_changes version
 rows-of version change = all-append _ (removed_rows change.keys) (written_rows version change.rows) (removed-on change.keys) (written-on version change.rows)
 
 -- items of two lists that have no key in common
-distinct-append : {X : Type 0} (key : X → List ℕ) (xs ys : List X) → Distinct key xs → Distinct key ys → AllByRecursion (λ x. find_by key (key x) ys ≡ None) xs → Distinct key (xs ++ ys)
+pub distinct-append : {X : Type 0} (key : X → List ℕ) (xs ys : List X) → Distinct key xs → Distinct key ys → AllByRecursion (λ x. find_by key (key x) ys ≡ None) xs → Distinct key (xs ++ ys)
 distinct-append key [] ys once also apart = also
 distinct-append {X = X} key (x ∷ xs) ys once also apart = (absent xs once.0, distinct-append key xs ys once.1 also apart.1)
   where

@@ -47,7 +47,7 @@ module _ {X : Type 0} (key : X → List ℕ) where
   above-apart x [] above = tt
   above-apart x (y ∷ ys) above = (differs_back (key x) (key y) above.0, above-apart x ys above.1)
 
-  removed-passing : (p : X → Bool) (xs : List X) → InOrder key xs → fold (λ t y. without key (key y) t) xs (filter p xs) ≡ filter (λ x. not (p x)) xs
+  pub removed-passing : (p : X → Bool) (xs : List X) → InOrder key xs → fold (λ t y. without key (key y) t) xs (filter p xs) ≡ filter (λ x. not (p x)) xs
   removed-passing p [] order = refl
   removed-passing p (x ∷ xs) order =
       elim (p x) as (λ b. fold (λ t y. without key (key y) t) (x ∷ xs) (cond b (x ∷ filter p xs) (filter p xs)) ≡ cond (not b) (x ∷ filter (λ x. not (p x)) xs) (filter (λ x. not (p x)) xs)) [

@@ -7,3 +7,4 @@ pub mod StoreUnique
 pub mod StoreBooks
 pub mod EntryChanges
 pub mod OpeningLaws
+pub mod ClosingChanges

@@ -7,6 +7,7 @@
 #![tactic(auto)]
 
 mod changes;
+mod closing;
 mod comparing;
 mod entering;
 mod restoring;
@@ -14,4 +15,5 @@ mod row_changes;
 mod view_changes;
 
 pub use changes::changes_for;
+pub use closing::closing_changes;
 pub use restoring::restore;

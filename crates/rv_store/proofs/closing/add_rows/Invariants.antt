@@ -1,0 +1,6 @@
+use Rattle.std.proofs.Common.{◌≡◌, ◌++◌, take}
+use Rattle.rv_store.specs.ClosingChanges.{put_rows}
+use Rattle.rv_store.proofs.closing.add_rows.Given as goal
+
+abbrev pub invariant-loop-row : goal.invariant-loop-row
+invariant-loop-row l = l.changes.items ≡ l.initial.changes.items ++ put_rows (take l.row-index l.rows)
