@@ -1,4 +1,5 @@
 ghost use Rattle.std.specs.Prelude.{◌≡◌};
+ghost use Rattle.rv_desk.specs.ClosingSeats.{KeepsClosable, closing_seat};
 
 use rv_book::Book;
 use rv_keeper::Keeper;
@@ -23,4 +24,18 @@ impl<K: Keeper> Model for ClosingDesk<K> {
     ghost view = { λ d. closing_of d.state d.closed.book d.keeper };
 
     ghost invariant = { λ d. IsClosed d.state d.closed × KeepsClosable K.Keeper (closing_seat (closing_of d.state d.closed.book d.keeper)) };
+}
+
+impl<K: Keeper> ClosingDesk<K> {
+    ghost use Rattle.rv_history.specs.Lawful.{IsLawful};
+
+    /// The book, before the closing in doubt. Takes no memory.
+    pub fn book(&self) -> &Book
+        ensures book { result.now.book ≡ self.now.book }
+        ensures limit { result.now.limit ≡ self.now.limit }
+        ensures lawful { IsLawful self.now.book }
+        ensures kept { KeepsClosable K.Keeper (closing_seat self.now) }
+    {
+        self.state.book()
+    }
 }
