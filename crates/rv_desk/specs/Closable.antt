@@ -1,5 +1,5 @@
 -- The turns of a desk whose book may be closed.
-use Rattle.std.specs.Prelude.{None, Some, Result, Ok, Err}
+use Rattle.std.specs.Prelude.{Option, None, Some, Result, Ok, Err}
 use Rattle.rv_turns.specs.Asks.{Ask}
 use Rattle.rv_turns.specs.Outcomes.{close_trouble, trouble_of}
 use Rattle.rv_turns.specs.declared.close_answer.CloseAnswer.{CloseAnswer}
@@ -29,6 +29,11 @@ pub record SeatCloses {K : Type 0} (G : Ghosts K) (old : ClosableSeat K) (answer
   pub turn : TakesClosing (closable G.faults old) answer (closable G.faults new)
   pub assured : Assures G.tells G.fails_no_more old.keeper (close_trouble answer) new.keeper
   pub kept : KeepsClosable G new
+
+-- the same in place: there is such a desk before and after
+abbrev pub TakesInPlace : {K : Type 0} → Ghosts K → Option (ClosableSeat K) → Ask → Outcome → Option (ClosableSeat K) → Type 0
+TakesInPlace G (Some old) ask outcome (Some new) = SeatTakes G old ask outcome new
+TakesInPlace G old ask outcome new = ⊥
 
 -- Settling a closing in doubt: the desk with the book or with the closed one; or the desk as it stood, with the trouble.
 abbrev pub SettlesOrStays : {K : Type 0} → Ghosts K → Closing K → Result (Seated K) (Trouble × Closing K) → Type 0

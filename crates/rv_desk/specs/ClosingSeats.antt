@@ -1,10 +1,15 @@
 -- A desk whose book may be closed, as contracts see it.
-use Rattle.std.specs.Prelude.{◌≡◌, ◌⊎◌, ℕ, Option, Some, None}
-use Rattle.rv_book.specs.Book.{Book}
+use Rattle.std.specs.Prelude.{◌≡◌, ◌⊎◌, ℕ, ◌≤◌, ◌<◌, ◌^◌, Option, Some, None, IfSome}
+use Rattle.std.specs.List.{AllByRecursion}
+use Rattle.rv_book.specs.Book.{Book, size}
 use Rattle.rv_history.specs.Closable.{Closable, server_at}
-use Rattle.rv_history.specs.Served.{Doubt}
+use Rattle.rv_history.specs.Closing.{Closes}
+use Rattle.rv_history.specs.Lawful.{IsLawful}
+use Rattle.rv_history.specs.Served.{Doubt, MayStand}
 use Rattle.rv_keeper.specs.declared.keeper.Keeper.{Ghosts}
 use Rattle.rv_keeper.specs.declared.loaded.Loaded.{Loaded}
+use Rattle.rv_record.specs.EntryReading.{EntryFits}
+use Rattle.rv_opening.specs.PageCells.{PartsFit}
 use Rattle.rv_state.specs.Standing.{Standing}
 use Rattle.rv_store.specs.StoreCells.{IsKeptAs, IsKeptWith}
 use Rattle.rv_desk.specs.Seated.{Seated}
@@ -47,3 +52,13 @@ IsKeptSo book doubt (Some closed) held = IsKeptAs book held ⊎ IsKeptAs closed 
 pub record KeepsClosable {K : Type 0} (G : Ghosts K) (seat : ClosableSeat K) : Type 0 where
   pub held : G.tells seat.keeper → (held : Loaded) × G.holds seat.keeper held × IsKeptSo seat.book seat.doubt seat.closing held
   pub left : G.honest seat.keeper → (left : Option Loaded) → G.may_leave seat.keeper left → (held : Loaded) × (left ≡ Some held) × IsKeptSo seat.book seat.doubt seat.closing held
+
+-- What is known of such a desk: its book is lawful, within the limit and of the form; an entry in doubt may stand next and is of the form; and
+-- a closing in doubt is one of the book, which is not full, to a page that is of the form.
+pub record IsSoundSeat {K : Type 0} (seat : ClosableSeat K) : Type 0 where
+  pub lawful : IsLawful seat.book
+  pub fits : AllByRecursion EntryFits seat.book.entries × IfSome seat.doubt EntryFits
+  pub parts : PartsFit seat.book.page
+  pub within : (size seat.book ≤ seat.limit) × (seat.limit < 2 ^ 32)
+  pub next : MayStand seat.book seat.limit seat.doubt
+  pub closing : IfSome seat.closing (λ closed. Closes seat.book closed × PartsFit closed.page × (size seat.book < seat.limit))

@@ -163,22 +163,6 @@ impl<K: Keeper> ClosingDesk<K> {
 }
 
 impl<K: Keeper> ClosableDesk<K> {
-    ghost use Rattle.rv_desk.specs.ClosingSeats.{KeepsClosable};
-    ghost use Rattle.rv_history.specs.Lawful.{IsLawful};
-
-    /// The book, without what is in doubt. Takes no memory.
-    pub fn book(&self) -> &Book
-        ensures book { result.now.book ≡ (seat_of self.now).book }
-        ensures limit { result.now.limit ≡ (seat_of self.now).limit }
-        ensures lawful { IsLawful (seat_of self.now).book }
-        ensures kept { KeepsClosable K.Keeper (seat_of self.now) }
-    {
-        match self {
-            ClosableDesk::Open(desk) => desk.book(),
-            ClosableDesk::Closing(desk) => desk.book(),
-        }
-    }
-
     // Closes the book, once what was in doubt is settled.
     fn close_unsettled(self) -> (CloseAnswer, ClosableDesk<K>)
         ensures turn { TakesClosing (closable K.faults (seat_of self)) result.0 (closable K.faults (seat_of result.1)) }

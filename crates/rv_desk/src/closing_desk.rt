@@ -1,5 +1,5 @@
 ghost use Rattle.std.specs.Prelude.{◌≡◌};
-ghost use Rattle.rv_desk.specs.ClosingSeats.{KeepsClosable, closing_seat};
+ghost use Rattle.rv_desk.specs.ClosingSeats.{IsSoundSeat, KeepsClosable, closing_seat};
 
 use rv_book::Book;
 use rv_keeper::Keeper;
@@ -37,5 +37,22 @@ impl<K: Keeper> ClosingDesk<K> {
         ensures kept { KeepsClosable K.Keeper (closing_seat self.now) }
     {
         self.state.book()
+    }
+
+    /// Gives the keeper back as it is. The closing in doubt is dropped, unsettled.
+    pub fn close(self) -> K
+        ensures keeper { result ≡ self.keeper }
+        ensures sound { IsSoundSeat (closing_seat self) }
+        ensures kept { KeepsClosable K.Keeper (closing_seat self) }
+    {
+        // The book tells that it is lawful, and within its limit.
+        let _length = self.state.book().len();
+        let ClosingDesk {
+            state: _state,
+            closed: _closed,
+            keeper,
+            alloc: _alloc,
+        } = self;
+        keeper
     }
 }

@@ -18,8 +18,10 @@ mod retiring;
 mod settling;
 mod settling_closing;
 mod stepping;
+mod turning_desk;
 
 pub use closable_desk::ClosableDesk;
 pub use closing_desk::ClosingDesk;
 pub use desk::Desk;
 pub use open_fault::OpenFault;
+pub use turning_desk::TurningDesk;
