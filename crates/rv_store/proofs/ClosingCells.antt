@@ -51,10 +51,10 @@ place_written page from = by (page.at == 0) refl
     by false there = refl
 
 -- its cells, shelf after shelf
-page_shelves : (page : Page) → IsOpening page → page_cells page ≡ place_cells page ++ (row_parts page.rows ++ (client_parts page.clients ++ (group_parts page.groups ++ [])))
-page_shelves page (inl none) =
+shelf_by_shelf : (page : Page) → IsOpening page → page_cells page ≡ place_cells page ++ (row_parts page.rows ++ (client_parts page.clients ++ (group_parts page.groups ++ [])))
+shelf_by_shelf page (inl none) =
     subst (λ (p : Page). page_cells p ≡ place_cells p ++ (row_parts p.rows ++ (client_parts p.clients ++ (group_parts p.groups ++ [])))) (sym none) refl
-page_shelves page (inr (from, sound)) =
+shelf_by_shelf page (inr (from, sound)) =
     written page from
     ∙ (λ i. page_cell page.at ∷ (row_parts page.rows ++ (client_parts page.clients ++ sym (append-nil (group_parts page.groups)) i)))
     ∙ sym (ap (λ (cells : List Cell). cells ++ (row_parts page.rows ++ (client_parts page.clients ++ (group_parts page.groups ++ [])))) (place_written page from))
@@ -199,7 +199,7 @@ module _ (book : Book) (page : Page) (lawful : IsLawful book) (sums : SumsUp boo
     cells_are =
         ap (λ (cells : List Cell). entry_cells (book.page.at + 1) book.entries ++ cells)
         (regroup (row_cells rows) (client_cells book) (group_cells book) (view_cells records) (page_cells book.page)
-        ∙ ap (λ (cells : List Cell). row_cells rows ++ (client_cells book ++ (group_cells book ++ (view_cells records ++ cells)))) (page_shelves book.page lawful.opens))
+        ∙ ap (λ (cells : List Cell). row_cells rows ++ (client_cells book ++ (group_cells book ++ (view_cells records ++ cells)))) (shelf_by_shelf book.page lawful.opens))
 
     left_are : all_left parts ≡ cells_of closed rows []
     left_are =
