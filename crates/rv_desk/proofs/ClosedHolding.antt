@@ -1,7 +1,7 @@
 -- What the keeper holds, and what a crash may leave, after the commit of a closed book, and when a closing in doubt is settled.
-use Rattle.std.proofs.Common.{◌≡◌, ℕ, ◌+◌, List, [], Option, Some, None, sym, ap, subst, ◌∙◌, arith, inl, inr, ⊎_elim, ◌⊎◌, length}
+use Rattle.std.proofs.Common.{◌≡◌, ℕ, ◌+◌, List, Option, Some, None, sym, ap, subst, ◌∙◌, arith, inl, inr, ⊎_elim, ◌⊎◌}
 use Rattle.std.specs.Prelude.{Ok, Err}
-use Rattle.rv_book.specs.Book.{Book, book_from, size}
+use Rattle.rv_book.specs.Book.{Book, size}
 use Rattle.rv_history.specs.Closing.{Closes}
 use Rattle.rv_keeper.specs.declared.cell.Cell.{Cell}
 use Rattle.rv_keeper.specs.declared.change.Change.{Change}
@@ -12,7 +12,6 @@ use Rattle.rv_keeper.specs.Crashes.{IsHeld, IsMade, LeavesMore}
 use Rattle.rv_keeper.specs.Keeping.{Made, committed}
 use Rattle.rv_store.specs.StoreCells.{AreCellsOf, IsKeptAs, IsKeptWith}
 use Rattle.rv_desk.specs.Seated.{HoldsBook, LeavesBook}
-use Rattle.rv_desk.specs.ClosingSeats.{IsKeptSo}
 use Rattle.rv_desk.proofs.Holding.{kept_surely}
 
 -- a closed book is one place longer

@@ -126,7 +126,10 @@ impl<K: Keeper> Desk<K> {
                 } = self;
                 keep_closed(alloc, state, keeper, closed)
             }
-            Err(Memory) => (CloseAnswer::Refused(Refusal::Memory), ClosableDesk::Open(self)),
+            Err(Memory) => (
+                CloseAnswer::Refused(Refusal::Memory),
+                ClosableDesk::Open(self),
+            ),
         }
     }
 

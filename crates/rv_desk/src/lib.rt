@@ -3,6 +3,9 @@
 //!
 //! A turn prepares its entry, commits the changes of cells that the entry makes, and enters it. Where the keeper fails in that,
 //! the entry is in doubt: it may have been kept. The next turn asks the keeper first, and then drops the entry or enters it.
+//!
+//! A [`ClosableDesk`] closes its book besides: the page that sums it up comes in the place of its entries, in one commit. A
+//! closing is in doubt and is settled as an entry is.
 #![tactic(auto)]
 
 mod closable_desk;

@@ -1,4 +1,4 @@
-use Rattle.std.proofs.Common.{None, ◌≡◌, ◌∙◌, ap, refl, sym, subst}
+use Rattle.std.proofs.Common.{None, ◌∙◌, ap, refl, sym, subst}
 use Rattle.rv_book.specs.Book.{Book, size}
 use Rattle.rv_desk.specs.Seated.{AreInStep, HoldsBook}
 use Rattle.rv_desk.proofs.ClosedHolding.{holds_closed, holds_either, leaves_either}
@@ -16,7 +16,7 @@ invariant_of-result g c =
     } in (
       step,
       settled_in_step c.close.new.self None (K.tells c.commit.new.self) (K.honest c.commit.new.self) (K.holds c.commit.new.self) (K.may_leave c.commit.new.self)
-      (λ honest. (c.in-Ok.ensures.honest honest).1 refl) step c.in-Ok.ensures.settled,
+          (λ honest. (c.in-Ok.ensures.honest honest).1 refl) step c.in-Ok.ensures.settled,
     )
 
 pub invariant_of-result-in-Err-Failed : goal.invariant_of-result-in-Err-Failed

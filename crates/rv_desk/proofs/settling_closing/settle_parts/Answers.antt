@@ -1,4 +1,4 @@
-use Rattle.std.proofs.Common.{None, Some, rules, refl, ◌≡◌, ◌∙◌, ap, ◌+◌, ℕ, sym, subst}
+use Rattle.std.proofs.Common.{None, rules, refl, ◌≡◌, ◌∙◌, ap, ◌+◌, ℕ, sym, subst}
 use Rattle.rv_book.specs.Book.{Book, size}
 use Rattle.rv_desk.specs.Seated.{AreInStep, HoldsBook}
 use Rattle.rv_desk.proofs.ClosedHolding.{holds_dropped, holds_taken, holds_on, is_near, leaves_on}
@@ -48,8 +48,8 @@ returns-else-found-kept-2 g c =
     let not : ¬ (c.in-Ok.found ≡ c.from-kept.result) = search rules in
     let after : ¬ (c.in-Ok.found ≡ c.from-kept.result + 1) = search rules in
     let far : K.tells new → ⊥ = λ t.
-        let (held, was, either) = c.requires.kept.held (c.in-Ok.ensures.tells t) in
-        is_near c.args.state.book c.args.closed.book c.requires.closed.closes held c.in-Ok.found (c.in-Ok.ensures.told t held was) (λ is. not (is ∙ sym kept)) (λ is. after (is ∙ sym (ap (λ (n : ℕ). n + 1) kept))) either in (
+    let (held, was, either) = c.requires.kept.held (c.in-Ok.ensures.tells t) in
+    is_near c.args.state.book c.args.closed.book c.requires.closed.closes held c.in-Ok.found (c.in-Ok.ensures.told t held was) (λ is. not (is ∙ sym kept)) (λ is. after (is ∙ sym (ap (λ (n : ℕ). n + 1) kept))) either in (
       record {
         closed = c.args.closed.book;
         closing = refl;

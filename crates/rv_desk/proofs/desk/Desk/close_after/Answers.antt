@@ -1,4 +1,4 @@
-use Rattle.std.proofs.Common.{None, refl, inl, subst}
+use Rattle.std.proofs.Common.{refl, inl, subst}
 use Rattle.rv_history.specs.Closable.{ClosesOrNot, server_at}
 use Rattle.rv_history.specs.Served.{Served}
 use Rattle.rv_desk.specs.ClosingSeats.{closable}
