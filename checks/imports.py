@@ -4,7 +4,7 @@
 PROGRAM is the program `rv` as it was built, FILES how many files are made by chance and imported (300): quotes, commas and line ends
 within texts, bytes that are no UTF-8, NUL, empty fields, fields at their limits. Each is imported twice, the second time over what the
 first left; status, output and cells are compared with those of the model's server, which is asked for each record that a reader of CSV
-written anew finds. What is exported is compared, and read back with Python's csv. Then files at the limit of 16 MiB and a byte above it
+written anew finds. What is exported is compared, and read back with Python's csv and, where Debian's sqlite3 is installed, with its `.import`. Then files at the limit of 16 MiB and a byte above it
 are tried, and one import is killed KILLS times (50) and begun again: what is kept at the end is what a run without a kill keeps. Ends
 with status 1 at the first difference.
 """
@@ -13,6 +13,7 @@ import io
 import json
 import os
 import random
+import shutil
 import subprocess
 import sys
 import tempfile
@@ -166,10 +167,22 @@ def check_cells(path, server, where):
         sys.exit(f"{where}: other cells, at generation {generation}")
 
 
+def by_sqlite(data, folder):
+    """The rows of CSV, as the shell of SQLite reads them into a table."""
+    path = os.path.join(folder, "exported.csv")
+    with open(path, "wb") as out:
+        out.write(data)
+    words = ["sqlite3", ":memory:", f".import --csv {path} rows", "SELECT json_group_array(json_array(key, value)) FROM rows"]
+    return json.loads(subprocess.run(words, stdout=subprocess.PIPE, check=True).stdout)
+
+
 def check_exports(program, path, server, where):
     for user in ("ann", "bob", "nobody"):
         same(f"{where}: what {user} sees", run(program, ["export", path, user]), (0, exported(server, user)))
-    rows = list(csv.reader(io.StringIO(exported(server, "ann"), newline="")))
+    text = exported(server, "ann")
+    rows = list(csv.reader(io.StringIO(text, newline="")))
+    if shutil.which("sqlite3") and len(rows) > 1:
+        same(f"{where}: read by sqlite3", by_sqlite(text.encode(), os.path.dirname(path)), rows[1:])
     wanted = server.seen("ann", len(server.book))
     same(f"{where}: read back", {key: json.loads(value) for key, value in rows[1:]}, {key: json.loads(text_of(row)) for key, row in wanted.items()})
 
