@@ -11,14 +11,14 @@ use Rattle.rv_words.specs.Words.{as_import_name, as_user, command_in, export_of,
 use Rattle.rv_words.specs.Plain.{Part, asked_with, export_with, import_with, make_with, on_store_with, parts_from, plainly_in, retire_with, serve_with, the_value, values_in}
 use Rattle.rv_words.specs.Laws.{GroupsAreIds, IsUser, NamesImport, SeedsAreInBounds, UsersAreUsers}
 use Rattle.rv_words.specs.declared.command.Command.{Command}
-use Rattle.rv_words.specs.declared.command.Command.TheVariants.{Activity, Check, Export, Feed, Import, Lists, Make, Retire, Serve}
+use Rattle.rv_words.specs.declared.command.Command.TheVariants.{Activity, Check, CloseBook, Export, Feed, Import, Lists, Make, Retire, Serve}
 use Rattle.rv_words.specs.declared.serve_options.ServeOptions.{ServeOptions}
 use Rattle.rv_words.proofs.Lines.{line_is_plain}
 
 abbrev AreBounded : ℕ → ℕ → Type 0
 AreBounded seed requests = IsInRange 0 2147483647 seed × IsInRange 0 1000000 requests
 
--- it holds of the commands of stores and of `serve`, of `retire` with an `Id`, of `make` with numbers in bounds, and of
+-- it holds of the commands of stores alone and of `serve`, of `retire` with an `Id`, of `make` with numbers in bounds, and of
 -- `import` and `export` with a user and a name
 record HoldsOf (P : Command → Type 0) : Type 0 where
   pub feed : (store : List ℕ) → P (Feed store)
@@ -30,6 +30,7 @@ record HoldsOf (P : Command → Type 0) : Type 0 where
   pub import : (store user name : List ℕ) → IsUser user → NamesImport name → P (Import store user name)
   pub export : (store user : List ℕ) → IsUser user → P (Export store user)
   pub serve : (store : List ℕ) (options : ServeOptions) → P (Serve store options)
+  pub close_book : (store : List ℕ) → P (CloseBook store)
 
 both_true : (a b c : Bool) → (a && b && c) ≡ true → (b ≡ true) × (c ≡ true)
 both_true true true true is = (refl, refl)
@@ -97,18 +98,20 @@ module _ (P : Command → Type 0) (holds : HoldsOf P) where
       let same : known ≡ command = cc in
       subst P same known_holds
 
-  by_store : (from : List ℕ) (feed lists activity check : Bool)
-      → AllHold (cond feed (Some (Feed from)) (cond lists (Some (Lists from)) (cond activity (Some (Activity from)) (cond check (Some (Check from)) None))))
-  by_store from true lists activity check command is = this_holds _ command (holds.feed from) is
-  by_store from false true activity check command is = this_holds _ command (holds.lists from) is
-  by_store from false false true check command is = this_holds _ command (holds.activity from) is
-  by_store from false false false true command is = this_holds _ command (holds.check from) is
-  by_store from false false false false command is = absurd (cc)
+  by_store : (from : List ℕ) (feed lists activity check close_book : Bool)
+      → AllHold (cond feed (Some (Feed from)) (cond lists (Some (Lists from)) (cond activity (Some (Activity from)) (cond check (Some (Check from)) (cond close_book (Some (CloseBook from)) None)))))
+  by_store from true lists activity check close_book command is = this_holds _ command (holds.feed from) is
+  by_store from false true activity check close_book command is = this_holds _ command (holds.lists from) is
+  by_store from false false true check close_book command is = this_holds _ command (holds.activity from) is
+  by_store from false false false true close_book command is = this_holds _ command (holds.check from) is
+  by_store from false false false false true command is = this_holds _ command (holds.close_book from) is
+  by_store from false false false false false command is = absurd (cc)
 
   by_stores : (verb : List ℕ) (values : List (List ℕ)) → AllHold (on_store_with verb values)
   by_stores verb [] command is = absurd (cc)
   by_stores verb (from ∷ []) command is = by_store from
-      (bytes_eq verb (codes "feed")) (bytes_eq verb (codes "lists")) (bytes_eq verb (codes "activity")) (bytes_eq verb (codes "check")) command is
+      (bytes_eq verb (codes "feed")) (bytes_eq verb (codes "lists")) (bytes_eq verb (codes "activity")) (bytes_eq verb (codes "check"))
+      (bytes_eq verb (codes "close-book")) command is
   by_stores verb (from ∷ more ∷ values) command is = absurd (cc)
 
   by_id : (from text : List ℕ) → AllHold (retire_group_in from text)
@@ -212,10 +215,11 @@ HasId (Make seed requests) = Unit {0}
 HasId (Import store user name) = Unit {0}
 HasId (Export store user) = Unit {0}
 HasId (Serve store options) = Unit {0}
+HasId (CloseBook store) = Unit {0}
 
 pub group_is_id : GroupsAreIds
 group_is_id words store group is = all_hold HasId
-    (record { feed = λ s. tt; lists = λ s. tt; activity = λ s. tt; check = λ s. tt; retire = λ s g id. id; make = λ s n bounded. tt; import = λ s u n is named. tt; export = λ s u is. tt; serve = λ s o. tt })
+    (record { feed = λ s. tt; lists = λ s. tt; activity = λ s. tt; check = λ s. tt; retire = λ s g id. id; make = λ s n bounded. tt; import = λ s u n is named. tt; export = λ s u is. tt; serve = λ s o. tt; close_book = λ s. tt })
     words (Retire store group) is
 
 abbrev HasBounds : Command → Type 0
@@ -228,10 +232,11 @@ HasBounds (Make seed requests) = AreBounded seed requests
 HasBounds (Import store user name) = Unit {0}
 HasBounds (Export store user) = Unit {0}
 HasBounds (Serve store options) = Unit {0}
+HasBounds (CloseBook store) = Unit {0}
 
 pub seeds_in_bounds : SeedsAreInBounds
 seeds_in_bounds words seed requests is = all_hold HasBounds
-    (record { feed = λ s. tt; lists = λ s. tt; activity = λ s. tt; check = λ s. tt; retire = λ s g id. tt; make = λ s n bounded. bounded; import = λ s u n is named. tt; export = λ s u is. tt; serve = λ s o. tt })
+    (record { feed = λ s. tt; lists = λ s. tt; activity = λ s. tt; check = λ s. tt; retire = λ s g id. tt; make = λ s n bounded. bounded; import = λ s u n is named. tt; export = λ s u is. tt; serve = λ s o. tt; close_book = λ s. tt })
     words (Make seed requests) is
 
 abbrev HasUser : Command → Type 0
@@ -244,10 +249,11 @@ HasUser (Make seed requests) = Unit {0}
 HasUser (Import store user name) = IsUser user × NamesImport name
 HasUser (Export store user) = IsUser user
 HasUser (Serve store options) = Unit {0}
+HasUser (CloseBook store) = Unit {0}
 
 all_have_users : (words : List (List ℕ)) (command : Command) → command_in words ≡ Some command → HasUser command
 all_have_users = all_hold HasUser
-    (record { feed = λ s. tt; lists = λ s. tt; activity = λ s. tt; check = λ s. tt; retire = λ s g id. tt; make = λ s n bounded. tt; import = λ s u n is named. (is, named); export = λ s u is. is; serve = λ s o. tt })
+    (record { feed = λ s. tt; lists = λ s. tt; activity = λ s. tt; check = λ s. tt; retire = λ s g id. tt; make = λ s n bounded. tt; import = λ s u n is named. (is, named); export = λ s u is. is; serve = λ s o. tt; close_book = λ s. tt })
 
 pub users_are : UsersAreUsers
 users_are = record {

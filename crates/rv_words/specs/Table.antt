@@ -55,7 +55,9 @@ bare_app = on_top (λ shape. record shape {
 }) (new_app (codes "rv"))
 
 abbrev pub commands : List App
-commands = store_app (codes "feed") ∷ store_app (codes "lists") ∷ store_app (codes "activity") ∷ store_app (codes "check") ∷ retire_app ∷ make_app ∷ import_app ∷ export_app ∷ serve_app ∷ []
+commands =
+    store_app (codes "feed") ∷ store_app (codes "lists") ∷ store_app (codes "activity") ∷ store_app (codes "check") ∷ retire_app ∷ make_app ∷ import_app ∷ export_app ∷ serve_app
+    ∷ store_app (codes "close-book") ∷ []
 
 abbrev pub with_commands : App → List App → App
 with_commands = fold (λ app command. with_subcommand app command.top)

@@ -65,4 +65,9 @@ pub enum Command {
         /// How they are served.
         options: ServeOptions,
     },
+    /// `close-book STORE`: close the book of the store: what its entries have left becomes one opening page, and they go.
+    CloseBook {
+        /// The name of the store.
+        store: Name,
+    },
 }

@@ -61,6 +61,7 @@ fn on_store(verb: &str, store: Name) -> Option<Command>
         "lists" => Some(Command::Lists { store }),
         "activity" => Some(Command::Activity { store }),
         "check" => Some(Command::Check { store }),
+        "close-book" => Some(Command::CloseBook { store }),
         _ => None,
     }
 }

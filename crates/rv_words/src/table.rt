@@ -120,5 +120,6 @@ pub fn rv<'a>(alloc: Global) -> Result<Command<'a>, AllocError>
         .subcommand(make(alloc)?)?
         .subcommand(import(alloc)?)?
         .subcommand(export(alloc)?)?
-        .subcommand(serve(alloc)?)
+        .subcommand(serve(alloc)?)?
+        .subcommand(of_store(alloc, "close-book")?)
 }
