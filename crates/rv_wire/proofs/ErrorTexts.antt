@@ -1,4 +1,4 @@
--- The texts of refusals, cut where numbers stand.
+-- The texts of refusals, and of answers that tell a place, cut where numbers stand.
 use Rattle.std.proofs.Common.{◌≡◌, ℕ, ◌++◌, refl, append_assoc}
 use Rattle.std.specs.Prelude.{codes, decimal}
 use Rattle.serde_json.specs.Written.{compact_text}
@@ -12,7 +12,7 @@ use Rattle.rv_wire.specs.declared.fault.FieldName.{FieldName}
 use Rattle.rv_wire.specs.declared.fault.FieldName.TheVariants as fields
 use Rattle.rv_wire.specs.declared.fault.VersionKind.{VersionKind}
 use Rattle.rv_wire.specs.declared.fault.VersionKind.TheVariants as versions
-use Rattle.rv_wire.specs.Answers.{retired_data}
+use Rattle.rv_wire.specs.Answers.{closed_data, retired_data}
 use Rattle.rv_wire.specs.Members.{field_text}
 use Rattle.rv_wire.specs.Errors.{version_text, which_text, trouble_data, refusal_data, error_data}
 
@@ -80,3 +80,8 @@ version_error_text versions.Schema = refl
 pub retired_text_is : (place : ℕ) → (codes "{\"retired\":" ++ decimal place) ++ codes "}" ≡ compact_text (retired_data place)
 unfolding serde_json_on_literals
 retired_text_is place = simp append_assoc
+
+-- the answer to the closing of a book
+pub closed_text_is : (place : ℕ) → (codes "{\"closed\":" ++ decimal place) ++ codes "}" ≡ compact_text (closed_data place)
+unfolding serde_json_on_literals
+closed_text_is place = simp append_assoc

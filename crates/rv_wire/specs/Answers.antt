@@ -1,4 +1,4 @@
--- The answers to a pull and to a retirement, as JSON.
+-- The answers to a pull, to a retirement and to the closing of a book, as JSON.
 use Rattle.std.specs.Prelude.{ℕ, Bool, List, [], ◌∷◌, map, codes}
 use Rattle.serde_json.specs.Data.{Data, null, number, unsigned, string, array, object, Members, member, no_members}
 use Rattle.serde_json.specs.View.{items_of}
@@ -55,3 +55,7 @@ reply_of same cookie ids ops = record { cookie = cookie; same = same; ids = ids;
 -- {"retired":PLACE}
 abbrev pub retired_data : ℕ → Data
 retired_data place = object (member (codes "retired") (number (unsigned place)) no_members)
+
+-- {"closed":PLACE}
+abbrev pub closed_data : ℕ → Data
+closed_data place = object (member (codes "closed") (number (unsigned place)) no_members)

@@ -8,6 +8,7 @@
 mod answer;
 mod body;
 mod calls;
+mod closing;
 mod error_body;
 mod fault;
 mod pull_body;
@@ -20,6 +21,7 @@ mod retirement;
 pub use answer::pull_text;
 pub use body::{SchemaVersions, Schemas};
 pub use calls::read_call;
+pub use closing::closed_text;
 pub use error_body::ErrorBody;
 pub use fault::{FieldName, VersionKind, WireFault};
 pub use pull_body::{pull_of_value, read_pull};
