@@ -3,7 +3,7 @@ use Rattle.std.specs.Prelude.{◌≡◌, ◌⊎◌, Option, Some, None, Ok, Err}
 use Rattle.rv_wire.specs.declared.fault.WireFault.TheVariants as faults
 use Rattle.rv_answering.specs.declared.request.Request.TheVariants.{Push, Pull, Retire}
 use Rattle.rv_answering.specs.declared.line.Line.{Line}
-use Rattle.rv_answering.specs.declared.line.Line.TheVariants.{Asks, Stop}
+use Rattle.rv_answering.specs.declared.line.Line.TheVariants.{Asks, Stop, Close}
 use Rattle.rv_answering.specs.Requests.{Parsed}
 
 -- it is asked by a push's or a pull's body, of the form or not
@@ -28,8 +28,13 @@ AreReadings None (Some read) = ⊥
 abbrev pub IsLineRead : Line → Line → Type 0
 IsLineRead (Asks asked) (Asks read) = IsReading asked read
 IsLineRead Stop Stop = Unit {0}
+IsLineRead Close Close = Unit {0}
 IsLineRead (Asks asked) Stop = ⊥
+IsLineRead (Asks asked) Close = ⊥
 IsLineRead Stop (Asks read) = ⊥
+IsLineRead Stop Close = ⊥
+IsLineRead Close (Asks read) = ⊥
+IsLineRead Close Stop = ⊥
 
 abbrev pub AreLines : Option Line → Option Line → Type 0
 AreLines (Some line) (Some read) = IsLineRead line read

@@ -1,5 +1,5 @@
--- What a line is: {"user":U,"push":V}, {"user":U,"pull":V} or {"retire":G}, which ask something, or {"stop":true}; members in any
--- order, and no others.
+-- What a line is: {"user":U,"push":V}, {"user":U,"pull":V} or {"retire":G}, which ask something, {"stop":true}, or
+-- {"closeBook":true}; members in any order, and no others.
 use Rattle.std.specs.Prelude.{ℕ, List, [], ◌∷◌, Bool, Option, Some, None, codes, Result, Ok, Err, option_map, option_and_then, if◌then◌else◌}
 use Rattle.std.specs.List.{list_any}
 use Rattle.std.specs.Option.{option_map_or}
@@ -16,7 +16,7 @@ use Rattle.rv_turns.specs.declared.pull.PullRequest.{PullRequest}
 use Rattle.rv_answering.specs.declared.request.Request.{Request}
 use Rattle.rv_answering.specs.declared.request.Request.TheVariants.{Push, Pull, Retire}
 use Rattle.rv_answering.specs.declared.line.Line.{Line}
-use Rattle.rv_answering.specs.declared.line.Line.TheVariants.{Asks, Stop}
+use Rattle.rv_answering.specs.declared.line.Line.TheVariants.{Asks, Stop, Close}
 use Rattle.rv_answering.specs.declared.asking.Verb.{Verb}
 use Rattle.rv_answering.specs.declared.asking.Verb.TheVariants as verbs
 
@@ -76,9 +76,16 @@ body_asked members = do
 abbrev pub stop_asked : Data → Option Line
 stop_asked value = option_and_then (λ stops. if stops then Some Stop else None) (as_bool value)
 
+-- {"closeBook":true}
+abbrev pub close_asked : Data → Option Line
+close_asked value = option_and_then (λ closes. if closes then Some Close else None) (as_bool value)
+
 -- what the one member of an object asks
 abbrev pub one_asks : List ℕ → Data → Option Line
-one_asks name value = if bytes_eq name (codes "stop") then stop_asked value else option_map (λ asked. Asks asked) (retire_asked name value)
+one_asks name value =
+    if bytes_eq name (codes "stop") then stop_asked value
+    else if bytes_eq name (codes "closeBook") then close_asked value
+    else option_map (λ asked. Asks asked) (retire_asked name value)
 
 -- what an object of one member asks, and what any other asks
 abbrev pub members_ask : Members → Option Line

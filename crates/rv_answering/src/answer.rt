@@ -1,7 +1,7 @@
 use rv_turns::{Outcome, PullReply};
 use rv_wire::ErrorBody;
 
-/// What a request is answered.
+/// What a request is answered, or the closing of a book.
 #[derive(Debug, Drop)]
 pub enum Answer {
     /// Each mutation of a push was run, or had been before.
@@ -10,7 +10,9 @@ pub enum Answer {
     Pulled(PullReply),
     /// A client group is retired; this stands in the book at this place.
     Retired(u32),
-    /// The request was refused.
+    /// The book is closed; its page stands at this place.
+    Closed(u32),
+    /// What was asked was refused.
     Refused(ErrorBody),
 }
 
@@ -40,6 +42,7 @@ impl Answer {
             Answer::Pushed => 200,
             Answer::Pulled(_) => 200,
             Answer::Retired(_) => 200,
+            Answer::Closed(_) => 200,
             Answer::Refused(refusal) => refusal.status(),
         }
     }

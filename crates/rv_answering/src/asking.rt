@@ -1,7 +1,7 @@
 // From the bytes of a line to what it asks.
 ghost use Rattle.std.specs.Prelude.{◌≡◌, IfOk, option_map};
 ghost use Rattle.serde_json.specs.View.{view, members_view};
-ghost use Rattle.rv_answering.specs.Requests.{verb_of, body_asks, one_member, two_members, retire_asked, stop_asked, one_asks, body_asked, members_ask, value_asks, line_of};
+ghost use Rattle.rv_answering.specs.Requests.{verb_of, body_asks, one_member, two_members, retire_asked, stop_asked, close_asked, one_asks, body_asked, members_ask, value_asks, line_of};
 ghost use Rattle.rv_answering.specs.Reads.{IsReading, AreReadings, AreLines};
 
 use crate::line::Line;
@@ -109,12 +109,26 @@ fn stop_asked(value: &Value) -> Option<Line>
     }
 }
 
+// The closing of the book, where this is the value of one.
+fn close_asked(value: &Value) -> Option<Line>
+    ensures { AreLines (close_asked (view value.now)) result }
+{
+    if value.as_bool()? {
+        Some(Line::Close)
+    } else {
+        None
+    }
+}
+
 // What the one member of an object asks.
 fn one_asks(alloc: Global, name: &str, value: &Value) -> Result<Option<Line>, Memory>
     ensures { IfOk result (λ read. AreLines (one_asks name.now (view value.now)) read) }
 {
     if name == "stop" {
         return Ok(stop_asked(value));
+    }
+    if name == "closeBook" {
+        return Ok(close_asked(value));
     }
     Ok(retire_asked(alloc, name, value)?.map(Line::Asks))
 }

@@ -1,8 +1,8 @@
 //! From the bytes of a line to its answer, with the turns between. Nothing here reads or writes: lines and later HTTP go by
 //! the same calls.
 //!
-//! A [`Line`] asks a [`Request`], or the first thing that is wrong with its body; or it is a stop. Turns are taken by anything that
-//! implements [`rv_turns::Turns`].
+//! A [`Line`] asks a [`Request`], or the first thing that is wrong with its body; or it is a stop; or it closes the
+//! book. Turns are taken by anything that implements [`rv_turns::Turns`].
 #![tactic(auto)]
 
 mod answer;
