@@ -20,8 +20,8 @@ use Rattle.rv_book.specs.Kept.{look_of, look_at}
 use Rattle.rv_book.specs.LookLaws.{look_at-within}
 use Rattle.rv_history.specs.Bases.{base_of, base_group}
 use Rattle.rv_history.specs.Based.{base_look, base_spelled}
-use Rattle.rv_history.specs.Machine.{ReplyText}
-use Rattle.rv_history.specs.Clients.{ClientState, nothing, ClientPull, held_then, ArePulls, IsClient, IsCurrent, WasSent, EachCurrent}
+use Rattle.rv_history.specs.Machine.{ReplyText, cookie_order}
+use Rattle.rv_history.specs.Clients.{ClientState, nothing, ClientPull, held_then, ArePulls, IsCurrent, WasSent, EachCurrent, AreSuccessive, WasSentIn, EachCurrentIn, ClientsFollow, ClientsFollowOn}
 use Rattle.rv_history.specs.Laws.{IsBaseView, known_ids}
 use Rattle.rv_history.specs.LookIds.{ids_look}
 use Rattle.rv_history.specs.Patches.{client_view, key_value, apply}
@@ -105,6 +105,27 @@ look_front place book more look there =
     let found : entry_at place (up_to (size book) (with_entries book more)) ≡ Some e = ap (λ (b : Book). entry_at place b) front ∙ is in
     ap (option_and_then look_of) (entry_at-up_to place (size book) (with_entries book more) e found) ∙ sym (ap (option_and_then look_of) is) ∙ there
 
+-- ---- Books one after another.
+
+-- two of them are one, or the places of the one are all below those of the other
+apart : (books : List Book) → AreSuccessive books → (one other : Book) → Contains books one → Contains books other → (one ≡ other) ⊎ ((size one < other.page.at) ⊎ (size other < one.page.at))
+apart [] successive one other (k, lt, is) there = absurd (omega arith)
+apart (book ∷ books) successive one other (zero, lt, is) (zero, _, also) = inl (sym is ∙ also)
+apart (book ∷ books) successive one other (zero, lt, is) (suc k, below, also) =
+    inr (inl (subst (λ (b : Book). size b < other.page.at) is (all_at (λ later. size book < later.page.at) books other successive.0 (k, omega arith, also))))
+apart (book ∷ books) successive one other (suc k, lt, is) (zero, _, also) =
+    inr (inr (subst (λ (b : Book). size b < one.page.at) also (all_at (λ later. size book < later.page.at) books one successive.0 (k, omega arith, is))))
+apart (book ∷ books) successive one other (suc k, lt, is) (suc j, below, also) = apart books successive.1 one other (k, omega arith, is) (j, omega arith, also)
+
+-- a place of two of them is a place of one
+one_book : (books : List Book) → AreSuccessive books → (one other : Book) → Contains books one → Contains books other → (place : ℕ) → (one.page.at < place) × (place ≤ size one) → (other.page.at < place) × (place ≤ size other) → one ≡ other
+one_book books successive one other here there place within also = go (apart books successive one other here there)
+  where
+    go : (one ≡ other) ⊎ ((size one < other.page.at) ⊎ (size other < one.page.at)) → one ≡ other
+    go (inl same) = same
+    go (inr (inl below)) = absurd (omega (arith, within.1, also.0))
+    go (inr (inr above)) = absurd (omega (arith, within.0, also.1))
+
 -- ---- What a client holds.
 
 -- it is what the user saw at the look that its cookie names
@@ -117,10 +138,14 @@ record IsAt (user : List ℕ) (book : Book) (held : ClientState) : Type 0 where
   pub look : look_at place book ≡ Some (user, group, order)
   pub current : IsCurrent user group (up_to place book) held
 
-abbrev Stands : List ℕ → Book → ClientState → Type 0
-Stands user book held = (held.cookie ≡ Null) ⊎ IsAt user book held
+-- it is nothing, or what the user saw at a look of one of the books
+abbrev Stands : List ℕ → List Book → ClientState → Type 0
+Stands user books held = (held.cookie ≡ Null) ⊎ ((book : Book) × Contains books book × IsAt user book held)
 
-module _ (write : ReplyText) (user : List ℕ) (book : Book) (pull : ClientPull) (fits : size book < 2 ^ 64) (told : WasSent write user book pull) (asks : pull.request.cookie ≡ pull.base.cookie) (stands : Stands user book pull.base) where
+abbrev AllFit : List Book → Type 0
+AllFit books = AllByRecursion (λ book. size book < 2 ^ 64) books
+
+module _ (write : ReplyText) (user : List ℕ) (books : List Book) (pull : ClientPull) (successive : AreSuccessive books) (fit : AllFit books) (book : Book) (among : Contains books book) (told : WasSent write user book pull) (asks : pull.request.cookie ≡ pull.base.cookie) (stands : Stands user books pull.base) where
   -- the point is a front of the book
   since_point : Extends book told.point
   since_point = extends_on book told.new told.point told.within (go pull.reply.same refl)
@@ -136,27 +161,51 @@ module _ (write : ReplyText) (user : List ℕ) (book : Book) (pull : ClientPull)
     pub look : look_at place told.point ≡ Some (user, at.group, at.order)
     pub front : up_to place told.point ≡ up_to at.place book
 
+  -- the base is a look of the point, and so of the book
+  record IsHere (place : ℕ) : Type 0 where
+    pub look : List ℕ × List ℕ × ℕ
+    pub then : look_at place told.point ≡ Some look
+    pub inside : place ≤ size told.point
+    pub here : look_at place book ≡ Some look
+
+  base_here : (place : ℕ) → base_of user pull.request.cookie told.point ≡ Some place → IsHere place
+  base_here place is =
+      let (more, goes) = since_point in
+      let (group, look, kept) = base_look user pull.request.cookie told.point place is in
+      record {
+        look = (user, group, cookie_order pull.request.cookie);
+        then = look;
+        inside = (look_at-within place told.point (user, group, cookie_order pull.request.cookie) look).1;
+        here = ap (look_at place) goes ∙ look_front place told.point more (user, group, cookie_order pull.request.cookie) look;
+      }
+
+  -- and so what is held is of the same book, since the places of the others are apart from its places
   base_there : (place : ℕ) → base_of user pull.request.cookie told.point ≡ Some place → IsThere place
   base_there place is = go stands
     where
-      go : Stands user book pull.base → IsThere place
-      go (inl null) = (let no : base_of user Null told.point ≡ Some place = subst (λ (c : Cookie). base_of user c told.point ≡ Some place) (asks ∙ null) is in absurd (cc))
-      go (inr at) =
-          let named : base_of user (Named (decimal at.place) at.order) told.point ≡ Some place = subst (λ (c : Cookie). base_of user c told.point ≡ Some place) (asks ∙ at.cookie) is in
+      here : (at : IsAt user book pull.base) × (place ≡ at.place) → IsThere place
+      here (at, same) =
           let (more, goes) = since_point in
-          let (group, look, kept) = base_look user (Named (decimal at.place) at.order) told.point place named in
-          let inside : place ≤ size told.point = (look_at-within place told.point (user, group, at.order) look).1 in
-          let whole : size book ≡ size told.point + length more = ap (λ (b : Book). size b) goes ∙ size-with_entries told.point more in
-          let within = at.within in
-          let same : place ≡ at.place = decimal_injective place at.place (omega arith) (omega arith) (base_spelled user (decimal at.place) at.order told.point place named) in
-          let later : look_at place book ≡ Some (user, group, at.order) = ap (look_at place) goes ∙ look_front place told.point more (user, group, at.order) look in
-          let found : look_at place book ≡ Some (user, at.group, at.order) = ap (λ (p : ℕ). look_at p book) same ∙ at.look in
+          let base = base_here place is in
           record {
             at = at;
             same = same;
-            look = look ∙ sym later ∙ found;
-            front = sym (up_to-with_entries place told.point more inside) ∙ ap (up_to place) (sym goes) ∙ ap (λ (p : ℕ). up_to p book) same;
+            look = base.then ∙ sym base.here ∙ ap (λ (p : ℕ). look_at p book) same ∙ at.look;
+            front = sym (up_to-with_entries place told.point more base.inside) ∙ ap (up_to place) (sym goes) ∙ ap (λ (p : ℕ). up_to p book) same;
           }
+
+      go : Stands user books pull.base → IsThere place
+      go (inl null) = (let no : base_of user Null told.point ≡ Some place = subst (λ (c : Cookie). base_of user c told.point ≡ Some place) (asks ∙ null) is in absurd (cc))
+      go (inr (other, there, at)) =
+          let named : base_of user (Named (decimal at.place) at.order) told.point ≡ Some place = subst (λ (c : Cookie). base_of user c told.point ≡ Some place) (asks ∙ at.cookie) is in
+          let base = base_here place is in
+          let within = look_at-within place book base.look base.here in
+          let also = look_at-within at.place other (user, at.group, at.order) at.look in
+          let fits : size book < 2 ^ 64 = all_at (λ b. size b < 2 ^ 64) books book fit among in
+          let fits_other : size other < 2 ^ 64 = all_at (λ b. size b < 2 ^ 64) books other fit there in
+          let same : place ≡ at.place = decimal_injective place at.place (omega (arith, within.1)) (omega (arith, also.1)) (base_spelled user (decimal at.place) at.order told.point place named) in
+          let one : other ≡ book = one_book books successive other book there among place (subst (λ (p : ℕ). (other.page.at < p) × (p ≤ size other)) (sym same) also) within in
+          here (subst (λ (b : Book). (at : IsAt user b pull.base) × (place ≡ at.place)) one (at, same))
 
   view_there : (base : Option ℕ) → base_of user pull.request.cookie told.point ≡ base → IsBaseView user told.point base pull.base.view
   view_there None is = tt
@@ -183,14 +232,14 @@ module _ (write : ReplyText) (user : List ℕ) (book : Book) (pull : ClientPull)
       which pair (inr is) = inl is
 
   -- a reply of the same cookie leaves what is held as it is
-  same_stands : pull.reply.same ≡ true → Stands user book (held_then pull)
+  same_stands : pull.reply.same ≡ true → Stands user books (held_then pull)
   same_stands is =
       let (ops, none, cookie, stays) = told.tells.same is in
       let left : held_then pull ≡ pull.base = (λ i. record { cookie = (cookie ∙ asks) i; view = apply (ops i) pull.base.view; ids = none i ++ pull.base.ids }) in
-      subst (λ (h : ClientState). Stands user book h) (sym left) stands
+      subst (λ (h : ClientState). Stands user books h) (sym left) stands
 
   -- and a new one names the look at which it is what the user sees
-  look_stands : pull.reply.same ≡ false → Stands user book (held_then pull)
+  look_stands : pull.reply.same ≡ false → Stands user books (held_then pull)
   look_stands is =
       let (order, cookie, enters) = told.tells.looks is in
       let (more, goes) = told.within in
@@ -203,27 +252,49 @@ module _ (write : ReplyText) (user : List ℕ) (book : Book) (pull : ClientPull)
       let rows : client_view user told.new ≡ client_view user told.point = ap (client_view user) enters ∙ ap (λ (rows : List Row). map key_value (seen user rows)) (rows_of-with_entry told.point e) in
       let clients : ids pull.request.group told.new ≡ ids pull.request.group told.point = ap (ids pull.request.group) enters ∙ ids_look pull.request.group told.point user pull.request.group order _ in
       let now = current_then in
-      inr (record {
-        place = place;
-        order = order;
-        group = pull.request.group;
-        within = omega arith;
-        cookie = cookie;
-        look = ap (look_at place) goes ∙ look_front place told.new more (user, pull.request.group, order) entered;
-        current = subst (λ (b : Book). IsCurrent user pull.request.group b (held_then pull)) (sym front) (record {
-          view = now.view ∙ sym rows;
-          ids = λ pair there. now.ids pair (subst (λ (ps : Pairs). Contains ps pair) clients there);
-        });
-      })
+      inr (
+        book,
+        among,
+        record {
+          place = place;
+          order = order;
+          group = pull.request.group;
+          within = omega arith;
+          cookie = cookie;
+          look = ap (look_at place) goes ∙ look_front place told.new more (user, pull.request.group, order) entered;
+          current = subst (λ (b : Book). IsCurrent user pull.request.group b (held_then pull)) (sym front) (record {
+            view = now.view ∙ sym rows;
+            ids = λ pair there. now.ids pair (subst (λ (ps : Pairs). Contains ps pair) clients there);
+          });
+        },
+      )
 
-  stands_then : Stands user book (held_then pull)
-  stands_then = elim pull.reply.same as (λ b. pull.reply.same ≡ b → Stands user book (held_then pull)) [ true ↦ same_stands | false ↦ look_stands ] refl
+  stands_then : Stands user books (held_then pull)
+  stands_then = elim pull.reply.same as (λ b. pull.reply.same ≡ b → Stands user books (held_then pull)) [ true ↦ same_stands | false ↦ look_stands ] refl
 
-follows : (write : ReplyText) (user : List ℕ) (book : Book) → size book < 2 ^ 64 → (held : List ClientState) → AllByRecursion (Stands user book) held → (pulls : List ClientPull) → ArePulls held pulls → (told : AllByRecursion (WasSent write user book) pulls) → EachCurrent write user book pulls told
-follows write user book fits held all [] pulls told = tt
-follows write user book fits held all (pull ∷ pulls) (within, asks, rest) (told, others) =
-    let stands : Stands user book pull.base = all_at (Stands user book) held pull.base all within in
-    (current_then write user book pull fits told asks stands, follows write user book fits (held_then pull ∷ held) (stands_then write user book pull fits told asks stands, all) pulls rest others)
+follows : (write : ReplyText) (user : List ℕ) (books : List Book) → AreSuccessive books → AllFit books → (held : List ClientState) → AllByRecursion (Stands user books) held → (pulls : List ClientPull) → ArePulls held pulls
+    → (told : AllByRecursion (WasSentIn write user books) pulls) → EachCurrentIn write user books pulls told
+follows write user books successive fit held all [] pulls told = tt
+follows write user books successive fit held all (pull ∷ pulls) (within, asks, rest) (told, others) =
+    let stands : Stands user books pull.base = all_at (Stands user books) held pull.base all within in (
+      current_then write user books pull successive fit told.book told.among told.sent asks stands,
+      follows write user books successive fit (held_then pull ∷ held) (stands_then write user books pull successive fit told.book told.among told.sent asks stands, all) pulls rest others,
+    )
 
-pub clients_follow : (write : ReplyText) (user : List ℕ) (book : Book) (pulls : List ClientPull) → size book < 2 ^ 64 → IsClient pulls → (told : AllByRecursion (WasSent write user book) pulls) → EachCurrent write user book pulls told
-clients_follow write user book pulls fits client told = follows write user book fits (nothing ∷ []) (inl refl, tt) pulls client told
+pub clients_follow_on : (write : ReplyText) → ClientsFollowOn write
+clients_follow_on write user books pulls successive fit client told = follows write user books successive fit (nothing ∷ []) (inl refl, tt) pulls client told
+
+-- ---- And where all were answered at points of one book.
+
+module _ (write : ReplyText) (user : List ℕ) (book : Book) where
+  alone : (pulls : List ClientPull) → AllByRecursion (WasSent write user book) pulls → AllByRecursion (WasSentIn write user (book ∷ [])) pulls
+  alone [] told = tt
+  alone (pull ∷ pulls) (told, rest) = (record { book = book; among = (0, omega arith, refl); sent = told }, alone pulls rest)
+
+  each_alone : (pulls : List ClientPull) (told : AllByRecursion (WasSent write user book) pulls) → EachCurrentIn write user (book ∷ []) pulls (alone pulls told) → EachCurrent write user book pulls told
+  unfolding alone
+  each_alone [] told current = tt
+  each_alone (pull ∷ pulls) (told, rest) (current, others) = (current, each_alone pulls rest others)
+
+pub clients_follow : (write : ReplyText) → ClientsFollow write
+clients_follow write user book pulls fits client told = each_alone write user book pulls told (clients_follow_on write user (book ∷ []) pulls (tt, tt) (fits, tt) client (alone write user book pulls told))

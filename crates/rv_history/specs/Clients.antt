@@ -62,3 +62,26 @@ EachCurrent write user book (pull ∷ pulls) (told, rest) = IsCurrent user pull.
 -- its user sees at that point, whatever else stands in the book and whichever replies it lost.
 abbrev pub ClientsFollow : ReplyText → Type 0
 ClientsFollow write = (user : List ℕ) (book : Book) (pulls : List ClientPull) → size book < 2 ^ 64 → IsClient pulls → (told : AllByRecursion (WasSent write user book) pulls) → EachCurrent write user book pulls told
+
+-- Books one after another: each opens with a page behind the places of those before it.
+abbrev pub AreSuccessive : List Book → Type 0
+AreSuccessive [] = Unit {0}
+AreSuccessive (book ∷ books) = AllByRecursion (λ later. size book < later.page.at) books × AreSuccessive books
+
+-- The pull was answered at a point of one of the books.
+pub record WasSentIn (write : ReplyText) (user : List ℕ) (books : List Book) (pull : ClientPull) : Type 0 where
+  pub book : Book
+  pub among : Contains books book
+  pub sent : WasSent write user book pull
+
+-- each pull leaves the client with what its user sees at the point at which it was answered, of whichever of the books
+abbrev pub EachCurrentIn : (write : ReplyText) (user : List ℕ) (books : List Book) (pulls : List ClientPull) → AllByRecursion (WasSentIn write user books) pulls → Type 0
+EachCurrentIn write user books [] told = Unit {0}
+EachCurrentIn write user books (pull ∷ pulls) (told, rest) = IsCurrent user pull.request.group told.sent.point (held_then pull) × EachCurrentIn write user books pulls rest
+
+-- So do clients of books that are closed: one that begins with nothing, and whose pulls were answered at points of books of which each opens
+-- behind those before it, holds after each of them what its user sees at that point, whichever of the books that is a point of.
+abbrev pub ClientsFollowOn : ReplyText → Type 0
+ClientsFollowOn write =
+    (user : List ℕ) (books : List Book) (pulls : List ClientPull) → AreSuccessive books → AllByRecursion (λ book. size book < 2 ^ 64) books → IsClient pulls
+    → (told : AllByRecursion (WasSentIn write user books) pulls) → EachCurrentIn write user books pulls told

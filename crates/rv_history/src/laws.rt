@@ -1,5 +1,5 @@
 //! What follows from the machine, as contracts of functions that do nothing: a check of the crate proves them.
-ghost use Rattle.rv_history.specs.Clients.{ClientsFollow};
+ghost use Rattle.rv_history.specs.Clients.{ClientsFollow, ClientsFollowOn};
 ghost use Rattle.rv_history.specs.Closing.{ClosedBooksGoOn};
 ghost use Rattle.rv_history.specs.Machine.{ReplyText};
 ghost use Rattle.rv_history.specs.Laws.{IdsCountUp, OrdersRise, GroupsHaveOneUser, ClientsHaveOneGroup, RetiredGroupsRest, EntriesStandOnce, PushesKeepLaw, TurnsKeepLaw, PullsShow, PatchesShow, PatchesArePermitted, MutationsStand, PushesStand};
@@ -82,6 +82,13 @@ pub fn pulls_show()
 /// answered, and the last mutation ids of its group there: whatever else the book has, and whichever replies it lost.
 pub fn clients_follow()
     ensures { (write : ReplyText) → ClientsFollow write }
+{}
+
+/// So does a client whose pulls were answered at points of several books, one after another, as they are where a book is closed and a
+/// new one goes on in its place: each opens with a page behind the places of those before it. A cookie of one book may be sent to
+/// another.
+pub fn clients_follow_on()
+    ensures { (write : ReplyText) → ClientsFollowOn write }
 {}
 
 /// A lawful book goes on from the page that sums it up, one place after its last: the page is sound, ids, orders and versions go on from it, and
