@@ -25,3 +25,4 @@ pub mod WholeRows
 pub mod SoundClosing
 pub mod Closable
 pub mod Openings
+pub mod Succession

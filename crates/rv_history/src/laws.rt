@@ -2,6 +2,7 @@
 ghost use Rattle.rv_history.specs.Clients.{ClientsFollow, ClientsFollowOn};
 ghost use Rattle.rv_history.specs.Closing.{ClosedBooksGoOn};
 ghost use Rattle.rv_history.specs.Machine.{ReplyText};
+ghost use Rattle.rv_history.specs.Succession.{ClosedBooksAreSuccessive};
 ghost use Rattle.rv_history.specs.Laws.{IdsCountUp, OrdersRise, GroupsHaveOneUser, ClientsHaveOneGroup, RetiredGroupsRest, EntriesStandOnce, PushesKeepLaw, TurnsKeepLaw, PullsShow, PatchesShow, PatchesArePermitted, MutationsStand, PushesStand};
 
 /// In a lawful book each client's acts have the ids 1, 2, 3 and so on.
@@ -95,4 +96,10 @@ pub fn clients_follow_on()
 /// the rows are what they were.
 pub fn closed_books_go_on()
     ensures { ClosedBooksGoOn }
+{}
+
+/// Books that go on from one another by entries and by closings are one after another: each opens with a page behind the places of those
+/// before it.
+pub fn closed_books_are_successive()
+    ensures { ClosedBooksAreSuccessive }
 {}
