@@ -5,7 +5,7 @@ use Rattle.std.specs.Option.{MatchOption, option_map_or}
 use Rattle.std.specs.Str.{bytes_eq}
 use Rattle.std.proofs.lemmas.Bool.{cases_lt}
 use Rattle.std.proofs.lemmas.Option.{same_Some}
-use Rattle.std.proofs.lemmas.List.Elements.{Contains-append_left, Contains-append_right}
+use Rattle.std.proofs.lemmas.List.Elements.{Contains-append_right}
 use Rattle.std.proofs.lemmas.Slice.Eq.{bytes_eq-Decides}
 use Rattle.rv_rows.specs.declared.call.Call.{Call}
 use Rattle.rv_turns.specs.Asks.{Sender, Ask}
@@ -18,12 +18,13 @@ use Rattle.rv_turns.specs.declared.refusal.Refusal.{Refusal}
 use Rattle.rv_book.specs.declared.entry.Entry.{Entry}
 use Rattle.rv_book.specs.declared.entry.Entry.TheVariants.{Act, Look, Retire}
 use Rattle.rv_book.specs.Entries.{last_in}
-use Rattle.rv_book.specs.Book.{Book, bound, group_of, last, opening, Extends}
+use Rattle.rv_book.specs.Book.{Book, bound, group_of, last, opening}
 use Rattle.rv_history.specs.GroupLaws.{groups_have_one_user, clients_have_one_group}
 use Rattle.rv_history.specs.Lawful.{IsLawful}
 use Rattle.rv_history.specs.LawfulBooks.{ids_count_up, last_append}
 use Rattle.rv_history.specs.Laws.{act_ids, IsEntered}
 use Rattle.rv_history.specs.Machine.{ReplyText, Step, TakesMutation}
+use Rattle.rv_history.specs.Succession.{entered_on}
 use Rattle.rv_history.specs.Served.{Served, IsSound, TakesTurn}
 use Rattle.rv_history.specs.TurnLaws.{no_trouble, step_of}
 use Rattle.rv_history.proofs.KeptLaws.{turns_keep, pushes_keep, settled_lawful}
@@ -106,12 +107,6 @@ entered from m book lawful takes (inl (user, group, call, there)) =
     let who : user ≡ from.user = same_text (bound from.group book) user from.user bound_here takes.admits.own in
     inl (call, subst (λ (x : Entry). Contains book.entries x) (λ i. Act (who i) (which i) m.client m.id call) there)
 
-stands_on : (from : Sender) (m : Mutation) (book new : Book) → Extends new book → IsEntered from book m → IsEntered from new m
-stands_on from m book new (more, is) (inr below) = inr (subst (λ (b : Book). m.id ≤ last m.client (opening b)) (sym is) below)
-stands_on from m book new (more, is) (inl (call, there)) =
-    let e : Entry = Act from.user from.group m.client m.id call in
-    inl (call, subst (λ (b : Book). Contains b.entries e) (sym is) (Contains-append_left book.entries more e there))
-
 module _ (write : ReplyText) (from : Sender) where
   pub mutation_stands : (limit : ℕ) (m : Mutation) (book new : Book) (outcome : Outcome) → Step write limit book (Ask.mutation from m) outcome new → refusal_of outcome ≡ None → IsLawful book → 1 ≤ m.id → IsEntered from new m
   mutation_stands limit m book new (Acted place) (takes, next, below, at, is) none lawful first =
@@ -140,4 +135,4 @@ module _ (write : ReplyText) (from : Sender) where
       let (none, goes) = went_on ms mid new later (refusal_of outcome) rest in
       let kept = turns_keep write (Ask.mutation from m) old mid outcome taken sound in
       let more = (pushes_keep write from ms mid new None later goes kept.sound).more in
-      (λ first. stands_on from m mid.book new.book more (turn_stands m old mid outcome taken none sound first), pushes_stand ms mid new later goes kept.sound)
+      (λ first. entered_on from m mid.book new.book more (turn_stands m old mid outcome taken none sound first), pushes_stand ms mid new later goes kept.sound)

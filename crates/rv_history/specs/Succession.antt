@@ -1,10 +1,23 @@
--- Books that go on from one another by entries and by closings: they are one after another.
-use Rattle.std.proofs.Common.{◌≡◌, ℕ, ◌+◌, ◌<◌, List, [], ◌∷◌, ◌++◌, map, ap, ◌∙◌, arith}
-use Rattle.std.specs.List.{AllByRecursion}
-use Rattle.rv_book.specs.Book.{Book, size, Extends}
+-- Books that go on from one another by entries and by closings: they are one after another, and what was entered in one stays entered.
+use Rattle.std.proofs.Common.{◌≡◌, ℕ, ◌+◌, ◌<◌, ◌≤◌, inl, inr, List, [], ◌∷◌, ◌++◌, map, cond, Bool, sym, ap, ◌∙◌, subst, arith}
+use Rattle.std.specs.List.{AllByRecursion, Contains}
+use Rattle.std.proofs.lemmas.List.Elements.{Contains-append_left}
+use Rattle.rv_base.specs.Positions.{equals}
+use Rattle.rv_rows.specs.declared.call.Call.{Call}
+use Rattle.rv_turns.specs.Asks.{Sender}
+use Rattle.rv_turns.specs.declared.mutation.Mutation.{Mutation}
+use Rattle.rv_book.specs.declared.entry.Entry.{Entry}
+use Rattle.rv_book.specs.declared.entry.Entry.TheVariants.{Act}
+use Rattle.rv_book.specs.Entries.{last_in}
+use Rattle.rv_book.specs.Book.{Book, last, opening, size, Extends}
 use Rattle.rv_book.specs.BookWords.{extends_same, extends_on}
 use Rattle.rv_history.specs.Clients.{AreSuccessive}
 use Rattle.rv_history.specs.Closing.{Closes}
+use Rattle.rv_history.specs.ClosingLaws.{closed_last}
+use Rattle.rv_history.specs.GroupLaws.{split_at}
+use Rattle.rv_history.specs.Lawful.{IsLawful}
+use Rattle.rv_history.specs.LawfulBooks.{last_append, last_cons}
+use Rattle.rv_history.specs.Laws.{IsEntered}
 
 -- The one book goes on from the other by entries and by these closings, each of a book to the one that it left.
 abbrev pub GoesOnBy : Book → List (Book × Book) → Book → Type 0
@@ -22,6 +35,10 @@ books_of closings new = map (λ closing. closing.0) closings ++ new ∷ []
 -- They are one after another.
 abbrev pub ClosedBooksAreSuccessive : Type 0
 ClosedBooksAreSuccessive = (old new : Book) (closings : List (Book × Book)) → GoesOnBy old closings new → AreSuccessive (books_of closings new)
+
+-- A mutation that is entered in a lawful book is so in each that goes on from it: as its act, or by its client's last id on the page.
+abbrev pub MutationsStay : Type 0
+MutationsStay = (from : Sender) (m : Mutation) (old new : Book) → IsLawful old → GoesOnFrom old new → IsEntered from old m → IsEntered from new m
 
 -- ---- A book goes on from itself, and from what a book that it goes on from goes on from.
 
@@ -59,3 +76,50 @@ closed_books_are_successive old new [] goes = (tt, tt)
 closed_books_are_successive old new (closing ∷ closings) (goes, closes, rest) =
     let next = closed_page closing.0 closing.1 closes in
     (pages_rise (size closing.0) closing.1 new closings (omega (arith, next)) rest, closed_books_are_successive closing.1 new closings rest)
+
+-- ---- What was entered stays entered.
+
+pub entered_on : (from : Sender) (m : Mutation) (old new : Book) → Extends new old → IsEntered from old m → IsEntered from new m
+entered_on from m old new (more, is) (inr below) = inr (subst (λ (b : Book). m.id ≤ last m.client (opening b)) (sym is) below)
+entered_on from m old new (more, is) (inl (call, there)) =
+    let e : Entry = Act from.user from.group m.client m.id call in
+    inl (call, subst (λ (b : Book). Contains b.entries e) (sym is) (Contains-append_left old.entries more e there))
+
+-- an act of a lawful book has an id up to its client's last
+act_within : (book : Book) (user group client : List ℕ) (id : ℕ) (call : Call) → IsLawful book → Contains book.entries (Act user group client id call) → id ≤ last client book
+act_within book user group client id call lawful there =
+    let e : Entry = Act user group client id call in
+    let (before, after, is) = split_at book e there in
+    let next : id ≡ last client before + 1 = (lawful.each before after e is).2 in
+    let whole : last client book ≡ last client before + last_in client (e ∷ after) = ap (last client) is ∙ last_append client before (e ∷ after) in
+    let first : last_in client (e ∷ after) ≡ 1 + last_in client after = last_cons client after e ∙ ap (λ (b : Bool). cond b 1 0 + last_in client after) (equals client) in
+    omega (arith, next, whole, first)
+
+-- a client's last id on the page is not above its last one
+page_within : (client : List ℕ) (book : Book) → last client (opening book) ≤ last client book
+page_within client book = let whole : last client book ≡ last client (opening book) + last_in client book.entries = last_append client (opening book) book.entries in omega (arith, whole)
+
+entered_within : (from : Sender) (m : Mutation) (book : Book) → IsLawful book → IsEntered from book m → m.id ≤ last m.client book
+entered_within from m book lawful (inl (call, there)) = act_within book from.user from.group m.client m.id call lawful there
+entered_within from m book lawful (inr below) = omega (arith, below, page_within m.client book)
+
+-- and so the page that sums up a book has it
+last_on : (client : List ℕ) (old new : Book) → Extends new old → last client old ≤ last client new
+last_on client old new (more, is) = let whole : last client new ≡ last client old + last_in client more = ap (last client) is ∙ last_append client old more in omega (arith, whole)
+
+closed_id : (client : List ℕ) (old new : Book) → Closes old new → last client (opening new) ≡ last client old
+closed_id client old new closes = ap (λ (b : Book). last client (opening b)) closes.is ∙ closed_last old closes.page closes.sums client
+
+stays_below : (client : List ℕ) (id : ℕ) (old new : Book) (closings : List (Book × Book)) → GoesOnBy old closings new → id ≤ last client (opening old) → id ≤ last client (opening new)
+stays_below client id old new [] (more, is) below = subst (λ (b : Book). id ≤ last client (opening b)) (sym is) below
+stays_below client id old new (closing ∷ closings) (goes, closes, rest) below =
+    let most = last_on client old closing.0 goes in
+    let page = closed_id client closing.0 closing.1 closes in
+    stays_below client id closing.1 new closings rest (omega (arith, below, page_within client old, most, page))
+
+pub mutations_stay : MutationsStay
+mutations_stay from m old new lawful ([], goes) entered = entered_on from m old new goes entered
+mutations_stay from m old new lawful (closing ∷ closings, (goes, closes, rest)) entered =
+    let most = last_on m.client old closing.0 goes in
+    let page = closed_id m.client closing.0 closing.1 closes in
+    inr (stays_below m.client m.id closing.1 new closings rest (omega (arith, entered_within from m old lawful entered, most, page)))

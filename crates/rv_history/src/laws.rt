@@ -2,7 +2,7 @@
 ghost use Rattle.rv_history.specs.Clients.{ClientsFollow, ClientsFollowOn};
 ghost use Rattle.rv_history.specs.Closing.{ClosedBooksGoOn};
 ghost use Rattle.rv_history.specs.Machine.{ReplyText};
-ghost use Rattle.rv_history.specs.Succession.{ClosedBooksAreSuccessive};
+ghost use Rattle.rv_history.specs.Succession.{ClosedBooksAreSuccessive, MutationsStay};
 ghost use Rattle.rv_history.specs.Laws.{IdsCountUp, OrdersRise, GroupsHaveOneUser, ClientsHaveOneGroup, RetiredGroupsRest, EntriesStandOnce, PushesKeepLaw, TurnsKeepLaw, PullsShow, PatchesShow, PatchesArePermitted, MutationsStand, PushesStand};
 
 /// In a lawful book each client's acts have the ids 1, 2, 3 and so on.
@@ -102,4 +102,10 @@ pub fn closed_books_go_on()
 /// before it.
 pub fn closed_books_are_successive()
     ensures { ClosedBooksAreSuccessive }
+{}
+
+/// A mutation that is entered in a lawful book is so in each book that goes on from it by entries and by closings: its act stands there,
+/// or its client's last id on the page says that it had run.
+pub fn mutations_stay()
+    ensures { MutationsStay }
 {}

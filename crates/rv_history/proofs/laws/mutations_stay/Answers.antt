@@ -1,0 +1,5 @@
+use Rattle.rv_history.specs.Succession.{mutations_stay}
+use Rattle.rv_history.proofs.laws.mutations_stay.Goals as goal
+
+pub returns : goal.returns
+returns c = mutations_stay
