@@ -1,7 +1,7 @@
 -- The store that a command names.
 use Rattle.std.proofs.Common.{◌≡◌, ℕ, List, Option, Some, sym, ◌∙◌, subst}
 use Rattle.rv_words.specs.declared.command.Command.{Command}
-use Rattle.rv_words.specs.declared.command.Command.TheVariants.{Feed, Retire, Lists, Activity, Check, Serve, Export, Import}
+use Rattle.rv_words.specs.declared.command.Command.TheVariants.{CloseBook, Feed, Retire, Lists, Activity, Check, Serve, Export, Import}
 use Rattle.rv_words.specs.declared.serve_options.ServeOptions.{ServeOptions}
 use Rattle.rv_cli.specs.Commands.{IsOfStore, IsReportOf}
 
@@ -30,6 +30,9 @@ names_export asked named at store user is same names = same ∙ subst (IsOfStore
 pub names_import : (asked : Option Command) (named at store user name : List ℕ) → Some (Import named user name) ≡ asked → at ≡ named → IsOfStore store asked → at ≡ store
 names_import asked named at store user name is same names = same ∙ subst (IsOfStore store) (sym is) names
 
+pub names_close_book : (asked : Option Command) (named at store : List ℕ) → Some (CloseBook named) ≡ asked → at ≡ named → IsOfStore store asked → at ≡ store
+names_close_book asked named at store is same names = same ∙ subst (IsOfStore store) (sym is) names
+
 pub reports_lists : (asked : Option Command) (named at store : List ℕ) → Some (Lists named) ≡ asked → at ≡ named → IsReportOf store asked → at ≡ store
 reports_lists asked named at store is same names = same ∙ subst (IsReportOf store) (sym is) names
 
@@ -45,6 +48,12 @@ reports_export asked named at store user is same names = same ∙ subst (IsRepor
 pub feeds_same : (asked : Option Command) (named at store : List ℕ) → Some (Feed named) ≡ asked → at ≡ named → asked ≡ Some (Feed store) → at ≡ store
 feeds_same asked named at store is same asks =
     let both : Some (Feed named) ≡ Some (Feed store) = is ∙ asks in
+    let one : named ≡ store = cc in
+    same ∙ one
+
+pub closes_same : (asked : Option Command) (named at store : List ℕ) → Some (CloseBook named) ≡ asked → at ≡ named → asked ≡ Some (CloseBook store) → at ≡ store
+closes_same asked named at store is same asks =
+    let both : Some (CloseBook named) ≡ Some (CloseBook store) = is ∙ asks in
     let one : named ≡ store = cc in
     same ∙ one
 

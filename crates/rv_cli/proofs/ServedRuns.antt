@@ -13,7 +13,7 @@ use Rattle.std.specs.Option.{option_map_or}
 use Rattle.rv_keeper.specs.declared.keeper.Keeper.{Ghosts}
 use Rattle.rv_desk.specs.Seated.{Seated, served}
 use Rattle.rv_answering.specs.declared.answer.Answer.{Answer}
-use Rattle.rv_answering.specs.declared.answer.Answer.TheVariants.{Pulled, Pushed, Retired, Refused}
+use Rattle.rv_answering.specs.declared.answer.Answer.TheVariants.{Closed, Pulled, Pushed, Refused, Retired}
 use Rattle.rv_answering.specs.declared.request.Request.TheVariants.{Push, Pull, Retire}
 use Rattle.rv_answering.specs.Requests.{Parsed}
 use Rattle.rv_answering.specs.Steps.{Handles}
@@ -184,6 +184,7 @@ module _ {K : Type 0} (G : Ghosts K) where
   shows_in show book old new asked (Pulled reply) within step = shown_step show book old new asked reply within step
   shows_in show book old new asked Pushed within step = tt
   shows_in show book old new asked (Retired place) within step = tt
+  shows_in show book old new asked (Closed place) within step = tt
   shows_in show book old new asked (Refused why) within step = tt
 
 -- ---- All that is served.

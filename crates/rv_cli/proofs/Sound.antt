@@ -15,7 +15,8 @@ use Rattle.rv_keeper.specs.Stores.{OpensAs}
 use Rattle.rv_record.specs.declared.fault.Damage.{Damage}
 use Rattle.rv_store.specs.Opening.{MayOpen}
 use Rattle.rv_store.specs.OpeningLaws.{opens-not_damaged}
-use Rattle.rv_answering.specs.Requests.{Parsed}
+use Rattle.rv_answering.specs.declared.line.Line.{Line}
+use Rattle.rv_history.specs.Closable.{open_server}
 use Rattle.rv_cli.specs.declared.ending.Ending.{Ending}
 use Rattle.rv_cli.specs.declared.ending.Ending.TheVariants.{Done, Keeper, Damaged, Read, Write, Memory, Malformed}
 use Rattle.rv_cli.specs.Texts.{status_of}
@@ -60,13 +61,13 @@ module _ (c : StoreChange) (told : c.told) (kept : KeptSound c.opens) where
   pub feed_sound : (input input' : InputState) (output output' : OutputState) (status : ℕ) → RunsFeed c input input' output output' status → status ≢ 5
   feed_sound input input' output output' status (ending, is, runs) five = no_damage ending (fed_sound input input' output output' ending runs) (sym is ∙ five)
 
-  replied_sound : (asked : Parsed) (output output' : OutputState) (ending : Ending) → (NotOpened c output output' ending × IsLeftAs c) ⊎ Replied c asked output output' ending
+  replied_sound : (line : Line) (output output' : OutputState) (ending : Ending) → (NotOpened c output output' ending × IsLeftAs c) ⊎ Replied c line output output' ending
       → (damage : Damage) → ending ≢ Damaged damage
-  replied_sound asked output output' ending (inl (none, left)) damage is = opens_sound damage ending is none.why
-  replied_sound asked output output' ending (inr replied) damage is = subst (λ (e : Ending). EndsOne c.told replied.first asked replied.text replied.now e) is replied.ends
+  replied_sound line output output' ending (inl (none, left)) damage is = opens_sound damage ending is none.why
+  replied_sound line output output' ending (inr replied) damage is = subst (λ (e : Ending). EndsOne c.told (open_server replied.first) line replied.text replied.now e) is replied.ends
 
-  pub retire_sound : (asked : Parsed) (output output' : OutputState) (status : ℕ) → RunsOne c asked output output' status → status ≢ 5
-  retire_sound asked output output' status (ending, is, runs) five = no_damage ending (replied_sound asked output output' ending runs) (sym is ∙ five)
+  pub one_sound : (line : Line) (output output' : OutputState) (status : ℕ) → RunsOne c line output output' status → status ≢ 5
+  one_sound line output output' status (ending, is, runs) five = no_damage ending (replied_sound line output output' ending runs) (sym is ∙ five)
 
 -- the store in memory is opened with the empty book
 pub memory_sound : (store : List ℕ) (Stored : Loaded → Type 0) → store ≡ codes "memory" → KeptSound (OpensAs store Stored)
@@ -95,6 +96,11 @@ pub retires_in_memory : (asked : Option Command) (named store retired group : Li
     → store ≡ codes "memory"
 retires_in_memory asked named store retired group is same (inl asks) = absurd (cc)
 retires_in_memory asked named store retired group is same (inr asks) = cc
+
+pub closes_in_memory : (asked : Option Command) (named store : List ℕ) → Some (commands.CloseBook named) ≡ asked → store ≡ named → asked ≡ Some (commands.CloseBook (codes "memory")) → store ≡ codes "memory"
+closes_in_memory asked named store is same asks =
+    let both : Some (commands.CloseBook named) ≡ Some (commands.CloseBook (codes "memory")) = is ∙ asks in
+    cc
 
 -- and so with words that ask for a report of it
 pub lists_memory : (asked : Option Command) (named store : List ℕ) → Some (commands.Lists named) ≡ asked → store ≡ named → IsReportOf (codes "memory") asked → store ≡ codes "memory"

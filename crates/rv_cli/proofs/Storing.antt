@@ -2,7 +2,8 @@
 use Rattle.std.proofs.Common.{◌≡◌, ◌≢◌, ◌⊎◌, ℕ, zero, suc, ◌<◌, ◌-◌, ◌^◌, List, [], codes, Option, Some, None, IfSome, Result, Ok, Err, IsOk, IsErr, IsErrAnd, refl, sym, ap, ◌∙◌, subst, arith, inl, inr}
 use Rattle.rv_base.specs.Causes.{Rose}
 use Rattle.rv_base.specs.Outside.{InputState, OutputState, Writes}
-use Rattle.rv_history.specs.Served.{Served}
+use Rattle.rv_history.specs.Closable.{Closable, open_server}
+use Rattle.rv_desk.specs.ClosingSeats.{open_seat}
 use Rattle.rv_keeper.specs.declared.fault.KeepFault.{KeepFault}
 use Rattle.rv_keeper.specs.declared.loaded.Loaded.{Loaded}
 use Rattle.rv_keeper.specs.declared.keeper.Keeper.{Ghosts}
@@ -14,22 +15,22 @@ use Rattle.rv_desk.specs.Opened.{IsLeft, IsRefused}
 use Rattle.rv_desk.specs.declared.open_fault.OpenFault.{OpenFault}
 use Rattle.rv_desk.specs.declared.open_fault.OpenFault.TheVariants as faulting
 use Rattle.rv_answering.specs.declared.answer.Answer.{Answer}
-use Rattle.rv_answering.specs.declared.request.Request.TheVariants.{Retire}
+use Rattle.rv_answering.specs.declared.line.Line.{Line}
 use Rattle.rv_cli.specs.declared.ending.Ending.{Ending}
 use Rattle.rv_cli.specs.declared.ending.Ending.TheVariants.{Done, Keeper, Damaged, Read, Write, Memory, Malformed}
 use Rattle.rv_cli.specs.Texts.{fault_ending, keep_ending, status_of, status_text}
 use Rattle.rv_cli.specs.Change.{StoreChange, change, kept_change}
 use Rattle.rv_cli.specs.Headline.{Ends, Begins, Leaves, IsNotOpened, KeepsSo, HasFed, Replied}
 use Rattle.rv_cli.specs.Feeding.{IsLeftWith, RoseAt, FedAnswers, Feeds, FeedsWith}
-use Rattle.rv_cli.specs.Replying.{Retired, WritesReply}
+use Rattle.rv_cli.specs.Replying.{Replies, WritesReply}
 use Rattle.rv_cli.specs.Storing.{HasOpened, OpensStore, OpensKept, ToldBefore}
-use Rattle.rv_cli.specs.RunLaws.{answered_later, step_later}
+use Rattle.rv_cli.specs.RunLaws.{answered_later, takes_later}
 use Rattle.rv_cli.proofs.Ended.{ended}
 use Rattle.rv_keeper.specs.declared.fault.KeepFault.TheVariants as keeping
 
 -- what is told later was told before
 module _ (Told Now : Type 0) (then : Now → Told) where
-  ends_later : (first : Served) (bytes read text : List ℕ) (now : Served) (ending : Ending) → Ends Told first bytes read text now ending → Ends Now first bytes read text now ending
+  ends_later : (first : Closable) (bytes read text : List ℕ) (now : Closable) (ending : Ending) → Ends Told first bytes read text now ending → Ends Now first bytes read text now ending
   ends_later first bytes read text now Done (all, w) = (all, answered_later Told Now then first _ text now w)
   ends_later first bytes read text now Read (w, needed) = (answered_later Told Now then first _ text now w, needed)
   ends_later first bytes read text now Write e = record {
@@ -42,10 +43,10 @@ module _ (Told Now : Type 0) (then : Now → Told) where
     before = e.before;
     mid = e.mid;
     answered = answered_later Told Now then first e.lines e.before e.mid e.answered;
-    asked = e.asked;
+    taken = e.taken;
     asks = e.asks;
     answer = e.answer;
-    step = step_later Told Now then e.mid now e.asked e.answer e.step;
+    step = takes_later Told Now then e.mid now e.taken (Some e.answer) e.step;
     part = e.part;
     told = e.told;
     front = e.front;
@@ -58,12 +59,12 @@ module _ (Told Now : Type 0) (then : Now → Told) where
   ends_later first bytes read text now (Damaged damage) e =
       record { lines = e.lines; line = e.line; others = e.others; are = e.are; stop = e.stop; needed = e.needed; answered = answered_later Told Now then first e.lines text now e.answered }
 
-  fed_later : (o : Option (List ℕ)) (first now : Served) (input' : InputState) (output output' : OutputState) (ending : Ending) → IfSome o (λ bytes. FedAnswers Told first now bytes input' output output' ending) → IfSome o (λ bytes. FedAnswers Now first now bytes input' output output' ending)
+  fed_later : (o : Option (List ℕ)) (first now : Closable) (input' : InputState) (output output' : OutputState) (ending : Ending) → IfSome o (λ bytes. FedAnswers Told first now bytes input' output output' ending) → IfSome o (λ bytes. FedAnswers Now first now bytes input' output output' ending)
   fed_later None first now input' output output' ending f = tt
   fed_later (Some bytes) first now input' output output' ending f =
       record { read = f.read; text = f.text; consumed = f.consumed; appended = f.appended; ends = ends_later first bytes f.read f.text now ending f.ends }
 
-  pub feeds_later : (first now : Served) (input input' : InputState) (output output' : OutputState) (ending : Ending) → Feeds Told first now input input' output output' ending → Feeds Now first now input input' output output' ending
+  pub feeds_later : (first now : Closable) (input input' : InputState) (output output' : OutputState) (ending : Ending) → Feeds Told first now input input' output output' ending → Feeds Now first now input input' output output' ending
   feeds_later first now input input' output output' ending f = record { reads = f.reads; writes = f.writes; fed = fed_later input.left first now input' output output' ending f.fed }
 
 -- the place gave no keeper, and that is told
@@ -208,7 +209,7 @@ module _ {P K : Type 0} (place : PlaceGhosts P K) (G : Ghosts K) (store : List �
     faults = opened.none;
   }
 
-  pub leaves : (old mid new : P) (now : Served) (keeper : K) → place.faults mid ≡ place.faults old → IsLeftWith G now keeper → WentBack mid new keeper → Leaves (change place store old new) now
+  pub leaves : (old mid new : P) (now : Closable) (keeper : K) → place.faults mid ≡ place.faults old → IsLeftWith G now keeper → WentBack mid new keeper → Leaves (change place store old new) now
   leaves old mid new now keeper same left back = record {
     held = λ t. let (h, was, with) = left.kept.held (back.told t).1 in (h, back.held t h was, with);
     left = λ honest x may. left.kept.left (back.honest honest).1 x (back.left honest x may);
@@ -219,11 +220,11 @@ module _ {P K : Type 0} (place : PlaceGhosts P K) (G : Ghosts K) (store : List �
 
   -- the desk was opened and fed, and its keeper went back
   pub has_fed : {T E : Type 0} (old mid new : P) (desk : Seated K) (ended' : Ending × K) (input input' : InputState) (first out out' : OutputState) (result : Result T E)
-      → HasOpened place G store old desk mid → FeedsWith G desk input input' first out ended' → WentBack mid new ended'.1 → Writes out out' result (status_text ended'.0)
+      → HasOpened place G store old desk mid → FeedsWith G (open_seat desk) input input' first out ended' → WentBack mid new ended'.1 → Writes out out' result (status_text ended'.0)
       → HasFed (change place store old new) input input' first out' ended'.0
   has_fed old mid new desk ended' input input' first out out' result opened fed back w =
-      let later = feeds_later (G.tells ended'.1) (place.tells new) (λ t. (back.told t).1) (served G.faults desk) fed.now input input' first out ended'.0 fed.feeds in
-      let (reads, writes, all) = ended (place.tells new) (served G.faults desk) fed.now input input' first out out' ended'.0 result later w in
+      let later = feeds_later (G.tells ended'.1) (place.tells new) (λ t. (back.told t).1) (open_server (served G.faults desk)) fed.now input input' first out ended'.0 fed.feeds in
+      let (reads, writes, all) = ended (place.tells new) (open_server (served G.faults desk)) fed.now input input' first out out' ended'.0 result later w in
       record {
         first = served G.faults desk;
         now = fed.now;
@@ -235,32 +236,32 @@ module _ {P K : Type 0} (place : PlaceGhosts P K) (G : Ghosts K) (store : List �
         leaves = leaves old mid new fed.now ended'.1 opened.same fed.left back;
       }
 
-  -- the same of one retirement
-  pub has_replied : (old mid new : P) (desk : Seated K) (group : List ℕ) (told : Answer × K) (first out : OutputState) (ending : Ending)
-      → HasOpened place G store old desk mid → Retired G desk group told → WentBack mid new told.1 → WritesReply first out told.0 ending
-      → Replied (change place store old new) (Ok (Retire group)) first out ending
-  has_replied old mid new desk group told first out Done opened retired back (appended, still) = record {
+  -- the same of one line
+  pub has_replied : (old mid new : P) (desk : Seated K) (line : Line) (told : Answer × K) (first out : OutputState) (ending : Ending)
+      → HasOpened place G store old desk mid → Replies G desk line told → WentBack mid new told.1 → WritesReply first out told.0 ending
+      → Replied (change place store old new) line first out ending
+  has_replied old mid new desk line told first out Done opened replies back (appended, still) = record {
     first = served G.faults desk;
-    now = retired.new;
-    begins = begins old mid new desk told.1 opened retired.before back;
+    now = replies.new;
+    begins = begins old mid new desk told.1 opened replies.before back;
     text = _;
     appended = appended;
-    ends = (told.0, step_later (G.tells told.1) (place.tells new) (λ t. (back.told t).1) (served G.faults desk) retired.new (Ok (Retire group)) told.0 retired.step, refl);
+    ends = (told.0, takes_later (G.tells told.1) (place.tells new) (λ t. (back.told t).1) (open_server (served G.faults desk)) replies.new line (Some told.0) replies.step, refl);
     status = (refl, still);
-    leaves = leaves old mid new retired.new told.1 opened.same retired.left back;
+    leaves = leaves old mid new replies.new told.1 opened.same replies.left back;
   }
-  has_replied old mid new desk group told first out Write opened retired back ((part, front, appended), rose) = record {
+  has_replied old mid new desk line told first out Write opened replies back ((part, front, appended), rose) = record {
     first = served G.faults desk;
-    now = retired.new;
-    begins = begins old mid new desk told.1 opened retired.before back;
+    now = replies.new;
+    begins = begins old mid new desk told.1 opened replies.before back;
     text = part;
     appended = appended;
-    ends = (told.0, step_later (G.tells told.1) (place.tells new) (λ t. (back.told t).1) (served G.faults desk) retired.new (Ok (Retire group)) told.0 retired.step, front);
+    ends = (told.0, takes_later (G.tells told.1) (place.tells new) (λ t. (back.told t).1) (open_server (served G.faults desk)) replies.new line (Some told.0) replies.step, front);
     status = (refl, rose);
-    leaves = leaves old mid new retired.new told.1 opened.same retired.left back;
+    leaves = leaves old mid new replies.new told.1 opened.same replies.left back;
   }
-  has_replied old mid new desk group told first out Keeper opened retired back never = absurd never
-  has_replied old mid new desk group told first out (Damaged damage) opened retired back never = absurd never
-  has_replied old mid new desk group told first out Read opened retired back never = absurd never
-  has_replied old mid new desk group told first out Memory opened retired back never = absurd never
-  has_replied old mid new desk group told first out (Malformed number) opened retired back never = absurd never
+  has_replied old mid new desk line told first out Keeper opened replies back never = absurd never
+  has_replied old mid new desk line told first out (Damaged damage) opened replies back never = absurd never
+  has_replied old mid new desk line told first out Read opened replies back never = absurd never
+  has_replied old mid new desk line told first out Memory opened replies back never = absurd never
+  has_replied old mid new desk line told first out (Malformed number) opened replies back never = absurd never

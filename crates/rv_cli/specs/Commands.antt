@@ -3,7 +3,7 @@ use Rattle.std.specs.Prelude.{◌≡◌, ℕ, List, Option, Some, None, String, 
 use Rattle.std.specs.Global.{Global}
 use Rattle.rv_words.specs.Words.{command_in}
 use Rattle.rv_words.specs.declared.command.Command.{Command}
-use Rattle.rv_words.specs.declared.command.Command.TheVariants.{Feed, Retire, Lists, Activity, Check, Make, Serve, Export, Import}
+use Rattle.rv_words.specs.declared.command.Command.TheVariants.{Feed, Retire, Lists, Activity, Check, CloseBook, Make, Serve, Export, Import}
 
 -- what the words of a run ask for
 abbrev pub asked_by : List (String Global) → Option Command
@@ -17,6 +17,7 @@ IsReportOf store (Some (Retire other group)) = ⊥
 IsReportOf store (Some (Serve other options)) = ⊥
 IsReportOf store (Some (Make seed requests)) = ⊥
 IsReportOf store (Some (Import other user name)) = ⊥
+IsReportOf store (Some (CloseBook other)) = ⊥
 IsReportOf store (Some (Lists other)) = other ≡ store
 IsReportOf store (Some (Activity other)) = other ≡ store
 IsReportOf store (Some (Check other)) = other ≡ store
@@ -34,6 +35,7 @@ IsOfStore store (Some (Activity other)) = other ≡ store
 IsOfStore store (Some (Check other)) = other ≡ store
 IsOfStore store (Some (Export other user)) = other ≡ store
 IsOfStore store (Some (Import other user name)) = other ≡ store
+IsOfStore store (Some (CloseBook other)) = other ≡ store
 
 -- there is an accounts file of the name
 abbrev pub HasFile : (List ℕ → List ℕ → Type 0) → List ℕ → Type 0

@@ -9,6 +9,7 @@ use Rattle.rv_net.specs.declared.net.Net.{Ghosts as NetGhosts}
 use Rattle.rv_net.specs.declared.poke_listen.PokeListen.{Ghosts as PokeListenGhosts}
 use Rattle.rv_poke.specs.declared.poke_link.PokeLink.{Ghosts as LinkGhosts}
 use Rattle.rv_book.specs.Book.{Book}
+use Rattle.rv_answering.specs.declared.line.Line.TheVariants.{Asks, Close}
 use Rattle.rv_answering.specs.declared.request.Request.TheVariants.{Retire}
 use Rattle.rv_words.specs.declared.command.Command.{Command}
 use Rattle.rv_words.specs.declared.command.Command.TheVariants.{Serve}
@@ -29,9 +30,12 @@ module _ {P Kept O : Type 0} (place : PlaceGhosts P Kept) (output : SinkGhosts O
   abbrev pub WasFed : {S : Type 0} → SourceGhosts S → S → S → O → O → ℕ → Type 0
   WasFed input read read' out out' = RunsFeed (change place store old new) (input.state read) (input.state read') (output.state out) (output.state out')
 
-  -- Of `retire`: what is written is the answer at the book that the store kept, and the store keeps the book that it leaves.
+  -- Of `retire` and `close-book`: what is written is the answer at the book that the store kept, and the store keeps the book that it leaves.
   abbrev pub WasRetired : List ℕ → O → O → ℕ → Type 0
-  WasRetired group out out' = RunsOne (change place store old new) (Ok (Retire group)) (output.state out) (output.state out')
+  WasRetired group out out' = RunsOne (change place store old new) (Asks (Ok (Retire group))) (output.state out) (output.state out')
+
+  abbrev pub WasClosed : O → O → ℕ → Type 0
+  WasClosed out out' = RunsOne (change place store old new) Close (output.state out) (output.state out')
 
   -- Of a report: what is written is a text of the book that the store kept, which it still keeps.
   abbrev pub WasReported : (Book → List ℕ → Type 0) → O → O → ℕ → Type 0
@@ -59,6 +63,9 @@ module _ {P Kept O : Type 0} (place : PlaceGhosts P Kept) (output : SinkGhosts O
 
   abbrev pub WasRetiredOrNot : List ℕ → O → O → ℕ → Type 0
   WasRetiredOrNot group out out' status = WasRetired group out out' status ⊎ ((status ≡ 8) × (new ≡ old) × WritesOnly (output.state out) (output.state out') (status_text Memory))
+
+  abbrev pub WasClosedOrNot : O → O → ℕ → Type 0
+  WasClosedOrNot out out' status = WasClosed out out' status ⊎ ((status ≡ 8) × (new ≡ old) × WritesOnly (output.state out) (output.state out') (status_text Memory))
 
   abbrev pub WasReportedOrNot : (Book → List ℕ → Type 0) → O → O → ℕ → Type 0
   WasReportedOrNot Reports out out' status = WasReported Reports out out' status ⊎ ((status ≡ 8) × (new ≡ old) × WritesOnly (output.state out) (output.state out') (status_text Memory))

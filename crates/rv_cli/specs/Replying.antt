@@ -1,24 +1,24 @@
--- One request, and its answer.
-use Rattle.std.specs.Prelude.{◌≡◌, ℕ, List, Ok}
+-- One line, and its answer.
+use Rattle.std.specs.Prelude.{◌≡◌, Some}
 use Rattle.std.specs.Io.KnownBytes.{Appends}
 use Rattle.rv_base.specs.Causes.{Rose}
 use Rattle.rv_base.specs.Outside.{OutputState}
 use Rattle.rv_base.specs.Writes.{AppendsFront}
 use Rattle.rv_keeper.specs.declared.keeper.Keeper.{Ghosts}
-use Rattle.rv_history.specs.Served.{Served}
+use Rattle.rv_history.specs.Closable.{Closable, open_server}
 use Rattle.rv_desk.specs.Seated.{Seated, served}
 use Rattle.rv_answering.specs.declared.answer.Answer.{Answer}
-use Rattle.rv_answering.specs.declared.request.Request.TheVariants.{Retire}
+use Rattle.rv_answering.specs.declared.line.Line.{Line}
 use Rattle.rv_cli.specs.declared.ending.Ending.{Ending}
 use Rattle.rv_cli.specs.declared.ending.Ending.TheVariants.{Done, Write}
 use Rattle.rv_cli.specs.Texts.{text_of}
-use Rattle.rv_cli.specs.Headline.{TakesStep}
+use Rattle.rv_cli.specs.Headline.{TakesLine}
 use Rattle.rv_cli.specs.Feeding.{IsLeftWith}
 
--- the answer to a retirement, and the keeper that is left
-pub record Retired {K : Type 0} (G : Ghosts K) (old : Seated K) (group : List ℕ) (told : Answer × K) : Type 0 where
-  pub new : Served
-  pub step : TakesStep (G.tells told.1) (served G.faults old) (Ok (Retire group)) told.0 new
+-- the answer to one line, and the keeper that is left
+pub record Replies {K : Type 0} (G : Ghosts K) (old : Seated K) (line : Line) (told : Answer × K) : Type 0 where
+  pub new : Closable
+  pub step : TakesLine (G.tells told.1) (open_server (served G.faults old)) line (Some told.0) new
   pub left : IsLeftWith G new told.1
   pub before : G.tells told.1 → G.tells old.keeper
 

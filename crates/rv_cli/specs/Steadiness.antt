@@ -2,6 +2,8 @@
 -- refused to it.
 use Rattle.std.specs.Prelude.{ℕ, ◌≡◌, Result, Ok, Err}
 use Rattle.rv_base.specs.Causes.{Rose}
+use Rattle.rv_desk.specs.Closable.{seat_of}
+use Rattle.rv_desk.specs.declared.closable_desk.ClosableDesk.{ClosableDesk}
 use Rattle.rv_desk.specs.Seated.{Seated}
 use Rattle.rv_cli.specs.declared.ending.Ending.{Ending}
 use Rattle.rv_cli.specs.declared.ending.Ending.TheVariants.{Keeper, Read, Write}
@@ -42,8 +44,8 @@ pub record KeeperIsSteady {K : Type 0} (fails_no_more : K → Type 0) (faults : 
   pub no_fault : ended.0 ≡ Keeper → ⊥
 
 -- the same after a line
-abbrev pub LineKeepsSteady : {K : Type 0} → (K → Type 0) → (K → ℕ) → K → Result (Seated K) (Ending × K) → Type 0
-LineKeepsSteady fails_no_more faults before (Ok desk) = fails_no_more desk.keeper × (faults desk.keeper ≡ faults before)
+abbrev pub LineKeepsSteady : {K : Type 0} → (K → Type 0) → (K → ℕ) → K → Result (ClosableDesk K) (Ending × K) → Type 0
+LineKeepsSteady fails_no_more faults before (Ok desk) = fails_no_more (seat_of desk).keeper × (faults (seat_of desk).keeper ≡ faults before)
 LineKeepsSteady fails_no_more faults before (Err ended) = KeeperIsSteady fails_no_more faults before ended
 
 -- the same of a store's desk, whose keeper is new, or of why there is none

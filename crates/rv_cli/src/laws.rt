@@ -12,7 +12,6 @@ use rv_net::Listen;
 pub fn books_are_lawful()
     ensures { BooksAreLawful }
 {
-    rv_history::laws::pushes_keep_law();
     rv_history::laws::turns_keep_law();
     rv_history::laws::ids_count_up();
     rv_history::laws::orders_rise();
@@ -23,7 +22,6 @@ pub fn books_are_lawful()
 pub fn pulls_are_shown()
     ensures { PullsAreShown }
 {
-    rv_history::laws::pushes_keep_law();
     rv_history::laws::turns_keep_law();
     rv_history::laws::pulls_show();
 }

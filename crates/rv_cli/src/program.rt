@@ -4,18 +4,20 @@ ghost use Rattle.rv_base.specs.Causes.{Rose};
 ghost use Rattle.rv_words.specs.declared.command.Command.TheVariants as commands;
 ghost use Rattle.rv_words.specs.declared.serve_options.ServeOptions.{ServeOptions};
 ghost use Rattle.rv_keeper.specs.Stores.{OpensAs, OthersStay};
+ghost use Rattle.rv_answering.specs.declared.line.Line.TheVariants.{Asks, Close};
 ghost use Rattle.rv_answering.specs.declared.request.Request.TheVariants.{Retire};
 ghost use Rattle.rv_cli.specs.Texts.{usage_text, status_of, status_text};
 ghost use Rattle.rv_cli.specs.Headline.{ReportsActivity, ReportsLists, ReportsSound, ReportsView, RunsMake, WritesOnly, AllAsk, IsOther, KeptSound};
-ghost use Rattle.rv_cli.specs.Promises.{KeepsImport, ServesAsAsked, WasFed, WasFedOrNot, WasReportedOrNot, WasRetired, WasRetiredOrNot, WasUnserved, WasWanted};
+ghost use Rattle.rv_cli.specs.Promises.{KeepsImport, ServesAsAsked, WasClosed, WasClosedOrNot, WasFed, WasFedOrNot, WasReportedOrNot, WasRetired, WasRetiredOrNot, WasUnserved, WasWanted};
 ghost use Rattle.rv_cli.specs.Commands.{HasFile, asked_by, IsOfStore, IsReportOf};
-ghost use Rattle.rv_cli.specs.Replying.{Retired, WritesReply};
+ghost use Rattle.rv_cli.specs.Replying.{Replies, WritesReply};
 ghost use Rattle.rv_cli.specs.Steadiness.{OutputIsSteady, PlaceIsSteady};
 ghost use Rattle.rv_cli.specs.declared.ending.Ending.TheVariants as endings;
 
 use crate::ending::Ending;
 use crate::feed::feed;
 use crate::import::run_import;
+use crate::line::answer_of_closing;
 use crate::make::run_make;
 use crate::reports::{run_activity, run_check, run_export, run_lists};
 use crate::serve::run_serve;
@@ -23,7 +25,7 @@ use crate::store::{open_desk, refuse_opening};
 use crate::texts::{write_answer, write_ending, write_usage};
 use rv_answering::{Answer, retire_group};
 use rv_base::{Failed, Id, Memory, Sink, Source};
-use rv_desk::Desk;
+use rv_desk::{ClosableDesk, Desk};
 use rv_keeper::{Keeper, Place};
 use rv_net::{Listen, Net, PokeListen};
 use rv_poke::PokeLink;
@@ -61,7 +63,7 @@ pub fn run_feed<P: Place, S: Source, O: Sink>(
 {
     match open_desk(alloc, place, store) {
         Ok(desk) => {
-            let (ending, keeper) = feed(alloc, desk, input, out);
+            let (ending, keeper) = feed(alloc, ClosableDesk::Open(desk), input, out);
             place.close_keeper(store, keeper);
             let _ = write_ending(out, &ending);
             ending.status()
@@ -72,12 +74,21 @@ pub fn run_feed<P: Place, S: Source, O: Sink>(
 
 // The answer of a desk to a retirement, with its keeper.
 fn retired<K: Keeper>(desk: Desk<K>, group: &Id) -> (Answer, K)
-    ensures retired { Retired K.Keeper desk group.now result }
+    ensures retired { Replies K.Keeper desk (Asks (Ok (Retire group.now))) result }
     ensures steady { K.fails_no_more desk.keeper → K.fails_no_more result.1 × (K.faults result.1 ≡ K.faults desk.keeper) }
 {
     let mut desk = desk;
     let answer = retire_group(&mut desk, group);
     (answer, desk.close())
+}
+
+// The answer of a desk to the closing of its book, with its keeper.
+fn closed<K: Keeper>(desk: Desk<K>) -> (Answer, K)
+    ensures closed { Replies K.Keeper desk Close result }
+    ensures steady { K.fails_no_more desk.keeper → K.fails_no_more result.1 × (K.faults result.1 ≡ K.faults desk.keeper) }
+{
+    let (closing, desk) = ClosableDesk::Open(desk).close_book();
+    (answer_of_closing(closing), desk.close())
 }
 
 // Writes the one answer of a run.
@@ -118,6 +129,32 @@ pub fn run_retire<P: Place, O: Sink>(
     }
 }
 
+/// Closes the book that the store keeps: the command `close-book STORE`. The status is 0, 4, 5, 7 or 8.
+pub fn run_close<P: Place, O: Sink>(
+    alloc: Global,
+    place: &mut P,
+    store: &str,
+    out: &mut O,
+) -> u8
+    // What is written is the answer at the book that the store kept, and the store keeps the book that it leaves.
+    ensures closes { WasClosed P.Place O.Sink store.now place.old place.new out.old out.new result }
+
+    // Where the place tells, and the store kept a lawful book within the limit, the status is no damage.
+    ensures sound { P.tells place.new → KeptSound (OpensAs store.now (P.holds place.old store.now)) → result ≢ 5 }
+    ensures steady { O.fails_no_more out.old → O.fails_no_more out.new × (Rose (O.state out.old).refusals (O.state out.new).refusals ⊎ (result ≢ 7)) }
+    ensures others { P.tells place.new → OthersStay P.holds P.may_leave P.is_out P.has P.accounts store.now place.old place.new }
+    ensures steady_place { P.fails_no_more place.old → PlaceIsSteady P.fails_no_more P.faults place.old place.new result }
+{
+    match open_desk(alloc, place, store) {
+        Ok(desk) => {
+            let (answer, keeper) = closed(desk);
+            place.close_keeper(store, keeper);
+            write_reply(out, &answer).status()
+        }
+        Err(ending) => refuse_opening(out, &ending),
+    }
+}
+
 // The words are no line of the command set.
 fn refuse_words<O: Sink>(out: &mut O) -> u8
     ensures status { result ≡ 2 }
@@ -142,7 +179,7 @@ fn give_up<O: Sink>(out: &mut O) -> u8
 ///
 /// The first word is the program's name and is not read. `feed STORE` answers the lines of the input, each as it was read, from the
 /// book that the store keeps; `serve STORE` answers the requests of connections so, which workers serve side by side, and pokes clients;
-/// `retire STORE GROUP` retires a client group there; `lists STORE`, `activity STORE` and `check STORE` are reports of the store,
+/// `retire STORE GROUP` retires a client group there, and `close-book STORE` closes the book; `lists STORE`, `activity STORE` and `check STORE` are reports of the store,
 /// which stays as it is, and so is `export STORE USER`, the rows that the user sees as CSV; `make SEED N` tells what comes of N
 /// requests that a seed makes over a fresh store in memory, and touches no other. `import STORE USER NAME` reads the input whole, which
 /// is CSV, and enters a todo of the user for each of its records. STORE is `memory`, which begins empty, or the name of a store of the
@@ -189,6 +226,10 @@ where
     ensures retire { (store group : List ℕ) → asked_by words.now ≡ Some (commands.Retire store group)
         → WasRetiredOrNot P.Place O.Sink store place.old place.new group out.old out.new result }
 
+    // And so over the one line that closes the book.
+    ensures close_book { (store : List ℕ) → asked_by words.now ≡ Some (commands.CloseBook store)
+        → WasClosedOrNot P.Place O.Sink store place.old place.new out.old out.new result }
+
     // What `import` enters are the turns of the records that were read, from the book that the store kept, and the store keeps the book
     // that they leave; or memory was refused in reading the words.
     ensures import { (store user name : List ℕ) → asked_by words.now ≡ Some (commands.Import store user name)
@@ -234,6 +275,8 @@ where
     ensures complete { (store : List ℕ) → asked_by words.now ≡ Some (commands.Feed store) → AllAsk (S.state input.old).left (IsOther result) }
     ensures complete_retire { (store group : List ℕ) → asked_by words.now ≡ Some (commands.Retire store group) → result ≡ 0 ⊎ result ≡ 4 ⊎ result ≡ 5 ⊎ result ≡ 7 ⊎ result ≡ 8 }
 
+    ensures complete_close_book { (store : List ℕ) → asked_by words.now ≡ Some (commands.CloseBook store) → result ≡ 0 ⊎ result ≡ 4 ⊎ result ≡ 5 ⊎ result ≡ 7 ⊎ result ≡ 8 }
+
     ensures complete_reports { (store : List ℕ) → IsReportOf store (asked_by words.now) → result ≡ 0 ⊎ result ≡ 4 ⊎ result ≡ 5 ⊎ result ≡ 7 ⊎ result ≡ 8 }
 
     ensures complete_make { (seed requests : ℕ) → asked_by words.now ≡ Some (commands.Make seed requests) → result ≡ 0 ⊎ result ≡ 7 ⊎ result ≡ 8 }
@@ -245,6 +288,9 @@ where
     ensures sound { (store : List ℕ) → asked_by words.now ≡ Some (commands.Feed store) → P.tells place.new
         → KeptSound (OpensAs store (P.holds place.old store)) → result ≢ 5 }
     ensures sound_retire { (store group : List ℕ) → asked_by words.now ≡ Some (commands.Retire store group) → P.tells place.new
+        → KeptSound (OpensAs store (P.holds place.old store)) → result ≢ 5 }
+
+    ensures sound_close_book { (store : List ℕ) → asked_by words.now ≡ Some (commands.CloseBook store) → P.tells place.new
         → KeptSound (OpensAs store (P.holds place.old store)) → result ≢ 5 }
 
     ensures sound_reports { (store : List ℕ) → IsReportOf store (asked_by words.now) → P.tells place.new
@@ -262,6 +308,7 @@ where
     ensures sound_memory { (group : List ℕ)
         → asked_by words.now ≡ Some (commands.Feed (codes "memory")) ⊎ asked_by words.now ≡ Some (commands.Retire (codes "memory") group)
         → P.tells place.new → result ≢ 5 }
+    ensures sound_memory_close_book { asked_by words.now ≡ Some (commands.CloseBook (codes "memory")) → P.tells place.new → result ≢ 5 }
     ensures sound_memory_serve { (options : ServeOptions) → asked_by words.now ≡ Some (commands.Serve (codes "memory") options) → P.tells place.new → result ≢ 5 }
     ensures sound_none { asked_by words.now ≡ None → result ≢ 5 }
 
@@ -273,6 +320,7 @@ where
     // there are as many listeners as workers and as poke jobs.
     ensures steady_feed { (store : List ℕ) → asked_by words.now ≡ Some (commands.Feed store) → P.fails_no_more place.old → PlaceIsSteady P.fails_no_more P.faults place.old place.new result }
     ensures steady_retire { (store group : List ℕ) → asked_by words.now ≡ Some (commands.Retire store group) → P.fails_no_more place.old → PlaceIsSteady P.fails_no_more P.faults place.old place.new result }
+    ensures steady_close_book { (store : List ℕ) → asked_by words.now ≡ Some (commands.CloseBook store) → P.fails_no_more place.old → PlaceIsSteady P.fails_no_more P.faults place.old place.new result }
     ensures steady_reports { (store : List ℕ) → IsReportOf store (asked_by words.now) → P.fails_no_more place.old → P.has place.old store → PlaceIsSteady P.fails_no_more P.faults place.old place.new result }
     ensures steady_serve { (store : List ℕ) (options : ServeOptions) → asked_by words.now ≡ Some (commands.Serve store options)
         → P.fails_no_more place.old → HasFile (P.accounts place.old) options.accounts → P.fails_no_more place.new × (result ≢ 4) }
@@ -291,6 +339,7 @@ where
             &group,
             out,
         ),
+        Ok(Some(Command::CloseBook { store })) => run_close(alloc, place, store.as_str(), out),
         Ok(Some(Command::Lists { store })) => run_lists(alloc, place, store.as_str(), out),
         Ok(Some(Command::Activity { store })) => run_activity(alloc, place, store.as_str(), out),
         Ok(Some(Command::Check { store })) => run_check(alloc, place, store.as_str(), out),

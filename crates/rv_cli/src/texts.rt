@@ -1,7 +1,7 @@
 // The texts that are written.
 ghost use Rattle.std.specs.Prelude.{◌++◌, decimal, codes};
 ghost use Rattle.rv_base.specs.Outside.{Writes, IsSteady};
-ghost use Rattle.rv_answering.specs.declared.answer.Answer.TheVariants.{Refused, Retired};
+ghost use Rattle.rv_answering.specs.declared.answer.Answer.TheVariants.{Closed, Refused, Retired};
 ghost use Rattle.std.specs.List.{flat_map};
 ghost use Rattle.rv_cli.specs.Texts.{import_ending_text, line_text, place_text, shown_byte, text_of, serve_text, status_text, usage_text};
 
@@ -13,7 +13,7 @@ use percent_encoding::percent_encode_byte;
 use rv_answering::Answer;
 use rv_base::{Failed, Sink, write_all};
 use rv_record::Damage;
-use rv_wire::{ErrorBody, error_text, retired_text};
+use rv_wire::{ErrorBody, closed_text, error_text, retired_text};
 
 fn write_number<O: Sink>(out: &mut O, number: u64) -> Result<(), Failed>
     ensures writes { Writes (O.state out.old) (O.state out.new) result (decimal number) }
@@ -69,6 +69,15 @@ fn write_retired<O: Sink>(out: &mut O, place: u32) -> Result<(), Failed>
     write_line(out, 200, &buffer[..length])
 }
 
+fn write_closed<O: Sink>(out: &mut O, place: u32) -> Result<(), Failed>
+    ensures writes { Writes (O.state out.old) (O.state out.new) result (text_of (Closed place)) }
+    ensures steady { O.fails_no_more out.old → IsSteady (O.fails_no_more out.new) (O.state out.old) (O.state out.new) result }
+{
+    let mut buffer = [0; 128];
+    let length = closed_text(place, &mut buffer);
+    write_line(out, 200, &buffer[..length])
+}
+
 /// Writes the line of an answer: its status, a space, its body, and LF.
 pub(crate) fn write_answer<O: Sink>(out: &mut O, answer: &Answer) -> Result<(), Failed>
     ensures writes { Writes (O.state out.old) (O.state out.new) result (text_of answer.now) }
@@ -78,6 +87,7 @@ pub(crate) fn write_answer<O: Sink>(out: &mut O, answer: &Answer) -> Result<(), 
         Answer::Pushed => write_line(out, 200, b"{}"),
         Answer::Pulled(reply) => write_line(out, 200, reply.text.as_slice()),
         Answer::Retired(place) => write_retired(out, *place),
+        Answer::Closed(place) => write_closed(out, *place),
         Answer::Refused(refusal) => write_refusal(out, refusal),
     }
 }
@@ -208,6 +218,6 @@ pub(crate) fn write_usage<O: Sink>(out: &mut O) -> Result<(), Failed>
 {
     write_all(
         out,
-        b"usage: rv feed|serve|retire|lists|activity|check|make|import|export\n",
+        b"usage: rv feed|serve|retire|lists|activity|check|make|import|export|close-book\n",
     )
 }

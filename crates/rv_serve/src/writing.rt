@@ -2,7 +2,7 @@
 ghost use Rattle.std.specs.Prelude.{true};
 ghost use Rattle.rv_base.specs.Outside.{Writes, IsSteady};
 ghost use Rattle.rv_http.specs.Responses.{reply_text};
-ghost use Rattle.rv_answering.specs.declared.answer.Answer.TheVariants.{Refused, Retired};
+ghost use Rattle.rv_answering.specs.declared.answer.Answer.TheVariants.{Closed, Refused, Retired};
 ghost use Rattle.rv_serve.specs.declared.http_answer.HttpAnswer.TheVariants.{Answered, Rejected};
 ghost use Rattle.rv_serve.specs.Texts.{answer_text, memory_text};
 
@@ -11,7 +11,7 @@ use rv_answering::Answer;
 use rv_base::Sink;
 use rv_http::{Rejection, Response, WriteFault, write_response};
 use rv_turns::Refusal;
-use rv_wire::{ErrorBody, error_text, retired_text};
+use rv_wire::{ErrorBody, closed_text, error_text, retired_text};
 
 // Writes an answer of status 200.
 fn write_body<O: Sink>(
@@ -69,6 +69,21 @@ fn write_retired<O: Sink>(
     write_body(sink, &buffer[..length], closes, head_only)
 }
 
+// Writes the answer to a closing of the book, which no request over HTTP asks for.
+fn write_closed<O: Sink>(
+    sink: &mut O,
+    place: u32,
+    closes: bool,
+    head_only: bool,
+) -> Result<(), WriteFault>
+    ensures writes { Writes (O.state sink.old) (O.state sink.new) result (answer_text (Answered (Closed place)) closes head_only) }
+    ensures steady { O.fails_no_more sink.old → IsSteady (O.fails_no_more sink.new) (O.state sink.old) (O.state sink.new) result }
+{
+    let mut buffer = [0; 128];
+    let length = closed_text(place, &mut buffer);
+    write_body(sink, &buffer[..length], closes, head_only)
+}
+
 // Writes an answer to what was asked.
 fn write_answered<O: Sink>(
     sink: &mut O,
@@ -83,6 +98,7 @@ fn write_answered<O: Sink>(
         Answer::Pushed => write_body(sink, b"{}", closes, head_only),
         Answer::Pulled(reply) => write_body(sink, reply.text.as_slice(), closes, head_only),
         Answer::Retired(place) => write_retired(sink, *place, closes, head_only),
+        Answer::Closed(place) => write_closed(sink, *place, closes, head_only),
         Answer::Refused(refusal) => write_refusal(sink, refusal, closes, head_only),
     }
 }

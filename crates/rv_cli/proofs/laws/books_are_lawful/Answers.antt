@@ -4,4 +4,4 @@ use Rattle.rv_cli.proofs.LawfulRuns.{books_are_lawful}
 use Rattle.rv_cli.proofs.laws.books_are_lawful.Goals as goal
 
 pub returns : goal.returns
-returns c = λ told. books_are_lawful (c.pushes_keep_law.ensures pull_json) (c.turns_keep_law.ensures pull_json) c.ids_count_up.ensures c.orders_rise.ensures (told ≡ true)
+returns c = λ told. books_are_lawful (c.turns_keep_law.ensures pull_json) c.ids_count_up.ensures c.orders_rise.ensures (told ≡ true)

@@ -4,4 +4,4 @@ use Rattle.rv_cli.proofs.LawfulRuns.{pulls_are_shown}
 use Rattle.rv_cli.proofs.laws.pulls_are_shown.Goals as goal
 
 pub returns : goal.returns
-returns c = λ told. pulls_are_shown (c.pushes_keep_law.ensures pull_json) (c.turns_keep_law.ensures pull_json) (c.pulls_show.ensures pull_json) (told ≡ true)
+returns c = λ told. pulls_are_shown (c.turns_keep_law.ensures pull_json) (c.pulls_show.ensures pull_json) (told ≡ true)

@@ -1,10 +1,10 @@
 use Rattle.std.proofs.Common.{ℕ, List, arith, inl, inr, refl, subst, sym}
 use Rattle.rv_keeper.specs.Stores.{OthersStay}
 use Rattle.rv_cli.specs.declared.ending.Ending.TheVariants.{Memory}
-use Rattle.rv_cli.specs.Promises.{KeepsImport, WasFed, WasReported, WasRetired}
+use Rattle.rv_cli.specs.Promises.{KeepsImport, WasClosed, WasFed, WasReported, WasRetired}
 use Rattle.rv_cli.specs.Headline.{ReportsActivity, ReportsLists, ReportsSound, ReportsView}
-use Rattle.rv_cli.proofs.Named.{activity_same, checks_same, exports_same, feeds_same, imports_same, lists_same, names_activity, names_check, names_export, names_feed, names_import, names_lists, names_retire, names_serve, of_both, of_three, reports_activity, reports_check, reports_export, reports_lists, retires_same}
-use Rattle.rv_cli.proofs.Sound.{activity_memory, check_memory, export_memory, lists_memory, memory_sound, feeds_memory, retires_in_memory, serves_memory, serves_same}
+use Rattle.rv_cli.proofs.Named.{activity_same, checks_same, closes_same, exports_same, feeds_same, imports_same, lists_same, names_activity, names_check, names_close_book, names_export, names_feed, names_import, names_lists, names_retire, names_serve, of_both, of_three, reports_activity, reports_check, reports_export, reports_lists, retires_same}
+use Rattle.rv_cli.proofs.Sound.{activity_memory, check_memory, closes_in_memory, export_memory, lists_memory, memory_sound, feeds_memory, retires_in_memory, serves_memory, serves_same}
 use Rattle.rv_cli.proofs.program.run.Goals as goal
 
 pub returns-in-Ok-Some-Feed-clause-sound_memory : goal.returns-in-Ok-Some-Feed-clause-sound_memory
@@ -61,6 +61,16 @@ pub returns-in-Ok-Some-Feed-clause-others : goal.returns-in-Ok-Some-Feed-clause-
 returns-in-Ok-Some-Feed-clause-others g c = λ store names told.
     let is = rw (c.in-Ok-Some-Feed.field-0-is, c.in-Ok-Some-Feed.field-0-0-is) at c.in-Ok-Some-Feed.ensures in
     subst (λ (name : List ℕ). OthersStay g.P.Place.holds g.P.Place.may_leave g.P.Place.is_out g.P.Place.has g.P.Place.accounts name c.args.place.now c.run_feed.new.place) (names_feed _ _ _ store is c.as_str.ensures names) (c.run_feed.ensures.others told)
+
+pub returns-in-Ok-Some-CloseBook-clause-sound_memory_close_book : goal.returns-in-Ok-Some-CloseBook-clause-sound_memory_close_book
+returns-in-Ok-Some-CloseBook-clause-sound_memory_close_book g c = λ asks told.
+    let is = rw (c.in-Ok-Some-CloseBook.field-0-is, c.in-Ok-Some-CloseBook.field-0-0-is) at c.in-Ok-Some-CloseBook.ensures in
+    c.run_close.ensures.sound told (memory_sound _ _ (closes_in_memory _ _ _ is c.as_str-in-Ok-Some-CloseBook.ensures asks))
+
+pub returns-in-Ok-Some-CloseBook-clause-others : goal.returns-in-Ok-Some-CloseBook-clause-others
+returns-in-Ok-Some-CloseBook-clause-others g c = λ store names told.
+    let is = rw (c.in-Ok-Some-CloseBook.field-0-is, c.in-Ok-Some-CloseBook.field-0-0-is) at c.in-Ok-Some-CloseBook.ensures in
+    subst (λ (name : List ℕ). OthersStay g.P.Place.holds g.P.Place.may_leave g.P.Place.is_out g.P.Place.has g.P.Place.accounts name c.args.place.now c.run_close.new.place) (names_close_book _ _ _ store is c.as_str-in-Ok-Some-CloseBook.ensures names) (c.run_close.ensures.others told)
 
 pub returns-in-Ok-Some-Retire-clause-others : goal.returns-in-Ok-Some-Retire-clause-others
 returns-in-Ok-Some-Retire-clause-others g c = λ store names told.
@@ -135,6 +145,11 @@ returns-in-Ok-Some-Retire-clause-retire g c = λ store group asks.
     let is = rw (c.in-Ok-Some-Retire.field-0-is, c.in-Ok-Some-Retire.field-0-0-is) at c.in-Ok-Some-Retire.ensures in
     let (named, grouped) = retires_same _ _ _ store _ group is c.as_str-in-Ok-Some-Retire.ensures asks in
     inl (of_both (λ name got. WasRetired g.P.Place g.O.Sink name c.args.place.now c.run_retire.new.place got c.args.out.now c.run_retire.new.out c.run_retire.result) _ store _ group named grouped c.run_retire.ensures.retire)
+
+pub returns-in-Ok-Some-CloseBook-clause-close_book : goal.returns-in-Ok-Some-CloseBook-clause-close_book
+returns-in-Ok-Some-CloseBook-clause-close_book g c = λ store asks.
+    let is = rw (c.in-Ok-Some-CloseBook.field-0-is, c.in-Ok-Some-CloseBook.field-0-0-is) at c.in-Ok-Some-CloseBook.ensures in
+    inl (subst (λ (name : List ℕ). WasClosed g.P.Place g.O.Sink name c.args.place.now c.run_close.new.place c.args.out.now c.run_close.new.out c.run_close.result) (closes_same _ _ _ store is c.as_str-in-Ok-Some-CloseBook.ensures asks) c.run_close.ensures.closes)
 
 pub returns-in-Ok-Some-Lists-clause-lists : goal.returns-in-Ok-Some-Lists-clause-lists
 returns-in-Ok-Some-Lists-clause-lists g c = λ store asks.

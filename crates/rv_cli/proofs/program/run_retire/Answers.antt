@@ -1,8 +1,10 @@
 use Rattle.rv_cli.specs.Change.{change}
 use Rattle.rv_cli.proofs.Steady.{not_four, reply_is_none, taken_up}
 use Rattle.rv_keeper.specs.StoreLaws.{others_on}
-use Rattle.std.proofs.Common.{inr, sym, ◌∙◌}
-use Rattle.rv_cli.proofs.Sound.{refused_sound, retire_sound}
+use Rattle.rv_answering.specs.declared.line.Line.TheVariants.{Asks}
+use Rattle.rv_answering.specs.declared.request.Request.TheVariants.{Retire}
+use Rattle.std.proofs.Common.{Ok, inr, sym, ◌∙◌}
+use Rattle.rv_cli.proofs.Sound.{refused_sound, one_sound}
 use Rattle.rv_cli.proofs.Storing.{has_replied}
 use Rattle.rv_cli.proofs.program.run_retire.Goals as goal
 
@@ -10,13 +12,13 @@ pub returns-in-Ok-clause-retire : goal.returns-in-Ok-clause-retire
 returns-in-Ok-clause-retire g c = (
   c.write_reply.result,
   c.status.ensures,
-  inr (has_replied g.P.Place g.P.Kept.Keeper c.args.store.now c.args.place.now c.open_desk.new.place c.close_keeper.new.self c.in-Ok.desk c.args.group.now c.retired-answer.result
+  inr (has_replied g.P.Place g.P.Kept.Keeper c.args.store.now c.args.place.now c.open_desk.new.place c.close_keeper.new.self c.in-Ok.desk (Asks (Ok (Retire c.args.group.now))) c.retired-answer.result
       (g.O.Sink.state c.args.out.now) (g.O.Sink.state c.write_reply.new.out) c.write_reply.result
       c.in-Ok.ensures.opens c.retired-answer.ensures.retired (record { told = c.close_keeper.ensures.tells; honest = c.close_keeper.ensures.honest; held = c.close_keeper.ensures.kept; left = c.close_keeper.ensures.crash; taken = c.close_keeper.ensures.faults }) c.write_reply.ensures.replies),
 )
 
 pub returns-in-Ok-clause-sound : goal.returns-in-Ok-clause-sound
-returns-in-Ok-clause-sound g c = λ told kept. retire_sound (change g.P.Place c.args.store.now c.args.place.now c.close_keeper.new.self) told kept _ _ _ _ (returns-in-Ok-clause-retire g c)
+returns-in-Ok-clause-sound g c = λ told kept. one_sound (change g.P.Place c.args.store.now c.args.place.now c.close_keeper.new.self) told kept _ _ _ _ (returns-in-Ok-clause-retire g c)
 
 pub returns-in-Err-clause-sound : goal.returns-in-Err-clause-sound
 returns-in-Err-clause-sound g c = λ told kept. refused_sound (change g.P.Place c.args.store.now c.args.place.now c.open_desk.new.place) told kept c.in-Err.ending _ c.in-Err.ensures.opens.0 c.refuse_opening.ensures.status
