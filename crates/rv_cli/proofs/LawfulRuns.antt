@@ -1,5 +1,5 @@
 -- Runs keep the law, each pull is shown, and each trouble has its cause.
-use Rattle.std.proofs.Common.{◌≡◌, ℕ, List, [], ◌∷◌, ◌++◌, ◌≤◌, ◌<◌, ◌+◌, ◌-◌, ◌^◌, length, Option, Some, None, IfSome, Ok, Err, refl, sym, ap, ◌∙◌, subst, inl, inr, arith}
+use Rattle.std.proofs.Common.{◌≡◌, ℕ, List, [], ◌∷◌, ◌++◌, ◌≤◌, ◌<◌, ◌+◌, ◌-◌, ◌^◌, length, Bool, false, ◌||◌, Option, Some, None, IfSome, Ok, Err, refl, sym, ap, ◌∙◌, subst, inl, inr, arith}
 use Rattle.rv_book.specs.Book.{Book, size, Extends}
 use Rattle.rv_book.specs.BookWords.{extends_same, size-with_entry}
 use Rattle.rv_history.specs.Machine.{Step}
@@ -9,17 +9,17 @@ use Rattle.rv_history.specs.LawfulBooks.{lawful_more}
 use Rattle.rv_history.specs.Openings.{closes_lawful}
 use Rattle.rv_history.specs.Served.{Doubt, MayStand, Served, Settles, IsSound, TakesTurn}
 use Rattle.rv_history.specs.TurnLaws.{goes_from, settles_go, step_of}
-use Rattle.rv_history.specs.Laws.{IdsCountUp, OrdersRise, TurnsKeepLaw, PullsShow}
+use Rattle.rv_history.specs.Laws.{IdsCountUp, IsEntered, OrdersRise, PushesStand, TurnsKeepLaw, PullsShow}
 use Rattle.rv_answering.specs.declared.answer.Answer.{Answer}
-use Rattle.rv_answering.specs.declared.answer.Answer.TheVariants.{Pulled}
+use Rattle.rv_answering.specs.declared.answer.Answer.TheVariants.{Pulled, Pushed}
 use Rattle.rv_answering.specs.declared.request.Request.TheVariants.{Push, Pull, Retire}
 use Rattle.rv_answering.specs.declared.line.Line.{Line}
 use Rattle.rv_answering.specs.declared.line.Line.TheVariants.{Asks, Close, Stop}
 use Rattle.rv_answering.specs.Requests.{Parsed}
-use Rattle.rv_answering.specs.AnswerLaws.{no_push, pulled_same}
+use Rattle.rv_answering.specs.AnswerLaws.{no_push, pulled_same, went}
 use Rattle.rv_answering.specs.Steps.{answer_of}
 use Rattle.rv_cli.specs.Closings.{IsSoundClosable, SettlesAll}
-use Rattle.rv_history.specs.Succession.{GoesOnFrom, goes_on_same, goes_on_through}
+use Rattle.rv_history.specs.Succession.{GoesOnFrom, MutationsStay, goes_on_same, goes_on_through}
 use Rattle.rv_cli.specs.Headline.{Handles, Reopens, TakesLine, Run, ShowsAt, IsLawfulFeed, IsShown}
 use Rattle.rv_cli.proofs.Troubled.{any_step_causes}
 use Rattle.rv_wire.specs.Answers.{pull_json}
@@ -30,7 +30,14 @@ use Rattle.rv_turns.specs.declared.close_answer.CloseAnswer.TheVariants as close
 use Rattle.rv_turns.specs.declared.refusal.Refusal.TheVariants as refusals
 use Rattle.rv_turns.specs.declared.refusal.Trouble.{Trouble}
 use Rattle.rv_turns.specs.declared.refusal.Trouble.TheVariants.{Keeper, Changed}
-use Rattle.rv_turns.specs.Asks.{Ask}
+use Rattle.rv_turns.specs.Asks.{Sender, Ask}
+use Rattle.rv_turns.specs.Outcomes.{has_acted, refusal_of}
+use Rattle.rv_turns.specs.Pushing.{Pushes}
+use Rattle.rv_turns.specs.declared.mutation.Mutation.{Mutation}
+use Rattle.rv_turns.specs.declared.refusal.Refusal.{Refusal}
+use Rattle.rv_wire.specs.declared.push.Push as pushes
+use Rattle.std.specs.List.{AllByRecursion}
+use Rattle.std.specs.Option.{MatchOption}
 use Rattle.rv_turns.specs.declared.outcome.Outcome.{Outcome}
 use Rattle.rv_turns.specs.declared.outcome.Outcome.TheVariants as outcomes
 
@@ -261,6 +268,34 @@ module _ (turns : TurnsKeepLaw pull_json) where
       let kept = run_keeps Told first now lines answers run sound in
       record { sound = kept.sound; more = kept.more; ids = λ client. ids now.served.book client kept.sound.sound.lawful; orders = λ group. orders now.served.book group kept.sound.sound.lawful; later = kept.later; limit = kept.limit }
 
+  -- a mutation that is not refused stands
+  one_stands : PushesStand pull_json → (from : Sender) (m : Mutation) (old mid : Closable) (outcome : Outcome) → refusal_of outcome ≡ None → TakesClosable pull_json old (Ask.mutation from m) outcome mid → IsSoundClosable old → 1 ≤ m.id → IsEntered from mid.served.book m
+  one_stands stand from m old mid outcome none (inl taken) sound first =
+      let settled = settled_first old taken.settled sound taken.settles in
+      let rest = subst (λ (r : Option Refusal). MatchOption r (Pushes (TakesTurn pull_json) from [] mid.served None false mid.served) (λ refusal. (None ≡ Some refusal) × (false ≡ false) × (mid.served ≡ mid.served))) (sym none) (refl, refl, refl) in
+      (stand from (m ∷ []) taken.settled mid.served (has_acted outcome || false) (outcome, mid.served, false, taken.turn, refl, rest) settled.sound.sound).0 first
+  one_stands stand from m old mid outcome none (inr (trouble, is, stays)) sound first = absurd (let both = sym (ap refusal_of is) ∙ none in cc)
+
+  all_stand : PushesStand pull_json → MutationsStay → (from : Sender) (ms : List Mutation) (old new : Closable) (acted : Bool) → Pushes (TakesClosable pull_json) from ms old None acted new → IsSoundClosable old
+      → AllByRecursion (λ m. 1 ≤ m.id → IsEntered from new.served.book m) ms × Goes old new
+  all_stand stand stay from [] old new acted (is, none, same) sound = (tt, subst (λ (s : Closable). Goes old s) (sym same) (goes_none old sound))
+  all_stand stand stay from (m ∷ ms) old new acted (outcome, mid, later, step, acts, rest) sound = by (refusal_of outcome) refl rest (turn_goes (Ask.mutation from m) old mid outcome step sound) (all_stand stand stay from ms mid new later)
+    where
+      by : (refused : Option Refusal) → refusal_of outcome ≡ refused → MatchOption refused (Pushes (TakesClosable pull_json) from ms mid None later new) (λ refusal. (None ≡ Some refusal) × (later ≡ false) × (new ≡ mid)) → Goes old mid
+          → (Pushes (TakesClosable pull_json) from ms mid None later new → IsSoundClosable mid → AllByRecursion (λ m. 1 ≤ m.id → IsEntered from new.served.book m) ms × Goes mid new)
+          → AllByRecursion (λ m. 1 ≤ m.id → IsEntered from new.served.book m) (m ∷ ms) × Goes old new
+      by None none rest goes more =
+          let on = more rest goes.sound in
+          (((λ first. stay from m mid.served.book new.served.book goes.sound.sound.lawful on.1.more (one_stands stand from m old mid outcome none step sound first)), on.0), goes_on old mid new goes on.1)
+      by (Some refusal) some (never, none, same) goes more = absurd (cc)
+
+  pub steps_stand : PushesStand pull_json → MutationsStay → (point new : Closable) (user : List ℕ) (push : pushes.Push) → IsSoundClosable point → Handles point (Ok (Push user push)) Pushed new
+      → AllByRecursion (λ m. 1 ≤ m.id → IsEntered (record { user = user; group = push.group }) new.served.book m) push.mutations
+  steps_stand stand stay point new user push sound (acted, inl wants) = absurd (let no = wants.0 in cc)
+  steps_stand stand stay point new user push sound (acted, inr (refused, pushed, is)) =
+      let from : Sender = record { user = user; group = push.group } in
+      (all_stand stand stay from push.mutations point new acted (subst (λ (r : Option Refusal). Pushes (TakesClosable pull_json) from push.mutations point r acted new) (went refused is) pushed) sound).0
+
 -- no retirement is answered by a reply
 pub no_retirement : (old new : Served) (group : List ℕ) (reply : PullReply) (outcome : Outcome) → Pulled reply ≡ answer_of outcome → TakesTurn pull_json old (Ask.retirement group) outcome new → ⊥
 no_retirement old new group reply outcome is taken =
@@ -301,6 +336,9 @@ shown_at show point new (Ok (Pull user pull)) reply (acted, inr (outcome, h, is,
 shown_at show point new (Ok (Retire group)) reply (acted, (outcome, h, is, none)) = absurd (no_closable_retirement point new group reply outcome is h)
 shown_at show point new (Err fault) reply (acted, inl wants) = absurd (let no = wants.0 in cc)
 shown_at show point new (Err fault) reply (acted, inr told) = absurd (let no = told.0 in cc)
+
+pub steps_show : PullsShow pull_json → (point new : Closable) (asked : Parsed) (reply : PullReply) → Handles point asked (Pulled reply) new → (settled : Book) × SettlesAll point settled × ShowsAt asked reply settled new.served.book × Extends new.served.book settled
+steps_show show point new asked reply step = let at = shown_at show point new asked reply step in (at.settled, at.settles, at.shows, at.here)
 
 pub pulls_are_shown : TurnsKeepLaw pull_json → PullsShow pull_json → (Told : Type 0) (first now : Closable) (before after : List Line) (answered answers : List (Option Answer)) (asked : Parsed) (reply : PullReply) → IsSoundClosable first → length before ≡ length answered
     → Run Told first (before ++ Asks asked ∷ after) (answered ++ Some (Pulled reply) ∷ answers) now → IsShown Told first now before answered asked reply

@@ -19,7 +19,7 @@ use Rattle.rv_history.specs.Closable.{Closable, TakesClosable, TakesClosing, ope
 use Rattle.rv_history.specs.Served.{Served, IsSound}
 use Rattle.rv_history.specs.Succession.{GoesOnFrom}
 use Rattle.rv_history.specs.Replay.{IsReplay}
-use Rattle.rv_history.specs.Laws.{act_ids, look_orders, ReplyShows}
+use Rattle.rv_history.specs.Laws.{act_ids, look_orders, IsEntered, ReplyShows}
 use Rattle.rv_keeper.specs.declared.loaded.Loaded.{Loaded}
 use Rattle.rv_keeper.specs.Stores.{TakesUp}
 use Rattle.rv_keeper.specs.Crashes.{LeavesMore}
@@ -28,9 +28,9 @@ use Rattle.rv_store.specs.Opening.{MayOpen, IsDamaged}
 use Rattle.rv_report.specs.Lists.{lists_text}
 use Rattle.rv_report.specs.Activity.{activity_text}
 use Rattle.rv_import.specs.Views.{IsView, view_text}
-use Rattle.rv_answering.specs.declared.request.Request.TheVariants.{Pull}
+use Rattle.rv_answering.specs.declared.request.Request.TheVariants.{Pull, Push}
 use Rattle.rv_answering.specs.declared.answer.Answer.{Answer}
-use Rattle.rv_answering.specs.declared.answer.Answer.TheVariants.{Pulled, Refused}
+use Rattle.rv_answering.specs.declared.answer.Answer.TheVariants.{Pulled, Pushed, Refused}
 use Rattle.rv_answering.specs.declared.line.Line.{Line}
 use Rattle.rv_answering.specs.declared.line.Line.TheVariants.{Asks, Stop, Close}
 use Rattle.rv_answering.specs.Requests.{Parsed, line_of}
@@ -49,6 +49,7 @@ use Rattle.rv_turns.specs.declared.refusal.Trouble.{Trouble}
 use Rattle.rv_turns.specs.declared.pull.PullRequest.{PullRequest}
 use Rattle.rv_turns.specs.declared.pull.PullReply.{PullReply}
 use Rattle.rv_turns.specs.declared.refusal.Refusal.TheVariants as refusals
+use Rattle.rv_wire.specs.declared.push.Push as pushes
 use Rattle.rv_wire.specs.declared.error_body.ErrorBody.TheVariants as errors
 use Rattle.rv_answering.specs.Steps as steps
 -- A pull reads at most as many rows and clients as the view at its base and the view now have: a clause of `pull` of a desk and of
@@ -452,6 +453,16 @@ pub record IsShown (Told : Type 0) (first now : Closable) (before : List Line) (
 abbrev pub PullsAreShown : Type 0
 PullsAreShown = (told : Bool) (first now : Closable) (before after : List Line) (answered answers : List (Option Answer)) (asked : Parsed) (reply : PullReply) → IsSoundClosable first → length before ≡ length answered
     → Run (told ≡ true) first (before ++ Asks asked ∷ after) (answered ++ Some (Pulled reply) ∷ answers) now → IsShown (told ≡ true) first now before answered asked reply
+
+-- Each pull that a server answers is answered at its settled book, from which the book that is left goes on, and shows what its user sees there.
+abbrev pub StepsShow : Type 0
+StepsShow = (point new : Closable) (asked : Parsed) (reply : PullReply) → Handles point asked (Pulled reply) new → (settled : Book) × SettlesAll point settled × ShowsAt asked reply settled new.served.book × Extends new.served.book settled
+
+-- Each mutation of a push that a sound server does not refuse stands in the book that is left; but for an id of 0, which is skipped and stands
+-- nowhere.
+abbrev pub StepsStand : Type 0
+StepsStand = (point new : Closable) (user : List ℕ) (push : pushes.Push) → IsSoundClosable point → Handles point (Ok (Push user push)) Pushed new
+    → AllByRecursion (λ m. 1 ≤ m.id → IsEntered (record { user = user; group = push.group }) new.served.book m) push.mutations
 
 -- the answer is a trouble with what keeps the book
 abbrev pub AnswersTrouble : Option Answer → Type 0

@@ -1,7 +1,7 @@
 //! What follows from the clause of [`run`](crate::run), as contracts of functions that do nothing: a check of the crate
 //! proves them.
 ghost use Rattle.rv_accounts.specs.File.{AccountsServed};
-ghost use Rattle.rv_cli.specs.Headline.{BooksAreLawful, PullsAreShown, TroublesHaveCauses};
+ghost use Rattle.rv_cli.specs.Headline.{BooksAreLawful, PullsAreShown, StepsShow, StepsStand, TroublesHaveCauses};
 ghost use Rattle.rv_cli.specs.Serving.{ServedBooksAreLawful, ServedKeepersStay, ServedPullsAreShown, ServedTroublesHaveCauses, TurnsStand};
 
 use rv_keeper::Keeper;
@@ -24,6 +24,23 @@ pub fn pulls_are_shown()
 {
     rv_history::laws::turns_keep_law();
     rv_history::laws::pulls_show();
+}
+
+/// The same of each server and each step of it, from whose book the run goes on.
+pub fn steps_show()
+    ensures { StepsShow }
+{
+    rv_history::laws::pulls_show();
+}
+
+/// Each mutation of a push that is answered as done stands in the book that its step leaves, as an act of its user, group and client with
+/// its id, or its client's last id on the page says that it had run; but for an id of 0, which is skipped and stands nowhere.
+pub fn steps_stand()
+    ensures { StepsStand }
+{
+    rv_history::laws::turns_keep_law();
+    rv_history::laws::pushes_stand();
+    rv_history::laws::mutations_stay();
 }
 
 /// An answer that tells a trouble with what keeps the book comes only where a fault of that rose.
