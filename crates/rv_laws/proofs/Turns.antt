@@ -1,68 +1,128 @@
--- One turn of a run: the run before it, its step, and that the book goes on from there.
-use Rattle.std.proofs.Common.{◌≡◌, ℕ, ◌≤◌, inl, inr, List, [], ◌∷◌, ◌++◌, length, true, Option, Some, Ok, refl, sym, subst, arith}
+-- One turn of a run: the run before it, its step, and that the book goes on from there, in one of the books of the run.
+use Rattle.std.proofs.Common.{◌≡◌, ℕ, ◌≤◌, ◌<◌, inl, inr, List, [], ◌∷◌, ◌++◌, length, map, true, Option, Some, refl, sym, ap, subst, arith}
 use Rattle.std.specs.List.{AllByRecursion, Contains}
-use Rattle.std.proofs.lemmas.List.Elements.{Contains-append_left}
+use Rattle.std.proofs.lemmas.List.Elements.{Contains-append_left, Contains-append_right}
 use Rattle.rv_book.specs.declared.entry.Entry.TheVariants.{Act}
-use Rattle.rv_book.specs.Book.{Book, last, opening, Extends}
-use Rattle.rv_history.specs.Laws.{IsEntered, PushesStand}
-use Rattle.rv_history.specs.Served.{Served, IsSound, TakesTurn}
+use Rattle.rv_book.specs.Book.{Book, last, opening, size, Extends}
+use Rattle.rv_history.specs.Clients.{AreSuccessive}
+use Rattle.rv_history.specs.Closable.{Closable}
+use Rattle.rv_history.specs.Laws.{IsEntered}
+use Rattle.rv_history.specs.Lawful.{IsLawful}
+use Rattle.rv_history.specs.Succession.{GoesOnBy, GoesOnFrom, MutationsStay, books_of, goes_on_by, goes_on_same}
 use Rattle.rv_answering.specs.declared.answer.Answer.{Answer}
-use Rattle.rv_answering.specs.declared.answer.Answer.TheVariants.{Pushed}
 use Rattle.rv_answering.specs.declared.line.Line.{Line}
 use Rattle.rv_answering.specs.declared.line.Line.TheVariants.{Asks}
-use Rattle.rv_answering.specs.declared.request.Request.TheVariants.{Push}
 use Rattle.rv_answering.specs.Requests.{Parsed}
-use Rattle.rv_answering.specs.AnswerLaws.{went}
-use Rattle.rv_wire.specs.Answers.{pull_json}
-use Rattle.rv_cli.specs.Headline.{BooksAreLawful, Run, Handles, TakesLine}
+use Rattle.rv_cli.specs.Closings.{IsSoundClosable}
+use Rattle.rv_cli.specs.Headline.{BooksAreLawful, Run, TakesLine}
 use Rattle.rv_turns.specs.Asks.{Sender}
-use Rattle.rv_turns.specs.Pushing.{Pushes}
 use Rattle.rv_turns.specs.declared.mutation.Mutation.{Mutation}
-use Rattle.rv_turns.specs.declared.refusal.Refusal.{Refusal}
 use Rattle.rv_wire.specs.declared.push.Push as pushes
 
 -- what is kept is told
 abbrev pub Yes : Type 0
 Yes = true ≡ true
 
+-- ---- The books of a run.
+
+pub run_goes : BooksAreLawful → (first now : Closable) (lines : List Line) (answers : List (Option Answer)) → Run Yes first lines answers now → IsSoundClosable first → GoesOnFrom first.served.book now.served.book
+run_goes law first now [] [] same sound = goes_on_same first.served.book now.served.book (ap (λ (s : Closable). s.served.book) same)
+run_goes law first now [] (answer ∷ answers) never sound = absurd never
+run_goes law first now (line ∷ lines) [] never sound = absurd never
+run_goes law first now (line ∷ lines) (answer ∷ answers) (mid, takes, rest) sound =
+    let kept = law true first mid (line ∷ []) (answer ∷ []) (mid, takes, refl) sound in
+    let one = kept.more refl in
+    let more = run_goes law mid now lines answers rest kept.sound in
+    (one.0 ++ more.0, goes_on_by first.served.book mid.served.book now.served.book one.0 more.0 one.1 more.1)
+
+-- the first of the books
+abbrev first_of : List (Book × Book) → Book → Book
+first_of [] now = now
+first_of (closing ∷ closings) now = closing.0
+
+first_goes : (old now : Book) (closings : List (Book × Book)) → GoesOnBy old closings now → Extends (first_of closings now) old
+first_goes old now [] goes = goes
+first_goes old now (closing ∷ closings) goes = goes.0
+
+first_among : (now : Book) (closings : List (Book × Book)) → Contains (books_of closings now) (first_of closings now)
+first_among now [] = (0, omega arith, refl)
+first_among now (closing ∷ closings) = (0, omega arith, refl)
+
+-- those of what follows are among all
+among_more : (now book : Book) (closings more : List (Book × Book)) → Contains (books_of more now) book → Contains (books_of (closings ++ more) now) book
+among_more now book [] more among = among
+among_more now book (closing ∷ closings) more among = Contains-append_right (closing.0 ∷ []) (books_of (closings ++ more) now) book (among_more now book closings more among)
+
+-- none of the books is longer than the last
+last_of : {X : Type 0} (P : X → Type 0) (xs : List X) (x : X) → AllByRecursion P (xs ++ x ∷ []) → P x
+last_of P [] x all = all.0
+last_of P (y ∷ xs) x all = last_of P xs x all.1
+
+pub each_shorter : (now : Book) (closings : List (Book × Book)) → AreSuccessive (books_of closings now) → AllByRecursion (λ book. size book ≤ size now) (books_of closings now)
+each_shorter now [] successive = (omega arith, tt)
+each_shorter now (closing ∷ closings) (before, successive) =
+    let last = last_of (λ (later : Book). size closing.0 < later.page.at) (map (λ (c : Book × Book). c.0) closings) now before in
+    (omega (arith, last), each_shorter now closings successive)
+
 -- ---- A turn.
 
-pub record At (first now : Served) (before : List Line) (answered : List (Option Answer)) (asked : Parsed) (answer : Answer) : Type 0 where
-  pub point : Served
-  pub new : Served
+pub record At (first now : Closable) (before : List Line) (answered : List (Option Answer)) (asked : Parsed) (answer : Answer) (closings : List (Book × Book)) : Type 0 where
+  pub point : Closable
+  pub new : Closable
   pub run : Run Yes first before answered point
-  pub sound : IsSound point
+  pub sound : IsSoundClosable point
   pub takes : TakesLine Yes point (Asks asked) (Some answer) new
-  pub more : Extends now.book new.book
+  pub lawful : IsLawful new.served.book
+  pub more : GoesOnFrom new.served.book now.served.book
+  pub book : Book
+  pub among : Contains (books_of closings now.served.book) book
+  pub within : Extends book new.served.book
 
-pub turn_at : BooksAreLawful → (first now : Served) (before after : List Line) (answered others : List (Option Answer)) (asked : Parsed) (answer : Answer) → IsSound first → length before ≡ length answered
-    → Run Yes first (before ++ Asks asked ∷ after) (answered ++ Some answer ∷ others) now → At first now before answered asked answer
+pub turn_at : (law : BooksAreLawful) (first now : Closable) (before after : List Line) (answered others : List (Option Answer)) (asked : Parsed) (answer : Answer) (sound : IsSoundClosable first) → length before ≡ length answered
+    → (run : Run Yes first (before ++ Asks asked ∷ after) (answered ++ Some answer ∷ others) now) → At first now before answered asked answer (run_goes law first now (before ++ Asks asked ∷ after) (answered ++ Some answer ∷ others) run sound).0
 turn_at law first now [] after [] others asked answer sound same (mid, takes, rest) =
     let kept = law true first mid (Asks asked ∷ []) (Some answer ∷ []) (mid, takes, refl) sound in
-    record { point = first; new = mid; run = refl; sound = sound; takes = takes; more = (law true mid now after others rest kept.sound).more refl }
+    let more = run_goes law mid now after others rest kept.sound in
+    record {
+      point = first;
+      new = mid;
+      run = refl;
+      sound = sound;
+      takes = takes;
+      lawful = kept.sound.sound.lawful;
+      more = more;
+      book = first_of more.0 now.served.book;
+      among = among_more now.served.book (first_of more.0 now.served.book) (kept.more refl).0 more.0 (first_among now.served.book more.0);
+      within = first_goes mid.served.book now.served.book more.0 more.1;
+    }
 turn_at law first now [] after (x ∷ answered) others asked answer sound same run = absurd (omega (arith, same))
 turn_at law first now (a ∷ before) after [] others asked answer sound same run = absurd (omega (arith, same))
 turn_at law first now (a ∷ before) after (x ∷ answered) others asked answer sound same (mid, takes, rest) =
     let kept = law true first mid (a ∷ []) (x ∷ []) (mid, takes, refl) sound in
     let at = turn_at law mid now before after answered others asked answer kept.sound (omega (arith, same)) rest in
-    record { point = at.point; new = at.new; run = (mid, takes, at.run); sound = at.sound; takes = at.takes; more = at.more }
+    record {
+      point = at.point;
+      new = at.new;
+      run = (mid, takes, at.run);
+      sound = at.sound;
+      takes = at.takes;
+      lawful = at.lawful;
+      more = at.more;
+      book = at.book;
+      among = among_more now.served.book at.book (kept.more refl).0 (run_goes law mid now (before ++ Asks asked ∷ after) (answered ++ Some answer ∷ others) rest kept.sound).0 at.among;
+      within = at.within;
+    }
 
--- ---- Of a push that was not refused each mutation stands.
+-- ---- What is entered stays so.
+
+pub all_stay : MutationsStay → (from : Sender) (ms : List Mutation) (old new : Book) → IsLawful old → GoesOnFrom old new → AllByRecursion (λ m. 1 ≤ m.id → IsEntered from old m) ms → AllByRecursion (λ m. 1 ≤ m.id → IsEntered from new m) ms
+all_stay stay from [] old new lawful goes all = tt
+all_stay stay from (m ∷ ms) old new lawful goes (one, all) = (λ first. stay from m old new lawful goes (one first), all_stay stay from ms old new lawful goes all)
 
 abbrev pub AllStand : List ℕ → pushes.Push → Book → Type 0
 AllStand user push book = AllByRecursion (λ m. 1 ≤ m.id → IsEntered (record { user = user; group = push.group }) book m) push.mutations
-
-pub step_stands : PushesStand pull_json → (point new : Served) (user : List ℕ) (push : pushes.Push) → Handles point (Ok (Push user push)) Pushed new → IsSound point → AllStand user push new.book
-step_stands stand point new user push (acted, inl wants) sound = absurd (let no = wants.0 in cc)
-step_stands stand point new user push (acted, inr (refused, pushed, is)) sound =
-    let from : Sender = record { user = user; group = push.group } in
-    stand from push.mutations point new acted (subst (λ (r : Option Refusal). Pushes (TakesTurn pull_json) from push.mutations point r acted new) (went refused is) pushed) sound
 
 pub entered_later : (from : Sender) (m : Mutation) (book new : Book) → Extends new book → IsEntered from book m → IsEntered from new m
 entered_later from m book new (more, is) (inl (call, there)) =
     inl (call, subst (λ (b : Book). Contains b.entries (Act from.user from.group m.client m.id call)) (sym is) (Contains-append_left book.entries more (Act from.user from.group m.client m.id call) there))
 entered_later from m book new (more, is) (inr early) = inr (subst (λ (b : Book). m.id ≤ last m.client (opening b)) (sym is) early)
-
-pub all_later : (from : Sender) (ms : List Mutation) (book new : Book) → Extends new book → AllByRecursion (λ m. 1 ≤ m.id → IsEntered from book m) ms → AllByRecursion (λ m. 1 ≤ m.id → IsEntered from new m) ms
-all_later from [] book new goes all = tt
-all_later from (m ∷ ms) book new goes (one, all) = (λ first. entered_later from m book new goes (one first), all_later from ms book new goes all)

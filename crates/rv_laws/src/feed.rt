@@ -39,7 +39,8 @@ pub fn pushes_stand<P: Place>()
     ensures { FedPushesStand P.Place }
 {
     rv_cli::laws::books_are_lawful();
-    rv_history::laws::pushes_stand();
+    rv_cli::laws::steps_stand();
+    rv_history::laws::mutations_stay();
 }
 
 /// A client that begins with nothing, and applies the replies that it got, holds after each of its pulls exactly what its user sees at
@@ -48,6 +49,7 @@ pub fn clients_follow<P: Place>()
     ensures { FedClientsFollow P.Place }
 {
     rv_cli::laws::books_are_lawful();
-    rv_cli::laws::pulls_are_shown();
-    rv_history::laws::clients_follow();
+    rv_cli::laws::steps_show();
+    rv_history::laws::closed_books_are_successive();
+    rv_history::laws::clients_follow_on();
 }
