@@ -1,1 +1,2 @@
-mod Actors
+mod Names
+mod Replays

@@ -1,4 +1,4 @@
-ghost use Rattle.std.specs.Prelude.{◌≡◌, ◌<◌, ◌^◌, ◌++◌, ◌∷◌, length, map, not, option_map, option_and_then, Some, IfOk, OnOk};
+ghost use Rattle.std.specs.Prelude.{◌≡◌, ◌++◌, ◌∷◌, map, not, option_map, option_and_then, Some, IfOk, OnOk};
 ghost use Rattle.std.specs.List.{filter};
 ghost use Rattle.std.specs.Str.{bytes_eq};
 ghost use Rattle.rv_base.specs.Sorted.{InOrder};
@@ -7,13 +7,15 @@ ghost use Rattle.rv_rows.specs.Keys.{key_text, row_at, row_key, row_text};
 ghost use Rattle.rv_rows.specs.Sharing.{seen};
 ghost use Rattle.rv_rows.specs.declared.row.Row.TheVariants.{Todo};
 ghost use Rattle.rv_turns.specs.declared.op.Op.TheVariants.{Clear, Del, Put};
-ghost use Rattle.rv_book.specs.Book.{book_of};
 ghost use Rattle.rv_history.specs.Replay.{rows_after, rows_of};
 ghost use Rattle.rv_history.specs.Bases.{base_group};
 ghost use Rattle.rv_history.specs.History.{ids_since, is_absent, is_among, is_news, is_touched, is_written, patch_since};
 
-use crate::book::{ids, rows_after, rows_of};
-use crate::looks::{look_at, split};
+use crate::book::{rows_after, rows_of};
+use crate::copies::copy_rows;
+use crate::looks::look_at;
+use crate::plain_book::PlainBook;
+use crate::registers::ids;
 use crate::rows::{has_row, seen};
 use rv_base::{Id, Memory, Num, Sequence, User};
 use rv_book::Entry;
@@ -31,8 +33,8 @@ fn same_todo(a: &TodoRow, b: &TodoRow) -> bool
         && a.sort == b.sort
 }
 
-// Whether the two rows are the same.
-fn same_row(a: &Row, b: &Row) -> bool
+/// Whether the two rows are the same.
+pub(crate) fn same_row(a: &Row, b: &Row) -> bool
     ensures { result ≡ same_row a.now b.now }
 {
     match (a, b) {
@@ -80,16 +82,6 @@ fn is_written(kind: Kind, id: &Id, before: &[Row], after: &[Row]) -> bool
         },
         None => false,
     }
-}
-
-fn copy_rows(alloc: Global, rows: &[Row]) -> Result<Vec<Row>, Memory>
-    ensures { IfOk result (λ v. v.items ≡ rows.now) }
-{
-    let mut copies = Vec::new(alloc);
-    for row in rows {
-        copies.push(row.copy(alloc)?)?;
-    }
-    Ok(copies)
 }
 
 // The rows after one more entry, apart from those before it.
@@ -199,24 +191,24 @@ fn all(alloc: Global, rows: &[Row]) -> Result<Ops, Memory>
 }
 
 // The rows that a user sees at a book.
-fn seen_at(alloc: Global, book: &[Entry], user: &User) -> Result<Vec<Row>, Memory>
-    ensures { IfOk result (λ v. v.items ≡ seen user.now (rows_of (book_of book.now))) }
+fn seen_at(alloc: Global, book: &PlainBook, user: &User) -> Result<Vec<Row>, Memory>
+    ensures { IfOk result (λ v. v.items ≡ seen user.now (rows_of book.now)) }
 {
     let rows = rows_of(alloc, book)?;
     seen(alloc, &rows, user)
 }
 
 // The patch since a place.
-fn patch_after(alloc: Global, book: &[Entry], user: &User, place: u32) -> Result<Ops, Memory>
-    ensures { IfOk result (λ ops. ops ≡ patch_since user.now (book_of book.now) (Some place)) }
+fn patch_after(alloc: Global, book: &PlainBook, user: &User, place: u32) -> Result<Ops, Memory>
+    ensures { IfOk result (λ ops. ops ≡ patch_since user.now book.now (Some place)) }
 {
-    let (before, since) = split(book, place);
-    let rows = rows_of(alloc, before)?;
+    let before = book.up_to(alloc, place)?;
+    let rows = rows_of(alloc, &before)?;
     let base = seen(alloc, &rows, user)?;
     let now = seen_at(alloc, book, user)?;
     let mut ops = Sequence::new(alloc);
     add_dels(alloc, &mut ops, &base, &now)?;
-    add_puts(alloc, &mut ops, &base, &rows, since, &now)?;
+    add_puts(alloc, &mut ops, &base, &rows, book.since(place), &now)?;
     Ok(ops)
 }
 
@@ -225,11 +217,11 @@ fn patch_after(alloc: Global, book: &[Entry], user: &User, place: u32) -> Result
 /// is put.
 pub(crate) fn patch_since(
     alloc: Global,
-    book: &[Entry],
+    book: &PlainBook,
     user: &User,
     base: Option<u32>,
 ) -> Result<Ops, Memory>
-    ensures { IfOk result (λ ops. ops ≡ patch_since user.now (book_of book.now) base) }
+    ensures { IfOk result (λ ops. ops ≡ patch_since user.now book.now base) }
 {
     match base {
         Some(place) => patch_after(alloc, book, user, place),
@@ -266,30 +258,28 @@ fn others(alloc: Global, clients: &[(Id, Num)], those: &[(Id, Num)]) -> Result<C
 // The last mutation ids of a group's clients that another group did not have at a place.
 fn ids_after(
     alloc: Global,
-    book: &[Entry],
+    book: &PlainBook,
     group: &Id,
     place: u32,
     other: &Id,
 ) -> Result<Clients, Memory>
-    requires { length book.now < 2 ^ 53 }
-    ensures ids { IfOk result (λ v. v ≡ ids_since group.now (book_of book.now) (Some (place, other.now))) }
+    ensures ids { IfOk result (λ v. v ≡ ids_since group.now book.now (Some (place, other.now))) }
     ensures order { IfOk result (λ v. InOrder (λ pair. pair.0) v) }
 {
     let now = ids(alloc, book, group)?;
-    let (before, _) = split(book, place);
-    let those = ids(alloc, before, other)?;
+    let before = book.up_to(alloc, place)?;
+    let those = ids(alloc, &before, other)?;
     others(alloc, now.as_slice(), those.as_slice())
 }
 
 /// The last mutation ids of a group's clients that the base look's own group did not have at the base; all without a base.
 pub(crate) fn ids_since(
     alloc: Global,
-    book: &[Entry],
+    book: &PlainBook,
     group: &Id,
     base: Option<u32>,
 ) -> Result<Clients, Memory>
-    requires { length book.now < 2 ^ 53 }
-    ensures ids { IfOk result (λ v. v ≡ ids_since group.now (book_of book.now) (option_and_then (base_group (book_of book.now)) base)) }
+    ensures ids { IfOk result (λ v. v ≡ ids_since group.now book.now (option_and_then (base_group book.now) base)) }
     ensures order { IfOk result (λ v. InOrder (λ pair. pair.0) v) }
 {
     match base {

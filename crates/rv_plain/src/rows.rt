@@ -12,8 +12,8 @@ use rv_base::{Id, Memory, Num, Text, User};
 use rv_rows::{Call, Kind, ListRow, Role, Row, ShareRow, TodoRow};
 use std::alloc::Global;
 
-// Whether the row has the key of this kind and id.
-fn is_at(kind: Kind, id: &Id, row: &Row) -> bool
+/// Whether the row has the key of this kind and id.
+pub(crate) fn is_at(kind: Kind, id: &Id, row: &Row) -> bool
     ensures { result ≡ is_at kind id.now row.now }
 {
     row.kind() == kind && row.id() == id
@@ -345,9 +345,9 @@ fn put(rows: &mut Vec<Row>, row: Row) -> Result<(), Memory>
     }
 }
 
-// The rows in the order of their keys.
+/// The rows in the order of their keys.
 #[tactic(auto, using(std::proofs::lemmas::List::Sums::fold_more))]
-fn in_key_order(alloc: Global, rows: &[Row]) -> Result<Vec<Row>, Memory>
+pub(crate) fn in_key_order(alloc: Global, rows: &[Row]) -> Result<Vec<Row>, Memory>
     ensures rows { IfOk result (λ v. v.items ≡ in_key_order rows.now) }
     ensures order { IfOk result (λ v. InOrder row_text v.items) }
 {

@@ -1,27 +1,28 @@
-ghost use Rattle.std.specs.Prelude.{◌≡◌, ◌≤◌, ◌<◌, ◌+◌, ◌^◌, [], ◌↔◌, IsTrue, length, IfOk, OnOk, OnErr};
+ghost use Rattle.std.specs.Prelude.{◌≡◌, ◌≤◌, ◌<◌, [], ◌↔◌, IsTrue, IfOk, OnOk, OnErr};
 ghost use Rattle.rv_base.specs.Sorted.{InOrder};
 ghost use Rattle.rv_book.specs.declared.entry.Entry.TheVariants.{Act, Look, Retire};
-ghost use Rattle.rv_book.specs.Book.{book_of, empty_book, size, with_entry};
+ghost use Rattle.rv_book.specs.Book.{empty_book, size, with_entry};
 ghost use Rattle.rv_history.specs.Groups.{is_of_other, is_elsewhere, Admits};
 ghost use Rattle.rv_history.specs.Bases.{base_of};
 ghost use Rattle.rv_history.specs.Machine.{patch_for, ids_for};
 ghost use Rattle.rv_turns.specs.declared.refusal.Refusal.TheVariants as refusals;
 ghost use Rattle.rv_turns.specs.declared.refusal.Which.TheVariants as which;
 
-use crate::book::{bound, copies, group_of, last, last_order, retired};
+use crate::book::{bound, group_of, last, last_order, retired};
+use crate::closing::page_of;
 use crate::history::{ids_since, patch_since};
 use crate::looks::base_of;
+use crate::plain_book::PlainBook;
 use rv_base::{Id, Memory, Num, User};
-use rv_book::Entry;
 use rv_history::{entries, next_order};
 use rv_rows::{Call, Clients};
-use rv_turns::{Asked, Ops, Outcome, PullReply, PullRequest, Refusal, Turns, Which};
+use rv_turns::{Asked, CloseAnswer, Ops, Outcome, PullReply, PullRequest, Refusal, Turns, Which};
 use rv_wire::{look_reply, same_reply};
 use std::alloc::Global;
 use std::marker::Model;
 
-fn is_of_other(book: &[Entry], user: &User, group: &Id) -> bool
-    ensures { result ≡ is_of_other user.now group.now (book_of book.now) }
+fn is_of_other(book: &PlainBook, user: &User, group: &Id) -> bool
+    ensures { result ≡ is_of_other user.now group.now book.now }
 {
     match bound(book, group) {
         Some(owner) => owner != user,
@@ -29,8 +30,8 @@ fn is_of_other(book: &[Entry], user: &User, group: &Id) -> bool
     }
 }
 
-fn is_elsewhere(book: &[Entry], client: &Id, group: &Id) -> bool
-    ensures { result ≡ is_elsewhere client.now group.now (book_of book.now) }
+fn is_elsewhere(book: &PlainBook, client: &Id, group: &Id) -> bool
+    ensures { result ≡ is_elsewhere client.now group.now book.now }
 {
     match group_of(book, client) {
         Some(other) => other != group,
@@ -38,7 +39,7 @@ fn is_elsewhere(book: &[Entry], client: &Id, group: &Id) -> bool
     }
 }
 
-// The refusal of a book that has so many entries, and may have no more.
+// The refusal of a book that is so long, and may become no longer.
 fn full(limit: u32) -> Refusal
     ensures { result ≡ refusals.Limit which.Book limit }
 {
@@ -65,14 +66,13 @@ impl PullNews {
 // What a pull is told at a book.
 fn news_at(
     alloc: Global,
-    book: &[Entry],
+    book: &PlainBook,
     user: &User,
     request: &PullRequest,
 ) -> Result<PullNews, Memory>
-    requires { length book.now < 2 ^ 32 }
-    ensures base { IfOk result (λ news. news.base ≡ base_of user.now request.now.cookie (book_of book.now)) }
-    ensures ops { IfOk result (λ news. news.ops ≡ patch_for user.now request.now (book_of book.now)) }
-    ensures ids { IfOk result (λ news. news.ids ≡ ids_for user.now request.now (book_of book.now)) }
+    ensures base { IfOk result (λ news. news.base ≡ base_of user.now request.now.cookie book.now) }
+    ensures ops { IfOk result (λ news. news.ops ≡ patch_for user.now request.now book.now) }
+    ensures ids { IfOk result (λ news. news.ids ≡ ids_for user.now request.now book.now) }
     ensures order { IfOk result (λ news. InOrder (λ pair. pair.0) news.ids) }
 {
     let base = base_of(book, user, &request.cookie);
@@ -84,63 +84,54 @@ fn news_at(
 /// A server that has nothing but its book, and replays it at each pull.
 #[derive(Drop)]
 pub struct PlainDesk {
-    entries: Vec<Entry>,
+    book: PlainBook,
     limit: u32,
     alloc: Global,
 }
 
 impl Model for PlainDesk {
-    ghost use Rattle.std.specs.Prelude.{◌≤◌, length};
-    ghost use Rattle.rv_book.specs.Book.{book_of};
+    ghost use Rattle.std.specs.Prelude.{◌+◌, ◌≤◌, length};
     ghost use Rattle.rv_plain.specs.Plain.{Plain};
 
     ghost Value = { Plain };
 
-    ghost view = { λ d. record { book = book_of d.entries.items; limit = d.limit } };
+    ghost view = { λ d. record { book = d.book; limit = d.limit } };
 
-    ghost invariant = { λ d. length d.entries.items ≤ d.limit };
+    ghost invariant = { λ d. d.book.page.at + length d.book.entries ≤ d.limit };
 }
 
 impl PlainDesk {
     ghost use Rattle.rv_history.specs.Machine.{Step, next_order, reply_to};
-    ghost use Rattle.rv_plain.specs.Plain.{Hinders};
+    ghost use Rattle.rv_plain.specs.Plain.{ClosesOrStays, Hinders};
     ghost use Rattle.rv_turns.specs.Asks.{Ask};
     ghost use Rattle.rv_wire.specs.Answers.{pull_json};
 
-    /// A server with the empty book, which takes at most so many entries.
+    /// A server with the empty book, which may become so long.
     pub fn new(alloc: Global, limit: u32) -> PlainDesk
         ensures book { result.book ≡ empty_book }
         ensures limit { result.limit ≡ limit }
     {
         PlainDesk {
-            entries: Vec::new(alloc),
+            book: PlainBook::empty(alloc),
             limit,
             alloc,
         }
     }
 
-    /// A server with a copy of this book, which takes at most so many entries.
-    pub fn with(alloc: Global, book: &[Entry], limit: u32) -> Result<PlainDesk, Memory>
-        requires { length book.now ≤ limit }
-        ensures book { IfOk result (λ desk. desk.book ≡ book_of book.now) }
-        ensures limit { IfOk result (λ desk. desk.limit ≡ limit) }
+    /// A server with this book, which may become so long.
+    pub fn with(alloc: Global, book: PlainBook, limit: u32) -> PlainDesk
+        requires { size book ≤ limit }
+        ensures book { result.book ≡ book }
+        ensures limit { result.limit ≡ limit }
     {
-        let entries = copies(alloc, book)?;
-        Ok(PlainDesk {
-            entries,
-            limit,
-            alloc,
-        })
+        PlainDesk { book, limit, alloc }
     }
 
-    /// The entries of the book, in order.
-    pub fn book(&self) -> &[Entry]
-        ensures book { result.now ≡ self.now.book.entries }
-        ensures bound { length result.now < 2 ^ 32 }
+    /// The book.
+    pub fn book(&self) -> &PlainBook
+        ensures { result.now ≡ self.now.book }
     {
-        // The limit is read so that its type's bound, which the length has by the invariant, is known here.
-        let _limit = self.limit;
-        &self.entries
+        &self.book
     }
 
     // How a mutation is answered that is not run.
@@ -148,16 +139,16 @@ impl PlainDesk {
         ensures { Hinders self.now (record { user = user.now; group = group.now }) client.now id result }
     {
         let limit = self.limit;
-        if is_of_other(&self.entries, user, group) {
+        if is_of_other(&self.book, user, group) {
             return Some(Outcome::Refused(Refusal::GroupOfOther));
         }
-        if retired(&self.entries, group) {
+        if retired(&self.book, group) {
             return Some(Outcome::Refused(Refusal::NotFound));
         }
-        if is_elsewhere(&self.entries, client, group) {
+        if is_elsewhere(&self.book, client, group) {
             return Some(Outcome::Refused(Refusal::ClientOfOther));
         }
-        let last = last(&self.entries, client);
+        let last = last(&self.book, client);
         if id.get() <= last {
             return Some(Outcome::Skipped(Num::from_u64(last)));
         }
@@ -167,7 +158,7 @@ impl PlainDesk {
                 got: id,
             }));
         }
-        if self.entries.len() >= limit as usize {
+        if self.book.len() >= limit {
             return Some(Outcome::Refused(full(limit)));
         }
         None
@@ -181,7 +172,7 @@ impl PlainDesk {
         match self.hindrance(user, group, client, id) {
             Some(outcome) => outcome,
             None => match self.act(user, group, client, id, call) {
-                Ok(()) => Outcome::Acted(self.entries.len() as u32),
+                Ok(()) => Outcome::Acted(self.book.len()),
                 Err(Memory) => Outcome::Refused(Refusal::Memory),
             },
         }
@@ -201,7 +192,7 @@ impl PlainDesk {
         ensures limit { self.new.limit ≡ self.old.limit }
     {
         let entry = entries::act(self.alloc, user, group, client, id, call)?;
-        self.entries.push(entry)?;
+        self.book.enter(entry)?;
         Ok(())
     }
 
@@ -210,10 +201,10 @@ impl PlainDesk {
         ensures step { Step pull_json self.old.limit self.old.book (Ask.pull user.now request.now) result self.new.book }
         ensures limit { self.new.limit ≡ self.old.limit }
     {
-        if is_of_other(&self.entries, user, &request.group) {
+        if is_of_other(&self.book, user, &request.group) {
             return Outcome::Refused(Refusal::GroupOfOther);
         }
-        if retired(&self.entries, &request.group) {
+        if retired(&self.book, &request.group) {
             return Outcome::Refused(Refusal::NotFound);
         }
         match self.answer(user, request) {
@@ -229,15 +220,15 @@ impl PlainDesk {
         ensures err { OnErr result (self.new.book ≡ self.old.book) }
         ensures limit { self.new.limit ≡ self.old.limit }
     {
-        let news = news_at(self.alloc, &self.entries, user, request)?;
+        let news = news_at(self.alloc, &self.book, user, request)?;
         if news.is_empty() {
             return Ok(Outcome::Pulled(same_reply(self.alloc, request)?));
         }
-        let order = next_order(&request.cookie, last_order(&self.entries, &request.group));
+        let order = next_order(&request.cookie, last_order(&self.book, &request.group));
         if order > Num::MAX {
             return Ok(Outcome::Refused(Refusal::Limit(Which::Order, Num::from_u64(Num::MAX))));
         }
-        if self.entries.len() >= self.limit as usize {
+        if self.book.len() >= self.limit {
             return Ok(Outcome::Refused(full(self.limit)));
         }
         let reply = self.look(user, request, Num::from_u64(order), news)?;
@@ -264,10 +255,10 @@ impl PlainDesk {
         ensures limit { self.new.limit ≡ self.old.limit }
     {
         let PullNews { base, ops, ids } = news;
-        let place = self.entries.len() as u32 + 1;
+        let place = self.book.len() + 1;
         let reply = look_reply(self.alloc, place, order, ids, ops)?;
         let entry = entries::look(self.alloc, user, &request.group, order, base)?;
-        self.entries.push(entry)?;
+        self.book.enter(entry)?;
         Ok(reply)
     }
 
@@ -276,17 +267,17 @@ impl PlainDesk {
         ensures step { Step pull_json self.old.limit self.old.book (Ask.retirement group.now) result self.new.book }
         ensures limit { self.new.limit ≡ self.old.limit }
     {
-        if bound(&self.entries, group).is_none() {
+        if bound(&self.book, group).is_none() {
             return Outcome::Refused(Refusal::NoGroup);
         }
-        if retired(&self.entries, group) {
+        if retired(&self.book, group) {
             return Outcome::Refused(Refusal::NotFound);
         }
-        if self.entries.len() >= self.limit as usize {
+        if self.book.len() >= self.limit {
             return Outcome::Refused(full(self.limit));
         }
         match self.enter_retirement(group) {
-            Ok(()) => Outcome::Retired(self.entries.len() as u32),
+            Ok(()) => Outcome::Retired(self.book.len()),
             Err(Memory) => Outcome::Refused(Refusal::Memory),
         }
     }
@@ -298,8 +289,26 @@ impl PlainDesk {
         ensures limit { self.new.limit ≡ self.old.limit }
     {
         let entry = entries::retirement(self.alloc, group)?;
-        self.entries.push(entry)?;
+        self.book.enter(entry)?;
         Ok(())
+    }
+
+    /// Closes the book: the page that sums it up comes in the place of its entries, at the place after its last.
+    pub fn close_book(&mut self) -> CloseAnswer
+        ensures closes { ClosesOrStays self.old result self.new.book }
+        ensures limit { self.new.limit ≡ self.old.limit }
+    {
+        if self.book.len() >= self.limit {
+            return CloseAnswer::Refused(full(self.limit));
+        }
+        match page_of(self.alloc, &self.book) {
+            Ok(page) => {
+                let place = page.at;
+                self.book = PlainBook::opening(self.alloc, page);
+                CloseAnswer::ClosedAt(place)
+            }
+            Err(Memory) => CloseAnswer::Refused(Refusal::Memory),
+        }
     }
 }
 

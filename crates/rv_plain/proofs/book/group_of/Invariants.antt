@@ -1,6 +1,0 @@
-use Rattle.std.proofs.Common.{◌≡◌, drop}
-use Rattle.rv_book.specs.Entries.{group_of_in}
-use Rattle.rv_plain.proofs.book.group_of.Given as goal
-
-abbrev pub invariant-loop-entry : goal.invariant-loop-entry
-invariant-loop-entry l = group_of_in l.client (drop l.entry-index l.book) ≡ group_of_in l.client l.book
