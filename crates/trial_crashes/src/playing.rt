@@ -81,6 +81,7 @@ fn answer_line<K: Keeper>(
     match line_of(alloc, line.as_bytes())? {
         Some(Line::Asks(read)) => told.hear(&serve_asked(desk, read)),
         Some(Line::Stop) => Ok(End::Wrong),
+        Some(Line::Close) => Ok(End::Wrong),
         None => Ok(End::Wrong),
     }
 }
