@@ -73,7 +73,7 @@ same_pull : (asked : Parsed) (user user' : List ℕ) (request request' : PullReq
 same_pull asked user user' request request' one other = (cc, cc)
 
 module _ (Told : Type 0) (first now : Closable) (lines : List Line) (answers : List (Option Answer)) (user : List ℕ) (told : Told) (law : BooksAreLawful) (show : StepsShow) (sound : IsSoundClosable first) (run : Run Told first lines answers now) where
-  yes : Run Yes first lines answers now
+  abbrev yes : Run Yes first lines answers now
   yes = told_run Told first now lines answers told run
 
   -- the books of the run
@@ -83,7 +83,7 @@ module _ (Told : Type 0) (first now : Closable) (lines : List Line) (answers : L
   at_turn : (asked : Parsed) (answer : Answer) (turn : IsTurn lines answers asked answer) → At first now turn.before turn.answered asked answer closings
   at_turn asked answer turn =
       subst (λ (ls : List Line). (r : Run Yes first ls answers now) → At first now turn.before turn.answered asked answer (run_goes law first now ls answers r sound).0) (sym turn.asks)
-      (subst (λ (as : List (Option Answer)). (r : Run Yes first (turn.before ++ Asks asked ∷ turn.after) as now) → At first now turn.before turn.answered asked answer (run_goes law first now (turn.before ++ Asks asked ∷ turn.after) as r sound).0) (sym turn.told)
+      (subst (λ (told : List (Option Answer)). (r : Run Yes first (turn.before ++ Asks asked ∷ turn.after) told now) → At first now turn.before turn.answered asked answer (run_goes law first now (turn.before ++ Asks asked ∷ turn.after) told r sound).0) (sym turn.told)
       (λ r. turn_at law first now turn.before turn.after turn.answered turn.others asked answer sound turn.same r)) yes
 
   abbrev OnPull : ClientPull → Type 0
@@ -92,7 +92,7 @@ module _ (Told : Type 0) (first now : Closable) (lines : List Line) (answers : L
   abbrev here : (pull : ClientPull) (turn : OnPull pull) → At first now turn.before turn.answered (Ok (Pull user pull.request)) (Pulled pull.reply) closings
   here pull turn = at_turn (Ok (Pull user pull.request)) (Pulled pull.reply) turn
 
-  shown_at : (pull : ClientPull) (turn : OnPull pull) → IsShown Told first now turn.before turn.answered (Ok (Pull user pull.request)) pull.reply
+  abbrev shown_at : (pull : ClientPull) (turn : OnPull pull) → IsShown Told first now turn.before turn.answered (Ok (Pull user pull.request)) pull.reply
   shown_at pull turn =
       let at = here pull turn in
       let (settled, settles, shows, goes) = show at.point at.new (Ok (Pull user pull.request)) pull.reply at.takes.step in

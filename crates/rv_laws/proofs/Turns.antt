@@ -25,7 +25,7 @@ Yes = true ≡ true
 
 -- ---- The books of a run.
 
-pub run_goes : BooksAreLawful → (first now : Closable) (lines : List Line) (answers : List (Option Answer)) → Run Yes first lines answers now → IsSoundClosable first → GoesOnFrom first.served.book now.served.book
+abbrev pub run_goes : BooksAreLawful → (first now : Closable) (lines : List Line) (answers : List (Option Answer)) → Run Yes first lines answers now → IsSoundClosable first → GoesOnFrom first.served.book now.served.book
 run_goes law first now [] [] same sound = goes_on_same first.served.book now.served.book (ap (λ (s : Closable). s.served.book) same)
 run_goes law first now [] (answer ∷ answers) never sound = absurd never
 run_goes law first now (line ∷ lines) [] never sound = absurd never
