@@ -1,5 +1,5 @@
 -- The tallies of a book, and its groups, entry by entry.
-use Rattle.std.proofs.Common.{◌≡◌, ℕ, ◌+◌, ◌-◌, ◌<◌, ◌≤◌, ◌^◌, ◌&&◌, ◌||◌, Bool, true, false, cond, List, [], ◌∷◌, ◌++◌, length, take, get_or, map, Option, Some, None, refl, sym, ap, ◌∙◌, subst, arith, count_by, add-zero}
+use Rattle.std.proofs.Common.{◌≡◌, ℕ, ◌+◌, ◌-◌, ◌<◌, ◌≤◌, ◌^◌, ◌&&◌, ◌||◌, Bool, true, false, cond, List, [], ◌∷◌, ◌++◌, length, take, get_or, map, Option, Some, None, refl, sym, ap, ◌∙◌, subst, arith, count_by, add-zero, append_assoc, append-nil}
 use Rattle.std.specs.declared.cmp.Ordering.TheVariants.{Less, Equal, Greater}
 use Rattle.std.specs.Ordering.{nat_cmp, match_ordering}
 use Rattle.std.specs.Cmp.Lexicographic.{slice_cmp}
@@ -7,13 +7,14 @@ use Rattle.std.specs.List.{filter_map, list_any, cons_option}
 use Rattle.std.specs.Option.{option_map, option_map_or, is_some}
 use Rattle.std.specs.Prelude.{slice_get}
 use Rattle.std.specs.Str.{bytes_eq}
-use Rattle.std.proofs.lemmas.List.{take_more, length-take-le}
+use Rattle.std.proofs.lemmas.List.{take_more}
+use Rattle.std.proofs.lemmas.List.Elements.{filter_map-append}
 use Rattle.std.proofs.lemmas.List.Sums.{sum_by-cons, count_by-le-length}
 use Rattle.std.proofs.lemmas.Option.{none-some, same_Some, slice_get-get_or, slice_get_within, get_or_from_slice_get}
 use Rattle.std.proofs.lemmas.Slice.Eq.{bytes_eq-Decides}
 use Rattle.rv_base.specs.Sorted.{find_by, put_by, InOrder}
 use Rattle.rv_base.specs.Positions.{Above, equals, below_is, same_from, differs, differs_back, above_chain, not_same, sorted_more, in_order-sorted, map-put, found-sorted}
-use Rattle.rv_base.specs.Arranged.{find-map}
+use Rattle.rv_base.specs.Arranged.{find-map, sorted-push}
 use Rattle.rv_rows.specs.declared.call.Call.{Call}
 use Rattle.rv_rows.specs.declared.call.Call.TheVariants.{CreateList, DeleteList, CreateShare, UpdateShare, DeleteShare, CreateTodo, UpdateTodo, DeleteTodo, Void}
 use Rattle.rv_book.specs.declared.entry.Entry.{Entry}
@@ -21,7 +22,7 @@ use Rattle.rv_book.specs.declared.entry.Entry.TheVariants.{Act, Look, Retire}
 use Rattle.rv_book.specs.Book.{Book, book_from, entry_at, opening, size, up_to, with_entry}
 use Rattle.rv_book.specs.BookWords.{count-push, entry_at-index, size-up_to}
 use Rattle.rv_report.specs.declared.tally.Tally.{Tally}
-use Rattle.rv_report.specs.Activity.{group_ids, named_group, entry_user, users_of, is_act_by, is_void_by, is_look_by}
+use Rattle.rv_report.specs.Activity.{group_ids, in_order, named_group, page_groups, entry_user, users_of, is_act_by, is_void_by, is_look_by}
 use Rattle.rv_report.specs.Tallies.{Tallied, tallied_key, no_entries, is_void, with_one, MayRise, tally_in, tallied_with, tally_of, tallies_of}
 
 entry_follows : (book : Book) (before : ℕ) → book.page.at ≤ before → entry_at (before + 1) book ≡ slice_get book.entries (before - book.page.at)
@@ -223,12 +224,25 @@ tallies_more book before entry tallies next from there so_far counts =
     ∙ ap (λ (b : Book). map (tallied (λ user. tally_of user b)) (users_of (first_of (index + 1) book))) (sym (last_taken book index entry at.0 at.1))
     ∙ ap (λ (b : Book). tallies_of b) (one_further book before from)
 
+-- the texts in order, behind others, when one more entry follows
+texts_more : (first : List (List ℕ)) (entries : List Entry) (index : ℕ) (entry : Entry) → index < length entries → entry ≡ get_or entries index entry
+    → in_order (first ++ filter_map named_group (take (index + 1) entries)) ≡ option_map_or (λ text. put_by text_key text (in_order (first ++ filter_map named_group (take index entries)))) (named_group entry) (in_order (first ++ filter_map named_group (take index entries)))
+texts_more first entries index entry lt is =
+    ap (λ (es : List Entry). in_order (first ++ filter_map named_group es)) (take_more entries index entry lt ∙ ap (λ (e : Entry). take index entries ++ e ∷ []) (sym is))
+    ∙ ap (λ (texts : List (List ℕ)). in_order (first ++ texts)) (filter_map-append named_group (take index entries) (entry ∷ []))
+    ∙ ap in_order (sym (append_assoc first (filter_map named_group (take index entries)) (cons_option (named_group entry) [])))
+    ∙ one_more (named_group entry) (first ++ filter_map named_group (take index entries))
+  where
+    one_more : (o : Option (List ℕ)) (texts : List (List ℕ)) → in_order (texts ++ cons_option o []) ≡ option_map_or (λ text. put_by text_key text (in_order texts)) o (in_order texts)
+    one_more None texts = ap in_order (append-nil texts)
+    one_more (Some text) texts = sorted-push text_key text texts
+
 pub groups_more : (book : Book) (before : ℕ) (entry : Entry) (groups next : List (List ℕ)) → book.page.at ≤ before → Some entry ≡ entry_at (before + 1) book → groups ≡ group_ids (up_to before book) → next ≡ option_map_or (λ group. put_by (λ text. text) group groups) (named_group entry) groups → next ≡ group_ids (up_to (before + 1) book)
 groups_more book before entry groups next from there so_far adds =
     let at = entry_next book before entry from there in
     adds
     ∙ ap (λ (gs : List (List ℕ)). option_map_or (λ group. put_by text_key group gs) (named_group entry) gs) so_far
-    ∙ sym (sorted_more text_key named_group book.entries (before - book.page.at) entry at.0 at.1)
+    ∙ sym (texts_more (page_groups book.page) book.entries (before - book.page.at) entry at.0 at.1)
     ∙ ap (λ (b : Book). group_ids b) (one_further book before from)
 
 pub may_rise : (book : Book) (before : ℕ) (tallies : List Tallied) → book.page.at ≤ before → before < size book → size book < 2 ^ 32 → tallies ≡ tallies_of (up_to before book) → (user : List ℕ) → MayRise (tally_in user tallies)
