@@ -115,8 +115,8 @@ fn page_groups(alloc: Global, book: &Book) -> Result<Groups<'_>, Memory>
     }
 }
 
-/// The users who have an act or a look since the book's page, each with its tally, and the groups that the page or one of these names: one
-/// walk of the page's groups and the entries.
+/// The users who have an act or a look since the book's page, each with its tally, and the groups that the page, an act or a look names:
+/// one walk of the page's groups and the entries.
 pub(crate) fn walk(alloc: Global, book: &Book) -> Result<(Tallies<'_>, Groups<'_>), Memory>
     ensures { IfOk result (λ told. (shown_users told.0.entries ≡ tallies_of book.now.book) × (shown_groups told.1.keys ≡ group_ids book.now.book)) }
 {
