@@ -125,11 +125,15 @@ impl Case {
         if self.is_stated { "kept" } else { "memory" }
     }
 
-    // The schedule of the first keeper.
+    /// The schedule of the first keeper.
+    pub fn schedule(&self, alloc: Global) -> Result<Schedule, Memory> {
+        Ok(Schedule::from_vec(Vec::from_slice(alloc, &self.fails)?))
+    }
+
+    // The schedules of keepers.
     fn schedules(&self, alloc: Global) -> Result<Vec<Schedule>, Memory> {
-        let fails = Vec::from_slice(alloc, &self.fails)?;
         let mut schedules = Vec::new(alloc);
-        schedules.push(Schedule::from_vec(fails))?;
+        schedules.push(self.schedule(alloc)?)?;
         Ok(schedules)
     }
 

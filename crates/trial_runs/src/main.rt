@@ -13,6 +13,7 @@ mod cells;
 mod connections;
 mod crew;
 mod databases;
+mod failing;
 mod faults;
 mod files;
 mod machine;

@@ -27,6 +27,7 @@ enum Play {
     Held,
     Sqlite,
     Databases,
+    FailingDatabase,
     View,
 }
 
@@ -58,7 +59,7 @@ enum Command {
     Changes(Change),
 }
 
-static COMMANDS: [(&str, Command); 30] = [
+static COMMANDS: [(&str, Command); 31] = [
     ("run", Command::Plays(Play::Run)),
     ("once", Command::Plays(Play::Once)),
     ("stops", Command::Plays(Play::Stops)),
@@ -72,6 +73,7 @@ static COMMANDS: [(&str, Command); 30] = [
     ("held", Command::Plays(Play::Held)),
     ("sqlite", Command::Plays(Play::Sqlite)),
     ("databases", Command::Plays(Play::Databases)),
+    ("failing-database", Command::Plays(Play::FailingDatabase)),
     ("view", Command::Plays(Play::View)),
     ("words", Command::Changes(Change::Words)),
     ("word", Command::Changes(Change::Word)),
@@ -145,6 +147,7 @@ fn played<R: Threads + Wait + Sync, P: Place>(
         Play::Held => stores::held(stage.host.alloc(), case, rest),
         Play::Sqlite => stores::compare(stage, case, &mut machine.place),
         Play::Databases => databases::compare(stage, case),
+        Play::FailingDatabase => databases::compare_failing(stage, case),
         Play::View => views::read(stage.host.alloc(), &case.input),
     }
 }
