@@ -1,6 +1,7 @@
 // Requests beside a plain slow server, which answers them by the rules: written by hand, drawn by a seed, fed with stops over keepers
 // that fail, and served by workers side by side. `feed` feeds the input of its case; every other command has its rule at the function
 // that plays it.
+mod book_cells;
 mod calls;
 mod cells;
 mod connections;
@@ -19,6 +20,7 @@ mod seats;
 mod sending;
 mod serving;
 mod story;
+mod tally;
 mod touched;
 mod troubles;
 
@@ -38,6 +40,7 @@ enum Item {
     Touched,
     Feed,
     Drawn,
+    DrawnDatabase,
     Marks,
     Seats,
     Threads,
@@ -45,11 +48,12 @@ enum Item {
     Troubles,
 }
 
-static ITEMS: [(&str, Item); 9] = [
+static ITEMS: [(&str, Item); 10] = [
     ("touched", Item::Touched),
     ("words", Item::Words),
     ("feed", Item::Feed),
     ("drawn", Item::Drawn),
+    ("drawn-database", Item::DrawnDatabase),
     ("marks", Item::Marks),
     ("seats", Item::Seats),
     ("threads", Item::Threads),
@@ -107,6 +111,7 @@ pub fn answer<R: Threads + Wait + Sync>(
         Some(Item::Words) => worded(alloc, rest),
         Some(Item::Feed) => feeding::told_of_lines(stage, lines),
         Some(Item::Drawn) => feeding::generated(stage, rest),
+        Some(Item::DrawnDatabase) => feeding::generated_in_database(stage, rest),
         Some(Item::Marks) => marks::compared(alloc, rest),
         Some(Item::Seats) => seats::taken(stage.threads, alloc, rest),
         Some(Item::Threads) => threaded(stage, rest),

@@ -4,6 +4,7 @@ use super::plain_server::PlainServer;
 use super::story::{CLIENTS, GROUPS, Story};
 use rv_base::{Id, Memory, TextRefusal};
 use rv_book::Entry;
+use rv_plain::PlainBook;
 use std::alloc::Global;
 use trial_stage::Part::{Number, Text};
 use trial_stage::{append_parts, joined};
@@ -101,10 +102,10 @@ fn order_of(entry: &Entry, group: Option<&str>) -> Option<u64> {
 }
 
 // The place and the order of the look so many looks back, of this group or of any.
-fn look_back(book: &[Entry], group: Option<&str>, many: usize) -> Option<(usize, u64)> {
+fn look_back(book: &PlainBook, group: Option<&str>, many: usize) -> Option<(u32, u64)> {
     let mut left = many;
     let mut place = book.len();
-    for entry in book.iter().rev() {
+    for entry in book.entries().iter().rev() {
         if let Some(order) = order_of(entry, group) {
             if left == 0 {
                 return Some((place, order));
@@ -117,13 +118,13 @@ fn look_back(book: &[Entry], group: Option<&str>, many: usize) -> Option<(usize,
 }
 
 // The cookie of a look, with so much added to its order, or null.
-fn cookie_text(alloc: Global, look: Option<(usize, u64)>, more: usize) -> Result<String, Memory> {
+fn cookie_text(alloc: Global, look: Option<(u32, u64)>, more: usize) -> Result<String, Memory> {
     match look {
         Some((place, order)) => joined(
             alloc,
             &[
                 Text("{\"cvrID\":\""),
-                Number(place as u64),
+                Number(u64::from(place)),
                 Text("\",\"order\":"),
                 Number(order.saturating_add(more as u64)),
                 Text("}"),
@@ -134,13 +135,16 @@ fn cookie_text(alloc: Global, look: Option<(usize, u64)>, more: usize) -> Result
 }
 
 // The cookie of a pull: mostly the last of its group, and now and then an older one, one of any group, one of another order, none,
-// or a number.
+// or a number; and once the book was closed, one from before.
 fn cookie(
     alloc: Global,
     plain: &PlainServer,
     story: &mut Story,
     group: &str,
 ) -> Result<String, Memory> {
+    if let Some(look) = story.earlier_look(group) {
+        return cookie_text(alloc, Some(look), 0);
+    }
     let book = plain.book();
     let far = story.draws.below(20);
     match story.draws.below(20) {
@@ -176,6 +180,24 @@ fn add_retirement(alloc: Global, text: &mut String, story: &mut Story) -> Result
         text,
         &[Text("{\"retire\":\""), Text(name.as_str()), Text("\"}\n")],
     )
+}
+
+/// Adds the line that closes the book. Its looks are remembered.
+pub fn add_closing(
+    alloc: Global,
+    text: &mut String,
+    book: &PlainBook,
+    story: &mut Story,
+) -> Result<(), Memory> {
+    let mut place = book.page().at;
+    for entry in book.entries() {
+        place = place.saturating_add(1);
+        if let Entry::Look { group, order, .. } = entry {
+            let group = joined(alloc, &[Text(group.as_str())])?;
+            story.closes(group, place, order.get())?;
+        }
+    }
+    append_parts(alloc, text, &[Text("{\"closeBook\":true}\n")])
 }
 
 /// Adds the next line, with LF at its end.

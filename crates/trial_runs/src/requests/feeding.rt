@@ -1,14 +1,20 @@
 // Lines that are fed, beside a plain server that answers the same.
-use super::drawing::add_line;
-use super::numbers::{count_lines, four_numbers};
+use super::book_cells::is_book;
+use super::drawing::{add_closing, add_line};
+use super::numbers::{count_lines, fifth_number, four_numbers};
 use super::plain_answers::{add_answer, answers};
 use super::plain_server::PlainServer;
 use super::runs::run_whole;
 use super::schedules::schedule;
 use super::story::Story;
+use super::tally::Tally;
+use crate::databases::on_disks;
+use crate::failing::FailingPlace;
 use crate::running::Finished;
+use crate::stores::filed_text;
 use rv_base::Memory;
-use rv_keeper::MemoryPlace;
+use rv_keeper::{MemoryPlace, Place};
+use rv_sqlite::SqliteKeeper;
 use std::alloc::Global;
 use std::sync::Wait;
 use std::thread::Threads;
@@ -16,9 +22,9 @@ use trial_stage::Part::{Number, Text};
 use trial_stage::{Stage, append_parts, joined};
 
 // Feeds lines to the store F of a place.
-fn fed<R: Threads + Wait + Sync>(
+fn fed<R: Threads + Wait + Sync, P: Place>(
     stage: &Stage<'_, R>,
-    place: &mut MemoryPlace,
+    place: &mut P,
     lines: &str,
 ) -> Result<Finished, Memory> {
     run_whole(stage, "rv feed F", place, lines.as_bytes())
@@ -75,14 +81,15 @@ static FRONTS: [(&str, &str); 6] = [
     ("memory", "503 {\"error\":\"memory\"}"),
 ];
 
-// How many lines there are; of how many calls of each kind of the keeper one fails; and after one of how many lines a stop comes. 0
-// is never.
+// How many lines there are; of how many calls of each kind of the keeper one fails; and in the place of one of how many lines a stop
+// comes, and of how many the book is closed. 0 is never.
 #[derive(Clone, Copy)]
 struct Plan {
     seed: u64,
     many: u64,
     fails: usize,
     stops: usize,
+    closes: usize,
 }
 
 fn plan_of(words: &str) -> Option<Plan> {
@@ -92,6 +99,7 @@ fn plan_of(words: &str) -> Option<Plan> {
         many,
         fails: fails as usize,
         stops: stops as usize,
+        closes: fifth_number(words) as usize,
     })
 }
 
@@ -100,31 +108,39 @@ fn plan_of(words: &str) -> Option<Plan> {
 struct Drawn {
     lines: String,
     answers: String,
+    tally: Tally,
     plain: PlainServer,
 }
 
-// Adds a line that is drawn, or a stop.
+// Adds a line that is drawn, a stop, or one that closes the book.
 fn add_drawn(
     alloc: Global,
     text: &mut String,
     plain: &PlainServer,
     story: &mut Story,
-    stops: usize,
+    plan: Plan,
 ) -> Result<(), Memory> {
-    if stops > 0 && story.draws.once_in(stops) {
+    if plan.stops > 0 && story.draws.once_in(plan.stops) {
         append_parts(alloc, text, &[Text("{\"stop\":true}\n")])
+    } else if plan.closes > 0 && story.draws.once_in(plan.closes) {
+        add_closing(alloc, text, plain.book(), story)
     } else {
         add_line(alloc, text, plain, story)
     }
 }
 
 // Draws one more line.
-fn draw(alloc: Global, drawn: &mut Drawn, story: &mut Story, stops: usize) -> Result<(), Memory> {
+fn draw(alloc: Global, drawn: &mut Drawn, story: &mut Story, plan: Plan) -> Result<(), Memory> {
     let mut line = String::new(alloc);
-    add_drawn(alloc, &mut line, &drawn.plain, story, stops)?;
+    add_drawn(alloc, &mut line, &drawn.plain, story, plan)?;
     let text = line.as_str().trim_end();
-    add_answer(alloc, &mut drawn.answers, &mut drawn.plain, text)?;
+    let mut answer = String::new(alloc);
+    add_answer(alloc, &mut answer, &mut drawn.plain, text)?;
+    drawn
+        .tally
+        .note(text, answer.as_str(), drawn.plain.book().page().at);
     drawn.lines.push_str(line.as_str())?;
+    drawn.answers.push_str(answer.as_str())?;
     Ok(())
 }
 
@@ -133,11 +149,12 @@ fn draw_all(alloc: Global, plan: Plan) -> Result<Drawn, Memory> {
     let mut drawn = Drawn {
         lines: String::new(alloc),
         answers: String::new(alloc),
+        tally: Tally::new(),
         plain: PlainServer::new(alloc, schedule),
     };
     let mut story = Story::new(alloc, plan.seed);
     for _ in 0..plan.many {
-        draw(alloc, &mut drawn, &mut story, plan.stops)?;
+        draw(alloc, &mut drawn, &mut story, plan)?;
     }
     Ok(drawn)
 }
@@ -158,7 +175,7 @@ fn add_count(
     )
 }
 
-// How many answers there are of each kind, how many entries are kept, and what a check tells.
+// How many answers there are of each kind, how long the book is that is kept, and what a check tells.
 fn summary(alloc: Global, drawn: &Drawn, check: &str) -> Result<String, Memory> {
     let answers = drawn.answers.as_str();
     let many = count_lines(answers, "");
@@ -166,7 +183,8 @@ fn summary(alloc: Global, drawn: &Drawn, check: &str) -> Result<String, Memory> 
     for (name, front) in &FRONTS {
         add_count(alloc, &mut text, answers, *name, *front)?;
     }
-    let kept = drawn.plain.kept() as u64;
+    drawn.tally.add(alloc, &mut text)?;
+    let kept = u64::from(drawn.plain.kept().len());
     append_parts(
         alloc,
         &mut text,
@@ -183,20 +201,24 @@ fn place_of(alloc: Global, plan: Plan) -> Result<MemoryPlace, Memory> {
 }
 
 // What comes of drawn lines, to which a run has answered the same.
-fn checked<R: Threads + Wait + Sync>(
+fn checked<R: Threads + Wait + Sync, P: Place>(
     stage: &Stage<'_, R>,
-    place: &mut MemoryPlace,
+    place: &mut P,
     drawn: &Drawn,
 ) -> Result<String, Memory> {
     let alloc = stage.host.alloc();
     let check = run_whole(stage, "rv check F", place, b"")?;
+    let held = filed_text(alloc, place, "F")?;
+    if !is_book(alloc, held.as_str(), drawn.plain.kept())? {
+        return joined(alloc, &[Text("other cells\n"), Text(held.as_str())]);
+    }
     summary(alloc, drawn, check.text())
 }
 
 // What comes of drawn lines that are fed to a place.
-fn played_over<R: Threads + Wait + Sync>(
+fn played_over<R: Threads + Wait + Sync, P: Place>(
     stage: &Stage<'_, R>,
-    place: &mut MemoryPlace,
+    place: &mut P,
     drawn: &Drawn,
 ) -> Result<String, Memory> {
     let run = fed(stage, place, drawn.lines.as_str())?;
@@ -217,13 +239,38 @@ fn played<R: Threads + Wait + Sync>(stage: &Stage<'_, R>, plan: Plan) -> Result<
 }
 
 /// `SEED N FAILS STOPS`: what comes of so many lines that are drawn by the seed and fed over a keeper of whose calls one in so many
-/// fails, with a stop in the place of one line in so many. The plain server must answer the same.
+/// fails, with a stop in the place of one line in so many; with a fifth number the book is closed in the place of one line in so many.
+/// The plain server must answer the same, and keep the same book.
 pub fn generated<R: Threads + Wait + Sync>(
     stage: &Stage<'_, R>,
     words: &str,
 ) -> Result<Option<String>, Memory> {
     match plan_of(words) {
         Some(plan) => Ok(Some(played(stage, plan)?)),
+        None => Ok(None),
+    }
+}
+
+// What comes of drawn lines that are fed to a database on disks.
+fn played_in_database<R: Threads + Wait + Sync>(
+    stage: &Stage<'_, R>,
+    plan: Plan,
+) -> Result<String, Memory> {
+    let alloc = stage.host.alloc();
+    let drawn = draw_all(alloc, plan)?;
+    let keeper = SqliteKeeper::adopt(alloc, on_disks(alloc)?);
+    let schedule = schedule(alloc, plan.seed, plan.fails)?;
+    let mut place = FailingPlace::new(alloc, keeper, schedule);
+    played_over(stage, &mut place, &drawn)
+}
+
+/// `SEED N FAILS STOPS`, or with a fifth number: the same of lines that are fed to a database on disks.
+pub fn generated_in_database<R: Threads + Wait + Sync>(
+    stage: &Stage<'_, R>,
+    words: &str,
+) -> Result<Option<String>, Memory> {
+    match plan_of(words) {
+        Some(plan) => Ok(Some(played_in_database(stage, plan)?)),
         None => Ok(None),
     }
 }
@@ -235,6 +282,7 @@ pub fn drawn_server(alloc: Global, seed: u64, many: u64) -> Result<PlainServer, 
         many,
         fails: 0,
         stops: 0,
+        closes: 0,
     };
     Ok(draw_all(alloc, plan)?.plain)
 }

@@ -5,6 +5,7 @@ use rv_base::{Memory, User};
 use rv_book::Entry;
 use rv_desk::{Desk, OpenFault};
 use rv_keeper::{Keeper, MemoryKeeper};
+use rv_plain::PlainBook;
 use rv_turns::{Asked, Cookie, Outcome, PullRequest, Turns};
 use std::alloc::Global;
 use trial_stage::Part::{Number, Text};
@@ -42,7 +43,9 @@ fn shown(alloc: Global, entries: &[Entry], number: usize) -> Result<String, Memo
     let Ok(user) = User::new(alloc, name(number)) else {
         return Err(Memory);
     };
-    let rows = rv_plain::rows_of(alloc, entries)?;
+    let many = entries.len().min(u32::MAX as usize);
+    let book = PlainBook::of_entries(alloc, &entries[..many])?;
+    let rows = rv_plain::rows_of(alloc, &book)?;
     let seen = rv_plain::seen(alloc, &rows, &user)?;
     Ok(format!(in alloc; "{seen:?}")?)
 }
@@ -199,7 +202,7 @@ pub fn compared(alloc: Global, words: &str) -> Result<Option<String>, Memory> {
     match (number_in(seed), number_in(many)) {
         (Some(seed), Some(many)) => {
             let plain = drawn_server(alloc, seed, many)?;
-            Ok(Some(told(alloc, plain.book())?))
+            Ok(Some(told(alloc, plain.book().entries())?))
         }
         _ => Ok(None),
     }

@@ -15,6 +15,17 @@ pub fn four_numbers(words: &str) -> Option<[u64; 4]> {
     ])
 }
 
+/// The word after the first four, where it is a number, and else 0.
+pub fn fifth_number(words: &str) -> u64 {
+    let mut left = words;
+    for _ in 0..4 {
+        let (_, rest) = first_word(left);
+        left = rest;
+    }
+    let (word, _) = first_word(left);
+    number_in(word).unwrap_or(0)
+}
+
 /// How many lines of a text begin so.
 pub fn count_lines(text: &str, front: &str) -> u64 {
     let mut many: u64 = 0;

@@ -2,6 +2,7 @@
 use super::plain_server::PlainServer;
 use rv_answering::{Answer, Line, line_of, serve_asked};
 use rv_base::{Memory, Sequence};
+use rv_turns::CloseAnswer;
 use rv_wire::{ErrorBody, error_text};
 use std::alloc::Global;
 use trial_stage::Part::{Number, Text};
@@ -35,7 +36,20 @@ fn add_told(alloc: Global, text: &mut String, answer: &Answer) -> Result<(), Mem
             let joined = [Text("200 {\"retired\":"), Number(place), Text("}\n")];
             append_parts(alloc, text, &joined)
         }
+        Answer::Closed(place) => {
+            let place = u64::from(*place);
+            let joined = [Text("200 {\"closed\":"), Number(place), Text("}\n")];
+            append_parts(alloc, text, &joined)
+        }
         Answer::Refused(refusal) => add_refusal(alloc, text, refusal),
+    }
+}
+
+// The answer to a closing of the book.
+fn closed(plain: &mut PlainServer) -> Answer {
+    match plain.close_book() {
+        CloseAnswer::ClosedAt(place) => Answer::Closed(place),
+        CloseAnswer::Refused(refusal) => Answer::Refused(ErrorBody::Refused(refusal)),
     }
 }
 
@@ -49,6 +63,7 @@ pub fn add_answer(
     match line_of(alloc, line.as_bytes())? {
         Some(Line::Asks(read)) => add_told(alloc, text, &serve_asked(plain, read)),
         Some(Line::Stop) => plain.stop(),
+        Some(Line::Close) => add_told(alloc, text, &closed(plain)),
         None => append_parts(alloc, text, &[Text("no line\n")]),
     }
 }

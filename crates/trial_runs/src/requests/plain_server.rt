@@ -1,17 +1,15 @@
-// A plain server over a plain keeper, written from the rules: what is kept is a list of entries.
-ghost use Rattle.std.specs.Prelude.{◌<◌, ◌^◌, length};
-
+// A plain server over a plain keeper, written from the rules: what is kept is a book.
 use rv_base::Memory;
-use rv_book::Entry;
 use rv_keeper::{Fails, Schedule};
-use rv_plain::PlainDesk;
-use rv_turns::{Asked, Outcome, Refusal, Trouble, Turns};
+use rv_plain::{PlainBook, PlainDesk};
+use rv_turns::{Asked, CloseAnswer, Outcome, Refusal, Trouble, Turns};
 use std::alloc::Global;
 
-// The most entries of a book.
+// How long a book may be.
 const LIMIT: u32 = u32::MAX;
 
 // Why a turn is not answered as the plain desk answers it.
+#[derive(Clone, Copy)]
 enum Hindered {
     Keeper,
     Memory,
@@ -25,13 +23,23 @@ impl From<Memory> for Hindered {
     }
 }
 
-/// A plain desk, and beside it the entries that are kept. The calls of the keeper that fail are listed.
+impl Hindered {
+    // What such a turn is refused for.
+    fn refusal(self) -> Refusal {
+        match self {
+            Hindered::Keeper => Refusal::Trouble(Trouble::Keeper),
+            Hindered::Memory => Refusal::Memory,
+        }
+    }
+}
+
+/// A plain desk, and beside it the book that is kept. The calls of the keeper that fail are listed.
 #[derive(Drop)]
 pub struct PlainServer {
-    // Its book is that without an entry in doubt.
+    // Its book is that without what is in doubt.
     desk: PlainDesk,
-    // The entries of the book, and perhaps the one in doubt.
-    kept: Vec<Entry>,
+    // The same book, or the one that what is in doubt makes of it: one with an entry more, or the closed one.
+    kept: PlainBook,
     in_doubt: bool,
     schedule: Schedule,
     questions: u64,
@@ -44,7 +52,7 @@ impl PlainServer {
     pub fn new(alloc: Global, schedule: Schedule) -> PlainServer {
         PlainServer {
             desk: PlainDesk::new(alloc, LIMIT),
-            kept: Vec::new(alloc),
+            kept: PlainBook::empty(alloc),
             in_doubt: false,
             schedule,
             questions: 0,
@@ -53,37 +61,35 @@ impl PlainServer {
         }
     }
 
-    /// The entries of the book, in order, without one in doubt.
-    pub fn book(&self) -> &[Entry]
-        ensures { length result.now < 2 ^ 32 }
-    {
+    /// The book, without what is in doubt.
+    pub fn book(&self) -> &PlainBook {
         self.desk.book()
     }
 
-    /// How many entries are kept.
-    pub fn kept(&self) -> usize {
-        self.kept.len()
+    /// The book that is kept.
+    pub fn kept(&self) -> &PlainBook {
+        &self.kept
     }
 
     fn fails(&self, call: Fails) -> bool {
         self.schedule.as_slice().contains(&call)
     }
 
-    // A desk of the entries that are kept, which are never more than the limit.
+    // A desk of the book that is kept.
     fn desk_of_kept(&self) -> Result<PlainDesk, Memory> {
-        let many = self.kept.len().min(LIMIT as usize);
-        PlainDesk::with(self.alloc, &self.kept[..many], LIMIT)
+        let book = self.kept.copy(self.alloc)?;
+        Ok(PlainDesk::with(self.alloc, book, LIMIT))
     }
 
-    /// Closes it and opens it again: no entry is in doubt, and the book is what is kept.
+    /// Closes it and opens it again: nothing is in doubt, and the book is what is kept.
     pub fn stop(&mut self) -> Result<(), Memory> {
         self.in_doubt = false;
         self.desk = self.desk_of_kept()?;
         Ok(())
     }
 
-    // Asks what is kept, where an entry is in doubt. It is not in doubt any more where that is told: it is dropped where it was not
-    // kept, and else entered.
+    // Asks what is kept, where something is in doubt. It is not in doubt any more where that is told: it is dropped where it was not
+    // kept, and else taken up.
     fn settle(&mut self) -> Result<(), Hindered> {
         if !self.in_doubt {
             return Ok(());
@@ -97,8 +103,8 @@ impl PlainServer {
         Ok(())
     }
 
-    // Keeps the entry that a turn has made, where it has made one. Where that fails, the entry is in doubt, whether it is kept or not;
-    // where memory is refused, there is no such entry.
+    // Keeps what a turn has made of the book, where it has made something. Where that fails, it is in doubt, whether it is kept or not;
+    // where memory is refused, the book is as before.
     fn keep(&mut self) -> Result<(), Hindered> {
         if self.desk.book().len() == self.kept.len() {
             return Ok(());
@@ -117,23 +123,20 @@ impl PlainServer {
             self.doubt(true)?;
             return Err(Hindered::Keeper);
         }
-        self.keep_last()?;
+        self.keep_book()?;
         Ok(())
     }
 
-    fn keep_last(&mut self) -> Result<(), Memory> {
-        if let Some(entry) = self.desk.book().last() {
-            let entry = entry.copy(self.alloc)?;
-            self.kept.push(entry)?;
-        }
+    fn keep_book(&mut self) -> Result<(), Memory> {
+        self.kept = self.desk.book().copy(self.alloc)?;
         Ok(())
     }
 
-    // The last entry of the book is in doubt, and is kept or not.
+    // What the last turn has made of the book is in doubt, and is kept or not.
     fn doubt(&mut self, is_kept: bool) -> Result<(), Memory> {
         let without = self.desk_of_kept()?;
         if is_kept {
-            self.keep_last()?;
+            self.keep_book()?;
         }
         self.desk = without;
         self.in_doubt = true;
@@ -146,6 +149,21 @@ impl PlainServer {
         self.keep()?;
         Ok(outcome)
     }
+
+    fn try_close_book(&mut self) -> Result<CloseAnswer, Hindered> {
+        self.settle()?;
+        let answer = self.desk.close_book();
+        self.keep()?;
+        Ok(answer)
+    }
+
+    /// Closes the book.
+    pub fn close_book(&mut self) -> CloseAnswer {
+        match self.try_close_book() {
+            Ok(answer) => answer,
+            Err(hindered) => CloseAnswer::Refused(hindered.refusal()),
+        }
+    }
 }
 
 impl Turns for PlainServer {
@@ -154,8 +172,7 @@ impl Turns for PlainServer {
     fn take(&mut self, asked: Asked<'_>) -> Outcome {
         match self.try_take(asked) {
             Ok(outcome) => outcome,
-            Err(Hindered::Keeper) => Outcome::Refused(Refusal::Trouble(Trouble::Keeper)),
-            Err(Hindered::Memory) => Outcome::Refused(Refusal::Memory),
+            Err(hindered) => Outcome::Refused(hindered.refusal()),
         }
     }
 }

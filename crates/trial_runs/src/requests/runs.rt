@@ -2,7 +2,7 @@
 use crate::crew::TrialCrew;
 use crate::running::{Finished, Pieces, run_alone, run_over};
 use rv_base::Memory;
-use rv_keeper::MemoryPlace;
+use rv_keeper::{MemoryPlace, Place};
 use rv_net::MemoryNet;
 use std::sync::Wait;
 use std::thread::Threads;
@@ -25,10 +25,10 @@ pub fn run_with<R: Threads + Wait + Sync>(
 }
 
 /// Runs the words of a line over a place and an input, with no threads and a net that has no listener.
-pub fn run_whole<R: Threads + Wait + Sync>(
+pub fn run_whole<R: Threads + Wait + Sync, P: Place>(
     stage: &Stage<'_, R>,
     line: &str,
-    place: &mut MemoryPlace,
+    place: &mut P,
     input: &[u8],
 ) -> Result<Finished, Memory> {
     let words = words_at(stage.host.alloc(), ' ', line)?;

@@ -76,9 +76,9 @@ impl Sent {
 
     // Sends a line, and after it a stop where the entry at this place was made for it.
     fn send_to_stop(&mut self, alloc: Global, line: &str, place: usize) -> Result<(), Memory> {
-        let before = self.plain.kept();
+        let before = self.plain.kept().len() as usize;
         self.send(alloc, line)?;
-        if before < place && place <= self.plain.kept() {
+        if before < place && place <= self.plain.kept().len() as usize {
             self.send_once(alloc, "{\"stop\":true}")?;
         }
         Ok(())

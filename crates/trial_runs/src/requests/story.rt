@@ -1,4 +1,4 @@
-// What is remembered of drawn lines: how many retirements were asked of each group.
+// What is remembered of drawn lines: how many retirements were asked of each group, and the looks that stood before the book was closed.
 use rv_base::Memory;
 use std::alloc::Global;
 use trial_stage::Draws;
@@ -9,12 +9,21 @@ pub const GROUPS: usize = 4;
 /// How many clients there are at a time.
 pub const CLIENTS: usize = 5;
 
+// A look that stood in a book that was to be closed: its group, its place and its order.
+#[derive(Drop)]
+struct Earlier {
+    group: String,
+    place: u32,
+    order: u64,
+}
+
 /// Groups and clients are told by numbers. A group that is retired gives its number a later age, with another name.
 #[derive(Drop)]
 pub struct Story {
     /// What comes next.
     pub draws: Draws,
     ages: Vec<usize>,
+    looks: Vec<Earlier>,
 }
 
 impl Story {
@@ -23,6 +32,7 @@ impl Story {
         Story {
             draws: Draws::new(seed),
             ages: Vec::new(alloc),
+            looks: Vec::new(alloc),
         }
     }
 
@@ -41,6 +51,38 @@ impl Story {
             .iter()
             .filter(|retired| **retired == group)
             .count()
+    }
+
+    /// The book is to be closed; a look of this group and this order stands at this place of it.
+    pub fn closes(&mut self, group: String, place: u32, order: u64) -> Result<(), Memory> {
+        self.looks.push(Earlier {
+            group,
+            place,
+            order,
+        })?;
+        Ok(())
+    }
+
+    // The last look of a group before the book was closed.
+    fn last_earlier(&self, group: &str) -> Option<&Earlier> {
+        self.looks
+            .iter()
+            .rev()
+            .find(|look| look.group.as_str() == group)
+    }
+
+    /// Now and then, once the book was closed, the place and the order of a look that stood before: mostly the last of this group, and
+    /// else any.
+    pub fn earlier_look(&mut self, group: &str) -> Option<(u32, u64)> {
+        if self.looks.is_empty() || !self.draws.once_in(6) {
+            return None;
+        }
+        let look = if self.draws.once_in(3) {
+            self.looks.get(self.draws.below(self.looks.len()))?
+        } else {
+            self.last_earlier(group)?
+        };
+        Some((look.place, look.order))
     }
 
     /// This number, or now and then any below the bound.

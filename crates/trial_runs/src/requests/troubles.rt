@@ -260,7 +260,7 @@ fn add_kind<R: Threads + Wait + Sync>(
         looks_more: 0,
     };
     let mut commit: usize = 0;
-    for entry in without.sent.plain.book() {
+    for entry in without.sent.plain.book().entries() {
         commit = commit.saturating_add(1);
         let trouble = Trouble { kind, commit };
         let more = trouble.looks_more(entry);
