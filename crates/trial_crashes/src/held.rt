@@ -10,12 +10,19 @@ const ROWS: u8 = 2;
 
 const CLIENTS: u8 = 3;
 
+// The first and the last shelf of the page that a book opens with.
+const PAGE: u8 = 6;
+
+const LAST_OF_PAGE: u8 = 9;
+
 /// The book of a store, and what it comes to.
 #[derive(Drop)]
 pub struct Held {
+    /// The page that it opens with, each cell's key and body with LF; empty where there is none.
+    pub page: Vec<u8>,
     /// The entries in order, each with LF.
     pub entries: Vec<u8>,
-    /// How many there are.
+    /// How long it is.
     pub length: u64,
     /// Each row without its version, and each client with its last mutation id, in the order of their keys.
     pub rows: Vec<u8>,
@@ -30,6 +37,12 @@ fn add_line(text: &mut Vec<u8>, line: &[u8]) -> Result<(), Memory> {
     Ok(())
 }
 
+// Adds a key and a body, each with LF.
+fn add_pair(text: &mut Vec<u8>, key: &[u8], body: &[u8]) -> Result<(), Memory> {
+    add_line(text, key)?;
+    add_line(text, body)
+}
+
 // The body of a row's cell from the comma on that ends its version.
 fn without_version(body: &[u8]) -> &[u8] {
     for at in 0..body.len() {
@@ -41,17 +54,10 @@ fn without_version(body: &[u8]) -> &[u8] {
 }
 
 impl Held {
-    // Adds the body of an entry.
-    fn add_entry(&mut self, body: &[u8]) -> Result<(), Memory> {
-        self.length = self.length.saturating_add(1);
-        add_line(&mut self.entries, body)
-    }
-
     // Adds what stands under a key.
     fn add_row(&mut self, key: &[u8], body: &[u8]) -> Result<(), Memory> {
         self.count = self.count.saturating_add(1);
-        add_line(&mut self.rows, key)?;
-        add_line(&mut self.rows, body)
+        add_pair(&mut self.rows, key, body)
     }
 
     // Adds what a cell says.
@@ -59,9 +65,10 @@ impl Held {
         let key = cell.key.as_slice();
         let body = cell.body.as_slice();
         match cell.shelf {
-            ENTRIES => self.add_entry(body),
+            ENTRIES => add_line(&mut self.entries, body),
             ROWS => self.add_row(key, without_version(body)),
             CLIENTS => self.add_row(key, body),
+            PAGE..=LAST_OF_PAGE => add_pair(&mut self.page, key, body),
             _ => Ok(()),
         }
     }
@@ -69,8 +76,9 @@ impl Held {
     /// What cells say.
     pub fn of(alloc: Global, loaded: &Loaded) -> Result<Held, Memory> {
         let mut held = Held {
+            page: Vec::new(alloc),
             entries: Vec::new(alloc),
-            length: 0,
+            length: loaded.generation,
             rows: Vec::new(alloc),
             count: 0,
         };

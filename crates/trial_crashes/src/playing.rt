@@ -1,10 +1,12 @@
 // Lines that a desk answers, over any store.
 use crate::held::Held;
-use rv_answering::{Answer, Line, line_of, serve_asked};
+use rv_answering::{Answer, Line, Parsed, line_of, serve_asked};
 use rv_base::Memory;
-use rv_desk::{Desk, OpenFault};
+use rv_desk::{ClosableDesk, Desk, OpenFault, TurningDesk};
 use rv_keeper::Keeper;
 use rv_sqlite::SqliteKeeper;
+use rv_turns::CloseAnswer;
+use rv_wire::ErrorBody;
 use sqlite::{Alter, Connection};
 use std::alloc::Global;
 
@@ -62,54 +64,81 @@ impl Told {
     }
 
     // Notes an answer.
-    fn hear(&mut self, answer: &Answer) -> Result<End, Memory> {
+    fn hear(&mut self, answer: &Answer) -> End {
         if answer.status() == TROUBLE {
-            return Ok(End::Trouble);
+            return End::Trouble;
         }
-        self.note(answer)?;
-        Ok(End::Done)
+        match self.note(answer) {
+            Ok(()) => End::Done,
+            Err(Memory) => End::Wrong,
+        }
     }
+}
+
+// Answers what was read of a line.
+fn serve<K: Keeper>(
+    desk: ClosableDesk<K>,
+    read: Parsed,
+    told: &mut Told,
+) -> (End, ClosableDesk<K>) {
+    let mut turning = TurningDesk::new(desk);
+    let end = told.hear(&serve_asked(&mut turning, read));
+    (end, turning.into_desk())
+}
+
+// What a closing is answered.
+fn answer_of_closing(answer: CloseAnswer) -> Answer {
+    match answer {
+        CloseAnswer::ClosedAt(place) => Answer::Closed(place),
+        CloseAnswer::Refused(refusal) => Answer::Refused(ErrorBody::Refused(refusal)),
+    }
+}
+
+// Closes the book.
+fn close_book<K: Keeper>(desk: ClosableDesk<K>, told: &mut Told) -> (End, ClosableDesk<K>) {
+    let (answer, desk) = desk.close_book();
+    (told.hear(&answer_of_closing(answer)), desk)
 }
 
 // Answers a line.
 fn answer_line<K: Keeper>(
     alloc: Global,
-    desk: &mut Desk<K>,
+    desk: ClosableDesk<K>,
     line: &str,
     told: &mut Told,
-) -> Result<End, Memory> {
-    match line_of(alloc, line.as_bytes())? {
-        Some(Line::Asks(read)) => told.hear(&serve_asked(desk, read)),
-        Some(Line::Stop) => Ok(End::Wrong),
-        Some(Line::Close) => Ok(End::Wrong),
-        None => Ok(End::Wrong),
+) -> (End, ClosableDesk<K>) {
+    match line_of(alloc, line.as_bytes()) {
+        Ok(Some(Line::Asks(read))) => serve(desk, read, told),
+        Ok(Some(Line::Close)) => close_book(desk, told),
+        _ => (End::Wrong, desk),
     }
 }
 
 // Answers lines up to the first answer that tells a trouble.
 fn answer_lines<K: Keeper>(
     alloc: Global,
-    desk: &mut Desk<K>,
+    desk: ClosableDesk<K>,
     lines: &[String],
     told: &mut Told,
-) -> Result<End, Memory> {
+) -> ClosableDesk<K> {
+    let mut desk = desk;
     for line in lines {
-        let end = answer_line(alloc, desk, line.as_str(), told)?;
+        let (end, left) = answer_line(alloc, desk, line.as_str(), told);
+        desk = left;
+        told.end = end;
         if end != End::Done {
-            return Ok(end);
+            return desk;
         }
     }
-    Ok(End::Done)
+    desk
 }
 
-// What a desk answers to lines.
-fn told_by<K: Keeper>(alloc: Global, desk: &mut Desk<K>, lines: &[String]) -> Told {
-    let mut told = Told::nothing(alloc, End::Wrong);
-    if let Ok(end) = answer_lines(alloc, desk, lines, &mut told) {
-        told.end = end;
-    }
+// What a desk answers to lines, and its keeper.
+fn told_by<K: Keeper>(alloc: Global, desk: Desk<K>, lines: &[String]) -> (Told, K) {
+    let mut told = Told::nothing(alloc, End::Done);
+    let desk = answer_lines(alloc, ClosableDesk::Open(desk), lines, &mut told);
     told.length = u64::from(desk.book().len());
-    told
+    (told, desk.close())
 }
 
 // What an opening that failed comes to.
@@ -128,9 +157,9 @@ pub fn play<S: Alter>(
     lines: &[String],
 ) -> (Told, Connection<S>) {
     match Desk::open(alloc, SqliteKeeper::adopt(alloc, connection), BOOK_LIMIT) {
-        Ok(mut desk) => {
-            let told = told_by(alloc, &mut desk, lines);
-            (told, desk.close().into_connection())
+        Ok(desk) => {
+            let (told, keeper) = told_by(alloc, desk, lines);
+            (told, keeper.into_connection())
         }
         Err((fault, keeper)) => (
             Told::nothing(alloc, end_of(&fault)),
