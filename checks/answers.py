@@ -1,8 +1,8 @@
 #!/usr/bin/env python3
 """Compares `rv feed memory` with a second model: checks/answers.py PROGRAM [RUNS]
 
-PROGRAM is the program `rv` as it was built, RUNS how many generated inputs are tried (20). Ends with status 1 at the first
-answer that differs.
+PROGRAM is the program `rv` as it was built, RUNS how many generated inputs are tried (20), of which every second one closes the book
+now and then. Ends with status 1 at the first answer that differs.
 """
 import subprocess
 import sys
@@ -11,7 +11,7 @@ from model import generated
 
 
 def kind_of(answer):
-    marks = {'"patch":[]': "nothing to put or delete", '"op":"clear"': "without a base", '"patch"': "with a base", '"error"': "refused"}
+    marks = {'"patch":[]': "nothing to put or delete", '"op":"clear"': "without a base", '"patch"': "with a base", '"error"': "refused", '"closed"': "closed"}
     return next((kind for mark, kind in marks.items() if mark in answer), "pushed or retired")
 
 
@@ -19,7 +19,7 @@ def main():
     program, runs = sys.argv[1], int(sys.argv[2]) if len(sys.argv) > 2 else 20
     counts = {}
     for seed in range(runs):
-        lines, answers = generated(seed)
+        lines, answers = generated(seed, closes=40 * (seed % 2))
         text = "".join(line + "\n" for line in lines).encode()
         run = subprocess.run([program, "feed", "memory"], input=text, stdout=subprocess.PIPE, check=True)
         told = run.stdout.decode().split("\n")[:-1]

@@ -59,7 +59,7 @@ ANSWERS = [
     r'409 \{"error":"Future","expected":' + NUMBER + ',"got":' + NUMBER + r"\}",
     r'507 \{"at":9007199254740991,"error":"Limit","which":"order"\}',
 ]
-OF_LINES = re.compile("|".join([*ANSWERS, r'200 \{"retired":' + NUMBER + r"\}", r'404 \{"error":"NoGroup"\}']))
+OF_LINES = re.compile("|".join([*ANSWERS, r'200 \{"(retired|closed)":' + NUMBER + r"\}", r'404 \{"error":"NoGroup"\}']))
 OF_REQUESTS = re.compile("|".join([
     *ANSWERS,
     r'400 \{"error":"BadHead"\}', r'431 \{"error":"HeadTooLarge"\}', r'501 \{"error":"CodingNotServed"\}', r'413 \{"error":"BodyTooLarge"\}',
@@ -146,6 +146,8 @@ def is_of_form(line):
         return False
     if "stop" in value:
         return value == {"stop": True} and value["stop"] is True
+    if "closeBook" in value:
+        return value == {"closeBook": True} and value["closeBook"] is True
     if set(value) == {"retire"}:
         return isinstance(value["retire"], str) and 1 <= len(value["retire"].encode()) <= 128
     user = value.get("user")
@@ -154,7 +156,7 @@ def is_of_form(line):
 
 @functools.cache
 def input_of(seed):
-    lines, _ = generated(seed)
+    lines, _ = generated(seed, closes=10 * (seed % 2))
     return [json.loads(line) for line in lines]
 
 
@@ -168,7 +170,9 @@ class Lines(Kind):
 
     def mutated_line(self, chance, value):
         """A line that is of the form, with a body that is mostly wrong."""
-        word = next(word for word in ("push", "pull", "retire") if word in value)
+        word = next(word for word in ("push", "pull", "retire", "closeBook") if word in value)
+        if word == "closeBook":
+            return json_text(chance, value)
         if word == "retire":
             return json_text(chance, {"retire": chance.choice(["g0", "x" * 128, "zz", "é"])})
         return json_text(chance, {**value, word: changed(chance, value[word])})
@@ -435,7 +439,7 @@ class Requests(Kind):
             raise Failure(f"the servers have entered {told}", b"")
 
     def job(self, chance):
-        values = [value for value in good_lines(chance, 500) if "retire" not in value]
+        values = [value for value in good_lines(chance, 500) if "retire" not in value and "closeBook" not in value]
         servers = [self.start(self.CONNECTIONS) for _ in range(4)]
         before = b"GET / HTTP/1.1\r\n\r\n"
         try:
@@ -516,14 +520,16 @@ class Stores(Kind):
         super().__init__(program, folder, worker)
         self.path = folder / f"store-{worker}.db"
         self.log = folder / f"store-{worker}.db-wal"
-        self.good = [self.made(count) for count in (0, 4, 12, 30)]
+        self.good = [self.made(count, None) for count in (0, 4, 12, 30)] + [self.made(count, closing) for count, closing in ((12, 12), (30, 25))]
         self.good += [(self.packed(good), b"", b"") for good, _, _ in self.good for _ in range(5)]
 
-    def made(self, count):
-        """The bytes of a store after so many lines, and of the log that it has while it is open."""
+    def made(self, count, closing):
+        """The bytes of a store after so many lines, with a closing behind so many of them, and of the log that it has while it is open."""
         for file in (self.path, self.log):
             file.unlink(missing_ok=True)
         lines = [json.dumps(value) for value in good_lines(random.Random(count), count)]
+        if closing is not None:
+            lines.insert(closing, json.dumps({"closeBook": True}))
         process = subprocess.Popen([self.program, "feed", self.path], stdin=subprocess.PIPE, stdout=subprocess.PIPE)
         for line in lines:
             process.stdin.write(line.encode() + b"\n")
@@ -555,7 +561,7 @@ class Stores(Kind):
             connection.execute("DELETE FROM cell WHERE shelf = ? AND k = ?", (shelf, key))
             way = chance.randrange(6)
             if way == 1:
-                shelf = chance.choice([0, 1, 2, 3, 4, 5, 6, 255, 256, -1, 2**63 - 1])
+                shelf = chance.choice([*range(11), 255, 256, -1, 2**63 - 1])
             if way == 2:
                 key = mutant(chance, key, other[1])
             if way > 2:

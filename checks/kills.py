@@ -2,9 +2,11 @@
 """Kills the program while it feeds a store in a file: checks/kills.py PROGRAM [KILLS [SEED]]
 
 PROGRAM is the program `rv` as it was built, KILLS how often it is killed (200). Requests are written to it one after another,
-and each answer that was read is compared with a second model's. At a moment by chance it is killed; the next run opens what is
-there. An answered mutation, pull or retirement must stand there; the one request that was written and not answered may stand
-there or not, or, of a push of several mutations, some of its first ones. Ends with status 1 where an answer is lost or differs.
+and each answer that was read is compared with a second model's; the book of every second store is closed often. At a moment by chance
+it is killed; the next run opens what is there. An answered mutation, pull, retirement or closing must stand there; the one request that
+was written and not answered may stand there or not, or, of a push of several mutations, some of its first ones. Then `close-book` is
+killed as often, over copies of one store of some thousand entries: the store must be that before or that after. Ends with status 1
+where an answer is lost or differs.
 """
 import copy
 import json
@@ -16,8 +18,9 @@ import subprocess
 import sys
 import tempfile
 import threading
+import time
 
-from model import Requests, Server, answer_of, cells
+from model import Requests, Server, answer_of, cells, more
 
 
 def held(path, folder):
@@ -96,19 +99,69 @@ def one_life(program, path, chance, server, requests):
     return unanswered, count
 
 
+def close_book(program, path, seconds):
+    """Closes the book of a store, and is killed after so many seconds, unless it has ended. What it wrote, and how long it took."""
+    start = time.monotonic()
+    run = subprocess.Popen([program, "close-book", path], stdout=subprocess.PIPE)
+    killer = threading.Timer(seconds, run.kill)
+    killer.start()
+    wrote, _ = run.communicate()
+    killer.cancel()
+    killer.join()
+    return wrote.decode(), time.monotonic() - start
+
+
+def one_closing(program, path, ways, folder, seconds):
+    """Closes the book of a copy, is killed, and tells whether it was closed, and whether that was answered."""
+    copied = os.path.join(folder, "closed.db")
+    shutil.copyfile(path, copied)
+    wrote, _ = close_book(program, copied, seconds)
+    found = held(copied, folder)
+    before, after = ways
+    if found != after and (wrote or found != before):
+        sys.exit(f"close-book wrote {wrote!r}, and what is kept is not the book {'after it' if wrote else 'before or after it'}")
+    for end in ("", "-wal"):
+        if os.path.exists(copied + end):
+            os.remove(copied + end)
+    return found == after, wrote != ""
+
+
+def check_closings(program, chance, kills, folder):
+    """Kills closings of one store."""
+    server, path = Server(), os.path.join(folder, "large.db")
+    requests = Requests(chance, server)
+    while len(server.book) < 1500:
+        lines, _ = more(requests, 100)
+        text = "".join(line + "\n" for line in lines).encode()
+        subprocess.run([program, "feed", path], input=text, stdout=subprocess.PIPE, check=True)
+    before = cells(server), len(server.book)
+    server.answer({"closeBook": True})
+    ways = before, (cells(server), len(server.book))
+    if held(path, folder) != ways[0]:
+        sys.exit("the large store has other cells")
+    shutil.copyfile(path, path + ".one")
+    wrote, whole = close_book(program, path + ".one", 60)
+    if (wrote, held(path + ".one", folder)) != (f'200 {{"closed":{len(server.book)}}}\n', ways[1]):
+        sys.exit(f"close-book wrote {wrote!r}")
+    told = [one_closing(program, path, ways, folder, chance.uniform(0, 1.1 * whole)) for _ in range(kills)]
+    closed, answered = (sum(one[at] for one in told) for at in (0, 1))
+    print(f"{kills} kills of close-book, {closed} after its commit, {answered} of them answered: each store is that before or that after")
+
+
 def main():
     program = os.path.abspath(sys.argv[1])
     kills = int(sys.argv[2]) if len(sys.argv) > 2 else 200
     seed = int(sys.argv[3]) if len(sys.argv) > 3 else 1
-    chance, answered, left = random.Random(seed), 0, 0
+    chance, answered, left, closings = random.Random(seed), 0, 0, 0
     with tempfile.TemporaryDirectory() as folder:
+        check_closings(program, chance, kills, folder)
         server, stores = Server(), 0
         requests, path = Requests(chance, server), os.path.join(folder, "0.db")
         for kill in range(kills):
             if len(server.book) > 400:
                 stores += 1
                 server = Server()
-                requests, path = Requests(chance, server), os.path.join(folder, f"{stores}.db")
+                requests, path = Requests(chance, server, closes=5 * (stores % 2)), os.path.join(folder, f"{stores}.db")
             unanswered, count = one_life(program, path, chance, server, requests)
             answered += count
             found = held(path, folder)
@@ -116,8 +169,9 @@ def main():
             if not ways:
                 sys.exit(f"kill {kill}: what is kept, at generation {found[1]}, is not the book of {len(server.book)} entries")
             left += ways[0] is not server
+            closings += unanswered == {"closeBook": True}
             server = requests.server = ways[0]
-    print(f"{kills} kills, {answered} answers: each stands, and {left} requests that were not answered do")
+    print(f"{kills} kills, {closings} of them in a closing, {answered} answers: each stands, and {left} requests that were not answered do")
 
 
 if __name__ == "__main__":

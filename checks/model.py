@@ -1,7 +1,8 @@
 """A second model of the server, outside the gate: what it answers, and the cells that it keeps.
 
 It shares nothing with the program: its book is a list, its rows are replayed, and what was written is found by comparing
-the states before and after each entry.
+the states before and after each entry. A book that is closed forgets nothing here: a closing stands in the list as an entry does,
+and what follows from a page is found by the whole list before it.
 """
 import json
 import random
@@ -140,7 +141,7 @@ def in_order(keys):
 
 
 class Server:
-    """A book of entries (kind, user, group, ..), and the rows after each number of them."""
+    """A book of entries (kind, user, group, ..) and closings, and the rows after each number of them."""
 
     def __init__(self):
         self.book = []
@@ -153,11 +154,23 @@ class Server:
             rows = effect(rows, entry[1], entry[4], entry[5])
         self.states.append(rows)
 
-    def bound(self, group):
-        return next((entry[1] for entry in self.book if entry[0] != "retire" and entry[2] == group), None)
+    def closed_at(self, place=None):
+        """The place of the last closing among so many entries, 0 where there is none."""
+        book = self.book[:place]
+        return next((at for at in range(len(book), 0, -1) if book[at - 1][0] == "close"), 0)
 
-    def is_retired(self, group):
-        return any(entry[0] == "retire" and entry[2] == group for entry in self.book)
+    def groups(self, place=None):
+        """The groups that an act or a look names."""
+        return {entry[2] for entry in self.book[:place] if entry[0] in ("act", "look")}
+
+    def bound(self, group):
+        return next((entry[1] for entry in self.book if entry[0] in ("act", "look") and entry[2] == group), None)
+
+    def is_retired(self, group, place=None):
+        return any(entry[0] == "retire" and entry[2] == group for entry in self.book[:place])
+
+    def last_order(self, group, place=None):
+        return next((entry[3] for entry in reversed(self.book[:place]) if entry[0] == "look" and entry[2] == group), 0)
 
     def refusal(self, user, group):
         if self.bound(group) not in (None, user):
@@ -190,9 +203,14 @@ class Server:
         for place, entry in enumerate(self.book, 1):
             if entry[0] != "look" or str(place) != cookie["cvrID"] or entry[1] != user or entry[3] != cookie["order"]:
                 continue
-            later = [other for other in self.book[place:] if other[0] == "look" and other[2] == entry[2]]
-            return place if len(later) < KEPT_LOOKS and not self.is_retired(entry[2]) else None
+            return place if self.is_kept(place) else None
         return None
+
+    def is_kept(self, place):
+        """Whether a look is kept: the book was not closed since, its group is not retired, and fewer than 16 later looks of it stand there."""
+        group = self.book[place - 1][2]
+        later = [entry for entry in self.book[place:] if entry[0] == "look" and entry[2] == group]
+        return place > self.closed_at() and not self.is_retired(group) and len(later) < KEPT_LOOKS
 
     def mutate(self, user, group, mutation):
         refusal = self.refusal(user, group)
@@ -240,8 +258,7 @@ class Server:
         if not patch and not ids:
             return 200, {"cookie": cookie, "lastMutationIDChanges": {}, "patch": []}
         order = cookie["order"] if isinstance(cookie, dict) else cookie or 0
-        last = next((entry[3] for entry in reversed(self.book) if entry[0] == "look" and entry[2] == group), 0)
-        order = max(order, last) + 1
+        order = max(order, self.last_order(group)) + 1
         if order > GREATEST:
             return 507, {"at": GREATEST, "error": "Limit", "which": "order"}
         self.enter(("look", user, group, order, base))
@@ -256,7 +273,13 @@ class Server:
         self.enter(("retire", None, group))
         return 200, {"retired": len(self.book)}
 
+    def close(self):
+        self.enter(("close", None, None))
+        return 200, {"closed": len(self.book)}
+
     def answer(self, request):
+        if "closeBook" in request:
+            return self.close()
         if "retire" in request:
             return self.retire(request["retire"])
         if "push" in request:
@@ -304,28 +327,35 @@ def versions_of(server):
     return versions
 
 
-def is_kept(server, place):
-    """Whether a look is kept: its group is not retired, and fewer than 16 later looks of it stand in the book."""
-    group = server.book[place - 1][2]
-    later = [entry for entry in server.book[place:] if entry[0] == "look" and entry[2] == group]
-    return not server.is_retired(group) and len(later) < KEPT_LOOKS
+def summed_up(server, place, versions):
+    """The cells of the rows, the clients and the groups after so many entries, each by its kind and key."""
+    kept = {}
+    for key, row in by_key(server.states[place]).items():
+        kept["row", key] = text_of([versions[key], row])
+    for group in server.groups(place):
+        kept["group", group] = text_of([server.bound(group), server.last_order(group, place), server.is_retired(group, place)])
+        for client, last in server.ids(group, place).items():
+            kept["client", client] = text_of([group, last])
+    return kept
 
 
 def cells(server):
     """The cells of the book, each by its shelf and key."""
-    book, versions, kept, counts = server.book, versions_of(server), {}, {}
-    for place, entry in enumerate(book, 1):
+    versions, kept, counts, page = versions_of(server), {}, {}, server.closed_at()
+    for place, entry in enumerate(server.book, 1):
         if entry[0] == "act":
             counts[entry[3]] = counts.get(entry[3], 0) + 1
-            kept[3, entry[3]] = text_of([server.acts(entry[3])[0][2], counts[entry[3]]])
-        kept[1, f"{place:010}"] = text_of(entry_value(entry, counts.get(entry[3]) if entry[0] == "act" else None))
-        if entry[0] == "look" and is_kept(server, place):
+        if place > page:
+            kept[1, f"{place:010}"] = text_of(entry_value(entry, counts.get(entry[3]) if entry[0] == "act" else None))
+        if entry[0] == "look" and server.is_kept(place):
             kept[5, f"{place:010}"] = text_of(view_value(server, place, versions[place]))
-    for key, row in by_key(server.states[-1]).items():
-        kept[2, key] = text_of([versions[-1][key], row])
-    for group in {entry[2] for entry in book if entry[0] != "retire"}:
-        orders = [entry[3] for entry in book if entry[0] == "look" and entry[2] == group]
-        kept[4, group] = text_of([server.bound(group), orders[-1] if orders else 0, server.is_retired(group)])
+    shelves = {"row": 2, "client": 3, "group": 4}
+    for (kind, key), text in summed_up(server, len(server.book), versions[-1]).items():
+        kept[shelves[kind], key] = text
+    if page > 0:
+        kept[6, ""] = text_of(page)
+        for (kind, key), text in summed_up(server, page, versions[page]).items():
+            kept[shelves[kind] + 5, key] = text
     return kept
 
 
@@ -343,13 +373,12 @@ def lists_text(server):
 
 
 def activity_text(server):
-    """The report of who did how much."""
-    lines = []
-    for user in in_order({entry[1] for entry in server.book if entry[0] != "retire"}):
-        acts = [entry for entry in server.book if entry[0] == "act" and entry[1] == user]
-        looks = [entry for entry in server.book if entry[0] == "look" and entry[1] == user]
+    """The report of who did how much since the book was closed, and of all groups."""
+    lines, book, groups = [], server.book[server.closed_at():], server.groups()
+    for user in in_order({entry[1] for entry in book if entry[0] in ("act", "look")}):
+        acts = [entry for entry in book if entry[0] == "act" and entry[1] == user]
+        looks = [entry for entry in book if entry[0] == "look" and entry[1] == user]
         lines.append(f"{len(acts):10}{sum(act[5] is None for act in acts):10}{len(looks):10} {text_of(user)}")
-    groups = {entry[2] for entry in server.book if entry[0] != "retire"}
     return lines + [f"groups {len(groups)} retired {sum(server.is_retired(group) for group in groups)}"]
 
 
@@ -363,10 +392,10 @@ NAMES = {
 
 
 class Requests:
-    """Requests by chance: mostly what clients send, and now and then what they should not."""
+    """Requests by chance: mostly what clients send, and now and then what they should not. Of so many one closes the book, 0 for none."""
 
-    def __init__(self, chance, server):
-        self.chance, self.server, self.answered = chance, server, []
+    def __init__(self, chance, server, closes=0):
+        self.chance, self.server, self.closes, self.answered = chance, server, closes, []
 
     def one_in(self, many):
         return self.chance.randrange(many) == 0
@@ -424,6 +453,8 @@ class Requests:
         return {"user": user, "pull": {"pullVersion": 1, "clientGroupID": group, "profileID": "p", "schemaVersion": "", "cookie": self.cookie(user, group)}}
 
     def next(self):
+        if self.closes > 0 and self.one_in(self.closes):
+            return {"closeBook": True}
         if self.one_in(400):
             return {"retire": self.chance.choice(GROUPS + ["zz"])}
         return self.push() if self.one_in(2) else self.pull()
@@ -456,7 +487,7 @@ def more(requests, count):
     return lines, answers
 
 
-def generated(seed):
-    """The lines of an input, and what they are to be answered."""
+def generated(seed, closes=0):
+    """The lines of an input, and what they are to be answered. Of so many one closes the book, 0 for none."""
     chance = random.Random(seed)
-    return more(Requests(chance, Server()), chance.choice([50, 200, 500]))
+    return more(Requests(chance, Server(), closes), chance.choice([50, 200, 500]))

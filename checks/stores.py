@@ -2,7 +2,7 @@
 """Compares stores in files with a second model: checks/stores.py PROGRAM [STORES]
 
 PROGRAM is the program `rv` as it was built, STORES how many stores are tried (10). Each is fed by several runs of the program,
-with stops among the lines; the answers are compared with the model's, and after each run the three reports, and the cells, as
+with stops among the lines, and in every second store with closings; the answers are compared with the model's, and after each run the three reports, and the cells, as
 Python's sqlite3 reads them, with those of the model's book. At last so is a store of 10,000 rows. Ends with status 1 at the first difference.
 """
 import contextlib
@@ -56,7 +56,7 @@ def with_stops(chance, lines):
 
 def check_store(program, path, seed):
     chance, server = random.Random(seed), Server()
-    requests = Requests(chance, server)
+    requests = Requests(chance, server, closes=40 * (seed % 2))
     for run in range(4):
         lines, answers = more(requests, chance.choice([0, 1, 60, 150]))
         status, told = feed(program, path, with_stops(chance, lines))
