@@ -81,9 +81,11 @@ module _ {K : Type 0} (G : Ghosts K) where
       ((closable G.faults old).served, inl refl, settled_unique old.book new old.doubt held (sound-told old.limit old.book sound.within.1 (seat_book old sound)) sound.fits.1 (sound-told (2 ^ 32 - 1) new (omega arith) own) is kept)
   settle_at old new held sound own is (Some closed) some (inl kept) closes =
       ((closable G.faults old).served, inl refl, inl (kept_unique new old.book held (sound-told (2 ^ 32 - 1) new (omega arith) own) (sound-told old.limit old.book sound.within.1 (seat_book old sound)) is kept))
-  settle_at old new held sound own is (Some closed) some (inr kept) (closes, parts, below) =
-      (with_book (closable G.faults old).served closed, inr (closed, some, refl),
-       inl (kept_unique new closed held (sound-told (2 ^ 32 - 1) new (omega arith) own) (sound-told old.limit closed sound.within.1 (sound_closed old.limit old.book closed sound.lawful closes parts below)) is kept))
+  settle_at old new held sound own is (Some closed) some (inr kept) (closes, parts, below) = (
+    with_book (closable G.faults old).served closed,
+    inr (closed, some, refl),
+    inl (kept_unique new closed held (sound-told (2 ^ 32 - 1) new (omega arith) own) (sound-told old.limit closed sound.within.1 (sound_closed old.limit old.book closed sound.lawful closes parts below)) is kept),
+  )
 
   -- the desk that is opened from the keeper of a closed one
   pub reopened : (old : ClosableSeat K) (new : Seated K) (kept : K) → kept ≡ old.keeper → IsSoundSeat old → KeepsClosable G old → Opens G (2 ^ 32 - 1) kept new → OpensAgain G old (open_seat new)
@@ -231,7 +233,7 @@ module _ {K : Type 0} (G : Ghosts K) where
       → TakesStep (G.tells new.keeper) (closable G.faults old) asked answer (closable G.faults new) × Before (Some old) (Some new)
   desk_handles old new asked answer before after is also handled =
       let step : steps.Handles desk_takes (Some old) asked answer (Some new) = map_handled (TakesInPlace G) desk_takes in_place (Some old) (Some new) asked answer
-          (subst (λ (o : Option (ClosableSeat K)). steps.Handles (TakesInPlace G) o asked answer (Some new)) is (subst (λ (o : Option (ClosableSeat K)). steps.Handles (TakesInPlace G) before asked answer o) also handled)) in
+      (subst (λ (o : Option (ClosableSeat K)). steps.Handles (TakesInPlace G) o asked answer (Some new)) is (subst (λ (o : Option (ClosableSeat K)). steps.Handles (TakesInPlace G) before asked answer o) also handled)) in
       let goes = desk_goes (Some old) (Some new) asked answer step in
       (record { step = goes.0; near = λ told change. (desk_near (Some old) (Some new) asked answer step).1 change told }, goes.1)
 

@@ -130,12 +130,7 @@ pub fn run_retire<P: Place, O: Sink>(
 }
 
 /// Closes the book that the store keeps: the command `close-book STORE`. The status is 0, 4, 5, 7 or 8.
-pub fn run_close<P: Place, O: Sink>(
-    alloc: Global,
-    place: &mut P,
-    store: &str,
-    out: &mut O,
-) -> u8
+pub fn run_close<P: Place, O: Sink>(alloc: Global, place: &mut P, store: &str, out: &mut O) -> u8
     // What is written is the answer at the book that the store kept, and the store keeps the book that it leaves.
     ensures closes { WasClosed P.Place O.Sink store.now place.old place.new out.old out.new result }
 
