@@ -5,7 +5,7 @@ PROGRAM is the program `rv` as it was built, KILLS how often it is killed (200).
 and each answer that was read is compared with a second model's; the book of every second store is closed often. At a moment by chance
 it is killed; the next run opens what is there. An answered mutation, pull, retirement or closing must stand there; the one request that
 was written and not answered may stand there or not, or, of a push of several mutations, some of its first ones. Then `close-book` is
-killed as often, over copies of one store of some thousand entries: the store must be that before or that after. Ends with status 1
+killed as often, over copies of one store of more than a thousand entries: the store must be that before or that after. Ends with status 1
 where an answer is lost or differs.
 """
 import copy
@@ -20,7 +20,7 @@ import tempfile
 import threading
 import time
 
-from model import Requests, Server, answer_of, cells, more
+from model import Requests, Server, answer_of, cells
 
 
 def held(path, folder):
@@ -126,14 +126,26 @@ def one_closing(program, path, ways, folder, seconds):
     return found == after, wrote != ""
 
 
+def made_long(requests):
+    """Requests by chance, a thousand mutations of one client behind them, and a pull of all its rows."""
+    requests = [requests.next() for _ in range(300)]
+    calls = [("createList", {"id": "long", "name": "Home", "ownerID": "ann"})]
+    calls += [("createTodo", {"id": f"long{n}", "listID": "long", "text": "milk", "complete": False}) for n in range(100)]
+    calls += [("updateTodo", {"id": f"long{n % 100}", "text": f"eggs {n}"}) for n in range(900)]
+    mutations = [{"clientID": "long", "id": number, "name": name, "args": args} for number, (name, args) in enumerate(calls, 1)]
+    body = {"clientGroupID": "long", "profileID": "p", "schemaVersion": ""}
+    requests += [{"user": "ann", "push": {"pushVersion": 1, **body, "mutations": mutations[at:at + 100]}} for at in range(0, len(mutations), 100)]
+    return requests + [{"user": "ann", "pull": {"pullVersion": 1, **body, "cookie": None}}]
+
+
 def check_closings(program, chance, kills, folder):
     """Kills closings of one store."""
     server, path = Server(), os.path.join(folder, "large.db")
-    requests = Requests(chance, server)
-    while len(server.book) < 1500:
-        lines, _ = more(requests, 100)
-        text = "".join(line + "\n" for line in lines).encode()
-        subprocess.run([program, "feed", path], input=text, stdout=subprocess.PIPE, check=True)
+    asked = made_long(Requests(chance, server))
+    text = "".join(json.dumps(request) + "\n" for request in asked).encode()
+    run = subprocess.run([program, "feed", path], input=text, stdout=subprocess.PIPE, check=True)
+    if run.stdout.decode() != "".join(answer_of(server, request) + "\n" for request in asked):
+        sys.exit("the large store was answered otherwise")
     before = cells(server), len(server.book)
     server.answer({"closeBook": True})
     ways = before, (cells(server), len(server.book))
@@ -156,12 +168,12 @@ def main():
     with tempfile.TemporaryDirectory() as folder:
         check_closings(program, chance, kills, folder)
         server, stores = Server(), 0
-        requests, path = Requests(chance, server), os.path.join(folder, "0.db")
+        requests, path = Requests(chance, server, closes=5), os.path.join(folder, "0.db")
         for kill in range(kills):
             if len(server.book) > 400:
                 stores += 1
                 server = Server()
-                requests, path = Requests(chance, server, closes=5 * (stores % 2)), os.path.join(folder, f"{stores}.db")
+                requests, path = Requests(chance, server, closes=5 * (stores % 2 == 0)), os.path.join(folder, f"{stores}.db")
             unanswered, count = one_life(program, path, chance, server, requests)
             answered += count
             found = held(path, folder)
