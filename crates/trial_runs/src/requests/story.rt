@@ -77,11 +77,11 @@ impl Story {
         if self.looks.is_empty() || !self.draws.once_in(6) {
             return None;
         }
-        let look = if self.draws.once_in(3) {
-            self.looks.get(self.draws.below(self.looks.len()))?
-        } else {
-            self.last_earlier(group)?
-        };
+        if self.draws.once_in(3) {
+            let look = self.looks.get(self.draws.below(self.looks.len()))?;
+            return Some((look.place, look.order));
+        }
+        let look = self.last_earlier(group)?;
         Some((look.place, look.order))
     }
 
