@@ -1,4 +1,3 @@
 pub mod Settled
 pub mod Holding
 pub mod Leaving
-pub mod ClosedHolding

@@ -1,7 +1,5 @@
 -- Turns where nothing is in doubt.
-use Rattle.std.proofs.Common.{Option, Some, None, Ok, Err, inl, refl, sym, subst}
-use Rattle.rv_book.specs.declared.entry.Entry.{Entry}
-use Rattle.rv_book.specs.Book.{with_entry}
+use Rattle.std.proofs.Common.{◌≡◌, Option, Some, None, Ok, Err, inl, refl, sym, subst}
 use Rattle.rv_keeper.specs.declared.fault.KeepFault.{KeepFault}
 use Rattle.rv_keeper.specs.declared.fault.KeepFault.TheVariants.{Failed, Memory}
 use Rattle.rv_turns.specs.Asks.{Ask}
@@ -12,19 +10,20 @@ use Rattle.rv_turns.specs.declared.refusal.Trouble.{Trouble}
 use Rattle.rv_turns.specs.declared.refusal.Trouble.TheVariants.{Keeper}
 use Rattle.rv_wire.specs.Answers.{pull_json}
 use Rattle.rv_history.specs.Machine.{Refuses, Step}
-use Rattle.rv_history.specs.Served.{Served, TurnOf, TakesTurn}
+use Rattle.rv_history.specs.Served.{IsOf, Next, Served, TurnOf, TakesTurn, with_next}
+use Rattle.rv_turns.specs.Outcomes.{refusal_of}
 use Rattle.rv_desk.specs.Keeping.{IsKept}
 use Rattle.rv_desk.specs.Stepping.{HasStepped}
 
--- where the entry that a step would enter is not kept
-pub not_kept : {T : Type 0} (ask : Ask) (entered : Outcome) (entry : Entry) (old new : Served) (fault : KeepFault) → Step pull_json old.limit old.book ask entered (with_entry old.book entry) → Refuses old.limit old.book ask refusals.Memory
-    → IsKept {T = T} old entry (Err fault) new → HasStepped old ask (Err fault) new
-not_kept ask entered entry old new Failed step memory kept = record {
-  stepped = (entry, record { outcome = entered; step = step; rose = kept.kept.2; book = kept.kept.0; doubt = kept.kept.1 });
+-- where what a step would enter is not kept
+pub not_kept : {T : Type 0} (ask : Ask) (entered : Outcome) (next : Next) (old new : Served) (fault : KeepFault) → refusal_of entered ≡ None → IsOf ask next → Step pull_json old.limit old.book ask entered (with_next old.book next) → Refuses old.limit old.book ask refusals.Memory
+    → IsKept {T = T} old next (Err fault) new → HasStepped old ask (Err fault) new
+not_kept ask entered next old new Failed done is step memory kept = record {
+  stepped = (next, record { outcome = entered; done = done; is = is; step = step; rose = kept.kept.2; book = kept.kept.0; doubt = kept.kept.1 });
   later = kept.later;
   limit = kept.limit;
 }
-not_kept ask entered entry old new Memory step memory kept = record {
+not_kept ask entered next old new Memory done is step memory kept = record {
   stepped = (memory, kept.kept.0, kept.kept.1, kept.kept.2);
   later = kept.later;
   limit = kept.limit;

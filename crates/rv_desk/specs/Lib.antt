@@ -4,5 +4,3 @@ pub mod Keeping
 pub mod Settling
 pub mod Stepping
 pub mod TurnLaws
-pub mod ClosingSeats
-pub mod Closable

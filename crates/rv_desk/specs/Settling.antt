@@ -1,4 +1,4 @@
--- What becomes of an entry in doubt.
+-- What becomes of what is in doubt.
 use Rattle.std.specs.Prelude.{◌≡◌, ◌≤◌, Option, Some, None, Result, Ok, Err}
 use Rattle.rv_turns.specs.declared.refusal.Trouble.{Trouble}
 use Rattle.rv_history.specs.Served.{Served, Settles, StaysInDoubt}

@@ -2,7 +2,7 @@
 use Rattle.std.proofs.Common.{◌≡◌, ℕ, Option, Some, None, Ok, Err, refl, ap, ◌∙◌, subst, arith, inl, ⊎_elim}
 use Rattle.std.specs.Prelude.{IsSome}
 use Rattle.rv_base.specs.Causes.{rose_before}
-use Rattle.rv_book.specs.Book.{Book, with_entry}
+use Rattle.rv_book.specs.Book.{Book}
 use Rattle.rv_turns.specs.Asks.{Ask}
 use Rattle.rv_turns.specs.Outcomes.{trouble_of}
 use Rattle.rv_turns.specs.declared.outcome.Outcome.{Outcome}
@@ -11,7 +11,7 @@ use Rattle.rv_turns.specs.declared.refusal.Refusal.TheVariants as refusals
 use Rattle.rv_turns.specs.declared.refusal.Trouble.{Trouble}
 use Rattle.rv_turns.specs.declared.refusal.Trouble.TheVariants.{Keeper, Changed}
 use Rattle.rv_history.specs.Machine.{ReplyText, Step}
-use Rattle.rv_history.specs.Served.{Doubt, with_doubt, Served, Settles, TurnOf, TakesTurn}
+use Rattle.rv_history.specs.Served.{Doubt, with_doubt, with_next, Served, Settles, TurnOf, TakesTurn}
 use Rattle.rv_desk.specs.Seated.{Assures}
 use Rattle.rv_desk.specs.Settling.{HasSettled}
 
@@ -22,7 +22,7 @@ none_settles book doubt settled none settles = ⊎_elim (λ same. same) (λ same
 -- what is in doubt is not nothing
 pub no_doubt : {T : Type 0} (doubt : Doubt) → doubt ≡ None → IsSome doubt → T
 no_doubt None none some = absurd (cc)
-no_doubt (Some entry) none some = absurd (cc)
+no_doubt (Some next) none some = absurd (cc)
 
 -- what is known of a call that settles, and of one that follows, is known of both
 pub assures_on : {K : Type 0} (tells fails_no_more : K → Type 0) (old mid new : K) (trouble : Option Trouble) → Assures tells fails_no_more old None mid → Assures tells fails_no_more mid trouble new → Assures tells fails_no_more old trouble new
@@ -42,16 +42,18 @@ module _ (write : ReplyText) (ask : Ask) (outcome : Outcome) where
     still ∙ is.settled.2,
   )
   turn_from old mid new settled None (Some trouble) is settling (same, stays) = no_doubt mid.doubt is.settled.1 stays.doubt
-  turn_from old mid new settled (Some entry) (Some Keeper) is settling left =
+  turn_from old mid new settled (Some next) (Some Keeper) is settling left =
       let same : settled ≡ mid.book = none_settles mid.book mid.doubt settled is.settled.1 settling in record {
         outcome = left.outcome;
-        step = subst (λ (book : Book). Step write old.limit book ask left.outcome (with_entry book entry)) same (subst (λ (limit : ℕ). Step write limit settled ask left.outcome (with_entry settled entry)) is.limit left.step);
+        done = left.done;
+        is = left.is;
+        step = subst (λ (book : Book). Step write old.limit book ask left.outcome (with_next book next)) same (subst (λ (limit : ℕ). Step write limit settled ask left.outcome (with_next settled next)) is.limit left.step);
         rose = rose_before old.faults mid.faults new.faults is.later left.rose;
         book = left.book ∙ same;
         doubt = left.doubt;
       }
-  turn_from old mid new settled (Some entry) (Some (Changed kept found)) is settling never = absurd never
-  turn_from old mid new settled (Some entry) None is settling never = absurd never
+  turn_from old mid new settled (Some next) (Some (Changed kept found)) is settling never = absurd never
+  turn_from old mid new settled (Some next) None is settling never = absurd never
 
   abbrev pub turn_after : (old mid new : Served) → HasSettled old (Ok tt) mid → TakesTurn write mid ask outcome new → TakesTurn write old ask outcome new
   turn_after old mid new is taken = record {

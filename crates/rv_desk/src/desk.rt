@@ -1,5 +1,4 @@
-ghost use Rattle.std.specs.Prelude.{◌≡◌, ◌≤◌, ◌<◌, ◌^◌, IfSome};
-ghost use Rattle.rv_book.specs.Book.{size};
+ghost use Rattle.std.specs.Prelude.{◌≡◌, ◌<◌};
 ghost use Rattle.rv_keeper.specs.Cells.{AreCells};
 ghost use Rattle.rv_desk.specs.Opened.{IsLoaded, OpensOrNot, OpensLoaded};
 ghost use Rattle.rv_desk.specs.Seated.{DeskTakes};
@@ -21,8 +20,8 @@ use std::sync::ledger::{Blank, Ledger};
 
 /// One sequential server over what keeps it.
 ///
-/// An entry whose commit failed is in doubt, since it may have been kept; [`Desk::book`], [`Desk::tables`] and
-/// [`Desk::records`] speak of the book without it. The next turn settles it.
+/// What was to be entered, an entry or the closed book, is in doubt where its commit failed, since it may have been kept;
+/// [`Desk::book`], [`Desk::tables`] and [`Desk::records`] speak of the book without it. The next turn settles it.
 pub struct Desk<K: Keeper> {
     pub(crate) state: State,
     pub(crate) doubt: Option<Prepared>,
@@ -32,12 +31,12 @@ pub struct Desk<K: Keeper> {
 
 impl<K: Keeper> Model for Desk<K> {
     ghost use Rattle.std.specs.Prelude.{option_map};
-    ghost use Rattle.rv_state.specs.Ready.{entry_of};
+    ghost use Rattle.rv_state.specs.Ready.{next_of};
     ghost use Rattle.rv_desk.specs.Seated.{Seated, AreInStep, LeavesInStep};
 
     ghost Value = { Seated K };
 
-    ghost view = { λ d. record { book = d.state.book; limit = d.state.limit; doubt = option_map entry_of d.doubt; keeper = d.keeper } };
+    ghost view = { λ d. record { book = d.state.book; limit = d.state.limit; doubt = option_map next_of d.doubt; keeper = d.keeper } };
 
     ghost invariant = { λ d. AreInStep d.state d.doubt (K.tells d.keeper) (K.holds d.keeper) × LeavesInStep d.state d.doubt (K.honest d.keeper) (K.may_leave d.keeper) };
 }
@@ -52,7 +51,7 @@ impl<K: Keeper> Desk<K> {
     ghost use Rattle.rv_news.specs.Records.{AreRecords};
     ghost use Rattle.rv_opening.specs.PageCells.{PartsFit};
     ghost use Rattle.rv_record.specs.EntryReading.{EntryFits};
-    ghost use Rattle.rv_desk.specs.Seated.{HoldsBook, KeepsBook, LeavesBook};
+    ghost use Rattle.rv_desk.specs.Seated.{HoldsBook, IsSoundDesk, KeepsBook, LeavesBook};
 
     /// The desk of the book that the keeper holds, which takes at most so many entries. Whatever is kept is left as it is. The
     /// refusals give the keeper back: the keeper failed, and its count of faults rose; the cells are not just those of a lawful
@@ -68,7 +67,7 @@ impl<K: Keeper> Desk<K> {
         }
     }
 
-    /// The book, without an entry in doubt. Takes no memory.
+    /// The book, without what is in doubt. Takes no memory.
     pub fn book(&self) -> &Book
         ensures book { result.now.book ≡ self.now.book }
         ensures limit { result.now.limit ≡ self.now.limit }
@@ -96,7 +95,7 @@ impl<K: Keeper> Desk<K> {
         self.state.records()
     }
 
-    /// The mark of a user in the book, without an entry in doubt: the greatest place of an act that is by the user, or after which what the
+    /// The mark of a user in the book, without what is in doubt: the greatest place of an act that is by the user, or after which what the
     /// user sees is another; where there is none that of the book's page, and 0 without one. Takes no memory.
     pub fn mark(&self, user: &User) -> u32
         ensures mark { IsMark user.now self.now.book result }
@@ -112,16 +111,11 @@ impl<K: Keeper> Desk<K> {
         &self.keeper
     }
 
-    /// Gives the keeper back as it is. An entry in doubt is dropped, unsettled.
+    /// Gives the keeper back as it is. What is in doubt is dropped, unsettled.
     pub fn close(self) -> K
         ensures keeper { result ≡ self.keeper }
-        ensures lawful { IsLawful self.book }
-        ensures fits { AllByRecursion EntryFits self.book.entries × IfSome self.doubt EntryFits }
-        ensures parts { PartsFit self.book.page }
-        ensures within { (size self.book ≤ self.limit) × (self.limit < 2 ^ 32) }
-        ensures next { MayStand self.book self.limit self.doubt }
-        ensures held { K.tells self.keeper → HoldsBook (K.holds self.keeper) self.book self.doubt }
-        ensures left { K.honest self.keeper → LeavesBook (K.may_leave self.keeper) self.book self.doubt }
+        ensures sound { IsSoundDesk self }
+        ensures kept { KeepsBook K.Keeper self.keeper self.book self.doubt }
     {
         // The book tells that it is lawful, and within its limit.
         let _length = self.state.book().len();
@@ -163,6 +157,8 @@ impl<K: Keeper> Turns for Desk<K> {
     ghost use Rattle.rv_desk.specs.Seated.{DeskTakes};
 
     ghost takes = { DeskTakes K.Keeper };
+
+    ghost closes = { Unit };
 
     fn take(&mut self, asked: Asked<'_>) -> Outcome {
         take_from::<K, Brand>(self, asked, Blank::new(1))
@@ -225,5 +221,13 @@ impl<K: Keeper> Desk<K> {
         ensures { DeskTakes K.Keeper self.old (Ask.retirement group.now) result self.new }
     {
         self.take(Asked::Retirement { group })
+    }
+
+    /// Closes the book: the page that sums it up, at the place after its last, comes in the place of its entries, in one commit. After
+    /// every refusal but `Trouble::Keeper` all is as before, once what was in doubt is settled.
+    pub fn close_book(&mut self) -> Outcome
+        ensures { DeskTakes K.Keeper self.old Ask.closing result self.new }
+    {
+        self.take(Asked::Closing)
     }
 }

@@ -3,7 +3,7 @@ ghost use Rattle.std.specs.Prelude.{◌≡◌, Some};
 
 use rv_state::Prepared;
 
-// Leaves an entry in doubt, in the place of what was.
+// Leaves this in doubt, in the place of what was.
 pub(crate) fn leave_in_doubt(doubt: &mut Option<Prepared>, prepared: Prepared)
     ensures { doubt.new ≡ Some prepared }
 {

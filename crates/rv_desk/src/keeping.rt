@@ -1,8 +1,8 @@
-// Keeping an entry: the changes of cells that it makes are committed, and then it is entered.
+// Keeping what is prepared: the changes of cells that it makes are committed, and then it is entered.
 ghost use Rattle.std.specs.Prelude.{◌≡◌, None};
 ghost use Rattle.rv_desk.specs.Keeping.{IsKept, keep_trouble};
 ghost use Rattle.rv_desk.specs.Seated.{Assures, AreInStep, LeavesInStep, parts_served};
-ghost use Rattle.rv_state.specs.Ready.{IsPrepared, entry_of};
+ghost use Rattle.rv_state.specs.Ready.{IsPrepared, next_of};
 
 use crate::doubt::leave_in_doubt;
 use rv_keeper::{KeepFault, Keeper};
@@ -10,8 +10,8 @@ use rv_state::{Prepared, State};
 use rv_store::changes_for;
 use std::alloc::Global;
 
-// Commits what a prepared entry changes, and enters it. All memory is taken before the commit. Where the keeper fails, the
-// entry is in doubt.
+// Commits what is changed, and enters what is prepared. All memory is taken before the commit. Where the keeper fails, it is in
+// doubt.
 pub(crate) fn keep<K: Keeper>(
     alloc: Global,
     state: &mut State,
@@ -23,7 +23,7 @@ pub(crate) fn keep<K: Keeper>(
     requires settled { doubt.old ≡ None }
     requires in_step { AreInStep state.old doubt.old (K.tells keeper.old) (K.holds keeper.old) }
     requires left { LeavesInStep state.old doubt.old (K.honest keeper.old) (K.may_leave keeper.old) }
-    ensures kept { IsKept (parts_served state.old doubt.old (K.faults keeper.old)) (entry_of prepared) result (parts_served state.new doubt.new (K.faults keeper.new)) }
+    ensures kept { IsKept (parts_served state.old doubt.old (K.faults keeper.old)) (next_of prepared) result (parts_served state.new doubt.new (K.faults keeper.new)) }
     ensures assured { Assures K.tells K.fails_no_more keeper.old (keep_trouble result) keeper.new }
     ensures in_step { AreInStep state.new doubt.new (K.tells keeper.new) (K.holds keeper.new) }
     ensures left { LeavesInStep state.new doubt.new (K.honest keeper.new) (K.may_leave keeper.new) }

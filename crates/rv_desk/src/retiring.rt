@@ -3,6 +3,7 @@ ghost use Rattle.std.specs.Prelude.{◌≡◌, ◌<◌, ◌+◌, None, IfOk};
 ghost use Rattle.rv_book.specs.declared.entry.Entry.TheVariants.{Retire};
 ghost use Rattle.rv_book.specs.Book.{size};
 ghost use Rattle.rv_history.specs.Lawful.{IsLawfulAfter};
+ghost use Rattle.rv_history.specs.Served.{Next};
 ghost use Rattle.rv_turns.specs.Asks.{Ask};
 ghost use Rattle.rv_desk.specs.Keeping.{IsKept, keep_trouble};
 ghost use Rattle.rv_desk.specs.Seated.{Assures, served};
@@ -45,7 +46,7 @@ impl<K: Keeper> Desk<K> {
         requires settled { self.old.doubt ≡ None }
         requires within_limit { size self.old.book < self.old.limit }
         requires lawful { IsLawfulAfter self.old.book (Retire group.now) }
-        ensures kept { IsKept (served K.faults self.old) (Retire group.now) result (served K.faults self.new) }
+        ensures kept { IsKept (served K.faults self.old) (Next.entry (Retire group.now)) result (served K.faults self.new) }
         ensures assured { Assures K.tells K.fails_no_more self.old.keeper (keep_trouble result) self.new.keeper }
         ensures place { IfOk result (λ place. place ≡ size self.old.book + 1) }
     {

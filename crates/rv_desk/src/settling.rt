@@ -1,4 +1,4 @@
-// Settling what is in doubt: the keeper's generation tells whether the entry was kept.
+// Settling what is in doubt: the keeper's generation tells whether it was kept.
 ghost use Rattle.std.specs.Prelude.{◌≡◌, None, Some};
 ghost use Rattle.rv_desk.specs.Seated.{Assures, AreInStep, KeepsBook, LeavesInStep, parts_served, served};
 ghost use Rattle.rv_desk.specs.Settling.{HasSettled, settle_trouble};
@@ -12,7 +12,7 @@ use rv_state::{Prepared, State};
 use rv_turns::Trouble;
 
 impl<K: Keeper> Desk<K> {
-    /// Settles the entry in doubt, if there is one: it is entered where it was kept, and dropped where it was not. Where the keeper
+    /// Settles what is in doubt, if anything is: it is entered where it was kept, and dropped where it was not. Where the keeper
     /// does not say so, it stays in doubt. Every turn does this first. Takes no memory.
     pub fn settle(&mut self) -> Result<(), Trouble>
         ensures settled { HasSettled (served K.faults self.old) result (served K.faults self.new) }
@@ -23,7 +23,7 @@ impl<K: Keeper> Desk<K> {
     }
 }
 
-// Settles the entry in doubt, if there is one. Takes no memory.
+// Settles what is in doubt, if anything is. Takes no memory.
 pub(crate) fn settle<K: Keeper>(
     state: &mut State,
     doubt: &mut Option<Prepared>,
@@ -42,7 +42,7 @@ pub(crate) fn settle<K: Keeper>(
     }
 }
 
-// Settles this entry, which was in doubt: it is entered where it was kept, and dropped where it was not. Where the keeper does
+// Settles this, which was in doubt: it is entered where it was kept, and dropped where it was not. Where the keeper does
 // not say so, it stays in doubt.
 #[tactic(auto, using(crate::proofs::Leaving::settled_in_step, crate::proofs::Leaving::left_as_held))]
 fn settle_one<K: Keeper>(

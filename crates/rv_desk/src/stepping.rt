@@ -66,6 +66,7 @@ impl<K: Keeper> Desk<K> {
             } => self.run(user, group, client, id, call),
             Asked::Pull { user, request } => self.answer(user, request, steps),
             Asked::Retirement { group } => self.end_group(group),
+            Asked::Closing => self.end_book(),
         }
     }
 }

@@ -13,7 +13,7 @@ use Rattle.rv_turns.specs.Outcomes.{refusal_of}
 use Rattle.rv_turns.specs.Pushing.{Pushes}
 use Rattle.rv_turns.specs.declared.mutation.Mutation.{Mutation}
 use Rattle.rv_turns.specs.declared.outcome.Outcome.{Outcome}
-use Rattle.rv_turns.specs.declared.outcome.Outcome.TheVariants.{Acted, Skipped, Pulled, Retired, Refused}
+use Rattle.rv_turns.specs.declared.outcome.Outcome.TheVariants.{Acted, Skipped, Pulled, Retired, Closed, Refused}
 use Rattle.rv_turns.specs.declared.refusal.Refusal.{Refusal}
 use Rattle.rv_book.specs.declared.entry.Entry.{Entry}
 use Rattle.rv_book.specs.declared.entry.Entry.TheVariants.{Act, Look, Retire}
@@ -24,7 +24,7 @@ use Rattle.rv_history.specs.Lawful.{IsLawful}
 use Rattle.rv_history.specs.LawfulBooks.{ids_count_up, last_append}
 use Rattle.rv_history.specs.Laws.{act_ids, IsEntered}
 use Rattle.rv_history.specs.Machine.{ReplyText, Step, TakesMutation}
-use Rattle.rv_history.specs.Succession.{entered_on}
+use Rattle.rv_history.specs.Succession.{mutations_stay}
 use Rattle.rv_history.specs.Served.{Served, IsSound, TakesTurn}
 use Rattle.rv_history.specs.TurnLaws.{no_trouble, step_of}
 use Rattle.rv_history.proofs.KeptLaws.{turns_keep, pushes_keep, settled_lawful}
@@ -117,6 +117,7 @@ module _ (write : ReplyText) (from : Sender) where
   mutation_stands limit m book new (Refused refusal) step some lawful first = absurd (cc)
   mutation_stands limit m book new (Pulled reply) never none lawful first = absurd never
   mutation_stands limit m book new (Retired place) never none lawful first = absurd never
+  mutation_stands limit m book new (Closed place) never none lawful first = absurd never
 
   turn_stands : (m : Mutation) (old new : Served) (outcome : Outcome) → TakesTurn write old (Ask.mutation from m) outcome new → refusal_of outcome ≡ None → IsSound old → 1 ≤ m.id → IsEntered from new.book m
   turn_stands m old new outcome taken none sound first =
@@ -135,4 +136,4 @@ module _ (write : ReplyText) (from : Sender) where
       let (none, goes) = went_on ms mid new later (refusal_of outcome) rest in
       let kept = turns_keep write (Ask.mutation from m) old mid outcome taken sound in
       let more = (pushes_keep write from ms mid new None later goes kept.sound).more in
-      (λ first. entered_on from m mid.book new.book more (turn_stands m old mid outcome taken none sound first), pushes_stand ms mid new later goes kept.sound)
+      (λ first. mutations_stay from m mid.book new.book kept.sound.lawful more (turn_stands m old mid outcome taken none sound first), pushes_stand ms mid new later goes kept.sound)

@@ -1,8 +1,8 @@
 -- Closing a book: the page that sums it up, with which it goes on, and that nothing that is asked of a book is another afterwards.
-use Rattle.std.specs.Prelude.{◌≡◌, ℕ, ◌+◌, List, []}
+use Rattle.std.specs.Prelude.{◌≡◌, ℕ, ◌+◌, List, [], ◌∷◌}
 use Rattle.rv_rows.specs.Keys.{in_key_order}
 use Rattle.rv_book.specs.declared.page.Page.{Page}
-use Rattle.rv_book.specs.Book.{Book, book_from, bound, group_of, ids, last, last_order, retired, size}
+use Rattle.rv_book.specs.Book.{Book, book_from, bound, group_of, ids, last, last_order, retired, size, Extends}
 use Rattle.rv_book.specs.Registers.{clients_of, groups_of}
 use Rattle.rv_history.specs.Lawful.{IsLawful}
 use Rattle.rv_history.specs.Replay.{rows_of, IsReplay}
@@ -20,6 +20,15 @@ pub record Closes (book new : Book) : Type 0 where
   pub page : Page
   pub sums : SumsUp book page
   pub is : new ≡ book_from page []
+
+-- The one book goes on from the other by entries and by these closings, each of a book to the one that it left.
+abbrev pub GoesOnBy : Book → List (Book × Book) → Book → Type 0
+GoesOnBy old [] new = Extends new old
+GoesOnBy old (closing ∷ closings) new = Extends closing.0 old × Closes closing.0 closing.1 × GoesOnBy closing.1 closings new
+
+-- it does so by some closings, or by none
+abbrev pub GoesOnFrom : Book → Book → Type 0
+GoesOnFrom old new = (closings : List (Book × Book)) × GoesOnBy old closings new
 
 -- The new book goes on from the old one with a page alone: it is lawful and one place longer; clients and groups are what they were, their last
 -- mutation ids and orders too; and so are the rows, in the order of their keys, each with its version.

@@ -93,7 +93,7 @@ RetiredGroupsRest = (book before : Book) (after : List Entry) (group : List ℕ)
 abbrev pub EntriesStandOnce : Type 0
 EntriesStandOnce = (book before : Book) (between after : List Entry) (entry : Entry) → IsLawful book → book ≡ with_entries before (entry ∷ (between ++ entry ∷ after)) → ⊥
 
--- A turn leaves a sound server sound, only adds to its book, and leaves its limit.
+-- A turn leaves a sound server sound, its book goes on by entries and closings, and its limit stays.
 abbrev pub TurnsKeepLaw : ReplyText → Type 0
 TurnsKeepLaw write = (ask : Ask) (old new : Served) (outcome : Outcome) → TakesTurn write old ask outcome new → IsSound old → KeepsLaw old new
 

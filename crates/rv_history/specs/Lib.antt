@@ -23,6 +23,5 @@ pub mod Closing
 pub mod ClosingLaws
 pub mod WholeRows
 pub mod SoundClosing
-pub mod Closable
 pub mod Openings
 pub mod Succession

@@ -7,7 +7,7 @@ use Rattle.rv_views.specs.declared.cookie.Cookie.TheVariants.{Null, Bare, Named}
 use Rattle.rv_turns.specs.Asks.{Sender, Ask}
 use Rattle.rv_turns.specs.declared.op.Op.{Op}
 use Rattle.rv_turns.specs.declared.outcome.Outcome.{Outcome}
-use Rattle.rv_turns.specs.declared.outcome.Outcome.TheVariants.{Acted, Skipped, Pulled, Retired, Refused}
+use Rattle.rv_turns.specs.declared.outcome.Outcome.TheVariants.{Acted, Skipped, Pulled, Retired, Closed, Refused}
 use Rattle.rv_turns.specs.declared.pull.PullReply.{PullReply}
 use Rattle.rv_turns.specs.declared.pull.PullRequest.{PullRequest}
 use Rattle.rv_turns.specs.declared.refusal.Refusal.{Refusal}
@@ -16,6 +16,7 @@ use Rattle.rv_turns.specs.declared.refusal.Which.TheVariants as which
 use Rattle.rv_history.specs.Groups.{is_of_other, is_elsewhere, Admits}
 use Rattle.rv_history.specs.History.{patch_since, ids_since}
 use Rattle.rv_history.specs.Bases.{base_of, base_group}
+use Rattle.rv_history.specs.Closing.{Closes}
 
 -- A mutation's id is looked at where its user may use the group and its client is of no other group.
 pub record TakesMutation (from : Sender) (client : List ℕ) (book : Book) : Type 0 where
@@ -46,8 +47,9 @@ IsUnchanged user request book = (patch_for user request book ≡ []) × (ids_for
 -- is of another group; the id is above the client's last + 1, from the future; the book is full. One whose id is not above the client's
 -- last is skipped. Of a pull: the group is bound to another user; it is retired; the next order is above 2^53 - 1; the book is full. One
 -- with nothing to tell is answered whatever the limits. Of a retirement: no act or look names the group; it is retired already; the
--- book is full. Memory may be refused to a mutation and to a retirement only where they would have been done, and to a pull wherever the
--- group is the user's and not retired. The machine has no trouble with what keeps the book: that is told of a whole server.
+-- book is full. Of a closing: the book is full. Memory may be refused to a mutation, to a retirement and to a closing only where they would
+-- have been done, and to a pull wherever the group is the user's and not retired. The machine has no trouble with what keeps the book: that
+-- is told of a whole server.
 abbrev pub Refuses : ℕ → Book → Ask → Refusal → Type 0
 Refuses limit book (Ask.mutation from m) GroupOfOther = is_of_other from.user from.group book ≡ true
 Refuses limit book (Ask.mutation from m) NotFound = (is_of_other from.user from.group book ≡ false) × (retired from.group book ≡ true)
@@ -64,6 +66,8 @@ Refuses limit book (Ask.retirement group) NoGroup = bound group book ≡ None
 Refuses limit book (Ask.retirement group) NotFound = IsSome (bound group book) × (retired group book ≡ true)
 Refuses limit book (Ask.retirement group) (Limit what at) = IsSome (bound group book) × (retired group book ≡ false) × (size book ≡ limit) × (what ≡ which.Book) × (at ≡ limit)
 Refuses limit book (Ask.retirement group) Memory = IsSome (bound group book) × (retired group book ≡ false) × (size book < limit)
+Refuses limit book Ask.closing (Limit what at) = (size book ≡ limit) × (what ≡ which.Book) × (at ≡ limit)
+Refuses limit book Ask.closing Memory = size book < limit
 Refuses limit book ask refusal = ⊥
 
 -- How the text of a reply is written is not the machine's: it is any function of the reply's cookie, last mutation ids and patch.
@@ -93,7 +97,7 @@ module _ (write : ReplyText) where
 
   -- One step, under a limit, from a book: what is asked, what comes of it, and the book that is left. What is refused and a mutation that is
   -- skipped leave the book as it is. A mutation that is run becomes one entry, at the book's end; so does a retirement; and so does a pull
-  -- that has something to tell.
+  -- that has something to tell. A closing leaves the closed book, whose page stands at the place after the last.
   abbrev pub Step : ℕ → Book → Ask → Outcome → Book → Type 0
   Step limit book ask (Refused refusal) new = Refuses limit book ask refusal × (new ≡ book)
   Step limit book (Ask.mutation from m) (Skipped number) new = TakesMutation from m.client book × (m.id ≤ last m.client book) × (number ≡ last m.client book) × (new ≡ book)
@@ -102,4 +106,5 @@ module _ (write : ReplyText) where
   Step limit book (Ask.pull user request) (Pulled reply) new = Admits user request.group book × Replies limit book user request reply.same reply new
   Step limit book (Ask.retirement group) (Retired place) new =
       IsSome (bound group book) × (retired group book ≡ false) × (size book < limit) × (place ≡ size book + 1) × (new ≡ with_entry book (Retire group))
+  Step limit book Ask.closing (Closed place) new = (size book < limit) × (place ≡ size book + 1) × Closes book new
   Step limit book ask outcome new = ⊥

@@ -12,21 +12,12 @@ use Rattle.rv_book.specs.Entries.{last_in}
 use Rattle.rv_book.specs.Book.{Book, last, opening, size, Extends}
 use Rattle.rv_book.specs.BookWords.{extends_same, extends_on}
 use Rattle.rv_history.specs.Clients.{AreSuccessive}
-use Rattle.rv_history.specs.Closing.{Closes}
+use Rattle.rv_history.specs.Closing.{Closes, GoesOnBy, GoesOnFrom}
 use Rattle.rv_history.specs.ClosingLaws.{closed_last}
 use Rattle.rv_history.specs.GroupLaws.{split_at}
 use Rattle.rv_history.specs.Lawful.{IsLawful}
 use Rattle.rv_history.specs.LawfulBooks.{last_append, last_cons}
 use Rattle.rv_history.specs.Laws.{IsEntered}
-
--- The one book goes on from the other by entries and by these closings, each of a book to the one that it left.
-abbrev pub GoesOnBy : Book → List (Book × Book) → Book → Type 0
-GoesOnBy old [] new = Extends new old
-GoesOnBy old (closing ∷ closings) new = Extends closing.0 old × Closes closing.0 closing.1 × GoesOnBy closing.1 closings new
-
--- it does so by some closings, or by none
-abbrev pub GoesOnFrom : Book → Book → Type 0
-GoesOnFrom old new = (closings : List (Book × Book)) × GoesOnBy old closings new
 
 -- the books as they were when they were closed, and the last one
 abbrev pub books_of : List (Book × Book) → Book → List Book

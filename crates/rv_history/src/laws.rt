@@ -35,7 +35,7 @@ pub fn entries_stand_once()
     ensures { EntriesStandOnce }
 {}
 
-/// A turn leaves a sound server sound, only adds to its book, and leaves its limit.
+/// A turn leaves a sound server sound, its book goes on by entries and closings, and its limit stays.
 pub fn turns_keep_law()
     ensures { (write : ReplyText) → TurnsKeepLaw write }
 {}

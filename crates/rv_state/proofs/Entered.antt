@@ -25,7 +25,7 @@ use Rattle.rv_state.specs.declared.prepared.PreparedLook.{PreparedLook}
 use Rattle.rv_state.specs.Standing.{Standing}
 use Rattle.rv_state.specs.UserMarks.{UserMark, with_mark, AreMarks}
 use Rattle.rv_state.proofs.Marking.{marks_none, marks_act, marks_look, marks_retire}
-use Rattle.rv_state.specs.Ready.{IsPrepared, entry_of}
+use Rattle.rv_state.specs.Ready.{IsPrepared, act_entry, look_entry}
 
 -- the book is lawful, the rows, the records and the marks are its own, and its entries are of the form
 abbrev pub Stands : Book → List Stored → List Placed → List UserMark → Type 0
@@ -48,7 +48,7 @@ abbrev pub left : Book → List ℕ → List Placed → List Placed
 left book group records = filter (λ r. kept r.0 (with_entry book (Retire group))) records
 
 after_act : (s : Standing) (act : PreparedAct) → Stands s.book s.rows s.records s.marks → IsPrepared s (prepared.Act act)
-    → Stands (with_entry s.book (entry_of (prepared.Act act))) (with_staged (size s.book + 1) act.staged s.rows) s.records (fold (with_mark (size s.book + 1)) s.marks act.concerned)
+    → Stands (with_entry s.book (act_entry act)) (with_staged (size s.book + 1) act.staged s.rows) s.records (fold (with_mark (size s.book + 1)) s.marks act.concerned)
 after_act s act (lawful, replay, records, all, marks, parts) ready =
     let entry : Entry = Act act.user act.group act.client act.id act.call in (
       lawful_more s.book entry lawful ready.lawful,
@@ -60,7 +60,7 @@ after_act s act (lawful, replay, records, all, marks, parts) ready =
     )
 
 after_look : (s : Standing) (look : PreparedLook) → Stands s.book s.rows s.records s.marks → IsPrepared s (prepared.Look look)
-    → Stands (with_entry s.book (entry_of (prepared.Look look))) s.rows (with_record s.book look.group look.view s.records) s.marks
+    → Stands (with_entry s.book (look_entry look)) s.rows (with_record s.book look.group look.view s.records) s.marks
 after_look s look (lawful, replay, records, all, marks, parts) ready =
     let entry : Entry = Look look.user look.group look.order look.base in (
       lawful_more s.book entry lawful ready.lawful,
@@ -86,10 +86,10 @@ module _ (t s : Standing) (p : Prepared) (same : t ≡ s) (stands : Stands t.boo
   ready : (q : Prepared) → p ≡ q → IsPrepared t q
   ready q is = subst (λ (v : Standing). IsPrepared v q) (sym same) (subst (λ (r : Prepared). IsPrepared s r) is is_prepared)
 
-  pub act_entered : (act : PreparedAct) → p ≡ prepared.Act act → Stands (with_entry t.book (entry_of (prepared.Act act))) (with_staged (size t.book + 1) act.staged t.rows) t.records (fold (with_mark (size t.book + 1)) t.marks act.concerned)
+  pub act_entered : (act : PreparedAct) → p ≡ prepared.Act act → Stands (with_entry t.book (act_entry act)) (with_staged (size t.book + 1) act.staged t.rows) t.records (fold (with_mark (size t.book + 1)) t.marks act.concerned)
   act_entered act is = after_act t act stands (ready (prepared.Act act) is)
 
-  pub look_entered : (look : PreparedLook) → p ≡ prepared.Look look → Stands (with_entry t.book (entry_of (prepared.Look look))) t.rows (with_record t.book look.group look.view t.records) t.marks
+  pub look_entered : (look : PreparedLook) → p ≡ prepared.Look look → Stands (with_entry t.book (look_entry look)) t.rows (with_record t.book look.group look.view t.records) t.marks
   look_entered look is = after_look t look stands (ready (prepared.Look look) is)
 
   pub retirement_entered : (group : List ℕ) → p ≡ prepared.Retirement group → Stands (with_entry t.book (Retire group)) t.rows (left t.book group t.records) t.marks

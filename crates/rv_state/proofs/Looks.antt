@@ -18,6 +18,6 @@ look_ready s old limit user group by of order base view book_is limit_is by_is o
   lawful = subst (λ (book : Book). IsLawfulAfter book (entries.Look by of order base)) (sym book_is) (subst (λ (u : List ℕ). IsLawfulAfter old (entries.Look u of order base)) (sym by_is) (subst (λ (g : List ℕ). IsLawfulAfter old (entries.Look user g order base)) (sym of_is) lawful));
   fits = subst (λ (u : List ℕ). EntryFits (entries.Look u of order base)) (sym by_is) (subst (λ (g : List ℕ). EntryFits (entries.Look user g order base)) (sym of_is) fits);
   below = omega (arith, below, limit_is, ap size book_is);
-  spare_entries = space;
+  space = space;
   effect = (views, subst (λ (book : Book). IsViewAt book by of view) (sym book_is) (subst (λ (u : List ℕ). IsViewAt old u of view) (sym by_is) (subst (λ (g : List ℕ). IsViewAt old user g view) (sym of_is) seen)));
 }

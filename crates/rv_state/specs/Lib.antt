@@ -1,4 +1,3 @@
 pub mod UserMarks
 pub mod Standing
 pub mod Ready
-pub mod Closed

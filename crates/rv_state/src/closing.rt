@@ -9,9 +9,13 @@ ghost use Rattle.rv_history.specs.Replay.{IsReplay};
 ghost use Rattle.rv_opening.specs.PageCells.{PartsFit};
 ghost use Rattle.rv_record.specs.CellReading.{ClientFits, GroupFits};
 ghost use Rattle.rv_record.specs.RowReading.{RowFits};
-ghost use Rattle.rv_state.specs.Closed.{IsClosed};
+ghost use Rattle.rv_state.specs.declared.prepared.Prepared.TheVariants.{Closing};
+ghost use Rattle.rv_history.specs.Served.{IsOf};
+ghost use Rattle.rv_state.specs.Ready.{IsPrepared, next_of};
+ghost use Rattle.rv_turns.specs.Asks.{Ask};
 
 use crate::marks::UserMarks;
+use crate::prepared::Prepared;
 use crate::state::State;
 use rv_base::{Id, Memory, Num, Sequence, User};
 use rv_book::{Book, Page};
@@ -107,21 +111,29 @@ impl State {
         })
     }
 
-    /// The book that closing leaves of this one: it opens with the page that sums this one up, at the place after the last, and has no
-    /// entries. It takes all the memory that closing needs, and changes nothing.
-    pub fn closed(&self) -> Result<Book, Memory>
+    // The book that closing leaves of this one: it opens with the page that sums this one up, at the place after the last, and has no entries.
+    fn closed(&self) -> Result<Book, Memory>
         requires { size self.now.book < self.now.limit }
-        ensures { IfOk result (IsClosed self.now) }
+        ensures { IfOk result (λ closed. IsPrepared self.now (Closing closed)) }
     {
         let limit = self.book.limit();
         let page = self.page()?;
         Book::from_page(self.alloc, limit, page)
     }
 
-    /// Takes up the closed book, in the place of its own. It can't fail, and takes no memory. The rows stay; of the looks none is kept any
-    /// more, and every user's mark is the page's place.
-    pub fn close(&mut self, closed: Book)
-        requires { IsClosed self.old closed }
+    /// Prepares the closing of the book. It takes all the memory that closing needs, and changes nothing.
+    pub fn prepare_closing(&self) -> Result<Prepared, Memory>
+        requires { size self.now.book < self.now.limit }
+        ensures prepared { IfOk result (IsPrepared self.now) }
+        ensures closes { IfOk result (λ prepared. IsOf Ask.closing (next_of prepared)) }
+    {
+        Ok(Prepared::Closing(self.closed()?))
+    }
+
+    // Takes up the closed book, in the place of its own. It can't fail, and takes no memory. The rows stay; of the looks none is kept any
+    // more, and every user's mark is the page's place.
+    pub(crate) fn close(&mut self, closed: Book)
+        requires { IsPrepared self.old (Closing closed) }
         ensures book { self.new.book ≡ closed.book }
         ensures limit { self.new.limit ≡ self.old.limit }
     {

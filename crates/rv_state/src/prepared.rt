@@ -2,7 +2,7 @@ ghost use Rattle.std.specs.Prelude.{◌≡◌};
 ghost use Rattle.rv_book.specs.declared.entry.Entry.TheVariants.{Act};
 
 use rv_base::{Id, Num, User};
-use rv_book::{Entry, Found};
+use rv_book::{Book, Entry, Found};
 use rv_mutators::Staged;
 use rv_rows::{Call, Users};
 use rv_views::ViewRecord;
@@ -69,7 +69,7 @@ pub struct PreparedLook {
     pub view: ViewRecord,
 }
 
-/// An entry that is ready to be entered, with all that this takes.
+/// What is ready to be entered, with all that this takes: an entry, or the book that closing leaves.
 #[derive(Debug, Drop)]
 pub enum Prepared {
     /// An act, which writes and removes rows.
@@ -78,4 +78,6 @@ pub enum Prepared {
     Look(PreparedLook),
     /// The retirement of a client group.
     Retirement(Id),
+    /// The closed book, which comes in the place of the book.
+    Closing(Book),
 }

@@ -3,7 +3,7 @@ ghost use Rattle.rv_rows.specs.Changes.{after};
 ghost use Rattle.rv_rows.specs.Held.{rows_in};
 ghost use Rattle.rv_mutators.specs.Staging.{staged, with_staged};
 ghost use Rattle.rv_book.specs.declared.entry.Entry.TheVariants.{Act, Look, Retire};
-ghost use Rattle.rv_book.specs.Book.{empty_book, size, with_entry};
+ghost use Rattle.rv_book.specs.Book.{empty_book, size};
 ghost use Rattle.rv_news.specs.News.{IsNews, IsTold, is_base_since};
 
 use crate::fitting::{entry_fits, look_fits};
@@ -25,8 +25,8 @@ use std::sync::ledger::Ledger;
 /// The state of one server in memory: its book, and beside it the tables, which are the book's replay, the view records of the
 /// looks that the book keeps, and the users' marks.
 ///
-/// An entry comes in two steps. To prepare it takes all the memory that it needs, and changes nothing but the space that there
-/// is; to enter it takes none and can't fail. It may be entered at any later time, while nothing else was.
+/// What is entered, an entry or the closed book, comes in two steps. To prepare it takes all the memory that it needs, and changes
+/// nothing but the space that there is; to enter it takes none and can't fail. It may be entered at any later time, while nothing else was.
 #[derive(Debug, Drop)]
 pub struct State {
     pub(crate) book: Book,
@@ -75,11 +75,12 @@ impl State {
     ghost use Rattle.rv_record.specs.EntryReading.{EntryFits};
     ghost use Rattle.std.specs.List.{AllByRecursion};
     ghost use Rattle.rv_history.specs.Machine.{next_order, reply_to};
+    ghost use Rattle.rv_history.specs.Served.{Next, with_next};
     ghost use Rattle.rv_history.specs.Marks.{AreConcerned, IsMark};
     ghost use Rattle.rv_news.specs.Records.{AreRecords};
     ghost use Rattle.rv_opening.specs.PageCells.{PartsFit};
     ghost use Rattle.rv_wire.specs.Answers.{pull_json};
-    ghost use Rattle.rv_state.specs.Ready.{IsPrepared, entry_of};
+    ghost use Rattle.rv_state.specs.Ready.{IsPrepared, next_of};
 
     /// The state of the empty book, which takes at most so many entries.
     pub fn new(alloc: Global, limit: u32) -> State
@@ -167,7 +168,7 @@ impl State {
         requires within_limit { size self.old.book < self.old.limit }
         requires lawful { IsLawfulAfter self.old.book (Act user.now group.now client.now id call) }
         ensures prepared { IfOk result (λ prepared. IsPrepared self.new prepared) }
-        ensures entry { IfOk result (λ prepared. entry_of prepared ≡ Act user.now group.now client.now id call) }
+        ensures entry { IfOk result (λ prepared. next_of prepared ≡ Next.entry (Act user.now group.now client.now id call)) }
         ensures book { self.new.book ≡ self.old.book }
         ensures limit { self.new.limit ≡ self.old.limit }
     {
@@ -188,7 +189,7 @@ impl State {
         requires news { IsNews self.old.book user.now request.now news }
         requires lawful { IsLawfulAfter self.old.book (Look user.now request.now.group order news.base) }
         ensures prepared { IfOk result (λ made. IsPrepared self.new made.1) }
-        ensures entry { IfOk result (λ made. entry_of made.1 ≡ Look user.now request.now.group order (base_of user.now request.now.cookie self.old.book)) }
+        ensures entry { IfOk result (λ made. next_of made.1 ≡ Next.entry (Look user.now request.now.group order (base_of user.now request.now.cookie self.old.book))) }
         ensures reply { IfOk result (λ made. made.0 ≡ reply_to pull_json user.now request.now self.old.book) }
         ensures book { self.new.book ≡ self.old.book }
         ensures limit { self.new.limit ≡ self.old.limit }
@@ -219,7 +220,7 @@ impl State {
         requires within_limit { size self.old.book < self.old.limit }
         requires lawful { IsLawfulAfter self.old.book (Retire group.now) }
         ensures prepared { IfOk result (λ prepared. IsPrepared self.new prepared) }
-        ensures entry { IfOk result (λ prepared. entry_of prepared ≡ Retire group.now) }
+        ensures entry { IfOk result (λ prepared. next_of prepared ≡ Next.entry (Retire group.now)) }
         ensures book { self.new.book ≡ self.old.book }
         ensures limit { self.new.limit ≡ self.old.limit }
     {
@@ -259,7 +260,7 @@ impl State {
         requires within_limit { size self.old.book < self.old.limit }
         requires lawful { IsLawfulAfter self.old.book entry }
         ensures prepared { IfOk result (λ prepared. IsPrepared self.new prepared) }
-        ensures entry { IfOk result (λ prepared. entry_of prepared ≡ entry) }
+        ensures entry { IfOk result (λ prepared. next_of prepared ≡ Next.entry entry) }
         ensures book { self.new.book ≡ self.old.book }
         ensures limit { self.new.limit ≡ self.old.limit }
     {
@@ -271,7 +272,7 @@ impl State {
         requires within_limit { size self.old.book < self.old.limit }
         requires lawful { IsLawfulAfter self.old.book entry }
         ensures prepared { IfOk result (λ prepared. IsPrepared self.new prepared) }
-        ensures entry { IfOk result (λ prepared. entry_of prepared ≡ entry) }
+        ensures entry { IfOk result (λ prepared. next_of prepared ≡ Next.entry entry) }
         ensures book { self.new.book ≡ self.old.book }
         ensures limit { self.new.limit ≡ self.old.limit }
     {
@@ -321,7 +322,7 @@ impl State {
     /// more go.
     pub fn enter(&mut self, prepared: Prepared)
         requires { IsPrepared self.old prepared }
-        ensures book { self.new.book ≡ with_entry self.old.book (entry_of prepared) }
+        ensures book { self.new.book ≡ with_next self.old.book (next_of prepared) }
         ensures limit { self.new.limit ≡ self.old.limit }
     {
         let place = self.book.len() + 1;
@@ -355,6 +356,7 @@ impl State {
                 self.book.push_entry(Entry::Retire { group });
                 self.records.let_go(&self.book);
             }
+            Prepared::Closing(closed) => self.close(closed),
         }
     }
 }

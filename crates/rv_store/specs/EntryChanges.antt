@@ -11,8 +11,9 @@ use Rattle.rv_mutators.specs.declared.staged.Staged.{Staged}
 use Rattle.rv_views.specs.Viewed.{Viewed}
 use Rattle.rv_book.specs.declared.entry.Entry.{Entry}
 use Rattle.rv_book.specs.declared.entry.Entry.TheVariants.{Act, Look, Retire}
-use Rattle.rv_book.specs.Book.{Book, bound, size, last_order, with_entry}
+use Rattle.rv_book.specs.Book.{Book, bound, size, last_order}
 use Rattle.rv_book.specs.Kept.{is_look_at, falls_out}
+use Rattle.rv_history.specs.Served.{Next, with_next}
 use Rattle.rv_news.specs.Records.{Placed}
 use Rattle.rv_keeper.specs.declared.cell.Cell.{Cell}
 use Rattle.rv_keeper.specs.declared.change.Change.{Change}
@@ -62,7 +63,7 @@ abbrev pub retire_changes : Book → List ℕ → List ℕ → List Placed → L
 retire_changes book group user records =
     Put (entry_cell (size book + 1) (Retire group)) ∷ Put (group_cell group user (last_order group book) true) ∷ gone_views group book records
 
--- The changes name each place once, on shelves from 1, and make of the book's cells those of the book with the entry.
-pub record Enters (book : Book) (entry : Entry) (changes : List Change) : Type 0 where
+-- The changes name each place once, on shelves from 1, and make of the book's cells those of the book with what is entered.
+pub record Enters (book : Book) (next : Next) (changes : List Change) : Type 0 where
   pub are : AreChanges changes
-  pub next : (cells : List Cell) → AreCellsOf book cells → AreCellsOf (with_entry book entry) (changed cells changes)
+  pub leads : (cells : List Cell) → AreCellsOf book cells → AreCellsOf (with_next book next) (changed cells changes)

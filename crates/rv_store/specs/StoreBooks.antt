@@ -8,8 +8,12 @@ use Rattle.rv_book.specs.declared.entry.Entry.{Entry}
 use Rattle.rv_rows.specs.Held.{Stored}
 use Rattle.rv_book.specs.declared.page.Page.{Page}
 use Rattle.rv_book.specs.Book.{Book, book_from, size, with_entry}
+use Rattle.rv_book.specs.BookWords.{size-with_entry}
 use Rattle.rv_book.specs.SoundPages.{IsOpening}
-use Rattle.rv_history.specs.Served.{Doubt, Settles, with_doubt}
+use Rattle.rv_history.specs.LawfulBooks.{lawful_more}
+use Rattle.rv_history.specs.Openings.{closes_lawful}
+use Rattle.rv_history.specs.Served.{Doubt, MayStand, Next, Settles, with_doubt}
+use Rattle.rv_history.specs.TurnLaws.{size-with_next}
 use Rattle.rv_keeper.specs.declared.cell.Cell.{Cell}
 use Rattle.rv_keeper.specs.declared.loaded.Loaded.{Loaded}
 use Rattle.rv_record.specs.CellTexts.{entry_cell}
@@ -19,6 +23,7 @@ use Rattle.rv_news.specs.Records.{Placed}
 use Rattle.rv_opening.specs.PageCells.{PartsFit, on_page, page_cells}
 use Rattle.rv_opening.specs.PageLaws.{page_cells-injective, page_cells-on}
 use Rattle.rv_opening.specs.Parts.{written}
+use Rattle.rv_state.specs.Ready.{NextFits}
 use Rattle.rv_store.specs.Opening.{IsSoundBook, other_shelves, page_shelves}
 use Rattle.rv_store.specs.ShelfLaws.{OnShelf, all-append}
 use Rattle.rv_store.specs.StoreCells.{AreDerived, IsKeptAs, IsKeptWith, client_cells, derived_cells, entry_cells, group_cells, row_cells, view_cells}
@@ -168,12 +173,23 @@ kept_unique a b held one other kept also =
     let place : entry_cells (b.page.at + 1) b.entries ≡ entry_cells (a.page.at + 1) b.entries = ap (λ (p : Page). entry_cells (p.at + 1) b.entries) (sym page) in
     same_book a b page (entries_beside (a.page.at + 1) a.entries b.entries first.others second.others one.fits other.fits first.beside second.beside (sym first.cells ∙ second.cells ∙ ap (λ (cells : List Cell). cells ++ second.others) place)).0
 
--- the book with what is in doubt is told too
-pub doubt_told : (book : Book) (doubt : Doubt) → IsTold book → IfSome doubt EntryFits → IsTold (with_doubt book doubt)
-doubt_told book None told next = told
-doubt_told book (Some entry) told next = record { opens = told.opens; small = told.small; fits = all-append EntryFits book.entries (entry ∷ []) told.fits (next, tt); parts = told.parts }
+-- a sound book with what is in doubt is sound too
+pub doubt_sound : (limit : ℕ) (book : Book) (doubt : Doubt) → IsSoundBook limit book → IfSome doubt NextFits → MayStand book limit doubt → IsSoundBook limit (with_doubt book doubt)
+doubt_sound limit book None sound fits next = sound
+doubt_sound limit book (Some (Next.entry entry)) sound fits (next, below) = record {
+  lawful = lawful_more book entry sound.lawful next;
+  within = omega (arith, size-with_entry book entry, below);
+  fits = all-append EntryFits book.entries (entry ∷ []) sound.fits (fits, tt);
+  parts = sound.parts;
+}
+doubt_sound limit book (Some (Next.closed closed)) sound fits (closes, below) = record {
+  lawful = closes_lawful book closed closes sound.lawful;
+  within = omega (arith, size-with_next book (Next.closed closed) closes, below);
+  fits = subst (λ (b : Book). AllByRecursion EntryFits b.entries) (sym closes.is) tt;
+  parts = fits;
+}
 
 -- A book that opens from what is kept is the settled book: what was in doubt was dropped or entered.
-pub settled_unique : (book opened : Book) (doubt : Doubt) (held : Loaded) → IsTold book → IfSome doubt EntryFits → IsTold opened → IsKeptAs opened held → IsKeptWith book doubt held → Settles book doubt opened
-settled_unique book opened doubt held told next own is (inl kept) = inl (kept_unique opened book held own told is kept)
-settled_unique book opened doubt held told next own is (inr kept) = inr (kept_unique opened (with_doubt book doubt) held own (doubt_told book doubt told next) is kept)
+pub settled_unique : (limit : ℕ) (book opened : Book) (doubt : Doubt) (held : Loaded) → limit < 2 ^ 32 → IsSoundBook limit book → IfSome doubt NextFits → MayStand book limit doubt → IsTold opened → IsKeptAs opened held → IsKeptWith book doubt held → Settles book doubt opened
+settled_unique limit book opened doubt held small sound fits next own is (inl kept) = inl (kept_unique opened book held own (sound-told limit book small sound) is kept)
+settled_unique limit book opened doubt held small sound fits next own is (inr kept) = inr (kept_unique opened (with_doubt book doubt) held own (sound-told limit (with_doubt book doubt) small (doubt_sound limit book doubt sound fits next)) is kept)

@@ -1,13 +1,12 @@
-// The changes of cells that an entry makes.
-ghost use Rattle.std.specs.Prelude.{◌≡◌, ◌++◌, IfOk, List, OnOk};
-ghost use Rattle.rv_book.specs.Book.{with_entry};
-ghost use Rattle.rv_keeper.specs.declared.cell.Cell.{Cell};
-ghost use Rattle.rv_keeper.specs.Cells.{AreChanges, changed};
+// The changes of cells that what is entered makes.
+ghost use Rattle.std.specs.Prelude.{◌≡◌, ◌++◌, IfOk, OnOk};
+ghost use Rattle.rv_book.specs.declared.entry.Entry.TheVariants as entries;
+ghost use Rattle.rv_history.specs.Served.{Next};
 ghost use Rattle.rv_state.specs.declared.prepared.Prepared.TheVariants as Prepared;
-ghost use Rattle.rv_state.specs.Ready.{IsPrepared, entry_of};
-ghost use Rattle.rv_store.specs.StoreCells.{AreCellsOf};
+ghost use Rattle.rv_state.specs.Ready.{IsPrepared, act_entry, look_entry, next_of};
 ghost use Rattle.rv_store.specs.EntryChanges.{Enters, first_group};
 
+use crate::closing::closing_changes;
 use crate::row_changes::add_row_changes;
 use crate::view_changes::{add_gone_view, add_gone_views};
 use rv_base::{Id, Memory, User};
@@ -40,7 +39,7 @@ fn add_first_group(
 // Those of an act, which writes and removes rows, and whose group is written where the act is its first.
 fn act_changes(alloc: Global, state: &State, act: &PreparedAct) -> Result<Vec<Change>, Memory>
     requires { IsPrepared state.now (Prepared.Act act.now) }
-    ensures { IfOk result (λ changes. Enters state.now.book (entry_of (Prepared.Act act.now)) changes.items) }
+    ensures { IfOk result (λ changes. Enters state.now.book (Next.entry (act_entry act.now)) changes.items) }
 {
     let PreparedAct {
         user,
@@ -65,7 +64,7 @@ fn act_changes(alloc: Global, state: &State, act: &PreparedAct) -> Result<Vec<Ch
 // Those of a look, which has a view record.
 fn look_changes(alloc: Global, state: &State, look: &PreparedLook) -> Result<Vec<Change>, Memory>
     requires { IsPrepared state.now (Prepared.Look look.now) }
-    ensures { IfOk result (λ changes. Enters state.now.book (entry_of (Prepared.Look look.now)) changes.items) }
+    ensures { IfOk result (λ changes. Enters state.now.book (Next.entry (look_entry look.now)) changes.items) }
 {
     let PreparedLook {
         user,
@@ -87,7 +86,7 @@ fn look_changes(alloc: Global, state: &State, look: &PreparedLook) -> Result<Vec
 // Those of a group's retirement.
 fn retirement_changes(alloc: Global, state: &State, group: &Id) -> Result<Vec<Change>, Memory>
     requires { IsPrepared state.now (Prepared.Retirement group.now) }
-    ensures { IfOk result (λ changes. Enters state.now.book (entry_of (Prepared.Retirement group.now)) changes.items) }
+    ensures { IfOk result (λ changes. Enters state.now.book (Next.entry (entries.Retire group.now)) changes.items) }
 {
     let book = state.book();
     let told = book.group(group);
@@ -103,17 +102,18 @@ fn retirement_changes(alloc: Global, state: &State, group: &Id) -> Result<Vec<Ch
     Ok(changes)
 }
 
-/// The changes which make of the cells of the state's book those of the book with the prepared entry: each place is named
+/// The changes which make of the cells of the state's book those of the book with what is prepared: each place is named
 /// once, on shelves from 1. They are as many as the rows that an act writes and removes, or as the kept looks of the group
-/// that is retired, and at most four more. It fails only where memory is refused.
+/// that is retired, and at most four more; those of a closing at most as many as the entries and the kept looks, which go, and as what
+/// the two pages have. It fails only where memory is refused.
 pub fn changes_for(alloc: Global, state: &State, prepared: &Prepared) -> Result<Vec<Change>, Memory>
     requires { IsPrepared state.now prepared.now }
-    ensures changes { IfOk result (λ changes. AreChanges changes.items) }
-    ensures next { IfOk result (λ changes. (cells : List Cell) → AreCellsOf state.now.book cells → AreCellsOf (with_entry state.now.book (entry_of prepared.now)) (changed cells changes.items)) }
+    ensures { IfOk result (λ changes. Enters state.now.book (next_of prepared.now) changes.items) }
 {
     match prepared {
         Prepared::Act(act) => act_changes(alloc, state, act),
         Prepared::Look(look) => look_changes(alloc, state, look),
         Prepared::Retirement(group) => retirement_changes(alloc, state, group),
+        Prepared::Closing(closed) => closing_changes(alloc, state, closed),
     }
 }

@@ -1,14 +1,14 @@
 // The changes of cells that closing a book makes.
-ghost use Rattle.std.specs.Prelude.{◌≡◌, ◌+◌, ◌++◌, List, length, IfOk, OnOk};
+ghost use Rattle.std.specs.Prelude.{◌≡◌, ◌+◌, ◌++◌, length, IfOk, OnOk};
 ghost use Rattle.rv_book.specs.SoundPages.{IsOpening};
-ghost use Rattle.rv_keeper.specs.declared.cell.Cell.{Cell};
 ghost use Rattle.rv_keeper.specs.declared.change.Change.TheVariants as Change;
-ghost use Rattle.rv_keeper.specs.Cells.{AreChanges, changed};
 ghost use Rattle.rv_record.specs.CellTexts.{ten_digits};
 ghost use Rattle.rv_rows.specs.Keys.{row_text};
-ghost use Rattle.rv_state.specs.Closed.{IsClosed};
+ghost use Rattle.rv_history.specs.Served.{Next};
+ghost use Rattle.rv_state.specs.declared.prepared.Prepared.TheVariants.{Closing};
+ghost use Rattle.rv_state.specs.Ready.{IsPrepared};
 ghost use Rattle.rv_store.specs.ClosingChanges.{gone_entries, gone_records, gone_rows, is_left_out, put_clients, put_groups, put_rows};
-ghost use Rattle.rv_store.specs.StoreCells.{AreCellsOf};
+ghost use Rattle.rv_store.specs.EntryChanges.{Enters};
 
 use rv_base::{Id, Memory, Num, Sequence, User};
 use rv_book::{Book, Page};
@@ -147,12 +147,14 @@ fn add_groups(
     Ok(())
 }
 
-/// The changes which make of the cells of the state's book those of the closed book: each place is named once, on shelves from 1. They are at
-/// most as many as the entries and the kept looks, which go, and as what the two pages have. It fails only where memory is refused.
-pub fn closing_changes(alloc: Global, state: &State, closed: &Book) -> Result<Vec<Change>, Memory>
-    requires { IsClosed state.now closed.now }
-    ensures changes { IfOk result (λ changes. AreChanges changes.items) }
-    ensures next { IfOk result (λ changes. (cells : List Cell) → AreCellsOf state.now.book cells → AreCellsOf closed.now.book (changed cells changes.items)) }
+// Those of a closing, which make of the cells of the state's book those of the closed book.
+pub(crate) fn closing_changes(
+    alloc: Global,
+    state: &State,
+    closed: &Book,
+) -> Result<Vec<Change>, Memory>
+    requires { IsPrepared state.now (Closing closed.now) }
+    ensures { IfOk result (λ changes. Enters state.now.book (Next.closed closed.now.book) changes.items) }
 {
     let Some(page) = closed.page() else {
         // a closed book opens with a page

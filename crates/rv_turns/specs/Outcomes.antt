@@ -1,7 +1,5 @@
 -- What an outcome is told as.
 use Rattle.std.specs.Prelude.{Bool, true, false, Option, Some, None}
-use Rattle.rv_turns.specs.declared.close_answer.CloseAnswer.{CloseAnswer}
-use Rattle.rv_turns.specs.declared.close_answer.CloseAnswer.TheVariants as closes
 use Rattle.rv_turns.specs.declared.outcome.Outcome.{Outcome}
 use Rattle.rv_turns.specs.declared.outcome.Outcome.TheVariants.{Acted, Refused}
 use Rattle.rv_turns.specs.declared.refusal.Refusal.{Refusal}
@@ -23,11 +21,6 @@ trouble_in refusal = None
 abbrev pub trouble_of : Outcome → Option Trouble
 trouble_of (Refused refusal) = trouble_in refusal
 trouble_of outcome = None
-
--- the trouble that the answer to a closing tells, if it tells one
-abbrev pub close_trouble : CloseAnswer → Option Trouble
-close_trouble (closes.ClosedAt place) = None
-close_trouble (closes.Refused refusal) = trouble_in refusal
 
 -- a mutation was run
 abbrev pub has_acted : Outcome → Bool

@@ -30,4 +30,6 @@ pub enum Asked<'a> {
         /// The group.
         group: &'a Id,
     },
+    /// The book is to be closed: the page that sums it up comes in the place of its entries.
+    Closing,
 }

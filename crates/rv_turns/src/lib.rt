@@ -1,13 +1,12 @@
 //! What is asked of a server in one turn, and what comes of it.
 //!
-//! An [`Asked`] is a mutation of a client, a pull of a user or the retirement of a client group. An [`Outcome`] is what comes of
-//! it, which is a [`Refusal`] where it was not done. Closing a book is no turn of these; a [`CloseAnswer`] is what comes of it. Whoever takes turns implements [`Turns`], and who tells whether something has
-//! changed for a user implements [`Marks`]. A push is the turns of its mutations, one after another ([`push`]). Nothing here knows
-//! how any of it is written or read.
+//! An [`Asked`] is a mutation of a client, a pull of a user, the retirement of a client group or the closing of the book. An
+//! [`Outcome`] is what comes of it, which is a [`Refusal`] where it was not done. Whoever takes turns implements [`Turns`], and who
+//! tells whether something has changed for a user implements [`Marks`]. A push is the turns of its mutations, one after another
+//! ([`push`]). Nothing here knows how any of it is written or read.
 #![tactic(auto)]
 
 mod asked;
-mod close_answer;
 mod marks;
 mod mutation;
 mod op;
@@ -18,7 +17,6 @@ mod refusal;
 mod turns;
 
 pub use asked::Asked;
-pub use close_answer::CloseAnswer;
 pub use marks::Marks;
 pub use mutation::{Mutation, Mutations};
 pub use op::{Op, Ops};

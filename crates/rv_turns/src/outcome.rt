@@ -13,6 +13,8 @@ pub enum Outcome {
     Pulled(PullReply),
     /// The group is retired, and this stands in the book at this place.
     Retired(u32),
+    /// The book is closed: it opens with a page, which stands at this place.
+    Closed(u32),
     /// What was asked was not done.
     Refused(Refusal),
 }
@@ -30,6 +32,7 @@ impl Outcome {
             Outcome::Skipped(_) => None,
             Outcome::Pulled(_) => None,
             Outcome::Retired(_) => None,
+            Outcome::Closed(_) => None,
             Outcome::Refused(refusal) => Some(*refusal),
         }
     }

@@ -12,9 +12,9 @@ pub enum Which {
 /// Why a turn could not be kept.
 #[derive(Clone, Copy, Debug, PartialEq, Eq)]
 pub enum Trouble {
-    /// What keeps the book failed. What would have been entered may have been kept.
+    /// What keeps the book failed. What would have been entered, an entry or the closed book, may have been kept.
     Keeper,
-    /// What is kept is at another generation than the book, or the book with the entry that may have been kept.
+    /// What is kept is at another generation than the book, or than the book with what may have been kept.
     Changed {
         /// The number of the book's entries.
         kept: u64,

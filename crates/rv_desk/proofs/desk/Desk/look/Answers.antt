@@ -3,6 +3,7 @@ use Rattle.rv_book.specs.declared.entry.Entry.TheVariants.{Look}
 use Rattle.rv_keeper.specs.declared.fault.KeepFault.TheVariants.{Failed}
 use Rattle.rv_history.specs.Bases.{base_of}
 use Rattle.rv_history.specs.Machine.{next_order, reply_to}
+use Rattle.rv_history.specs.Served.{Next}
 use Rattle.rv_turns.specs.Asks.{Ask}
 use Rattle.rv_turns.specs.declared.outcome.Outcome.TheVariants.{Pulled}
 use Rattle.rv_wire.specs.Answers.{pull_json}
@@ -15,5 +16,5 @@ returns-in-Err-Failed-clause-stepped g c =
     let user = c.args.user.now in
     let request = c.args.request.now in
     let book = c.args.self.now.book in
-    not_kept {T = Unit {0}} (Ask.pull user request) (Pulled (reply_to pull_json user request book)) (Look user request.group (next_order request book) (base_of user request.cookie book)) (served g.K.Keeper.faults c.args.self.now) _ Failed
+    not_kept {T = Unit {0}} (Ask.pull user request) (Pulled (reply_to pull_json user request book)) (Next.entry (Look user request.group (next_order request book) (base_of user request.cookie book))) (served g.K.Keeper.faults c.args.self.now) _ Failed refl tt
     (c.requires.admits, (c.requires.changed, search rules, c.requires.within_limit, refl, refl)) c.requires.admits (search rules)

@@ -1,6 +1,7 @@
 use Rattle.std.proofs.Common.{rules, ◌+◌, refl}
 use Rattle.rv_book.specs.declared.entry.Entry.TheVariants.{Act}
 use Rattle.rv_book.specs.Book.{size}
+use Rattle.rv_history.specs.Served.{Next}
 use Rattle.rv_turns.specs.Asks.{Ask, Sender}
 use Rattle.rv_turns.specs.declared.mutation.Mutation.{Mutation}
 use Rattle.rv_turns.specs.declared.outcome.Outcome.TheVariants.{Acted}
@@ -12,5 +13,5 @@ pub returns-in-Err-clause-stepped : goal.returns-in-Err-clause-stepped
 returns-in-Err-clause-stepped g c =
     let from : Sender = record { user = c.args.user.now; group = c.args.group.now } in
     let m : Mutation = record { client = c.args.client.now; id = c.args.id; call = c.args.call } in
-    not_kept (Ask.mutation from m) (Acted (size c.args.self.now.book + 1)) (Act from.user from.group m.client m.id m.call) (served g.K.Keeper.faults c.args.self.now) (served g.K.Keeper.faults c.act.new.self) c.in-Err.fault
+    not_kept (Ask.mutation from m) (Acted (size c.args.self.now.book + 1)) (Next.entry (Act from.user from.group m.client m.id m.call)) (served g.K.Keeper.faults c.args.self.now) (served g.K.Keeper.faults c.act.new.self) c.in-Err.fault refl tt
     (c.requires.takes, search rules, search rules, refl, refl) (c.requires.takes, search rules, search rules) c.in-Err.ensures.kept

@@ -17,6 +17,6 @@ returns-in_ok-staged-in-Act-clause-prepared c =
       lawful = subst (λ (b : Book). IsLawfulAfter b entry) (sym book) (subst (λ (e : Entry). IsLawfulAfter c.args.self.now.book e) c.in-Act.is c.requires.lawful);
       fits = subst (λ (e : Entry). EntryFits e) c.in-Act.is c.entry_fits.ensures;
       below = omega (arith, c.requires.within_limit, length, limit);
-      spare_entries = omega (arith, c.stage_act.ensures.spare, c.in_ok-reserve.ensures.spare_entries);
+      space = omega (arith, c.stage_act.ensures.spare, c.in_ok-reserve.ensures.spare_entries);
       effect = (c.in_ok-staged-in-Act.ensures.rows, c.in_ok-staged-in-Act.ensures.staged, c.in_ok-staged-in-Act.ensures.effect, c.in_ok-staged-in-Act.ensures.marks, c.in_ok-staged-in-Act.ensures.concerned c.in-Act.group c.in-Act.client c.in-Act.id);
     }
