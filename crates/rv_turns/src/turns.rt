@@ -14,6 +14,6 @@ pub trait Turns {
 
     /// Takes a turn.
     fn take(&mut self, asked: Asked<'_>) -> Outcome
-        requires { IsClosing (ask_of asked.entry) → closes }
+        requires { IsClosing (ask_of asked) → closes }
         ensures { takes self.old (ask_of asked.entry) result self.new };
 }
