@@ -45,6 +45,10 @@ pub record KeepsBook {K : Type 0} (G : Ghosts K) (keeper : K) (book : Book) (dou
   pub held : G.tells keeper → HoldsBook (G.holds keeper) book doubt
   pub left : G.honest keeper → LeavesBook (G.may_leave keeper) book doubt
 
+-- the same of a desk
+abbrev pub DeskKeeps : {K : Type 0} → Ghosts K → Seated K → Type 0
+DeskKeeps G desk = KeepsBook G desk.keeper desk.book desk.doubt
+
 -- What is known of a desk: its book is lawful, within the limit and of the form; and what is in doubt may come next, and is of the form.
 pub record IsSoundDesk {K : Type 0} (desk : Seated K) : Type 0 where
   pub book : IsSoundBook desk.limit desk.book

@@ -51,7 +51,7 @@ impl<K: Keeper> Desk<K> {
     ghost use Rattle.rv_news.specs.Records.{AreRecords};
     ghost use Rattle.rv_opening.specs.PageCells.{PartsFit};
     ghost use Rattle.rv_record.specs.EntryReading.{EntryFits};
-    ghost use Rattle.rv_desk.specs.Seated.{HoldsBook, IsSoundDesk, KeepsBook, LeavesBook};
+    ghost use Rattle.rv_desk.specs.Seated.{DeskKeeps, HoldsBook, IsSoundDesk, KeepsBook, LeavesBook};
 
     /// The desk of the book that the keeper holds, which takes at most so many entries. Whatever is kept is left as it is. The
     /// refusals give the keeper back: the keeper failed, and its count of faults rose; the cells are not just those of a lawful
@@ -115,7 +115,7 @@ impl<K: Keeper> Desk<K> {
     pub fn close(self) -> K
         ensures keeper { result ≡ self.keeper }
         ensures sound { IsSoundDesk self }
-        ensures kept { KeepsBook K.Keeper self.keeper self.book self.doubt }
+        ensures kept { DeskKeeps K.Keeper self }
     {
         // The book tells that it is lawful, and within its limit.
         let _length = self.state.book().len();

@@ -84,7 +84,7 @@ goes_more limit book new (Next.closed closed) is closes below (lawful, within) =
     let same : new ≡ book_from closes.page [] = is ∙ closes.is in
     let long : size (book_from closes.page []) ≡ size book + 1 = on.size in (
       subst (λ (b : Book). Stands limit b) (sym same) (on.lawful, omega (arith, long, below)),
-      ((book, new) ∷ [], extends_same book book refl, made, extends_same new new refl),
+      ((book, new) ∷ [], (extends_same book book refl, made, extends_same new new refl)),
     )
 
 goes_on : (limit : ℕ) (book mid new : Book) → Goes limit book mid → Goes limit mid new → Goes limit book new

@@ -19,20 +19,20 @@ pub data Next : Type 0 where
 
 -- the book with it entered
 abbrev pub with_next : Book → Next → Book
-with_next book (Next.entry entry) = with_entry book entry
-with_next book (Next.closed closed) = closed
+with_next book (Next.entry e) = with_entry book e
+with_next book (Next.closed new) = new
 
 -- it may come next in the book
 abbrev pub MayFollow : Book → Next → Type 0
-MayFollow book (Next.entry entry) = IsLawfulAfter book entry
-MayFollow book (Next.closed closed) = Closes book closed
+MayFollow book (Next.entry e) = IsLawfulAfter book e
+MayFollow book (Next.closed new) = Closes book new
 
 -- a closing enters a closed book, and whatever else is asked an entry
 abbrev pub IsOf : Ask → Next → Type 0
-IsOf Ask.closing (Next.closed closed) = Unit {0}
-IsOf Ask.closing (Next.entry entry) = ⊥
-IsOf ask (Next.entry entry) = Unit {0}
-IsOf ask (Next.closed closed) = ⊥
+IsOf Ask.closing (Next.closed new) = Unit {0}
+IsOf Ask.closing (Next.entry e) = ⊥
+IsOf ask (Next.entry e) = Unit {0}
+IsOf ask (Next.closed new) = ⊥
 
 -- what is in doubt: nothing, or what may have been kept and was not entered yet
 abbrev pub Doubt : Type 0
@@ -46,8 +46,8 @@ with_doubt book (Some next) = with_next book next
 -- what is in doubt is no closing
 abbrev pub IsNoClosing : Doubt → Type 0
 IsNoClosing None = Unit {0}
-IsNoClosing (Some (Next.entry entry)) = Unit {0}
-IsNoClosing (Some (Next.closed closed)) = ⊥
+IsNoClosing (Some (Next.entry e)) = Unit {0}
+IsNoClosing (Some (Next.closed new)) = ⊥
 
 -- The book; the most entries that it may have; what is in doubt; and how often what keeps the book has failed.
 pub record Served : Type 0 where
