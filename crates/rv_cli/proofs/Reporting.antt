@@ -7,7 +7,6 @@ use Rattle.rv_keeper.specs.declared.loaded.Loaded.{Loaded}
 use Rattle.rv_keeper.specs.declared.keeper.Keeper.{Ghosts}
 use Rattle.rv_keeper.specs.declared.place.Place.{Ghosts as PlaceGhosts}
 use Rattle.rv_keeper.specs.Keeping.{HasKeepCause}
-use Rattle.rv_history.specs.Closable.{open_server}
 use Rattle.rv_keeper.specs.Stores.{LeavesAsGiven, OpensWith}
 use Rattle.rv_book.specs.Book.{Book}
 use Rattle.rv_desk.specs.Seated.{Seated, served, KeepsBook}
@@ -58,7 +57,7 @@ module _ {P K : Type 0} (place : PlaceGhosts P K) (G : Ghosts K) (store : List â
         first = served G.faults desk;
         begins = begins place G store old mid new desk desk.keeper opened (Î» t. t) home;
         writes = w;
-        leaves = leaves place G store old mid new (open_server (served G.faults desk)) desk.keeper opened.same (record { kept = record { held = kept.held; left = kept.left }; later = omega arith }) home;
+        leaves = leaves place G store old mid new (served G.faults desk) desk.keeper opened.same (record { kept = record { held = kept.held; left = kept.left }; later = omega arith }) home;
       }
 
   -- the store's keeper was fetched and checked

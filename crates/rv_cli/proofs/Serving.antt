@@ -3,7 +3,6 @@ use Rattle.std.proofs.Common.{◌≡◌, ◌≢◌, ◌⊎◌, ⊎_elim, ℕ, Li
 use Rattle.rv_base.specs.Causes.{Rose}
 use Rattle.rv_base.specs.Outside.{OutputState}
 use Rattle.rv_accounts.specs.File.{AccountsServed}
-use Rattle.rv_history.specs.Closable.{open_server}
 use Rattle.rv_history.specs.Served.{IsSound}
 use Rattle.rv_net.specs.declared.net_fault.NetFault.{NetFault}
 use Rattle.rv_keeper.specs.declared.keeper.Keeper.{Ghosts}
@@ -109,8 +108,8 @@ module _ {P K : Type 0} (place : PlaceGhosts P K) (G : Ghosts K) (store name : L
           faults = from.faults;
         }
 
-    pub serve_leaves : Leaves (change place store old new) (open_server (served G.faults last))
-    serve_leaves = leaves place G store old opened new (open_server (served G.faults last)) last.keeper
+    pub serve_leaves : Leaves (change place store old new) (served G.faults last)
+    serve_leaves = leaves place G store old opened new (served G.faults last) last.keeper
         (opens.same ∙ read.gives_accounts.1) (record { kept = record { held = kept.held; left = kept.left }; later = omega arith }) home
 
     pub serve_says : FileSays (place.tells new) (place.accounts old name) (Ok said)
@@ -140,7 +139,7 @@ module _ {P K : Type 0} (place : PlaceGhosts P K) (G : Ghosts K) (store name : L
       first = served G.faults first;
       begins = serve_begins;
       why = why;
-      leaves = subst (λ (desk : Seated K). Leaves (change place store old new) (open_server (served G.faults desk))) same serve_leaves;
+      leaves = subst (λ (desk : Seated K). Leaves (change place store old new) (served G.faults desk)) same serve_leaves;
       text = text;
     }
 

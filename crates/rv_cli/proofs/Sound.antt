@@ -16,7 +16,6 @@ use Rattle.rv_record.specs.declared.fault.Damage.{Damage}
 use Rattle.rv_store.specs.Opening.{MayOpen}
 use Rattle.rv_store.specs.OpeningLaws.{opens-not_damaged}
 use Rattle.rv_answering.specs.declared.line.Line.{Line}
-use Rattle.rv_history.specs.Closable.{open_server}
 use Rattle.rv_cli.specs.declared.ending.Ending.{Ending}
 use Rattle.rv_cli.specs.declared.ending.Ending.TheVariants.{Done, Keeper, Damaged, Read, Write, Memory, Malformed}
 use Rattle.rv_cli.specs.Texts.{status_of}
@@ -64,7 +63,7 @@ module _ (c : StoreChange) (told : c.told) (kept : KeptSound c.opens) where
   replied_sound : (line : Line) (output output' : OutputState) (ending : Ending) → (NotOpened c output output' ending × IsLeftAs c) ⊎ Replied c line output output' ending
       → (damage : Damage) → ending ≢ Damaged damage
   replied_sound line output output' ending (inl (none, left)) damage is = opens_sound damage ending is none.why
-  replied_sound line output output' ending (inr replied) damage is = subst (λ (e : Ending). EndsOne c.told (open_server replied.first) line replied.text replied.now e) is replied.ends
+  replied_sound line output output' ending (inr replied) damage is = subst (λ (e : Ending). EndsOne c.told (replied.first) line replied.text replied.now e) is replied.ends
 
   pub one_sound : (line : Line) (output output' : OutputState) (status : ℕ) → RunsOne c line output output' status → status ≢ 5
   one_sound line output output' status (ending, is, runs) five = no_damage ending (replied_sound line output output' ending runs) (sym is ∙ five)

@@ -2,7 +2,7 @@
 use Rattle.std.proofs.Common.{◌≡◌, ◌≢◌, ◌⊎◌, ℕ, zero, suc, ◌<◌, ◌-◌, ◌^◌, List, [], codes, Option, Some, None, IfSome, Result, Ok, Err, IsOk, IsErr, IsErrAnd, refl, sym, ap, ◌∙◌, subst, arith, inl, inr}
 use Rattle.rv_base.specs.Causes.{Rose}
 use Rattle.rv_base.specs.Outside.{InputState, OutputState, Writes}
-use Rattle.rv_history.specs.Closable.{Closable, open_server}
+use Rattle.rv_history.specs.Served.{Served}
 use Rattle.rv_desk.specs.ClosingSeats.{open_seat}
 use Rattle.rv_keeper.specs.declared.fault.KeepFault.{KeepFault}
 use Rattle.rv_keeper.specs.declared.loaded.Loaded.{Loaded}
@@ -30,7 +30,7 @@ use Rattle.rv_keeper.specs.declared.fault.KeepFault.TheVariants as keeping
 
 -- what is told later was told before
 module _ (Told Now : Type 0) (then : Now → Told) where
-  ends_later : (first : Closable) (bytes read text : List ℕ) (now : Closable) (ending : Ending) → Ends Told first bytes read text now ending → Ends Now first bytes read text now ending
+  ends_later : (first : Served) (bytes read text : List ℕ) (now : Served) (ending : Ending) → Ends Told first bytes read text now ending → Ends Now first bytes read text now ending
   ends_later first bytes read text now Done (all, w) = (all, answered_later Told Now then first _ text now w)
   ends_later first bytes read text now Read (w, needed) = (answered_later Told Now then first _ text now w, needed)
   ends_later first bytes read text now Write e = record {
@@ -59,12 +59,12 @@ module _ (Told Now : Type 0) (then : Now → Told) where
   ends_later first bytes read text now (Damaged damage) e =
       record { lines = e.lines; line = e.line; others = e.others; are = e.are; stop = e.stop; needed = e.needed; answered = answered_later Told Now then first e.lines text now e.answered }
 
-  fed_later : (o : Option (List ℕ)) (first now : Closable) (input' : InputState) (output output' : OutputState) (ending : Ending) → IfSome o (λ bytes. FedAnswers Told first now bytes input' output output' ending) → IfSome o (λ bytes. FedAnswers Now first now bytes input' output output' ending)
+  fed_later : (o : Option (List ℕ)) (first now : Served) (input' : InputState) (output output' : OutputState) (ending : Ending) → IfSome o (λ bytes. FedAnswers Told first now bytes input' output output' ending) → IfSome o (λ bytes. FedAnswers Now first now bytes input' output output' ending)
   fed_later None first now input' output output' ending f = tt
   fed_later (Some bytes) first now input' output output' ending f =
       record { read = f.read; text = f.text; consumed = f.consumed; appended = f.appended; ends = ends_later first bytes f.read f.text now ending f.ends }
 
-  pub feeds_later : (first now : Closable) (input input' : InputState) (output output' : OutputState) (ending : Ending) → Feeds Told first now input input' output output' ending → Feeds Now first now input input' output output' ending
+  pub feeds_later : (first now : Served) (input input' : InputState) (output output' : OutputState) (ending : Ending) → Feeds Told first now input input' output output' ending → Feeds Now first now input input' output output' ending
   feeds_later first now input input' output output' ending f = record { reads = f.reads; writes = f.writes; fed = fed_later input.left first now input' output output' ending f.fed }
 
 -- the place gave no keeper, and that is told
@@ -209,7 +209,7 @@ module _ {P K : Type 0} (place : PlaceGhosts P K) (G : Ghosts K) (store : List �
     faults = opened.none;
   }
 
-  pub leaves : (old mid new : P) (now : Closable) (keeper : K) → place.faults mid ≡ place.faults old → IsLeftWith G now keeper → WentBack mid new keeper → Leaves (change place store old new) now
+  pub leaves : (old mid new : P) (now : Served) (keeper : K) → place.faults mid ≡ place.faults old → IsLeftWith G now keeper → WentBack mid new keeper → Leaves (change place store old new) now
   leaves old mid new now keeper same left back = record {
     held = λ t. let (h, was, with) = left.kept.held (back.told t).1 in (h, back.held t h was, with);
     left = λ honest x may. left.kept.left (back.honest honest).1 x (back.left honest x may);
@@ -223,8 +223,8 @@ module _ {P K : Type 0} (place : PlaceGhosts P K) (G : Ghosts K) (store : List �
       → HasOpened place G store old desk mid → FeedsWith G (open_seat desk) input input' first out ended' → WentBack mid new ended'.1 → Writes out out' result (status_text ended'.0)
       → HasFed (change place store old new) input input' first out' ended'.0
   has_fed old mid new desk ended' input input' first out out' result opened fed back w =
-      let later = feeds_later (G.tells ended'.1) (place.tells new) (λ t. (back.told t).1) (open_server (served G.faults desk)) fed.now input input' first out ended'.0 fed.feeds in
-      let (reads, writes, all) = ended (place.tells new) (open_server (served G.faults desk)) fed.now input input' first out out' ended'.0 result later w in
+      let later = feeds_later (G.tells ended'.1) (place.tells new) (λ t. (back.told t).1) (served G.faults desk) fed.now input input' first out ended'.0 fed.feeds in
+      let (reads, writes, all) = ended (place.tells new) (served G.faults desk) fed.now input input' first out out' ended'.0 result later w in
       record {
         first = served G.faults desk;
         now = fed.now;
@@ -246,7 +246,7 @@ module _ {P K : Type 0} (place : PlaceGhosts P K) (G : Ghosts K) (store : List �
     begins = begins old mid new desk told.1 opened replies.before back;
     text = _;
     appended = appended;
-    ends = (told.0, takes_later (G.tells told.1) (place.tells new) (λ t. (back.told t).1) (open_server (served G.faults desk)) replies.new line (Some told.0) replies.step, refl);
+    ends = (told.0, takes_later (G.tells told.1) (place.tells new) (λ t. (back.told t).1) (served G.faults desk) replies.new line (Some told.0) replies.step, refl);
     status = (refl, still);
     leaves = leaves old mid new replies.new told.1 opened.same replies.left back;
   }
@@ -256,7 +256,7 @@ module _ {P K : Type 0} (place : PlaceGhosts P K) (G : Ghosts K) (store : List �
     begins = begins old mid new desk told.1 opened replies.before back;
     text = part;
     appended = appended;
-    ends = (told.0, takes_later (G.tells told.1) (place.tells new) (λ t. (back.told t).1) (open_server (served G.faults desk)) replies.new line (Some told.0) replies.step, front);
+    ends = (told.0, takes_later (G.tells told.1) (place.tells new) (λ t. (back.told t).1) (served G.faults desk) replies.new line (Some told.0) replies.step, front);
     status = (refl, rose);
     leaves = leaves old mid new replies.new told.1 opened.same replies.left back;
   }

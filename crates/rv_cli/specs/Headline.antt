@@ -15,16 +15,15 @@ use Rattle.rv_rows.specs.Held.{Stored as StoredRow, rows_in}
 use Rattle.rv_rows.specs.Sharing.{seen}
 use Rattle.rv_book.specs.Book.{Book, last, opening, size, Extends}
 use Rattle.rv_book.specs.Entries.{last_in}
-use Rattle.rv_history.specs.Closable.{Closable, TakesClosable, TakesClosing, open_server}
-use Rattle.rv_history.specs.Served.{Served, IsSound}
-use Rattle.rv_history.specs.Succession.{GoesOnFrom}
+use Rattle.rv_history.specs.Served.{Served, IsSound, Settles, TakesTurn}
+use Rattle.rv_history.specs.Closing.{GoesOnFrom}
 use Rattle.rv_history.specs.Replay.{IsReplay}
 use Rattle.rv_history.specs.Laws.{act_ids, look_orders, IsEntered, ReplyShows}
 use Rattle.rv_keeper.specs.declared.loaded.Loaded.{Loaded}
 use Rattle.rv_keeper.specs.Stores.{TakesUp}
 use Rattle.rv_keeper.specs.Crashes.{LeavesMore}
-use Rattle.rv_desk.specs.ClosingSeats.{IsKeptSo}
 use Rattle.rv_store.specs.Opening.{MayOpen, IsDamaged}
+use Rattle.rv_store.specs.StoreCells.{IsKeptWith}
 use Rattle.rv_report.specs.Lists.{lists_text}
 use Rattle.rv_report.specs.Activity.{activity_text}
 use Rattle.rv_import.specs.Views.{IsView, view_text}
@@ -32,7 +31,7 @@ use Rattle.rv_answering.specs.declared.request.Request.TheVariants.{Pull, Push}
 use Rattle.rv_answering.specs.declared.answer.Answer.{Answer}
 use Rattle.rv_answering.specs.declared.answer.Answer.TheVariants.{Pulled, Pushed, Refused}
 use Rattle.rv_answering.specs.declared.line.Line.{Line}
-use Rattle.rv_answering.specs.declared.line.Line.TheVariants.{Asks, Stop, Close}
+use Rattle.rv_answering.specs.declared.line.Line.TheVariants.{Asks, Stop}
 use Rattle.rv_answering.specs.Requests.{Parsed, line_of}
 use Rattle.rv_make.specs.Plays.{Plays}
 use Rattle.rv_make.specs.SummaryTexts.{summary_text}
@@ -40,10 +39,8 @@ use Rattle.rv_make.specs.declared.summary.Summary.{Summary}
 use Rattle.rv_cli.specs.declared.ending.Ending.{Ending}
 use Rattle.rv_cli.specs.declared.ending.Ending.TheVariants.{Done, Keeper, Damaged, Read, Write, Memory, Malformed}
 use Rattle.rv_cli.specs.Change.{StoreChange}
-use Rattle.rv_cli.specs.Closings.{IsSoundClosable, SettlesAll, closing_answer}
 use Rattle.rv_cli.specs.Texts.{text_of, status_of, status_text}
 use Rattle.rv_turns.specs.Outcomes.{IsChanged}
-use Rattle.rv_turns.specs.declared.close_answer.CloseAnswer.{CloseAnswer}
 use Rattle.rv_wire.specs.Answers.{pull_json}
 use Rattle.rv_turns.specs.declared.refusal.Trouble.{Trouble}
 use Rattle.rv_turns.specs.declared.pull.PullRequest.{PullRequest}
@@ -73,8 +70,8 @@ Are number (bytes ∷ rest) [] = ⊥
 -- ---- What is answered.
 
 -- one request is answered by the server
-abbrev pub Handles : Closable → Parsed → Answer → Closable → Type 0
-Handles = steps.Handles (TakesClosable pull_json)
+abbrev pub Handles : Served → Parsed → Answer → Served → Type 0
+Handles = steps.Handles (TakesTurn pull_json)
 
 -- the answer is a trouble with what keeps the book, of which this holds
 abbrev pub AnswersWith : (Trouble → Type 0) → Option Answer → Type 0
@@ -86,40 +83,30 @@ abbrev pub AnswersChange : Option Answer → Type 0
 AnswersChange = AnswersWith (λ trouble. IsChanged (Some trouble))
 
 -- One request is answered by the server. Where what is kept is told, the answer is not that another changed it.
-pub record TakesStep (Told : Type 0) (old : Closable) (asked : Parsed) (answer : Answer) (new : Closable) : Type 0 where
+pub record TakesStep (Told : Type 0) (old : Served) (asked : Parsed) (answer : Answer) (new : Served) : Type 0 where
   pub step : Handles old asked answer new
-  pub near : Told → ¬ AnswersChange (Some answer)
-
--- The book is closed by the server, and that is answered so. Where what is kept is told, the answer is not that another changed it.
-pub record TakesClose (Told : Type 0) (old : Closable) (answer : Answer) (new : Closable) : Type 0 where
-  pub closing : CloseAnswer
-  pub takes : TakesClosing old closing new
-  pub is : answer ≡ closing_answer closing
   pub near : Told → ¬ AnswersChange (Some answer)
 
 -- The server is closed and opened again: nothing is in doubt then, and the count of faults stays. Where what is kept is
 -- told, the book is the settled one, and else some lawful book within the limit.
-pub record Reopens (Told : Type 0) (old new : Closable) : Type 0 where
-  pub sound : IsSound new.served
-  pub limit : new.served.limit ≡ 2 ^ 32 - 1
-  pub doubt : new.served.doubt ≡ None
-  pub closing : new.closing ≡ None
-  pub faults : new.served.faults ≡ old.served.faults
-  pub settled : Told → SettlesAll old new.served.book
+pub record Reopens (Told : Type 0) (old new : Served) : Type 0 where
+  pub sound : IsSound new
+  pub limit : new.limit ≡ old.limit
+  pub doubt : new.doubt ≡ None
+  pub faults : new.faults ≡ old.faults
+  pub settled : Told → Settles old.book old.doubt new.book
 
--- a request has its answer, and so has a closing; a stop has none
-abbrev pub TakesLine : Type 0 → Closable → Line → Option Answer → Closable → Type 0
+-- a request has its answer; a stop has none
+abbrev pub TakesLine : Type 0 → Served → Line → Option Answer → Served → Type 0
 TakesLine Told old (Asks asked) (Some answer) new = TakesStep Told old asked answer new
-TakesLine Told old Close (Some answer) new = TakesClose Told old answer new
 TakesLine Told old Stop None new = Reopens Told old new
 TakesLine Told old (Asks asked) None new = ⊥
-TakesLine Told old Close None new = ⊥
 TakesLine Told old Stop (Some answer) new = ⊥
 
 -- lines are taken one after another
-abbrev pub Run : Type 0 → Closable → List Line → List (Option Answer) → Closable → Type 0
+abbrev pub Run : Type 0 → Served → List Line → List (Option Answer) → Served → Type 0
 Run Told old [] [] new = new ≡ old
-Run Told old (line ∷ lines) (answer ∷ answers) new = (mid : Closable) × TakesLine Told old line answer mid × Run Told mid lines answers new
+Run Told old (line ∷ lines) (answer ∷ answers) new = (mid : Served) × TakesLine Told old line answer mid × Run Told mid lines answers new
 Run Told old [] (answer ∷ answers) new = ⊥
 Run Told old (line ∷ lines) [] new = ⊥
 
@@ -128,7 +115,7 @@ abbrev pub told_text : Option Answer → List ℕ
 told_text answer = option_map_or text_of answer []
 
 -- A run from the first state takes what these lines are, and writes this text.
-pub record Answered (Told : Type 0) (first : Closable) (lines : List (List ℕ)) (text : List ℕ) (now : Closable) : Type 0 where
+pub record Answered (Told : Type 0) (first : Served) (lines : List (List ℕ)) (text : List ℕ) (now : Served) : Type 0 where
   pub taken : List Line
   pub answers : List (Option Answer)
   pub are : Are 1 lines taken
@@ -138,7 +125,7 @@ pub record Answered (Told : Type 0) (first : Closable) (lines : List (List ℕ))
 -- ---- How a run over lines ends.
 
 -- Of the last line that is examined only a front of the answer was written. The lines before it are answered.
-pub record IsCutOff (Told : Type 0) (first : Closable) (bytes read text : List ℕ) (now : Closable) : Type 0 where
+pub record IsCutOff (Told : Type 0) (first : Served) (bytes read text : List ℕ) (now : Served) : Type 0 where
   pub lines : List (List ℕ)
   pub line : List ℕ
   pub others : List (List ℕ)
@@ -146,7 +133,7 @@ pub record IsCutOff (Told : Type 0) (first : Closable) (bytes read text : List �
   pub within : (more : List (List ℕ)) × (lines_of read ≡ lines ++ line ∷ more)
   pub needed : IsNeeded read (length lines + 1)
   pub before : List ℕ
-  pub mid : Closable
+  pub mid : Served
   pub answered : Answered Told first lines before mid
   pub taken : Line
   pub asks : line_at (length lines + 1) line ≡ Some taken
@@ -157,7 +144,7 @@ pub record IsCutOff (Told : Type 0) (first : Closable) (bytes read text : List �
   pub front : IsFront part (text_of answer)
 
 -- The line with this number is the first that isn't of the form, and all lines before it are answered.
-pub record StopsAt (Told : Type 0) (first : Closable) (number : ℕ) (bytes read text : List ℕ) (now : Closable) : Type 0 where
+pub record StopsAt (Told : Type 0) (first : Served) (number : ℕ) (bytes read text : List ℕ) (now : Served) : Type 0 where
   pub lines : List (List ℕ)
   pub line : List ℕ
   pub others : List (List ℕ)
@@ -168,7 +155,7 @@ pub record StopsAt (Told : Type 0) (first : Closable) (number : ℕ) (bytes read
   pub answered : Answered Told first lines text now
 
 -- These first lines are answered, and memory was refused before it was known what the next one asks, or in opening again.
-pub record StopsAfter (Told : Type 0) (first : Closable) (bytes read text : List ℕ) (now : Closable) : Type 0 where
+pub record StopsAfter (Told : Type 0) (first : Served) (bytes read text : List ℕ) (now : Served) : Type 0 where
   pub lines : List (List ℕ)
   pub others : List (List ℕ)
   pub are : lines_of bytes ≡ lines ++ others
@@ -176,7 +163,7 @@ pub record StopsAfter (Told : Type 0) (first : Closable) (bytes read text : List
   pub answered : Answered Told first lines text now
 
 -- The next line is a stop, after which the server did not open again. The lines before it are answered.
-pub record StaysClosed (Told : Type 0) (first : Closable) (bytes read text : List ℕ) (now : Closable) : Type 0 where
+pub record StaysClosed (Told : Type 0) (first : Served) (bytes read text : List ℕ) (now : Served) : Type 0 where
   pub lines : List (List ℕ)
   pub line : List ℕ
   pub others : List (List ℕ)
@@ -186,7 +173,7 @@ pub record StaysClosed (Told : Type 0) (first : Closable) (bytes read text : Lis
   pub answered : Answered Told first lines text now
 
 -- A run over these bytes, of which some were read, may end so, with this text of answers and this state.
-abbrev pub Ends : Type 0 → Closable → List ℕ → List ℕ → List ℕ → Closable → Ending → Type 0
+abbrev pub Ends : Type 0 → Served → List ℕ → List ℕ → List ℕ → Served → Ending → Type 0
 -- the input was read to its end, and all its lines are answered
 Ends Told first bytes read text now Done = (read ≡ bytes) × Answered Told first (lines_of bytes) text now
 -- a read failed, and all lines whose LF was read are answered
@@ -218,7 +205,7 @@ WritesOnly old new text = (own : List ℕ) × Appends old.written new.written ow
 
 -- The bytes that were read are the front of the input's, and what was added to the output is the text of the answers, and
 -- then the status's own.
-pub record Fed (Told : Type 0) (first now : Closable) (bytes : List ℕ) (input' : InputState) (output output' : OutputState) (ending : Ending) : Type 0 where
+pub record Fed (Told : Type 0) (first now : Served) (bytes : List ℕ) (input' : InputState) (output output' : OutputState) (ending : Ending) : Type 0 where
   pub read : List ℕ
   pub text : List ℕ
   pub own : List ℕ
@@ -264,11 +251,11 @@ pub record Begins (c : StoreChange) (first : Served) : Type 0 where
 
 -- Where the place tells, the store holds the cells of the book, or of the book with what is in doubt, an entry or a closing; where it is
 -- honest, a crash leaves the same. The place takes up the faults of the keeper, of which each trouble in the run was one.
-pub record Leaves (c : StoreChange) (now : Closable) : Type 0 where
-  pub held : c.told → (held : Loaded) × c.holds held × IsKeptSo now.served.book now.served.doubt now.closing held
-  pub left : c.honest → (left : Option Loaded) → c.may_leave left → (held : Loaded) × (left ≡ Some held) × IsKeptSo now.served.book now.served.doubt now.closing held
+pub record Leaves (c : StoreChange) (now : Served) : Type 0 where
+  pub held : c.told → (held : Loaded) × c.holds held × IsKeptWith now.book now.doubt held
+  pub left : c.honest → (left : Option Loaded) → c.may_leave left → (held : Loaded) × (left ≡ Some held) × IsKeptWith now.book now.doubt held
   pub kept : ℕ
-  pub later : now.served.faults ≤ kept
+  pub later : now.faults ≤ kept
   pub taken : TakesUp kept c.before c.after
 
 -- Why a store did not open: the place or the keeper failed, and the place's count of faults rose; or what was loaded is damaged
@@ -303,11 +290,11 @@ module _ (c : StoreChange) where
 
   pub record HasFed (input input' : InputState) (output output' : OutputState) (ending : Ending) : Type 0 where
     pub first : Served
-    pub now : Closable
+    pub now : Served
     pub begins : Begins c first
     pub reads : ReadsSo input input' ending
     pub writes : WritesSo output.faults output'.faults ending
-    pub fed : IfSome input.left (λ bytes. Fed c.told (open_server first) now bytes input' output output' ending)
+    pub fed : IfSome input.left (λ bytes. Fed c.told first now bytes input' output output' ending)
     pub keeps : KeepsSo c ending
     pub leaves : Leaves c now
 
@@ -330,7 +317,7 @@ KeptSound Stored = (book : Book) × (held : Loaded) × Stored held × MayOpen (2
 -- ---- And of `retire` and `close-book`: the same over one line.
 
 -- A run of one line may end so, with this text and this state: it is answered; or a front of its answer was written.
-abbrev pub EndsOne : Type 0 → Closable → Line → List ℕ → Closable → Ending → Type 0
+abbrev pub EndsOne : Type 0 → Served → Line → List ℕ → Served → Ending → Type 0
 EndsOne Told first line text now Done = (answer : Answer) × TakesLine Told first line (Some answer) now × (text ≡ text_of answer)
 EndsOne Told first line text now Write = (answer : Answer) × TakesLine Told first line (Some answer) now × IsFront text (text_of answer)
 EndsOne Told first line text now ending = ⊥
@@ -343,11 +330,11 @@ module _ (c : StoreChange) where
   -- what was added to the output is the text of the answer
   pub record Replied (line : Line) (output output' : OutputState) (ending : Ending) : Type 0 where
     pub first : Served
-    pub now : Closable
+    pub now : Served
     pub begins : Begins c first
     pub text : List ℕ
     pub appended : Appends output.written output'.written text
-    pub ends : EndsOne c.told (open_server first) line text now ending
+    pub ends : EndsOne c.told first line text now ending
     pub status : IsOwnText output.faults output'.faults [] ending
     pub leaves : Leaves c now
 
@@ -386,7 +373,7 @@ module _ (c : StoreChange) where
     pub first : Served
     pub begins : Begins c first
     pub writes : WritesReport (Reports first.book) output output' ending
-    pub leaves : Leaves c (open_server first)
+    pub leaves : Leaves c first
 
   -- the status is that of an ending, and the store did not open, or was reported so
   abbrev pub RunsReport : (Book → List ℕ → Type 0) → OutputState → OutputState → ℕ → Type 0
@@ -416,17 +403,17 @@ pub record IsLawfulRun (Told : Type 0) (first now : Served) : Type 0 where
   pub limit : first.limit ≡ 2 ^ 32 - 1 → now.limit ≡ 2 ^ 32 - 1
 
 -- The same of a run that may close the book: then the book goes on from the first by entries and closings.
-pub record IsLawfulFeed (Told : Type 0) (first now : Closable) : Type 0 where
-  pub sound : IsSoundClosable now
-  pub more : Told → GoesOnFrom first.served.book now.served.book
-  pub ids : (client : List ℕ) → act_ids client now.served.book.entries ≡ range_with_len (last client (opening now.served.book) + 1) (last_in client now.served.book.entries)
-  pub orders : (group : List ℕ) → IsStrictlyIncreasing (look_orders group now.served.book.entries)
-  pub later : first.served.faults ≤ now.served.faults
-  pub limit : first.served.limit ≡ 2 ^ 32 - 1 → now.served.limit ≡ 2 ^ 32 - 1
+pub record IsLawfulFeed (Told : Type 0) (first now : Served) : Type 0 where
+  pub sound : IsSound now
+  pub more : Told → GoesOnFrom first.book now.book
+  pub ids : (client : List ℕ) → act_ids client now.book.entries ≡ range_with_len (last client (opening now.book) + 1) (last_in client now.book.entries)
+  pub orders : (group : List ℕ) → IsStrictlyIncreasing (look_orders group now.book.entries)
+  pub later : first.faults ≤ now.faults
+  pub limit : first.limit ≡ 2 ^ 32 - 1 → now.limit ≡ 2 ^ 32 - 1
 
 -- Of runs where what is kept is told, and of those where it is not.
 abbrev pub BooksAreLawful : Type 0
-BooksAreLawful = (told : Bool) (first now : Closable) (lines : List Line) (answers : List (Option Answer)) → Run (told ≡ true) first lines answers now → IsSoundClosable first → IsLawfulFeed (told ≡ true) first now
+BooksAreLawful = (told : Bool) (first now : Served) (lines : List Line) (answers : List (Option Answer)) → Run (told ≡ true) first lines answers now → IsSound first → IsLawfulFeed (told ≡ true) first now
 
 -- A pull was answered at a point of the book, and left the new book: the reply tells what the laws of the machine say of a
 -- pull. Its patch, applied to the view that the request's cookie names, gives exactly what the user sees at the point.
@@ -437,32 +424,32 @@ pub record ShowsAt (asked : Parsed) (reply : PullReply) (point new : Book) : Typ
   pub tells : ReplyShows pull_json user request point new reply
 
 -- Of a pull that is answered in a run: the state before it, the settled book at which it is answered, and the state after it.
-pub record IsShown (Told : Type 0) (first now : Closable) (before : List Line) (answered : List (Option Answer)) (asked : Parsed) (reply : PullReply) : Type 0 where
-  pub point : Closable
-  pub new : Closable
+pub record IsShown (Told : Type 0) (first now : Served) (before : List Line) (answered : List (Option Answer)) (asked : Parsed) (reply : PullReply) : Type 0 where
+  pub point : Served
+  pub new : Served
   pub settled : Book
   pub run : Run Told first before answered point
   pub step : Handles point asked (Pulled reply) new
-  pub settles : SettlesAll point settled
-  pub shows : ShowsAt asked reply settled new.served.book
-  pub here : Extends new.served.book settled
-  pub on : Told → GoesOnFrom new.served.book now.served.book
+  pub settles : Settles point.book point.doubt settled
+  pub shows : ShowsAt asked reply settled new.book
+  pub here : Extends new.book settled
+  pub on : Told → GoesOnFrom new.book now.book
 
 -- Each pull that a run from a sound state answers is answered at the settled book of the point that the run before it leaves, by
 -- a step of the server there, and the book goes on from the book after it.
 abbrev pub PullsAreShown : Type 0
-PullsAreShown = (told : Bool) (first now : Closable) (before after : List Line) (answered answers : List (Option Answer)) (asked : Parsed) (reply : PullReply) → IsSoundClosable first → length before ≡ length answered
+PullsAreShown = (told : Bool) (first now : Served) (before after : List Line) (answered answers : List (Option Answer)) (asked : Parsed) (reply : PullReply) → IsSound first → length before ≡ length answered
     → Run (told ≡ true) first (before ++ Asks asked ∷ after) (answered ++ Some (Pulled reply) ∷ answers) now → IsShown (told ≡ true) first now before answered asked reply
 
 -- Each pull that a server answers is answered at its settled book, from which the book that is left goes on, and shows what its user sees there.
 abbrev pub StepsShow : Type 0
-StepsShow = (point new : Closable) (asked : Parsed) (reply : PullReply) → Handles point asked (Pulled reply) new → (settled : Book) × SettlesAll point settled × ShowsAt asked reply settled new.served.book × Extends new.served.book settled
+StepsShow = (point new : Served) (asked : Parsed) (reply : PullReply) → Handles point asked (Pulled reply) new → (settled : Book) × Settles point.book point.doubt settled × ShowsAt asked reply settled new.book × Extends new.book settled
 
 -- Each mutation of a push that a sound server does not refuse stands in the book that is left; but for an id of 0, which is skipped and stands
 -- nowhere.
 abbrev pub StepsStand : Type 0
-StepsStand = (point new : Closable) (user : List ℕ) (push : pushes.Push) → IsSoundClosable point → Handles point (Ok (Push user push)) Pushed new
-    → AllByRecursion (λ m. 1 ≤ m.id → IsEntered (record { user = user; group = push.group }) new.served.book m) push.mutations
+StepsStand = (point new : Served) (user : List ℕ) (push : pushes.Push) → IsSound point → Handles point (Ok (Push user push)) Pushed new
+    → AllByRecursion (λ m. 1 ≤ m.id → IsEntered (record { user = user; group = push.group }) new.book m) push.mutations
 
 -- the answer is a trouble with what keeps the book
 abbrev pub AnswersTrouble : Option Answer → Type 0
@@ -470,4 +457,4 @@ AnswersTrouble = AnswersWith (λ trouble. Unit {0})
 
 -- Where no fault of what keeps the book rose in a run, no answer tells a trouble with it.
 abbrev pub TroublesHaveCauses : Type 0
-TroublesHaveCauses = (told : Bool) (first now : Closable) (lines : List Line) (answers : List (Option Answer)) → Run (told ≡ true) first lines answers now → now.served.faults ≡ 0 → AllByRecursion (λ answer. AnswersTrouble answer → ⊥) answers
+TroublesHaveCauses = (told : Bool) (first now : Served) (lines : List Line) (answers : List (Option Answer)) → Run (told ≡ true) first lines answers now → now.faults ≡ 0 → AllByRecursion (λ answer. AnswersTrouble answer → ⊥) answers

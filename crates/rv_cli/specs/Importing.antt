@@ -10,7 +10,6 @@ use Rattle.rv_turns.specs.Asks.{Ask}
 use Rattle.rv_turns.specs.Outcomes.{IsChanged, trouble_of}
 use Rattle.rv_turns.specs.declared.outcome.Outcome.{Outcome}
 use Rattle.rv_wire.specs.Answers.{pull_json}
-use Rattle.rv_history.specs.Closable.{open_server}
 use Rattle.rv_history.specs.Served.{Served, TakesTurn}
 use Rattle.rv_desk.specs.Seated.{DeskTakes, KeepsBook, Seated}
 use Rattle.rv_import.specs.Importing.{Imports, import_text}
@@ -68,7 +67,7 @@ module _ (c : StoreChange) where
     pub came : Result ImportEnd InputFault
     pub imports : ImportsInput (TakesNear c.told) user name first input input' came now
     pub writes : WritesCame output output' came ending
-    pub leaves : Leaves c (open_server now)
+    pub leaves : Leaves c now
 
   -- the status is that of an ending: the store did not open, and nothing was read; or the input was imported so
   abbrev pub RunsImport : List ℕ → List ℕ → InputState → InputState → OutputState → OutputState → ℕ → Type 0

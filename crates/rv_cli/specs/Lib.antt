@@ -1,6 +1,5 @@
 pub mod Texts
 pub mod Change
-pub mod Closings
 pub mod Headline
 pub mod RunLaws
 pub mod Storing

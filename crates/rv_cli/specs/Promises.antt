@@ -9,8 +9,8 @@ use Rattle.rv_net.specs.declared.net.Net.{Ghosts as NetGhosts}
 use Rattle.rv_net.specs.declared.poke_listen.PokeListen.{Ghosts as PokeListenGhosts}
 use Rattle.rv_poke.specs.declared.poke_link.PokeLink.{Ghosts as LinkGhosts}
 use Rattle.rv_book.specs.Book.{Book}
-use Rattle.rv_answering.specs.declared.line.Line.TheVariants.{Asks, Close}
-use Rattle.rv_answering.specs.declared.request.Request.TheVariants.{Retire}
+use Rattle.rv_answering.specs.declared.line.Line.TheVariants.{Asks}
+use Rattle.rv_answering.specs.declared.request.Request.TheVariants.{Close, Retire}
 use Rattle.rv_words.specs.declared.command.Command.{Command}
 use Rattle.rv_words.specs.declared.command.Command.TheVariants.{Serve}
 use Rattle.rv_words.specs.declared.serve_options.ServeOptions.{ServeOptions}
@@ -35,7 +35,7 @@ module _ {P Kept O : Type 0} (place : PlaceGhosts P Kept) (output : SinkGhosts O
   WasRetired group out out' = RunsOne (change place store old new) (Asks (Ok (Retire group))) (output.state out) (output.state out')
 
   abbrev pub WasClosed : O → O → ℕ → Type 0
-  WasClosed out out' = RunsOne (change place store old new) Close (output.state out) (output.state out')
+  WasClosed out out' = RunsOne (change place store old new) (Asks (Ok Close)) (output.state out) (output.state out')
 
   -- Of a report: what is written is a text of the book that the store kept, which it still keeps.
   abbrev pub WasReported : (Book → List ℕ → Type 0) → O → O → ℕ → Type 0

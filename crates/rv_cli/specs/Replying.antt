@@ -5,7 +5,7 @@ use Rattle.rv_base.specs.Causes.{Rose}
 use Rattle.rv_base.specs.Outside.{OutputState}
 use Rattle.rv_base.specs.Writes.{AppendsFront}
 use Rattle.rv_keeper.specs.declared.keeper.Keeper.{Ghosts}
-use Rattle.rv_history.specs.Closable.{Closable, open_server}
+use Rattle.rv_history.specs.Served.{Served}
 use Rattle.rv_desk.specs.Seated.{Seated, served}
 use Rattle.rv_answering.specs.declared.answer.Answer.{Answer}
 use Rattle.rv_answering.specs.declared.line.Line.{Line}
@@ -17,8 +17,8 @@ use Rattle.rv_cli.specs.Feeding.{IsLeftWith}
 
 -- the answer to one line, and the keeper that is left
 pub record Replies {K : Type 0} (G : Ghosts K) (old : Seated K) (line : Line) (told : Answer × K) : Type 0 where
-  pub new : Closable
-  pub step : TakesLine (G.tells told.1) (open_server (served G.faults old)) line (Some told.0) new
+  pub new : Served
+  pub step : TakesLine (G.tells told.1) (served G.faults old) line (Some told.0) new
   pub left : IsLeftWith G new told.1
   pub before : G.tells told.1 → G.tells old.keeper
 

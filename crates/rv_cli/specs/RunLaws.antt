@@ -3,7 +3,7 @@ use Rattle.std.proofs.Common.{◌≡◌, ℕ, ◌+◌, ◌^◌, ◌<◌, ◌≤�
 use Rattle.std.proofs.lemmas.List.{flat_map_more}
 use Rattle.std.proofs.lemmas.Grind.{common_steps}
 use Rattle.rv_lines.specs.Lines.{longest_line}
-use Rattle.rv_history.specs.Closable.{Closable}
+use Rattle.rv_history.specs.Served.{Served}
 use Rattle.rv_answering.specs.declared.answer.Answer.{Answer}
 use Rattle.rv_answering.specs.declared.line.Line.{Line}
 use Rattle.rv_answering.specs.declared.line.Line.TheVariants.{Asks, Close, Stop}
@@ -35,38 +35,36 @@ are_more n [] bytes (a ∷ lines) line number e h is = absurd h
 are_more n (l ∷ rest) bytes [] line number e h is = absurd h
 are_more n (l ∷ rest) bytes (a ∷ lines) line number e (here, more) is = (here, are_more (n + 1) rest bytes lines line number (omega (arith, e)) more is)
 
-pub run_more : (Told : Type 0) (lines : List Line) (answers : List (Option Answer)) (first mid new : Closable) (line : Line) (answer : Option Answer) → Run Told first lines answers mid → TakesLine Told mid line answer new → Run Told first (lines ++ line ∷ []) (answers ++ answer ∷ []) new
-run_more Told [] [] first mid new line answer r s = (new, subst (λ (b : Closable). TakesLine Told b line answer new) r s, refl)
+pub run_more : (Told : Type 0) (lines : List Line) (answers : List (Option Answer)) (first mid new : Served) (line : Line) (answer : Option Answer) → Run Told first lines answers mid → TakesLine Told mid line answer new → Run Told first (lines ++ line ∷ []) (answers ++ answer ∷ []) new
+run_more Told [] [] first mid new line answer r s = (new, subst (λ (b : Served). TakesLine Told b line answer new) r s, refl)
 run_more Told [] (a ∷ answers) first mid new line answer r s = absurd r
 run_more Told (q ∷ lines) [] first mid new line answer r s = absurd r
 run_more Told (q ∷ lines) (a ∷ answers) first mid new line answer (next, step, rest) s = (next, step, run_more Told lines answers next mid new line answer rest s)
 
 -- what is told later was told before, so a run is one of what is told later
-reopens_later : (Told Now : Type 0) → (Now → Told) → (old new : Closable) → Reopens Told old new → Reopens Now old new
-reopens_later Told Now then old new r = record { sound = r.sound; limit = r.limit; doubt = r.doubt; closing = r.closing; faults = r.faults; settled = λ now. r.settled (then now) }
+reopens_later : (Told Now : Type 0) → (Now → Told) → (old new : Served) → Reopens Told old new → Reopens Now old new
+reopens_later Told Now then old new r = record { sound = r.sound; limit = r.limit; doubt = r.doubt; faults = r.faults; settled = λ now. r.settled (then now) }
 
-pub step_later : (Told Now : Type 0) → (Now → Told) → (old new : Closable) (asked : Parsed) (answer : Answer) → TakesStep Told old asked answer new → TakesStep Now old asked answer new
+pub step_later : (Told Now : Type 0) → (Now → Told) → (old new : Served) (asked : Parsed) (answer : Answer) → TakesStep Told old asked answer new → TakesStep Now old asked answer new
 step_later Told Now then old new asked answer taken = record { step = taken.step; near = λ now. taken.near (then now) }
 
-pub takes_later : (Told Now : Type 0) → (Now → Told) → (old new : Closable) (line : Line) (answer : Option Answer) → TakesLine Told old line answer new → TakesLine Now old line answer new
+pub takes_later : (Told Now : Type 0) → (Now → Told) → (old new : Served) (line : Line) (answer : Option Answer) → TakesLine Told old line answer new → TakesLine Now old line answer new
 takes_later Told Now then old new (Asks asked) (Some answer) taken = step_later Told Now then old new asked answer taken
-takes_later Told Now then old new Close (Some answer) taken = record { closing = taken.closing; takes = taken.takes; is = taken.is; near = λ now. taken.near (then now) }
-takes_later Told Now then old new Close None taken = absurd taken
 takes_later Told Now then old new Stop None taken = reopens_later Told Now then old new taken
 takes_later Told Now then old new (Asks asked) None taken = absurd taken
 takes_later Told Now then old new Stop (Some answer) taken = absurd taken
 
-pub run_later : (Told Now : Type 0) → (Now → Told) → (lines : List Line) (answers : List (Option Answer)) (first new : Closable) → Run Told first lines answers new → Run Now first lines answers new
+pub run_later : (Told Now : Type 0) → (Now → Told) → (lines : List Line) (answers : List (Option Answer)) (first new : Served) → Run Told first lines answers new → Run Now first lines answers new
 run_later Told Now then [] [] first new r = r
 run_later Told Now then [] (a ∷ answers) first new r = absurd r
 run_later Told Now then (q ∷ lines) [] first new r = absurd r
 run_later Told Now then (q ∷ lines) (a ∷ answers) first new (next, step, rest) = (next, takes_later Told Now then first next q a step, run_later Told Now then lines answers next new rest)
 
-pub answered_later : (Told Now : Type 0) → (Now → Told) → (first : Closable) (lines : List (List ℕ)) (text : List ℕ) (new : Closable) → Answered Told first lines text new → Answered Now first lines text new
+pub answered_later : (Told Now : Type 0) → (Now → Told) → (first : Served) (lines : List (List ℕ)) (text : List ℕ) (new : Served) → Answered Told first lines text new → Answered Now first lines text new
 answered_later Told Now then first lines text new w = record { taken = w.taken; answers = w.answers; are = w.are; run = run_later Told Now then w.taken w.answers first new w.run; told = w.told }
 
 -- one more line is taken
-pub answered_more : (Told : Type 0) (first : Closable) (lines : List (List ℕ)) (bytes text : List ℕ) (mid new : Closable) (number : ℕ) (line : Line) (answer : Option Answer) → number ≡ length lines + 1
+pub answered_more : (Told : Type 0) (first : Served) (lines : List (List ℕ)) (bytes text : List ℕ) (mid new : Served) (number : ℕ) (line : Line) (answer : Option Answer) → number ≡ length lines + 1
     → Answered Told first lines text mid → line_at number bytes ≡ Some line → TakesLine Told mid line answer new → Answered Told first (lines ++ bytes ∷ []) (text ++ told_text answer) new
 answered_more Told first lines bytes text mid new number line answer e w is s = record {
   taken = w.taken ++ line ∷ [];
@@ -76,5 +74,5 @@ answered_more Told first lines bytes text mid new number line answer e w is s = 
   told = ap (λ l. l ++ told_text answer) w.told ∙ flat_map_more told_text [] w.answers answer;
 }
 
-pub answered_none : (Told : Type 0) (first : Closable) → Answered Told first [] [] first
+pub answered_none : (Told : Type 0) (first : Served) → Answered Told first [] [] first
 answered_none Told first = record { taken = []; answers = []; are = tt; run = refl; told = refl }

@@ -14,7 +14,6 @@ use Rattle.rv_keeper.specs.declared.loaded.Loaded.{Loaded}
 use Rattle.rv_accounts.specs.File.{AccountsServed, file_in}
 use Rattle.rv_accounts.specs.declared.fault.AccountsFault.{AccountsFault}
 use Rattle.rv_book.specs.Book.{Book, size, Extends}
-use Rattle.rv_history.specs.Closable.{open_server}
 use Rattle.rv_history.specs.Served.{Served, IsSound}
 use Rattle.rv_desk.specs.Seated.{Seated, served}
 use Rattle.rv_answering.specs.declared.answer.Answer.{Answer}
@@ -147,7 +146,7 @@ module _ {K : Type 0} (G : Ghosts K) (c : StoreChange) (HasFile : List ℕ → T
     pub first : Served
     pub begins : Begins c first
     pub why : IsNoNet net net' ending
-    pub leaves : Leaves c (open_server first)
+    pub leaves : Leaves c first
     pub text : WritesOnly output output' (serve_text ending)
 
   -- The net was served, and the store keeps the book that is left, which is lawful. Where the place tells, so did the desk's keeper to
@@ -161,7 +160,7 @@ module _ {K : Type 0} (G : Ghosts K) (c : StoreChange) (HasFile : List ℕ → T
     pub serves : Serves accounts first now
     pub sound : IsSound (served G.faults now)
     pub told : c.told → G.tells now.keeper
-    pub leaves : Leaves c (open_server (served G.faults now))
+    pub leaves : Leaves c (served G.faults now)
     pub entries : WritesEntries now.book output output' ending
 
   -- the status is that of an ending, and the run ended so

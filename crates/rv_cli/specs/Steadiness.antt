@@ -2,8 +2,6 @@
 -- refused to it.
 use Rattle.std.specs.Prelude.{ℕ, ◌≡◌, Result, Ok, Err}
 use Rattle.rv_base.specs.Causes.{Rose}
-use Rattle.rv_desk.specs.Closable.{seat_of}
-use Rattle.rv_desk.specs.declared.closable_desk.ClosableDesk.{ClosableDesk}
 use Rattle.rv_desk.specs.Seated.{Seated}
 use Rattle.rv_cli.specs.declared.ending.Ending.{Ending}
 use Rattle.rv_cli.specs.declared.ending.Ending.TheVariants.{Keeper, Read, Write}
@@ -33,9 +31,9 @@ pub record ImportIsSteady (steady : Type 0) (before now : ℕ) (ending : ImportE
   pub only_memory : ending ≡ imports.Write → Rose before now
 
 -- the same after a line
-abbrev pub LineIsSteady : {T K : Type 0} → Type 0 → ℕ → ℕ → Result T (Ending × K) → Type 0
-LineIsSteady steady before now (Ok going) = steady
-LineIsSteady steady before now (Err ended) = OutputIsSteady steady before now ended.0
+abbrev pub LineIsSteady : Type 0 → ℕ → ℕ → Result (Unit {0}) Ending → Type 0
+LineIsSteady steady before now (Ok done) = steady
+LineIsSteady steady before now (Err ending) = OutputIsSteady steady before now ending
 
 -- a keeper that fails no more goes on so, its count of faults stays, and it is not told to have failed
 pub record KeeperIsSteady {K : Type 0} (fails_no_more : K → Type 0) (faults : K → ℕ) (before : K) (ended : Ending × K) : Type 0 where
@@ -43,10 +41,14 @@ pub record KeeperIsSteady {K : Type 0} (fails_no_more : K → Type 0) (faults : 
   pub still : faults ended.1 ≡ faults before
   pub no_fault : ended.0 ≡ Keeper → ⊥
 
--- the same after a line
-abbrev pub LineKeepsSteady : {K : Type 0} → (K → Type 0) → (K → ℕ) → K → Result (ClosableDesk K) (Ending × K) → Type 0
-LineKeepsSteady fails_no_more faults before (Ok desk) = fails_no_more (seat_of desk).keeper × (faults (seat_of desk).keeper ≡ faults before)
-LineKeepsSteady fails_no_more faults before (Err ended) = KeeperIsSteady fails_no_more faults before ended
+-- a keeper that fails no more goes on so, and its count of faults stays
+abbrev pub DeskKeepsSteady : {K : Type 0} → (K → Type 0) → (K → ℕ) → K → K → Type 0
+DeskKeepsSteady fails_no_more faults before now = fails_no_more now × (faults now ≡ faults before)
+
+-- the same after a line, with which it is not told to have failed
+abbrev pub LineKeepsSteady : {K : Type 0} → (K → Type 0) → (K → ℕ) → K → Result (Unit {0}) Ending → K → Type 0
+LineKeepsSteady fails_no_more faults before (Ok done) now = DeskKeepsSteady fails_no_more faults before now
+LineKeepsSteady fails_no_more faults before (Err ending) now = DeskKeepsSteady fails_no_more faults before now × (ending ≡ Keeper → ⊥)
 
 -- the same of a store's desk, whose keeper is new, or of why there is none
 abbrev pub DeskIsSteady : {K : Type 0} → (K → Type 0) → (K → ℕ) → Result (Seated K) Ending → Type 0

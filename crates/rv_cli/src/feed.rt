@@ -1,12 +1,11 @@
 // Lines are answered until something ends it.
 ghost use Rattle.rv_cli.specs.Feeding.{FeedsWith, LastLine};
-ghost use Rattle.rv_desk.specs.Closable.{seat_of};
 ghost use Rattle.rv_cli.specs.Steadiness.{InputIsSteady, KeeperIsSteady, OutputIsSteady};
 
 use crate::ending::Ending;
 use crate::line::take_line;
 use rv_base::{Sink, Source};
-use rv_desk::ClosableDesk;
+use rv_desk::Desk;
 use rv_keeper::Keeper;
 use rv_lines::{LineFault, LineReader, Next};
 use std::alloc::Global;
@@ -20,40 +19,41 @@ pub(crate) const BOOK_LIMIT: u32 = 4_294_967_295;
 // Takes the line that ends with the input.
 fn take_last<K: Keeper, O: Sink>(
     alloc: Global,
-    desk: ClosableDesk<K>,
+    desk: Desk<K>,
     line: &[u8],
     number: u64,
     out: &mut O,
 ) -> (Ending, K)
-    ensures takes { LastLine K.Keeper (seat_of desk) line.now number result (O.state out.old) (O.state out.new) }
+    ensures takes { LastLine K.Keeper desk line.now number result (O.state out.old) (O.state out.new) }
     ensures steady { O.fails_no_more out.old → OutputIsSteady (O.fails_no_more out.new) (O.state out.old).refusals (O.state out.new).refusals result.0 }
-    ensures steady_keeper { K.fails_no_more (seat_of desk).keeper → KeeperIsSteady K.fails_no_more K.faults (seat_of desk).keeper result }
+    ensures steady_keeper { K.fails_no_more desk.keeper → KeeperIsSteady K.fails_no_more K.faults desk.keeper result }
 {
-    match take_line(alloc, desk, line, number, out) {
-        Ok(desk) => (Ending::Done, desk.close()),
-        Err(ended) => ended,
+    let mut desk = desk;
+    match take_line(alloc, &mut desk, line, number, out) {
+        Ok(()) => (Ending::Done, desk.close()),
+        Err(ending) => (ending, desk.close()),
     }
 }
 
 /// Takes the lines of the input, each as it was read, and gives the ending and the keeper.
 pub(crate) fn feed<K: Keeper, S: Source, O: Sink>(
     alloc: Global,
-    desk: ClosableDesk<K>,
+    desk: Desk<K>,
     input: &mut S,
     out: &mut O,
 ) -> (Ending, K)
-    ensures feeds { FeedsWith K.Keeper (seat_of desk) (S.state input.old) (S.state input.new) (O.state out.old) (O.state out.new) result }
+    ensures feeds { FeedsWith K.Keeper desk (S.state input.old) (S.state input.new) (O.state out.old) (O.state out.new) result }
     ensures steady_input { S.fails_no_more input.old → InputIsSteady (S.fails_no_more input.new) result.0 }
     ensures steady_output { O.fails_no_more out.old → OutputIsSteady (O.fails_no_more out.new) (O.state out.old).refusals (O.state out.new).refusals result.0 }
-    ensures steady_keeper { K.fails_no_more (seat_of desk).keeper → KeeperIsSteady K.fails_no_more K.faults (seat_of desk).keeper result }
+    ensures steady_keeper { K.fails_no_more desk.keeper → KeeperIsSteady K.fails_no_more K.faults desk.keeper result }
 {
     let mut desk = desk;
     let mut reader = LineReader::new(alloc);
     for number in 1..LINES_END {
         match reader.next(input) {
-            Ok(Next::Line) => match take_line(alloc, desk, reader.line(), number, out) {
-                Ok(next) => desk = next,
-                Err(ended) => return ended,
+            Ok(Next::Line) => match take_line(alloc, &mut desk, reader.line(), number, out) {
+                Ok(()) => {}
+                Err(ending) => return (ending, desk.close()),
             },
             Ok(Next::Last) => return take_last(alloc, desk, reader.line(), number, out),
             Ok(Next::End) => return (Ending::Done, desk.close()),

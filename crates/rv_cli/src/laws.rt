@@ -38,9 +38,7 @@ pub fn steps_show()
 pub fn steps_stand()
     ensures { StepsStand }
 {
-    rv_history::laws::turns_keep_law();
     rv_history::laws::pushes_stand();
-    rv_history::laws::mutations_stay();
 }
 
 /// An answer that tells a trouble with what keeps the book comes only where a fault of that rose.

@@ -4,8 +4,8 @@ ghost use Rattle.rv_base.specs.Causes.{Rose};
 ghost use Rattle.rv_words.specs.declared.command.Command.TheVariants as commands;
 ghost use Rattle.rv_words.specs.declared.serve_options.ServeOptions.{ServeOptions};
 ghost use Rattle.rv_keeper.specs.Stores.{OpensAs, OthersStay};
-ghost use Rattle.rv_answering.specs.declared.line.Line.TheVariants.{Asks, Close};
-ghost use Rattle.rv_answering.specs.declared.request.Request.TheVariants.{Retire};
+ghost use Rattle.rv_answering.specs.declared.line.Line.TheVariants.{Asks};
+ghost use Rattle.rv_answering.specs.declared.request.Request.TheVariants.{Close, Retire};
 ghost use Rattle.rv_cli.specs.Texts.{usage_text, status_of, status_text};
 ghost use Rattle.rv_cli.specs.Headline.{ReportsActivity, ReportsLists, ReportsSound, ReportsView, RunsMake, WritesOnly, AllAsk, IsOther, KeptSound};
 ghost use Rattle.rv_cli.specs.Promises.{KeepsImport, ServesAsAsked, WasClosed, WasClosedOrNot, WasFed, WasFedOrNot, WasReportedOrNot, WasRetired, WasRetiredOrNot, WasUnserved, WasWanted};
@@ -17,15 +17,14 @@ ghost use Rattle.rv_cli.specs.declared.ending.Ending.TheVariants as endings;
 use crate::ending::Ending;
 use crate::feed::feed;
 use crate::import::run_import;
-use crate::line::answer_of_closing;
 use crate::make::run_make;
 use crate::reports::{run_activity, run_check, run_export, run_lists};
 use crate::serve::run_serve;
 use crate::store::{open_desk, refuse_opening};
 use crate::texts::{write_answer, write_ending, write_usage};
-use rv_answering::{Answer, retire_group};
+use rv_answering::{Answer, close_book, retire_group};
 use rv_base::{Failed, Id, Memory, Sink, Source};
-use rv_desk::{ClosableDesk, Desk};
+use rv_desk::Desk;
 use rv_keeper::{Keeper, Place};
 use rv_net::{Listen, Net, PokeListen};
 use rv_poke::PokeLink;
@@ -63,7 +62,7 @@ pub fn run_feed<P: Place, S: Source, O: Sink>(
 {
     match open_desk(alloc, place, store) {
         Ok(desk) => {
-            let (ending, keeper) = feed(alloc, ClosableDesk::Open(desk), input, out);
+            let (ending, keeper) = feed(alloc, desk, input, out);
             place.close_keeper(store, keeper);
             let _ = write_ending(out, &ending);
             ending.status()
@@ -84,11 +83,12 @@ fn retired<K: Keeper>(desk: Desk<K>, group: &Id) -> (Answer, K)
 
 // The answer of a desk to the closing of its book, with its keeper.
 fn closed<K: Keeper>(desk: Desk<K>) -> (Answer, K)
-    ensures closed { Replies K.Keeper desk Close result }
+    ensures closed { Replies K.Keeper desk (Asks (Ok Close)) result }
     ensures steady { K.fails_no_more desk.keeper → K.fails_no_more result.1 × (K.faults result.1 ≡ K.faults desk.keeper) }
 {
-    let (closing, desk) = ClosableDesk::Open(desk).close_book();
-    (answer_of_closing(closing), desk.close())
+    let mut desk = desk;
+    let answer = close_book(&mut desk);
+    (answer, desk.close())
 }
 
 // Writes the one answer of a run.

@@ -1,3 +1,4 @@
 pub mod Settled
 pub mod Holding
 pub mod Leaving
+pub mod Reopening

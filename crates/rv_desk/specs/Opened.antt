@@ -5,6 +5,7 @@ use Rattle.rv_keeper.specs.declared.keeper.Keeper.{Ghosts}
 use Rattle.rv_keeper.specs.declared.loaded.Loaded.{Loaded}
 use Rattle.rv_keeper.specs.Crashes.{IsHeld, LeavesMore}
 use Rattle.rv_keeper.specs.Cells.{AreCells}
+use Rattle.rv_history.specs.Served.{Settles}
 use Rattle.rv_record.specs.declared.fault.Damage.{Damage}
 use Rattle.rv_store.specs.Opening.{MayOpen, IsDamaged}
 use Rattle.rv_desk.specs.declared.open_fault.OpenFault.{OpenFault}
@@ -63,6 +64,25 @@ module _ {K : Type 0} (G : Ghosts K) where
   abbrev pub OpensOrNot : ℕ → K → Result (Seated K) (OpenFault × K) → Type 0
   OpensOrNot limit before (Ok desk) = Opens limit before desk
   OpensOrNot limit before (Err refused) = IsRefused limit before refused.0 refused.1 × IsLeft before refused.1
+
+  -- A desk opens again from what its keeper holds: where that tells, what was in doubt is settled by it.
+  pub record OpensAgain (old new : Seated K) : Type 0 where
+    pub opens : Opens old.limit old.keeper new
+    pub settled : G.tells new.keeper → Settles old.book old.doubt new.book
+
+  -- A desk does not open again: why is as where a desk is opened, but that one whose keeper tells is not damaged. It is as it was, with its
+  -- keeper as that was left.
+  pub record StaysAsItWas (old : Seated K) (fault : OpenFault) (new : Seated K) : Type 0 where
+    pub why : IsRefused old.limit old.keeper fault new.keeper
+    pub sound : (damage : Damage) → fault ≡ Damaged damage → G.tells new.keeper → ⊥
+    pub left : IsLeft old.keeper new.keeper
+    pub book : new.book ≡ old.book
+    pub limit : new.limit ≡ old.limit
+    pub doubt : new.doubt ≡ old.doubt
+
+  abbrev pub ReopensOrNot : Seated K → Result (Unit {0}) OpenFault → Seated K → Type 0
+  ReopensOrNot old (Ok done) new = OpensAgain old new
+  ReopensOrNot old (Err fault) new = StaysAsItWas old fault new
 
   -- the same of what was loaded: the keeper is as it was
   abbrev pub OpensLoaded : ℕ → Loaded → K → Result (Seated K) (OpenFault × K) → Type 0

@@ -1,6 +1,6 @@
 ghost use Rattle.std.specs.Prelude.{◌≡◌, ◌<◌};
 ghost use Rattle.rv_keeper.specs.Cells.{AreCells};
-ghost use Rattle.rv_desk.specs.Opened.{IsLoaded, OpensOrNot, OpensLoaded};
+ghost use Rattle.rv_desk.specs.Opened.{IsLoaded, OpensOrNot, OpensLoaded, ReopensOrNot};
 ghost use Rattle.rv_desk.specs.Seated.{DeskTakes};
 ghost use Rattle.rv_turns.specs.Asks.{ask_of};
 
@@ -64,6 +64,27 @@ impl<K: Keeper> Desk<K> {
             Ok(loaded) => Desk::open_loaded(alloc, keeper, loaded, limit),
             Err(KeepFault::Failed) => Err((OpenFault::Keeper, keeper)),
             Err(KeepFault::Memory) => Err((OpenFault::Memory, keeper)),
+        }
+    }
+
+    /// Opens the desk again from what its keeper holds, as it opens where it was closed before: what was in doubt is settled by that. The
+    /// refusals are those of [`Desk::open`], and leave the desk as it was.
+    pub fn reopen(&mut self) -> Result<(), OpenFault>
+        ensures { ReopensOrNot K.Keeper self.old result self.new }
+    {
+        let limit = self.state.book().limit();
+        match self.keeper.load() {
+            Ok(loaded) => match restore(self.alloc, &loaded, limit) {
+                Ok(state) => {
+                    self.state = state;
+                    self.doubt = None;
+                    Ok(())
+                }
+                Err(CellFault::BadCell(damage)) => Err(OpenFault::Damaged(damage)),
+                Err(CellFault::Memory) => Err(OpenFault::Memory),
+            },
+            Err(KeepFault::Failed) => Err(OpenFault::Keeper),
+            Err(KeepFault::Memory) => Err(OpenFault::Memory),
         }
     }
 

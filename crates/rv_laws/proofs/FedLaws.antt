@@ -5,11 +5,10 @@ use Rattle.rv_keeper.specs.declared.place.Place.{Ghosts as PlaceGhosts}
 use Rattle.rv_keeper.specs.Stores.{TakesUp}
 use Rattle.rv_book.specs.Book.{Book, size}
 use Rattle.rv_history.specs.Clients.{ClientPull, ClientsFollowOn, EachCurrentIn, WasSentIn}
-use Rattle.rv_history.specs.Closable.{Closable, open_server}
 use Rattle.rv_history.specs.Succession.{ClosedBooksAreSuccessive, MutationsStay, books_of}
 use Rattle.rv_wire.specs.Answers.{pull_json}
 use Rattle.rv_history.specs.Laws.{ReplyShows}
-use Rattle.rv_history.specs.Served.{Doubt, Served, MayStand}
+use Rattle.rv_history.specs.Served.{Doubt, IsSound, Served, MayStand}
 use Rattle.rv_answering.specs.declared.answer.Answer.{Answer}
 use Rattle.rv_answering.specs.declared.answer.Answer.TheVariants.{Pulled}
 use Rattle.rv_answering.specs.declared.line.Line.{Line}
@@ -18,7 +17,6 @@ use Rattle.rv_answering.specs.declared.request.Request.TheVariants.{Pull}
 use Rattle.rv_answering.specs.Requests.{Parsed}
 use Rattle.rv_cli.specs.Change.{StoreChange, change}
 use Rattle.rv_cli.specs.Headline.{Begins, BooksAreLawful, IsLawfulFeed, IsShown, PullsAreShown, Run, StepsShow, StepsStand, TroublesHaveCauses}
-use Rattle.rv_cli.specs.Closings.{IsSoundClosable}
 use Rattle.rv_cli.specs.RunLaws.{run_later}
 use Rattle.rv_laws.specs.Feeds.{FedBooksAreLawful, FedPullsAreShown, FedTroublesHaveCauses, FedPushesStand, FedClientsFollow, IsTurn, IsPull, EachFollows}
 use Rattle.rv_laws.proofs.Turns.{At, Yes, all_stay, each_shorter, run_goes, turn_at}
@@ -26,18 +24,15 @@ use Rattle.rv_turns.specs.declared.pull.PullRequest.{PullRequest}
 use Rattle.rv_turns.specs.declared.pull.PullReply.{PullReply}
 
 -- what opens is sound
-begins_sound : (c : StoreChange) (first : Served) → Begins c first → IsSoundClosable (open_server first)
+begins_sound : (c : StoreChange) (first : Served) → Begins c first → IsSound first
 begins_sound c first begins = record {
-  sound = record {
-    lawful = begins.opens.sound.lawful;
-    within = subst (λ (n : ℕ). size first.book ≤ n) (sym begins.limit) begins.opens.sound.within;
-    next = subst (λ (d : Doubt). MayStand first.book first.limit d) (sym begins.doubt) tt;
-  };
-  closing = tt;
+  lawful = begins.opens.sound.lawful;
+  within = subst (λ (n : ℕ). size first.book ≤ n) (sym begins.limit) begins.opens.sound.within;
+  next = subst (λ (d : Doubt). MayStand first.book first.limit d) (sym begins.doubt) tt;
 }
 
 -- a run in which what is kept is told, whatever tells it
-module _ (Told : Type 0) (first now : Closable) (lines : List Line) (answers : List (Option Answer)) where
+module _ (Told : Type 0) (first now : Served) (lines : List Line) (answers : List (Option Answer)) where
   told_run : Told → Run Told first lines answers now → Run Yes first lines answers now
   told_run told run = run_later Told Yes (λ yes. told) lines answers first now run
 
@@ -47,12 +42,12 @@ module _ (Told : Type 0) (first now : Closable) (lines : List Line) (answers : L
       subst (λ (l : List Line). Run Yes first l (turn.answered ++ Some answer ∷ turn.others) now) turn.asks
       (subst (λ (a : List (Option Answer)). Run Yes first lines a now) turn.told run)
 
-  lawful : BooksAreLawful → Told → Run Told first lines answers now → IsSoundClosable first → IsLawfulFeed Told first now
+  lawful : BooksAreLawful → Told → Run Told first lines answers now → IsSound first → IsLawfulFeed Told first now
   lawful law told run sound =
       let is = law true first now lines answers (told_run told run) sound in
       record { sound = is.sound; more = λ told. is.more refl; ids = is.ids; orders = is.orders; later = is.later; limit = is.limit }
 
-  shown : PullsAreShown → Told → Run Told first lines answers now → IsSoundClosable first → (asked : Parsed) (reply : PullReply) (turn : IsTurn lines answers asked (Pulled reply)) → IsShown Told first now turn.before turn.answered asked reply
+  shown : PullsAreShown → Told → Run Told first lines answers now → IsSound first → (asked : Parsed) (reply : PullReply) (turn : IsTurn lines answers asked (Pulled reply)) → IsShown Told first now turn.before turn.answered asked reply
   shown law told run sound asked reply turn =
       let is = law true first now turn.before turn.after turn.answered turn.others asked reply sound turn.same (run_at asked (Pulled reply) turn (told_run told run)) in
       record {
@@ -72,7 +67,7 @@ module _ (Told : Type 0) (first now : Closable) (lines : List Line) (answers : L
 same_pull : (asked : Parsed) (user user' : List ℕ) (request request' : PullRequest) → asked ≡ Ok (Pull user request) → asked ≡ Ok (Pull user' request') → (user' ≡ user) × (request' ≡ request)
 same_pull asked user user' request request' one other = (cc, cc)
 
-module _ (Told : Type 0) (first now : Closable) (lines : List Line) (answers : List (Option Answer)) (user : List ℕ) (told : Told) (law : BooksAreLawful) (show : StepsShow) (sound : IsSoundClosable first) (run : Run Told first lines answers now) where
+module _ (Told : Type 0) (first now : Served) (lines : List Line) (answers : List (Option Answer)) (user : List ℕ) (told : Told) (law : BooksAreLawful) (show : StepsShow) (sound : IsSound first) (run : Run Told first lines answers now) where
   abbrev yes : Run Yes first lines answers now
   yes = told_run Told first now lines answers told run
 
@@ -108,22 +103,22 @@ module _ (Told : Type 0) (first now : Closable) (lines : List Line) (answers : L
         on = λ told. at.more;
       }
 
-  tells_at : (pull : ClientPull) (turn : OnPull pull) → ReplyShows pull_json user pull.request (shown_at pull turn).settled (here pull turn).new.served.book pull.reply
+  tells_at : (pull : ClientPull) (turn : OnPull pull) → ReplyShows pull_json user pull.request (shown_at pull turn).settled (here pull turn).new.book pull.reply
   tells_at pull turn =
       let at = shown_at pull turn in
       let shows = at.shows in
       let (who, what) = same_pull (Ok (Pull user pull.request)) user shows.user pull.request shows.request refl shows.asks in
-      subst (λ (u : List ℕ). ReplyShows pull_json u pull.request at.settled (here pull turn).new.served.book pull.reply) who
-      (subst (λ (r : PullRequest). ReplyShows pull_json shows.user r at.settled (here pull turn).new.served.book pull.reply) what shows.tells)
+      subst (λ (u : List ℕ). ReplyShows pull_json u pull.request at.settled (here pull turn).new.book pull.reply) who
+      (subst (λ (r : PullRequest). ReplyShows pull_json shows.user r at.settled (here pull turn).new.book pull.reply) what shows.tells)
 
   abbrev books : List Book
-  books = books_of closings now.served.book
+  books = books_of closings now.book
 
   abbrev was_sent : (pull : ClientPull) → OnPull pull → WasSentIn pull_json user books pull
   was_sent pull turn = record {
     book = (here pull turn).book;
     among = (here pull turn).among;
-    sent = record { point = (shown_at pull turn).settled; new = (here pull turn).new.served.book; tells = tells_at pull turn; within = (here pull turn).within };
+    sent = record { point = (shown_at pull turn).settled; new = (here pull turn).new.book; tells = tells_at pull turn; within = (here pull turn).within };
   }
 
   abbrev all_told : (pulls : List ClientPull) → AllByRecursion OnPull pulls → AllByRecursion (WasSentIn pull_json user books) pulls
@@ -147,33 +142,33 @@ no_fault (suc kept) before after faults taken stays below le = absurd (omega (ar
 
 module _ {P K : Type 0} (place : PlaceGhosts P K) where
   pub books_are_lawful : BooksAreLawful → FedBooksAreLawful place
-  books_are_lawful law old new store bytes output output' run = lawful (place.tells new) (open_server run.first) run.now run.lines run.answers law run.told run.run (begins_sound (change place store old new) run.first run.begins)
+  books_are_lawful law old new store bytes output output' run = lawful (place.tells new) run.first run.now run.lines run.answers law run.told run.run (begins_sound (change place store old new) run.first run.begins)
 
   pub pulls_are_shown : PullsAreShown → FedPullsAreShown place
-  pulls_are_shown law old new store bytes output output' run = shown (place.tells new) (open_server run.first) run.now run.lines run.answers law run.told run.run (begins_sound (change place store old new) run.first run.begins)
+  pulls_are_shown law old new store bytes output output' run = shown (place.tells new) run.first run.now run.lines run.answers law run.told run.run (begins_sound (change place store old new) run.first run.begins)
 
   pub troubles_have_causes : TroublesHaveCauses → FedTroublesHaveCauses place
   troubles_have_causes law old new store bytes output output' run stays below =
-      law true (open_server run.first) run.now run.lines run.answers (told_run (place.tells new) (open_server run.first) run.now run.lines run.answers run.told run.run)
-      (no_fault run.leaves.kept (place.faults old) (place.faults new) run.now.served.faults run.leaves.taken stays below run.leaves.later)
+      law true run.first run.now run.lines run.answers (told_run (place.tells new) run.first run.now run.lines run.answers run.told run.run)
+      (no_fault run.leaves.kept (place.faults old) (place.faults new) run.now.faults run.leaves.taken stays below run.leaves.later)
 
   pub pushes_stand : BooksAreLawful → StepsStand → MutationsStay → FedPushesStand place
   pushes_stand law stand stay old new store bytes output output' run user push turn =
       let sound = begins_sound (change place store old new) run.first run.begins in
-      let first = open_server run.first in
+      let first = run.first in
       let at = turn_at law first run.now turn.before turn.after turn.answered turn.others _ _ sound turn.same
       (run_at (place.tells new) first run.now run.lines run.answers _ _ turn (told_run (place.tells new) first run.now run.lines run.answers run.told run.run)) in
-      all_stay stay (record { user = user; group = push.group }) push.mutations at.new.served.book run.now.served.book at.lawful at.more (stand at.point at.new user push at.sound at.takes.step)
+      all_stay stay (record { user = user; group = push.group }) push.mutations at.new.book run.now.book at.lawful at.more (stand at.point at.new user push at.sound at.takes.step)
 
   pub clients_follow : BooksAreLawful → StepsShow → ClosedBooksAreSuccessive → ClientsFollowOn pull_json → FedClientsFollow place
   clients_follow law show successive follow old new store bytes output output' run user pulls client turns =
       let sound = begins_sound (change place store old new) run.first run.begins in
-      let first = open_server run.first in
+      let first = run.first in
       let kept = lawful (place.tells new) first run.now run.lines run.answers law run.told run.run sound in
-      let limit : run.now.served.limit ≡ 2 ^ 32 - 1 = kept.limit run.begins.limit in
-      let within : size run.now.served.book ≤ run.now.served.limit = kept.sound.sound.within in
+      let limit : run.now.limit ≡ 2 ^ 32 - 1 = kept.limit run.begins.limit in
+      let within : size run.now.book ≤ run.now.limit = kept.sound.within in
       let goes = run_goes law first run.now run.lines run.answers (told_run (place.tells new) first run.now run.lines run.answers run.told run.run) sound in
-      let one = successive first.served.book run.now.served.book goes.0 goes.1 in
+      let one = successive first.book run.now.book goes.0 goes.1 in
       each_follows (place.tells new) first run.now run.lines run.answers user run.told law show sound run.run pulls turns
-      (follow user (books_of goes.0 run.now.served.book) pulls one (each_fits (books_of goes.0 run.now.served.book) (size run.now.served.book) (omega (arith, limit, within)) (each_shorter run.now.served.book goes.0 one)) client
+      (follow user (books_of goes.0 run.now.book) pulls one (each_fits (books_of goes.0 run.now.book) (size run.now.book) (omega (arith, limit, within)) (each_shorter run.now.book goes.0 one)) client
       (all_told (place.tells new) first run.now run.lines run.answers user run.told law show sound run.run pulls turns))

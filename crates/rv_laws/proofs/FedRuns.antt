@@ -6,7 +6,7 @@ use Rattle.rv_lines.specs.Lines.{onto, onto_ended, lines_of, ended_lines_of}
 use Rattle.rv_keeper.specs.declared.place.Place.{Ghosts as PlaceGhosts}
 use Rattle.rv_base.specs.declared.outside.Source.{Ghosts as SourceGhosts}
 use Rattle.rv_base.specs.declared.outside.Sink.{Ghosts as SinkGhosts}
-use Rattle.rv_history.specs.Closable.{Closable, open_server}
+use Rattle.rv_history.specs.Served.{Served}
 use Rattle.rv_answering.specs.declared.answer.Answer.{Answer}
 use Rattle.rv_answering.specs.declared.line.Line.{Line}
 use Rattle.rv_cli.specs.declared.ending.Ending.{Ending}
@@ -38,14 +38,14 @@ read_front bytes (Some more) read is = (more, is)
 
 -- ---- However the run ended, it was over the first lines of the bytes.
 
-record IsRun (Told : Type 0) (first now : Closable) (bytes text : List ℕ) : Type 0 where
+record IsRun (Told : Type 0) (first now : Served) (bytes text : List ℕ) : Type 0 where
   pub lines : List Line
   pub answers : List (Option Answer)
   pub run : Run Told first lines answers now
   pub asked : AreFirst lines bytes
   pub told : IsFrontOrAll text (flat_map told_text answers)
 
-module _ (Told : Type 0) (first now : Closable) (bytes read text : List ℕ) where
+module _ (Told : Type 0) (first now : Served) (bytes read text : List ℕ) where
   of_answered : (lines others : List (List ℕ)) → lines_of bytes ≡ lines ++ others → Answered Told first lines text now → IsRun Told first now bytes text
   of_answered lines others are w = record { lines = w.taken; answers = w.answers; run = w.run; asked = (lines, others, are, w.are); told = inl w.told }
 
@@ -87,12 +87,12 @@ module _ {P K : Type 0} (place : PlaceGhosts P K) where
       of_some (input.state read).left (λ bytes. DidNotOpen place old new store (input.state read) (input.state read') (output.state out) (output.state out') status ⊎ FeedRun place old new store bytes (output.state out) (output.state out'))
       (λ bytes. inl (ending, is, refused.0, refused.1))
   feeds_are_runs input output old new store read read' out out' status (ending, is, inr fed) told =
-      some_to (input.state read).left (λ bytes. Fed (place.tells new) (open_server fed.first) fed.now bytes (input.state read') (output.state out) (output.state out') ending)
+      some_to (input.state read).left (λ bytes. Fed (place.tells new) fed.first fed.now bytes (input.state read') (output.state out) (output.state out') ending)
       (λ bytes. DidNotOpen place old new store (input.state read) (input.state read') (output.state out) (output.state out') status ⊎ FeedRun place old new store bytes (output.state out) (output.state out')) (λ bytes f. inr (of_fed bytes f)) fed.fed
     where
-      of_fed : (bytes : List ℕ) → Fed (place.tells new) (open_server fed.first) fed.now bytes (input.state read') (output.state out) (output.state out') ending → FeedRun place old new store bytes (output.state out) (output.state out')
+      of_fed : (bytes : List ℕ) → Fed (place.tells new) fed.first fed.now bytes (input.state read') (output.state out) (output.state out') ending → FeedRun place old new store bytes (output.state out) (output.state out')
       of_fed bytes f =
-          let run = run_of (place.tells new) (open_server fed.first) fed.now bytes f.read f.text (input.state read').left ending f.consumed f.ends in
+          let run = run_of (place.tells new) fed.first fed.now bytes f.read f.text (input.state read').left ending f.consumed f.ends in
           record {
             told = told;
             first = fed.first;

@@ -5,15 +5,15 @@ use Rattle.std.proofs.lemmas.List.Elements.{Contains-append_left, Contains-appen
 use Rattle.rv_book.specs.declared.entry.Entry.TheVariants.{Act}
 use Rattle.rv_book.specs.Book.{Book, last, opening, size, Extends}
 use Rattle.rv_history.specs.Clients.{AreSuccessive}
-use Rattle.rv_history.specs.Closable.{Closable}
+use Rattle.rv_history.specs.Closing.{GoesOnBy, GoesOnFrom}
+use Rattle.rv_history.specs.Served.{IsSound, Served}
 use Rattle.rv_history.specs.Laws.{IsEntered}
 use Rattle.rv_history.specs.Lawful.{IsLawful}
-use Rattle.rv_history.specs.Succession.{GoesOnBy, GoesOnFrom, MutationsStay, books_of, goes_on_by, goes_on_same}
+use Rattle.rv_history.specs.Succession.{MutationsStay, books_of, goes_on_by, goes_on_same}
 use Rattle.rv_answering.specs.declared.answer.Answer.{Answer}
 use Rattle.rv_answering.specs.declared.line.Line.{Line}
 use Rattle.rv_answering.specs.declared.line.Line.TheVariants.{Asks}
 use Rattle.rv_answering.specs.Requests.{Parsed}
-use Rattle.rv_cli.specs.Closings.{IsSoundClosable}
 use Rattle.rv_cli.specs.Headline.{BooksAreLawful, Run, TakesLine}
 use Rattle.rv_turns.specs.Asks.{Sender}
 use Rattle.rv_turns.specs.declared.mutation.Mutation.{Mutation}
@@ -25,15 +25,15 @@ Yes = true ≡ true
 
 -- ---- The books of a run.
 
-abbrev pub run_goes : BooksAreLawful → (first now : Closable) (lines : List Line) (answers : List (Option Answer)) → Run Yes first lines answers now → IsSoundClosable first → GoesOnFrom first.served.book now.served.book
-run_goes law first now [] [] same sound = goes_on_same first.served.book now.served.book (ap (λ (s : Closable). s.served.book) same)
+abbrev pub run_goes : BooksAreLawful → (first now : Served) (lines : List Line) (answers : List (Option Answer)) → Run Yes first lines answers now → IsSound first → GoesOnFrom first.book now.book
+run_goes law first now [] [] same sound = goes_on_same first.book now.book (ap (λ (s : Served). s.book) same)
 run_goes law first now [] (answer ∷ answers) never sound = absurd never
 run_goes law first now (line ∷ lines) [] never sound = absurd never
 run_goes law first now (line ∷ lines) (answer ∷ answers) (mid, takes, rest) sound =
     let kept = law true first mid (line ∷ []) (answer ∷ []) (mid, takes, refl) sound in
     let one = kept.more refl in
     let more = run_goes law mid now lines answers rest kept.sound in
-    (one.0 ++ more.0, goes_on_by first.served.book mid.served.book now.served.book one.0 more.0 one.1 more.1)
+    (one.0 ++ more.0, goes_on_by first.book mid.book now.book one.0 more.0 one.1 more.1)
 
 -- the first of the books
 abbrev first_of : List (Book × Book) → Book → Book
@@ -66,19 +66,19 @@ each_shorter now (closing ∷ closings) (before, successive) =
 
 -- ---- A turn.
 
-pub record At (first now : Closable) (before : List Line) (answered : List (Option Answer)) (asked : Parsed) (answer : Answer) (closings : List (Book × Book)) : Type 0 where
-  pub point : Closable
-  pub new : Closable
+pub record At (first now : Served) (before : List Line) (answered : List (Option Answer)) (asked : Parsed) (answer : Answer) (closings : List (Book × Book)) : Type 0 where
+  pub point : Served
+  pub new : Served
   pub run : Run Yes first before answered point
-  pub sound : IsSoundClosable point
+  pub sound : IsSound point
   pub takes : TakesLine Yes point (Asks asked) (Some answer) new
-  pub lawful : IsLawful new.served.book
-  pub more : GoesOnFrom new.served.book now.served.book
+  pub lawful : IsLawful new.book
+  pub more : GoesOnFrom new.book now.book
   pub book : Book
-  pub among : Contains (books_of closings now.served.book) book
-  pub within : Extends book new.served.book
+  pub among : Contains (books_of closings now.book) book
+  pub within : Extends book new.book
 
-pub turn_at : (law : BooksAreLawful) (first now : Closable) (before after : List Line) (answered others : List (Option Answer)) (asked : Parsed) (answer : Answer) (sound : IsSoundClosable first) → length before ≡ length answered
+pub turn_at : (law : BooksAreLawful) (first now : Served) (before after : List Line) (answered others : List (Option Answer)) (asked : Parsed) (answer : Answer) (sound : IsSound first) → length before ≡ length answered
     → (run : Run Yes first (before ++ Asks asked ∷ after) (answered ++ Some answer ∷ others) now) → At first now before answered asked answer (run_goes law first now (before ++ Asks asked ∷ after) (answered ++ Some answer ∷ others) run sound).0
 turn_at law first now [] after [] others asked answer sound same (mid, takes, rest) =
     let kept = law true first mid (Asks asked ∷ []) (Some answer ∷ []) (mid, takes, refl) sound in
@@ -89,11 +89,11 @@ turn_at law first now [] after [] others asked answer sound same (mid, takes, re
       run = refl;
       sound = sound;
       takes = takes;
-      lawful = kept.sound.sound.lawful;
+      lawful = kept.sound.lawful;
       more = more;
-      book = first_of more.0 now.served.book;
-      among = among_more now.served.book (first_of more.0 now.served.book) (kept.more refl).0 more.0 (first_among now.served.book more.0);
-      within = first_goes mid.served.book now.served.book more.0 more.1;
+      book = first_of more.0 now.book;
+      among = among_more now.book (first_of more.0 now.book) (kept.more refl).0 more.0 (first_among now.book more.0);
+      within = first_goes mid.book now.book more.0 more.1;
     }
 turn_at law first now [] after (x ∷ answered) others asked answer sound same run = absurd (omega (arith, same))
 turn_at law first now (a ∷ before) after [] others asked answer sound same run = absurd (omega (arith, same))
@@ -109,7 +109,7 @@ turn_at law first now (a ∷ before) after (x ∷ answered) others asked answer 
       lawful = at.lawful;
       more = at.more;
       book = at.book;
-      among = among_more now.served.book at.book (kept.more refl).0 (run_goes law mid now (before ++ Asks asked ∷ after) (answered ++ Some answer ∷ others) rest kept.sound).0 at.among;
+      among = among_more now.book at.book (kept.more refl).0 (run_goes law mid now (before ++ Asks asked ∷ after) (answered ++ Some answer ∷ others) rest kept.sound).0 at.among;
       within = at.within;
     }
 

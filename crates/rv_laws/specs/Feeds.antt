@@ -10,7 +10,6 @@ use Rattle.rv_lines.specs.Lines.{lines_of}
 use Rattle.rv_keeper.specs.declared.place.Place.{Ghosts as PlaceGhosts}
 use Rattle.rv_history.specs.Clients.{ClientPull, IsClient, IsCurrent, held_then}
 use Rattle.rv_history.specs.Laws.{IsEntered}
-use Rattle.rv_history.specs.Closable.{Closable, open_server}
 use Rattle.rv_history.specs.Served.{Served}
 use Rattle.rv_answering.specs.declared.answer.Answer.{Answer}
 use Rattle.rv_answering.specs.declared.answer.Answer.TheVariants.{Pushed, Pulled}
@@ -50,7 +49,7 @@ pub record IsTurn (lines : List Line) (answers : List (Option Answer)) (asked : 
   pub told : answers ≡ answered ++ Some answer ∷ others
   pub same : length before ≡ length answered
 
-module _ (Told : Type 0) (first now : Closable) (lines : List Line) (answers : List (Option Answer)) (user : List ℕ) where
+module _ (Told : Type 0) (first now : Served) (lines : List Line) (answers : List (Option Answer)) (user : List ℕ) where
   -- the pull is one of the run's, by this user
   abbrev pub IsPull : ClientPull → Type 0
   IsPull pull = IsTurn lines answers (Ok (Pull user pull.request)) (Pulled pull.reply)
@@ -71,11 +70,11 @@ module _ {P K : Type 0} (place : PlaceGhosts P K) where
   pub record FeedRun (old new : P) (store bytes : List ℕ) (output output' : OutputState) : Type 0 where
     pub told : place.tells new
     pub first : Served
-    pub now : Closable
+    pub now : Served
     pub lines : List Line
     pub answers : List (Option Answer)
     pub begins : Begins (change place store old new) first
-    pub run : Run (place.tells new) (open_server first) lines answers now
+    pub run : Run (place.tells new) first lines answers now
     pub leaves : Leaves (change place store old new) now
     pub asked : AreFirst lines bytes
     pub written : WritesAnswers output output' answers
@@ -98,11 +97,11 @@ module _ {P K : Type 0} (place : PlaceGhosts P K) where
 
   -- The book at the end is lawful and goes on from the first, each client's acts have the ids 1, 2, 3 and so on, and orders rise.
   abbrev pub FedBooksAreLawful : Type 0
-  FedBooksAreLawful = OfAllRuns (λ old new store bytes output output' run. IsLawfulFeed (place.tells new) (open_server run.first) run.now)
+  FedBooksAreLawful = OfAllRuns (λ old new store bytes output output' run. IsLawfulFeed (place.tells new) run.first run.now)
 
   -- Each pull that was answered shows what its user sees at that point.
   abbrev pub FedPullsAreShown : Type 0
-  FedPullsAreShown = OfAllRuns (λ old new store bytes output output' run. (asked : Parsed) (reply : PullReply) (turn : IsTurn run.lines run.answers asked (Pulled reply)) → IsShown (place.tells new) (open_server run.first) run.now turn.before turn.answered asked reply)
+  FedPullsAreShown = OfAllRuns (λ old new store bytes output output' run. (asked : Parsed) (reply : PullReply) (turn : IsTurn run.lines run.answers asked (Pulled reply)) → IsShown (place.tells new) run.first run.now turn.before turn.answered asked reply)
 
   -- Where the place's count of faults stayed below its last value, no answer tells a trouble with what keeps the book.
   abbrev pub FedTroublesHaveCauses : Type 0
@@ -111,9 +110,9 @@ module _ {P K : Type 0} (place : PlaceGhosts P K) where
   -- Each mutation of a push that was not refused stands in the book at the end; but for an id of 0, which is skipped and stands nowhere.
   abbrev pub FedPushesStand : Type 0
   FedPushesStand = OfAllRuns (λ old new store bytes output output' run. (user : List ℕ) (push : pushes.Push) → IsTurn run.lines run.answers (Ok (Push user push)) Pushed
-      → AllByRecursion (λ m. 1 ≤ m.id → IsEntered (record { user = user; group = push.group }) run.now.served.book m) push.mutations)
+      → AllByRecursion (λ m. 1 ≤ m.id → IsEntered (record { user = user; group = push.group }) run.now.book m) push.mutations)
 
   -- A client that begins with nothing holds after each of its pulls what its user sees at that point of the run.
   abbrev pub FedClientsFollow : Type 0
-  FedClientsFollow = OfAllRuns (λ old new store bytes output output' run. (user : List ℕ) (pulls : List ClientPull) → IsClient pulls → (turns : AllByRecursion (IsPull (place.tells new) (open_server run.first) run.now run.lines run.answers user) pulls)
-      → EachFollows (place.tells new) (open_server run.first) run.now run.lines run.answers user pulls turns)
+  FedClientsFollow = OfAllRuns (λ old new store bytes output output' run. (user : List ℕ) (pulls : List ClientPull) → IsClient pulls → (turns : AllByRecursion (IsPull (place.tells new) run.first run.now run.lines run.answers user) pulls)
+      → EachFollows (place.tells new) run.first run.now run.lines run.answers user pulls turns)

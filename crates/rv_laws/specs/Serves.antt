@@ -9,7 +9,6 @@ use Rattle.rv_keeper.specs.declared.keeper.Keeper.{Ghosts}
 use Rattle.rv_keeper.specs.declared.place.Place.{Ghosts as PlaceGhosts}
 use Rattle.rv_history.specs.Clients.{ClientPull, IsClient}
 use Rattle.rv_history.specs.Laws.{IsEntered}
-use Rattle.rv_history.specs.Closable.{open_server}
 use Rattle.rv_history.specs.Served.{IsSound}
 use Rattle.rv_desk.specs.Seated.{Seated, served}
 use Rattle.rv_answering.specs.declared.answer.Answer.{Answer}
@@ -46,7 +45,7 @@ module _ {P N K L W I O C : Type 0} (place : PlaceGhosts P K) (G : Ghosts K) (ne
     pub together : AreServed accounts opened givens now backs
     pub sound : IsSound (served G.faults now)
     pub told : place.tells new → G.tells now.keeper
-    pub leaves : Leaves (change place store old new) (open_server (served G.faults now))
+    pub leaves : Leaves (change place store old new) (served G.faults now)
     pub count : length givens ≡ options.workers
     pub first : net.tells after → (net.listeners before).to_give ≡ givens ++ (net.listeners after).to_give
     pub last : net.tells after → (net.listeners after).came_back ≡ (net.listeners before).came_back ++ backs

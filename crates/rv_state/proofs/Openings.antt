@@ -1,5 +1,5 @@
 -- The state of a book that opens with a page; and the page that sums a book up.
-use Rattle.std.proofs.Common.{◌≡◌, ℕ, zero, suc, ◌+◌, ◌<◌, ◌≤◌, List, [], ◌∷◌, ◌++◌, length, take, drop, slice_get, Option, Some, None, refl, sym, ap, ◌∙◌, subst, arith, inr}
+use Rattle.std.proofs.Common.{◌≡◌, ℕ, zero, suc, ◌+◌, ◌<◌, ◌≤◌, ◌^◌, List, [], ◌∷◌, ◌++◌, length, take, drop, slice_get, Option, Some, None, refl, sym, ap, ◌∙◌, subst, arith, inr}
 use Rattle.std.specs.List.{AllByRecursion}
 use Rattle.rv_rows.specs.Held.{Stored}
 use Rattle.rv_book.specs.declared.page.Page.{Page}
@@ -9,6 +9,8 @@ use Rattle.rv_history.specs.Closing.{Closes, SumsUp}
 use Rattle.rv_history.specs.Lawful.{IsLawful}
 use Rattle.rv_history.specs.Openings.{closes_lawful, closes_replay, kept_opening, lawful_opening, mark_opening, replay_opening}
 use Rattle.rv_history.specs.Replay.{IsReplay}
+use Rattle.rv_history.specs.Served.{Next}
+use Rattle.rv_history.specs.TurnLaws.{size-with_next}
 use Rattle.rv_news.specs.Records.{AreRecords, Placed}
 use Rattle.rv_record.specs.EntryReading.{EntryFits}
 use Rattle.rv_opening.specs.PageCells.{PartsFit}
@@ -26,19 +28,20 @@ marks_opening : (page : Page) → AreMarks (book_from page []) []
 marks_opening page = record { order = tt; each = λ user. mark_opening user page }
 
 -- a page that is sound, at a place above 0
-pub opening_stands : (page : Page) (book : Book) (rows : List Stored) (records : List Placed) (marks : List UserMark) → IsSoundPage page → 1 ≤ page.at → PartsFit page → book ≡ book_from page [] → rows ≡ page.rows → records ≡ [] → marks ≡ [] → Stands book rows records marks
-opening_stands page book rows records marks sound from fits is rows_are records_are marks_are =
-    rw (is, rows_are, records_are, marks_are) (lawful_opening page (inr (from, sound)), replay_opening page sound, records_opening page, tt, marks_opening page, fits)
+pub opening_stands : (page : Page) (book : Book) (limit : ℕ) (rows : List Stored) (records : List Placed) (marks : List UserMark) → IsSoundPage page → 1 ≤ page.at → PartsFit page → page.at ≤ limit → limit < 2 ^ 32 → book ≡ book_from page [] → rows ≡ page.rows → records ≡ [] → marks ≡ [] → Stands book limit rows records marks
+opening_stands page book limit rows records marks sound from fits most range is rows_are records_are marks_are =
+    rw (is, rows_are, records_are, marks_are) (lawful_opening page (inr (from, sound)), replay_opening page sound, records_opening page, tt, marks_opening page, fits, (omega (arith, most), range))
 
 -- the book that closing leaves of one
-pub closed_stands : (book new : Book) (rows : List Stored) (records : List Placed) (marks : List UserMark) → Closes book new → IsLawful book → IsReplay book rows → PartsFit new.page → records ≡ [] → marks ≡ [] → Stands new rows records marks
-closed_stands book new rows records marks closes lawful replay fits records_are marks_are = (
+pub closed_stands : (book new : Book) (limit : ℕ) (rows : List Stored) (records : List Placed) (marks : List UserMark) → Closes book new → IsLawful book → IsReplay book rows → PartsFit new.page → size book < limit → limit < 2 ^ 32 → records ≡ [] → marks ≡ [] → Stands new limit rows records marks
+closed_stands book new limit rows records marks closes lawful replay fits below range records_are marks_are = (
   closes_lawful book new closes lawful,
   closes_replay book new rows closes replay,
   rw records_are (subst (λ (b : Book). AreRecords b []) (sym closes.is) (records_opening closes.page)),
   subst (λ (b : Book). AllByRecursion EntryFits b.entries) (sym closes.is) tt,
   rw marks_are (subst (λ (b : Book). AreMarks b []) (sym closes.is) (marks_opening closes.page)),
   fits,
+  (omega (arith, size-with_next book (Next.closed new) closes, below), range),
 )
 
 -- ---- What is gone through by its index.

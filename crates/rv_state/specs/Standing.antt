@@ -1,7 +1,7 @@
 -- The state of one server in memory, as contracts see it.
-use Rattle.std.specs.Prelude.{ℕ, List}
+use Rattle.std.specs.Prelude.{ℕ, ◌≤◌, ◌<◌, ◌^◌, List}
 use Rattle.rv_rows.specs.Held.{Stored}
-use Rattle.rv_book.specs.Book.{Book}
+use Rattle.rv_book.specs.Book.{Book, size}
 use Rattle.rv_news.specs.Records.{Placed}
 use Rattle.rv_state.specs.UserMarks.{UserMark}
 
@@ -17,3 +17,7 @@ pub record Standing : Type 0 where
   pub spare_views : ℕ
   pub marks : List UserMark
   pub spare_marks : ℕ
+
+-- a book is no longer than it may become, and that is a place
+abbrev pub IsWithin : Book → ℕ → Type 0
+IsWithin book limit = (size book ≤ limit) × (limit < 2 ^ 32)

@@ -42,7 +42,7 @@ impl Model for State {
     ghost use Rattle.rv_history.specs.Replay.{IsReplay};
     ghost use Rattle.rv_news.specs.Records.{AreRecords};
     ghost use Rattle.rv_record.specs.EntryReading.{EntryFits};
-    ghost use Rattle.rv_state.specs.Standing.{Standing};
+    ghost use Rattle.rv_state.specs.Standing.{IsWithin, Standing};
     ghost use Rattle.rv_opening.specs.PageCells.{PartsFit};
     ghost use Rattle.rv_state.specs.UserMarks.{AreMarks};
 
@@ -50,7 +50,7 @@ impl Model for State {
 
     ghost view = { λ s. record { book = s.book.book; limit = s.book.limit; spare_entries = s.book.spare; rows = s.tables.rows; spare_rows = s.tables.spare; records = s.records.records; spare_views = s.records.spare; marks = s.marks.marks; spare_marks = s.marks.spare } };
 
-    ghost invariant = { λ s. IsLawful s.book.book × IsReplay s.book.book s.tables.rows × AreRecords s.book.book s.records.records × AllByRecursion EntryFits s.book.book.entries × AreMarks s.book.book s.marks.marks × PartsFit s.book.book.page };
+    ghost invariant = { λ s. IsLawful s.book.book × IsReplay s.book.book s.tables.rows × AreRecords s.book.book s.records.records × AllByRecursion EntryFits s.book.book.entries × AreMarks s.book.book s.marks.marks × PartsFit s.book.book.page × IsWithin s.book.book s.book.limit };
 }
 
 // Makes space for an entry.
@@ -81,6 +81,7 @@ impl State {
     ghost use Rattle.rv_opening.specs.PageCells.{PartsFit};
     ghost use Rattle.rv_wire.specs.Answers.{pull_json};
     ghost use Rattle.rv_state.specs.Ready.{IsPrepared, next_of};
+    ghost use Rattle.rv_state.specs.Standing.{IsWithin};
 
     /// The state of the empty book, which takes at most so many entries.
     pub fn new(alloc: Global, limit: u32) -> State
@@ -103,6 +104,7 @@ impl State {
         ensures lawful { IsLawful self.now.book }
         ensures fits { AllByRecursion EntryFits self.now.book.entries }
         ensures parts { PartsFit self.now.book.page }
+        ensures within { IsWithin self.now.book self.now.limit }
         ensures rows { IsReplay self.now.book self.now.rows }
     {
         &self.book

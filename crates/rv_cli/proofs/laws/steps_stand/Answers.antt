@@ -3,4 +3,4 @@ use Rattle.rv_cli.proofs.LawfulRuns.{steps_stand}
 use Rattle.rv_cli.proofs.laws.steps_stand.Goals as goal
 
 pub returns : goal.returns
-returns c = steps_stand (c.turns_keep_law.ensures pull_json) (c.pushes_stand.ensures pull_json) c.mutations_stay.ensures
+returns c = steps_stand (c.pushes_stand.ensures pull_json)

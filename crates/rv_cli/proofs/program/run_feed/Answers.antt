@@ -2,7 +2,7 @@ use Rattle.rv_cli.specs.Change.{change}
 use Rattle.rv_cli.proofs.Steady.{not_four, taken_up}
 use Rattle.rv_keeper.specs.StoreLaws.{others_on}
 use Rattle.std.proofs.Common.{inr, sym, ◌∙◌}
-use Rattle.rv_desk.specs.ClosingSeats.{closable, open_seat}
+use Rattle.rv_desk.specs.Seated.{served}
 use Rattle.rv_cli.proofs.Ended.{completes}
 use Rattle.rv_cli.proofs.Sound.{feed_sound, refused_sound}
 use Rattle.rv_cli.proofs.Storing.{has_fed}
@@ -19,7 +19,7 @@ returns-in-Ok-clause-feed g c = (
 
 pub returns-in-Ok-clause-complete : goal.returns-in-Ok-clause-complete
 returns-in-Ok-clause-complete g c =
-    rw c.status.ensures (completes (g.P.Kept.Keeper.tells c.feed-ending.result.1) (closable g.P.Kept.Keeper.faults (open_seat c.in-Ok.desk)) c.feed-ending.ensures.feeds.now (g.S.Source.state c.args.input.now).left (g.S.Source.state c.feed-ending.new.input)
+    rw c.status.ensures (completes (g.P.Kept.Keeper.tells c.feed-ending.result.1) (served g.P.Kept.Keeper.faults c.in-Ok.desk) c.feed-ending.ensures.feeds.now (g.S.Source.state c.args.input.now).left (g.S.Source.state c.feed-ending.new.input)
     (g.O.Sink.state c.args.out.now) (g.O.Sink.state c.feed-ending.new.out) c.feed-ending.result.0 c.feed-ending.ensures.feeds.feeds.fed)
 
 pub returns-in-Ok-clause-sound : goal.returns-in-Ok-clause-sound
