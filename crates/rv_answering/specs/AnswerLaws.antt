@@ -18,6 +18,7 @@ pulled_same reply (outcomes.Pulled other) e = let same : other ≡ reply = cc in
 pulled_same reply (outcomes.Acted place) e = absurd (cc)
 pulled_same reply (outcomes.Skipped number) e = absurd (cc)
 pulled_same reply (outcomes.Retired place) e = absurd (cc)
+pulled_same reply (outcomes.Closed place) e = absurd (cc)
 pulled_same reply (outcomes.Refused refusal) e = absurd (cc)
 
 -- a push that is answered as one was not refused

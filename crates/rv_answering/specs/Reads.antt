@@ -1,9 +1,9 @@
 -- What is read of a line, where memory may be refused.
 use Rattle.std.specs.Prelude.{◌≡◌, ◌⊎◌, Option, Some, None, Ok, Err}
 use Rattle.rv_wire.specs.declared.fault.WireFault.TheVariants as faults
-use Rattle.rv_answering.specs.declared.request.Request.TheVariants.{Push, Pull, Retire}
+use Rattle.rv_answering.specs.declared.request.Request.TheVariants.{Push, Pull, Retire, Close}
 use Rattle.rv_answering.specs.declared.line.Line.{Line}
-use Rattle.rv_answering.specs.declared.line.Line.TheVariants.{Asks, Stop, Close}
+use Rattle.rv_answering.specs.declared.line.Line.TheVariants.{Asks, Stop}
 use Rattle.rv_answering.specs.Requests.{Parsed}
 
 -- it is asked by a push's or a pull's body, of the form or not
@@ -11,6 +11,7 @@ abbrev pub HasBody : Parsed → Type 0
 HasBody (Ok (Push user push)) = Unit {0}
 HasBody (Ok (Pull user pull)) = Unit {0}
 HasBody (Ok (Retire group)) = ⊥
+HasBody (Ok Close) = ⊥
 HasBody (Err fault) = Unit {0}
 
 -- What was read is what is asked; or memory was refused in reading a body.
@@ -28,13 +29,8 @@ AreReadings None (Some read) = ⊥
 abbrev pub IsLineRead : Line → Line → Type 0
 IsLineRead (Asks asked) (Asks read) = IsReading asked read
 IsLineRead Stop Stop = Unit {0}
-IsLineRead Close Close = Unit {0}
 IsLineRead (Asks asked) Stop = ⊥
-IsLineRead (Asks asked) Close = ⊥
 IsLineRead Stop (Asks read) = ⊥
-IsLineRead Stop Close = ⊥
-IsLineRead Close (Asks read) = ⊥
-IsLineRead Close Stop = ⊥
 
 abbrev pub AreLines : Option Line → Option Line → Type 0
 AreLines (Some line) (Some read) = IsLineRead line read

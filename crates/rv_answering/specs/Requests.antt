@@ -1,5 +1,5 @@
--- What a line is: {"user":U,"push":V}, {"user":U,"pull":V} or {"retire":G}, which ask something, {"stop":true}, or
--- {"closeBook":true}; members in any order, and no others.
+-- What a line is: {"user":U,"push":V}, {"user":U,"pull":V}, {"retire":G} or {"closeBook":true}, which ask something, or {"stop":true};
+-- members in any order, and no others.
 use Rattle.std.specs.Prelude.{ℕ, List, [], ◌∷◌, Bool, Option, Some, None, codes, Result, Ok, Err, option_map, option_and_then, if◌then◌else◌}
 use Rattle.std.specs.List.{list_any}
 use Rattle.std.specs.Option.{option_map_or}
@@ -14,9 +14,9 @@ use Rattle.rv_wire.specs.declared.fault.WireFault.{WireFault}
 use Rattle.rv_wire.specs.declared.push.Push as pushes
 use Rattle.rv_turns.specs.declared.pull.PullRequest.{PullRequest}
 use Rattle.rv_answering.specs.declared.request.Request.{Request}
-use Rattle.rv_answering.specs.declared.request.Request.TheVariants.{Push, Pull, Retire}
+use Rattle.rv_answering.specs.declared.request.Request.TheVariants.{Push, Pull, Retire, Close}
 use Rattle.rv_answering.specs.declared.line.Line.{Line}
-use Rattle.rv_answering.specs.declared.line.Line.TheVariants.{Asks, Stop, Close}
+use Rattle.rv_answering.specs.declared.line.Line.TheVariants.{Asks, Stop}
 use Rattle.rv_answering.specs.declared.asking.Verb.{Verb}
 use Rattle.rv_answering.specs.declared.asking.Verb.TheVariants as verbs
 
@@ -78,7 +78,7 @@ stop_asked value = option_and_then (λ stops. if stops then Some Stop else None)
 
 -- {"closeBook":true}
 abbrev pub close_asked : Data → Option Line
-close_asked value = option_and_then (λ closes. if closes then Some Close else None) (as_bool value)
+close_asked value = option_and_then (λ closes. if closes then Some (Asks (Ok Close)) else None) (as_bool value)
 
 -- what the one member of an object asks
 abbrev pub one_asks : List ℕ → Data → Option Line

@@ -10,7 +10,7 @@ use Rattle.rv_turns.specs.declared.refusal.Refusal.{Refusal}
 use Rattle.rv_wire.specs.declared.error_body.ErrorBody.{ErrorBody}
 use Rattle.rv_wire.specs.Errors.{fault_error}
 use Rattle.rv_answering.specs.declared.request.Request.{Request}
-use Rattle.rv_answering.specs.declared.request.Request.TheVariants.{Push, Pull, Retire}
+use Rattle.rv_answering.specs.declared.request.Request.TheVariants.{Push, Pull, Retire, Close}
 use Rattle.rv_answering.specs.declared.answer.Answer.{Answer}
 use Rattle.rv_answering.specs.Requests.{Parsed}
 use Rattle.rv_answering.specs.Steps.{Answers, RefusesWith, Handles, HandlesActing, no_memory}
@@ -41,6 +41,7 @@ module _ {S V : Type 0} (shown : S → V) (Goes : S → S → Type 0) (goes_same
       ((refused, on.0, is), on.1)
   answers_shown old new (Pull user pull) answer acted (outcome, (taken, goes), is, none) = ((outcome, taken, is, none), goes)
   answers_shown old new (Retire group) answer acted (outcome, (taken, goes), is, none) = ((outcome, taken, is, none), goes)
+  answers_shown old new Close answer acted (outcome, (taken, goes), is, none) = ((outcome, taken, is, none), goes)
 
   refuses_shown : (refusal : ErrorBody) (old new : S) (answer : Answer) (acted : Bool) → RefusesWith refusal old answer acted new → RefusesWith refusal (shown old) answer acted (shown new) × Goes old new
   refuses_shown refusal old new answer acted (is, none, same) = ((is, none, ap shown same), same_goes old new same)
@@ -51,6 +52,7 @@ module _ {S V : Type 0} (shown : S → V) (Goes : S → S → Type 0) (goes_same
   acting_shown old new (Ok (Pull user pull)) answer acted (inl wants) = let on = refuses_shown no_memory old new answer acted wants in (inl on.0, on.1)
   acting_shown old new (Ok (Pull user pull)) answer acted (inr told) = let on = answers_shown old new (Pull user pull) answer acted told in (inr on.0, on.1)
   acting_shown old new (Ok (Retire group)) answer acted told = answers_shown old new (Retire group) answer acted told
+  acting_shown old new (Ok Close) answer acted told = answers_shown old new Close answer acted told
   acting_shown old new (Err fault) answer acted (inl wants) = let on = refuses_shown no_memory old new answer acted wants in (inl on.0, on.1)
   acting_shown old new (Err fault) answer acted (inr told) = let on = refuses_shown (fault_error fault) old new answer acted told in (inr on.0, on.1)
 

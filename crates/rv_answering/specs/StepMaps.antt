@@ -8,7 +8,7 @@ use Rattle.rv_turns.specs.declared.mutation.Mutation.{Mutation}
 use Rattle.rv_turns.specs.declared.outcome.Outcome.{Outcome}
 use Rattle.rv_turns.specs.declared.refusal.Refusal.{Refusal}
 use Rattle.rv_answering.specs.declared.request.Request.{Request}
-use Rattle.rv_answering.specs.declared.request.Request.TheVariants.{Push, Pull, Retire}
+use Rattle.rv_answering.specs.declared.request.Request.TheVariants.{Push, Pull, Retire, Close}
 use Rattle.rv_answering.specs.declared.answer.Answer.{Answer}
 use Rattle.rv_answering.specs.Requests.{Parsed}
 use Rattle.rv_answering.specs.Steps.{Answers, Handles}
@@ -29,6 +29,7 @@ module _ {S : Type 0} (takes taking : S → Ask → Outcome → S → Type 0) (t
   map_answers old new (Push user push) answer acted (refused, pushed, is) = (refused, map_pushes (record { user = user; group = push.group }) push.mutations old new refused acted pushed, is)
   map_answers old new (Pull user pull) answer acted (outcome, takes, is, none) = (outcome, taken old new (Ask.pull user pull) outcome takes, is, none)
   map_answers old new (Retire group) answer acted (outcome, takes, is, none) = (outcome, taken old new (Ask.retirement group) outcome takes, is, none)
+  map_answers old new Close answer acted (outcome, takes, is, none) = (outcome, taken old new Ask.closing outcome takes, is, none)
 
   pub map_handled : (old new : S) (parsed : Parsed) (answer : Answer) → Handles takes old parsed answer new → Handles taking old parsed answer new
   map_handled old new (Ok (Push user push)) answer (acted, inl wants) = (acted, inl wants)
@@ -36,4 +37,5 @@ module _ {S : Type 0} (takes taking : S → Ask → Outcome → S → Type 0) (t
   map_handled old new (Ok (Pull user pull)) answer (acted, inl wants) = (acted, inl wants)
   map_handled old new (Ok (Pull user pull)) answer (acted, inr told) = (acted, inr (map_answers old new (Pull user pull) answer acted told))
   map_handled old new (Ok (Retire group)) answer (acted, told) = (acted, map_answers old new (Retire group) answer acted told)
+  map_handled old new (Ok Close) answer (acted, told) = (acted, map_answers old new Close answer acted told)
   map_handled old new (Err fault) answer (acted, told) = (acted, told)

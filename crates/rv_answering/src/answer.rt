@@ -1,7 +1,7 @@
 use rv_turns::{Outcome, PullReply};
 use rv_wire::ErrorBody;
 
-/// What a request is answered, or the closing of a book.
+/// What a request is answered.
 #[derive(Debug, Drop)]
 pub enum Answer {
     /// Each mutation of a push was run, or had been before.
@@ -30,6 +30,7 @@ impl Answer {
             Outcome::Skipped(_) => Answer::Pushed,
             Outcome::Pulled(reply) => Answer::Pulled(reply),
             Outcome::Retired(place) => Answer::Retired(place),
+            Outcome::Closed(place) => Answer::Closed(place),
             Outcome::Refused(refusal) => Answer::Refused(ErrorBody::Refused(refusal)),
         }
     }

@@ -39,19 +39,30 @@ pub fn retire_group<T: Turns>(turns: &mut T, group: &Id) -> Answer
     Answer::of_outcome(turns.take(Asked::Retirement { group }))
 }
 
+/// Closes the book.
+pub fn close_book<T: Turns>(turns: &mut T) -> Answer
+    requires { T.closes }
+    ensures { Answers T.takes turns.old requests.Close result false turns.new }
+{
+    Answer::of_outcome(turns.take(Asked::Closing))
+}
+
 /// Answers a request by its turns.
 pub fn serve_request<T: Turns>(turns: &mut T, request: Request) -> Answered
+    requires { T.closes }
     ensures { Answers T.takes turns.old request result.answer result.acted turns.new }
 {
     match request {
         Request::Push { user, push } => run_push(turns, &user, push),
         Request::Pull { user, pull } => Answered::without_act(run_pull(turns, &user, &pull)),
         Request::Retire { group } => Answered::without_act(retire_group(turns, &group)),
+        Request::Close => Answered::without_act(close_book(turns)),
     }
 }
 
 /// Answers what was read of a line that asks something.
 pub fn serve_asked<T: Turns>(turns: &mut T, read: Parsed) -> Answer
+    requires { T.closes }
     ensures { (parsed : Parsed) → IsReading parsed read → Handles T.takes turns.old parsed result turns.new }
 {
     match read {

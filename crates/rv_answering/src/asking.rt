@@ -114,7 +114,7 @@ fn close_asked(value: &Value) -> Option<Line>
     ensures { AreLines (close_asked (view value.now)) result }
 {
     if value.as_bool()? {
-        Some(Line::Close)
+        Some(Line::Asks(Ok(Request::Close)))
     } else {
         None
     }

@@ -1,8 +1,8 @@
 //! From the bytes of a line to its answer, with the turns between. Nothing here reads or writes: lines and later HTTP go by
 //! the same calls.
 //!
-//! A [`Line`] asks a [`Request`], or the first thing that is wrong with its body; or it is a stop; or it closes the
-//! book. Turns are taken by anything that implements [`rv_turns::Turns`].
+//! A [`Line`] asks a [`Request`], or the first thing that is wrong with its body; or it is a stop. Turns are taken by anything that
+//! implements [`rv_turns::Turns`]; what closes the book is asked only of who closes it.
 #![tactic(auto)]
 
 mod answer;
@@ -13,7 +13,7 @@ mod request;
 mod schemas;
 
 pub use answer::{Answer, Answered};
-pub use answering::{retire_group, run_pull, run_push, serve_asked, serve_request};
+pub use answering::{close_book, retire_group, run_pull, run_push, serve_asked, serve_request};
 pub use asking::{Parsed, line_of};
 pub use line::Line;
 pub use request::Request;

@@ -7,6 +7,4 @@ pub enum Line {
     Asks(Parsed),
     /// `{"stop":true}`: the server is closed and opened again, and nothing is answered.
     Stop,
-    /// `{"closeBook":true}`: the book is closed, and that is answered.
-    Close,
 }

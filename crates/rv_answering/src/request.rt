@@ -24,4 +24,6 @@ pub enum Request {
         /// The group.
         group: Id,
     },
+    /// The book is closed.
+    Close,
 }

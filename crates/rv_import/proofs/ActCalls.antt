@@ -79,17 +79,7 @@ all_count client book paged count = length-append paged (calls_of client book.en
 pub first_same : (client : List ℕ) (all : List Call) (book new : Book) → new ≡ book → AreFirst client all book → AreFirst client all new
 first_same client all book new same fronts = subst (λ (b : Book). AreFirst client all b) (sym same) fronts
 
--- they are so of the settled book, where they are so with what is in doubt
-pub first_settled : (client : List ℕ) (all : List Call) (book : Book) (doubt : Doubt) (settled : Book) → Settles book doubt settled → AreFirst client all (with_doubt book doubt) → AreFirst client all settled
-first_settled client all book doubt settled (inr same) first = first_same client all (with_doubt book doubt) settled same first
-first_settled client all book None settled (inl same) first = first_same client all book settled same first
-first_settled client all book (Some entry) settled (inl same) first =
-    let one : List Call = calls_of client (entry ∷ []) in
-    let here : List Call = first.paged ++ calls_of client book.entries in
-    let more : first.paged ++ calls_of client (with_entry book entry).entries ≡ here ++ one = ap (λ (x : List Call). first.paged ++ x) (filter_map-append (act_call client) book.entries (entry ∷ [])) ∙ sym (append_assoc first.paged (calls_of client book.entries) one) in
-    first_same client all book settled same (record {
-      paged = first.paged;
-      left = one ++ first.left;
-      count = first.count;
-      whole = first.whole ∙ ap (λ (x : List Call). x ++ first.left) more ∙ append_assoc here one first.left;
-    })
+-- they are so of the settled book, where they are so of the book and with what is in doubt
+pub first_settled : (client : List ℕ) (all : List Call) (book : Book) (doubt : Doubt) (settled : Book) → Settles book doubt settled → AreFirst client all book → AreFirst client all (with_doubt book doubt) → AreFirst client all settled
+first_settled client all book doubt settled (inl same) first whole = first_same client all book settled same first
+first_settled client all book doubt settled (inr same) first whole = first_same client all (with_doubt book doubt) settled same whole

@@ -1,5 +1,5 @@
 -- Each record of an import is run once.
-use Rattle.std.proofs.Common.{◌≡◌, ℕ, ◌+◌, ◌≤◌, Bool, true, false, not, cond, List, [], ◌∷◌, ◌++◌, length, map, Option, Some, None, IsSome, refl, sym, ap, ◌∙◌, subst, arith, append-nil, inl, ◌||◌}
+use Rattle.std.proofs.Common.{◌≡◌, ℕ, ◌+◌, ◌≤◌, Bool, true, false, not, cond, List, [], ◌∷◌, ◌++◌, length, map, Option, Some, None, IsSome, refl, sym, ap, ◌∙◌, subst, arith, append-nil, ◌||◌}
 use Rattle.std.specs.List.{AllByRecursion}
 use Rattle.std.specs.Option.{option_map_or}
 use Rattle.std.specs.Str.{bytes_eq}
@@ -21,14 +21,14 @@ use Rattle.rv_book.specs.Book.{Book, bound, group_of, last, retired, size, with_
 use Rattle.rv_book.specs.BookWords.{last-with_entry, retired-with_entry, size-with_entry}
 use Rattle.rv_history.specs.GroupLaws.{owner_is, home_is}
 use Rattle.rv_history.specs.Machine.{ReplyText, Step, TakesMutation, Refuses}
-use Rattle.rv_history.specs.Served.{Served, TurnOf, TakesTurn, Doubt, with_doubt}
+use Rattle.rv_history.specs.Served.{Next, Served, TurnOf, TakesTurn, Doubt}
 use Rattle.rv_history.specs.TurnLaws.{no_trouble, step_of}
 use Rattle.rv_import.specs.Imports.{asked_of, client_id}
 use Rattle.rv_import.specs.Importing.{importer, TakesInOrder, AreDone, is_skipped, Imported, Imports}
 use Rattle.rv_import.specs.declared.import_end.ImportEnd.{ImportEnd}
 use Rattle.rv_import.specs.declared.import_end.ImportEnd.TheVariants.{Done, TooLarge, BadRecord, Refused, Memory}
-use Rattle.rv_import.specs.ActsOnce.{calls_of, calls_asked, AreFirst, AreAll, HasFirst, HasAll, ActsOnce}
-use Rattle.rv_import.proofs.ActCalls.{Numbered, all_count, first_settled, numbered, numbered_front, settled_is}
+use Rattle.rv_import.specs.ActsOnce.{calls_of, calls_asked, AreAll, HasFirst, HasAll, StartsFirst, ActsOnce}
+use Rattle.rv_import.proofs.ActCalls.{Numbered, all_count, numbered, numbered_front, settled_is}
 use Rattle.rv_import.proofs.ResumeLaws.{taken_front}
 
 itself : (text : List ℕ) → not (bytes_eq text text) ≡ false
@@ -63,6 +63,7 @@ module _ (write : ReplyText) (from : Sender) where
   lets_in limit m book new (outcome.Refused refusal) step some = absurd (cc)
   lets_in limit m book new (outcome.Pulled reply) never none = absurd never
   lets_in limit m book new (outcome.Retired place) never none = absurd never
+  lets_in limit m book new (outcome.Closed place) never none = absurd never
 
   -- and has done it
   has_done : (limit : ℕ) (m : Mutation) (book new : Book) (o : Outcome) → Step write limit book (Ask.mutation from m) o new → refusal_of o ≡ None → m.id ≤ last m.client new
@@ -75,6 +76,7 @@ module _ (write : ReplyText) (from : Sender) where
   has_done limit m book new (outcome.Refused refusal) step some = absurd (cc)
   has_done limit m book new (outcome.Pulled reply) never none = absurd never
   has_done limit m book new (outcome.Retired place) never none = absurd never
+  has_done limit m book new (outcome.Closed place) never none = absurd never
 
   -- a client that is let in is refused nothing that it has done
   not_refused : (limit : ℕ) (m : Mutation) (book : Book) (refusal : Refusal) → TakesMutation from m.client book → m.id ≤ last m.client book → Refuses limit book (Ask.mutation from m) refusal → ⊥
@@ -94,6 +96,7 @@ module _ (write : ReplyText) (from : Sender) where
   step_stays limit m book new (outcome.Refused refusal) le (why, same) = same
   step_stays limit m book new (outcome.Pulled reply) le never = absurd never
   step_stays limit m book new (outcome.Retired place) le never = absurd never
+  step_stays limit m book new (outcome.Closed place) le never = absurd never
 
   step_skips : (limit : ℕ) (m : Mutation) (book new : Book) (o : Outcome) → m.id ≤ last m.client book → TakesMutation from m.client book → Step write limit book (Ask.mutation from m) o new → is_skipped o ≡ true
   step_skips limit m book new (outcome.Acted place) le let_in (takes, next, below, here, is) = absurd (omega (arith, le, next))
@@ -101,6 +104,7 @@ module _ (write : ReplyText) (from : Sender) where
   step_skips limit m book new (outcome.Refused refusal) le let_in (why, same) = absurd (not_refused limit m book refusal let_in le why)
   step_skips limit m book new (outcome.Pulled reply) le let_in never = absurd never
   step_skips limit m book new (outcome.Retired place) le let_in never = absurd never
+  step_skips limit m book new (outcome.Closed place) le let_in never = absurd never
 
   -- what a turn for what its client has done is, where nothing is in doubt
   abbrev Rests : Served → Mutation → Outcome → Served → Type 0
@@ -116,9 +120,10 @@ module _ (write : ReplyText) (from : Sender) where
       some_none : (doubt : Doubt) → doubt ≡ None → IsSome doubt → ⊥
       some_none None none some = cc
       some_none (Some entry) none some = cc
-  rests_by old new m o (Some entry) (Some Keeper) sure le left = absurd (no_entry old.book entry (step_stays old.limit m old.book (with_entry old.book entry) left.outcome le left.step))
-  rests_by old new m o (Some entry) (Some (Changed kept found)) sure le never = absurd never
-  rests_by old new m o (Some entry) None sure le never = absurd never
+  rests_by old new m o (Some (Next.entry entry)) (Some Keeper) sure le left = absurd (no_entry old.book entry (step_stays old.limit m old.book (with_entry old.book entry) left.outcome le left.step))
+  rests_by old new m o (Some (Next.closed closed)) (Some Keeper) sure le left = absurd left.is
+  rests_by old new m o (Some next) (Some (Changed kept found)) sure le never = absurd never
+  rests_by old new m o (Some next) None sure le never = absurd never
 
   rests : (old new : Served) (m : Mutation) (o : Outcome) → old.doubt ≡ None → m.id ≤ last m.client old.book → TakesTurn write old (Ask.mutation from m) o new → Rests old m o new
   rests old new m o sure le taken =
@@ -218,14 +223,13 @@ acts_for client book ms has =
     omega (arith, count)
 
 module _ (write : ReplyText) where
-  pub acts_once : (user name bytes : List ℕ) (first now : Served) (outcomes : List Outcome) → HasFirst user name bytes (with_doubt first.book first.doubt)
+  pub acts_once : (user name bytes : List ℕ) (first now : Served) (outcomes : List Outcome) → StartsFirst user name bytes first
       → TakesInOrder (TakesTurn write) (importer user) (asked_of user name bytes).mutations first outcomes now → AreDone outcomes → ActsOnce write user name bytes now
   acts_once user name bytes first now outcomes fronts turns done =
       let client : List ℕ = client_id user name in
       let asked : List Call = calls_asked user name bytes in
       let ms : List Mutation = (asked_of user name bytes).mutations in
-      let whole : HasFirst user name bytes (with_doubt now.book now.doubt) = taken_front write user name bytes ms [] first now outcomes (sym (append-nil ms)) turns fronts in
-      let here : AreFirst client asked now.book = first_settled client asked now.book now.doubt now.book (inl refl) whole in
+      let here : HasFirst user name bytes now.book = (taken_front write user name bytes ms [] first now outcomes (sym (append-nil ms)) turns fronts).0 in
       let acts : List Call = here.paged ++ calls_of client now.book.entries in
       let many : length ms ≤ last client now.book = as_many write (importer user) ms client first now outcomes (numbered user name bytes) turns done in
       let enough : length asked ≤ length acts = omega (arith, many, all_count client now.book here.paged here.count, length-map ms (λ m. m.call)) in

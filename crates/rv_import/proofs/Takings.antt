@@ -37,6 +37,7 @@ refused_so (outcomes.Acted place) refusal is = absurd (none-some refusal is)
 refused_so (outcomes.Skipped last) refusal is = absurd (none-some refusal is)
 refused_so (outcomes.Pulled reply) refusal is = absurd (none-some refusal is)
 refused_so (outcomes.Retired place) refusal is = absurd (none-some refusal is)
+refused_so (outcomes.Closed place) refusal is = absurd (none-some refusal is)
 refused_so (outcomes.Refused why) refusal is = ap (λ (r : Refusal). outcomes.Refused r) (same_Some why refusal is)
 
 -- The first mutations were taken, none was refused, and these are the counts of their outcomes; these are still asked for.

@@ -45,6 +45,11 @@ pub record AreAll (client : List ℕ) (asked : List Call) (book : Book) : Type 0
 abbrev pub HasFirst : List ℕ → List ℕ → List ℕ → Book → Type 0
 HasFirst user name bytes book = AreFirst (client_id user name) (calls_asked user name bytes) book
 
+-- they are so at a server, in its book and in the book with what is in doubt: an entry in doubt adds to the book, and so the one follows from
+-- the other; of a book that closing leaves it does not
+abbrev pub StartsFirst : List ℕ → List ℕ → List ℕ → Served → Type 0
+StartsFirst user name bytes served = HasFirst user name bytes served.book × HasFirst user name bytes (with_doubt served.book served.doubt)
+
 -- they are just what the bytes ask for
 abbrev pub HasAll : List ℕ → List ℕ → List ℕ → Book → Type 0
 HasAll user name bytes book = AreAll (client_id user name) (calls_asked user name bytes) book
@@ -57,17 +62,18 @@ module _ (write : ReplyText) where
     pub again : (taken left : List Mutation) (outcomes : List Outcome) (later : Served) → (asked_of user name bytes).mutations ≡ taken ++ left
         → TakesInOrder (TakesTurn write) (importer user) taken now outcomes later → (later.book ≡ now.book) × AllByRecursion (λ o. is_skipped o ≡ true) outcomes
 
-  -- So it is once each mutation was run or skipped, where the client's acts, with what was in doubt, were the first of what is asked for.
+  -- So it is once each mutation was run or skipped, where the client's acts were the first of what is asked for, with what was in doubt and
+  -- without.
   abbrev pub ImportsActOnce : Type 0
   ImportsActOnce =
-      (user name bytes : List ℕ) (first now : Served) (outcomes : List Outcome) → HasFirst user name bytes (with_doubt first.book first.doubt)
+      (user name bytes : List ℕ) (first now : Served) (outcomes : List Outcome) → StartsFirst user name bytes first
       → TakesInOrder (TakesTurn write) (importer user) (asked_of user name bytes).mutations first outcomes now → AreDone outcomes → ActsOnce user name bytes now
 
   -- Where they were the first, they are so after an import, however it ends.
   abbrev pub ImportsGoOn : Type 0
   ImportsGoOn =
-      (user name bytes : List ℕ) (first now : Served) (end : ImportEnd) → HasFirst user name bytes (with_doubt first.book first.doubt)
-      → Imports (TakesTurn write) user name bytes first end now → HasFirst user name bytes (with_doubt now.book now.doubt)
+      (user name bytes : List ℕ) (first now : Served) (end : ImportEnd) → StartsFirst user name bytes first
+      → Imports (TakesTurn write) user name bytes first end now → StartsFirst user name bytes now
 
   -- Where they are all, and nothing is in doubt, an import enters nothing, however it ends, and whatever else the book has.
   abbrev pub ImportsAddNothing : Type 0

@@ -32,6 +32,7 @@ fn keep(devices: &mut Three<Device>, user: u32, outcome: Outcome)
         Outcome::Acted(_) => {}
         Outcome::Skipped(_) => {}
         Outcome::Retired(_) => {}
+        Outcome::Closed(_) => {}
         Outcome::Refused(_) => {}
     }
 }

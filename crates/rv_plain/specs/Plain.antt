@@ -4,17 +4,12 @@ use Rattle.rv_rows.specs.declared.call.Call.{Call}
 use Rattle.rv_rows.specs.Changes.{after}
 use Rattle.rv_rows.specs.Held.{Stored}
 use Rattle.rv_turns.specs.Asks.{Ask, Sender}
-use Rattle.rv_turns.specs.declared.close_answer.CloseAnswer.{CloseAnswer}
-use Rattle.rv_turns.specs.declared.close_answer.CloseAnswer.TheVariants as closes
 use Rattle.rv_turns.specs.declared.outcome.Outcome.{Outcome}
-use Rattle.rv_turns.specs.declared.refusal.Refusal.TheVariants as refusals
-use Rattle.rv_turns.specs.declared.refusal.Which.TheVariants as which
 use Rattle.rv_book.specs.declared.entry.Entry.{Entry}
 use Rattle.rv_book.specs.declared.entry.Entry.TheVariants.{Act, Look, Retire}
 use Rattle.rv_book.specs.declared.page.Page.{Page}
 use Rattle.rv_book.specs.Book.{Book, book_from, last, size}
 use Rattle.rv_book.specs.Indexes.{LastsFit}
-use Rattle.rv_history.specs.Closing.{Closes}
 use Rattle.rv_history.specs.Machine.{Step, TakesMutation}
 use Rattle.rv_history.specs.Replay.{IsReplay}
 use Rattle.rv_wire.specs.Answers.{pull_json}
@@ -39,11 +34,3 @@ abbrev pub stored_after : ℕ → List Stored → Entry → List Stored
 stored_after place stored (Act user group client id call) = after stored user call place
 stored_after place stored (Look user group order base) = stored
 stored_after place stored (Retire group) = stored
-
--- What comes of closing the book: the closed book, whose page stands at the place after the last; or the book stays, since it is as long as it
--- may be, or since memory was refused.
-abbrev pub ClosesOrStays : Plain → CloseAnswer → Book → Type 0
-ClosesOrStays plain (closes.ClosedAt place) new = (size plain.book < plain.limit) × (place ≡ size plain.book + 1) × Closes plain.book new
-ClosesOrStays plain (closes.Refused (refusals.Limit what at)) new = (size plain.book ≡ plain.limit) × (what ≡ which.Book) × (at ≡ plain.limit) × (new ≡ plain.book)
-ClosesOrStays plain (closes.Refused refusals.Memory) new = (size plain.book < plain.limit) × (new ≡ plain.book)
-ClosesOrStays plain answer new = ⊥

@@ -16,7 +16,7 @@ use crate::plain_book::PlainBook;
 use rv_base::{Id, Memory, Num, User};
 use rv_history::{entries, next_order};
 use rv_rows::{Call, Clients};
-use rv_turns::{Asked, CloseAnswer, Ops, Outcome, PullReply, PullRequest, Refusal, Turns, Which};
+use rv_turns::{Asked, Ops, Outcome, PullReply, PullRequest, Refusal, Turns, Which};
 use rv_wire::{look_reply, same_reply};
 use std::alloc::Global;
 use std::marker::Model;
@@ -102,7 +102,7 @@ impl Model for PlainDesk {
 
 impl PlainDesk {
     ghost use Rattle.rv_history.specs.Machine.{Step, next_order, reply_to};
-    ghost use Rattle.rv_plain.specs.Plain.{ClosesOrStays, Hinders};
+    ghost use Rattle.rv_plain.specs.Plain.{Hinders};
     ghost use Rattle.rv_turns.specs.Asks.{Ask};
     ghost use Rattle.rv_wire.specs.Answers.{pull_json};
 
@@ -294,20 +294,20 @@ impl PlainDesk {
     }
 
     /// Closes the book: the page that sums it up comes in the place of its entries, at the place after its last.
-    pub fn close_book(&mut self) -> CloseAnswer
-        ensures closes { ClosesOrStays self.old result self.new.book }
+    pub fn close_book(&mut self) -> Outcome
+        ensures step { Step pull_json self.old.limit self.old.book Ask.closing result self.new.book }
         ensures limit { self.new.limit ≡ self.old.limit }
     {
         if self.book.len() >= self.limit {
-            return CloseAnswer::Refused(full(self.limit));
+            return Outcome::Refused(full(self.limit));
         }
         match page_of(self.alloc, &self.book) {
             Ok(page) => {
                 let place = page.at;
                 self.book = PlainBook::opening(self.alloc, page);
-                CloseAnswer::ClosedAt(place)
+                Outcome::Closed(place)
             }
-            Err(Memory) => CloseAnswer::Refused(Refusal::Memory),
+            Err(Memory) => Outcome::Refused(Refusal::Memory),
         }
     }
 }
@@ -318,6 +318,8 @@ impl Turns for PlainDesk {
     ghost use Rattle.rv_wire.specs.Answers.{pull_json};
 
     ghost takes = { λ old ask outcome new. Step pull_json old.limit old.book ask outcome new.book × (new.limit ≡ old.limit) };
+
+    ghost closes = { Unit };
 
     fn take(&mut self, asked: Asked<'_>) -> Outcome {
         match asked {
@@ -330,6 +332,7 @@ impl Turns for PlainDesk {
             } => self.mutate(user, group, client, id, call),
             Asked::Pull { user, request } => self.pull(user, request),
             Asked::Retirement { group } => self.retire(group),
+            Asked::Closing => self.close_book(),
         }
     }
 }

@@ -4,7 +4,7 @@ use Rattle.std.specs.Prelude.{Result, Ok, Err, IfSome}
 use Rattle.rv_book.specs.declared.entry.Entry.{Entry}
 use Rattle.rv_book.specs.Book.{Book, size, since, with_entry, Extends}
 use Rattle.rv_book.specs.BookWords.{since-all, size-with_entry}
-use Rattle.rv_turns.specs.Asks.{Ask}
+use Rattle.rv_turns.specs.Asks.{Ask, IsClosing}
 use Rattle.rv_turns.specs.Outcomes.{trouble_of}
 use Rattle.rv_turns.specs.declared.outcome.Outcome.{Outcome}
 use Rattle.rv_turns.specs.declared.outcome.Outcome.TheVariants.{Refused}
@@ -15,7 +15,7 @@ use Rattle.rv_wire.specs.Answers.{pull_json}
 use Rattle.rv_history.specs.Marks.{IsMark}
 use Rattle.rv_history.specs.TurnLaws.{Adds, step_adds}
 use Rattle.rv_history.specs.Reading.{turn_entries}
-use Rattle.rv_history.specs.Served.{Doubt, Served, Settles, TurnOf, TakesTurn}
+use Rattle.rv_history.specs.Served.{Doubt, IsNoClosing, Next, Served, Settles, TurnOf, TakesTurn}
 use Rattle.rv_keeper.specs.declared.keeper.Keeper.{Ghosts}
 use Rattle.rv_desk.specs.Seated.{Assures, DeskTakes, KeepsBook, Seated, served}
 use Rattle.rv_desk.specs.Settling.{HasSettled, settle_trouble}
@@ -32,10 +32,11 @@ use Rattle.rv_room.specs.SeatTurns.{IsSeatTurn, IsSeatTurnWithin}
 
 -- ---- Which way a book settled, and whether a step made an entry.
 
-settled_ways : (book : Book) (doubt : Doubt) (s : Book) → Settles book doubt s → (s ≡ book) ⊎ ((e : Entry) × (doubt ≡ Some e) × (s ≡ with_entry book e))
-settled_ways book doubt s (inl same) = inl same
-settled_ways book None s (inr same) = inl same
-settled_ways book (Some e) s (inr more) = inr (e, refl, more)
+settled_ways : (book : Book) (doubt : Doubt) (s : Book) → IsNoClosing doubt → Settles book doubt s → (s ≡ book) ⊎ ((e : Entry) × (doubt ≡ Some (Next.entry e)) × (s ≡ with_entry book e))
+settled_ways book doubt s entry (inl same) = inl same
+settled_ways book None s entry (inr same) = inl same
+settled_ways book (Some (Next.entry e)) s entry (inr more) = inr (e, refl, more)
+settled_ways book (Some (Next.closed closed)) s never (inr is) = absurd never
 
 longer_by_one : (old : Book) (e : Entry) (new : Book) → new ≡ with_entry old e → size new ≡ size old + 1
 longer_by_one old e new is = ap size is ∙ size-with_entry old e
@@ -61,25 +62,25 @@ module _ {K : Type 0} where
       λ i. record v { own = own i }
 
   -- an entry is counted only where one came in
-  pub some_came : (v : SeatView K) (s : Book) (began settled : ℕ) → began ≡ size v.book → settled ≡ size s → Settles v.book v.doubt s → settled ≢ began → (e : Entry) × (v.doubt ≡ Some e) × (s ≡ with_entry v.book e)
-  some_came v s began settled b0 s0 is apart =
+  pub some_came : (v : SeatView K) (s : Book) (began settled : ℕ) → began ≡ size v.book → settled ≡ size s → IsNoClosing v.doubt → Settles v.book v.doubt s → settled ≢ began → (e : Entry) × (v.doubt ≡ Some (Next.entry e)) × (s ≡ with_entry v.book e)
+  some_came v s began settled b0 s0 entry is apart =
       ⊎_elim
       (λ (same : s ≡ v.book). absurd (apart (s0 ∙ (ap size same ∙ sym b0))))
       (λ t. t)
-      (settled_ways v.book v.doubt s is)
+      (settled_ways v.book v.doubt s entry is)
 
   -- what the seat knows once the desk has settled
-  pub after_settling : (v : SeatView K) (s : Book) (began settled : ℕ) (came : Bool) (m m' : Knows K) → began ≡ size v.book → settled ≡ size s → Settles v.book v.doubt s
+  pub after_settling : (v : SeatView K) (s : Book) (began settled : ℕ) (came : Bool) (m m' : Knows K) → began ≡ size v.book → settled ≡ size s → IsNoClosing v.doubt → Settles v.book v.doubt s
       → (came ≡ true → settled ≢ began) → (came ≡ false → settled ≡ began)
       → m.0 ≡ v
-      → (came ≡ true → (e : Entry) → m.0.doubt ≡ Some e → m' ≡ (entered m.0 (with_entry m.0.book e), m.1)) → (came ≡ false → m' ≡ m)
+      → (came ≡ true → (e : Entry) → m.0.doubt ≡ Some (Next.entry e) → m' ≡ (entered m.0 (with_entry m.0.book e), m.1)) → (came ≡ false → m' ≡ m)
       → m' ≡ (entered v s, m.1)
-  after_settling v s began settled true m m' b0 s0 is apart same is_v then_is else_is =
-      let t = some_came v s began settled b0 s0 is (apart refl) in
+  after_settling v s began settled true m m' b0 s0 entry is apart same is_v then_is else_is =
+      let t = some_came v s began settled b0 s0 entry is (apart refl) in
       then_is refl t.0 (ap (λ (u : SeatView K). u.doubt) is_v ∙ t.1) ∙ ((λ i. (entered (is_v i) (with_entry (is_v i).book t.0), m.1)) ∙ ap (λ (b : Book). (entered v b, m.1)) (sym t.2))
-  after_settling v s began settled false m m' b0 s0 is apart same is_v then_is else_is =
+  after_settling v s began settled false m m' b0 s0 entry is apart same is_v then_is else_is =
       let e = same refl in
-      let whole : s ≡ v.book = ⊎_elim (λ (t : s ≡ v.book). t) (λ (t : (e : Entry) × (v.doubt ≡ Some e) × (s ≡ with_entry v.book e)). let l = longer_by_one v.book t.0 s t.2 in absurd (omega arith)) (settled_ways v.book v.doubt s is) in
+      let whole : s ≡ v.book = ⊎_elim (λ (t : s ≡ v.book). t) (λ (t : (e : Entry) × (v.doubt ≡ Some (Next.entry e)) × (s ≡ with_entry v.book e)). let l = longer_by_one v.book t.0 s t.2 in absurd (omega arith)) (settled_ways v.book v.doubt s entry is) in
       else_is refl ∙ (λ i. ((is_v ∙ (sym (entered_none v) ∙ ap (entered v) (sym whole))) i, m.1))
 
   -- what the seat knows once the desk has stepped
@@ -101,13 +102,13 @@ module _ {K : Type 0} (G : Ghosts K) where
   pub goes_with : (old new : K) (tr : Option Trouble) → Assures G.tells G.fails_no_more old tr new → G.faults old ≤ G.faults new → KeeperFollows G old new
   goes_with old new tr assured later = record { told = assured.told; goes_on = assured.goes_on; later = later }
 
-  pub of_after : (v : SeatView K) (d d' : Seated K) → IsOf G v d → d'.limit ≡ d.limit → KeeperFollows G d.keeper d'.keeper → IsOf G v d'
-  of_after v d d' of limit goes = (of.0, of.1, record { limit = limit ∙ of.2.limit; keeper = follows_on G of.0.keeper d.keeper d'.keeper of.2.keeper goes })
+  pub of_after : (v : SeatView K) (d d' : Seated K) → IsOf G v d → d'.limit ≡ d.limit → IsNoClosing d'.doubt → KeeperFollows G d.keeper d'.keeper → IsOf G v d'
+  of_after v d d' of limit entry goes = (of.0, of.1, record { limit = limit ∙ of.2.limit; doubt = entry; keeper = follows_on G of.0.keeper d.keeper d'.keeper of.2.keeper goes })
 
--- where nothing was in doubt, a turn adds at most one entry
-module _ (old : Served) (ask : Ask) (outcome : Outcome) (new : Served) (sure : old.doubt ≡ None) where
+-- where nothing was in doubt, a turn that asks for no closing adds at most one entry
+module _ (old : Served) (ask : Ask) (outcome : Outcome) (new : Served) (asks : ¬ IsClosing ask) (sure : old.doubt ≡ None) where
   adds_by : (settled : Book) (left : Doubt) (trouble : Option Trouble) → Settles old.book old.doubt settled → TurnOf pull_json old settled ask outcome left trouble new → Adds old.book new.book
-  adds_by settled None None is (step, none, still) = subst (λ (b : Book). Adds b new.book) (none_settles old.book old.doubt settled sure is) (step_adds pull_json old.limit settled ask outcome new.book step)
+  adds_by settled None None is (step, none, still) = subst (λ (b : Book). Adds b new.book) (none_settles old.book old.doubt settled sure is) (step_adds pull_json old.limit settled ask outcome new.book asks step)
   adds_by settled None (Some trouble) is (same, stays) = no_doubt old.doubt sure stays.doubt
   adds_by settled (Some entry) (Some Keeper) is left = inl (left.book ∙ none_settles old.book old.doubt settled sure is)
   adds_by settled (Some entry) (Some (Changed kept found)) is never = absurd never
@@ -129,10 +130,10 @@ module _ (old : Served) (ask : Ask) (outcome : Outcome) (new : Served) (sure : o
   turn_left taken = left_by taken.settled taken.left (trouble_of outcome) taken.turn
 
 module _ {K : Type 0} (G : Ghosts K) where
-  pub seat_turn : (v : SeatView K) (t : ℕ) (d mid d' : Seated K) (ask : Ask) (outcome : Outcome) → IsOf G v d → Extends d.book v.seen → FollowsAll G v.after d.keeper
+  pub seat_turn : (v : SeatView K) (t : ℕ) (d mid d' : Seated K) (ask : Ask) (outcome : Outcome) → ¬ IsClosing ask → IsOf G v d → Extends d.book v.seen → FollowsAll G v.after d.keeper
       → HasSettled (served G.faults d) (Ok tt) (served G.faults mid) → Assures G.tells G.fails_no_more d.keeper None mid.keeper → DeskTakes G mid ask outcome d'
       → IsSeatTurn G v ask outcome (end_view (on_turn G.faults (waiting v t) d) mid.book d'.book d'.doubt d'.keeper)
-  seat_turn v t d mid d' ask outcome of begins later settled assured takes = record {
+  seat_turn v t d mid d' ask outcome asks of begins later settled assured takes = record {
     opened = of.0;
     desk = d;
     now = d';
@@ -140,6 +141,7 @@ module _ {K : Type 0} (G : Ghosts K) where
     keeps = of.2;
     begins = begins;
     follows = later;
+    asks = asks;
     takes = record { turn = turn_after pull_json ask outcome (served G.faults d) (served G.faults mid) (served G.faults d') settled takes.turn; assured = assures_on G.tells G.fails_no_more d.keeper mid.keeper d'.keeper (trouble_of outcome) assured takes.assured; kept = takes.kept };
     stays = refl;
     seen = refl;
@@ -151,10 +153,10 @@ module _ {K : Type 0} (G : Ghosts K) where
     after = refl;
   }
 
-  pub seat_held : (v : SeatView K) (t : ℕ) (d d' : Seated K) (trouble : Trouble) (ask : Ask) → IsOf G v d → Extends d.book v.seen → FollowsAll G v.after d.keeper
+  pub seat_held : (v : SeatView K) (t : ℕ) (d d' : Seated K) (trouble : Trouble) (ask : Ask) → ¬ IsClosing ask → IsOf G v d → Extends d.book v.seen → FollowsAll G v.after d.keeper
       → HasSettled (served G.faults d) (Err trouble) (served G.faults d') → Assures G.tells G.fails_no_more d.keeper (Some trouble) d'.keeper → KeepsBook G d'.keeper d'.book d'.doubt
       → IsSeatTurn G v ask (Refused (refusals.Trouble trouble)) (held_view (on_turn G.faults (waiting v t) d) d'.keeper)
-  seat_held v t d d' trouble ask of begins later settled assured kept =
+  seat_held v t d d' trouble ask asks of begins later settled assured kept =
       let same : d'.book ≡ d.book = settled.settled.stays.0 in
       let none : since (size d.book) d.book ≡ [] = since-all (size d.book) d.book (omega arith) in record {
         opened = of.0;
@@ -164,6 +166,7 @@ module _ {K : Type 0} (G : Ghosts K) where
         keeps = of.2;
         begins = begins;
         follows = later;
+        asks = asks;
         takes = record { turn = turn_unsettled pull_json ask (served G.faults d) (served G.faults d') trouble settled; assured = assured; kept = kept };
         stays = refl;
         seen = sym same;
@@ -182,8 +185,11 @@ module _ {K : Type 0} (G : Ghosts K) where
   abbrev pub HasTaken : SeatView K → Seated K → Knows K → Type 0
   HasTaken v d m = (t : ℕ) × (m ≡ (on_turn G.faults (waiting v t) d, (0, None) ∷ []))
 
-  pub taken_of : (v : SeatView K) (d d' : Seated K) (m : Knows K) → HasTaken v d m → IsOf G v d → d'.limit ≡ d.limit → KeeperFollows G d.keeper d'.keeper → IsOf G m.0 d'
-  taken_of v d d' m taken of limit goes = subst (λ (m : Knows K). IsOf G m.0 d') (sym taken.1) (of_after G v d d' of limit goes)
+  pub taken_of : (v : SeatView K) (d d' : Seated K) (m : Knows K) → HasTaken v d m → IsOf G v d → d'.limit ≡ d.limit → IsNoClosing d'.doubt → KeeperFollows G d.keeper d'.keeper → IsOf G m.0 d'
+  taken_of v d d' m taken of limit entry goes = subst (λ (m : Knows K). IsOf G m.0 d') (sym taken.1) (of_after G v d d' of limit entry goes)
+
+  pub taken_entry : (v : SeatView K) (d : Seated K) (m : Knows K) → HasTaken v d m → IsOf G v d → IsNoClosing m.0.doubt
+  taken_entry v d m taken of = subst (λ (m : Knows K). IsNoClosing m.0.doubt) (sym taken.1) of.2.doubt
 
   pub taken_follows : (v : SeatView K) (d : Seated K) (m : Knows K) (now : K) → HasTaken v d m → KeeperFollows G d.keeper now → IfSome m.0.keeper (λ keeper. KeeperFollows G keeper now)
   taken_follows v d m now taken goes = subst (λ (m : Knows K). IfSome m.0.keeper (λ keeper. KeeperFollows G keeper now)) (sym taken.1) goes
@@ -192,26 +198,26 @@ module _ {K : Type 0} (G : Ghosts K) where
   taken_settles v d m s taken is = subst (λ (m : Knows K). Settles m.0.book m.0.doubt s) (sym taken.1) is
 
 module _ {K : Type 0} (G : Ghosts K) where
-  pub ended_within : (v : SeatView K) (d mid d' : Seated K) (m : Knows K) (ask : Ask) (outcome : Outcome) (w : SeatView K) → HasTaken G v d m → IsOf G v d → Extends d.book v.seen → FollowsAll G v.after d.keeper
+  pub ended_within : (v : SeatView K) (d mid d' : Seated K) (m : Knows K) (ask : Ask) (outcome : Outcome) (w : SeatView K) → ¬ IsClosing ask → HasTaken G v d m → IsOf G v d → Extends d.book v.seen → FollowsAll G v.after d.keeper
       → (settled : Result (Unit {0}) Trouble) → settled ≡ Ok tt → HasSettled (served G.faults d) settled (served G.faults mid) → Assures G.tells G.fails_no_more d.keeper (settle_trouble settled) mid.keeper → DeskTakes G mid ask outcome d'
       → w ≡ end_view m.0 mid.book d'.book d'.doubt d'.keeper
       → (before after : ℕ) → after ≤ before + turn_entries ask mid.book
       → IsSeatTurnWithin G v ask outcome w before after
   unfolding seat_turn
-  ended_within v d mid d' m ask outcome w taken of begins later settled ok is assured takes view before after within =
+  ended_within v d mid d' m ask outcome w asks taken of begins later settled ok is assured takes view before after within =
       subst (λ (s : SeatView K). IsSeatTurnWithin G v ask outcome s before after) (sym (view ∙ ap (λ (m : Knows K). end_view m.0 mid.book d'.book d'.doubt d'.keeper) taken.1)) (
-        seat_turn G v taken.0 d mid d' ask outcome of begins later (subst (λ (r : Result (Unit {0}) Trouble). HasSettled (served G.faults d) r (served G.faults mid)) ok is)
+        seat_turn G v taken.0 d mid d' ask outcome asks of begins later (subst (λ (r : Result (Unit {0}) Trouble). HasSettled (served G.faults d) r (served G.faults mid)) ok is)
             (subst (λ (r : Result (Unit {0}) Trouble). Assures G.tells G.fails_no_more d.keeper (settle_trouble r) mid.keeper) ok assured) takes,
         within,
       )
 
-  pub held_within : (v : SeatView K) (d d' : Seated K) (m : Knows K) (ask : Ask) (w : SeatView K) (why : Trouble) → HasTaken G v d m → IsOf G v d → Extends d.book v.seen → FollowsAll G v.after d.keeper
+  pub held_within : (v : SeatView K) (d d' : Seated K) (m : Knows K) (ask : Ask) (w : SeatView K) (why : Trouble) → ¬ IsClosing ask → HasTaken G v d m → IsOf G v d → Extends d.book v.seen → FollowsAll G v.after d.keeper
       → (settled : Result (Unit {0}) Trouble) → settled ≡ Err why → HasSettled (served G.faults d) settled (served G.faults d') → Assures G.tells G.fails_no_more d.keeper (settle_trouble settled) d'.keeper → KeepsBook G d'.keeper d'.book d'.doubt
       → w ≡ held_view m.0 d'.keeper
       → (before : ℕ) → IsSeatTurnWithin G v ask (Refused (refusals.Trouble why)) w before before
-  held_within v d d' m ask w why taken of begins later settled err is assured kept view before =
+  held_within v d d' m ask w why asks taken of begins later settled err is assured kept view before =
       subst (λ (s : SeatView K). IsSeatTurnWithin G v ask (Refused (refusals.Trouble why)) s before before) (sym (view ∙ ap (λ (m : Knows K). held_view m.0 d'.keeper) taken.1)) (
-        seat_held G v taken.0 d d' why ask of begins later (subst (λ (r : Result (Unit {0}) Trouble). HasSettled (served G.faults d) r (served G.faults d')) err is)
+        seat_held G v taken.0 d d' why ask asks of begins later (subst (λ (r : Result (Unit {0}) Trouble). HasSettled (served G.faults d) r (served G.faults d')) err is)
             (subst (λ (r : Result (Unit {0}) Trouble). Assures G.tells G.fails_no_more d.keeper (settle_trouble r) d'.keeper) err assured) kept,
         omega arith,
       )

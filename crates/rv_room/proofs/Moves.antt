@@ -14,7 +14,7 @@ use Rattle.atomic_table.proofs.Lists.{at_set, set_again, set_else, one_turn, exc
 use Rattle.rv_book.specs.declared.entry.Entry.{Entry}
 use Rattle.rv_book.specs.Book.{Book, entry_at, size, since, with_entry, Extends}
 use Rattle.rv_book.specs.BookWords.{entry_at-end, entry_at-with_entry, entry_at-within, extends_on, extends_same, since-all, since-with_entry, size-with_entry}
-use Rattle.rv_history.specs.Served.{Doubt, with_doubt}
+use Rattle.rv_history.specs.Served.{Doubt, Next, with_doubt}
 use Rattle.rv_keeper.specs.declared.keeper.Keeper.{Ghosts}
 use Rattle.rv_desk.specs.Seated.{Seated}
 use Rattle.rv_room.specs.declared.view.SeatView.{SeatView}
@@ -73,13 +73,13 @@ module _ {K : Type 0} where
       i a ea
 
   -- what was left is left still, where a view's left only grows
-  pub left_set : (views : List (SeatView K)) (id : ℕ) (v w : SeatView K) → At views id v → (more : List Entry) → w.left ≡ v.left ++ more → (e : Entry) → IsLeftBySeat views e → IsLeftBySeat (set views id w) e
+  pub left_set : (views : List (SeatView K)) (id : ℕ) (v w : SeatView K) → At views id v → (more : List Next) → w.left ≡ v.left ++ more → (e : Entry) → IsLeftBySeat views e → IsLeftBySeat (set views id w) e
   left_set views id v w at more grows e l =
       dite (ℕ_discrete l.0 id)
-      (λ same. (id, w, here views id v w at, (l.3.0, ap (λ xs. slice_get xs l.3.0) grows ∙ get_front v.left more l.3.0 e (ap (λ (u : SeatView K). slice_get u.left l.3.0) (sym (same_at views l.0 id l.1 v l.2 at same)) ∙ l.3.1))))
+      (λ same. (id, w, here views id v w at, (l.3.0, ap (λ xs. slice_get xs l.3.0) grows ∙ get_front v.left more l.3.0 (Next.entry e) (ap (λ (u : SeatView K). slice_get u.left l.3.0) (sym (same_at views l.0 id l.1 v l.2 at same)) ∙ l.3.1))))
       (λ apart. (l.0, l.1, set_else views id l.0 w apart ∙ l.2, l.3))
 
-  pub doubt_set : (views : List (SeatView K)) (id : ℕ) (v w : SeatView K) → At views id v → (more : List Entry) → w.left ≡ v.left ++ more → (d : Doubt) → DoubtIsLeft views d → DoubtIsLeft (set views id w) d
+  pub doubt_set : (views : List (SeatView K)) (id : ℕ) (v w : SeatView K) → At views id v → (more : List Next) → w.left ≡ v.left ++ more → (d : Doubt) → DoubtIsLeft views d → DoubtIsLeft (set views id w) d
   doubt_set views id v w at more grows d l e is = left_set views id v w at more grows e (l e is)
 
 module _ {K : Type 0} (G : Ghosts K) where
@@ -110,7 +110,7 @@ module _ {K : Type 0} (G : Ghosts K) (opened : Seated K) (seats : ℕ) where
   abbrev Slot : Book → K → Homes → List (SeatView K) → Type 0
   Slot log keeper homes views = Home log keeper homes views ⊎ IsOut homes views
 
-  pub slot_set : (log : Book) (keeper : K) (homes : Homes) (views : List (SeatView K)) (id : ℕ) (v w : SeatView K) → At views id v → v.turns ≡ 0 → w.turns ≡ 0 → (more : List Entry) → w.left ≡ v.left ++ more → Slot log keeper homes views → Slot log keeper homes (set views id w)
+  pub slot_set : (log : Book) (keeper : K) (homes : Homes) (views : List (SeatView K)) (id : ℕ) (v w : SeatView K) → At views id v → v.turns ≡ 0 → w.turns ≡ 0 → (more : List Next) → w.left ≡ v.left ++ more → Slot log keeper homes views → Slot log keeper homes (set views id w)
   slot_set log keeper homes views id v w at vt wt more grows slot =
       ⊎_elim
       (λ (t : Home log keeper homes views). inl (record {
@@ -146,7 +146,7 @@ module _ {K : Type 0} (G : Ghosts K) (opened : Seated K) (seats : ℕ) where
       → ((i : ℕ) (u : SeatView K) → i ≢ id → At views i u → SeatFits G opened log' front' n' keeper' u)
       → SeatFits G opened log' front' n' keeper' w
       → ((i : ℕ) (u : SeatView K) → i ≢ id → At views i u → w.waits ≡ 1 → u.waits ≡ 1 → w.ticket ≡ u.ticket → ⊥)
-      → (more : List Entry) → w.left ≡ v.left ++ more
+      → (more : List Next) → w.left ≡ v.left ++ more
       → AllByRecursion (IsLeftBySeat (set views id w)) w.settled
       → Rule words' homes' (set views id w)
   changes words homes views id v w k at words' homes' log' front' n' keeper' sum are slot parts begun places others mine alone more grows settled =
@@ -173,7 +173,7 @@ module _ {K : Type 0} (G : Ghosts K) (opened : Seated K) (seats : ℕ) where
   takes_fits log front n keeper u f = record { once = f.once; part = f.part; waits = f.waits; line = (λ w. let l = f.line w in (l.0, omega (arith, l.1))); turn = f.turn; knows = f.knows; seen = f.seen; joined = f.joined; own = f.own; after = f.after; spent = f.spent }
 
   -- what the view had settled was left, and is still
-  settled_still : (words : List ℕ) (homes : Homes) (views : List (SeatView K)) (k : Rule words homes views) (id : ℕ) (v w : SeatView K) → At views id v → (more : List Entry) → w.left ≡ v.left ++ more → AllByRecursion (IsLeftBySeat (set views id w)) v.settled
+  settled_still : (words : List ℕ) (homes : Homes) (views : List (SeatView K)) (k : Rule words homes views) (id : ℕ) (v w : SeatView K) → At views id v → (more : List Next) → w.left ≡ v.left ++ more → AllByRecursion (IsLeftBySeat (set views id w)) v.settled
   settled_still words homes views k id v w at more grows = all_map _ _ v.settled (left_set views id v w at more grows) (k.left id v at)
 
   pub takes_ticket : (slots id : ℕ) (v : SeatView K) (c : List (ℕ × Option (Seated K))) → IsIdle v → 0 < v.parts → Allows (KeptIn G opened seats) slots id (v, c) 0 (λ n. (n + 1) % 2 ^ 64) (TakesTicket (v, c))
@@ -415,7 +415,7 @@ module _ {K : Type 0} (G : Ghosts K) (opened : Seated K) (seats : ℕ) where
           }
 
   -- the entry that was in doubt has entered the book
-  pub counts_settled : (slots id : ℕ) (v : SeatView K) (c : List (ℕ × Option (Seated K))) (e : Entry) → v.turns ≡ 1 → v.doubt ≡ Some e → size (with_entry v.book e) < 2 ^ 63 → Allows (KeptIn G opened seats) slots id (v, c) 2 (λ n. (n + 1) % 2 ^ 64) (CountsSettled (v, c))
+  pub counts_settled : (slots id : ℕ) (v : SeatView K) (c : List (ℕ × Option (Seated K))) (e : Entry) → v.turns ≡ 1 → v.doubt ≡ Some (Next.entry e) → size (with_entry v.book e) < 2 ^ 63 → Allows (KeptIn G opened seats) slots id (v, c) 2 (λ n. (n + 1) % 2 ^ 64) (CountsSettled (v, c))
   counts_settled slots id v c e on is short s k len at bound =
       let o = on_turn_now s id v k at on in
       let now : Book = with_doubt v.book v.doubt in
@@ -454,7 +454,7 @@ module _ {K : Type 0} (G : Ghosts K) (opened : Seated K) (seats : ℕ) where
   -- the desk is looked at again: what a view with the turn becomes, of which the doubt was left
   seen_again : (slots id : ℕ) (v w : SeatView K) (c : List (ℕ × Option (Seated K))) (Told : ℕ → Me (Option (Seated K)) (SeatView K) → Type 0) → v.turns ≡ 1 → (now : K) → w.keeper ≡ Some now → IfSome v.keeper (λ keeper. KeeperFollows G keeper now)
       → (w.parts ≡ v.parts) × (w.waits ≡ v.waits) × (w.turns ≡ v.turns) × (w.ticket ≡ v.ticket) × (w.opened ≡ v.opened) × (w.book ≡ v.book) × (w.seen ≡ v.seen) × (w.joined ≡ v.joined) × (w.own ≡ v.own) × (w.after ≡ v.after) × (w.settled ≡ v.settled)
-      → (more : List Entry) → w.left ≡ v.left ++ more
+      → (more : List Next) → w.left ≡ v.left ++ more
       → ((views : List (SeatView K)) → At views id v → DoubtIsLeft views v.doubt → DoubtIsLeft (set views id w) w.doubt)
       → ((n : ℕ) → Told n (w, c))
       → Allows (KeptIn G opened seats) slots id (v, c) 1 (λ n. n) Told
@@ -503,7 +503,7 @@ module _ {K : Type 0} (G : Ghosts K) (opened : Seated K) (seats : ℕ) where
   -- what a view's turn has left in doubt is left
   newly_left : (views : List (SeatView K)) (id : ℕ) (v w : SeatView K) → At views id v → (d : Doubt) → w.left ≡ v.left ++ option_items d → DoubtIsLeft (set views id w) d
   newly_left views id v w at d more e is =
-      (id, w, here views id v w at, (length v.left, ap (λ l. slice_get l (length v.left)) (more ∙ ap (λ (x : Doubt). v.left ++ option_items x) is) ∙ get_last v.left e))
+      (id, w, here views id v w at, (length v.left, ap (λ l. slice_get l (length v.left)) (more ∙ ap (λ (x : Doubt). v.left ++ option_items x) is) ∙ get_last v.left (Next.entry e)))
 
   -- the desk has settled and stepped
   pub notes_settled : (slots id : ℕ) (v : SeatView K) (d : Seated K) → v.turns ≡ 1 → IfSome v.keeper (λ keeper. KeeperFollows G keeper d.keeper) → Allows (KeptIn G opened seats) slots id (v, (0, Some d) ∷ []) 1 (λ n. n) (NotesSettled (v, (0, Some d) ∷ []))

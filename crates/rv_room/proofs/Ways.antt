@@ -12,6 +12,7 @@ use Rattle.atomic_table.proofs.Lists.{at_set, at_snoc, at_longer, set_else}
 use Rattle.rv_book.specs.declared.entry.Entry.{Entry}
 use Rattle.rv_book.specs.Book.{Book, size, Extends}
 use Rattle.rv_book.specs.BookWords.{extends_same}
+use Rattle.rv_history.specs.Served.{IsNoClosing, Next}
 use Rattle.rv_keeper.specs.declared.keeper.Keeper.{Ghosts}
 use Rattle.rv_desk.specs.Seated.{Seated}
 use Rattle.rv_room.specs.declared.view.SeatView.{SeatView}
@@ -45,9 +46,9 @@ module _ {K : Type 0} where
   left_joined views id other v w b gone at there apart is e l =
       let mine : At (set (set views id b) other gone) id b = set_else (set views id b) other id gone (λ s. apart (sym s)) ∙ here views id v b at in
       dite (ℕ_discrete l.0 id)
-      (λ same. (id, b, mine, (l.3.0, ap (λ xs. slice_get xs l.3.0) is ∙ get_front v.left w.left l.3.0 e (ap (λ (u : SeatView K). slice_get u.left l.3.0) (sym (same_at views l.0 id l.1 v l.2 at same)) ∙ l.3.1))))
+      (λ same. (id, b, mine, (l.3.0, ap (λ xs. slice_get xs l.3.0) is ∙ get_front v.left w.left l.3.0 (Next.entry e) (ap (λ (u : SeatView K). slice_get u.left l.3.0) (sym (same_at views l.0 id l.1 v l.2 at same)) ∙ l.3.1))))
       (λ not_id. dite (ℕ_discrete l.0 other)
-      (λ same. let g = get_back v.left w.left l.3.0 e (ap (λ (u : SeatView K). slice_get u.left l.3.0) (sym (same_at views l.0 other l.1 w l.2 there same)) ∙ l.3.1) in (id, b, mine, (g.0, ap (λ xs. slice_get xs g.0) is ∙ g.1)))
+      (λ same. let g = get_back v.left w.left l.3.0 (Next.entry e) (ap (λ (u : SeatView K). slice_get u.left l.3.0) (sym (same_at views l.0 other l.1 w l.2 there same)) ∙ l.3.1) in (id, b, mine, (g.0, ap (λ xs. slice_get xs g.0) is ∙ g.1)))
       (λ not_other. (l.0, l.1, set_else (set views id b) other l.0 gone not_other ∙ (set_else views id l.0 b not_id ∙ l.2), l.3)))
 
 module _ {K : Type 0} (G : Ghosts K) where
@@ -110,7 +111,7 @@ module _ {K : Type 0} (G : Ghosts K) (opened : Seated K) (seats : ℕ) where
       home = refl;
       book = refl;
       keeper_is = refl;
-      keeps = record { limit = refl; keeper = follows_same G opened.keeper };
+      keeps = record { limit = refl; doubt = subst IsNoClosing (sym sure) tt; keeper = follows_same G opened.keeper };
       doubt = (λ e doubt. absurd (no_doubt e (sym sure ∙ doubt)));
       nobody = (λ j v e. one (λ u. u.turns ≡ 0) refl j v e);
     });
@@ -123,7 +124,7 @@ module _ {K : Type 0} (G : Ghosts K) (opened : Seated K) (seats : ℕ) where
     left = one (λ u. AllByRecursion (IsLeftBySeat (newcomer seats opened ∷ [])) u.settled) tt;
   }
     where
-      no_doubt : (e : Entry) → (None ≡ Some e) → ⊥
+      no_doubt : (e : Entry) → (None ≡ Some (Next.entry e)) → ⊥
       no_doubt e h = absurd (cc)
 
       one : (P : SeatView K → Type 0) → P (newcomer seats opened) → (j : ℕ) (v : SeatView K) → At (newcomer seats opened ∷ []) j v → P v
@@ -225,8 +226,8 @@ module _ {K : Type 0} (G : Ghosts K) (opened : Seated K) (seats : ℕ) where
     pub joined : AllByRecursion (Extends desk.book) v.joined
     pub own : AllByRecursion (StandsAfter desk.book) v.own
     pub places : (p : ℕ) → count_at p v.own + once_below p (size opened.book) ≡ once_below p (size desk.book)
-    pub left : AllByRecursion (λ (e : Entry). (k : ℕ) × (slice_get v.left k ≡ Some e)) v.settled
-    pub doubt : (e : Entry) → desk.doubt ≡ Some e → (k : ℕ) × (slice_get v.left k ≡ Some e)
+    pub left : AllByRecursion (λ (e : Entry). (k : ℕ) × (slice_get v.left k ≡ Some (Next.entry e))) v.settled
+    pub doubt : (e : Entry) → desk.doubt ≡ Some (Next.entry e) → (k : ℕ) × (slice_get v.left k ≡ Some (Next.entry e))
     pub after : FollowsAll G v.after desk.keeper
 
   pub closing : (id : ℕ) (v : SeatView K) (words : List ℕ) (homes : List (Option (Seated K))) → IsIdle v → v.parts ≡ seats → 0 < seats → Final (Seen Holds id v) words homes → Closing v homes
@@ -239,7 +240,7 @@ module _ {K : Type 0} (G : Ghosts K) (opened : Seated K) (seats : ℕ) where
       (λ (t : IsOut s.homes s.views). absurd (nobody s k at t.who t.view t.at t.turn))
       k.slot
     where
-      mine : (s : State (Option (Seated K)) (SeatView K)) (k : Holds s) → At s.views id v → (e : Entry) → IsLeftBySeat s.views e → (m : ℕ) × (slice_get v.left m ≡ Some e)
+      mine : (s : State (Option (Seated K)) (SeatView K)) (k : Holds s) → At s.views id v → (e : Entry) → IsLeftBySeat s.views e → (m : ℕ) × (slice_get v.left m ≡ Some (Next.entry e))
       mine s k at e l =
           dite (ℕ_discrete l.0 id)
           (λ same. (l.3.0, ap (λ (u : SeatView K). slice_get u.left l.3.0) (sym (same_at s.views l.0 id l.1 v l.2 at same)) ∙ l.3.1))
@@ -251,7 +252,7 @@ module _ {K : Type 0} (G : Ghosts K) (opened : Seated K) (seats : ℕ) where
           let none_left : l.1.left ≡ [] = ((k.each l.0 l.1 l.2).spent (omega arith)).1 in
           absurd (nothing l.3.0 e (ap (λ xs. slice_get xs l.3.0) (sym none_left) ∙ l.3.1)))
         where
-          nothing : (m : ℕ) (e : Entry) → slice_get {X = Entry} [] m ≡ Some e → ⊥
+          nothing : (m : ℕ) (e : Entry) → slice_get {X = Next} [] m ≡ Some (Next.entry e) → ⊥
           nothing m e h = absurd (cc)
 
       nobody : (s : State (Option (Seated K)) (SeatView K)) (k : Holds s) → At s.views id v → (j : ℕ) (u : SeatView K) → At s.views j u → u.turns ≡ 1 → ⊥
@@ -297,9 +298,9 @@ module _ {K : Type 0} where
   gather_idle v [] i = i
   gather_idle v (w ∷ ws) i = gather_idle v ws i
 
-  gather_left : (v : SeatView K) (ws : List (SeatView K)) (k : ℕ) (e : Entry) → slice_get (gather v ws).left k ≡ Some e → SomeLeft (ws ++ v ∷ []) e
+  gather_left : (v : SeatView K) (ws : List (SeatView K)) (k : ℕ) (e : Entry) → slice_get (gather v ws).left k ≡ Some (Next.entry e) → SomeLeft (ws ++ v ∷ []) e
   gather_left v [] k e g = inl (k, g)
-  gather_left v (w ∷ ws) k e g = ⊎_elim (λ t. inr (gather_left v ws t.0 e t.1)) (λ t. inl t) (get_split (gather v ws).left w.left k e g)
+  gather_left v (w ∷ ws) k e g = ⊎_elim (λ t. inr (gather_left v ws t.0 e t.1)) (λ t. inl t) (get_split (gather v ws).left w.left k (Next.entry e) g)
 
 module _ {K : Type 0} (G : Ghosts K) (opened : Seated K) where
   -- what is known of the book that was closed, from what the one view knows

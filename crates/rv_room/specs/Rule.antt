@@ -8,7 +8,7 @@ use lib.ListN.{get_elem?}
 use Rattle.atomic_table.specs.Table.{State}
 use Rattle.rv_book.specs.declared.entry.Entry.{Entry}
 use Rattle.rv_book.specs.Book.{Book, entry_at, size, Extends}
-use Rattle.rv_history.specs.Served.{Doubt}
+use Rattle.rv_history.specs.Served.{Doubt, IsNoClosing, Next}
 use Rattle.rv_keeper.specs.declared.keeper.Keeper.{Ghosts}
 use Rattle.rv_desk.specs.Seated.{Seated}
 use Rattle.rv_room.specs.declared.view.SeatView.{SeatView}
@@ -31,10 +31,10 @@ module _ {K : Type 0} where
 
   -- some seat's turn left the entry in doubt
   abbrev pub IsLeftBySeat : List (SeatView K) → Entry → Type 0
-  IsLeftBySeat views e = (j : ℕ) × (v : SeatView K) × (get_elem? views j ≡ some v) × ((k : ℕ) × (slice_get v.left k ≡ Some e))
+  IsLeftBySeat views e = (j : ℕ) × (v : SeatView K) × (get_elem? views j ≡ some v) × ((k : ℕ) × (slice_get v.left k ≡ Some (Next.entry e)))
 
   abbrev pub DoubtIsLeft : List (SeatView K) → Doubt → Type 0
-  DoubtIsLeft views doubt = (e : Entry) → doubt ≡ Some e → IsLeftBySeat views e
+  DoubtIsLeft views doubt = (e : Entry) → doubt ≡ Some (Next.entry e) → IsLeftBySeat views e
 
   -- a seat has the turn, and the slot is empty
   pub record IsOut (homes : List (maybe.Option (Option (Seated K)))) (views : List (SeatView K)) : Type 0 where
@@ -46,9 +46,10 @@ module _ {K : Type 0} where
     pub doubt : DoubtIsLeft views view.doubt
 
 module _ {K : Type 0} (G : Ghosts K) where
-  -- the desk has kept the limit of the one that the room was opened with, and its keeper follows that one's
+  -- the desk has kept the limit of the one that the room was opened with, no closing is in doubt, and its keeper follows that one's
   pub record Keeps (opened d : Seated K) : Type 0 where
     pub limit : d.limit ≡ opened.limit
+    pub doubt : IsNoClosing d.doubt
     pub keeper : KeeperFollows G opened.keeper d.keeper
 
   -- it is a desk of the seat's room

@@ -1,7 +1,7 @@
 -- What a turn of a seat is.
 use Rattle.std.specs.Prelude.{◌≡◌, ℕ, ◌+◌, ◌≤◌, [], ◌∷◌, ◌++◌, Some}
 use Rattle.rv_book.specs.Book.{size, since, Extends}
-use Rattle.rv_turns.specs.Asks.{Ask}
+use Rattle.rv_turns.specs.Asks.{Ask, IsClosing}
 use Rattle.rv_turns.specs.declared.outcome.Outcome.{Outcome}
 use Rattle.rv_history.specs.Reading.{turn_entries}
 use Rattle.rv_keeper.specs.declared.keeper.Keeper.{Ghosts}
@@ -12,9 +12,9 @@ use Rattle.rv_room.specs.Lists.{numbered}
 use Rattle.rv_room.specs.Rule.{Keeps}
 use Rattle.rv_room.specs.Views.{option_items}
 
--- A turn of a seat, by what it knows before and after: it is a turn of a desk, as the desk in the room stood. That desk keeps the limit of the
--- one that the room was opened with, and its keeper follows that one's, and each that the seat remembers; its book goes on from what the
--- seat had seen. Then the seat has seen the book as the turn ended; has as its own what settling added and what the step added, each with the
+-- A turn of a seat, by what it knows before and after: it is a turn of a desk, as the desk in the room stood, and asks anything but that the
+-- book be closed. That desk keeps the limit of the one that the room was opened with, no closing is in doubt at it, and its keeper follows
+-- that one's, and each that the seat remembers; its book goes on from what the seat had seen. Then the seat has seen the book as the turn ended; has as its own what settling added and what the step added, each with the
 -- number of entries before it; and remembers what it left in doubt, the keeper as it was then, and the rest. That the desk is that of the
 -- room, the rule of its table says.
 pub record IsSeatTurn {K : Type 0} (G : Ghosts K) (old : SeatView K) (ask : Ask) (outcome : Outcome) (new : SeatView K) : Type 0 where
@@ -25,6 +25,7 @@ pub record IsSeatTurn {K : Type 0} (G : Ghosts K) (old : SeatView K) (ask : Ask)
   pub keeps : Keeps G opened desk
   pub begins : Extends desk.book old.seen
   pub follows : FollowsAll G old.after desk.keeper
+  pub asks : ¬ IsClosing ask
   pub takes : DeskTakes G desk ask outcome now
   pub stays : new.opened ≡ old.opened
   pub seen : new.seen ≡ now.book

@@ -3,7 +3,8 @@
 //! A [`Room`] has the desk in the one slot of a table, and three words: how many tickets were taken, how many turns have ended, and
 //! how many entries the book has; and words that only wake seats that sleep. A [`Seat`] takes a ticket, waits until so many turns have
 //! ended, and then has the desk for itself. It takes the ticket as a rule when its turn has come, so that nobody waits for a seat that
-//! sleeps. What a seat knows is a [`SeatView`]. [`Room::close`] gives the desk back, whose book is the history of all turns.
+//! sleeps. What a seat knows is a [`SeatView`]. No seat closes the book that it shares, so the history only grows. [`Room::close`] gives the
+//! desk back, whose book is the history of all turns.
 #![tactic(auto)]
 
 mod opening;
@@ -22,4 +23,4 @@ pub use rule::{About, OneHistory};
 pub use seat::{Seat, Token};
 pub use seat_turns::SeatTurns;
 pub use seats::Seats;
-pub use view::{History, SeatView};
+pub use view::{History, InDoubt, SeatView};

@@ -57,7 +57,7 @@ fn join_all<K: Keeper>(
 }
 
 impl<K: Keeper> Room<K> {
-    /// Opens a room with so many seats over a desk that has no entry in doubt. Where memory is refused, the desk is given back as it
+    /// Opens a room with so many seats over a desk that has nothing in doubt. Where memory is refused, the desk is given back as it
     /// was.
     pub fn open(
         alloc: Global,

@@ -41,6 +41,8 @@ impl<'a, R: Wait, K: Keeper> Turns for SeatTurns<'a, R, K> {
 
     ghost takes = { λ old ask outcome new. IsSeatTurn K.Keeper (view_of old.seat) ask outcome (view_of new.seat) × (new.room.now ≡ old.room.now) };
 
+    ghost closes = { ⊥ };
+
     fn take(&mut self, asked: Asked<'_>) -> Outcome {
         let room = self.room;
         room.turn(self.rt, &mut self.seat, asked)

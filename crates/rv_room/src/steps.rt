@@ -3,7 +3,7 @@ ghost use Rattle.std.specs.Prelude.{◌≡◌, ◌≢◌, ℕ, ◌^◌, ◌<◌,
 ghost use Rattle.rv_book.specs.Book.{Book, size, with_entry, Extends};
 ghost use Rattle.rv_book.specs.declared.entry.Entry.{Entry};
 ghost use Rattle.rv_history.specs.TurnLaws.{Adds};
-ghost use Rattle.rv_history.specs.Served.{Settles};
+ghost use Rattle.rv_history.specs.Served.{IsNoClosing, Next, Settles};
 ghost use Rattle.rv_desk.specs.Seated.{Seated};
 ghost use Rattle.rv_room.specs.Following.{FollowsAll, KeeperFollows};
 ghost use Rattle.rv_room.specs.Ends.{end_view, held_view};
@@ -58,9 +58,9 @@ impl<K: Keeper> Room<K> {
     // Counts the entry that was in doubt.
     fn count_settled(&self, token: &mut Token<K>)
         requires table { token.old.table_id ≡ self.now.table.shared.table_id }
-        requires doubt { (e : Entry) × (token.old.me.0.turns ≡ 1) × (token.old.me.0.doubt ≡ Some e) × (size (with_entry token.old.me.0.book e) < 2 ^ 63) }
+        requires doubt { (e : Entry) × (token.old.me.0.turns ≡ 1) × (token.old.me.0.doubt ≡ Some (Next.entry e)) × (size (with_entry token.old.me.0.book e) < 2 ^ 63) }
         ensures same { (token.new.table_id ≡ token.old.table_id) × (token.new.id ≡ token.old.id) }
-        ensures entered { (e : Entry) → token.old.me.0.doubt ≡ Some e → token.new.me ≡ (entered token.old.me.0 (with_entry token.old.me.0.book e), token.old.me.1) }
+        ensures entered { (e : Entry) → token.old.me.0.doubt ≡ Some (Next.entry e) → token.new.me ≡ (entered token.old.me.0 (with_entry token.old.me.0.book e), token.old.me.1) }
     {
         self.table
             .shared
@@ -70,9 +70,9 @@ impl<K: Keeper> Room<K> {
     // Counts the entry that was in doubt, where it was entered: the settled book is one entry longer than the seat's.
     fn count_settled_if(&self, token: &mut Token<K>, came: bool)
         requires table { token.old.table_id ≡ self.now.table.shared.table_id }
-        requires doubt { came ≡ true → (e : Entry) × (token.old.me.0.turns ≡ 1) × (token.old.me.0.doubt ≡ Some e) × (size (with_entry token.old.me.0.book e) < 2 ^ 63) }
+        requires doubt { came ≡ true → (e : Entry) × (token.old.me.0.turns ≡ 1) × (token.old.me.0.doubt ≡ Some (Next.entry e)) × (size (with_entry token.old.me.0.book e) < 2 ^ 63) }
         ensures same { (token.new.table_id ≡ token.old.table_id) × (token.new.id ≡ token.old.id) }
-        ensures entered { came ≡ true → (e : Entry) → token.old.me.0.doubt ≡ Some e → token.new.me ≡ (entered token.old.me.0 (with_entry token.old.me.0.book e), token.old.me.1) }
+        ensures entered { came ≡ true → (e : Entry) → token.old.me.0.doubt ≡ Some (Next.entry e) → token.new.me ≡ (entered token.old.me.0 (with_entry token.old.me.0.book e), token.old.me.1) }
         ensures not { came ≡ false → token.new.me ≡ token.old.me }
     {
         if came {
@@ -154,11 +154,12 @@ impl<K: Keeper> Room<K> {
     }
 
     // Puts the desk home after it has settled and stepped, and passes the turn on. The desk had so many entries as the turn began,
-    // and so many once it had settled.
+    // and so many once it had settled. No closing was in doubt.
     pub(crate) fn end(&self, token: &mut Token<K>, desk: Desk<K>, began: u32, settled: u32)
         requires table { token.old.table_id ≡ self.now.table.shared.table_id }
         requires empty { (token.old.me.1 ≡ (0, None) ∷ []) × (token.old.me.0.turns ≡ 1) }
         requires of { IsOf K.Keeper token.old.me.0 desk }
+        requires doubt { IsNoClosing token.old.me.0.doubt }
         requires began { began ≡ size token.old.me.0.book }
         requires settled { (s : Book) × (settled ≡ size s) × Settles token.old.me.0.book token.old.me.0.doubt s × Adds s desk.book }
         requires follows { IfSome token.old.me.0.keeper (λ keeper. KeeperFollows K.Keeper keeper desk.keeper) }

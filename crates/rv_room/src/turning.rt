@@ -1,6 +1,6 @@
 // The turns of a seat.
 ghost use Rattle.std.specs.Prelude.{◌≡◌, ◌<◌, None};
-ghost use Rattle.rv_turns.specs.Asks.{Ask, ask_of};
+ghost use Rattle.rv_turns.specs.Asks.{Ask, IsClosing, ask_of};
 ghost use Rattle.rv_room.specs.SeatMarks.{IsSeatMark};
 ghost use Rattle.rv_room.specs.SeatTurns.{IsSeatTurn, IsSeatTurnWithin};
 ghost use Rattle.rv_room.specs.Seats.{id_of, room_of, view_of};
@@ -16,9 +16,10 @@ use std::sync::Wait;
 use std::sync::ledger::{Blank, Ledger};
 
 impl<K: Keeper> Room<K> {
-    /// A turn of a seat: it waits for the turn, and then the desk takes one.
+    /// A turn of a seat: it waits for the turn, and then the desk takes one. It asks anything but that the book be closed.
     pub fn turn(&self, rt: &impl Wait, seat: &mut Seat<K>, asked: Asked<'_>) -> Outcome
-        requires { room_of seat.old ≡ id_of self.now }
+        requires room { room_of seat.old ≡ id_of self.now }
+        requires asks { ¬ IsClosing (ask_of asked.entry) }
         ensures same { room_of seat.new ≡ room_of seat.old }
         ensures turn { IsSeatTurn K.Keeper (view_of seat.old) (ask_of asked.entry) result (view_of seat.new) }
     {
@@ -33,7 +34,8 @@ impl<K: Keeper> Room<K> {
         asked: Asked<'_>,
         steps: &mut Steps<L>,
     ) -> Outcome
-        requires { room_of seat.old ≡ id_of self.now }
+        requires room { room_of seat.old ≡ id_of self.now }
+        requires asks { ¬ IsClosing (ask_of asked.entry) }
         ensures same { room_of seat.new ≡ room_of seat.old }
         ensures turn { IsSeatTurnWithin K.Keeper (view_of seat.old) (ask_of asked.entry) result (view_of seat.new) steps.old steps.new }
     {
@@ -107,7 +109,7 @@ impl<K: Keeper> Room<K> {
         self.turn(rt, seat, Asked::Retirement { group })
     }
 
-    /// The mark of a user, in a turn of a seat, which leaves the desk as it is: an entry in doubt stays in doubt. Takes no memory.
+    /// The mark of a user, in a turn of a seat, which leaves the desk as it is: what is in doubt stays in doubt. Takes no memory.
     pub fn turn_mark(&self, rt: &impl Wait, seat: &mut Seat<K>, user: &User) -> u32
         requires { room_of seat.old ≡ id_of self.now }
         ensures same { room_of seat.new ≡ room_of seat.old }
@@ -130,6 +132,7 @@ fn turn_from<R: Wait, K: Keeper, L: Ledger>(
     blank: Blank,
 ) -> Outcome
     requires room { room_of seat.old ≡ id_of room.now }
+    requires asks { ¬ IsClosing (ask_of asked.entry) }
     requires name { blank.name ≡ L.name }
     requires parts { (blank.parts ≡ L.parts) × (0 < L.parts) }
     ensures same { room_of seat.new ≡ room_of seat.old }

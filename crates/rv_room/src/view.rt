@@ -18,6 +18,21 @@ impl Model for History {
     ghost view = { λ history. book_from history.page history.entries };
 }
 
+/// What is in doubt, an entry or the book that closing leaves, as a seat knows it. It stands in proofs alone: no value of it is made.
+pub struct InDoubt {
+    entry: Option<Entry>,
+    closed: History,
+}
+
+impl Model for InDoubt {
+    ghost use Rattle.std.specs.Option.{option_map_or};
+    ghost use Rattle.rv_history.specs.Served.{Next};
+
+    ghost Value = { Next };
+
+    ghost view = { λ next. option_map_or (λ e. Next.entry e) next.entry (Next.closed next.closed) };
+}
+
 /// What a seat knows. It stands in proofs alone: no value of it is made.
 pub struct SeatView<K: Keeper> {
     /// How many seats it stands for.
@@ -32,8 +47,8 @@ pub struct SeatView<K: Keeper> {
     pub opened: Option<Desk<K>>,
     /// While it has the turn, the history.
     pub book: History,
-    /// While it has the turn, the entry in doubt.
-    pub doubt: Option<Entry>,
+    /// While it has the turn, what is in doubt.
+    pub doubt: Option<InDoubt>,
     /// While it has the turn, the keeper.
     pub keeper: Option<K>,
     /// The history as its last turn ended.
@@ -42,8 +57,8 @@ pub struct SeatView<K: Keeper> {
     pub own: LinkedList<(u64, Entry)>,
     /// Those of them that had been in doubt.
     pub settled: LinkedList<Entry>,
-    /// The entries that its turns left in doubt.
-    pub left: LinkedList<Entry>,
+    /// What its turns left in doubt.
+    pub left: LinkedList<InDoubt>,
     /// The length of the history as each of its turns ended.
     pub ends: LinkedList<u64>,
     /// How often the keeper had failed as each of its turns began.

@@ -4,6 +4,7 @@ use Rattle.std.specs.Prelude.{slice_get}
 use Rattle.std.specs.List.{AllByRecursion}
 use Rattle.rv_book.specs.Book.{Extends}
 use Rattle.rv_book.specs.declared.entry.Entry.{Entry}
+use Rattle.rv_history.specs.Served.{Next}
 use Rattle.rv_keeper.specs.declared.keeper.Keeper.{Ghosts}
 use Rattle.rv_desk.specs.Seated.{Seated}
 use Rattle.rv_room.specs.declared.view.SeatView.{SeatView}
@@ -31,7 +32,7 @@ all_both : {X : Type 0} (P Q R : X → Type 0) → ((x : X) → P x → Q x → 
 all_both P Q R so [] all others = tt
 all_both P Q R so (x ∷ xs) (one, rest) (other, others) = (so x one other, all_both P Q R so xs rest others)
 
-none_at : (k : ℕ) (e : Entry) → slice_get [] k ≡ Some e → ⊥
+none_at : (k : ℕ) (e : Entry) → slice_get [] k ≡ Some (Next.entry e) → ⊥
 none_at k e is = absurd (cc)
 
 module _ {K : Type 0} (opened : Seated K) where
@@ -48,7 +49,7 @@ module _ {K : Type 0} (opened : Seated K) where
 
   left_front : (e : Entry) (vs ws : List (SeatView K)) → AllByRecursion Idle ws → SomeLeft (vs ++ ws) e → SomeLeft vs e
   left_front e [] [] idle never = never
-  left_front e [] (w ∷ ws) (i, is) (inl (k, at)) = absurd (none_at k e (subst (λ (l : List Entry). slice_get l k ≡ Some e) i.left at))
+  left_front e [] (w ∷ ws) (i, is) (inl (k, at)) = absurd (none_at k e (subst (λ (l : List Next). slice_get l k ≡ Some (Next.entry e)) i.left at))
   left_front e [] (w ∷ ws) (i, is) (inr more) = left_front e [] ws is more
   left_front e (v ∷ vs) ws idle (inl here) = inl here
   left_front e (v ∷ vs) ws idle (inr more) = inr (left_front e vs ws idle more)

@@ -1,7 +1,8 @@
 -- A room of no seats.
-use Rattle.std.proofs.Common.{◌≡◌, ◌+◌, List, [], ◌∷◌, length, Some, None, refl, sym, ◌∙◌, arith}
+use Rattle.std.proofs.Common.{◌≡◌, ◌+◌, List, [], ◌∷◌, length, Some, None, refl, sym, ◌∙◌, subst, arith}
 use Rattle.rv_book.specs.declared.entry.Entry.{Entry}
 use Rattle.rv_book.specs.BookWords.{extends_same}
+use Rattle.rv_history.specs.Served.{IsNoClosing, Next}
 use Rattle.rv_keeper.specs.declared.keeper.Keeper.{Ghosts}
 use Rattle.rv_desk.specs.Seated.{Seated}
 use Rattle.rv_room.specs.declared.view.SeatView.{SeatView}
@@ -9,12 +10,12 @@ use Rattle.rv_room.specs.Closing.{Closes}
 use Rattle.rv_room.specs.Following.{follows_same}
 use Rattle.rv_workers.specs.Serving.{ServesBothKinds}
 
-none_some : (e : Entry) → None ≡ Some e → ⊥
+none_some : (e : Entry) → None ≡ Some (Next.entry e) → ⊥
 none_some e is = absurd (cc)
 
 closes_none : {K : Type 0} (G : Ghosts K) (desk : Seated K) → desk.doubt ≡ None → Closes G desk [] desk
 closes_none G desk settled = record {
-  keeps = record { limit = refl; keeper = follows_same G desk.keeper };
+  keeps = record { limit = refl; doubt = subst IsNoClosing (sym settled) tt; keeper = follows_same G desk.keeper };
   begun = extends_same desk.book desk.book refl;
   seen = tt;
   own = tt;

@@ -22,7 +22,7 @@ count_settled_if-requires-clause-doubt g c came =
     let ways : Settles v.book v.doubt s = c.requires.settled.2 in
     let adds : Adds s d.book = c.requires.settled.3 in
     let put : c.put_home.new.token.me ≡ (v, (0, Some d) ∷ []) = c.put_home.ensures.desk in
-    let t = some_came v s c.args.began c.args.settled c.requires.began settled ways (c.differs.ensures.yes came) in
+    let t = some_came v s c.args.began c.args.settled c.requires.began settled c.requires.doubt ways (c.differs.ensures.yes came) in
     let long : size (with_entry c.put_home.new.token.me.0.book t.0) ≡ size s = ap (λ (m : M). size (with_entry m.0.book t.0)) put ∙ sym (ap size t.2) in
     let few = c.ranges.settled.fits in
     (t.0, ap (λ (m : M). m.0.turns) put ∙ c.requires.empty.1, ap (λ (m : M). m.0.doubt) put ∙ t.1, omega (arith, few))
@@ -39,7 +39,7 @@ count_made_if-requires-clause-grown g c made =
     let put : c.put_home.new.token.me ≡ (v, (0, Some d) ∷ []) = c.put_home.ensures.desk in
     let now : c.len-now.result ≡ size d.book = c.len-now.ensures.value ∙ ap size c.book.ensures.book in
     let at1 : c.count_settled_if.new.token.me ≡ (entered v s, (0, Some d) ∷ []) =
-    after_settling v s c.args.began c.args.settled c.differs.result c.put_home.new.token.me c.count_settled_if.new.token.me c.requires.began settled ways c.differs.ensures.yes c.differs.ensures.no (ap (λ (m : M). m.0) put) c.count_settled_if.ensures.entered c.count_settled_if.ensures.not
+    after_settling v s c.args.began c.args.settled c.differs.result c.put_home.new.token.me c.count_settled_if.new.token.me c.requires.began settled c.requires.doubt ways c.differs.ensures.yes c.differs.ensures.no (ap (λ (m : M). m.0) put) c.count_settled_if.ensures.entered c.count_settled_if.ensures.not
     ∙ (λ i. (entered v s, (put i).1)) in
     let t = some_made s d.book c.args.settled c.len-now.result settled now adds (c.differs-2.ensures.yes made) in
     let few = c.len-now.ensures.range in
@@ -57,7 +57,7 @@ note_settled-requires-clause-carries g c =
     let put : c.put_home.new.token.me ≡ (v, (0, Some d) ∷ []) = c.put_home.ensures.desk in
     let now : c.len-now.result ≡ size d.book = c.len-now.ensures.value ∙ ap size c.book.ensures.book in
     let at1 : c.count_settled_if.new.token.me ≡ (entered v s, (0, Some d) ∷ []) =
-    after_settling v s c.args.began c.args.settled c.differs.result c.put_home.new.token.me c.count_settled_if.new.token.me c.requires.began settled ways c.differs.ensures.yes c.differs.ensures.no (ap (λ (m : M). m.0) put) c.count_settled_if.ensures.entered c.count_settled_if.ensures.not
+    after_settling v s c.args.began c.args.settled c.differs.result c.put_home.new.token.me c.count_settled_if.new.token.me c.requires.began settled c.requires.doubt ways c.differs.ensures.yes c.differs.ensures.no (ap (λ (m : M). m.0) put) c.count_settled_if.ensures.entered c.count_settled_if.ensures.not
     ∙ (λ i. (entered v s, (put i).1)) in
     let at2 : c.count_made_if.new.token.me ≡ (grown (entered v s) d.book, (0, Some d) ∷ []) =
     after_making (entered v s) d c.args.settled c.len-now.result c.differs-2.result c.count_settled_if.new.token.me c.count_made_if.new.token.me settled now adds c.differs-2.ensures.yes c.differs-2.ensures.no at1 c.count_made_if.ensures.counted c.count_made_if.ensures.not in
@@ -75,7 +75,7 @@ pass-requires-clause-home g c =
     let put : c.put_home.new.token.me ≡ (v, (0, Some d) ∷ []) = c.put_home.ensures.desk in
     let now : c.len-now.result ≡ size d.book = c.len-now.ensures.value ∙ ap size c.book.ensures.book in
     let at1 : c.count_settled_if.new.token.me ≡ (entered v s, (0, Some d) ∷ []) =
-    after_settling v s c.args.began c.args.settled c.differs.result c.put_home.new.token.me c.count_settled_if.new.token.me c.requires.began settled ways c.differs.ensures.yes c.differs.ensures.no (ap (λ (m : M). m.0) put) c.count_settled_if.ensures.entered c.count_settled_if.ensures.not
+    after_settling v s c.args.began c.args.settled c.differs.result c.put_home.new.token.me c.count_settled_if.new.token.me c.requires.began settled c.requires.doubt ways c.differs.ensures.yes c.differs.ensures.no (ap (λ (m : M). m.0) put) c.count_settled_if.ensures.entered c.count_settled_if.ensures.not
     ∙ (λ i. (entered v s, (put i).1)) in
     let at2 : c.count_made_if.new.token.me ≡ (grown (entered v s) d.book, (0, Some d) ∷ []) =
     after_making (entered v s) d c.args.settled c.len-now.result c.differs-2.result c.count_settled_if.new.token.me c.count_made_if.new.token.me settled now adds c.differs-2.ensures.yes c.differs-2.ensures.no at1 c.count_made_if.ensures.counted c.count_made_if.ensures.not in
@@ -97,7 +97,7 @@ returns-clause-ended g c s settled ways adds =
     let put : c.put_home.new.token.me ≡ (v, (0, Some d) ∷ []) = c.put_home.ensures.desk in
     let now : c.len-now.result ≡ size d.book = c.len-now.ensures.value ∙ ap size c.book.ensures.book in
     let at1 : c.count_settled_if.new.token.me ≡ (entered v s, (0, Some d) ∷ []) =
-    after_settling v s c.args.began c.args.settled c.differs.result c.put_home.new.token.me c.count_settled_if.new.token.me c.requires.began settled ways c.differs.ensures.yes c.differs.ensures.no (ap (λ (m : M). m.0) put) c.count_settled_if.ensures.entered c.count_settled_if.ensures.not
+    after_settling v s c.args.began c.args.settled c.differs.result c.put_home.new.token.me c.count_settled_if.new.token.me c.requires.began settled c.requires.doubt ways c.differs.ensures.yes c.differs.ensures.no (ap (λ (m : M). m.0) put) c.count_settled_if.ensures.entered c.count_settled_if.ensures.not
     ∙ (λ i. (entered v s, (put i).1)) in
     let at2 : c.count_made_if.new.token.me ≡ (grown (entered v s) d.book, (0, Some d) ∷ []) =
     after_making (entered v s) d c.args.settled c.len-now.result c.differs-2.result c.count_settled_if.new.token.me c.count_made_if.new.token.me settled now adds c.differs-2.ensures.yes c.differs-2.ensures.no at1 c.count_made_if.ensures.counted c.count_made_if.ensures.not in

@@ -1,19 +1,25 @@
-use Rattle.std.proofs.Common.{◌≡◌, [], None, ap, ◌∙◌}
+use Rattle.std.proofs.Common.{◌≡◌, [], None, ap, ◌∙◌, sym, subst}
 use Rattle.rv_book.specs.Book.{size}
 use Rattle.rv_desk.specs.Seated.{served}
-use Rattle.rv_history.specs.Served.{Settles}
+use Rattle.rv_history.specs.Served.{IsNoClosing, Settles}
+use Rattle.rv_history.specs.TurnLaws.{turn_no_closing}
 use Rattle.rv_turns.specs.Asks.{ask_of}
+use Rattle.rv_wire.specs.Answers.{pull_json}
 use Rattle.rv_room.specs.Ends.{end_view}
 use Rattle.rv_room.specs.Following.{follows_on}
 use Rattle.rv_room.specs.Plays.{Knows}
-use Rattle.rv_room.proofs.Ending.{goes_with, turn_adds, taken_of, taken_follows, taken_settles, ended_within, held_within}
+use Rattle.rv_room.proofs.Ending.{goes_with, turn_adds, taken_entry, taken_of, taken_follows, taken_settles, ended_within, held_within}
 use Rattle.rv_room.proofs.room.Room.turn_counted.Goals as goal
 
 pub end-requires-clause-of : goal.end-requires-clause-of
 end-requires-clause-of g c =
     let now = c.take_settled-outcome.new.self in
     taken_of g.K.Keeper c.args.seat.now.token.me.0 c.begin-desk.result now c.begin-desk.new.token.me c.begin-desk.ensures.view c.begin-desk.ensures.of (c.take_settled-outcome.ensures.turn.turn.limit ∙ c.settle.ensures.settled.limit)
+    (turn_no_closing pull_json (ask_of c.args.asked) c.take_settled-outcome.result (served g.K.Keeper.faults c.settle.new.self) (served g.K.Keeper.faults now) c.requires.asks (subst IsNoClosing (sym c.in-Ok.ensures.settled.settled.1) tt) c.take_settled-outcome.ensures.turn.turn)
     (follows_on g.K.Keeper _ _ _ (goes_with g.K.Keeper _ _ _ c.settle.ensures.assured c.settle.ensures.settled.later) (goes_with g.K.Keeper _ _ _ c.take_settled-outcome.ensures.turn.assured c.take_settled-outcome.ensures.turn.turn.later))
+
+pub end-requires-clause-doubt : goal.end-requires-clause-doubt
+end-requires-clause-doubt g c = taken_entry g.K.Keeper c.args.seat.now.token.me.0 c.begin-desk.result c.begin-desk.new.token.me c.begin-desk.ensures.view c.begin-desk.ensures.of
 
 pub end-requires-clause-follows : goal.end-requires-clause-follows
 end-requires-clause-follows g c =
@@ -29,12 +35,14 @@ end-requires-clause-settled g c =
       mid.book,
       c.len-settled.ensures.value ∙ ap size c.book-in-Ok.ensures.book,
       taken_settles g.K.Keeper c.args.seat.now.token.me.0 c.begin-desk.result c.begin-desk.new.token.me mid.book c.begin-desk.ensures.view st.0,
-      turn_adds (served g.K.Keeper.faults mid) (ask_of c.args.asked) c.take_settled-outcome.result (served g.K.Keeper.faults now) st.1 c.take_settled-outcome.ensures.turn.turn,
+      turn_adds (served g.K.Keeper.faults mid) (ask_of c.args.asked) c.take_settled-outcome.result (served g.K.Keeper.faults now) c.requires.asks st.1 c.take_settled-outcome.ensures.turn.turn,
     )
 
 pub end_held-requires-clause-of : goal.end_held-requires-clause-of
 end_held-requires-clause-of g c =
-    taken_of g.K.Keeper c.args.seat.now.token.me.0 c.begin-desk.result c.settle.new.self c.begin-desk.new.token.me c.begin-desk.ensures.view c.begin-desk.ensures.of c.settle.ensures.settled.limit (goes_with g.K.Keeper _ _ _ c.settle.ensures.assured c.settle.ensures.settled.later)
+    taken_of g.K.Keeper c.args.seat.now.token.me.0 c.begin-desk.result c.settle.new.self c.begin-desk.new.token.me c.begin-desk.ensures.view c.begin-desk.ensures.of c.settle.ensures.settled.limit
+    (subst IsNoClosing (sym c.in-Err.ensures.settled.settled.stays.1) c.begin-desk.ensures.of.2.doubt)
+    (goes_with g.K.Keeper _ _ _ c.settle.ensures.assured c.settle.ensures.settled.later)
 
 pub end_held-requires-clause-follows : goal.end_held-requires-clause-follows
 end_held-requires-clause-follows g c =
@@ -49,14 +57,14 @@ returns-in-Ok-clause-turn g c =
     let m = c.begin-desk.new.token.me in
     let eq : c.end.new.token.me ≡ (end_view m.0 mid.book now.book now.doubt now.keeper, []) =
     c.end.ensures.ended mid.book (c.len-settled.ensures.value ∙ ap size c.book-in-Ok.ensures.book) (taken_settles g.K.Keeper c.args.seat.now.token.me.0 c.begin-desk.result m mid.book c.begin-desk.ensures.view st.0)
-    (turn_adds (served g.K.Keeper.faults mid) (ask_of c.args.asked) c.take_settled-outcome.result (served g.K.Keeper.faults now) st.1 c.take_settled-outcome.ensures.turn.turn) in
-    ended_within g.K.Keeper c.args.seat.now.token.me.0 c.begin-desk.result mid now m (ask_of c.args.asked) c.take_settled-outcome.result c.end.new.token.me.0 c.begin-desk.ensures.view c.begin-desk.ensures.of c.begin-desk.ensures.begins c.begin-desk.ensures.later
+    (turn_adds (served g.K.Keeper.faults mid) (ask_of c.args.asked) c.take_settled-outcome.result (served g.K.Keeper.faults now) c.requires.asks st.1 c.take_settled-outcome.ensures.turn.turn) in
+    ended_within g.K.Keeper c.args.seat.now.token.me.0 c.begin-desk.result mid now m (ask_of c.args.asked) c.take_settled-outcome.result c.end.new.token.me.0 c.requires.asks c.begin-desk.ensures.view c.begin-desk.ensures.of c.begin-desk.ensures.begins c.begin-desk.ensures.later
     c.settle.result c.in-Ok.is c.settle.ensures.settled c.settle.ensures.assured c.take_settled-outcome.ensures.turn (ap (λ (m : M). m.0) eq) c.args.steps.now c.take_settled-outcome.new.steps c.take_settled-outcome.ensures.most
 
 pub returns-in-Err-clause-turn : goal.returns-in-Err-clause-turn
 returns-in-Err-clause-turn g c =
     let M : Type 0 = Knows g.row.K.Denot in
-    held_within g.K.Keeper c.args.seat.now.token.me.0 c.begin-desk.result c.settle.new.self c.begin-desk.new.token.me (ask_of c.args.asked) c.end_held.new.token.me.0 c.in-Err.trouble c.begin-desk.ensures.view c.begin-desk.ensures.of c.begin-desk.ensures.begins c.begin-desk.ensures.later
+    held_within g.K.Keeper c.args.seat.now.token.me.0 c.begin-desk.result c.settle.new.self c.begin-desk.new.token.me (ask_of c.args.asked) c.end_held.new.token.me.0 c.in-Err.trouble c.requires.asks c.begin-desk.ensures.view c.begin-desk.ensures.of c.begin-desk.ensures.begins c.begin-desk.ensures.later
     c.settle.result c.in-Err.is c.settle.ensures.settled c.settle.ensures.assured c.settle.ensures.kept (ap (λ (m : M). m.0) c.end_held.ensures.ended) c.args.steps.now
 
 pub invariant_of-seat : goal.invariant_of-seat
@@ -68,7 +76,7 @@ invariant_of-seat g c =
     let m = c.begin-desk.new.token.me in
     let eq : c.end.new.token.me ≡ (end_view m.0 mid.book now.book now.doubt now.keeper, []) =
     c.end.ensures.ended mid.book (c.len-settled.ensures.value ∙ ap size c.book-in-Ok.ensures.book) (taken_settles g.K.Keeper c.args.seat.now.token.me.0 c.begin-desk.result m mid.book c.begin-desk.ensures.view st.0)
-    (turn_adds (served g.K.Keeper.faults mid) (ask_of c.args.asked) c.take_settled-outcome.result (served g.K.Keeper.faults now) st.1 c.take_settled-outcome.ensures.turn.turn) in record {
+    (turn_adds (served g.K.Keeper.faults mid) (ask_of c.args.asked) c.take_settled-outcome.result (served g.K.Keeper.faults now) c.requires.asks st.1 c.take_settled-outcome.ensures.turn.turn) in record {
       idle = (ap (λ (m : M). m.0.waits) eq, ap (λ (m : M). m.0.turns) eq);
       one = ap (λ (m : M). m.0.parts) eq ∙ (ap (λ (m : M). m.0.parts) c.begin-desk.ensures.view.1 ∙ c.args.seat.now.one);
       bare = ap (λ (m : M). m.1) eq;

@@ -7,7 +7,7 @@ use Rattle.rv_room.proofs.room.Room.turn_mark.Goals as goal
 pub end_held-requires-clause-of : goal.end_held-requires-clause-of
 end_held-requires-clause-of g c =
     let desk = c.begin-desk.result in
-    taken_of g.K.Keeper c.args.seat.now.token.me.0 desk desk c.begin-desk.new.token.me c.begin-desk.ensures.view c.begin-desk.ensures.of refl (follows_same g.K.Keeper desk.keeper)
+    taken_of g.K.Keeper c.args.seat.now.token.me.0 desk desk c.begin-desk.new.token.me c.begin-desk.ensures.view c.begin-desk.ensures.of refl c.begin-desk.ensures.of.2.doubt (follows_same g.K.Keeper desk.keeper)
 
 pub end_held-requires-clause-follows : goal.end_held-requires-clause-follows
 end_held-requires-clause-follows g c =
