@@ -19,7 +19,7 @@ impl<K: Keeper> Room<K> {
     /// A turn of a seat: it waits for the turn, and then the desk takes one. It asks anything but that the book be closed.
     pub fn turn(&self, rt: &impl Wait, seat: &mut Seat<K>, asked: Asked<'_>) -> Outcome
         requires room { room_of seat.old ≡ id_of self.now }
-        requires asks { ¬ IsClosing (ask_of asked.entry) }
+        requires asks { ¬ IsClosing (ask_of asked) }
         ensures same { room_of seat.new ≡ room_of seat.old }
         ensures turn { IsSeatTurn K.Keeper (view_of seat.old) (ask_of asked.entry) result (view_of seat.new) }
     {
@@ -35,7 +35,7 @@ impl<K: Keeper> Room<K> {
         steps: &mut Steps<L>,
     ) -> Outcome
         requires room { room_of seat.old ≡ id_of self.now }
-        requires asks { ¬ IsClosing (ask_of asked.entry) }
+        requires asks { ¬ IsClosing (ask_of asked) }
         ensures same { room_of seat.new ≡ room_of seat.old }
         ensures turn { IsSeatTurnWithin K.Keeper (view_of seat.old) (ask_of asked.entry) result (view_of seat.new) steps.old steps.new }
     {
@@ -132,7 +132,7 @@ fn turn_from<R: Wait, K: Keeper, L: Ledger>(
     blank: Blank,
 ) -> Outcome
     requires room { room_of seat.old ≡ id_of room.now }
-    requires asks { ¬ IsClosing (ask_of asked.entry) }
+    requires asks { ¬ IsClosing (ask_of asked) }
     requires name { blank.name ≡ L.name }
     requires parts { (blank.parts ≡ L.parts) × (0 < L.parts) }
     ensures same { room_of seat.new ≡ room_of seat.old }
