@@ -1,13 +1,9 @@
 // Mutations where nothing is in doubt.
-ghost use Rattle.std.specs.Prelude.{◌≡◌, ◌≤◌, ◌<◌, ◌+◌, None, IfOk};
-ghost use Rattle.rv_book.specs.declared.entry.Entry.TheVariants.{Act};
+ghost use Rattle.std.specs.Prelude.{◌≡◌, ◌≤◌, None};
 ghost use Rattle.rv_book.specs.Book.{last, size};
-ghost use Rattle.rv_history.specs.Groups.{Admits};
-ghost use Rattle.rv_history.specs.Lawful.{IsLawfulAfter};
 ghost use Rattle.rv_history.specs.Machine.{TakesMutation};
-ghost use Rattle.rv_history.specs.Served.{Next};
 ghost use Rattle.rv_turns.specs.Asks.{Ask};
-ghost use Rattle.rv_desk.specs.Keeping.{IsKept, keep_trouble};
+ghost use Rattle.rv_desk.specs.Keeping.{keep_trouble};
 ghost use Rattle.rv_desk.specs.Seated.{Assures, served};
 ghost use Rattle.rv_desk.specs.Stepping.{HasStepped};
 
@@ -34,41 +30,24 @@ impl<K: Keeper> Desk<K> {
         ensures stepped { HasStepped (served K.faults self.old) (Ask.mutation (record { user = user.now; group = group.now }) (record { client = client.now; id = id; call = call })) result (served K.faults self.new) }
         ensures assured { Assures K.tells K.fails_no_more self.old.keeper (keep_trouble result) self.new.keeper }
     {
-        match admits(self.state.book(), user, group) {
+        let book = self.state.book();
+        match admits(book, user, group) {
             Admission::OfOther => Ok(Outcome::Refused(Refusal::GroupOfOther)),
             Admission::Retired => Ok(Outcome::Refused(Refusal::NotFound)),
-            Admission::Open { at } => self.run_admitted(user, group, client, id, call, at),
+            Admission::Open { at: group_at } => match last_of(book, client, group) {
+                Numbering::Elsewhere => Ok(Outcome::Refused(Refusal::ClientOfOther)),
+                Numbering::Last { last, at } => {
+                    let found = Found {
+                        group: group_at,
+                        client: at,
+                    };
+                    self.run_after(user, group, client, id, call, last, found)
+                }
+            },
         }
     }
 
-    // A mutation of a group that its user may use, and that the book has at an index.
-    fn run_admitted(
-        &mut self,
-        user: &User,
-        group: &Id,
-        client: &Id,
-        id: Num,
-        call: Call,
-        group_at: usize,
-    ) -> Result<Outcome, KeepFault>
-        requires settled { self.old.doubt ≡ None }
-        requires admits { Admits user.now group.now self.old.book }
-        ensures stepped { HasStepped (served K.faults self.old) (Ask.mutation (record { user = user.now; group = group.now }) (record { client = client.now; id = id; call = call })) result (served K.faults self.new) }
-        ensures assured { Assures K.tells K.fails_no_more self.old.keeper (keep_trouble result) self.new.keeper }
-    {
-        match last_of(self.state.book(), client, group) {
-            Numbering::Elsewhere => Ok(Outcome::Refused(Refusal::ClientOfOther)),
-            Numbering::Last { last, at } => {
-                let found = Found {
-                    group: group_at,
-                    client: at,
-                };
-                self.run_after(user, group, client, id, call, last, found)
-            }
-        }
-    }
-
-    // A mutation of a client of the group, after its last one.
+    // A mutation of a client of the group, after its last one: where it is the next, its act is kept.
     fn run_after(
         &mut self,
         user: &User,
@@ -103,40 +82,20 @@ impl<K: Keeper> Desk<K> {
                 Num::from_u64(u64::from(book.len())),
             )));
         }
-        match self.act(user, group, client, id, call, found) {
-            Ok(place) => Ok(Outcome::Acted(place)),
-            Err(fault) => Err(fault),
-        }
-    }
-
-    // Keeps an act.
-    fn act(
-        &mut self,
-        user: &User,
-        group: &Id,
-        client: &Id,
-        id: Num,
-        call: Call,
-        found: Found,
-    ) -> Result<u32, KeepFault>
-        requires settled { self.old.doubt ≡ None }
-        requires within_limit { size self.old.book < self.old.limit }
-        requires lawful { IsLawfulAfter self.old.book (Act user.now group.now client.now id call) }
-        ensures kept { IsKept (served K.faults self.old) (Next.entry (Act user.now group.now client.now id call)) result (served K.faults self.new) }
-        ensures assured { Assures K.tells K.fails_no_more self.old.keeper (keep_trouble result) self.new.keeper }
-        ensures place { IfOk result (λ place. place ≡ size self.old.book + 1) }
-    {
-        let place = self.state.book().len() + 1;
+        let place = book.len() + 1;
         let prepared = self
             .state
             .prepare_act(user, group, client, id, call, found)?;
-        keep(
+        match keep(
             self.alloc,
             &mut self.state,
             &mut self.doubt,
             &mut self.keeper,
             prepared,
-        )?;
-        Ok(place)
+        ) {
+            Ok(()) => Ok(Outcome::Acted(place)),
+            Err(KeepFault::Failed) => Err(KeepFault::Failed),
+            Err(KeepFault::Memory) => Err(KeepFault::Memory),
+        }
     }
 }

@@ -20,29 +20,14 @@ impl<K: Keeper> Desk<K> {
         ensures turn { DeskTakes K.Keeper self.old (ask_of asked.entry) result self.new }
         ensures most { steps.new ≤ steps.old + turn_entries (ask_of asked.entry) self.old.book }
     {
-        match self.step_kept(asked, steps) {
+        let stepped = self.step(asked, steps);
+        // The book tells that it is kept.
+        let _book = self.book();
+        match stepped {
             Ok(outcome) => outcome,
             Err(KeepFault::Failed) => Outcome::Refused(Refusal::Trouble(Trouble::Keeper)),
             Err(KeepFault::Memory) => Outcome::Refused(Refusal::Memory),
         }
-    }
-
-    // A step where nothing is in doubt, after which the book is kept.
-    fn step_kept<L: Ledger>(
-        &mut self,
-        asked: Asked<'_>,
-        steps: &mut Steps<L>,
-    ) -> Result<Outcome, KeepFault>
-        requires settled { self.old.doubt ≡ None }
-        ensures stepped { HasStepped (served K.faults self.old) (ask_of asked.entry) result (served K.faults self.new) }
-        ensures assured { Assures K.tells K.fails_no_more self.old.keeper (keep_trouble result) self.new.keeper }
-        ensures kept { KeepsBook K.Keeper self.new.keeper self.new.book self.new.doubt }
-        ensures most { steps.new ≤ steps.old + turn_entries (ask_of asked.entry) self.old.book }
-    {
-        let stepped = self.step(asked, steps);
-        // The book tells that it is kept.
-        let _book = self.book();
-        stepped
     }
 
     // A step where nothing is in doubt.

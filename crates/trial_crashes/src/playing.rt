@@ -1,12 +1,10 @@
 // Lines that a desk answers, over any store.
 use crate::held::Held;
-use rv_answering::{Answer, Line, Parsed, line_of, serve_asked};
+use rv_answering::{Answer, Line, line_of, serve_asked};
 use rv_base::Memory;
-use rv_desk::{ClosableDesk, Desk, OpenFault, TurningDesk};
+use rv_desk::{Desk, OpenFault};
 use rv_keeper::Keeper;
 use rv_sqlite::SqliteKeeper;
-use rv_turns::CloseAnswer;
-use rv_wire::ErrorBody;
 use sqlite::{Alter, Connection};
 use std::alloc::Global;
 
@@ -75,68 +73,29 @@ impl Told {
     }
 }
 
-// Answers what was read of a line.
-fn serve<K: Keeper>(
-    desk: ClosableDesk<K>,
-    read: Parsed,
-    told: &mut Told,
-) -> (End, ClosableDesk<K>) {
-    let mut turning = TurningDesk::new(desk);
-    let end = told.hear(&serve_asked(&mut turning, read));
-    (end, turning.into_desk())
-}
-
-// What a closing is answered.
-fn answer_of_closing(answer: CloseAnswer) -> Answer {
-    match answer {
-        CloseAnswer::ClosedAt(place) => Answer::Closed(place),
-        CloseAnswer::Refused(refusal) => Answer::Refused(ErrorBody::Refused(refusal)),
-    }
-}
-
-// Closes the book.
-fn close_book<K: Keeper>(desk: ClosableDesk<K>, told: &mut Told) -> (End, ClosableDesk<K>) {
-    let (answer, desk) = desk.close_book();
-    (told.hear(&answer_of_closing(answer)), desk)
-}
-
 // Answers a line.
-fn answer_line<K: Keeper>(
-    alloc: Global,
-    desk: ClosableDesk<K>,
-    line: &str,
-    told: &mut Told,
-) -> (End, ClosableDesk<K>) {
+fn answer_line<K: Keeper>(alloc: Global, desk: &mut Desk<K>, line: &str, told: &mut Told) -> End {
     match line_of(alloc, line.as_bytes()) {
-        Ok(Some(Line::Asks(read))) => serve(desk, read, told),
-        Ok(Some(Line::Close)) => close_book(desk, told),
-        _ => (End::Wrong, desk),
+        Ok(Some(Line::Asks(read))) => told.hear(&serve_asked(desk, read)),
+        _ => End::Wrong,
     }
 }
 
 // Answers lines up to the first answer that tells a trouble.
-fn answer_lines<K: Keeper>(
-    alloc: Global,
-    desk: ClosableDesk<K>,
-    lines: &[String],
-    told: &mut Told,
-) -> ClosableDesk<K> {
-    let mut desk = desk;
+fn answer_lines<K: Keeper>(alloc: Global, desk: &mut Desk<K>, lines: &[String], told: &mut Told) {
     for line in lines {
-        let (end, left) = answer_line(alloc, desk, line.as_str(), told);
-        desk = left;
-        told.end = end;
-        if end != End::Done {
-            return desk;
+        told.end = answer_line(alloc, desk, line.as_str(), told);
+        if told.end != End::Done {
+            return;
         }
     }
-    desk
 }
 
 // What a desk answers to lines, and its keeper.
 fn told_by<K: Keeper>(alloc: Global, desk: Desk<K>, lines: &[String]) -> (Told, K) {
+    let mut desk = desk;
     let mut told = Told::nothing(alloc, End::Done);
-    let desk = answer_lines(alloc, ClosableDesk::Open(desk), lines, &mut told);
+    answer_lines(alloc, &mut desk, lines, &mut told);
     told.length = u64::from(desk.book().len());
     (told, desk.close())
 }
