@@ -21,7 +21,7 @@ abbrev pub Leads : Book → Next → List Change → Type 0
 Leads book next changes = (cells : List Cell) → AreCellsOf book cells → AreCellsOf (with_next book next) (changed cells changes)
 
 pub kept_next : (book : Book) (next : Next) (changes : List Change) (held : Loaded) → Leads book next changes → MayFollow book next → IsKeptAs book held → IsKeptAs (with_next book next) (committed (size book) changes held)
-kept_next book next changes held leads may kept = record { cells = leads held.cells kept.cells; generation = sym (size-with_next book next) }
+kept_next book next changes held leads may kept = record { cells = leads held.cells kept.cells; generation = sym (size-with_next book next may) }
 
 -- where nothing is in doubt, it is kept as the book
 pub kept_surely : (book : Book) (held : Loaded) → IsKeptWith book None held → IsKeptAs book held
