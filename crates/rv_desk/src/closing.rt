@@ -46,8 +46,7 @@ impl<K: Keeper> Desk<K> {
             prepared,
         ) {
             Ok(()) => Ok(Outcome::Closed(place)),
-            Err(KeepFault::Failed) => Err(KeepFault::Failed),
-            Err(KeepFault::Memory) => Err(KeepFault::Memory),
+            Err(fault) => Err(fault),
         }
     }
 }

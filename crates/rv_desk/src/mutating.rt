@@ -94,8 +94,7 @@ impl<K: Keeper> Desk<K> {
             prepared,
         ) {
             Ok(()) => Ok(Outcome::Acted(place)),
-            Err(KeepFault::Failed) => Err(KeepFault::Failed),
-            Err(KeepFault::Memory) => Err(KeepFault::Memory),
+            Err(fault) => Err(fault),
         }
     }
 }

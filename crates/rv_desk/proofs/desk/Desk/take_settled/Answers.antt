@@ -7,19 +7,19 @@ pub returns-in-Ok-clause-turn : goal.returns-in-Ok-clause-turn
 returns-in-Ok-clause-turn g c = record {
   turn = turn_stepped (ask_of c.args.asked) c.in-Ok.outcome (served g.K.Keeper.faults c.args.self.now) (served g.K.Keeper.faults c.step-stepped.new.self) c.in-Ok.ensures.stepped;
   assured = rw c.in-Ok.ensures.stepped.stepped.1 c.in-Ok.ensures.assured;
-  kept = record { held = c.book.ensures.held; left = c.book.ensures.left };
+  kept = record { held = c.book-book.ensures.held; left = c.book-book.ensures.left };
 }
 
 pub returns-in-Err-Failed-clause-turn : goal.returns-in-Err-Failed-clause-turn
 returns-in-Err-Failed-clause-turn g c = record {
-  turn = turn_failed (ask_of c.args.asked) (served g.K.Keeper.faults c.args.self.now) (served g.K.Keeper.faults c.step-stepped.new.self) (rw c.in-Err-Failed.field-0-is at c.in-Err-Failed.ensures.stepped);
-  assured = rw c.in-Err-Failed.field-0-is at c.in-Err-Failed.ensures.assured;
-  kept = record { held = c.book.ensures.held; left = c.book.ensures.left };
+  turn = turn_failed (ask_of c.args.asked) (served g.K.Keeper.faults c.args.self.now) (served g.K.Keeper.faults c.step-stepped.new.self) (rw (c.in-Err-Failed.is, c.in-Err-Failed.field-0-is) at c.step-stepped.ensures.stepped);
+  assured = rw (c.in-Err-Failed.is, c.in-Err-Failed.field-0-is) at c.step-stepped.ensures.assured;
+  kept = record { held = c.book-book.ensures.held; left = c.book-book.ensures.left };
 }
 
 pub returns-in-Err-Memory-clause-turn : goal.returns-in-Err-Memory-clause-turn
 returns-in-Err-Memory-clause-turn g c = record {
-  turn = turn_refused (ask_of c.args.asked) (served g.K.Keeper.faults c.args.self.now) (served g.K.Keeper.faults c.step-stepped.new.self) (rw c.in-Err-Memory.field-0-is at c.in-Err-Memory.ensures.stepped);
-  assured = rw c.in-Err-Memory.field-0-is at c.in-Err-Memory.ensures.assured;
-  kept = record { held = c.book.ensures.held; left = c.book.ensures.left };
+  turn = turn_refused (ask_of c.args.asked) (served g.K.Keeper.faults c.args.self.now) (served g.K.Keeper.faults c.step-stepped.new.self) (rw (c.in-Err-Memory.is, c.in-Err-Memory.field-0-is) at c.step-stepped.ensures.stepped);
+  assured = rw (c.in-Err-Memory.is, c.in-Err-Memory.field-0-is) at c.step-stepped.ensures.assured;
+  kept = record { held = c.book-book.ensures.held; left = c.book-book.ensures.left };
 }
