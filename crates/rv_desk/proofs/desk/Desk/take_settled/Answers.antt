@@ -1,3 +1,5 @@
+use Rattle.std.proofs.Common.{◌≡◌}
+use Rattle.rv_keeper.specs.declared.fault.KeepFault.TheVariants.{Failed, Memory}
 use Rattle.rv_turns.specs.Asks.{ask_of}
 use Rattle.rv_desk.specs.Seated.{served}
 use Rattle.rv_desk.proofs.Settled.{turn_failed, turn_refused, turn_stepped}
@@ -11,15 +13,23 @@ returns-in-Ok-clause-turn g c = record {
 }
 
 pub returns-in-Err-Failed-clause-turn : goal.returns-in-Err-Failed-clause-turn
-returns-in-Err-Failed-clause-turn g c = record {
-  turn = turn_failed (ask_of c.args.asked) (served g.K.Keeper.faults c.args.self.now) (served g.K.Keeper.faults c.step-stepped.new.self) (rw (c.in-Err-Failed.is, c.in-Err-Failed.field-0-is) at c.step-stepped.ensures.stepped);
-  assured = rw (c.in-Err-Failed.is, c.in-Err-Failed.field-0-is) at c.step-stepped.ensures.assured;
-  kept = record { held = c.book-book.ensures.held; left = c.book-book.ensures.left };
-}
+returns-in-Err-Failed-clause-turn g c =
+    let fault : c.in-Err-Failed.field-0 ≡ Failed = rw c.in-Err-Failed.is at c.in-Err-Failed.field-0-is in
+    let stepped = rw c.in-Err-Failed.is at c.step-stepped.ensures.stepped in
+    let assured = rw c.in-Err-Failed.is at c.step-stepped.ensures.assured in
+    record {
+      turn = turn_failed (ask_of c.args.asked) (served g.K.Keeper.faults c.args.self.now) (served g.K.Keeper.faults c.step-stepped.new.self) (rw fault at stepped);
+      assured = rw fault at assured;
+      kept = record { held = c.book-book.ensures.held; left = c.book-book.ensures.left };
+    }
 
 pub returns-in-Err-Memory-clause-turn : goal.returns-in-Err-Memory-clause-turn
-returns-in-Err-Memory-clause-turn g c = record {
-  turn = turn_refused (ask_of c.args.asked) (served g.K.Keeper.faults c.args.self.now) (served g.K.Keeper.faults c.step-stepped.new.self) (rw (c.in-Err-Memory.is, c.in-Err-Memory.field-0-is) at c.step-stepped.ensures.stepped);
-  assured = rw (c.in-Err-Memory.is, c.in-Err-Memory.field-0-is) at c.step-stepped.ensures.assured;
-  kept = record { held = c.book-book.ensures.held; left = c.book-book.ensures.left };
-}
+returns-in-Err-Memory-clause-turn g c =
+    let fault : c.in-Err-Memory.field-0 ≡ Memory = rw c.in-Err-Memory.is at c.in-Err-Memory.field-0-is in
+    let stepped = rw c.in-Err-Memory.is at c.step-stepped.ensures.stepped in
+    let assured = rw c.in-Err-Memory.is at c.step-stepped.ensures.assured in
+    record {
+      turn = turn_refused (ask_of c.args.asked) (served g.K.Keeper.faults c.args.self.now) (served g.K.Keeper.faults c.step-stepped.new.self) (rw fault at stepped);
+      assured = rw fault at assured;
+      kept = record { held = c.book-book.ensures.held; left = c.book-book.ensures.left };
+    }
