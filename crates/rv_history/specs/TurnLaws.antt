@@ -100,7 +100,7 @@ module _ (write : ReplyText) (ask : Ask) (outcome : Outcome) (old new : Served) 
 
   step_by : (settled : Book) (left : Doubt) (trouble : Option Trouble) → trouble ≡ None → TurnOf write old settled ask outcome left trouble new → Step write old.limit settled ask outcome new.book × (new.faults ≡ old.faults)
   step_by settled None None none (step, doubt, still) = (step, still)
-  step_by settled (Some entry) None none never = absurd never
+  step_by settled (Some next) None none never = absurd never
   step_by settled left (Some trouble) none turn = absurd (cc)
 
   pub step_of : (taken : TakesTurn write old ask outcome new) → trouble_of outcome ≡ None → Step write old.limit taken.settled ask outcome new.book
