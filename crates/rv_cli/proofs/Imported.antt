@@ -1,5 +1,5 @@
 -- From what came of an input at a desk to what `import` promises.
-use Rattle.std.proofs.Common.{◌≡◌, ◌≢◌, ℕ, ◌≤◌, ◌⊎◌, List, [], ◌∷◌, Result, Ok, Err, refl, sym, ap, ◌∙◌, subst, arith, inl, inr}
+use Rattle.std.proofs.Common.{◌≡◌, ◌≢◌, ℕ, ◌≤◌, ◌⊎◌, List, [], ◌∷◌, Contains, lit<, Result, Ok, Err, refl, sym, ap, ◌∙◌, subst, arith, inl, inr}
 use Rattle.rv_base.specs.Causes.{Rose}
 use Rattle.rv_base.specs.Outside.{InputState, OutputState}
 use Rattle.rv_keeper.specs.declared.keeper.Keeper.{Ghosts}
@@ -20,7 +20,8 @@ use Rattle.rv_cli.specs.declared.input_fault.InputFault.{InputFault}
 use Rattle.rv_cli.specs.declared.input_fault.InputFault.TheVariants as faults
 use Rattle.rv_cli.specs.Change.{StoreChange, change}
 use Rattle.rv_cli.specs.Headline.{IsNotOpened, WritesOnly}
-use Rattle.rv_cli.specs.Importing.{HasImported, ImportsInput, ImportsWith, IsImportStatus, TakesNear, WritesCame, WritesCounts}
+use Rattle.rv_cli.specs.ImportPromise.{import_statuses}
+use Rattle.rv_cli.specs.Importing.{HasImported, ImportsInput, ImportsWith, TakesNear, WritesCame, WritesCounts}
 use Rattle.rv_cli.specs.Input.{WholeIsSteady}
 use Rattle.rv_cli.specs.Storing.{HasOpened}
 use Rattle.rv_cli.specs.Texts.{import_ending_text, import_status, status_of}
@@ -94,14 +95,14 @@ has_imported {P} {K} place G store old mid new desk user name told input input' 
 
 -- ---- The statuses.
 
-pub import_complete : (ending : ImportEnding) → IsImportStatus (import_status ending)
-import_complete Done = inl refl
-import_complete Read = inr (inr (inr (inl refl)))
-import_complete TooLarge = inr (inr (inr (inr (inr (inr (inl refl))))))
-import_complete (BadRecord n) = inr (inr (inr (inr (inr (inr (inl refl))))))
-import_complete (Refused refusal) = inr (inr (inr (inr (inr (inr (inr refl))))))
-import_complete Memory = inr (inr (inr (inr (inr (inl refl)))))
-import_complete Write = inr (inr (inr (inr (inl refl))))
+pub import_among : (ending : ImportEnding) → Contains import_statuses (import_status ending)
+import_among Done = (0, lit< tt, refl)
+import_among Read = (3, lit< tt, refl)
+import_among TooLarge = (6, lit< tt, refl)
+import_among (BadRecord n) = (6, lit< tt, refl)
+import_among (Refused refusal) = (7, lit< tt, refl)
+import_among Memory = (5, lit< tt, refl)
+import_among Write = (4, lit< tt, refl)
 
 pub import_not_four : (ending : ImportEnding) → import_status ending ≢ 4
 import_not_four Done is = omega (arith, is)
@@ -245,13 +246,6 @@ refused_as c endings.Done status why is = absurd why
 refused_as c endings.Read status why is = absurd why
 refused_as c endings.Write status why is = absurd why
 refused_as c (endings.Malformed number) status why is = absurd why
-
-pub refused_complete : (before after status : ℕ) → RefusedAs before after status → IsImportStatus status
-refused_complete before after status refused = elim refused.how as (λ _. IsImportStatus status) [
-  | inl four ↦ inr (inl four.0)
-  | inr (inl five) ↦ inr (inr (inl five))
-  | inr (inr eight) ↦ inr (inr (inr (inr (inr (inl eight)))))
-]
 
 pub refused_rose : (before after status : ℕ) → RefusedAs before after status → status ≡ 4 → Rose before after
 refused_rose before after status refused is = elim refused.how as (λ _. Rose before after) [

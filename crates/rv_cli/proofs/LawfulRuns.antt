@@ -4,7 +4,7 @@ use Rattle.rv_book.specs.Book.{Book, size, Extends}
 use Rattle.rv_book.specs.BookWords.{extends_same}
 use Rattle.rv_history.specs.Machine.{Step}
 use Rattle.rv_history.specs.Closing.{Closes, GoesOnFrom}
-use Rattle.rv_history.specs.Served.{Doubt, IsSound, KeepsLaw, MayStand, Next, Served, Settles, TakesTurn}
+use Rattle.rv_history.specs.Served.{Doubt, IsSound, KeepsLaw, MayStand, Next, Served, Settles, TakesTurn, with_doubt}
 use Rattle.rv_history.specs.TurnLaws.{goes_from, step_of}
 use Rattle.rv_history.specs.Laws.{IdsCountUp, IsEntered, OrdersRise, PushesStand, TurnsKeepLaw, PullsShow}
 use Rattle.rv_answering.specs.declared.answer.Answer.{Answer}
@@ -61,12 +61,15 @@ kept_law : (Told : Type 0) (old new : Served) → KeepsLaw old new → KeptLawfu
 kept_law Told old new goes = record { sound = goes.sound; more = λ told. goes.more; later = goes.later; limit = λ is. goes.limit ∙ is }
 
 -- settling what is in doubt is going on
+settled_goes : (limit : ℕ) (book settled : Book) (doubt : Doubt) → MayStand book limit doubt → settled ≡ with_doubt book doubt → GoesOnFrom book settled
+settled_goes limit book settled None next is = goes_on_same book settled is
+settled_goes limit book settled (Some (Next.entry entry)) next is = ([], (entry ∷ [], is))
+settled_goes limit book settled (Some (Next.closed closed)) next is =
+    ((book, settled) ∷ [], (extends_same book book refl, subst (λ (b : Book). Closes book b) (sym is) next.0, extends_same settled settled refl))
+
 settling_goes : (limit : ℕ) (book settled : Book) (doubt : Doubt) → MayStand book limit doubt → Settles book doubt settled → GoesOnFrom book settled
 settling_goes limit book settled doubt next (inl same) = goes_on_same book settled same
-settling_goes limit book settled None next (inr same) = goes_on_same book settled same
-settling_goes limit book settled (Some (Next.entry entry)) next (inr is) = ([], (entry ∷ [], is))
-settling_goes limit book settled (Some (Next.closed closed)) (closes, below) (inr is) =
-    ((book, settled) ∷ [], (extends_same book book refl, subst (λ (b : Book). Closes book b) (sym is) closes, extends_same settled settled refl))
+settling_goes limit book settled doubt next (inr is) = settled_goes limit book settled doubt next is
 
 kept_reopened : (Told : Type 0) (old new : Served) → IsSound old → Reopens Told old new → KeptLawful Told old new
 kept_reopened Told old new sound r = record {

@@ -12,4 +12,5 @@ mod Inputs
 mod Imported
 mod Reporting
 mod Steady
-mod Named
+mod Kept
+mod Obeying

@@ -14,7 +14,7 @@ use Rattle.rv_keeper.specs.declared.keeper.Keeper.{Ghosts}
 use Rattle.rv_desk.specs.Seated.{Seated, served}
 use Rattle.rv_answering.specs.declared.answer.Answer.{Answer}
 use Rattle.rv_answering.specs.declared.answer.Answer.TheVariants.{Closed, Pulled, Pushed, Refused, Retired}
-use Rattle.rv_answering.specs.declared.request.Request.TheVariants.{Push, Pull, Retire}
+use Rattle.rv_answering.specs.declared.request.Request.TheVariants.{Close, Push, Pull, Retire}
 use Rattle.rv_answering.specs.Requests.{Parsed}
 use Rattle.rv_answering.specs.Steps.{Handles}
 use Rattle.rv_net.specs.declared.listen.Listen.{Ghosts as ListenGhosts}
@@ -110,7 +110,7 @@ none_rises top before now rose begun le below = omega (arith, rose, begun, le, b
 module _ {K : Type 0} (G : Ghosts K) (ask : Ask) (old new : SeatView K) (outcome : Outcome) (turn : IsSeatTurn G old ask outcome new) where
   seat_goes : SeatGoes old new
   seat_goes =
-      let (more, is) = turn_goes pull_json ask outcome (served G.faults turn.desk) (served G.faults turn.now) turn.takes.turn in
+      let (more, is) = turn_goes pull_json ask outcome (served G.faults turn.desk) (served G.faults turn.now) turn.asks turn.keeps.doubt turn.takes.turn in
       record { seen = extends_on new.seen turn.desk.book old.seen (more, turn.seen ∙ is) turn.begins; after = (turn.now.keeper ∷ [], turn.after); opened = turn.stays }
 
   -- where it tells a trouble, the keeper's count rose
@@ -167,7 +167,7 @@ module _ {K : Type 0} (G : Ghosts K) where
         point = taken.settled;
         new = here.now.book;
         shows = pulled_shown show here.desk.limit user request reply taken.settled here.now.book step;
-        here = goes_from pull_json (Ask.pull user request) (outcomes.Pulled reply) (served G.faults here.desk) (served G.faults here.now) taken;
+        here = goes_from pull_json (Ask.pull user request) (outcomes.Pulled reply) (served G.faults here.desk) (served G.faults here.now) (λ never. never) taken;
         within = subst (λ (b : Book). Extends book b) here.seen within;
       }
 
@@ -177,6 +177,7 @@ module _ {K : Type 0} (G : Ghosts K) where
   shown_step show book old new (Ok (Pull user pull)) reply within (acted, inl wants) = absurd (let no = wants.0 in cc)
   shown_step show book old new (Ok (Pull user pull)) reply within (acted, inr (outcome, h, is, none)) = shown_pull show book old new user pull reply outcome within (pulled_same reply outcome is) h
   shown_step show book old new (Ok (Retire group)) reply within (acted, (outcome, h, is, none)) = absurd (no_retirement (served G.faults h.desk) (served G.faults h.now) group reply outcome is h.takes.turn)
+  shown_step show book old new (Ok Close) reply within (acted, (outcome, h, is, none)) = absurd (h.asks tt)
   shown_step show book old new (Err fault) reply within (acted, inl wants) = absurd (let no = wants.0 in cc)
   shown_step show book old new (Err fault) reply within (acted, inr told) = absurd (let no = told.0 in cc)
 

@@ -1,5 +1,5 @@
 -- From the accounts, the desk of a store, a net that it served and the keeper that went back, to what `serve` promises.
-use Rattle.std.proofs.Common.{◌≡◌, ◌≢◌, ◌⊎◌, ⊎_elim, ℕ, List, [], ◌∷◌, length, Result, Ok, Err, refl, sym, ap, ◌∙◌, subst, arith, inl, inr}
+use Rattle.std.proofs.Common.{◌≡◌, ◌≢◌, ◌⊎◌, ⊎_elim, ℕ, List, [], ◌∷◌, length, Contains, Result, Ok, Err, refl, lit<, sym, ap, ◌∙◌, subst, arith, inl, inr}
 use Rattle.rv_base.specs.Causes.{Rose}
 use Rattle.rv_base.specs.Outside.{OutputState}
 use Rattle.rv_accounts.specs.File.{AccountsServed}
@@ -10,6 +10,7 @@ use Rattle.rv_keeper.specs.declared.loaded.Loaded.{Loaded}
 use Rattle.rv_keeper.specs.declared.place.Place.{Ghosts as PlaceGhosts}
 use Rattle.rv_keeper.specs.Stores.{OpensAs}
 use Rattle.rv_desk.specs.Seated.{Seated, KeepsBook, served}
+use Rattle.rv_cli.specs.ServePromise.{serve_statuses}
 use Rattle.rv_book.specs.Book.{Book, size}
 use Rattle.rv_base.specs.declared.memory.Memory.{Memory as MemoryFault}
 use Rattle.rv_room.specs.declared.view.SeatView.{SeatView}
@@ -265,10 +266,7 @@ pub record ServeFacts (before after net net' : ℕ) (out out' : OutputState) (st
   pub net_rose : status ≡ 9 → Rose net net'
   pub write : status ≡ 7 → Rose out.faults out'.faults
   pub write_told : (status ≡ 7) ⊎ (out'.faults ≡ out.faults) ⊎ ((status ≢ 0) × Rose out.faults out'.faults)
-  pub complete : (status ≡ 0) ⊎ (status ≡ 3) ⊎ (status ≡ 4) ⊎ (status ≡ 5) ⊎ (status ≡ 7) ⊎ (status ≡ 8) ⊎ (status ≡ 9)
-
-abbrev IsServeStatus : ℕ → Type 0
-IsServeStatus status = (status ≡ 0) ⊎ (status ≡ 3) ⊎ (status ≡ 4) ⊎ (status ≡ 5) ⊎ (status ≡ 7) ⊎ (status ≡ 8) ⊎ (status ≡ 9)
+  pub complete : Contains serve_statuses status
 
 only_written : (out out' : OutputState) (text : List ℕ) (status : ℕ) → WritesOnly out out' text → status ≢ 0
     → (status ≡ 7) ⊎ (out'.faults ≡ out.faults) ⊎ ((status ≢ 0) × Rose out.faults out'.faults)
@@ -280,7 +278,7 @@ module _ (c : StoreChange) (net net' : ℕ) (out out' : OutputState) (status : �
   Facts = ServeFacts c.before c.after net net' out out' status
 
   -- a status that tells neither a trouble of the place, nor of the net, nor of the output
-  plain_facts : (k : ℕ) → status ≡ k → k ≢ 4 → k ≢ 7 → k ≢ 9 → IsServeStatus status
+  plain_facts : (k : ℕ) → status ≡ k → k ≢ 4 → k ≢ 7 → k ≢ 9 → Contains serve_statuses status
       → (status ≡ 7) ⊎ (out'.faults ≡ out.faults) ⊎ ((status ≢ 0) × Rose out.faults out'.faults) → Facts
   plain_facts k is four seven nine among told = record {
     keeper = λ e. absurd (four (sym is ∙ e));
@@ -296,7 +294,7 @@ module _ (c : StoreChange) (net net' : ℕ) (out out' : OutputState) (status : �
     net_rose = λ e. absurd (omega (arith, is, e));
     write = λ e. absurd (omega (arith, is, e));
     write_told = only_written out out' text status only (λ e. omega (arith, is, e));
-    complete = inr (inr (inl is));
+    complete = (2, lit< tt, sym is);
   }
 
   net_facts : status ≡ 9 → Rose net net' → (text : List ℕ) → WritesOnly out out' text → Facts
@@ -305,7 +303,7 @@ module _ (c : StoreChange) (net net' : ℕ) (out out' : OutputState) (status : �
     net_rose = λ e. rose;
     write = λ e. absurd (omega (arith, is, e));
     write_told = only_written out out' text status only (λ e. omega (arith, is, e));
-    complete = inr (inr (inr (inr (inr (inr is)))));
+    complete = (6, lit< tt, sym is);
   }
 
   write_facts : status ≡ 7 → Rose out.faults out'.faults → Facts
@@ -314,20 +312,20 @@ module _ (c : StoreChange) (net net' : ℕ) (out out' : OutputState) (status : �
     net_rose = λ e. absurd (omega (arith, is, e));
     write = λ e. rose;
     write_told = inl is;
-    complete = inr (inr (inr (inr (inl is))));
+    complete = (4, lit< tt, sym is);
   }
 
   accounts_facts : status ≡ 3 → (text : List ℕ) → WritesOnly out out' text → Facts
-  accounts_facts is text only = plain_facts 3 is (λ e. omega (arith, e)) (λ e. omega (arith, e)) (λ e. omega (arith, e)) (inr (inl is)) (only_written out out' text status only (λ e. omega (arith, is, e)))
+  accounts_facts is text only = plain_facts 3 is (λ e. omega (arith, e)) (λ e. omega (arith, e)) (λ e. omega (arith, e)) (1, lit< tt, sym is) (only_written out out' text status only (λ e. omega (arith, is, e)))
 
   damage_facts : status ≡ 5 → (text : List ℕ) → WritesOnly out out' text → Facts
-  damage_facts is text only = plain_facts 5 is (λ e. omega (arith, e)) (λ e. omega (arith, e)) (λ e. omega (arith, e)) (inr (inr (inr (inl is)))) (only_written out out' text status only (λ e. omega (arith, is, e)))
+  damage_facts is text only = plain_facts 5 is (λ e. omega (arith, e)) (λ e. omega (arith, e)) (λ e. omega (arith, e)) (3, lit< tt, sym is) (only_written out out' text status only (λ e. omega (arith, is, e)))
 
   memory_facts : status ≡ 8 → (text : List ℕ) → WritesOnly out out' text → Facts
-  memory_facts is text only = plain_facts 8 is (λ e. omega (arith, e)) (λ e. omega (arith, e)) (λ e. omega (arith, e)) (inr (inr (inr (inr (inr (inl is)))))) (only_written out out' text status only (λ e. omega (arith, is, e)))
+  memory_facts is text only = plain_facts 8 is (λ e. omega (arith, e)) (λ e. omega (arith, e)) (λ e. omega (arith, e)) (5, lit< tt, sym is) (only_written out out' text status only (λ e. omega (arith, is, e)))
 
   done_facts : status ≡ 0 → out'.faults ≡ out.faults → Facts
-  done_facts is still = plain_facts 0 is (λ e. omega (arith, e)) (λ e. omega (arith, e)) (λ e. omega (arith, e)) (inl is) (inr (inl still))
+  done_facts is still = plain_facts 0 is (λ e. omega (arith, e)) (λ e. omega (arith, e)) (λ e. omega (arith, e)) (0, lit< tt, sym is) (inr (inl still))
 
   refused_facts : (HasFile : List ℕ → Type 0) (ending : ServeEnding) → status ≡ serve_status ending → HasNoAccounts c.told HasFile c.before c.after ending → WritesOnly out out' (serve_text ending) → Facts
   refused_facts HasFile (BadAccounts number) is why only = accounts_facts is (serve_text (BadAccounts number)) only

@@ -1,10 +1,7 @@
 -- A store that keeps a lawful book is not damaged.
-use Rattle.std.proofs.Common.{◌≡◌, ◌≢◌, ℕ, ◌-◌, ◌^◌, ◌⊎◌, List, [], Option, Some, refl, sym, ◌∙◌, subst, arith, inl, inr}
+use Rattle.std.proofs.Common.{◌≡◌, ◌≢◌, ℕ, ◌-◌, ◌^◌, ◌⊎◌, List, [], refl, sym, ◌∙◌, subst, arith, inl, inr}
 use Rattle.std.specs.Prelude.{codes}
 use Rattle.rv_base.specs.Outside.{InputState, OutputState}
-use Rattle.rv_words.specs.declared.command.Command.{Command}
-use Rattle.rv_words.specs.declared.command.Command.TheVariants as commands
-use Rattle.rv_words.specs.declared.serve_options.ServeOptions.{ServeOptions}
 use Rattle.rv_book.specs.Book.{empty_book}
 use Rattle.rv_history.specs.LawfulBooks.{lawful_none}
 use Rattle.rv_history.specs.ReplayLaws.{replay_none}
@@ -19,7 +16,6 @@ use Rattle.rv_answering.specs.declared.line.Line.{Line}
 use Rattle.rv_cli.specs.declared.ending.Ending.{Ending}
 use Rattle.rv_cli.specs.declared.ending.Ending.TheVariants.{Done, Keeper, Damaged, Read, Write, Memory, Malformed}
 use Rattle.rv_cli.specs.Texts.{status_of}
-use Rattle.rv_cli.specs.Commands.{IsReportOf}
 use Rattle.rv_cli.specs.Change.{StoreChange}
 use Rattle.rv_cli.specs.Headline.{IsLeftAs, IsNotOpened, NotFed, HasFed, RunsFeed, NotOpened, Replied, RunsOne, EndsOne, KeepsSo, KeptSound}
 
@@ -82,42 +78,3 @@ memory_sound store Stored is = (
     };
   },
 )
-
--- words that ask for a command over the store in memory name it
-abbrev pub IsOfMemory : Option Command → List ℕ → Type 0
-IsOfMemory asked group = (asked ≡ Some (commands.Feed (codes "memory"))) ⊎ (asked ≡ Some (commands.Retire (codes "memory") group))
-
-pub feeds_memory : (asked : Option Command) (named store group : List ℕ) → Some (commands.Feed named) ≡ asked → store ≡ named → IsOfMemory asked group → store ≡ codes "memory"
-feeds_memory asked named store group is same (inl asks) = cc
-feeds_memory asked named store group is same (inr asks) = absurd (cc)
-
-pub retires_in_memory : (asked : Option Command) (named store retired group : List ℕ) → Some (commands.Retire named retired) ≡ asked → store ≡ named → IsOfMemory asked group
-    → store ≡ codes "memory"
-retires_in_memory asked named store retired group is same (inl asks) = absurd (cc)
-retires_in_memory asked named store retired group is same (inr asks) = cc
-
-pub closes_in_memory : (asked : Option Command) (named store : List ℕ) → Some (commands.CloseBook named) ≡ asked → store ≡ named → asked ≡ Some (commands.CloseBook (codes "memory")) → store ≡ codes "memory"
-closes_in_memory asked named store is same asks =
-    let both : Some (commands.CloseBook named) ≡ Some (commands.CloseBook (codes "memory")) = is ∙ asks in
-    cc
-
--- and so with words that ask for a report of it
-pub lists_memory : (asked : Option Command) (named store : List ℕ) → Some (commands.Lists named) ≡ asked → store ≡ named → IsReportOf (codes "memory") asked → store ≡ codes "memory"
-lists_memory asked named store is same asks = same ∙ subst (λ (a : Option Command). IsReportOf (codes "memory") a) (sym is) asks
-
-pub activity_memory : (asked : Option Command) (named store : List ℕ) → Some (commands.Activity named) ≡ asked → store ≡ named → IsReportOf (codes "memory") asked → store ≡ codes "memory"
-activity_memory asked named store is same asks = same ∙ subst (λ (a : Option Command). IsReportOf (codes "memory") a) (sym is) asks
-
-pub check_memory : (asked : Option Command) (named store : List ℕ) → Some (commands.Check named) ≡ asked → store ≡ named → IsReportOf (codes "memory") asked → store ≡ codes "memory"
-check_memory asked named store is same asks = same ∙ subst (λ (a : Option Command). IsReportOf (codes "memory") a) (sym is) asks
-
-pub export_memory : (asked : Option Command) (named store user : List ℕ) → Some (commands.Export named user) ≡ asked → store ≡ named → IsReportOf (codes "memory") asked → store ≡ codes "memory"
-export_memory asked named store user is same asks = same ∙ subst (λ (a : Option Command). IsReportOf (codes "memory") a) (sym is) asks
-
--- and with words that ask to serve it
-pub serves_memory : (asked : Option Command) (named store : List ℕ) (chosen options : ServeOptions) → Some (commands.Serve named chosen) ≡ asked → store ≡ named → asked ≡ Some (commands.Serve (codes "memory") options) → store ≡ codes "memory"
-serves_memory asked named store chosen options is same asks = cc
-
--- words ask to serve one store, and so in one way
-pub serves_same : (asked : Option Command) (named store : List ℕ) (chosen options : ServeOptions) → Some (commands.Serve named chosen) ≡ asked → asked ≡ Some (commands.Serve store options) → (named ≡ store) × (chosen ≡ options)
-serves_same asked named store chosen options is asks = (cc, cc)

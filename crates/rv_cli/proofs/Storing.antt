@@ -219,7 +219,7 @@ module _ {P K : Type 0} (place : PlaceGhosts P K) (G : Ghosts K) (store : List �
 
   -- the desk was opened and fed, and its keeper went back
   pub has_fed : {T E : Type 0} (old mid new : P) (desk : Seated K) (ended' : Ending × K) (input input' : InputState) (first out out' : OutputState) (result : Result T E)
-      → HasOpened place G store old desk mid → FeedsWith G (open_seat desk) input input' first out ended' → WentBack mid new ended'.1 → Writes out out' result (status_text ended'.0)
+      → HasOpened place G store old desk mid → FeedsWith G desk input input' first out ended' → WentBack mid new ended'.1 → Writes out out' result (status_text ended'.0)
       → HasFed (change place store old new) input input' first out' ended'.0
   has_fed old mid new desk ended' input input' first out out' result opened fed back w =
       let later = feeds_later (G.tells ended'.1) (place.tells new) (λ t. (back.told t).1) (served G.faults desk) fed.now input input' first out ended'.0 fed.feeds in

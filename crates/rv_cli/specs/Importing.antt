@@ -75,9 +75,6 @@ module _ (c : StoreChange) where
       ((ending : Ending) × (status ≡ status_of ending) × NotFed c input input' output output' ending × IsLeftAs c)
       ⊎ ((ending : ImportEnding) × (status ≡ import_status ending) × HasImported user name input input' output output' ending)
 
-abbrev pub IsImportStatus : ℕ → Type 0
-IsImportStatus status = (status ≡ 0) ⊎ (status ≡ 4) ⊎ (status ≡ 5) ⊎ (status ≡ 6) ⊎ (status ≡ 7) ⊎ (status ≡ 8) ⊎ (status ≡ 11) ⊎ (status ≡ 12)
-
 -- what came of the input at a desk, and the keeper that is left
 pub record ImportsWith {K : Type 0} (G : Ghosts K) (old : Seated K) (user name : List ℕ) (before after : InputState) (told : Result ImportEnd InputFault × K) : Type 0 where
   pub new : Seated K

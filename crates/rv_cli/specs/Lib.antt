@@ -12,4 +12,12 @@ pub mod Serving
 pub mod ServingSteps
 pub mod Input
 pub mod Importing
+pub mod Running
+pub mod StorePromise
+pub mod FeedPromise
+pub mod ReplyPromises
+pub mod ReportPromise
+pub mod ImportPromise
+pub mod ServePromise
+pub mod MakePromise
 pub mod Promises

@@ -6,7 +6,7 @@ use Rattle.rv_lines.specs.Lines.{longest_line}
 use Rattle.rv_history.specs.Served.{Served}
 use Rattle.rv_answering.specs.declared.answer.Answer.{Answer}
 use Rattle.rv_answering.specs.declared.line.Line.{Line}
-use Rattle.rv_answering.specs.declared.line.Line.TheVariants.{Asks, Close, Stop}
+use Rattle.rv_answering.specs.declared.line.Line.TheVariants.{Asks, Stop}
 use Rattle.rv_answering.specs.Requests.{Parsed, line_of}
 use Rattle.rv_cli.specs.Headline.{line_at, Are, TakesLine, TakesStep, Reopens, Run, told_text, Answered}
 

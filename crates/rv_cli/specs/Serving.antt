@@ -22,10 +22,7 @@ use Rattle.rv_answering.specs.Requests.{Parsed}
 use Rattle.rv_answering.specs.Steps.{Handles}
 use Rattle.rv_net.specs.Giving.{Giving}
 use Rattle.rv_net.specs.declared.listen.Listen.{Ghosts as ListenGhosts}
-use Rattle.rv_net.specs.declared.net.Net.{Ghosts as NetGhosts}
-use Rattle.rv_net.specs.declared.poke_listen.PokeListen.{Ghosts as PokeListenGhosts}
 use Rattle.rv_net.specs.declared.wanted.Wanted.{Wanted}
-use Rattle.rv_poke.specs.declared.poke_link.PokeLink.{Ghosts as LinkGhosts}
 use Rattle.rv_words.specs.declared.serve_options.ServeOptions.{ServeOptions}
 use Rattle.rv_room.specs.declared.view.SeatView.{SeatView}
 use Rattle.rv_room.specs.Views.{newcomer}
@@ -35,6 +32,7 @@ use Rattle.rv_cli.specs.declared.ending.Ending.{Ending}
 use Rattle.rv_cli.specs.declared.serve_ending.ServeEnding.{ServeEnding}
 use Rattle.rv_cli.specs.declared.serve_ending.ServeEnding.TheVariants.{Done, BadAccounts, TwiceAccounts, NotOpened, Net, Memory, Write}
 use Rattle.rv_cli.specs.Change.{StoreChange}
+use Rattle.rv_cli.specs.Running.{Network}
 use Rattle.rv_cli.specs.Texts.{serve_status, serve_text}
 use Rattle.rv_cli.specs.Headline.{Begins, IsLawfulRun, IsLeftAs, IsNotOpened, Leaves, ShowsAt, AnswersChange, AnswersTrouble, WritesOnly}
 use Rattle.rv_turns.specs.declared.pull.PullReply.{PullReply}
@@ -95,12 +93,12 @@ pub record NetServes {L P : Type 0} (Told : Type 0) (tells : L → Type 0) (poke
   pub links : GivenBack Told poke_tells (pokes_wanted options) pokes pokes' poked poked_back
 
 -- The net was served at a desk: its listeners side by side, as many of each kind as the options say.
-module _ {K N L P I O C : Type 0} (keeper : Ghosts K) (net : NetGhosts N L P I O C) (listen : ListenGhosts L I O) (source : SourceGhosts I) (sink : SinkGhosts O) (pokes : PokeListenGhosts P C) (link : LinkGhosts C) where
-  abbrev pub IsNetServed : ServeOptions → N → N → AccountsServed → Seated K → Seated K → Type 0
+module _ {K : Type 0} (keeper : Ghosts K) (n : Network) where
+  abbrev pub IsNetServed : ServeOptions → n.Net → n.Net → AccountsServed → Seated K → Seated K → Type 0
   IsNetServed options before after accounts first now =
-      NetServes (net.tells after) listen.tells pokes.tells
-      (λ given poked returned poked_back. ServesAtDesk keeper listen source sink pokes link accounts first given poked now returned poked_back)
-      options (net.listeners before) (net.listeners after) (net.pokes before) (net.pokes after)
+      NetServes (n.net.tells after) n.listen.tells n.pokes.tells
+      (λ given poked returned poked_back. ServesAtDesk keeper n.listen n.source n.sink n.pokes n.link accounts first given poked now returned poked_back)
+      options (n.net.listeners before) (n.net.listeners after) (n.net.pokes before) (n.net.pokes after)
 
 -- Nothing was served: the listeners of one kind that were given, if some were, came back as they were.
 pub record Unserved {L : Type 0} (old new : Giving L) : Type 0 where

@@ -15,6 +15,7 @@ use Rattle.rv_cli.specs.declared.serve_ending.ServeEnding.TheVariants.{Done, Bad
 use Rattle.rv_cli.specs.Texts.{serve_text}
 use Rattle.rv_cli.specs.Headline.{WritesOnly}
 use Rattle.rv_desk.specs.Seated.{Seated}
+use Rattle.rv_cli.specs.Running.{network}
 use Rattle.rv_cli.specs.Serving.{FileSays, HasNoAccounts, IsNetServed, pokes_wanted}
 use Rattle.rv_base.specs.declared.outside.Source.{Ghosts as SourceGhosts}
 use Rattle.rv_base.specs.declared.outside.Sink.{Ghosts as SinkGhosts}
@@ -87,4 +88,4 @@ WritesServed (Err nets.Memory) entries old new ending = (ending ≡ Memory) × W
 module _ {K N L P I O C : Type 0} (keeper : KeeperGhosts K) (net : NetGhosts N L P I O C) (listen : ListenGhosts L I O) (source : SourceGhosts I) (sink : SinkGhosts O) (pokes : PokeListenGhosts P C) (link : LinkGhosts C) where
   abbrev pub ServesNet : AccountsServed → ServeOptions → N → N → Seated K → Seated K → Result (Unit {0}) NetFault → Type 0
   ServesNet accounts options old new desk now result =
-      NetResult (IsNetServed keeper net listen source sink pokes link options old new accounts desk now) keeper.tells (net.faults old) (net.faults new) desk now result
+      NetResult (IsNetServed keeper (network net listen source sink pokes link) options old new accounts desk now) keeper.tells (net.faults old) (net.faults new) desk now result

@@ -55,10 +55,9 @@ abbrev pub DeskIsSteady : {K : Type 0} → (K → Type 0) → (K → ℕ) → Re
 DeskIsSteady fails_no_more faults (Ok desk) = fails_no_more desk.keeper × (faults desk.keeper ≡ 0)
 DeskIsSteady fails_no_more faults (Err ending) = ending ≡ Keeper → ⊥
 
--- a place that fails no more goes on so, its count of faults stays, and the status is not that of a fault of it
-pub record PlaceIsSteady {P : Type 0} (fails_no_more : P → Type 0) (faults : P → ℕ) (old new : P) (status : ℕ) : Type 0 where
+-- a place that fails no more goes on so, and the status is not that of a fault of it
+pub record PlaceIsSteady {P : Type 0} (fails_no_more : P → Type 0) (new : P) (status : ℕ) : Type 0 where
   pub goes_on : fails_no_more new
-  pub still : faults new ≡ faults old
   pub no_fault : status ≡ 4 → ⊥
 
 -- the same of a check, whose keeper went back

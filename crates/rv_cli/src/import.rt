@@ -1,13 +1,13 @@
 // The command `import`: the store is opened, the input is read whole, and its records are turns of the desk.
 ghost use Rattle.std.specs.Prelude.{◌≡◌, ◌≢◌, ◌⊎◌};
 ghost use Rattle.rv_base.specs.Causes.{Rose};
-ghost use Rattle.rv_keeper.specs.Stores.{OpensAs, OthersStay};
 ghost use Rattle.rv_import.specs.Importing.{import_text};
-ghost use Rattle.rv_cli.specs.Headline.{KeptSound, WritesOnly};
-ghost use Rattle.rv_cli.specs.Importing.{IsImportStatus, ImportsInput, ImportsWith, WritesCounts, WritesCame};
+ghost use Rattle.rv_cli.specs.Headline.{WritesOnly};
+ghost use Rattle.rv_cli.specs.Importing.{ImportsInput, ImportsWith, WritesCounts, WritesCame};
 ghost use Rattle.rv_cli.specs.Input.{WholeIsSteady};
-ghost use Rattle.rv_cli.specs.Promises.{WasImported};
-ghost use Rattle.rv_cli.specs.Steadiness.{ImportIsSteady, PlaceIsSteady};
+ghost use Rattle.rv_cli.specs.ImportPromise.{WasImported, import_statuses};
+ghost use Rattle.rv_cli.specs.Steadiness.{ImportIsSteady};
+ghost use Rattle.rv_cli.specs.StorePromise.{CountStays, KeepsStore};
 ghost use Rattle.rv_cli.specs.Texts.{import_ending_text};
 
 use crate::import_ending::ImportEnding;
@@ -121,11 +121,11 @@ pub fn run_import<P: Place, S: Source, O: Sink>(
 ) -> u8
     // What was entered are the turns of the records that were read, from the book that the store kept, and the store keeps the book that
     // they leave.
-    ensures import { WasImported P.Place O.Sink store.now place.old place.new S.Source user.now name.now input.old input.new out.old out.new result }
-    ensures complete { IsImportStatus result }
+    ensures import { WasImported P.Place S.Source O.Sink store.now user.now name.now place.old place.new input.old input.new out.old out.new result }
 
-    // Where the place tells, and the store kept a lawful book within the limit, the status is no damage.
-    ensures sound { P.tells place.new → KeptSound (OpensAs store.now (P.holds place.old store.now)) → result ≢ 5 }
+    // The store is kept as by each command.
+    ensures keeps { KeepsStore P.Place store.now import_statuses (Unit {0}) place.old place.new result }
+    ensures still { CountStays P.Place (Unit {0}) place.old place.new }
 
     // A fault is told exactly where one rose, but for a write of a status's own text that failed.
     ensures keeper { result ≡ 4 → Rose (P.faults place.old) (P.faults place.new) }
@@ -137,10 +137,6 @@ pub fn run_import<P: Place, S: Source, O: Sink>(
     // Over an input and an output that fail no more it is none of the faults, but for want of memory in the output.
     ensures steady_input { S.fails_no_more input.old → S.fails_no_more input.new × (result ≢ 6) }
     ensures steady_output { O.fails_no_more out.old → O.fails_no_more out.new × (Rose (O.state out.old).refusals (O.state out.new).refusals ⊎ (result ≢ 7)) }
-
-    // Stores and files of other names are as they were. Over a place that fails no more the status is no fault of it.
-    ensures others { P.tells place.new → OthersStay P.holds P.may_leave P.is_out P.has P.accounts store.now place.old place.new }
-    ensures steady_place { P.fails_no_more place.old → PlaceIsSteady P.fails_no_more P.faults place.old place.new result }
 {
     match open_desk(alloc, place, store) {
         Ok(desk) => {

@@ -1,7 +1,8 @@
 // The command `make`.
-ghost use Rattle.std.specs.Prelude.{◌≢◌, ◌⊎◌, IfOk};
+ghost use Rattle.std.specs.Prelude.{◌≢◌, ◌⊎◌, Contains, IfOk};
 ghost use Rattle.rv_base.specs.Causes.{Rose};
 ghost use Rattle.rv_cli.specs.Headline.{RunsMake, TellsRun};
+ghost use Rattle.rv_cli.specs.MakePromise.{make_statuses};
 
 use crate::reports::write_report;
 use rv_base::{Bytes, Memory, Sink};
@@ -20,6 +21,7 @@ fn summary_of_run(alloc: Global, seed: u32, requests: u32) -> Result<Bytes, Memo
 /// [`Summary::text`](rv_make::Summary::text): the command `make SEED N`. The status is 0, 7 or 8.
 pub fn run_make<O: Sink>(alloc: Global, seed: u32, requests: u32, out: &mut O) -> u8
     ensures make { RunsMake seed requests (O.state out.old) (O.state out.new) result }
+    ensures complete { Contains make_statuses result }
     ensures steady { O.fails_no_more out.old → O.fails_no_more out.new × (Rose (O.state out.old).refusals (O.state out.new).refusals ⊎ (result ≢ 7)) }
 {
     let summary = summary_of_run(alloc, seed, requests);

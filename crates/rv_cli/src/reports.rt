@@ -1,11 +1,11 @@
 // The reports of a store.
-ghost use Rattle.std.specs.Prelude.{◌≡◌, ◌≢◌, ◌⊎◌, ◌++◌, codes, decimal};
+ghost use Rattle.std.specs.Prelude.{◌≢◌, ◌⊎◌, ◌++◌, codes, decimal};
 ghost use Rattle.rv_base.specs.Causes.{Rose};
-ghost use Rattle.rv_keeper.specs.Stores.{OpensAs, OthersStay};
-ghost use Rattle.rv_cli.specs.Headline.{KeptSound, ReportsActivity, ReportsLists, ReportsSound, ReportsView};
-ghost use Rattle.rv_cli.specs.Promises.{WasReported};
+ghost use Rattle.rv_cli.specs.Headline.{ReportsActivity, ReportsLists, ReportsSound, ReportsView};
+ghost use Rattle.rv_cli.specs.ReportPromise.{MakesNone, WasReported, report_statuses};
 ghost use Rattle.rv_cli.specs.Reporting.{WritesMade, WritesUntil};
-ghost use Rattle.rv_cli.specs.Steadiness.{OutputIsSteady, PlaceIsSteady};
+ghost use Rattle.rv_cli.specs.Steadiness.{OutputIsSteady};
+ghost use Rattle.rv_cli.specs.StorePromise.{CountStays, KeepsStore};
 
 use crate::ending::Ending;
 use crate::store::{check_store, open_existing_desk, refuse_opening};
@@ -55,18 +55,13 @@ fn report_sound<O: Sink>(out: &mut O, entries: u32) -> Ending
 /// Writes the lists of the book that the store keeps, as [`lists_text`](rv_report::lists_text): the command `lists STORE`. The
 /// status is 0, 4, 5, 7 or 8; it is 4 where the store isn't there, and none is made. The store stays as it is.
 pub fn run_lists<P: Place, O: Sink>(alloc: Global, place: &mut P, store: &str, out: &mut O) -> u8
-    ensures report { WasReported P.Place O.Sink store.now place.old place.new ReportsLists out.old out.new result }
+    // What is written is a text of the book that the store kept, which it still keeps.
+    ensures report { WasReported P.Place O.Sink store.now ReportsLists place.old place.new out.old out.new result }
 
-    // Where the place tells, and the store kept a lawful book within the limit, the status is no damage.
-    ensures sound { P.tells place.new → KeptSound (OpensAs store.now (P.holds place.old store.now)) → result ≢ 5 }
-
-    // Where the place tells, status 0 comes only of a store that is there.
-    ensures absent { P.tells place.new → result ≡ 0 → P.has place.old store.now }
-
-    // A store that isn't there is not made.
-    ensures none_made { P.tells place.new → P.has place.new store.now → P.has place.old store.now }
-    ensures others { P.tells place.new → OthersStay P.holds P.may_leave P.is_out P.has P.accounts store.now place.old place.new }
-    ensures steady_place { P.fails_no_more place.old → P.has place.old store.now → PlaceIsSteady P.fails_no_more P.faults place.old place.new result }
+    // The store is kept as by each command, and is one that is there.
+    ensures keeps { KeepsStore P.Place store.now report_statuses (P.has place.old store.now) place.old place.new result }
+    ensures still { CountStays P.Place (P.has place.old store.now) place.old place.new }
+    ensures none { MakesNone P.Place store.now place.old place.new result }
     ensures steady { O.fails_no_more out.old → O.fails_no_more out.new × (Rose (O.state out.old).refusals (O.state out.new).refusals ⊎ (result ≢ 7)) }
 {
     match open_existing_desk(alloc, place, store) {
@@ -82,12 +77,10 @@ pub fn run_lists<P: Place, O: Sink>(alloc: Global, place: &mut P, store: &str, o
 /// Writes who did how much in the book that the store keeps, as [`activity_text`](rv_report::activity_text): the command
 /// `activity STORE`. The status is 0, 4, 5, 7 or 8; it is 4 where the store isn't there, and none is made. The store stays as it is.
 pub fn run_activity<P: Place, O: Sink>(alloc: Global, place: &mut P, store: &str, out: &mut O) -> u8
-    ensures report { WasReported P.Place O.Sink store.now place.old place.new ReportsActivity out.old out.new result }
-    ensures sound { P.tells place.new → KeptSound (OpensAs store.now (P.holds place.old store.now)) → result ≢ 5 }
-    ensures absent { P.tells place.new → result ≡ 0 → P.has place.old store.now }
-    ensures none_made { P.tells place.new → P.has place.new store.now → P.has place.old store.now }
-    ensures others { P.tells place.new → OthersStay P.holds P.may_leave P.is_out P.has P.accounts store.now place.old place.new }
-    ensures steady_place { P.fails_no_more place.old → P.has place.old store.now → PlaceIsSteady P.fails_no_more P.faults place.old place.new result }
+    ensures report { WasReported P.Place O.Sink store.now ReportsActivity place.old place.new out.old out.new result }
+    ensures keeps { KeepsStore P.Place store.now report_statuses (P.has place.old store.now) place.old place.new result }
+    ensures still { CountStays P.Place (P.has place.old store.now) place.old place.new }
+    ensures none { MakesNone P.Place store.now place.old place.new result }
     ensures steady { O.fails_no_more out.old → O.fails_no_more out.new × (Rose (O.state out.old).refusals (O.state out.new).refusals ⊎ (result ≢ 7)) }
 {
     match open_existing_desk(alloc, place, store) {
@@ -110,12 +103,10 @@ pub fn run_export<P: Place, O: Sink>(
     user: &User,
     out: &mut O,
 ) -> u8
-    ensures report { WasReported P.Place O.Sink store.now place.old place.new (ReportsView user.now) out.old out.new result }
-    ensures sound { P.tells place.new → KeptSound (OpensAs store.now (P.holds place.old store.now)) → result ≢ 5 }
-    ensures absent { P.tells place.new → result ≡ 0 → P.has place.old store.now }
-    ensures none_made { P.tells place.new → P.has place.new store.now → P.has place.old store.now }
-    ensures others { P.tells place.new → OthersStay P.holds P.may_leave P.is_out P.has P.accounts store.now place.old place.new }
-    ensures steady_place { P.fails_no_more place.old → P.has place.old store.now → PlaceIsSteady P.fails_no_more P.faults place.old place.new result }
+    ensures report { WasReported P.Place O.Sink store.now (ReportsView user.now) place.old place.new out.old out.new result }
+    ensures keeps { KeepsStore P.Place store.now report_statuses (P.has place.old store.now) place.old place.new result }
+    ensures still { CountStays P.Place (P.has place.old store.now) place.old place.new }
+    ensures none { MakesNone P.Place store.now place.old place.new result }
     ensures steady { O.fails_no_more out.old → O.fails_no_more out.new × (Rose (O.state out.old).refusals (O.state out.new).refusals ⊎ (result ≢ 7)) }
 {
     match open_existing_desk(alloc, place, store) {
@@ -131,12 +122,10 @@ pub fn run_export<P: Place, O: Sink>(
 /// Writes that the store is sound, with the number of its book's entries: the command `check STORE`. The status is 0, 4, 5, 7 or 8,
 /// where 4 also tells that the store isn't there, and none is made, and 5 what is wrong first. The store stays as it is.
 pub fn run_check<P: Place, O: Sink>(alloc: Global, place: &mut P, store: &str, out: &mut O) -> u8
-    ensures report { WasReported P.Place O.Sink store.now place.old place.new ReportsSound out.old out.new result }
-    ensures sound { P.tells place.new → KeptSound (OpensAs store.now (P.holds place.old store.now)) → result ≢ 5 }
-    ensures absent { P.tells place.new → result ≡ 0 → P.has place.old store.now }
-    ensures none_made { P.tells place.new → P.has place.new store.now → P.has place.old store.now }
-    ensures others { P.tells place.new → OthersStay P.holds P.may_leave P.is_out P.has P.accounts store.now place.old place.new }
-    ensures steady_place { P.fails_no_more place.old → P.has place.old store.now → PlaceIsSteady P.fails_no_more P.faults place.old place.new result }
+    ensures report { WasReported P.Place O.Sink store.now ReportsSound place.old place.new out.old out.new result }
+    ensures keeps { KeepsStore P.Place store.now report_statuses (P.has place.old store.now) place.old place.new result }
+    ensures still { CountStays P.Place (P.has place.old store.now) place.old place.new }
+    ensures none { MakesNone P.Place store.now place.old place.new result }
     ensures steady { O.fails_no_more out.old → O.fails_no_more out.new × (Rose (O.state out.old).refusals (O.state out.new).refusals ⊎ (result ≢ 7)) }
 {
     match check_store(alloc, place, store) {

@@ -2,12 +2,14 @@
 ghost use Rattle.std.specs.Prelude.{◌≡◌, ◌≢◌, ◌<◌, ◌≤◌, ◌^◌, ◌⊎◌, [], Err, None, Some, IfErr, IfOk, IsErrOf, MatchResult, length};
 ghost use Rattle.std.specs.List.{AllByRecursion};
 ghost use Rattle.rv_base.specs.Causes.{Counts, Rose};
-ghost use Rattle.rv_keeper.specs.Stores.{OpensAs, OthersStay, PlaceStays};
+ghost use Rattle.rv_keeper.specs.Stores.{OthersStay, PlaceStays};
 ghost use Rattle.rv_net.specs.Giving.{TakesBack};
 ghost use Rattle.rv_net.specs.declared.net_fault.NetFault.TheVariants as nets;
-ghost use Rattle.rv_cli.specs.Headline.{KeptSound, WritesOnly};
+ghost use Rattle.rv_cli.specs.Headline.{WritesOnly};
 ghost use Rattle.rv_cli.specs.Serving.{Unserved, listeners_wanted};
-ghost use Rattle.rv_cli.specs.Promises.{WasServed, WasUnserved, WasWanted};
+ghost use Rattle.rv_cli.specs.Running.{network};
+ghost use Rattle.rv_cli.specs.ServePromise.{NetIsSteady, WasServed, WasUnserved, WasWanted, serve_statuses};
+ghost use Rattle.rv_cli.specs.StorePromise.{KeepsStore};
 ghost use Rattle.rv_cli.specs.ServingSteps.{AccountsRead, HasGiven, MayWantPokes, ServesNet, WantsPokes, WritesCount, ReadsAccounts, WritesServed, count_text};
 ghost use Rattle.rv_cli.specs.Commands.{HasFile};
 ghost use Rattle.rv_cli.specs.Steadiness.{AccountsAreSteady, ServeIsSteady};
@@ -224,13 +226,13 @@ where
     <N::Listen as Listen>::In: Send,
     <N::Listen as Listen>::Out: Send,
     <N::Pokes as PokeListen>::Link: PokeLink + Send,
-    ensures serve { WasServed P.Place P.Kept.Keeper N.Net N.Listen.Listen N.Listen.In.Source N.Listen.Out.Sink N.Pokes.PokeListen N.Pokes.Link.PokeLink O.Sink store.now options.now place.old place.new net.old net.new out.old out.new result }
+    ensures serve { WasServed P.Place P.Kept.Keeper (network N.Net N.Listen.Listen N.Listen.In.Source N.Listen.Out.Sink N.Pokes.PokeListen N.Pokes.Link.PokeLink) O.Sink store.now options.now place.old place.new net.old net.new out.old out.new result }
     ensures unserved { WasUnserved N.Net net.old net.new result }
     ensures wanted { WasWanted N.Net net.old net.new options.now }
     ensures steady { O.fails_no_more out.old → O.fails_no_more out.new × (Rose (O.state out.old).refusals (O.state out.new).refusals ⊎ (result ≢ 7)) }
     ensures others { P.tells place.new → OthersStay P.holds P.may_leave P.is_out P.has P.accounts store.now place.old place.new }
     ensures steady_place { P.fails_no_more place.old → HasFile (P.accounts place.old) options.now.accounts → P.fails_no_more place.new × (result ≢ 4) }
-    ensures steady_net { N.fails_no_more net.old → options.now.workers ≤ length (N.listeners net.old).to_give → options.now.pokes ≤ length (N.pokes net.old).to_give → result ≢ 9 }
+    ensures steady_net { NetIsSteady N.Net net.old options.now result }
 {
     let accounts = match accounts_of(alloc, place, options.accounts.as_str()) {
         Ok(accounts) => accounts,
@@ -266,7 +268,7 @@ where
     <N::Pokes as PokeListen>::Link: PokeLink + Send,
     // What is written are the answers to the requests of connections, over turns of seats at one book from the one that the store kept,
     // and the store keeps the book that they leave.
-    ensures serve { WasServed P.Place P.Kept.Keeper N.Net N.Listen.Listen N.Listen.In.Source N.Listen.Out.Sink N.Pokes.PokeListen N.Pokes.Link.PokeLink O.Sink store.now options.now place.old place.new net.old net.new out.old out.new result }
+    ensures serve { WasServed P.Place P.Kept.Keeper (network N.Net N.Listen.Listen N.Listen.In.Source N.Listen.Out.Sink N.Pokes.PokeListen N.Pokes.Link.PokeLink) O.Sink store.now options.now place.old place.new net.old net.new out.old out.new result }
 
     // At other statuses than 0 and 7 nothing was served.
     ensures unserved { WasUnserved N.Net net.old net.new result }
@@ -275,19 +277,18 @@ where
     // the port for pokes as many as poke jobs, where there are some.
     ensures wanted { WasWanted N.Net net.old net.new options.now }
 
-    // Where the place tells, and the store kept a lawful book within the limit, the status is no damage.
-    ensures sound { P.tells place.new → KeptSound (OpensAs store.now (P.holds place.old store.now)) → result ≢ 5 }
+    // The store is kept as by each command, over an accounts file that is there.
+    ensures keeps { KeepsStore P.Place store.now serve_statuses (HasFile (P.accounts place.old) options.now.accounts) place.old place.new result }
 
     // A fault is told exactly where one rose, but for a write of a status's own text that failed.
     ensures keeper { result ≡ 4 → Rose (P.faults place.old) (P.faults place.new) }
     ensures net { result ≡ 9 → Rose (N.faults net.old) (N.faults net.new) }
     ensures write { result ≡ 7 → Rose (O.state out.old).faults (O.state out.new).faults }
     ensures write_told { result ≡ 7 ⊎ (O.state out.new).faults ≡ (O.state out.old).faults ⊎ ((result ≢ 0) × Rose (O.state out.old).faults (O.state out.new).faults) }
-    ensures complete { result ≡ 0 ⊎ result ≡ 3 ⊎ result ≡ 4 ⊎ result ≡ 5 ⊎ result ≡ 7 ⊎ result ≡ 8 ⊎ result ≡ 9 }
+
+    // Over an output and a net that fail no more it is none of the faults, but for want of memory in the output.
     ensures steady { O.fails_no_more out.old → O.fails_no_more out.new × (Rose (O.state out.old).refusals (O.state out.new).refusals ⊎ (result ≢ 7)) }
-    ensures others { P.tells place.new → OthersStay P.holds P.may_leave P.is_out P.has P.accounts store.now place.old place.new }
-    ensures steady_place { P.fails_no_more place.old → HasFile (P.accounts place.old) options.now.accounts → P.fails_no_more place.new × (result ≢ 4) }
-    ensures steady_net { N.fails_no_more net.old → options.now.workers ≤ length (N.listeners net.old).to_give → options.now.pokes ≤ length (N.pokes net.old).to_give → result ≢ 9 }
+    ensures steady_net { NetIsSteady N.Net net.old options.now result }
 {
     serve_all(alloc, runtime, crew, place, store, options, out, net)
 }

@@ -1,4 +1,4 @@
--- What follows from the clause `feed` of `run`, over a place and a source that tell.
+-- What follows from the promise of `feed`, over a place and a source that tell.
 use Rattle.std.specs.Prelude.{ℕ, ◌≡◌, ◌≤◌, ◌<◌, ◌-◌, ◌^◌, ◌⊎◌, List, [], ◌∷◌, ◌++◌, length, Option, Some, IfSome, Ok}
 use Rattle.std.specs.List.{flat_map, AllByRecursion}
 use Rattle.std.specs.Io.KnownBytes.{Appends}
@@ -20,7 +20,7 @@ use Rattle.rv_answering.specs.Requests.{Parsed}
 use Rattle.rv_cli.specs.declared.ending.Ending.{Ending}
 use Rattle.rv_cli.specs.Change.{change}
 use Rattle.rv_cli.specs.Headline.{Are, Begins, IsLawfulFeed, IsLeftAs, IsShown, Leaves, NotFed, Run, AnswersTrouble, told_text}
-use Rattle.rv_cli.specs.Promises.{WasFed}
+use Rattle.rv_cli.specs.FeedPromise.{WasFed}
 use Rattle.rv_cli.specs.Texts.{status_of}
 use Rattle.rv_turns.specs.declared.pull.PullReply.{PullReply}
 use Rattle.rv_wire.specs.declared.push.Push as pushes
@@ -85,10 +85,10 @@ module _ {P K : Type 0} (place : PlaceGhosts P K) where
       (ending : Ending) × (status ≡ status_of ending) × NotFed (change place store old new) input input' output output' ending
       × IsLeftAs (change place store old new)
 
-  -- The clause of `run` says that there was such a run, or that the store did not open.
+  -- The promise says that there was such a run, or that the store did not open.
   abbrev pub FeedsAreRuns : {S O : Type 0} → SourceGhosts S → SinkGhosts O → Type 0
   FeedsAreRuns {S} {O} input output = (old new : P) (store : List ℕ) (read read' : S) (out out' : O) (status : ℕ)
-      → WasFed place output store old new input read read' out out' status → place.tells new
+      → WasFed place input output store old new read read' out out' status → place.tells new
       → IfSome (input.state read).left (λ bytes. DidNotOpen old new store (input.state read) (input.state read') (output.state out) (output.state out') status ⊎ FeedRun old new store bytes (output.state out) (output.state out'))
 
   -- something holds of all such runs

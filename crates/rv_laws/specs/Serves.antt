@@ -1,4 +1,4 @@
--- What follows from the clause `serve` of `run`.
+-- What follows from the promise of `serve`.
 use Rattle.std.specs.Prelude.{ℕ, ◌≡◌, ◌≤◌, ◌<◌, ◌-◌, ◌^◌, ◌⊎◌, List, ◌++◌, length, Some, Ok, Contains}
 use Rattle.std.specs.List.{AllByRecursion}
 use Rattle.rv_base.specs.declared.outside.Source.{Ghosts as SourceGhosts}
@@ -22,7 +22,8 @@ use Rattle.rv_poke.specs.declared.poke_link.PokeLink.{Ghosts as LinkGhosts}
 use Rattle.rv_cli.specs.Change.{change}
 use Rattle.rv_cli.specs.Headline.{Begins, IsLawfulRun, Leaves, AnswersChange, AnswersTrouble}
 use Rattle.rv_cli.specs.Serving.{ShowsIn}
-use Rattle.rv_cli.specs.Promises.{WasServed}
+use Rattle.rv_cli.specs.Running.{network}
+use Rattle.rv_cli.specs.ServePromise.{WasServed}
 use Rattle.rv_laws.specs.Listeners.{FollowsIn, Together, turns_in}
 use Rattle.rv_wire.specs.declared.push.Push as pushes
 
@@ -53,7 +54,7 @@ module _ {P N K L W I O C : Type 0} (place : PlaceGhosts P K) (G : Ghosts K) (ne
   -- At status 0 and 7 there was such a run.
   abbrev pub ServesAreRuns : {Out : Type 0} → PokeListenGhosts W C → LinkGhosts C → SinkGhosts Out → Type 0
   ServesAreRuns {Out} pokes link output = (old new : P) (before after : N) (store : List ℕ) (options : ServeOptions) (out out' : Out) (status : ℕ)
-      → WasServed place G net listen source sink pokes link output store options old new before after out out' status → (status ≡ 0) ⊎ (status ≡ 7) → ServeRun old new before after store options
+      → WasServed place G (network net listen source sink pokes link) output store options old new before after out out' status → (status ≡ 0) ⊎ (status ≡ 7) → ServeRun old new before after store options
 
   -- something holds of all such runs
   abbrev pub OfAllServes : ((old new : P) (before after : N) (store : List ℕ) (options : ServeOptions) → ServeRun old new before after store options → Type 0) → Type 0

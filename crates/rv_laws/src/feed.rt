@@ -1,4 +1,4 @@
-//! What follows from the clause `feed`.
+//! What follows from the promise of `feed`.
 ghost use Rattle.rv_laws.specs.Feeds.{FeedsAreRuns, FedBooksAreLawful, FedPullsAreShown, FedTroublesHaveCauses, FedPushesStand, FedClientsFollow};
 
 use rv_base::{Sink, Source};

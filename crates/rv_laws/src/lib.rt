@@ -1,7 +1,7 @@
-//! What follows from the clauses `feed` and `serve` of [`run`](rv_cli::run), as contracts of functions that do nothing: a check of the
+//! What follows from what [`run`](rv_cli::run) promises of `feed` and `serve`, as contracts of functions that do nothing: a check of the
 //! crate proves them.
 //!
-//! Who has called `run` holds one of its clauses. [`feed::feeds_are_runs`] and [`serve::serves_are_runs`] make of it one record, the run
+//! Who has called `run` holds the promise of the command. [`feed::feeds_are_runs`] and [`serve::serves_are_runs`] make of it one record, the run
 //! that there was, and the other laws say of that record what stands in its book, what its answers tell, and what its clients hold.
 #![tactic(auto)]
 

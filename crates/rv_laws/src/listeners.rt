@@ -1,4 +1,4 @@
-//! What follows of listeners that are served side by side, which is a part of the clause `serve`.
+//! What follows of listeners that are served side by side, which is a part of the promise of `serve`.
 ghost use Rattle.rv_accounts.specs.File.{AccountsServed};
 ghost use Rattle.rv_laws.specs.Listeners.{ServedPushesStand, ServedClientsFollow};
 

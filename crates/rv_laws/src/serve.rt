@@ -1,4 +1,4 @@
-//! What follows from the clause `serve`.
+//! What follows from the promise of `serve`.
 ghost use Rattle.rv_laws.specs.Serves.{ServesAreRuns, ServeBooksAreLawful, ServePullsAreShown, ServeTroublesHaveCauses, ServeKeepersStay, ServePushesStand, ServeClientsFollow};
 
 use rv_base::Sink;

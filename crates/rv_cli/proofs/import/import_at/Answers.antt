@@ -6,7 +6,7 @@ returns-clause-imports g c = record {
   new = c.import_input-came.new.turns;
   imports = c.import_input-came.ensures.imports;
   keeper = c.close.ensures.keeper;
-  kept = record { held = c.close.ensures.held; left = c.close.ensures.left };
+  kept = c.close.ensures.kept;
 }
 
 pub returns-clause-steady_keeper : goal.returns-clause-steady_keeper

@@ -1,9 +1,9 @@
 use Rattle.rv_cli.specs.Change.{change}
+use Rattle.rv_cli.specs.Commands.{HasFile}
+use Rattle.rv_cli.specs.ServePromise.{serve_statuses}
+use Rattle.rv_cli.proofs.Kept.{keeps}
 use Rattle.rv_cli.proofs.Serving.{serve_facts, serve_sound}
 use Rattle.rv_cli.proofs.serve.run_serve.Goals as goal
-
-pub returns-clause-sound : goal.returns-clause-sound
-returns-clause-sound g c = λ told kept. serve_sound _ (change g.P.Place c.args.store.now c.args.place.now c.serve_all.new.place) _ _ _ _ _ _ _ told kept c.serve_all.ensures.serve
 
 pub returns-clause-keeper : goal.returns-clause-keeper
 returns-clause-keeper g c = (serve_facts (change g.P.Place c.args.store.now c.args.place.now c.serve_all.new.place) _ _ _ _ _ _ _ _ c.serve_all.ensures.serve).keeper
@@ -17,5 +17,9 @@ returns-clause-write g c = (serve_facts (change g.P.Place c.args.store.now c.arg
 pub returns-clause-write_told : goal.returns-clause-write_told
 returns-clause-write_told g c = (serve_facts (change g.P.Place c.args.store.now c.args.place.now c.serve_all.new.place) _ _ _ _ _ _ _ _ c.serve_all.ensures.serve).write_told
 
-pub returns-clause-complete : goal.returns-clause-complete
-returns-clause-complete g c = (serve_facts (change g.P.Place c.args.store.now c.args.place.now c.serve_all.new.place) _ _ _ _ _ _ _ _ c.serve_all.ensures.serve).complete
+pub returns-clause-keeps : goal.returns-clause-keeps
+returns-clause-keeps g c =
+    keeps g.P.Place c.args.store.now serve_statuses (HasFile (g.P.Place.accounts c.args.place.now) c.args.options.now.accounts) c.args.place.now c.serve_all.new.place _ (serve_facts (change g.P.Place c.args.store.now c.args.place.now c.serve_all.new.place) _ _ _ _ _ _ _ _ c.serve_all.ensures.serve).complete
+    (λ told kept. serve_sound _ (change g.P.Place c.args.store.now c.args.place.now c.serve_all.new.place) _ _ _ _ _ _ _ told kept c.serve_all.ensures.serve)
+    c.serve_all.ensures.others
+    (λ steady there. let (on, never) = c.serve_all.ensures.steady_place steady there in record { goes_on = on; no_fault = never })
