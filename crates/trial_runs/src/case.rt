@@ -31,29 +31,11 @@ pub struct Case {
     pub remembered: Vec<u8>,
 }
 
-/// What comes after a line of the input.
-#[derive(Clone, Copy)]
-pub enum After {
-    /// A stop.
-    Stop,
-    /// The same line, where it is a push.
-    Push,
-}
-
 // Adds a line.
 fn add_line(input: &mut Vec<u8>, line: &str) -> Result<(), Memory> {
     input.extend_from_slice(line.as_bytes())?;
     input.push(b'\n')?;
     Ok(())
-}
-
-// Adds what comes after a line.
-fn add_after(input: &mut Vec<u8>, line: &str, after: After) -> Result<(), Memory> {
-    match after {
-        After::Stop => add_line(input, "{\"stop\":true}"),
-        After::Push if line.contains("\"push\":") => add_line(input, line),
-        After::Push => Ok(()),
-    }
 }
 
 impl Case {
@@ -104,18 +86,12 @@ impl Case {
         Ok(())
     }
 
-    /// Sends each push of the input twice.
-    pub fn push_twice(&mut self, alloc: Global) -> Result<(), Memory> {
-        self.input = self.with_more(alloc, After::Push)?;
-        Ok(())
-    }
-
-    /// The input, with more after each line.
-    pub fn with_more(&self, alloc: Global, after: After) -> Result<Vec<u8>, Memory> {
+    /// The input, with a stop after each line.
+    pub fn with_stops(&self, alloc: Global) -> Result<Vec<u8>, Memory> {
         let mut input = Vec::new(alloc);
         for line in text_of(&self.input).lines() {
             add_line(&mut input, line)?;
-            add_after(&mut input, line, after)?;
+            add_line(&mut input, "{\"stop\":true}")?;
         }
         Ok(input)
     }
@@ -125,8 +101,8 @@ impl Case {
         if self.is_stated { "kept" } else { "memory" }
     }
 
-    /// The schedule of the first keeper.
-    pub fn schedule(&self, alloc: Global) -> Result<Schedule, Memory> {
+    // The schedule of the first keeper.
+    fn schedule(&self, alloc: Global) -> Result<Schedule, Memory> {
         Ok(Schedule::from_vec(Vec::from_slice(alloc, &self.fails)?))
     }
 

@@ -2,8 +2,7 @@
 use rv_base::{Bytes, Memory};
 use rv_keeper::{Cell, Change, Shelves};
 use std::alloc::Global;
-use trial_stage::Part::{Number, Text};
-use trial_stage::{first_word, joined, number_in, text_of};
+use trial_stage::{first_word, number_in};
 
 // The bytes of a text.
 fn bytes_of(alloc: Global, text: &str) -> Result<Bytes, Memory> {
@@ -52,36 +51,4 @@ pub fn remove(alloc: Global, shelves: &mut Shelves, text: &str) -> Result<(), Me
 pub fn copied(alloc: Global, shelves: &Shelves) -> Result<Shelves, Memory> {
     let cells = shelves.cells(alloc)?;
     Shelves::from_vec(alloc, cells.into_vec())
-}
-
-// A cell as `SHELF KEY BODY`.
-fn line_of(alloc: Global, cell: &Cell) -> Result<String, Memory> {
-    joined(
-        alloc,
-        &[
-            Number(u64::from(cell.shelf)),
-            Text(" "),
-            Text(text_of(cell.key.as_slice())),
-            Text(" "),
-            Text(text_of(cell.body.as_slice())),
-            Text("\n"),
-        ],
-    )
-}
-
-/// Cells, a line each, and the generation.
-pub fn store_text(alloc: Global, cells: &[Cell], generation: u64) -> Result<String, Memory> {
-    let mut lines = String::new(alloc);
-    for cell in cells {
-        lines.push_str(line_of(alloc, cell)?.as_str())?;
-    }
-    joined(
-        alloc,
-        &[
-            Text(lines.as_str()),
-            Text("generation "),
-            Number(generation),
-            Text("\n"),
-        ],
-    )
 }

@@ -48,8 +48,8 @@ fn line_of(alloc: Global, call: u64, whole: &Finished, some: &Finished) -> Resul
     )
 }
 
-/// Pieces of 20 bytes, of which the read or the write of this number fails.
-pub fn failing(call: u64, is_read: bool) -> Pieces {
+// Pieces of 20 bytes, of which the read or the write of this number fails.
+fn failing(call: u64, is_read: bool) -> Pieces {
     Pieces {
         most: 20,
         read: if is_read { call } else { 0 },

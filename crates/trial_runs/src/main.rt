@@ -1,30 +1,22 @@
 //! Runs of the program, case by case.
 //!
-//! The subject `scripts` feeds and reports over an input, an output and a place in memory, and over a SQLite file: a case begins with
-//! the words `rv feed memory`, no input, and a keeper that fails at no call. Once what a store holds is stated or kept, that store is
-//! `kept`, and the words are `rv feed kept`. `files` runs words over the files of the folder, `connections` serves connections in
-//! memory, and `workers` serves them by several workers. `requests` compares answers with those of a plain slow server. `pokes` serves
-//! links in memory beside connections, and rings bells. A line that begins with `{` is a line of the input.
+//! The subject `scripts` feeds and reports over an input, an output and a place in memory: a case begins with the words `rv feed memory`,
+//! no input, and a keeper that fails at no call. Once what a store holds is stated or kept, that store is
+//! `kept`, and the words are `rv feed kept`. `files` runs words over the files of the folder, `serving` runs them over a net in memory,
+//! and `words` tells what words ask for. A line that begins with `{` is a line of the input.
 #![tactic(auto)]
 
-mod bells;
 mod case;
 mod cells;
-mod connections;
-mod crew;
-mod databases;
-mod failing;
 mod faults;
 mod files;
 mod machine;
-mod nets;
-mod pokes;
-mod requests;
 mod running;
 mod scripts;
+mod serving;
 mod stores;
 mod views;
-mod workers;
+mod words;
 
 use case::Case;
 use machine::Machine;
@@ -35,26 +27,22 @@ use std::alloc::Global;
 use std::io;
 use std::sync::Wait;
 use std::thread::Threads;
-use trial_stage::{Line, Stage, echoed, kind_of, named, print_answer, silent, text_of};
+use trial_stage::{Line, Stage, echoed, kind_of, named, print_answer, silent};
 
 // What the commands are of.
 #[derive(Clone, Copy)]
 enum Subject {
     Scripts,
     Files,
-    Connections,
-    Workers,
-    Requests,
-    Pokes,
+    Serving,
+    Words,
 }
 
-static SUBJECTS: [(&str, Subject); 6] = [
+static SUBJECTS: [(&str, Subject); 4] = [
     ("scripts", Subject::Scripts),
     ("files", Subject::Files),
-    ("connections", Subject::Connections),
-    ("workers", Subject::Workers),
-    ("requests", Subject::Requests),
-    ("pokes", Subject::Pokes),
+    ("serving", Subject::Serving),
+    ("words", Subject::Words),
 ];
 
 // The case that is played, and the stores of the machine.
@@ -85,12 +73,10 @@ impl<P: Place> Runs<P> {
         line: &str,
     ) -> Result<Option<String>, Memory> {
         match self.subject {
-            Subject::Scripts => scripts::answer(stage, &mut self.case, &mut self.machine, line),
+            Subject::Scripts => scripts::answer(stage, &mut self.case, line),
             Subject::Files => files::answer(stage, &mut self.case, &mut self.machine, line),
-            Subject::Connections => connections::answer(stage, &mut self.machine, line),
-            Subject::Workers => workers::answer(stage, &mut self.machine, line),
-            Subject::Requests => requests::answer(stage, text_of(&self.case.input), line),
-            Subject::Pokes => pokes::answer(stage, &mut self.case, &mut self.machine, line),
+            Subject::Serving => serving::answer(stage, &mut self.machine, line),
+            Subject::Words => words::asked(stage.host.alloc(), line),
         }
     }
 

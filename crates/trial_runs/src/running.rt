@@ -1,14 +1,14 @@
 // Runs of the program over a place, and an input and an output in memory.
-use crate::crew::TrialCrew;
 use rv_base::{Memory, MemorySink, MemorySource};
 use rv_cli::run;
 use rv_keeper::Place;
 use rv_net::MemoryNet;
+use rv_workers::{Bells, Threaded};
 use std::alloc::Global;
 use std::sync::Wait;
 use std::thread::Threads;
 use trial_stage::Part::{Number, Text};
-use trial_stage::{Stage, joined, text_of, words_at};
+use trial_stage::{Stage, joined, text_of};
 
 /// The most bytes of a read and of a write, and the read and the write that fail, by their numbers from 1; 0 is none.
 #[derive(Clone, Copy)]
@@ -63,11 +63,6 @@ impl Finished {
         text_of(&self.written)
     }
 
-    /// The status is 0, and this was written.
-    pub fn tells(&self, text: &str) -> bool {
-        self.status == 0 && self.text() == text
-    }
-
     /// The same in one line.
     pub fn line(&self, alloc: Global) -> Result<String, Memory> {
         let text = self.text().trim_end();
@@ -103,7 +98,7 @@ fn sink(alloc: Global, pieces: Pieces) -> Result<MemorySink, Memory> {
     Ok(MemorySink::new(alloc, pieces.most, fails))
 }
 
-/// Runs words over a place, these bytes as the input, a net, and a crew.
+/// Runs words over a place, these bytes as the input, and a net, by the program's crew.
 pub fn run_over<R: Threads + Wait + Sync, P: Place>(
     stage: &Stage<'_, R>,
     words: &[String],
@@ -111,11 +106,11 @@ pub fn run_over<R: Threads + Wait + Sync, P: Place>(
     bytes: &[u8],
     pieces: Pieces,
     net: &mut MemoryNet,
-    crew: &mut TrialCrew<'_, R>,
 ) -> Result<Finished, Memory> {
     let alloc = stage.host.alloc();
     let mut input = source(alloc, bytes, pieces)?;
     let mut out = sink(alloc, pieces)?;
+    let bells = Bells::new();
     let status = run(
         alloc,
         stage.threads,
@@ -124,7 +119,7 @@ pub fn run_over<R: Threads + Wait + Sync, P: Place>(
         &mut input,
         &mut out,
         net,
-        crew,
+        &mut Threaded::new(stage.threads, &bells),
     );
     Ok(Finished {
         status,
@@ -133,20 +128,7 @@ pub fn run_over<R: Threads + Wait + Sync, P: Place>(
     })
 }
 
-/// Runs the words of a line so over no input, and tells in one line what was written and the status.
-pub fn run_line<R: Threads + Wait + Sync, P: Place>(
-    stage: &Stage<'_, R>,
-    line: &str,
-    place: &mut P,
-    net: &mut MemoryNet,
-    crew: &mut TrialCrew<'_, R>,
-) -> Result<String, Memory> {
-    let alloc = stage.host.alloc();
-    let words = words_at(alloc, ' ', line)?;
-    run_over(stage, &words, place, b"", Pieces::of(1000), net, crew)?.line(alloc)
-}
-
-/// Runs words over a place and these bytes as the input, with no threads and a net that has no listener.
+/// Runs words over a place and these bytes as the input, and a net that has no listener.
 pub fn run_alone<R: Threads + Wait + Sync, P: Place>(
     stage: &Stage<'_, R>,
     words: &[String],
@@ -156,6 +138,5 @@ pub fn run_alone<R: Threads + Wait + Sync, P: Place>(
 ) -> Result<Finished, Memory> {
     let alloc = stage.host.alloc();
     let mut net = MemoryNet::new(alloc, Vec::new(alloc), Vec::new(alloc), Vec::new(alloc))?;
-    let mut crew = TrialCrew::serial();
-    run_over(stage, words, place, bytes, pieces, &mut net, &mut crew)
+    run_over(stage, words, place, bytes, pieces, &mut net)
 }

@@ -1,10 +1,9 @@
-// Scripts over stores in memory and over a SQLite file.
-use crate::case::{After, Case};
-use crate::machine::Machine;
+// Scripts over stores in memory.
+use crate::case::Case;
 use crate::running::Pieces;
-use crate::{databases, faults, stores, views};
+use crate::{faults, stores, views};
 use rv_base::Memory;
-use rv_keeper::{Fails, Place};
+use rv_keeper::Fails;
 use std::alloc::Global;
 use std::sync::Wait;
 use std::thread::Threads;
@@ -25,9 +24,6 @@ enum Play {
     Retire,
     Next,
     Held,
-    Sqlite,
-    Databases,
-    FailingDatabase,
     View,
 }
 
@@ -40,7 +36,6 @@ enum Change {
     Line,
     Byte,
     Blanks,
-    Twice,
     Cell,
     Remove,
     Generation,
@@ -59,7 +54,7 @@ enum Command {
     Changes(Change),
 }
 
-static COMMANDS: [(&str, Command); 31] = [
+static COMMANDS: [(&str, Command); 27] = [
     ("run", Command::Plays(Play::Run)),
     ("once", Command::Plays(Play::Once)),
     ("stops", Command::Plays(Play::Stops)),
@@ -71,9 +66,6 @@ static COMMANDS: [(&str, Command); 31] = [
     ("retire", Command::Plays(Play::Retire)),
     ("next", Command::Plays(Play::Next)),
     ("held", Command::Plays(Play::Held)),
-    ("sqlite", Command::Plays(Play::Sqlite)),
-    ("databases", Command::Plays(Play::Databases)),
-    ("failing-database", Command::Plays(Play::FailingDatabase)),
     ("view", Command::Plays(Play::View)),
     ("words", Command::Changes(Change::Words)),
     ("word", Command::Changes(Change::Word)),
@@ -81,7 +73,6 @@ static COMMANDS: [(&str, Command); 31] = [
     ("line", Command::Changes(Change::Line)),
     ("byte", Command::Changes(Change::Byte)),
     ("blanks", Command::Changes(Change::Blanks)),
-    ("twice", Command::Changes(Change::Twice)),
     ("cell", Command::Changes(Change::Cell)),
     ("remove", Command::Changes(Change::Remove)),
     ("generation-is", Command::Changes(Change::Generation)),
@@ -114,7 +105,7 @@ fn run_with_stops<R: Threads + Wait + Sync>(
     case: &Case,
 ) -> Result<String, Memory> {
     let alloc = stage.host.alloc();
-    let stopped = case.with_more(alloc, After::Stop)?;
+    let stopped = case.with_stops(alloc)?;
     case.run_on(stage, &stopped, Pieces::of(100_000))?
         .joined(alloc)
 }
@@ -126,10 +117,9 @@ fn run_once<R: Threads + Wait + Sync>(stage: &Stage<'_, R>, case: &Case) -> Resu
 }
 
 // Runs the case, and prints what it is asked for.
-fn played<R: Threads + Wait + Sync, P: Place>(
+fn played<R: Threads + Wait + Sync>(
     stage: &Stage<'_, R>,
     case: &mut Case,
-    machine: &mut Machine<P>,
     play: Play,
     rest: &str,
 ) -> Result<String, Memory> {
@@ -145,16 +135,13 @@ fn played<R: Threads + Wait + Sync, P: Place>(
         Play::Retire => stores::retire(stage, case, rest),
         Play::Next => stores::next(stage, case),
         Play::Held => stores::held(stage.host.alloc(), case, rest),
-        Play::Sqlite => stores::compare(stage, case, &mut machine.place),
-        Play::Databases => databases::compare(stage, case),
-        Play::FailingDatabase => databases::compare_failing(stage, case),
         Play::View => views::read(stage.host.alloc(), &case.input),
     }
 }
 
 // Changes the case. `words WORD ..` takes other words, `word TEXT` adds one more; `text TEXT` adds a text to the input that no LF
-// ends, `line TEXT` one that LF ends, `byte N` a byte, `blanks N` so many blanks; `twice` sends each push twice. `cell SHELF KEY BODY` writes a cell of the store,
-// over one at its place, `remove SHELF KEY` takes one away, and `generation-is N` sets its generation. `open N` fails the Nth call for a keeper; `load N`,
+// ends, `line TEXT` one that LF ends, `byte N` a byte, `blanks N` so many blanks. `cell SHELF KEY BODY` writes a cell of the store, over
+// one at its place, `remove SHELF KEY` takes one away, and `generation-is N` sets its generation. `open N` fails the Nth call for a keeper; `load N`,
 // `generation N`, `before N` and `after N` the keeper's Nth load, its Nth question for the generation, and its Nth commit, before
 // its changes and after them; `memory N` has memory refused to its Nth commit.
 fn make_change(alloc: Global, case: &mut Case, change: Change, rest: &str) -> Result<(), Memory> {
@@ -166,7 +153,6 @@ fn make_change(alloc: Global, case: &mut Case, change: Change, rest: &str) -> Re
         Change::Line => case.add_line(rest),
         Change::Byte => case.add_bytes(&[number.min(255) as u8]),
         Change::Blanks => case.add_blanks(number),
-        Change::Twice => case.push_twice(alloc),
         Change::Cell => case.put(alloc, rest),
         Change::Remove => case.remove(alloc, rest),
         Change::Generation => case.set_generation(alloc, number),
@@ -180,15 +166,14 @@ fn make_change(alloc: Global, case: &mut Case, change: Change, rest: &str) -> Re
 }
 
 /// What a command of a script prints, where it is one.
-pub fn answer<R: Threads + Wait + Sync, P: Place>(
+pub fn answer<R: Threads + Wait + Sync>(
     stage: &Stage<'_, R>,
     case: &mut Case,
-    machine: &mut Machine<P>,
     line: &str,
 ) -> Result<Option<String>, Memory> {
     let (word, rest) = first_word(line);
     match named(&COMMANDS, word) {
-        Some(Command::Plays(play)) => Ok(Some(played(stage, case, machine, play, rest)?)),
+        Some(Command::Plays(play)) => Ok(Some(played(stage, case, play, rest)?)),
         Some(Command::Changes(change)) => {
             let alloc = stage.host.alloc();
             make_change(alloc, case, change, rest)?;

@@ -1,18 +1,13 @@
 // Runs over stores that stay, and what they then hold.
-use crate::case::{After, Case};
-use crate::cells::store_text;
+use crate::case::Case;
 use crate::running::{Finished, Pieces, run_alone};
 use rv_base::Memory;
-use rv_keeper::{Keeper, MemoryPlace, Place};
+use rv_keeper::MemoryPlace;
 use std::alloc::Global;
-use std::fs;
 use std::sync::Wait;
 use std::thread::Threads;
 use trial_stage::Part::{Number, Text};
-use trial_stage::{Stage, joined, words_at};
-
-// The file that is compared with the store in memory.
-const FILE: &str = "beside-memory.db";
+use trial_stage::{Stage, joined, store_text};
 
 // What a store of a place holds.
 fn held_text(alloc: Global, place: &MemoryPlace, name: &str) -> Result<String, Memory> {
@@ -148,83 +143,4 @@ pub fn held(alloc: Global, case: &mut Case, name: &str) -> Result<String, Memory
     let text = held_text(alloc, &place, name);
     case.place = Some(place);
     text
-}
-
-/// How a run ended, and what the store then holds.
-#[derive(Drop)]
-pub struct Ended {
-    /// How it ended.
-    pub finished: Finished,
-    /// What the store holds.
-    pub held: String,
-}
-
-/// Runs the case over the store in memory with this input.
-pub fn in_memory<R: Threads + Wait + Sync>(
-    stage: &Stage<'_, R>,
-    case: &Case,
-    input: &[u8],
-) -> Result<Ended, Memory> {
-    let left = run(stage, case, input)?;
-    let held = held_text(stage.host.alloc(), &left.place, case.name())?;
-    Ok(Ended {
-        finished: left.finished,
-        held,
-    })
-}
-
-/// What a store holds that is there.
-pub fn filed_text<P: Place>(alloc: Global, place: &mut P, name: &str) -> Result<String, Memory> {
-    let Ok(mut keeper) = place.open_existing(name) else {
-        return joined(alloc, &[Text("no store\n")]);
-    };
-    let loaded = keeper.load();
-    place.close_keeper(name, keeper);
-    match loaded {
-        Ok(loaded) => store_text(alloc, loaded.cells.as_slice(), loaded.generation),
-        Err(_) => joined(alloc, &[Text("keeper\n")]),
-    }
-}
-
-// Runs it so over a file that is not there yet.
-fn in_file<R: Threads + Wait + Sync, P: Place>(
-    stage: &Stage<'_, R>,
-    place: &mut P,
-    input: &[u8],
-) -> Result<Ended, Memory> {
-    let alloc = stage.host.alloc();
-    let _removed = fs::remove_file(stage.host, FILE);
-    let words = words_at(alloc, ' ', "rv feed beside-memory.db")?;
-    let finished = run_alone(stage, &words, place, input, Pieces::of(100_000))?;
-    let held = filed_text(alloc, place, FILE)?;
-    Ok(Ended { finished, held })
-}
-
-/// Whether both runs wrote the same with the same status, and hold the same.
-pub fn compared(alloc: Global, one: &Ended, other: &Ended) -> Result<String, Memory> {
-    let answers = if one.finished.is_as(&other.finished) {
-        "the same answers, "
-    } else {
-        "other answers, "
-    };
-    let cells = if one.held.as_str() == other.held.as_str() {
-        "the same cells\n"
-    } else {
-        "other cells\n"
-    };
-    joined(alloc, &[Text(answers), Text(cells)])
-}
-
-/// `sqlite` runs the case with a stop after each line, over the store in memory and over a SQLite file, and prints whether both wrote
-/// the same bytes with the same status, and hold the same cells at the same generation.
-pub fn compare<R: Threads + Wait + Sync, P: Place>(
-    stage: &Stage<'_, R>,
-    case: &Case,
-    place: &mut P,
-) -> Result<String, Memory> {
-    let alloc = stage.host.alloc();
-    let input = case.with_more(alloc, After::Stop)?;
-    let one = in_memory(stage, case, &input)?;
-    let other = in_file(stage, place, &input)?;
-    compared(alloc, &one, &other)
 }

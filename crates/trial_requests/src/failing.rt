@@ -1,0 +1,132 @@
+// A keeper over any other that fails at the calls of a schedule, and whose generation somebody else raises.
+ghost use Rattle.std.specs.Prelude.{◌≡◌, ◌≤◌};
+ghost use Rattle.rv_base.specs.Causes.{Rose};
+
+use crate::schedules::Troubles;
+use rv_base::Failed;
+use rv_keeper::{Change, Fails, KeepFault, Keeper, Loaded, Schedule};
+
+/// Keeps what another keeper keeps, and fails at the calls of a schedule besides, as a keeper in memory does. To each question for the
+/// generation it answers so much more. It claims nothing of what it holds.
+#[derive(Drop)]
+pub struct FailingKeeper<K> {
+    kept: K,
+    schedule: Schedule,
+    raised: u64,
+    loads: u64,
+    questions: u64,
+    commits: u64,
+    faults: u64,
+}
+
+impl<K> FailingKeeper<K> {
+    /// A keeper over this one, which has not failed yet.
+    pub fn new(kept: K, troubles: Troubles) -> FailingKeeper<K>
+        ensures { result.faults ≡ 0 }
+    {
+        let Troubles { schedule, raised } = troubles;
+        FailingKeeper {
+            kept,
+            schedule,
+            raised,
+            loads: 0,
+            questions: 0,
+            commits: 0,
+            faults: 0,
+        }
+    }
+
+    // Whether the schedule names the call.
+    fn fails(&self, call: Fails) -> bool {
+        self.schedule.as_slice().contains(&call)
+    }
+
+    // Counts a fault.
+    fn count_fault(&mut self)
+        ensures later { self.old.faults ≤ self.new.faults }
+        ensures rose { Rose self.old.faults self.new.faults }
+    {
+        self.faults = self.faults.saturating_add(1);
+    }
+}
+
+impl<K: Keeper> Keeper for FailingKeeper<K> {
+    ghost tells = { λ s. ⊥ };
+
+    ghost holds = { λ s held. Unit {0} };
+
+    ghost honest = { λ s. ⊥ };
+
+    ghost may_leave = { λ s left. Unit {0} };
+
+    ghost faults = { λ s. s.faults };
+
+    ghost fails_no_more = { λ s. ⊥ };
+
+    fn fault_count(&self) -> u64 {
+        self.faults
+    }
+
+    fn load(&mut self) -> Result<Loaded, KeepFault> {
+        self.loads = self.loads.saturating_add(1);
+        if self.fails(Fails::Load(self.loads)) {
+            self.count_fault();
+            return Err(KeepFault::Failed);
+        }
+        match self.kept.load() {
+            Ok(loaded) => Ok(loaded),
+            Err(KeepFault::Failed) => {
+                self.count_fault();
+                Err(KeepFault::Failed)
+            }
+            Err(KeepFault::Memory) => Err(KeepFault::Memory),
+        }
+    }
+
+    fn generation(&mut self, from: u64) -> Result<u64, Failed> {
+        self.questions = self.questions.saturating_add(1);
+        if self.fails(Fails::Generation(self.questions)) {
+            self.count_fault();
+            return Err(Failed);
+        }
+        match self.kept.generation(from) {
+            Ok(generation) => {
+                let generation = generation.saturating_add(self.raised);
+                if generation != from && generation != from + 1 {
+                    self.count_fault();
+                }
+                Ok(generation)
+            }
+            Err(Failed) => {
+                self.count_fault();
+                Err(Failed)
+            }
+        }
+    }
+
+    fn commit(&mut self, from: u64, changes: &[Change]) -> Result<(), KeepFault> {
+        self.commits = self.commits.saturating_add(1);
+        if self.fails(Fails::Before(self.commits)) {
+            self.count_fault();
+            return Err(KeepFault::Failed);
+        }
+        if self.fails(Fails::Memory(self.commits)) {
+            return Err(KeepFault::Memory);
+        }
+        let made = self.kept.commit(from, changes);
+        if let Err(KeepFault::Memory) = made {
+            return Err(KeepFault::Memory);
+        }
+        if made.is_err() || self.fails(Fails::After(self.commits)) {
+            self.count_fault();
+            return Err(KeepFault::Failed);
+        }
+        Ok(())
+    }
+
+    ghost steady_tells = { λ keeper steady. absurd steady };
+
+    ghost tells_honestly = { λ keeper told. absurd told };
+
+    ghost holds_one = { λ keeper one two told is also. absurd told };
+}
