@@ -26,23 +26,23 @@ use Rattle.rv_cli.specs.Input.{WholeIsSteady}
 use Rattle.rv_cli.specs.Storing.{HasOpened}
 use Rattle.rv_cli.specs.Texts.{import_ending_text, import_status, status_of}
 use Rattle.rv_cli.proofs.Storing.{WentBack, begins, leaves}
-use Rattle.rv_cli.proofs.Taking.{DeskBefore, turn_before}
+use Rattle.rv_cli.proofs.Taking.{Before, turn_before}
 
 -- ---- Turns of a desk are those of its server.
 
 module _ {K : Type 0} (G : Ghosts K) (Told : Type 0) where
-  same_before : (old new : Seated K) → new ≡ old → DeskBefore G old new
-  same_before old new same = subst (λ (s : Seated K). DeskBefore G old s) (sym same) (record { told = λ t. t; steady = λ f. (f, refl) })
+  same_before : (old new : Seated K) → new ≡ old → Before G old new
+  same_before old new same = subst (λ (s : Seated K). Before G old s) (sym same) (record { told = λ t. t; steady = λ f. (f, refl) })
 
   turns_go : (from : Sender) (ms : List Mutation) (old new : Seated K) (os : List Outcome) → TakesInOrder (DeskTakes G) from ms old os new
-      → DeskBefore G old new × ((Told → G.tells new.keeper) → TakesInOrder (TakesNear Told) from ms (served G.faults old) os (served G.faults new))
+      → Before G old new × ((Told → G.tells new.keeper) → TakesInOrder (TakesNear Told) from ms (served G.faults old) os (served G.faults new))
   turns_go from [] old new [] same = (same_before old new same, λ told. ap (served G.faults) same)
   turns_go from [] old new (o ∷ os) never = absurd never
   turns_go from (m ∷ ms) old new [] never = absurd never
   turns_go from (m ∷ ms) old new (o ∷ os) (mid, step, rest) =
       let on = turns_go from ms mid new os rest in
       let first = turn_before G old mid (Ask.mutation from m) o step in
-      let goes : DeskBefore G mid new = on.0 in (
+      let goes : Before G mid new = on.0 in (
         record {
           told = λ t. first.told (goes.told t);
           steady = λ f. let (mids, same) = first.steady f in let (news, also) = goes.steady mids in (news, also ∙ same);
@@ -51,13 +51,13 @@ module _ {K : Type 0} (G : Ghosts K) (Told : Type 0) where
       )
 
   imported_goes : (from : Sender) (asked : Asked) (old new : Seated K) (end : ImportEnd) → Imported (DeskTakes G) from asked old end new
-      → DeskBefore G old new × ((Told → G.tells new.keeper) → Imported (TakesNear Told) from asked (served G.faults old) end (served G.faults new))
+      → Before G old new × ((Told → G.tells new.keeper) → Imported (TakesNear Told) from asked (served G.faults old) end (served G.faults new))
   imported_goes from asked old new end i =
       let on = turns_go from i.taken old new i.outcomes i.turns in
       (on.0, λ told. record { taken = i.taken; left = i.left; outcomes = i.outcomes; all = i.all; turns = on.1 told; ends = i.ends })
 
   imports_go : (user name bytes : List ℕ) (old new : Seated K) (end : ImportEnd) → Imports (DeskTakes G) user name bytes old end new
-      → DeskBefore G old new × ((Told → G.tells new.keeper) → Imports (TakesNear Told) user name bytes (served G.faults old) end (served G.faults new))
+      → Before G old new × ((Told → G.tells new.keeper) → Imports (TakesNear Told) user name bytes (served G.faults old) end (served G.faults new))
   imports_go user name bytes old new ends.TooLarge (more, same) = (same_before old new same, λ told. (more, ap (served G.faults) same))
   imports_go user name bytes old new (ends.Done counts) (within, i) = let on = imported_goes _ _ old new (ends.Done counts) i in (on.0, λ told. (within, on.1 told))
   imports_go user name bytes old new (ends.BadRecord n) (within, i) = let on = imported_goes _ _ old new (ends.BadRecord n) i in (on.0, λ told. (within, on.1 told))
@@ -65,7 +65,7 @@ module _ {K : Type 0} (G : Ghosts K) (Told : Type 0) where
   imports_go user name bytes old new ends.Memory (within, i) = let on = imported_goes _ _ old new ends.Memory i in (on.0, λ told. (within, on.1 told))
 
   pub input_goes : (user name : List ℕ) (old new : Seated K) (before after : InputState) (came : Result ImportEnd InputFault) → ImportsInput (DeskTakes G) user name old before after came new
-      → DeskBefore G old new × ((Told → G.tells new.keeper) → ImportsInput (TakesNear Told) user name (served G.faults old) before after came (served G.faults new))
+      → Before G old new × ((Told → G.tells new.keeper) → ImportsInput (TakesNear Told) user name (served G.faults old) before after came (served G.faults new))
   input_goes user name old new before after (Ok end) (bytes, whole, i) = let on = imports_go user name bytes old new end i in (on.0, λ told. (bytes, whole, on.1 told))
   input_goes user name old new before after (Err fault) (until, same) = (same_before old new same, λ told. (until, ap (served G.faults) same))
 

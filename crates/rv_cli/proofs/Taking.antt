@@ -87,12 +87,14 @@ module _ {K : Type 0} (G : Ghosts K) where
   abbrev pub desk_takes : Seated K → Ask → Outcome → Seated K → Type 0
   desk_takes old ask outcome new = TakesTurn pull_json (served G.faults old) ask outcome (served G.faults new) × Before old new × (IsChanged (trouble_of outcome) → G.tells new.keeper → ⊥)
 
+  pub turn_before : (old new : Seated K) (ask : Ask) (outcome : Outcome) → DeskTakes G old ask outcome new → Before old new
+  turn_before old new ask outcome takes = record {
+    told = takes.assured.told;
+    steady = λ f. (takes.assured.goes_on f, still_of pull_json ask outcome (served G.faults old) (served G.faults new) takes.turn (takes.assured.sure f));
+  }
+
   turn_takes : (old new : Seated K) (ask : Ask) (outcome : Outcome) → DeskTakes G old ask outcome new → desk_takes old ask outcome new
-  turn_takes old new ask outcome takes = (
-    takes.turn,
-    record { told = takes.assured.told; steady = λ f. (takes.assured.goes_on f, still_of pull_json ask outcome (served G.faults old) (served G.faults new) takes.turn (takes.assured.sure f)) },
-    λ changed told. takes.assured.near told changed,
-  )
+  turn_takes old new ask outcome takes = (takes.turn, turn_before old new ask outcome takes, λ changed told. takes.assured.near told changed)
 
   desk_goes : (old new : Seated K) (asked : Parsed) (answer : Answer)
       → steps.Handles desk_takes old asked answer new → steps.Handles (TakesTurn pull_json) (served G.faults old) asked answer (served G.faults new) × Before old new
@@ -203,7 +205,7 @@ module _ {K : Type 0} (G : Ghosts K) where
   takes_stop old new line number result out lines restarts = stopped_line old new line number result out (lines_stop line lines) restarts
 
   -- a line with which the lines end, and nothing is answered
-  pub ends_here : (desk : Seated K) (line : List ℕ) (number : ℕ) (ending : Ending) (out : OutputState) → EndsLine (G.tells desk.keeper) (served G.faults desk) line number (served G.faults desk) out out ending → RoseAt G ending (G.faults desk.keeper) desk.keeper → EndedLine G desk line number ending desk out out
+  pub ends_here : (desk : Seated K) (line : List ℕ) (number : ℕ) (ending : Ending) (out : OutputState) → EndsLine G (G.tells desk.keeper) (served G.faults desk) line number (served G.faults desk) out out ending → RoseAt G ending (G.faults desk.keeper) desk.keeper → EndedLine G desk line number ending desk out out
   ends_here desk line number ending out ends rose = record { new = served G.faults desk; ends = ends; stands = stands_now desk; told = λ t. t; rose = rose }
 
   -- the desk is closed with which the lines ended

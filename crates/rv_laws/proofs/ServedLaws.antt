@@ -55,7 +55,7 @@ module _ {K : Type 0} (G : Ghosts K) (book : Book) (lawful : IsLawful book) (sta
   -- what a seat had seen is a front of what it has seen
   turn_grows : (m : Mutation) (old new : SeatView K) (outcome : Outcome) → IsSeatTurn G old (Ask.mutation from m) outcome new → Extends new.seen old.seen
   turn_grows m old new outcome turn =
-      let (more, is) = turn_goes pull_json (Ask.mutation from m) outcome (served G.faults turn.desk) (served G.faults turn.now) turn.takes.turn in
+      let (more, is) = turn_goes pull_json (Ask.mutation from m) outcome (served G.faults turn.desk) (served G.faults turn.now) turn.asks turn.keeps.doubt turn.takes.turn in
       extends_on new.seen turn.desk.book old.seen (more, turn.seen ∙ is) turn.begins
 
   turn_stands : (m : Mutation) (old new : SeatView K) (outcome : Outcome) → IsSeatTurn G old (Ask.mutation from m) outcome new → refusal_of outcome ≡ None → Extends book new.seen → 1 ≤ m.id → IsEntered from book m
@@ -64,7 +64,7 @@ module _ {K : Type 0} (G : Ghosts K) (book : Book) (lawful : IsLawful book) (sta
       let taken = turn.takes.turn in
       let step = step_of pull_json ask outcome (served G.faults turn.desk) (served G.faults turn.now) taken (no_trouble outcome none) in
       let later : Extends book turn.now.book = subst (λ (b : Book). Extends book b) turn.seen within in
-      let (more, is) = extends_on book turn.now.book taken.settled later (goes_from pull_json ask outcome (served G.faults turn.desk) (served G.faults turn.now) taken) in
+      let (more, is) = extends_on book turn.now.book taken.settled later (goes_from pull_json ask outcome (served G.faults turn.desk) (served G.faults turn.now) turn.asks taken) in
       let front : IsLawful taken.settled = lawful_front taken.settled more (subst (λ (b : Book). IsLawful b) is lawful) in
       entered_later from m turn.now.book book later (stand turn.desk.limit from m taken.settled turn.now.book outcome step none front first)
 
@@ -100,7 +100,7 @@ module _ {K : Type 0} (G : Ghosts K) (show : PullsShow pull_json) (book : Book) 
         new = new;
         step = (acted, inr (outcome, turn, is, none));
         point = taken.settled;
-        since = extends_on taken.settled here.desk.book old.seen (settles_go here.desk.book here.desk.doubt taken.settled taken.settles) here.begins;
+        since = extends_on taken.settled here.desk.book old.seen (settles_go here.desk.book here.desk.doubt taken.settled here.keeps.doubt taken.settles) here.begins;
         tells = subst (λ (b : Book). ReplyShows pull_json user pull.request taken.settled b pull.reply) (sym here.seen) (show here.desk.limit user pull.request taken.settled here.now.book pull.reply step);
         within = within;
       }
