@@ -114,11 +114,11 @@ fn add_stock<C>(
     stock: &MemoryStock<MemoryListen<C>>,
 ) -> Result<(), Memory> {
     let wanted = wanted_text(alloc, stock.wanted)?;
+    append_parts(alloc, text, &[Text(name)])?;
     append_parts(
         alloc,
         text,
         &[
-            Text(name),
             Text(wanted.as_str()),
             Text("; "),
             Number(stock.came_back.len() as u64),
