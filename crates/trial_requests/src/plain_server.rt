@@ -88,7 +88,8 @@ impl PlainServer {
     // A desk of the book that is kept.
     fn desk_of_kept(&self) -> Result<PlainDesk, Memory> {
         let book = self.kept.copy(self.alloc)?;
-        Ok(PlainDesk::with(self.alloc, book, self.limit))
+        let limit = self.limit.max(book.len());
+        Ok(PlainDesk::with(self.alloc, book, limit))
     }
 
     /// Closes it and opens it again: nothing is in doubt, and the book is what is kept.
