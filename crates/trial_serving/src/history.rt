@@ -15,7 +15,7 @@ use std::alloc::Global;
 use std::sync::Wait;
 use std::thread::Threads;
 use trial_stage::Part::{Number, Text};
-use trial_stage::{Stage, append_parts, calls, first_word, joined};
+use trial_stage::{Stage, calls, first_word, joined};
 
 // The line that asks a request; an empty one where there is no such request.
 fn line_in(alloc: Global, connections: &[Connection], turn: Turn) -> Result<String, Memory> {
@@ -108,23 +108,33 @@ fn fits(
     Ok("one history")
 }
 
+// What was served, with so many answers, and how they fit.
+fn told_text<'x>(
+    alloc: Global,
+    line: &'x str,
+    answers: usize,
+    fits: &'x str,
+) -> Result<String, Memory> {
+    joined(
+        alloc,
+        &[
+            Text(line),
+            Text(", "),
+            Number(answers as u64),
+            Text(" answers, "),
+            Text(fits),
+            Text("\n"),
+        ],
+    )
+}
+
 // What was served, how many answers there are, and how they fit.
 fn told(alloc: Global, connections: &[Connection], served: &Served) -> Result<String, Memory> {
     let cells = served.keeper.shelves.cells(alloc)?;
     let order = turns_of(alloc, connections, cells.as_slice())?;
     let fits = fits(alloc, connections, &order, served)?;
     let line = served.line(alloc)?;
-    let mut text = joined(
-        alloc,
-        &[
-            Text(line.as_str()),
-            Text(", "),
-            Number(order.len() as u64),
-            Text(" answers, "),
-        ],
-    )?;
-    append_parts(alloc, &mut text, &[Text(fits), Text("\n")])?;
-    Ok(text)
+    told_text(alloc, line.as_str(), order.len(), fits)
 }
 
 // What comes of a plan, by threads or one after the other.
