@@ -1,4 +1,4 @@
--- From how lines end to the status and its text.
+-- From how lines end to the status and its text, over whoever takes them.
 use Rattle.std.proofs.Common.{◌≡◌, ◌⊎◌, inl, inr, ℕ, ◌+◌, List, [], ◌∷◌, ◌++◌, length, Option, Some, None, IfSome, Result, Ok, Err, refl, sym, ap, ◌∙◌, subst, arith, length-append}
 use Rattle.std.specs.Io.KnownBytes.{Appends}
 use Rattle.std.proofs.KnownBytes.{Appends-trans}
@@ -6,13 +6,12 @@ use Rattle.rv_base.specs.Causes.{Rose}
 use Rattle.rv_base.specs.Outside.{InputState, OutputState, Writes}
 use Rattle.rv_base.specs.Writes.{IsFront}
 use Rattle.rv_lines.specs.Lines.{lines_of}
-use Rattle.rv_history.specs.Served.{Served}
-use Rattle.rv_answering.specs.declared.line.Line.{Line}
 use Rattle.rv_cli.specs.declared.ending.Ending.{Ending}
 use Rattle.rv_cli.specs.declared.ending.Ending.TheVariants.{Done, Keeper, Damaged, Read, Write, Memory, Malformed}
 use Rattle.rv_cli.specs.Texts.{status_of, status_text}
-use Rattle.rv_cli.specs.Headline.{line_at, Are, IsPart, IsOwnText, ReadsSo, WritesSo, Fed, AllAsk, IsOther}
-use Rattle.rv_cli.specs.Feeding.{AnswerFaults, FedAnswers, Feeds}
+use Rattle.rv_cli.specs.Headline.{IsOther}
+use Rattle.rv_cli.specs.LineRuns.{Lines, line_at, Are, AllAre, IsPart, IsOwnText, ReadsSo, WritesSo, Fed}
+use Rattle.rv_cli.specs.LineTaking.{AnswerFaults, FedAnswers, Feeds}
 
 -- no text has a front that lacks some of nothing
 no_front : (part : List ℕ) → IsFront part [] → ⊥
@@ -43,46 +42,47 @@ own_text before mid out Read result e w = let (own, a, part) = part_of before mi
 own_text before mid out Memory result e w = let (own, a, part) = part_of before mid out (status_text Memory) result e w in (own, a, part, part_faults before out.faults own (status_text Memory) part)
 own_text before mid out (Malformed number) result e w = let (own, a, part) = part_of before mid out (status_text (Malformed number)) result e w in (own, a, part, part_faults before out.faults own (status_text (Malformed number)) part)
 
-with_own : (Told : Type 0) (begun now : Served) (o : Option (List ℕ)) (input : InputState) (first mid out : OutputState) (ending : Ending) (own : List ℕ) → IfSome o (λ bytes. FedAnswers Told begun now bytes input first mid ending) → Appends mid.written out.written own → IsOwnText first.faults out.faults own ending
-    → IfSome o (λ bytes. Fed Told begun now bytes input first out ending)
-with_own Told begun now None input first mid out ending own f a h = tt
-with_own Told begun now (Some bytes) input first mid out ending own f a h = record {
-  read = f.read;
-  text = f.text;
-  own = own;
-  consumed = f.consumed;
-  appended = Appends-trans first.written mid.written out.written f.text own f.appended a;
-  ends = f.ends;
-  status = h;
-}
+module _ (L : Lines) where
+  with_own : (Told : Type 0) (begun now : L.State) (o : Option (List ℕ)) (input : InputState) (first mid out : OutputState) (ending : Ending) (own : List ℕ) → IfSome o (λ bytes. FedAnswers L Told begun now bytes input first mid ending) → Appends mid.written out.written own → IsOwnText first.faults out.faults own ending
+      → IfSome o (λ bytes. Fed L Told begun now bytes input first out ending)
+  with_own Told begun now None input first mid out ending own f a h = tt
+  with_own Told begun now (Some bytes) input first mid out ending own f a h = record {
+    read = f.read;
+    text = f.text;
+    own = own;
+    consumed = f.consumed;
+    appended = Appends-trans first.written mid.written out.written f.text own f.appended a;
+    ends = f.ends;
+    status = h;
+  }
 
--- the status's text comes after the answers
-pub ended : {T E : Type 0} (Told : Type 0) (begun now : Served) (start input : InputState) (first mid out : OutputState) (ending : Ending) (result : Result T E) → Feeds Told begun now start input first mid ending → Writes mid out result (status_text ending)
-    → ReadsSo start input ending × WritesSo first.faults out.faults ending × IfSome start.left (λ bytes. Fed Told begun now bytes input first out ending)
-ended Told begun now start input first mid out ending result f w =
-    let (own, a, h, so) = own_text first.faults mid out ending result f.writes w in
-    (f.reads, so, with_own Told begun now start.left input first mid out ending own f.fed a h)
+  -- the status's text comes after the answers
+  pub ended : {T E : Type 0} (Told : Type 0) (begun now : L.State) (start input : InputState) (first mid out : OutputState) (ending : Ending) (result : Result T E) → Feeds L Told begun now start input first mid ending → Writes mid out result (status_text ending)
+      → ReadsSo start input ending × WritesSo first.faults out.faults ending × IfSome start.left (λ bytes. Fed L Told begun now bytes input first out ending)
+  ended Told begun now start input first mid out ending result f w =
+      let (own, a, h, so) = own_text first.faults mid out ending result f.writes w in
+      (f.reads, so, with_own Told begun now start.left input first mid out ending own f.fed a h)
 
--- where all lines are of the form, so is each
-line_among : (n : ℕ) (rest others : List (List ℕ)) (bytes : List ℕ) (lines : List Line) (number : ℕ) → number ≡ n + length rest → Are n (rest ++ bytes ∷ others) lines → (line : Line) × (line_at number bytes ≡ Some line)
-line_among n [] others bytes [] number e h = absurd h
-line_among n [] others bytes (line ∷ lines) number e h = (line, subst (λ (k : ℕ). line_at k bytes ≡ Some line) (let is : n ≡ number = omega (arith, e) in is) h.0)
-line_among n (l ∷ rest) others bytes [] number e h = absurd h
-line_among n (l ∷ rest) others bytes (line ∷ lines) number e h = line_among (n + 1) rest others bytes lines number (omega (arith, e)) h.1
+  -- where all lines are of the form, so is each
+  line_among : (n : ℕ) (rest others : List (List ℕ)) (bytes : List ℕ) (lines : List L.Line) (number : ℕ) → number ≡ n + length rest → Are L n (rest ++ bytes ∷ others) lines → (line : L.Line) × (line_at L number bytes ≡ Some line)
+  line_among n [] others bytes [] number e h = absurd h
+  line_among n [] others bytes (line ∷ lines) number e h = (line, subst (λ (k : ℕ). line_at L k bytes ≡ Some line) (let is : n ≡ number = omega (arith, e) in is) h.0)
+  line_among n (l ∷ rest) others bytes [] number e h = absurd h
+  line_among n (l ∷ rest) others bytes (line ∷ lines) number e h = line_among (n + 1) rest others bytes lines number (omega (arith, e)) h.1
 
-none_malformed : (Told : Type 0) (begun now : Served) (bytes : List ℕ) (input : InputState) (first out : OutputState) (number : ℕ) (lines : List Line) → FedAnswers Told begun now bytes input first out (Malformed number) → Are 1 (lines_of bytes) lines → ⊥
-none_malformed Told begun now bytes input first out number lines f are =
-    let (line, is) = line_among 1 f.ends.lines f.ends.others f.ends.line lines number (let e = f.ends.count in omega (arith, e)) (subst (λ (ls : List (List ℕ)). Are 1 ls lines) f.ends.are are) in
-    let no : None ≡ Some line = sym f.ends.asks ∙ is in
-    cc
+  none_malformed : (Told : Type 0) (begun now : L.State) (bytes : List ℕ) (input : InputState) (first out : OutputState) (number : ℕ) (lines : List L.Line) → FedAnswers L Told begun now bytes input first out (Malformed number) → Are L 1 (lines_of bytes) lines → ⊥
+  none_malformed Told begun now bytes input first out number lines f are =
+      let (line, is) = line_among 1 f.ends.lines f.ends.others f.ends.line lines number (let e = f.ends.count in omega (arith, e)) (subst (λ (ls : List (List ℕ)). Are L 1 ls lines) f.ends.are are) in
+      let no : None ≡ Some line = sym f.ends.asks ∙ is in
+      cc
 
--- where all lines are of the form, no line is told to be none
-pub completes : (Told : Type 0) (begun now : Served) (o : Option (List ℕ)) (input : InputState) (first out : OutputState) (ending : Ending) → IfSome o (λ bytes. FedAnswers Told begun now bytes input first out ending) → AllAsk o (IsOther (status_of ending))
-completes Told begun now None input first out ending f = tt
-completes Told begun now (Some bytes) input first out Done f = λ lines are. inl refl
-completes Told begun now (Some bytes) input first out Keeper f = λ lines are. inr (inl refl)
-completes Told begun now (Some bytes) input first out (Damaged damage) f = λ lines are. inr (inr (inl refl))
-completes Told begun now (Some bytes) input first out Read f = λ lines are. inr (inr (inr (inl refl)))
-completes Told begun now (Some bytes) input first out Write f = λ lines are. inr (inr (inr (inr (inl refl))))
-completes Told begun now (Some bytes) input first out Memory f = λ lines are. inr (inr (inr (inr (inr refl))))
-completes Told begun now (Some bytes) input first out (Malformed number) f = λ lines are. absurd (none_malformed Told begun now bytes input first out number lines f are)
+  -- where all lines are of the form, no line is told to be none
+  pub completes : (Told : Type 0) (begun now : L.State) (o : Option (List ℕ)) (input : InputState) (first out : OutputState) (ending : Ending) → IfSome o (λ bytes. FedAnswers L Told begun now bytes input first out ending) → AllAre L o (IsOther (status_of ending))
+  completes Told begun now None input first out ending f = tt
+  completes Told begun now (Some bytes) input first out Done f = λ lines are. inl refl
+  completes Told begun now (Some bytes) input first out Keeper f = λ lines are. inr (inl refl)
+  completes Told begun now (Some bytes) input first out (Damaged damage) f = λ lines are. inr (inr (inl refl))
+  completes Told begun now (Some bytes) input first out Read f = λ lines are. inr (inr (inr (inl refl)))
+  completes Told begun now (Some bytes) input first out Write f = λ lines are. inr (inr (inr (inr (inl refl))))
+  completes Told begun now (Some bytes) input first out Memory f = λ lines are. inr (inr (inr (inr (inr refl))))
+  completes Told begun now (Some bytes) input first out (Malformed number) f = λ lines are. absurd (none_malformed Told begun now bytes input first out number lines f are)

@@ -1,4 +1,5 @@
 pub mod Going
+pub mod Taken
 pub mod Ended
 pub mod LawfulRuns
 pub mod Taking

@@ -19,51 +19,25 @@ use Rattle.rv_cli.specs.declared.ending.Ending.{Ending}
 use Rattle.rv_cli.specs.declared.ending.Ending.TheVariants.{Done, Keeper, Damaged, Read, Write, Memory, Malformed}
 use Rattle.rv_cli.specs.Texts.{fault_ending, keep_ending, status_of, status_text}
 use Rattle.rv_cli.specs.Change.{StoreChange, change, kept_change}
-use Rattle.rv_cli.specs.Headline.{Ends, Begins, Leaves, IsNotOpened, KeepsSo, HasFed, Replied}
-use Rattle.rv_cli.specs.Feeding.{IsLeftWith, RoseAt, FedAnswers, Feeds, FeedsWith}
+use Rattle.rv_cli.specs.Headline.{Begins, Leaves, IsNotOpened, KeepsSo, HasFed, Replied, served_lines}
+use Rattle.rv_cli.specs.LineTaking.{FedAnswers, Feeds}
+use Rattle.rv_cli.specs.LineRunLaws.{ends_later}
+use Rattle.rv_cli.specs.Feeding.{IsLeftWith, RoseAt, FeedsWith}
 use Rattle.rv_cli.specs.Replying.{Replies, WritesReply}
 use Rattle.rv_cli.specs.Storing.{HasOpened, OpensStore, OpensKept, ToldBefore}
-use Rattle.rv_cli.specs.RunLaws.{answered_later, takes_later}
+use Rattle.rv_cli.specs.RunLaws.{takes_later}
 use Rattle.rv_cli.proofs.Ended.{ended}
 use Rattle.rv_keeper.specs.declared.fault.KeepFault.TheVariants as keeping
 
 -- what is told later was told before
 module _ (Told Now : Type 0) (then : Now → Told) where
-  ends_later : (first : Served) (bytes read text : List ℕ) (now : Served) (ending : Ending) → Ends Told first bytes read text now ending → Ends Now first bytes read text now ending
-  ends_later first bytes read text now Done (all, w) = (all, answered_later Told Now then first _ text now w)
-  ends_later first bytes read text now Read (w, needed) = (answered_later Told Now then first _ text now w, needed)
-  ends_later first bytes read text now Write e = record {
-    lines = e.lines;
-    line = e.line;
-    others = e.others;
-    are = e.are;
-    within = e.within;
-    needed = e.needed;
-    before = e.before;
-    mid = e.mid;
-    answered = answered_later Told Now then first e.lines e.before e.mid e.answered;
-    taken = e.taken;
-    asks = e.asks;
-    answer = e.answer;
-    step = takes_later Told Now then e.mid now e.taken (Some e.answer) e.step;
-    part = e.part;
-    told = e.told;
-    front = e.front;
-  }
-  ends_later first bytes read text now Memory e = record { lines = e.lines; others = e.others; are = e.are; needed = e.needed; answered = answered_later Told Now then first e.lines text now e.answered }
-  ends_later first bytes read text now (Malformed number) e =
-      record { lines = e.lines; line = e.line; others = e.others; are = e.are; count = e.count; asks = e.asks; needed = e.needed; answered = answered_later Told Now then first e.lines text now e.answered }
-  ends_later first bytes read text now Keeper e =
-      record { lines = e.lines; line = e.line; others = e.others; are = e.are; stop = e.stop; needed = e.needed; answered = answered_later Told Now then first e.lines text now e.answered }
-  ends_later first bytes read text now (Damaged damage) e =
-      record { lines = e.lines; line = e.line; others = e.others; are = e.are; stop = e.stop; needed = e.needed; answered = answered_later Told Now then first e.lines text now e.answered }
-
-  fed_later : (o : Option (List ℕ)) (first now : Served) (input' : InputState) (output output' : OutputState) (ending : Ending) → IfSome o (λ bytes. FedAnswers Told first now bytes input' output output' ending) → IfSome o (λ bytes. FedAnswers Now first now bytes input' output output' ending)
+  fed_later : (o : Option (List ℕ)) (first now : Served) (input' : InputState) (output output' : OutputState) (ending : Ending) → IfSome o (λ bytes. FedAnswers served_lines Told first now bytes input' output output' ending)
+      → IfSome o (λ bytes. FedAnswers served_lines Now first now bytes input' output output' ending)
   fed_later None first now input' output output' ending f = tt
   fed_later (Some bytes) first now input' output output' ending f =
-      record { read = f.read; text = f.text; consumed = f.consumed; appended = f.appended; ends = ends_later first bytes f.read f.text now ending f.ends }
+      record { read = f.read; text = f.text; consumed = f.consumed; appended = f.appended; ends = ends_later served_lines Told Now (takes_later Told Now then) first bytes f.read f.text now ending f.ends }
 
-  pub feeds_later : (first now : Served) (input input' : InputState) (output output' : OutputState) (ending : Ending) → Feeds Told first now input input' output output' ending → Feeds Now first now input input' output output' ending
+  pub feeds_later : (first now : Served) (input input' : InputState) (output output' : OutputState) (ending : Ending) → Feeds served_lines Told first now input input' output output' ending → Feeds served_lines Now first now input input' output output' ending
   feeds_later first now input input' output output' ending f = record { reads = f.reads; writes = f.writes; fed = fed_later input.left first now input' output output' ending f.fed }
 
 -- the place gave no keeper, and that is told
@@ -223,7 +197,7 @@ module _ {P K : Type 0} (place : PlaceGhosts P K) (G : Ghosts K) (store : List �
       → HasFed (change place store old new) input input' first out' ended'.0
   has_fed old mid new desk ended' input input' first out out' result opened fed back w =
       let later = feeds_later (G.tells ended'.1) (place.tells new) (λ t. (back.told t).1) (served G.faults desk) fed.now input input' first out ended'.0 fed.feeds in
-      let (reads, writes, all) = ended (place.tells new) (served G.faults desk) fed.now input input' first out out' ended'.0 result later w in
+      let (reads, writes, all) = ended served_lines (place.tells new) (served G.faults desk) fed.now input input' first out out' ended'.0 result later w in
       record {
         first = served G.faults desk;
         now = fed.now;

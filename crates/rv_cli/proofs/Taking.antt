@@ -1,12 +1,11 @@
 -- One line: what becomes of it by what it asks, and the desk that is opened again at a stop.
-use Rattle.std.proofs.Common.{◌≡◌, ℕ, ◌≤◌, List, Option, Some, None, Result, Ok, Err, refl, sym, ap, ◌∙◌, subst, arith}
+use Rattle.std.proofs.Common.{◌≡◌, ℕ, ◌≤◌, List, Some, None, Result, Ok, Err, refl, sym, ap, ◌∙◌, subst, arith}
 use Rattle.rv_base.specs.Outside.{OutputState, Writes}
 use Rattle.rv_book.specs.Book.{Book, size}
-use Rattle.rv_history.specs.Served.{Doubt, MayStand, Served, TakesTurn}
+use Rattle.rv_history.specs.Served.{Doubt, MayStand, TakesTurn}
 use Rattle.rv_history.specs.TurnLaws.{still_of}
 use Rattle.rv_keeper.specs.declared.keeper.Keeper.{Ghosts}
-use Rattle.rv_record.specs.declared.fault.Damage.{Damage}
-use Rattle.rv_desk.specs.Seated.{DeskKeeps, DeskTakes, KeepsBook, Seated, served}
+use Rattle.rv_desk.specs.Seated.{DeskKeeps, DeskTakes, Seated, served}
 use Rattle.rv_desk.specs.Opened.{OpensAgain, StaysAsItWas}
 use Rattle.rv_desk.specs.declared.open_fault.OpenFault.{OpenFault}
 use Rattle.rv_desk.specs.declared.open_fault.OpenFault.TheVariants as faulting
@@ -21,10 +20,12 @@ use Rattle.rv_answering.specs.Steps as steps
 use Rattle.rv_cli.specs.declared.ending.Ending.{Ending}
 use Rattle.rv_cli.specs.declared.ending.Ending.TheVariants.{Done, Keeper, Damaged, Read, Write, Memory, Malformed}
 use Rattle.rv_cli.specs.Texts.{fault_ending, text_of}
-use Rattle.rv_cli.specs.Headline.{TakesLine as Takes, TakesStep, AnswersChange}
+use Rattle.rv_cli.specs.Headline.{TakesStep, AnswersChange, served_lines}
+use Rattle.rv_cli.specs.LineTaking.{EndedLine, EndsLine, TakesLine, RoseAt as RoseFor}
 use Rattle.rv_cli.specs.Replying.{Replies}
-use Rattle.rv_cli.specs.Steadiness.{DeskKeepsSteady, KeeperIsSteady, LineKeepsSteady}
-use Rattle.rv_cli.specs.Feeding.{EndedLine, EndedWith, EndsLine, IsLeftWith, LastLine, LineGoesOn, Restarts, RestartsOrNot, RoseAt, ServesOrNot, StandsAs, TakesLine, TookLine, seat_at}
+use Rattle.rv_cli.specs.Steadiness.{DeskKeepsSteady, LineKeepsSteady}
+use Rattle.rv_cli.specs.Feeding.{Restarts, RestartsOrNot, ServesOrNot, StandsAs, desk_taker}
+use Rattle.rv_cli.specs.RunLaws.{desk_stands}
 use Rattle.rv_cli.proofs.Troubled.{any_step_causes, takes_cause}
 use Rattle.rv_turns.specs.Asks.{Ask}
 use Rattle.rv_turns.specs.Outcomes.{IsChanged, trouble_of}
@@ -54,7 +55,7 @@ module _ {K : Type 0} (G : Ghosts K) where
     again.opens.told,
   )
 
-  stands_still : (old new : Seated K) (fault : OpenFault) → StaysAsItWas G old fault new → StandsAs G (served G.faults old) new
+  stands_still : (old new : Seated K) (fault : OpenFault) → StaysAsItWas G old fault new → StandsAs G.faults (served G.faults old) new
   stands_still old new fault stays = record { book = stays.book; limit = stays.limit; doubt = stays.doubt; later = stays.left.later }
 
   pub not_restarted : (old new : Seated K) (fault : OpenFault) → StaysAsItWas G old fault new → RestartsOrNot G old (Err (fault_ending fault)) new
@@ -65,7 +66,7 @@ module _ {K : Type 0} (G : Ghosts K) where
   pub restarted_steady : (old new : Seated K) → OpensAgain G old new → G.fails_no_more old.keeper → DeskKeepsSteady G.fails_no_more G.faults old.keeper new.keeper
   restarted_steady old new again f = (again.opens.goes_on f, again.opens.still)
 
-  pub refused_steady : (old new : Seated K) (fault : OpenFault) → StaysAsItWas G old fault new → G.fails_no_more old.keeper → LineKeepsSteady G.fails_no_more G.faults old.keeper (Err (fault_ending fault)) new.keeper
+  pub refused_steady : (old new : Seated K) (fault : OpenFault) → StaysAsItWas G old fault new → G.fails_no_more old.keeper → LineKeepsSteady (G.fails_no_more new.keeper) (G.faults old.keeper) (G.faults new.keeper) (Err (fault_ending fault))
   refused_steady old new faulting.Keeper stays f = absurd (stays.why.1 f)
   refused_steady old new (faulting.Damaged damage) stays f = ((stays.left.goes_on f, stays.why.still), λ e. absurd (cc))
   refused_steady old new faulting.Memory stays f = ((stays.left.goes_on f, stays.why), λ e. absurd (cc))
@@ -165,16 +166,16 @@ module _ {K : Type 0} (G : Ghosts K) where
       stop_of (Asks asked) e h = absurd h
       stop_of Stop e h = e
 
-  stands_now : (desk : Seated K) → StandsAs G (served G.faults desk) desk
-  stands_now desk = record { book = refl; limit = refl; doubt = refl; later = omega arith }
-
-  answered_line : (old new : Seated K) (line : List ℕ) (number : ℕ) (asked : Parsed) (result : Result (Unit {0}) Ending) (before now : OutputState) → line_of line ≡ Some (Asks asked) → ServesOrNot G old asked result new before now → TakesLine G old line number result new before now
-  answered_line old new line number asked (Ok done) before now is ((answer, step, appended), counts, told) =
-      (LineGoesOn.answered (record { answer = answer; step = record { taken = Asks asked; asks = is; step = step }; appended = appended; counts = counts }), told, (takes_cause (G.tells new.keeper) (served G.faults old) (served G.faults new) (Asks asked) (Some answer) step).0)
+  answered_line : (old new : Seated K) (line : List ℕ) (number : ℕ) (asked : Parsed) (result : Result (Unit {0}) Ending) (before now : OutputState) → line_of line ≡ Some (Asks asked) → ServesOrNot G old asked result new before now → TakesLine (desk_taker G) old line number result new before now
+  answered_line old new line number asked (Ok done) before now is ((answer, step, appended), counts, told) = record {
+    goes = record { answer = Some answer; step = record { taken = Asks asked; asks = is; step = step }; adds = (appended, counts) };
+    told = told;
+    later = (takes_cause (G.tells new.keeper) (served G.faults old) (served G.faults new) (Asks asked) (Some answer) step).0;
+  }
   answered_line old new line number asked (Err Write) before now is ((answer, step, front), rose, told) = record {
     new = served G.faults new;
     ends = record { answer = answer; step = record { taken = Asks asked; asks = is; step = step }; front = front; rose = rose };
-    stands = stands_now new;
+    stands = desk_stands G.faults new;
     told = told;
     rose = tt;
   }
@@ -186,13 +187,17 @@ module _ {K : Type 0} (G : Ghosts K) where
   answered_line old new line number asked (Err (Malformed n)) before now is never = absurd never
 
   pub takes_asked : (old new : Seated K) (line : List ℕ) (number : ℕ) (read : Parsed) (result : Result (Unit {0}) Ending) (before now : OutputState) → AreLines (line_of line) (Some (Asks read))
-      → ((asked : Parsed) → IsReading asked read → ServesOrNot G old asked result new before now) → TakesLine G old line number result new before now
+      → ((asked : Parsed) → IsReading asked read → ServesOrNot G old asked result new before now) → TakesLine (desk_taker G) old line number result new before now
   takes_asked old new line number read result before now lines serves =
       let (asked, is, reading) = lines_ask line read lines in
       answered_line old new line number asked result before now is (serves asked reading)
 
-  stopped_line : (old new : Seated K) (line : List ℕ) (number : ℕ) (result : Result (Unit {0}) Ending) (out : OutputState) → line_of line ≡ Some Stop → RestartsOrNot G old result new → TakesLine G old line number result new out out
-  stopped_line old new line number (Ok done) out stop (reopens, told) = (LineGoesOn.stopped (record { stop = stop; reopens = reopens; kept = refl }), told, (let n = reopens.faults in omega (arith, n)))
+  stopped_line : (old new : Seated K) (line : List ℕ) (number : ℕ) (result : Result (Unit {0}) Ending) (out : OutputState) → line_of line ≡ Some Stop → RestartsOrNot G old result new → TakesLine (desk_taker G) old line number result new out out
+  stopped_line old new line number (Ok done) out stop (reopens, told) = record {
+    goes = record { answer = None; step = record { taken = Stop; asks = stop; step = reopens }; adds = refl };
+    told = told;
+    later = let n = reopens.faults in omega (arith, n);
+  }
   stopped_line old new line number (Err Keeper) out stop (is, stands, told, rose) = record { new = served G.faults old; ends = (stop, refl, refl); stands = stands; told = told; rose = rose }
   stopped_line old new line number (Err (Damaged damage)) out stop (is, stands, told, rose) = record { new = served G.faults old; ends = (stop, refl, refl); stands = stands; told = told; rose = rose }
   stopped_line old new line number (Err Memory) out stop (is, stands, told, rose) = record { new = served G.faults old; ends = (refl, refl); stands = stands; told = told; rose = rose }
@@ -201,47 +206,21 @@ module _ {K : Type 0} (G : Ghosts K) where
   stopped_line old new line number (Err Write) out stop (never, stands, told, rose) = absurd never
   stopped_line old new line number (Err (Malformed n)) out stop (never, stands, told, rose) = absurd never
 
-  pub takes_stop : (old new : Seated K) (line : List ℕ) (number : ℕ) (result : Result (Unit {0}) Ending) (out : OutputState) → AreLines (line_of line) (Some Stop) → RestartsOrNot G old result new → TakesLine G old line number result new out out
+  pub takes_stop : (old new : Seated K) (line : List ℕ) (number : ℕ) (result : Result (Unit {0}) Ending) (out : OutputState) → AreLines (line_of line) (Some Stop) → RestartsOrNot G old result new → TakesLine (desk_taker G) old line number result new out out
   takes_stop old new line number result out lines restarts = stopped_line old new line number result out (lines_stop line lines) restarts
 
   -- a line with which the lines end, and nothing is answered
-  pub ends_here : (desk : Seated K) (line : List ℕ) (number : ℕ) (ending : Ending) (out : OutputState) → EndsLine G (G.tells desk.keeper) (served G.faults desk) line number (served G.faults desk) out out ending → RoseAt G ending (G.faults desk.keeper) desk.keeper → EndedLine G desk line number ending desk out out
-  ends_here desk line number ending out ends rose = record { new = served G.faults desk; ends = ends; stands = stands_now desk; told = λ t. t; rose = rose }
-
-  -- the desk is closed with which the lines ended
-  pub ended_with : (old desk : Seated K) (keeper : K) (line : List ℕ) (number : ℕ) (ending : Ending) (before now : OutputState) → keeper ≡ desk.keeper → DeskKeeps G desk → EndedLine G old line number ending desk before now → EndedWith G old line number (ending, keeper) before now
-  ended_with old desk keeper line number ending before now is kept e = subst (λ (k : K). EndedWith G old line number (ending, k) before now) (sym is) (record {
-    new = e.new;
-    ends = e.ends;
-    left = record { kept = subst (λ (b : Book). KeepsBook G desk.keeper b e.new.doubt) e.stands.book (subst (λ (d : Doubt). KeepsBook G desk.keeper desk.book d) e.stands.doubt kept); later = e.stands.later };
-    told = e.told;
-    rose = e.rose;
-  })
-
-  -- the last line of the input
-  pub last_done : (old new : Seated K) (keeper : K) (line : List ℕ) (number : ℕ) (before now : OutputState) → keeper ≡ new.keeper → DeskKeeps G new → TookLine G old line new before now → LastLine G old line number (Done, keeper) before now
-  last_done old new keeper line number before now is kept taken = LastLine.done new taken (record { kept = kept; later = omega arith }) (ap (λ (k : K). (Done, k)) is)
-
-  pub last_ends : (old desk : Seated K) (keeper : K) (line : List ℕ) (number : ℕ) (ending : Ending) (before now : OutputState) → keeper ≡ desk.keeper → DeskKeeps G desk → EndedLine G old line number ending desk before now → LastLine G old line number (ending, keeper) before now
-  last_ends old desk keeper line number ending before now is kept e = LastLine.ends (ended_with old desk keeper line number ending before now is kept e)
+  pub ends_here : (desk : Seated K) (line : List ℕ) (number : ℕ) (ending : Ending) (out : OutputState) → EndsLine served_lines (G.tells desk.keeper) (served G.faults desk) line number (served G.faults desk) out out ending → RoseFor (desk_taker G).tells (desk_taker G).faults ending (G.faults desk.keeper) desk
+      → EndedLine (desk_taker G) desk line number ending desk out out
+  ends_here desk line number ending out ends rose = record { new = served G.faults desk; ends = ends; stands = desk_stands G.faults desk; told = λ t. t; rose = rose }
 
   -- ---- What fails no more.
-
-  -- the lines end with a keeper that has gone on so
-  pub ends_steady : (before : K) (desk : Seated K) (keeper : K) (ending : Ending) → keeper ≡ desk.keeper → (ending ≡ Keeper → ⊥) → DeskKeepsSteady G.fails_no_more G.faults before desk.keeper → KeeperIsSteady G.fails_no_more G.faults before (ending, keeper)
-  ends_steady before desk keeper ending is never (goes, same) = record { goes_on = subst G.fails_no_more (sym is) goes; still = ap G.faults is ∙ same; no_fault = never }
-
-  pub line_ends_steady : (before mid : K) (desk : Seated K) (keeper : K) (ending : Ending) → keeper ≡ desk.keeper → G.faults mid ≡ G.faults before → LineKeepsSteady G.fails_no_more G.faults mid (Err ending) desk.keeper → KeeperIsSteady G.fails_no_more G.faults before (ending, keeper)
-  line_ends_steady before mid desk keeper ending is same ((goes, still), never) = ends_steady before desk keeper ending is never (goes, still ∙ same)
-
-  pub later_steady : (before mid : K) (ended : Ending × K) → G.faults mid ≡ G.faults before → KeeperIsSteady G.fails_no_more G.faults mid ended → KeeperIsSteady G.fails_no_more G.faults before ended
-  later_steady before mid ended same e = record { goes_on = e.goes_on; still = e.still ∙ same; no_fault = e.no_fault }
 
   pub served_steady : (old new : Seated K) (asked : Parsed) (answer : Answer) → steps.Handles (DeskTakes G) old asked answer new → G.fails_no_more old.keeper → DeskKeepsSteady G.fails_no_more G.faults old.keeper new.keeper
   served_steady old new asked answer handled f = (desk_handles old new asked answer handled).1.steady f
 
   pub asked_steady : (old new : Seated K) (line : List ℕ) (read : Parsed) (result : Result (Unit {0}) Ending) (before now : OutputState) → AreLines (line_of line) (Some (Asks read)) → ((asked : Parsed) → IsReading asked read → ServesOrNot G old asked result new before now)
-      → ((asked : Parsed) → IsReading asked read → G.fails_no_more old.keeper → DeskKeepsSteady G.fails_no_more G.faults old.keeper new.keeper) → G.fails_no_more old.keeper → LineKeepsSteady G.fails_no_more G.faults old.keeper result new.keeper
+      → ((asked : Parsed) → IsReading asked read → G.fails_no_more old.keeper → DeskKeepsSteady G.fails_no_more G.faults old.keeper new.keeper) → G.fails_no_more old.keeper → LineKeepsSteady (G.fails_no_more new.keeper) (G.faults old.keeper) (G.faults new.keeper) result
   asked_steady old new line read (Ok done) before now lines serves steady f = let (asked, is, reading) = lines_ask line read lines in steady asked reading f
   asked_steady old new line read (Err Write) before now lines serves steady f = let (asked, is, reading) = lines_ask line read lines in (steady asked reading f, λ e. absurd (cc))
   asked_steady old new line read (Err Done) before now lines serves steady f = let (asked, is, reading) = lines_ask line read lines in absurd (serves asked reading)
@@ -250,19 +229,3 @@ module _ {K : Type 0} (G : Ghosts K) where
   asked_steady old new line read (Err Read) before now lines serves steady f = let (asked, is, reading) = lines_ask line read lines in absurd (serves asked reading)
   asked_steady old new line read (Err Memory) before now lines serves steady f = let (asked, is, reading) = lines_ask line read lines in absurd (serves asked reading)
   asked_steady old new line read (Err (Malformed number)) before now lines serves steady f = let (asked, is, reading) = lines_ask line read lines in absurd (serves asked reading)
-
--- the endings that tell of no keeper
-pub not_write : Write ≡ Keeper → ⊥
-not_write e = absurd (cc)
-
-pub not_done : Done ≡ Keeper → ⊥
-not_done e = absurd (cc)
-
-pub not_read : Read ≡ Keeper → ⊥
-not_read e = absurd (cc)
-
-pub not_memory : Memory ≡ Keeper → ⊥
-not_memory e = absurd (cc)
-
-pub not_malformed : (number : ℕ) → Malformed number ≡ Keeper → ⊥
-not_malformed number e = absurd (cc)

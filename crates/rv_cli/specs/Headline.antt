@@ -1,16 +1,13 @@
--- The headline: what a run of the program reads, writes and answers, and what is kept. It is read from the top down: a line and
--- what it asks, what is answered, how a run over lines ends, how it begins and what it leaves, what `run` promises of each
--- command, and what follows.
-use Rattle.std.specs.Prelude.{codes, decimal, ℕ, ◌≡◌, ◌≤◌, ◌+◌, ◌-◌, ◌^◌, ◌⊎◌, ◌&&◌, List, [], ◌∷◌, ◌++◌, length, nat_le, nat_lt, Bool, true, Option, Some, None, IfSome, Ok, if◌then◌else◌}
-use Rattle.std.specs.List.{flat_map, range_with_len, AllByRecursion}
+-- The headline: what a run of the program reads, writes and answers, and what is kept. It is read from the top down: what is
+-- answered, a run over lines and how it ends (what a line is and what is said of such runs stands in `LineRuns.antt`), how it begins
+-- and what it leaves, what `run` promises of each command, and what follows.
+use Rattle.std.specs.Prelude.{codes, decimal, ℕ, ◌≡◌, ◌≤◌, ◌+◌, ◌-◌, ◌^◌, ◌⊎◌, List, [], ◌∷◌, ◌++◌, length, Bool, true, Option, Some, None, IfSome, Ok}
+use Rattle.std.specs.List.{range_with_len, AllByRecursion}
 use Rattle.std.specs.List.Sorted.{IsStrictlyIncreasing}
-use Rattle.std.specs.Option.{option_map_or}
-use Rattle.std.specs.Io.KnownBytes.{Consumes, Appends}
+use Rattle.std.specs.Io.KnownBytes.{Appends}
 use Rattle.rv_base.specs.Causes.{Rose}
-use Rattle.rv_base.specs.Outside.{InputState, OutputState, counted}
+use Rattle.rv_base.specs.Outside.{InputState, OutputState}
 use Rattle.rv_base.specs.Writes.{AppendsFront, IsFront}
-use Rattle.rv_lines.specs.Lines.{lines_of, ended_lines_of, longest_line}
-use Rattle.rv_lines.specs.Taken.{IsNeeded}
 use Rattle.rv_rows.specs.Held.{Stored as StoredRow, rows_in}
 use Rattle.rv_rows.specs.Sharing.{seen}
 use Rattle.rv_book.specs.Book.{Book, last, opening, size, Extends}
@@ -37,8 +34,10 @@ use Rattle.rv_make.specs.Plays.{Plays}
 use Rattle.rv_make.specs.SummaryTexts.{summary_text}
 use Rattle.rv_make.specs.declared.summary.Summary.{Summary}
 use Rattle.rv_cli.specs.declared.ending.Ending.{Ending}
-use Rattle.rv_cli.specs.declared.ending.Ending.TheVariants.{Done, Keeper, Damaged, Read, Write, Memory, Malformed}
+use Rattle.rv_cli.specs.declared.ending.Ending.TheVariants.{Done, Keeper, Damaged, Write, Memory}
 use Rattle.rv_cli.specs.Change.{StoreChange}
+use Rattle.rv_cli.specs.LineRuns.{Lines, IsOwnText, IsPart, ReadsSo, WritesSo}
+use Rattle.rv_cli.specs.LineRuns as line_runs
 use Rattle.rv_cli.specs.Texts.{text_of, status_of, status_text}
 use Rattle.rv_turns.specs.Outcomes.{IsChanged}
 use Rattle.rv_wire.specs.Answers.{pull_json}
@@ -52,20 +51,6 @@ use Rattle.rv_answering.specs.Steps as steps
 -- A pull reads at most as many rows and clients as the view at its base and the view now have: a clause of `pull` of a desk and of
 -- `turn_pull` of a room, and of `take_counted` and `turn_counted`, by which lines and requests are answered.
 pub use Rattle.rv_history.specs.Reading.{pull_entries, turn_entries}
-
--- ---- A line.
-
--- What the line with this number, from 1, is, where it is of the form: it is no longer than a line may be, its number is below
--- 2^32, and its bytes ask something or are a stop.
-abbrev pub line_at : ℕ → List ℕ → Option Line
-line_at number line = if nat_le (length line) longest_line && nat_lt number (2 ^ 32) then line_of line else None
-
--- each of these lines, numbered on from this number, is of the form and is this
-abbrev pub Are : ℕ → List (List ℕ) → List Line → Type 0
-Are number [] [] = Unit {0}
-Are number (bytes ∷ rest) (line ∷ lines) = (line_at number bytes ≡ Some line) × Are (number + 1) rest lines
-Are number [] (line ∷ lines) = ⊥
-Are number (bytes ∷ rest) [] = ⊥
 
 -- ---- What is answered.
 
@@ -103,136 +88,40 @@ TakesLine Told old Stop None new = Reopens Told old new
 TakesLine Told old (Asks asked) None new = ⊥
 TakesLine Told old Stop (Some answer) new = ⊥
 
--- lines are taken one after another
+-- Lines as a server takes them: what bytes ask, how it takes that, and the text of its answers. After a stop it may stay closed.
+abbrev pub served_lines : Lines
+served_lines = record { State = Served; Line = Line; Answer = Answer; read = line_of; Takes = TakesLine; text = text_of; IsStop = λ line. line ≡ Some Stop }
+
+-- ---- Runs over lines, of such a server (`LineRuns.antt`): what lines are, what a run over them answers, and how it ends.
+
+abbrev pub Are : ℕ → List (List ℕ) → List Line → Type 0
+Are = line_runs.Are served_lines
+
 abbrev pub Run : Type 0 → Served → List Line → List (Option Answer) → Served → Type 0
-Run Told old [] [] new = new ≡ old
-Run Told old (line ∷ lines) (answer ∷ answers) new = (mid : Served) × TakesLine Told old line answer mid × Run Told mid lines answers new
-Run Told old [] (answer ∷ answers) new = ⊥
-Run Told old (line ∷ lines) [] new = ⊥
+Run = line_runs.Run served_lines
 
--- the line of an answer; a stop writes nothing
 abbrev pub told_text : Option Answer → List ℕ
-told_text answer = option_map_or text_of answer []
+told_text = line_runs.told_text served_lines
 
--- A run from the first state takes what these lines are, and writes this text.
-pub record Answered (Told : Type 0) (first : Served) (lines : List (List ℕ)) (text : List ℕ) (now : Served) : Type 0 where
-  pub taken : List Line
-  pub answers : List (Option Answer)
-  pub are : Are 1 lines taken
-  pub run : Run Told first taken answers now
-  pub told : text ≡ flat_map told_text answers
+abbrev pub Answered : Type 0 → Served → List (List ℕ) → List ℕ → Served → Type 0
+Answered = line_runs.Answered served_lines
 
--- ---- How a run over lines ends.
+abbrev pub IsCutOff : Type 0 → Served → List ℕ → List ℕ → List ℕ → Served → Type 0
+IsCutOff = line_runs.IsCutOff served_lines
 
--- Of the last line that is examined only a front of the answer was written. The lines before it are answered.
-pub record IsCutOff (Told : Type 0) (first : Served) (bytes read text : List ℕ) (now : Served) : Type 0 where
-  pub lines : List (List ℕ)
-  pub line : List ℕ
-  pub others : List (List ℕ)
-  pub are : lines_of bytes ≡ lines ++ line ∷ others
-  pub within : (more : List (List ℕ)) × (lines_of read ≡ lines ++ line ∷ more)
-  pub needed : IsNeeded read (length lines + 1)
-  pub before : List ℕ
-  pub mid : Served
-  pub answered : Answered Told first lines before mid
-  pub taken : Line
-  pub asks : line_at (length lines + 1) line ≡ Some taken
-  pub answer : Answer
-  pub step : TakesLine Told mid taken (Some answer) now
-  pub part : List ℕ
-  pub told : text ≡ before ++ part
-  pub front : IsFront part (text_of answer)
-
--- The line with this number is the first that isn't of the form, and all lines before it are answered.
-pub record StopsAt (Told : Type 0) (first : Served) (number : ℕ) (bytes read text : List ℕ) (now : Served) : Type 0 where
-  pub lines : List (List ℕ)
-  pub line : List ℕ
-  pub others : List (List ℕ)
-  pub are : lines_of bytes ≡ lines ++ line ∷ others
-  pub count : number ≡ length lines + 1
-  pub asks : line_at number line ≡ None
-  pub needed : IsNeeded read (length lines + 1)
-  pub answered : Answered Told first lines text now
-
--- These first lines are answered, and memory was refused before it was known what the next one asks, or in opening again.
-pub record StopsAfter (Told : Type 0) (first : Served) (bytes read text : List ℕ) (now : Served) : Type 0 where
-  pub lines : List (List ℕ)
-  pub others : List (List ℕ)
-  pub are : lines_of bytes ≡ lines ++ others
-  pub needed : IsNeeded read (length lines + 1)
-  pub answered : Answered Told first lines text now
-
--- The next line is a stop, after which the server did not open again. The lines before it are answered.
-pub record StaysClosed (Told : Type 0) (first : Served) (bytes read text : List ℕ) (now : Served) : Type 0 where
-  pub lines : List (List ℕ)
-  pub line : List ℕ
-  pub others : List (List ℕ)
-  pub are : lines_of bytes ≡ lines ++ line ∷ others
-  pub stop : line_at (length lines + 1) line ≡ Some Stop
-  pub needed : IsNeeded read (length lines + 1)
-  pub answered : Answered Told first lines text now
-
--- A run over these bytes, of which some were read, may end so, with this text of answers and this state.
 abbrev pub Ends : Type 0 → Served → List ℕ → List ℕ → List ℕ → Served → Ending → Type 0
--- the input was read to its end, and all its lines are answered
-Ends Told first bytes read text now Done = (read ≡ bytes) × Answered Told first (lines_of bytes) text now
--- a read failed, and all lines whose LF was read are answered
-Ends Told first bytes read text now Read = Answered Told first (ended_lines_of read) text now × IsNeeded read (length (ended_lines_of read) + 1)
-Ends Told first bytes read text now Write = IsCutOff Told first bytes read text now
-Ends Told first bytes read text now Memory = StopsAfter Told first bytes read text now
-Ends Told first bytes read text now (Malformed number) = StopsAt Told first number bytes read text now
-Ends Told first bytes read text now Keeper = StaysClosed Told first bytes read text now
-Ends Told first bytes read text now (Damaged damage) = StaysClosed Told first bytes read text now
+Ends = line_runs.Ends served_lines
 
--- the text, and no write failed; or a front of it, and one did
-abbrev pub IsPart : ℕ → ℕ → List ℕ → List ℕ → Type 0
-IsPart before now own text = ((own ≡ text) × (now ≡ before)) ⊎ (IsFront own text × Rose before now)
+abbrev pub Fed : Type 0 → Served → Served → List ℕ → InputState → OutputState → OutputState → Ending → Type 0
+Fed = line_runs.Fed served_lines
 
--- What was written of the status's own text, by the count of the output's faults: all of it, and no write failed; or a
--- front of it, and one did. After a failed write of an answer nothing more is written.
-abbrev pub IsOwnText : ℕ → ℕ → List ℕ → Ending → Type 0
-IsOwnText before now own Write = (own ≡ []) × Rose before now
-IsOwnText before now own Done = (own ≡ []) × (now ≡ before)
-IsOwnText before now own Keeper = IsPart before now own (status_text Keeper)
-IsOwnText before now own (Damaged damage) = IsPart before now own (status_text (Damaged damage))
-IsOwnText before now own Read = IsPart before now own (status_text Read)
-IsOwnText before now own Memory = IsPart before now own (status_text Memory)
-IsOwnText before now own (Malformed number) = IsPart before now own (status_text (Malformed number))
+-- where the source tells and all its lines are of the form, P
+abbrev pub AllAsk : Option (List ℕ) → Type 0 → Type 0
+AllAsk = line_runs.AllAre served_lines
 
 -- the text, or where a write failed a front of it, and nothing else was written
 abbrev pub WritesOnly : OutputState → OutputState → List ℕ → Type 0
 WritesOnly old new text = (own : List ℕ) × Appends old.written new.written own × IsPart old.faults new.faults own text
-
--- The bytes that were read are the front of the input's, and what was added to the output is the text of the answers, and
--- then the status's own.
-pub record Fed (Told : Type 0) (first now : Served) (bytes : List ℕ) (input' : InputState) (output output' : OutputState) (ending : Ending) : Type 0 where
-  pub read : List ℕ
-  pub text : List ℕ
-  pub own : List ℕ
-  pub consumed : Consumes (Some bytes) input'.left read
-  pub appended : Appends output.written output'.written (text ++ own)
-  pub ends : Ends Told first bytes read text now ending
-  pub status : IsOwnText output.faults output'.faults own ending
-
--- A failed read is told by its status, and by no other; nothing is read after the end.
-abbrev pub ReadsSo : InputState → InputState → Ending → Type 0
-ReadsSo old new Done = (new.faults ≡ old.faults) × (new.ends ≡ counted old.ends)
-ReadsSo old new Read = Rose old.faults new.faults × (new.ends ≡ old.ends)
-ReadsSo old new Write = (new.faults ≡ old.faults) × ((new.ends ≡ old.ends) ⊎ (new.ends ≡ counted old.ends))
-ReadsSo old new Keeper = (new.faults ≡ old.faults) × ((new.ends ≡ old.ends) ⊎ (new.ends ≡ counted old.ends))
-ReadsSo old new (Damaged damage) = (new.faults ≡ old.faults) × ((new.ends ≡ old.ends) ⊎ (new.ends ≡ counted old.ends))
-ReadsSo old new Memory = (new.faults ≡ old.faults) × ((new.ends ≡ old.ends) ⊎ (new.ends ≡ counted old.ends))
-ReadsSo old new (Malformed number) = (new.faults ≡ old.faults) × ((new.ends ≡ old.ends) ⊎ (new.ends ≡ counted old.ends))
-
--- A failed write of an answer is told by its status, and by no other; that of a status's own text is not told.
-abbrev pub WritesSo : ℕ → ℕ → Ending → Type 0
-WritesSo before now Done = now ≡ before
-WritesSo before now Write = Rose before now
-WritesSo before now Keeper = (now ≡ before) ⊎ Rose before now
-WritesSo before now (Damaged damage) = (now ≡ before) ⊎ Rose before now
-WritesSo before now Read = (now ≡ before) ⊎ Rose before now
-WritesSo before now Memory = (now ≡ before) ⊎ Rose before now
-WritesSo before now (Malformed number) = (now ≡ before) ⊎ Rose before now
 
 -- ---- How a run begins, and what it leaves of its store.
 
@@ -301,10 +190,6 @@ module _ (c : StoreChange) where
   abbrev pub RunsFeed : InputState → InputState → OutputState → OutputState → ℕ → Type 0
   RunsFeed input input' output output' status = (ending : Ending) × (status ≡ status_of ending)
       × ((NotFed input input' output output' ending × IsLeftAs c) ⊎ HasFed input input' output output' ending)
-
--- where the source tells and all its lines are of the form, P
-abbrev pub AllAsk : Option (List ℕ) → Type 0 → Type 0
-AllAsk left P = IfSome left (λ bytes. (taken : List Line) → Are 1 (lines_of bytes) taken → P)
 
 -- a status that is not that of a line which isn't of the form
 abbrev pub IsOther : ℕ → Type 0

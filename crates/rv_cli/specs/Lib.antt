@@ -1,9 +1,12 @@
 pub mod Texts
 pub mod Change
+pub mod LineRuns
+pub mod LineTaking
+pub mod LineRunLaws
 pub mod Headline
+pub mod Feeding
 pub mod RunLaws
 pub mod Storing
-pub mod Feeding
 pub mod Steadiness
 pub mod Replying
 pub mod Reporting

@@ -45,10 +45,10 @@ pub record KeeperIsSteady {K : Type 0} (fails_no_more : K → Type 0) (faults : 
 abbrev pub DeskKeepsSteady : {K : Type 0} → (K → Type 0) → (K → ℕ) → K → K → Type 0
 DeskKeepsSteady fails_no_more faults before now = fails_no_more now × (faults now ≡ faults before)
 
--- the same after a line, with which it is not told to have failed
-abbrev pub LineKeepsSteady : {K : Type 0} → (K → Type 0) → (K → ℕ) → K → Result (Unit {0}) Ending → K → Type 0
-LineKeepsSteady fails_no_more faults before (Ok done) now = DeskKeepsSteady fails_no_more faults before now
-LineKeepsSteady fails_no_more faults before (Err ending) now = DeskKeepsSteady fails_no_more faults before now × (ending ≡ Keeper → ⊥)
+-- after a line it goes on so, its count of faults stays, and it is not told to have failed
+abbrev pub LineKeepsSteady : Type 0 → ℕ → ℕ → Result (Unit {0}) Ending → Type 0
+LineKeepsSteady steady before now (Ok done) = steady × (now ≡ before)
+LineKeepsSteady steady before now (Err ending) = (steady × (now ≡ before)) × (ending ≡ Keeper → ⊥)
 
 -- the same of a store's desk, whose keeper is new, or of why there is none
 abbrev pub DeskIsSteady : {K : Type 0} → (K → Type 0) → (K → ℕ) → Result (Seated K) Ending → Type 0

@@ -2,10 +2,12 @@
 ghost use Rattle.std.specs.Prelude.{◌≡◌, ◌<◌, ◌^◌};
 ghost use Rattle.rv_answering.specs.Reads.{IsReading};
 ghost use Rattle.rv_answering.specs.Requests.{Parsed};
-ghost use Rattle.rv_cli.specs.Feeding.{RestartsOrNot, ServesOrNot, TakesLine};
+ghost use Rattle.rv_cli.specs.Feeding.{RestartsOrNot, ServesOrNot, desk_taker};
+ghost use Rattle.rv_cli.specs.LineTaking.{TakesLine};
 ghost use Rattle.rv_cli.specs.Steadiness.{DeskKeepsSteady, LineIsSteady, LineKeepsSteady};
 
 use crate::ending::Ending;
+use crate::line_taker::LineTaker;
 use crate::texts::write_answer;
 use rv_answering::{Line, Parsed, line_of, serve_asked};
 use rv_base::{Failed, Memory, Sink};
@@ -29,7 +31,7 @@ fn serve<K: Keeper, O: Sink>(desk: &mut Desk<K>, read: Parsed, out: &mut O) -> R
 // Closes the desk, and opens it again from its keeper.
 fn restart<K: Keeper>(desk: &mut Desk<K>) -> Result<(), Ending>
     ensures restarts { RestartsOrNot K.Keeper desk.old result desk.new }
-    ensures steady_keeper { K.fails_no_more desk.old.keeper → LineKeepsSteady K.fails_no_more K.faults desk.old.keeper result desk.new.keeper }
+    ensures steady_keeper { K.fails_no_more desk.old.keeper → LineKeepsSteady (K.fails_no_more desk.new.keeper) (K.faults desk.old.keeper) (K.faults desk.new.keeper) result }
 {
     match desk.reopen() {
         Ok(()) => Ok(()),
@@ -37,17 +39,17 @@ fn restart<K: Keeper>(desk: &mut Desk<K>) -> Result<(), Ending>
     }
 }
 
-/// Takes a line: answers it and writes its answer, or closes and opens the desk. Where the lines end with it, it gives the ending.
-pub(crate) fn take_line<K: Keeper, O: Sink>(
+// Takes a line: answers it and writes its answer, or closes and opens the desk. Where the lines end with it, it gives the ending.
+fn take_line<K: Keeper, O: Sink>(
     alloc: Global,
     desk: &mut Desk<K>,
     line: &[u8],
     number: u64,
     out: &mut O,
 ) -> Result<(), Ending>
-    ensures takes { TakesLine K.Keeper desk.old line.now number result desk.new (O.state out.old) (O.state out.new) }
+    ensures takes { TakesLine (desk_taker K.Keeper) desk.old line.now number result desk.new (O.state out.old) (O.state out.new) }
     ensures steady { O.fails_no_more out.old → LineIsSteady (O.fails_no_more out.new) (O.state out.old).refusals (O.state out.new).refusals result }
-    ensures steady_keeper { K.fails_no_more desk.old.keeper → LineKeepsSteady K.fails_no_more K.faults desk.old.keeper result desk.new.keeper }
+    ensures steady_keeper { K.fails_no_more desk.old.keeper → LineKeepsSteady (K.fails_no_more desk.new.keeper) (K.faults desk.old.keeper) (K.faults desk.new.keeper) result }
 {
     match line_of(alloc, line) {
         Ok(Some(Line::Asks(read))) => serve(desk, read, out),
@@ -55,4 +57,24 @@ pub(crate) fn take_line<K: Keeper, O: Sink>(
         Ok(None) => Err(Ending::Malformed(number)),
         Err(Memory) => Err(Ending::Memory),
     }
+}
+
+impl<K: Keeper> LineTaker for Desk<K> {
+    ghost use Rattle.rv_cli.specs.RunLaws.{desk_stands, desk_takes_later};
+
+    ghost taker = { desk_taker K.Keeper };
+
+    fn take<O: Sink>(
+        &mut self,
+        alloc: Global,
+        line: &[u8],
+        number: u64,
+        out: &mut O,
+    ) -> Result<(), Ending> {
+        take_line(alloc, self, line, number, out)
+    }
+
+    ghost takes_later = { desk_takes_later K.tells };
+
+    ghost stands_now = { desk_stands K.faults };
 }

@@ -11,8 +11,8 @@ use Rattle.rv_answering.specs.declared.answer.Answer.{Answer}
 use Rattle.rv_answering.specs.declared.line.Line.{Line}
 use Rattle.rv_cli.specs.declared.ending.Ending.{Ending}
 use Rattle.rv_cli.specs.declared.ending.Ending.TheVariants.{Done, Keeper, Damaged, Read, Write, Memory, Malformed}
-use Rattle.rv_cli.specs.Headline.{Answered, Ends, Fed, IsCutOff, Run, told_text}
-use Rattle.rv_cli.specs.RunLaws.{answered_more}
+use Rattle.rv_cli.specs.Headline.{Answered, Ends, Fed, IsCutOff, Run, served_lines, told_text}
+use Rattle.rv_cli.specs.LineRunLaws.{answered_more}
 use Rattle.rv_cli.specs.Texts.{text_of}
 use Rattle.rv_laws.specs.Feeds.{AreFirst, DidNotOpen, FeedRun, FeedsAreRuns, IsFrontOrAll}
 
@@ -53,7 +53,7 @@ module _ (Told : Type 0) (first now : Served) (bytes read text : List ℕ) where
   of_cut : IsCutOff Told first bytes read text now → IsRun Told first now bytes text
   of_cut c =
       let lines : List (List ℕ) = c.lines ++ c.line ∷ [] in
-      let w : Answered Told first lines (c.before ++ text_of c.answer) now = answered_more Told first c.lines c.line c.before c.mid now (length c.lines + 1) c.taken (Some c.answer) refl c.answered c.asks c.step in
+      let w : Answered Told first lines (c.before ++ text_of c.answer) now = answered_more served_lines Told first c.lines c.line c.before c.mid now (length c.lines + 1) c.taken (Some c.answer) refl c.answered c.asks c.step in
       let (rest, is, some) = c.front in
       let whole : flat_map told_text w.answers ≡ text ++ rest =
       sym w.told ∙ ap (λ (t : List ℕ). c.before ++ t) is ∙ sym (append_assoc c.before c.part rest) ∙ ap (λ (t : List ℕ). t ++ rest) (sym c.told) in

@@ -1,5 +1,4 @@
-use Rattle.std.proofs.Common.{refl}
-use Rattle.rv_cli.proofs.Taking.{asked_steady, ends_here, not_malformed, not_memory, takes_asked, takes_stop}
+use Rattle.rv_cli.proofs.Taking.{asked_steady, takes_asked, takes_stop}
 use Rattle.rv_cli.proofs.line.take_line.Goals as goal
 
 pub returns-in-Ok-Some-Asks-clause-takes : goal.returns-in-Ok-Some-Asks-clause-takes

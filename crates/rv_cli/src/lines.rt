@@ -1,0 +1,56 @@
+// Lines are taken until something ends it.
+ghost use Rattle.std.specs.Prelude.{◌≡◌};
+ghost use Rattle.rv_cli.specs.LineTaking.{TakesLines, found_line};
+ghost use Rattle.rv_cli.specs.Steadiness.{InputIsSteady, KeeperIsSteady, OutputIsSteady};
+
+use crate::ending::Ending;
+use crate::line_taker::LineTaker;
+use rv_base::{Sink, Source};
+use rv_lines::{LineFault, LineReader, Next};
+use std::alloc::Global;
+
+/// The number of the first line that is none by its number alone.
+pub(crate) const LINES_END: u64 = 4_294_967_296;
+
+// Whether the line that was read ends with the input; or how the lines end without one.
+fn found(next: Result<Next, LineFault>, number: u64) -> Result<bool, Ending>
+    ensures { result ≡ found_line next number }
+{
+    match next {
+        Ok(Next::Line) => Ok(false),
+        Ok(Next::Last) => Ok(true),
+        Ok(Next::End) => Err(Ending::Done),
+        Ok(Next::TooLong) => Err(Ending::Malformed(number)),
+        Err(LineFault::Read) => Err(Ending::Read),
+        Err(LineFault::Memory) => Err(Ending::Memory),
+    }
+}
+
+/// Has the lines of the input taken, each as it was read, and tells how they end.
+pub(crate) fn take_lines<T: LineTaker, S: Source, O: Sink>(
+    alloc: Global,
+    taker: &mut T,
+    input: &mut S,
+    out: &mut O,
+) -> Ending
+    ensures takes { TakesLines T.taker taker.old (S.state input.old) (S.state input.new) (O.state out.old) (O.state out.new) result taker.new }
+    ensures steady_input { S.fails_no_more input.old → InputIsSteady (S.fails_no_more input.new) result }
+    ensures steady_output { O.fails_no_more out.old → OutputIsSteady (O.fails_no_more out.new) (O.state out.old).refusals (O.state out.new).refusals result }
+    ensures steady_taker { T.taker.fails_no_more taker.old → KeeperIsSteady T.taker.fails_no_more T.taker.faults taker.old (result, taker.new) }
+{
+    let mut reader = LineReader::new(alloc);
+    for number in 1..LINES_END {
+        match found(reader.next(input), number) {
+            Ok(is_last) => match taker.take(alloc, reader.line(), number, out) {
+                Ok(()) if is_last => return Ending::Done,
+                Ok(()) => {}
+                Err(ending) => return ending,
+            },
+            Err(ending) => return ending,
+        }
+    }
+    match found(reader.next(input), LINES_END) {
+        Ok(_) => Ending::Malformed(LINES_END),
+        Err(ending) => ending,
+    }
+}
