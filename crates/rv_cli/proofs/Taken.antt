@@ -77,7 +77,7 @@ module _ {T : Type 0} (taker : Taker T) (takes_later : (old new : T) → (taker.
   ended_at {new} {last} {out'} {pending'} {line} {is_last} {ending} found lt ended = record {
     now = ended.new;
     feeds = ends_line taker.lines (taker.tells last) (taker.state begun) start first old new out out' pending pending' line is_last number (taker.state now) ended.new ending
-    (going_later taker.lines (taker.tells now) (taker.tells last) (taker.state begun) start old first out pending number (taker.state now) (takes_later now last ended.told) goes.going) found lt ended.ends;
+        (going_later taker.lines (taker.tells now) (taker.tells last) (taker.state begun) start old first out pending number (taker.state now) (takes_later now last ended.told) goes.going) found lt ended.ends;
     stands = ended.stands;
     told = λ t. goes.told (ended.told t);
     rose = rose_since taker.tells taker.faults ending (taker.faults begun) (taker.faults now) last goes.later ended.rose;

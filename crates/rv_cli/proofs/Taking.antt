@@ -20,8 +20,8 @@ use Rattle.rv_answering.specs.Steps as steps
 use Rattle.rv_cli.specs.declared.ending.Ending.{Ending}
 use Rattle.rv_cli.specs.declared.ending.Ending.TheVariants.{Done, Keeper, Damaged, Read, Write, Memory, Malformed}
 use Rattle.rv_cli.specs.Texts.{fault_ending, text_of}
-use Rattle.rv_cli.specs.Headline.{TakesStep, AnswersChange, served_lines}
-use Rattle.rv_cli.specs.LineTaking.{EndedLine, EndsLine, TakesLine, RoseAt as RoseFor}
+use Rattle.rv_cli.specs.Headline.{TakesStep, AnswersChange}
+use Rattle.rv_cli.specs.LineTaking.{TakesLine}
 use Rattle.rv_cli.specs.Replying.{Replies}
 use Rattle.rv_cli.specs.Steadiness.{DeskKeepsSteady, LineKeepsSteady}
 use Rattle.rv_cli.specs.Feeding.{Restarts, RestartsOrNot, ServesOrNot, StandsAs, desk_taker}
@@ -208,11 +208,6 @@ module _ {K : Type 0} (G : Ghosts K) where
 
   pub takes_stop : (old new : Seated K) (line : List ℕ) (number : ℕ) (result : Result (Unit {0}) Ending) (out : OutputState) → AreLines (line_of line) (Some Stop) → RestartsOrNot G old result new → TakesLine (desk_taker G) old line number result new out out
   takes_stop old new line number result out lines restarts = stopped_line old new line number result out (lines_stop line lines) restarts
-
-  -- a line with which the lines end, and nothing is answered
-  pub ends_here : (desk : Seated K) (line : List ℕ) (number : ℕ) (ending : Ending) (out : OutputState) → EndsLine served_lines (G.tells desk.keeper) (served G.faults desk) line number (served G.faults desk) out out ending → RoseFor (desk_taker G).tells (desk_taker G).faults ending (G.faults desk.keeper) desk
-      → EndedLine (desk_taker G) desk line number ending desk out out
-  ends_here desk line number ending out ends rose = record { new = served G.faults desk; ends = ends; stands = desk_stands G.faults desk; told = λ t. t; rose = rose }
 
   -- ---- What fails no more.
 
