@@ -1,5 +1,4 @@
 pub mod Concerned
 pub mod Marking
 pub mod Entered
-pub mod Looks
 pub mod Openings

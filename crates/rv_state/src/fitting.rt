@@ -14,7 +14,7 @@ fn text_fits<const MIN: usize, const MAX: usize>(text: &Bounded<MIN, MAX>)
     let _bytes = text.as_str().as_bytes();
 }
 
-fn id_fits(id: &Id)
+pub(crate) fn id_fits(id: &Id)
     ensures { IsText 1 128 id.now }
 {
     text_fits(id);
@@ -90,7 +90,8 @@ fn call_fits(call: &Call)
     }
 }
 
-fn act_fits(user: &User, group: &Id, client: &Id, id: Num, call: &Call)
+// The texts and the numbers of an act are within their bounds, and its texts are UTF-8.
+pub(crate) fn act_fits(user: &User, group: &Id, client: &Id, id: Num, call: &Call)
     ensures { IsText 1 64 user.now × IsText 1 128 group.now × IsText 1 128 client.now × (id < 2 ^ 53) × CallFits call.now }
 {
     user_fits(user);
@@ -100,7 +101,7 @@ fn act_fits(user: &User, group: &Id, client: &Id, id: Num, call: &Call)
     call_fits(call);
 }
 
-// The texts and the numbers of a look are within their bounds, and its texts are UTF-8.
+// The same of a look.
 pub(crate) fn look_fits(user: &User, group: &Id, order: Num, base: Option<u32>)
     ensures { IsText 1 64 user.now × IsText 1 128 group.now × (order < 2 ^ 53) × IfThere (λ n. n < 2 ^ 32) base }
 {

@@ -6,17 +6,17 @@ ghost use Rattle.rv_book.specs.declared.entry.Entry.TheVariants.{Act, Look, Reti
 ghost use Rattle.rv_book.specs.Book.{empty_book, size};
 ghost use Rattle.rv_news.specs.News.{IsNews, IsTold, is_base_since};
 
-use crate::fitting::{entry_fits, look_fits};
+use crate::fitting::{act_fits, id_fits, look_fits};
 use crate::marks::UserMarks;
 use crate::prepared::{Prepared, PreparedAct, PreparedLook};
 use rv_base::{Id, Memory, Num, Steps, User};
 use rv_book::{Book, BookFault, Entry, Found};
-use rv_history::entries;
 use rv_mutators::{Staged, stage};
 use rv_news::{News, Records, news_for, view_now};
 use rv_rows::{Call, Tables, Users};
 use rv_sharing::add_user;
 use rv_turns::{PullReply, PullRequest};
+use rv_views::ViewRecord;
 use rv_wire::look_reply;
 use std::alloc::Global;
 use std::marker::Model;
@@ -77,7 +77,7 @@ impl State {
     ghost use Rattle.rv_history.specs.Machine.{next_order, reply_to};
     ghost use Rattle.rv_history.specs.Served.{Next, with_next};
     ghost use Rattle.rv_history.specs.Marks.{AreConcerned, IsMark};
-    ghost use Rattle.rv_news.specs.Records.{AreRecords};
+    ghost use Rattle.rv_news.specs.Records.{AreRecords, IsViewAt};
     ghost use Rattle.rv_opening.specs.PageCells.{PartsFit};
     ghost use Rattle.rv_wire.specs.Answers.{pull_json};
     ghost use Rattle.rv_state.specs.Ready.{IsPrepared, next_of};
@@ -174,8 +174,10 @@ impl State {
         ensures book { self.new.book ≡ self.old.book }
         ensures limit { self.new.limit ≡ self.old.limit }
     {
-        let entry = entries::act(self.alloc, user, group, client, id, call)?;
-        self.prepare_found(entry, found)
+        let user = user.copy(self.alloc)?;
+        let group = group.copy(self.alloc)?;
+        let client = client.copy(self.alloc)?;
+        self.ready_act(user, group, client, id, call, found)
     }
 
     /// Prepares the look of a pull that is told this, and makes its reply.
@@ -204,17 +206,10 @@ impl State {
         } = news;
         let place = self.book.len() + 1;
         let reply = look_reply(self.alloc, place, order, ids, ops)?;
-        look_fits(user, &request.group, order, base);
-        reserve(&mut self.book)?;
-        self.records.reserve()?;
-        let look = PreparedLook {
-            user: user.copy(self.alloc)?,
-            group: request.group.copy(self.alloc)?,
-            order,
-            base,
-            view,
-        };
-        Ok((reply, Prepared::Look(look)))
+        let user = user.copy(self.alloc)?;
+        let group = request.group.copy(self.alloc)?;
+        let prepared = self.ready_look(user, group, order, base, view)?;
+        Ok((reply, prepared))
     }
 
     /// Prepares the retirement of a client group.
@@ -226,8 +221,8 @@ impl State {
         ensures book { self.new.book ≡ self.old.book }
         ensures limit { self.new.limit ≡ self.old.limit }
     {
-        let entry = entries::retirement(self.alloc, group)?;
-        self.prepare(entry)
+        let group = group.copy(self.alloc)?;
+        self.ready_retirement(group)
     }
 
     // The users whom an act of this call concerns, by what it stages.
@@ -266,20 +261,6 @@ impl State {
         ensures book { self.new.book ≡ self.old.book }
         ensures limit { self.new.limit ≡ self.old.limit }
     {
-        self.prepare_found(entry, Found::nowhere())
-    }
-
-    // The same, where the group and the client of an act were found in the book.
-    fn prepare_found(&mut self, entry: Entry, found: Found) -> Result<Prepared, Memory>
-        requires within_limit { size self.old.book < self.old.limit }
-        requires lawful { IsLawfulAfter self.old.book entry }
-        ensures prepared { IfOk result (λ prepared. IsPrepared self.new prepared) }
-        ensures entry { IfOk result (λ prepared. next_of prepared ≡ Next.entry entry) }
-        ensures book { self.new.book ≡ self.old.book }
-        ensures limit { self.new.limit ≡ self.old.limit }
-    {
-        entry_fits(&entry);
-        reserve(&mut self.book)?;
         match entry {
             Entry::Act {
                 user,
@@ -287,19 +268,7 @@ impl State {
                 client,
                 id,
                 call,
-            } => {
-                let (staged, concerned) = self.stage_act(&user, &call)?;
-                Ok(Prepared::Act(PreparedAct {
-                    user,
-                    group,
-                    client,
-                    id,
-                    call,
-                    found,
-                    staged,
-                    concerned,
-                }))
-            }
+            } => self.ready_act(user, group, client, id, call, Found::nowhere()),
             Entry::Look {
                 user,
                 group,
@@ -307,17 +276,85 @@ impl State {
                 base,
             } => {
                 let view = view_now(self.alloc, &self.book, &self.tables, &user, &group)?;
-                self.records.reserve()?;
-                Ok(Prepared::Look(PreparedLook {
-                    user,
-                    group,
-                    order,
-                    base,
-                    view,
-                }))
+                self.ready_look(user, group, order, base, view)
             }
-            Entry::Retire { group } => Ok(Prepared::Retirement(group)),
+            Entry::Retire { group } => self.ready_retirement(group),
         }
+    }
+
+    // Prepares an act of these names.
+    fn ready_act(
+        &mut self,
+        user: User,
+        group: Id,
+        client: Id,
+        id: Num,
+        call: Call,
+        found: Found,
+    ) -> Result<Prepared, Memory>
+        requires within_limit { size self.old.book < self.old.limit }
+        requires lawful { IsLawfulAfter self.old.book (Act user group client id call) }
+        ensures prepared { IfOk result (λ prepared. IsPrepared self.new prepared) }
+        ensures entry { IfOk result (λ prepared. next_of prepared ≡ Next.entry (Act user group client id call)) }
+        ensures book { self.new.book ≡ self.old.book }
+        ensures limit { self.new.limit ≡ self.old.limit }
+    {
+        act_fits(&user, &group, &client, id, &call);
+        reserve(&mut self.book)?;
+        let (staged, concerned) = self.stage_act(&user, &call)?;
+        Ok(Prepared::Act(PreparedAct {
+            user,
+            group,
+            client,
+            id,
+            call,
+            found,
+            staged,
+            concerned,
+        }))
+    }
+
+    // Prepares a look of these names with this view record.
+    fn ready_look(
+        &mut self,
+        user: User,
+        group: Id,
+        order: Num,
+        base: Option<u32>,
+        view: ViewRecord,
+    ) -> Result<Prepared, Memory>
+        requires within_limit { size self.old.book < self.old.limit }
+        requires lawful { IsLawfulAfter self.old.book (Look user group order base) }
+        requires view { IsViewAt self.old.book user group view }
+        ensures prepared { IfOk result (λ prepared. IsPrepared self.new prepared) }
+        ensures entry { IfOk result (λ prepared. next_of prepared ≡ Next.entry (Look user group order base)) }
+        ensures book { self.new.book ≡ self.old.book }
+        ensures limit { self.new.limit ≡ self.old.limit }
+    {
+        look_fits(&user, &group, order, base);
+        reserve(&mut self.book)?;
+        self.records.reserve()?;
+        Ok(Prepared::Look(PreparedLook {
+            user,
+            group,
+            order,
+            base,
+            view,
+        }))
+    }
+
+    // Prepares the retirement of this group.
+    fn ready_retirement(&mut self, group: Id) -> Result<Prepared, Memory>
+        requires within_limit { size self.old.book < self.old.limit }
+        requires lawful { IsLawfulAfter self.old.book (Retire group) }
+        ensures prepared { IfOk result (λ prepared. IsPrepared self.new prepared) }
+        ensures entry { IfOk result (λ prepared. next_of prepared ≡ Next.entry (Retire group)) }
+        ensures book { self.new.book ≡ self.old.book }
+        ensures limit { self.new.limit ≡ self.old.limit }
+    {
+        id_fits(&group);
+        reserve(&mut self.book)?;
+        Ok(Prepared::Retirement(group))
     }
 
     /// Enters what was prepared at this state. It can't fail, and takes no memory. The records of looks that are not kept any
