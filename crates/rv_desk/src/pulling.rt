@@ -15,6 +15,7 @@ ghost use Rattle.rv_desk.specs.Stepping.{HasStepped};
 use crate::desk::Desk;
 use crate::keeping::keep;
 use rv_base::{Num, Steps, User};
+use rv_book::Found;
 use rv_history::{Admission, admits, next_order};
 use rv_keeper::{KeepFault, Keeper};
 use rv_news::News;
@@ -73,7 +74,7 @@ impl<K: Keeper> Desk<K> {
                 Num::from_u64(u64::from(book.len())),
             )));
         }
-        self.look(user, request, Num::from_u64(order), news)
+        self.look(user, request, Num::from_u64(order), news, group_at)
     }
 
     // Keeps the look of a pull that is told this, and gives its reply.
@@ -83,6 +84,7 @@ impl<K: Keeper> Desk<K> {
         request: &PullRequest,
         order: Num,
         news: News,
+        group_at: usize,
     ) -> Result<Outcome, KeepFault>
         requires settled { self.old.doubt ≡ None }
         requires admits { Admits user.now request.now.group self.old.book }
@@ -94,7 +96,11 @@ impl<K: Keeper> Desk<K> {
         ensures stepped { HasStepped (served K.faults self.old) (Ask.pull user.now request.now) result (served K.faults self.new) }
         ensures assured { Assures K.tells K.fails_no_more self.old.keeper (keep_trouble result) self.new.keeper }
     {
-        let (reply, prepared) = self.state.prepare_look(user, request, order, news)?;
+        let found = Found {
+            group: group_at,
+            client: 0,
+        };
+        let (reply, prepared) = self.state.prepare_look(user, request, order, news, found)?;
         match keep(
             self.alloc,
             &mut self.state,

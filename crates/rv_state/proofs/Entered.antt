@@ -1,5 +1,5 @@
 -- What was prepared and is entered leaves the state of the longer book.
-use Rattle.std.proofs.Common.{◌≡◌, ℕ, ◌+◌, ◌^◌, ◌<◌, arith, List, [], ◌∷◌, ◌++◌, not, subst, sym}
+use Rattle.std.proofs.Common.{◌≡◌, ℕ, ◌+◌, ◌^◌, ◌<◌, arith, List, [], ◌∷◌, ◌++◌, Option, not, subst, sym}
 use Rattle.std.specs.Prelude.{fold}
 use Rattle.std.specs.List.{filter, AllByRecursion}
 use Rattle.rv_rows.specs.Held.{Stored}
@@ -7,7 +7,7 @@ use Rattle.rv_book.specs.declared.entry.Entry.{Entry}
 use Rattle.rv_book.specs.declared.entry.Entry.TheVariants.{Act, Look, Retire}
 use Rattle.rv_book.specs.Book.{Book, size, with_entry, empty_book}
 use Rattle.rv_book.specs.BookWords.{size-with_entry}
-use Rattle.rv_book.specs.Kept.{falls_out, kept}
+use Rattle.rv_book.specs.Kept.{kept}
 use Rattle.rv_book.specs.LookLaws.{is_place}
 use Rattle.rv_views.specs.Viewed.{Viewed}
 use Rattle.rv_mutators.specs.Staging.{with_staged}
@@ -44,9 +44,9 @@ more_fit : (entries : List Entry) (entry : Entry) → AllByRecursion EntryFits e
 more_fit [] entry all fits = (fits, tt)
 more_fit (e ∷ entries) entry all fits = (all.0, more_fit entries entry all.1 fits)
 
--- the records after a look of the group that is entered with its record: that of the look that falls out has gone
-abbrev pub with_record : Book → List ℕ → Viewed → List Placed → List Placed
-with_record book group viewed records = filter (λ r. not (is_place r.0 (falls_out group book))) records ++ (size book + 1, viewed) ∷ []
+-- the records after a look that is entered with its record: that of the look that falls out has gone
+abbrev pub with_record : Book → Option ℕ → Viewed → List Placed → List Placed
+with_record book gone viewed records = filter (λ r. not (is_place r.0 gone)) records ++ (size book + 1, viewed) ∷ []
 
 -- the records of those looks that are kept after a retirement of the group
 abbrev pub left : Book → List ℕ → List Placed → List Placed
@@ -66,12 +66,13 @@ after_act s act (lawful, replay, records, all, marks, parts, within) ready =
     )
 
 after_look : (s : Standing) (look : PreparedLook) → Stands s.book s.limit s.rows s.records s.marks → IsPrepared s (prepared.Look look)
-    → Stands (with_entry s.book (look_entry look)) s.limit s.rows (with_record s.book look.group look.view s.records) s.marks
+    → Stands (with_entry s.book (look_entry look)) s.limit s.rows (with_record s.book look.gone look.view s.records) s.marks
 after_look s look (lawful, replay, records, all, marks, parts, within) ready =
     let entry : Entry = Look look.user look.group look.order look.base in (
       lawful_more s.book entry lawful ready.lawful,
       replay_look s.book s.rows look.user look.group look.order look.base replay,
-      records_look_in_place s.book look.user look.group look.order look.base look.view s.records records ready.effect.1 ready.lawful.0.stands,
+      subst (λ (gone : Option ℕ). AreRecords (with_entry s.book entry) (with_record s.book gone look.view s.records)) (sym ready.effect.2)
+      (records_look_in_place s.book look.user look.group look.order look.base look.view s.records records ready.effect.1 ready.lawful.0.stands),
       more_fit s.book.entries entry all ready.fits,
       marks_look s.book look.user look.group look.order look.base s.marks marks,
       parts,
@@ -97,7 +98,7 @@ module _ (t s : Standing) (p : Prepared) (same : t ≡ s) (stands : Stands t.boo
   pub act_entered : (act : PreparedAct) → p ≡ prepared.Act act → Stands (with_entry t.book (act_entry act)) t.limit (with_staged (size t.book + 1) act.staged t.rows) t.records (fold (with_mark (size t.book + 1)) t.marks act.concerned)
   act_entered act is = after_act t act stands (ready (prepared.Act act) is)
 
-  pub look_entered : (look : PreparedLook) → p ≡ prepared.Look look → Stands (with_entry t.book (look_entry look)) t.limit t.rows (with_record t.book look.group look.view t.records) t.marks
+  pub look_entered : (look : PreparedLook) → p ≡ prepared.Look look → Stands (with_entry t.book (look_entry look)) t.limit t.rows (with_record t.book look.gone look.view t.records) t.marks
   look_entered look is = after_look t look stands (ready (prepared.Look look) is)
 
   pub retirement_entered : (group : List ℕ) → p ≡ prepared.Retirement group → Stands (with_entry t.book (Retire group)) t.limit t.rows (left t.book group t.records) t.marks

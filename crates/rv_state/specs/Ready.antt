@@ -6,6 +6,7 @@ use Rattle.rv_rows.specs.Held.{rows_in}
 use Rattle.rv_book.specs.declared.entry.Entry.{Entry}
 use Rattle.rv_book.specs.declared.entry.Entry.TheVariants as entries
 use Rattle.rv_book.specs.Book.{size}
+use Rattle.rv_book.specs.Kept.{falls_out}
 use Rattle.rv_mutators.specs.Staging.{with_staged, staged}
 use Rattle.rv_history.specs.Served.{Next, MayFollow}
 use Rattle.rv_history.specs.Marks.{AreConcerned}
@@ -43,14 +44,14 @@ HasSpace s (Next.entry entry) = 1 ≤ s.spare_entries
 HasSpace s (Next.closed closed) = Unit {0}
 
 -- What the entry does beside the book is ready, and has space. An act: what its call stages, with which the rows afterwards are
--- those that the call leaves, at any version; and the users whom it concerns. A look: a record of what its user and its group see. A
--- retirement does nothing. The closed book may become as long as the book.
+-- those that the call leaves, at any version; and the users whom it concerns. A look: a record of what its user and its group see, and
+-- the place of the look that falls out with it. A retirement does nothing. The closed book may become as long as the book.
 abbrev pub HasEffect : Standing → Prepared → Type 0
 HasEffect s (Act act) =
     (length act.staged.rows ≤ s.spare_rows) × (act.staged ≡ staged (rows_in s.rows) act.user act.call)
     × ((version : ℕ) → with_staged version act.staged s.rows ≡ after s.rows act.user act.call version)
     × (length act.concerned ≤ s.spare_marks) × AreConcerned s.book (act_entry act) act.concerned
-HasEffect s (Look look) = (1 ≤ s.spare_views) × IsViewAt s.book look.user look.group look.view
+HasEffect s (Look look) = (1 ≤ s.spare_views) × IsViewAt s.book look.user look.group look.view × (look.gone ≡ falls_out look.group s.book)
 HasEffect s (Retirement group) = Unit {0}
 HasEffect s (Closing closed) = closed.limit ≡ s.limit
 

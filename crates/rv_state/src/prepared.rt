@@ -67,6 +67,10 @@ pub struct PreparedLook {
     pub base: Option<u32>,
     /// Its view record.
     pub view: ViewRecord,
+    /// Where the book has the row of its group.
+    pub found: Found,
+    /// The place of the look that falls out with it.
+    pub gone: Option<u32>,
 }
 
 /// What is ready to be entered, with all that this takes: an entry, or the book that closing leaves.

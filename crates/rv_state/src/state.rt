@@ -180,13 +180,14 @@ impl State {
         self.ready_act(user, group, client, id, call, found)
     }
 
-    /// Prepares the look of a pull that is told this, and makes its reply.
+    /// Prepares the look of a pull that is told this, whose group was found in the book, and makes its reply.
     pub fn prepare_look(
         &mut self,
         user: &User,
         request: &PullRequest,
         order: Num,
         news: News,
+        found: Found,
     ) -> Result<(PullReply, Prepared), Memory>
         requires within_limit { size self.old.book < self.old.limit }
         requires order { order ≡ next_order request.now self.old.book }
@@ -208,7 +209,7 @@ impl State {
         let reply = look_reply(self.alloc, place, order, ids, ops)?;
         let user = user.copy(self.alloc)?;
         let group = request.group.copy(self.alloc)?;
-        let prepared = self.ready_look(user, group, order, base, view)?;
+        let prepared = self.ready_look(user, group, order, base, view, found)?;
         Ok((reply, prepared))
     }
 
@@ -276,7 +277,7 @@ impl State {
                 base,
             } => {
                 let view = view_now(self.alloc, &self.book, &self.tables, &user, &group)?;
-                self.ready_look(user, group, order, base, view)
+                self.ready_look(user, group, order, base, view, Found::nowhere())
             }
             Entry::Retire { group } => self.ready_retirement(group),
         }
@@ -322,6 +323,7 @@ impl State {
         order: Num,
         base: Option<u32>,
         view: ViewRecord,
+        found: Found,
     ) -> Result<Prepared, Memory>
         requires within_limit { size self.old.book < self.old.limit }
         requires lawful { IsLawfulAfter self.old.book (Look user group order base) }
@@ -334,12 +336,15 @@ impl State {
         look_fits(&user, &group, order, base);
         reserve(&mut self.book)?;
         self.records.reserve()?;
+        let gone = self.book.falls_out(&group);
         Ok(Prepared::Look(PreparedLook {
             user,
             group,
             order,
             base,
             view,
+            found,
+            gone,
         }))
     }
 
@@ -380,14 +385,16 @@ impl State {
                     order,
                     base,
                     view,
+                    found,
+                    gone,
                 } = look;
-                let gone = self.book.falls_out(&group);
-                self.book.push_entry(Entry::Look {
+                let entry = Entry::Look {
                     user,
                     group,
                     order,
                     base,
-                });
+                };
+                self.book.push_found(entry, found);
                 self.records.let_one_go(gone);
                 self.records.push(place, view);
             }

@@ -72,13 +72,15 @@ fn look_changes(alloc: Global, state: &State, look: &PreparedLook) -> Result<Vec
         order,
         base,
         view,
+        gone,
+        ..
     } = look;
     let book = state.book();
     let place = book.len() + 1;
     let mut changes = Vec::new(alloc);
     changes.push(Change::Put(cell_of_look(alloc, place, user, group, *order, *base)?))?;
     changes.push(Change::Put(cell_of_group(alloc, group, user, *order, false)?))?;
-    add_gone_view(alloc, &mut changes, book.falls_out(group))?;
+    add_gone_view(alloc, &mut changes, *gone)?;
     changes.push(Change::Put(cell_of_view(alloc, place, view)?))?;
     Ok(changes)
 }

@@ -6,7 +6,7 @@ invariant_of-self c = rw (c.set_all.ensures, c.apply.ensures, c.push_found.ensur
 
 pub invariant_of-self-in-Look : goal.invariant_of-self-in-Look
 invariant_of-self-in-Look c =
-    rw (c.push.ensures.records, c.let_one_go.ensures.records, c.falls_out-gone.ensures, c.push_entry.ensures.book, c.push_entry.ensures.limit, c.len-place.ensures.value) (look_entered _ _ c.args.prepared c.self.view_is c.self.invariant c.requires c.in-Look.look c.in-Look.is)
+    rw (c.push.ensures.records, c.let_one_go.ensures.records, c.push_found-in-Look.ensures.book, c.push_found-in-Look.ensures.limit, c.len-place.ensures.value) (look_entered _ _ c.args.prepared c.self.view_is c.self.invariant c.requires c.in-Look.look c.in-Look.is)
 
 pub invariant_of-self-in-Retirement : goal.invariant_of-self-in-Retirement
-invariant_of-self-in-Retirement c = rw (c.let_go.ensures.records, c.push_entry-in-Retirement.ensures.book, c.push_entry-in-Retirement.ensures.limit) (retirement_entered _ _ c.args.prepared c.self.view_is c.self.invariant c.requires c.in-Retirement.group c.in-Retirement.is)
+invariant_of-self-in-Retirement c = rw (c.let_go.ensures.records, c.push_entry.ensures.book, c.push_entry.ensures.limit) (retirement_entered _ _ c.args.prepared c.self.view_is c.self.invariant c.requires c.in-Retirement.group c.in-Retirement.is)

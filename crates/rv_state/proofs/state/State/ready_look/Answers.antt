@@ -18,5 +18,5 @@ returns-clause-prepared c =
       fits = c.look_fits.ensures;
       below = omega (arith, c.requires.within_limit, length, limit);
       space = c.in_ok-reserve.ensures.spare_entries;
-      effect = (c.in_ok-reserve-2.ensures.ok, subst (λ (b : Book). IsViewAt b c.args.user c.args.group c.args.view) (sym book) c.requires.view);
+      effect = (c.in_ok-reserve-2.ensures.ok, subst (λ (b : Book). IsViewAt b c.args.user c.args.group c.args.view) (sym book) c.requires.view, c.falls_out-gone.ensures);
     }
