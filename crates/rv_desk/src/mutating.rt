@@ -1,6 +1,6 @@
 // Mutations where nothing is in doubt.
-ghost use Rattle.std.specs.Prelude.{◌≡◌, ◌≤◌, None};
-ghost use Rattle.rv_book.specs.Book.{last, size};
+ghost use Rattle.std.specs.Prelude.{◌≡◌, ◌+◌, None};
+ghost use Rattle.rv_book.specs.Book.{last};
 ghost use Rattle.rv_history.specs.Machine.{TakesMutation};
 ghost use Rattle.rv_turns.specs.Asks.{Ask};
 ghost use Rattle.rv_desk.specs.Keeping.{keep_trouble};
@@ -11,7 +11,7 @@ use crate::desk::Desk;
 use crate::keeping::keep;
 use rv_base::{Id, Num, User};
 use rv_book::Found;
-use rv_history::{Admission, Numbering, admits, last_of};
+use rv_history::{Admission, Numbering, admits, numbering_of};
 use rv_keeper::{KeepFault, Keeper};
 use rv_rows::Call;
 use rv_turns::{Outcome, Refusal, Which};
@@ -34,48 +34,40 @@ impl<K: Keeper> Desk<K> {
         match admits(book, user, group) {
             Admission::OfOther => Ok(Outcome::Refused(Refusal::GroupOfOther)),
             Admission::Retired => Ok(Outcome::Refused(Refusal::NotFound)),
-            Admission::Open { at: group_at } => match last_of(book, client, group) {
+            Admission::Open { at: group_at } => match numbering_of(book, client, group, id) {
                 Numbering::Elsewhere => Ok(Outcome::Refused(Refusal::ClientOfOther)),
-                Numbering::Last { last, at } => {
+                Numbering::Past { last } => Ok(Outcome::Skipped(last)),
+                Numbering::Future { expected } => {
+                    Ok(Outcome::Refused(Refusal::Future { expected, got: id }))
+                }
+                Numbering::Next { at } => {
                     let found = Found {
                         group: group_at,
                         client: at,
                     };
-                    self.run_after(user, group, client, id, call, last, found)
+                    self.act(user, group, client, id, call, found)
                 }
             },
         }
     }
 
-    // A mutation of a client of the group, after its last one: where it is the next, its act is kept.
-    fn run_after(
+    // The next mutation of a client of the group: its act is kept.
+    fn act(
         &mut self,
         user: &User,
         group: &Id,
         client: &Id,
         id: Num,
         call: Call,
-        previous: Num,
         found: Found,
     ) -> Result<Outcome, KeepFault>
         requires settled { self.old.doubt ≡ None }
         requires takes { TakesMutation (record { user = user.now; group = group.now }) client.now self.old.book }
-        requires previous { previous ≡ last client.now self.old.book }
-        requires below { previous ≤ size self.old.book }
+        requires next { id ≡ last client.now self.old.book + 1 }
         ensures stepped { HasStepped (served K.faults self.old) (Ask.mutation (record { user = user.now; group = group.now }) (record { client = client.now; id = id; call = call })) result (served K.faults self.new) }
         ensures assured { Assures K.tells K.fails_no_more self.old.keeper (keep_trouble result) self.new.keeper }
     {
         let book = self.state.book();
-        let last = previous.get();
-        if id.get() <= last {
-            return Ok(Outcome::Skipped(Num::from_u64(last)));
-        }
-        if id.get() > last + 1 {
-            return Ok(Outcome::Refused(Refusal::Future {
-                expected: Num::from_u64(last + 1),
-                got: id,
-            }));
-        }
         if book.is_full() {
             return Ok(Outcome::Refused(Refusal::Limit(
                 Which::Book,

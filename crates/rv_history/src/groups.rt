@@ -3,7 +3,7 @@
 ghost use Rattle.std.specs.Prelude.{◌≡◌, not, false, option_map};
 ghost use Rattle.std.specs.Option.{option_map_or};
 ghost use Rattle.std.specs.Str.{bytes_eq};
-ghost use Rattle.rv_history.specs.Admission.{IsAdmission, IsNumbering};
+ghost use Rattle.rv_history.specs.Admission.{FollowsAs, IsAdmission, IsNumbering};
 
 use rv_base::{Id, Num, User};
 use rv_book::Book;
@@ -22,17 +22,25 @@ pub enum Admission {
     },
 }
 
-/// Where a client of a group stands in its numbering of mutations.
+/// Where a mutation of a client of a group stands in the client's numbering. A client that has no mutation yet begins at 1.
 #[derive(Clone, Copy, Debug, PartialEq, Eq)]
 pub enum Numbering {
     /// The client is of another group.
     Elsewhere,
-    /// The client is of the group, or of none.
-    Last {
-        /// Its last mutation id, 0 where it has none.
+    /// The mutation's id is not above the client's last one: it was run before.
+    Past {
+        /// The client's last mutation id, 0 where it has none.
         last: Num,
-        /// The index of its row in the book, at which a later look-up begins.
+    },
+    /// The mutation is the client's next.
+    Next {
+        /// The index of the client's row in the book, at which a later look-up begins.
         at: usize,
+    },
+    /// The mutation's id is above the client's next one.
+    Future {
+        /// The client's next mutation id.
+        expected: Num,
     },
 }
 
@@ -60,23 +68,33 @@ pub fn admits(book: &Book, user: &User, group: &Id) -> Admission
     Admission::Open { at: told.at }
 }
 
-/// Where the client stands in the group, by one search.
-pub fn last_of(book: &Book, client: &Id, group: &Id) -> Numbering
-    ensures { IsNumbering client.now group.now book.now.book result }
+// Where an id stands after a client's last one.
+fn after(last: Num, at: usize, id: Num) -> Numbering
+    ensures { FollowsAs last id result }
+{
+    let next = last.get() + 1;
+    if id.get() < next {
+        return Numbering::Past { last };
+    }
+    if id.get() > next {
+        return Numbering::Future {
+            expected: Num::from_u64(next),
+        };
+    }
+    Numbering::Next { at }
+}
+
+/// Where a mutation with this id stands in the numbering of a client of the group, by one search.
+pub fn numbering_of(book: &Book, client: &Id, group: &Id, id: Num) -> Numbering
+    ensures { IsNumbering client.now group.now id book.now.book result }
 {
     match book.client(client) {
         Some(told) => {
             if told.group != group {
                 return Numbering::Elsewhere;
             }
-            Numbering::Last {
-                last: told.last,
-                at: told.at,
-            }
+            after(told.last, told.at, id)
         }
-        None => Numbering::Last {
-            last: Num::from_u64(0),
-            at: 0,
-        },
+        None => after(Num::from_u64(0), 0, id),
     }
 }

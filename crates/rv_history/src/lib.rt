@@ -4,8 +4,8 @@
 //! The definitions are in `specs/`, over plain lists; [`laws`] has what follows from them for every book that the machine
 //! makes. A step of the machine is one definition: a book, what is asked, what comes of it, and the next book.
 //!
-//! The calls are what each server asks before a step: whether the machine lets the user use the group, where the client stands in
-//! its numbering, and which order comes next; and the entries that steps make.
+//! The calls are what each server asks before a step: whether the machine lets the user use the group, where the mutation stands in
+//! its client's numbering, and which order comes next; and the entries that steps make.
 #![tactic(auto)]
 
 pub mod entries;
@@ -13,5 +13,5 @@ mod groups;
 pub mod laws;
 mod order;
 
-pub use groups::{Admission, Numbering, admits, last_of};
+pub use groups::{Admission, Numbering, admits, numbering_of};
 pub use order::next_order;

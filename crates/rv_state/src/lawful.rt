@@ -6,7 +6,7 @@ ghost use Rattle.rv_history.specs.Lawful.{IsBase, IsLawfulAfter};
 
 use rv_base::{Id, Num, User};
 use rv_book::{Book, Entry};
-use rv_history::{Admission, Numbering, admits, last_of};
+use rv_history::{Admission, Numbering, admits, numbering_of};
 
 // Whether the user may use the group.
 fn is_open(book: &Book, user: &User, group: &Id) -> bool
@@ -23,9 +23,11 @@ fn is_open(book: &Book, user: &User, group: &Id) -> bool
 fn is_next(book: &Book, client: &Id, group: &Id, id: Num) -> bool
     ensures { IsTrue result ↔ ((is_elsewhere client.now group.now book.now.book ≡ false) × (id ≡ last client.now book.now.book + 1)) }
 {
-    match last_of(book, client, group) {
-        Numbering::Last { last, .. } => id.get() == last.get() + 1,
+    match numbering_of(book, client, group, id) {
+        Numbering::Next { .. } => true,
         Numbering::Elsewhere => false,
+        Numbering::Past { .. } => false,
+        Numbering::Future { .. } => false,
     }
 }
 
