@@ -1,22 +1,23 @@
 -- What the rows of the clients and of the groups tell: the registers of the book.
-use Rattle.std.proofs.Common.{◌≡◌, ℕ, suc, length, ◌||◌, Bool, true, false, cond, List, [], ◌∷◌, Option, Some, None, refl, sym, ap, ◌∙◌}
+use Rattle.std.proofs.Common.{◌≡◌, ℕ, suc, ◌≤◌, length, ◌||◌, Bool, true, false, cond, List, [], ◌∷◌, get_or, Option, Some, None, Ok, IfSome, refl, sym, ap, ◌∙◌, arith}
 use Rattle.std.specs.List.{slice_get}
 use Rattle.std.specs.Option.{option_map, option_map_or, option_and_then, is_some}
 use Rattle.std.specs.Str.{bytes_eq}
 use Rattle.std.proofs.Math.Bool.{or-true}
-use Rattle.std.proofs.lemmas.Option.{same_Some, none-some}
+use Rattle.std.proofs.lemmas.Option.{same_Some, none-some, slice_get-get_or}
 use Rattle.std.proofs.lemmas.Slice.Eq.{bytes_eq-Decides}
+use Rattle.rv_base.specs.Sorted.{IsPositionOf}
 use Rattle.rv_book.specs.declared.entry.Entry.{Entry}
 use Rattle.rv_book.specs.declared.entry.Entry.TheVariants.{Act, Look, Retire}
 use Rattle.rv_book.specs.declared.clients.ClientRow.{ClientRow}
 use Rattle.rv_book.specs.declared.groups.GroupRow.{GroupRow}
 use Rattle.rv_book.specs.Entries.{is_act_of, bound_in, retired_in}
-use Rattle.rv_book.specs.Book.{Book, last, group_of, bound, last_order, page_group, retired}
-use Rattle.rv_book.specs.Indexes.{acting, naming, first_where, acted_in, acting_with, client_of_row, client_row, AreClientRows, info_by_client, named_in, names_group, group_of_row, group_row, AreGroupRows, user_of_row, info_by_group}
+use Rattle.rv_book.specs.Book.{Book, last, group_of, bound, last_order, page_group, retired, size}
+use Rattle.rv_book.specs.Indexes.{acting, naming, first_where, acted_in, acting_with, client_of_row, client_row, AreClientRows, LastsFit, info_by_client, named_in, names_group, group_of_row, group_row, AreGroupRows, user_of_row, info_by_group}
 use Rattle.rv_book.specs.Registers.{client_named, clients_of, group_named, groups_of, RetiresBound}
 use Rattle.rv_book.specs.RegisterLaws.{found_client, clients-in_order, found_group, groups-in_order}
 use Rattle.rv_book.proofs.IdLaws.{first_at}
-use Rattle.rv_book.proofs.ClientLaws.{gives_client, no_group, no_row, first_of}
+use Rattle.rv_book.proofs.ClientLaws.{gives_client, last_fits, no_acts, no_group, no_row, first_of}
 use Rattle.rv_book.proofs.GroupLaws.{group_row_at, row_gives, bound-found}
 use Rattle.rv_book.proofs.PageLaws.{bound-naming, retired-naming}
 use Rattle.rv_book.proofs.RowsInfo.{GivesItem, info-at, info-count}
@@ -62,6 +63,47 @@ pub client-at : (book : Book) (rows : List ClientRow) (index : ℕ) → AreClien
 client-at book rows index h =
     info-at (client_of_row book) client_key (info_by_client book) (λ row. row.first) (length (acting book)) (client_row book) rows (clients_of book) h (clients-in_order book)
     (λ client row is. client_gives client book row is) (λ client. found_client client book ∙ named_by_row client book) index
+
+-- the client of a name stands where its row does
+pub named-at : (client : List ℕ) (book : Book) (rows : List ClientRow) (at : ℕ) → AreClientRows book rows → IsPositionOf (client_of_row book) client rows (Ok at) → slice_get (clients_of book) at ≡ client_named client book
+named-at client book rows at h found =
+    let no_row : ClientRow = record { first = 0; acts = 0 } in
+    sym (client-at book rows at h)
+    ∙ ap (option_and_then (info_by_client book)) (slice_get-get_or rows at no_row found.in_range)
+    ∙ row_info client book (get_or rows at no_row) (sym (h.found client) ∙ found.found no_row)
+
+-- what an item tells of the client of a name, where there is one: the name, the client's group and its last mutation id
+pub record TellsClient {X : Type 0} (tell : X → Client) (client : List ℕ) (book : Book) (told : Option X) : Type 0 where
+  pub name : IfSome told (λ x. (tell x).0 ≡ client)
+  pub group : option_map (λ x. (tell x).1) told ≡ group_of client book
+  pub acts : option_map_or (λ x. (tell x).2) told 0 ≡ last client book
+  pub bound : LastsFit book.page → IfSome told (λ x. (tell x).2 ≤ size book)
+
+pub tells_client : {X : Type 0} (tell : X → Client) (client : List ℕ) (book : Book) (told : Option X) → option_map tell told ≡ client_named client book → TellsClient tell client book told
+tells_client tell client book None is =
+    let without : group_of client book ≡ None = without_group (group_of client book) is in
+    record { name = tt; group = sym without; acts = sym (no_acts client book without); bound = λ fit. tt }
+  where
+    without_group : (o : Option (List ℕ)) → None ≡ option_map {U = Client} (λ group. (client, group, last client book)) o → o ≡ None
+    without_group None is = refl
+    without_group (Some group) is = absurd (none-some (client, group, last client book) is)
+tells_client tell client book (Some x) is =
+    elim (group_of client book) as (λ o. group_of client book ≡ o → Some (tell x) ≡ option_map {U = Client} (λ group. (client, group, last client book)) o → TellsClient tell client book (Some x)) [
+      | None ↦ λ e h. absurd (none-some (tell x) (sym h))
+      | Some group ↦ λ e h.
+          let same : tell x ≡ (client, group, last client book) = same_Some (tell x) (client, group, last client book) h in
+          record {
+            name = ap (λ (t : Client). t.0) same;
+            group = ap (λ (t : Client). Some t.1) same ∙ sym e;
+            acts = ap (λ (t : Client). t.2) same;
+            bound = λ fit. omega (arith, ap (λ (t : Client). t.2) same, last_fits book client fit);
+          }
+    ] refl is
+
+-- an item that tells of the client at an index, and tells the index
+pub told_where : {X : Type 0} (tell : X → Client) (place : X → ℕ) (clients : List Client) (at : ℕ) (told : Option X) → option_map tell told ≡ slice_get clients at → IfSome told (λ x. place x ≡ at) → IfSome told (λ x. slice_get clients (place x) ≡ Some (tell x))
+told_where tell place clients at None is there = tt
+told_where tell place clients at (Some x) is there = ap (slice_get clients) there ∙ sym is
 
 -- there are as many clients as rows
 pub client-count : (book : Book) (rows : List ClientRow) → AreClientRows book rows → length rows ≡ length (clients_of book)

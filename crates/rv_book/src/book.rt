@@ -1,4 +1,4 @@
-ghost use Rattle.std.specs.Prelude.{◌≡◌, ◌≤◌, ◌<◌, ◌+◌, ◌^◌, ◌↔◌, IsTrue, length, [], option_map, IfOk, OnOk, Err, None, IfSome, slice_get};
+ghost use Rattle.std.specs.Prelude.{◌≡◌, ◌≤◌, ◌<◌, ◌+◌, ◌^◌, ◌↔◌, IsTrue, length, [], option_map, IfOk, OnOk, Err, Some, None, IfSome, slice_get};
 ghost use Rattle.std.specs.Option.{option_map_or};
 ghost use Rattle.rv_base.specs.Sorted.{InOrder};
 ghost use Rattle.rv_book.specs.Book.{book_from, bound, empty_book, entry_at, group_of, ids, last, last_order, retired, size, with_entry};
@@ -8,7 +8,7 @@ ghost use Rattle.rv_book.specs.Registers.{clients_of, groups_of, RetiresBound};
 ghost use Rattle.rv_book.specs.SoundPages.{IsSoundPage};
 ghost use Rattle.rv_book.specs.declared.fault.BookFault.TheVariants as BookFault;
 
-use crate::clients::{ClientInfo, ClientRef, ClientRow};
+use crate::clients::{ClientRef, ClientRow};
 use crate::entry::Entry;
 use crate::fault::BookFault;
 use crate::found::Found;
@@ -159,14 +159,17 @@ impl Book {
     pub fn bound(&self, group: &Id) -> Option<&User>
         ensures { option_map (λ user. user.now) result ≡ bound group.now self.now.book }
     {
-        groups::bound(self.log(), &self.groups, group)
+        self.group(group).user
     }
 
     /// The group of a client: that of the page, or else of its first act.
     pub fn group_of(&self, client: &Id) -> Option<&Id>
         ensures { option_map (λ group. group.now) result ≡ group_of client.now self.now.book }
     {
-        clients::group_of(self.log(), &self.clients, client)
+        match self.client(client) {
+            Some(told) => Some(told.group),
+            None => None,
+        }
     }
 
     /// The last mutation id of a client: that of the page, or 0, plus the number of its acts.
@@ -174,7 +177,10 @@ impl Book {
         ensures value { result ≡ last client.now self.now.book }
         ensures bound { result ≤ size self.now.book }
     {
-        Num::from_u64(u64::from(clients::acts(self.log(), &self.clients, client)))
+        match self.client(client) {
+            Some(told) => told.last,
+            None => Num::from_u64(0),
+        }
     }
 
     /// The order of a group's last look, or else that of the page, or 0.
@@ -210,9 +216,11 @@ impl Book {
     /// All that the book says of a client for a mutation, found by one search. Of a client that neither the page nor an act names
     /// there is nothing to tell: it has no group, and its last mutation id is 0.
     pub fn client(&self, client: &Id) -> Option<ClientRef<'_>>
-        ensures group { option_map (λ info. info.group.now) result ≡ group_of client.now self.now.book }
-        ensures last { option_map_or (λ info. info.last) result 0 ≡ last client.now self.now.book }
-        ensures bound { IfSome result (λ info. info.last ≤ size self.now.book) }
+        ensures name { IfSome result (λ told. told.client.now ≡ client.now) }
+        ensures group { option_map (λ told. told.group.now) result ≡ group_of client.now self.now.book }
+        ensures last { option_map_or (λ told. told.last) result 0 ≡ last client.now self.now.book }
+        ensures bound { IfSome result (λ told. told.last ≤ size self.now.book) }
+        ensures at { IfSome result (λ told. slice_get (clients_of self.now.book) told.at ≡ Some (told.client.now, told.group.now, told.last)) }
     {
         clients::info(self.log(), &self.clients, client)
     }
@@ -226,8 +234,9 @@ impl Book {
 
     /// The client at an index, from 0, of the clients that the page or an act names, in the order of their bytes; `None` from
     /// their number on. It takes no memory, and the time of one look-up by index, however long the book is.
-    pub fn client_at(&self, index: usize) -> Option<ClientInfo<'_>>
-        ensures { option_map (λ info. (info.client.now, info.group.now, info.last)) result ≡ slice_get (clients_of self.now.book) index }
+    pub fn client_at(&self, index: usize) -> Option<ClientRef<'_>>
+        ensures told { option_map (λ told. (told.client.now, told.group.now, told.last)) result ≡ slice_get (clients_of self.now.book) index }
+        ensures at { IfSome result (λ told. told.at ≡ index) }
     {
         clients::info_at(self.log(), &self.clients, index)
     }

@@ -1,11 +1,11 @@
-ghost use Rattle.std.specs.Prelude.{◌≡◌, IsTrue, true, ◌≤◌, ◌<◌, ◌+◌, ◌-◌, ◌^◌, length, [], IfOk, option_map, option_and_then, slice_get, IfSome, vec_len, vec_capacity};
+ghost use Rattle.std.specs.Prelude.{◌≡◌, IsTrue, true, ◌≤◌, ◌<◌, ◌+◌, ◌-◌, ◌^◌, length, [], IfOk, Some, option_map, option_and_then, slice_get, IfSome, vec_len, vec_capacity};
 ghost use Rattle.std.specs.Option.{option_map_or};
 ghost use Rattle.rv_base.specs.Sorted.{IsPositionOf};
 ghost use Rattle.rv_book.specs.declared.entry.Entry.{Entry};
 ghost use Rattle.rv_book.specs.Entries.{is_act_of};
 ghost use Rattle.rv_book.specs.Book.{book_from, group_of, last, size, with_entry};
 ghost use Rattle.rv_book.specs.Logs.{logged};
-ghost use Rattle.rv_book.specs.Indexes.{acted_in, acting, AreClientRows, LastsFit, StandsAt, client_of_row, client_row, first_where, info_by_client};
+ghost use Rattle.rv_book.specs.Indexes.{acted_in, acting, AreClientRows, LastsFit, StandsAt, client_of_row, info_by_client};
 ghost use Rattle.rv_book.specs.Members.{group_before};
 ghost use Rattle.rv_book.specs.Registers.{clients_of};
 ghost use Rattle.rv_book.specs.SoundPages.{IsSoundPage};
@@ -16,26 +16,17 @@ use crate::page::Page;
 use rv_base::{Id, Memory, Num};
 use std::alloc::Global;
 
-/// A client that the page or an act of the book names: its group and its last mutation id.
+/// What the book tells of a client that the page or an act names.
 #[derive(Clone, Copy, Debug)]
 pub struct ClientRef<'a> {
-    /// The client's group: that of the page, or else of its first act.
-    pub group: &'a Id,
-    /// The client's last mutation id: that of the page, or 0, plus the number of its acts.
-    pub last: Num,
-    /// The index of the client's row, at which a later look-up begins.
-    pub at: usize,
-}
-
-/// A client that the page or an act of the book names, with its name.
-#[derive(Clone, Copy, Debug)]
-pub struct ClientInfo<'a> {
     /// The client.
     pub client: &'a Id,
     /// The client's group: that of the page, or else of its first act.
     pub group: &'a Id,
     /// The client's last mutation id: that of the page, or 0, plus the number of its acts.
     pub last: Num,
+    /// The client's index, from 0, among the clients that the page or an act names, at which a later look-up begins.
+    pub at: usize,
 }
 
 // Of a client that the page or an act names: the index of what names it first, and its last mutation id.
@@ -104,25 +95,42 @@ fn place_from(log: Log<'_>, rows: &[ClientRow], client: &Id, at: usize) -> Resul
     }
 }
 
-// The row of a client, where the page or an act names it.
-fn find(log: Log<'_>, rows: &[ClientRow], client: &Id) -> Option<ClientRow>
-    requires { AreClientRows (logged log) rows.now }
-    ensures { result ≡ client_row (logged log.entry) client.now }
+// What the row at an index says of its client, by what it names.
+fn info_by<'b>(log: Log<'b>, row: &ClientRow, at: usize) -> Option<ClientRef<'b>>
+    ensures told { option_map (λ told. (told.client.now, told.group.now, told.last)) result ≡ info_by_client (logged log.entry) row.now }
+    ensures at { IfSome result (λ told. told.at ≡ at) }
 {
-    match place(log, rows, client) {
-        Ok(at) => Some(rows[at]),
-        Err(_) => None,
-    }
+    let (client, group) = log.acting_at(row.first)?;
+    Some(ClientRef {
+        client,
+        group,
+        last: Num::from_u64(row.acts as u64),
+        at,
+    })
 }
 
-// The index of what names a client first.
-fn first(log: Log<'_>, rows: &[ClientRow], client: &Id) -> Option<usize>
+// The client at an index, from 0, of those that the page or an act names, in the order of their bytes.
+pub(crate) fn info_at<'b>(log: Log<'b>, rows: &[ClientRow], at: usize) -> Option<ClientRef<'b>>
     requires { AreClientRows (logged log) rows.now }
-    ensures { result ≡ first_where (is_act_of client.now) (acting (logged log.entry)) }
+    ensures told { option_map (λ told. (told.client.now, told.group.now, told.last)) result ≡ slice_get (clients_of (logged log.entry)) at }
+    ensures at { IfSome result (λ told. told.at ≡ at) }
 {
-    match find(log, rows, client) {
-        Some(row) => Some(row.first),
-        None => None,
+    info_by(log, rows.get(at)?, at)
+}
+
+// What is said of a client.
+pub(crate) fn info<'b>(log: Log<'b>, rows: &[ClientRow], client: &Id) -> Option<ClientRef<'b>>
+    requires lasts { LastsFit log.page.now }
+    requires rows { AreClientRows (logged log) rows.now }
+    ensures name { IfSome result (λ told. told.client.now ≡ client.now) }
+    ensures group { option_map (λ told. told.group.now) result ≡ group_of client.now (logged log.entry) }
+    ensures last { option_map_or (λ told. told.last) result 0 ≡ last client.now (logged log.entry) }
+    ensures bound { IfSome result (λ told. told.last ≤ size (logged log.entry)) }
+    ensures at { IfSome result (λ told. slice_get (clients_of (logged log.entry)) told.at ≡ Some (told.client.now, told.group.now, told.last)) }
+{
+    match place(log, rows, client) {
+        Ok(at) => info_at(log, rows, at),
+        Err(_) => None,
     }
 }
 
@@ -132,71 +140,6 @@ fn group_at<'b>(log: Log<'b>, index: usize) -> Option<&'b Id>
 {
     let (_, group) = log.acting_at(index)?;
     Some(group)
-}
-
-// The group of a client.
-pub(crate) fn group_of<'b>(log: Log<'b>, rows: &[ClientRow], client: &Id) -> Option<&'b Id>
-    requires { AreClientRows (logged log) rows.now }
-    ensures { option_map (λ group. group.now) result ≡ group_of client.now (logged log.entry) }
-{
-    match first(log, rows, client) {
-        Some(index) => group_at(log, index),
-        None => None,
-    }
-}
-
-// The last mutation id of a client, and 0 where nothing names it.
-pub(crate) fn acts(log: Log<'_>, rows: &[ClientRow], client: &Id) -> u32
-    requires lasts { LastsFit log.page.now }
-    requires rows { AreClientRows (logged log) rows.now }
-    ensures value { result ≡ last client.now (logged log.entry) }
-    ensures bound { result ≤ size (logged log.entry) }
-{
-    match find(log, rows, client) {
-        Some(row) => row.acts,
-        None => 0,
-    }
-}
-
-// What is said of a client.
-pub(crate) fn info<'b>(log: Log<'b>, rows: &[ClientRow], client: &Id) -> Option<ClientRef<'b>>
-    requires lasts { LastsFit log.page.now }
-    requires rows { AreClientRows (logged log) rows.now }
-    ensures group { option_map (λ info. info.group.now) result ≡ group_of client.now (logged log.entry) }
-    ensures last { option_map_or (λ info. info.last) result 0 ≡ last client.now (logged log.entry) }
-    ensures bound { IfSome result (λ info. info.last ≤ size (logged log.entry)) }
-{
-    match place(log, rows, client) {
-        Ok(at) => match group_at(log, rows[at].first) {
-            Some(group) => Some(ClientRef {
-                group,
-                last: Num::from_u64(rows[at].acts as u64),
-                at,
-            }),
-            None => None,
-        },
-        Err(_) => None,
-    }
-}
-
-// What a row says of its client, by what it names.
-fn info_by<'b>(log: Log<'b>, row: &ClientRow) -> Option<ClientInfo<'b>>
-    ensures { option_map (λ info. (info.client.now, info.group.now, info.last)) result ≡ info_by_client (logged log.entry) row.now }
-{
-    let (client, group) = log.acting_at(row.first)?;
-    Some(ClientInfo {
-        client,
-        group,
-        last: Num::from_u64(row.acts as u64),
-    })
-}
-
-// The client at an index, from 0, of those that the page or an act names, in the order of their bytes.
-pub(crate) fn info_at<'b>(log: Log<'b>, rows: &[ClientRow], index: usize) -> Option<ClientInfo<'b>>
-    requires { AreClientRows (logged log) rows.now }
-    ensures { option_map (λ info. (info.client.now, info.group.now, info.last)) result ≡ slice_get (clients_of (logged log.entry)) index }
-{
-    info_by(log, rows.get(index)?)
 }
 
 // Enters an act of a client, which follows the entries, and answers the group that the client had before. Its row is looked for at

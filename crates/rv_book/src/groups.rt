@@ -222,14 +222,6 @@ fn user_of<'b>(log: Log<'b>, row: &GroupRow) -> Option<&'b User>
     }
 }
 
-// The user whom a group is bound to.
-pub(crate) fn bound<'b>(log: Log<'b>, rows: &[GroupRow], group: &Id) -> Option<&'b User>
-    requires { AreGroupRows (logged log) rows.now }
-    ensures { option_map (λ user. user.now) result ≡ bound group.now (logged log.entry) }
-{
-    info(log, rows, group).user
-}
-
 // What is said of a group.
 pub(crate) fn info<'b>(log: Log<'b>, rows: &[GroupRow], group: &Id) -> GroupRef<'b>
     requires { AreGroupRows (logged log) rows.now }

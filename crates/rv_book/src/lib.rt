@@ -17,7 +17,7 @@ mod members;
 mod page;
 
 pub use book::Book;
-pub use clients::{ClientInfo, ClientRef};
+pub use clients::ClientRef;
 pub use entry::Entry;
 pub use fault::BookFault;
 pub use found::Found;

@@ -1,30 +1,39 @@
-use Rattle.std.proofs.Common.{◌≡◌, ℕ, List, Ok, get_or, ◌∙◌, sym, arith}
+use Rattle.std.proofs.Common.{◌≡◌, ℕ, List, Option, Ok, ◌∙◌, sym}
+use Rattle.std.specs.List.{slice_get}
+use Rattle.std.specs.Option.{option_map}
 use Rattle.rv_base.specs.Sorted.{IsPositionOf}
+use Rattle.rv_book.specs.declared.clients.ClientRef.{ClientRef}
+use Rattle.rv_book.specs.declared.clients.ClientRow.{ClientRow}
 use Rattle.rv_book.specs.Book.{Book}
 use Rattle.rv_book.specs.Logs.{logged}
-use Rattle.rv_book.specs.declared.clients.ClientRow.{ClientRow}
 use Rattle.rv_book.specs.Indexes.{client_of_row, AreClientRows}
-use Rattle.rv_book.proofs.ClientLaws.{GivesClient, gives_client, gives_none, no_acts}
+use Rattle.rv_book.specs.Registers.{clients_of}
+use Rattle.rv_book.proofs.ClientLaws.{gives_none}
+use Rattle.rv_book.proofs.InfoLaws.{TellsClient, named-at, tells_client, told_where}
 use Rattle.rv_book.proofs.clients.info.Goals as goal
 
--- what the row at the index gives
-gives : (book : Book) (k : List ℕ) (rows : List ClientRow) (at : ℕ) (d : ClientRow) → AreClientRows book rows → IsPositionOf (client_of_row book) k rows (Ok at) → GivesClient book k (get_or rows at d)
-gives book k rows at d h found = gives_client book k (get_or rows at d) (sym (found.found d) ∙ h.found k)
+abbrev tell : ClientRef → List ℕ × List ℕ × ℕ
+tell told = (told.client.now, told.group.now, told.last)
 
-pub returns-in-Some-clause-group : goal.returns-in-Some-clause-group
-returns-in-Some-clause-group c = c.in-Some.ensures ∙ (gives (logged c.args.log) c.args.client.now c.args.rows.now c.in-Ok.at _ c.requires.rows c.in-Ok.ensures.now).group
+-- what is told of the client whose row stands at the index
+tells : (book : Book) (client : List ℕ) (rows : List ClientRow) (at : ℕ) (told : Option ClientRef) → AreClientRows book rows → IsPositionOf (client_of_row book) client rows (Ok at) → option_map tell told ≡ slice_get (clients_of book) at
+    → TellsClient tell client book told
+tells book client rows at told h found is = tells_client tell client book told (is ∙ named-at client book rows at h found)
 
-pub returns-in-Some-clause-last : goal.returns-in-Some-clause-last
-returns-in-Some-clause-last c = c.from_u64.ensures ∙ (gives (logged c.args.log) c.args.client.now c.args.rows.now c.in-Ok.at _ c.requires.rows c.in-Ok.ensures.now).acts
+pub returns-in-Ok-clause-name : goal.returns-in-Ok-clause-name
+returns-in-Ok-clause-name c = (tells (logged c.args.log) c.args.client.now c.args.rows.now c.in-Ok.at c.info_at.result c.requires.rows c.in-Ok.ensures.now c.info_at.ensures.told).name
 
-pub returns-in-Some-clause-bound : goal.returns-in-Some-clause-bound
-returns-in-Some-clause-bound c = omega (arith, c.from_u64.ensures, (gives (logged c.args.log) c.args.client.now c.args.rows.now c.in-Ok.at (record { first = 0; acts = 0 }) c.requires.rows c.in-Ok.ensures.now).bound c.requires.lasts)
+pub returns-in-Ok-clause-group : goal.returns-in-Ok-clause-group
+returns-in-Ok-clause-group c = (tells (logged c.args.log) c.args.client.now c.args.rows.now c.in-Ok.at c.info_at.result c.requires.rows c.in-Ok.ensures.now c.info_at.ensures.told).group
 
-pub returns-in-None-clause-group : goal.returns-in-None-clause-group
-returns-in-None-clause-group c = c.in-None.ensures ∙ (gives (logged c.args.log) c.args.client.now c.args.rows.now c.in-Ok.at _ c.requires.rows c.in-Ok.ensures.now).group
+pub returns-in-Ok-clause-last : goal.returns-in-Ok-clause-last
+returns-in-Ok-clause-last c = (tells (logged c.args.log) c.args.client.now c.args.rows.now c.in-Ok.at c.info_at.result c.requires.rows c.in-Ok.ensures.now c.info_at.ensures.told).acts
 
-pub returns-in-None-clause-last : goal.returns-in-None-clause-last
-returns-in-None-clause-last c = sym (no_acts c.args.client.now (logged c.args.log) (sym (c.in-None.ensures ∙ (gives (logged c.args.log) c.args.client.now c.args.rows.now c.in-Ok.at _ c.requires.rows c.in-Ok.ensures.now).group)))
+pub returns-in-Ok-clause-bound : goal.returns-in-Ok-clause-bound
+returns-in-Ok-clause-bound c = (tells (logged c.args.log) c.args.client.now c.args.rows.now c.in-Ok.at c.info_at.result c.requires.rows c.in-Ok.ensures.now c.info_at.ensures.told).bound c.requires.lasts
+
+pub returns-in-Ok-clause-at : goal.returns-in-Ok-clause-at
+returns-in-Ok-clause-at c = told_where tell (λ (told : ClientRef). told.at) (clients_of (logged c.args.log)) c.in-Ok.at c.info_at.result c.info_at.ensures.told c.info_at.ensures.at
 
 pub returns-in-Err-clause-group : goal.returns-in-Err-clause-group
 returns-in-Err-clause-group c = (gives_none (logged c.args.log) c.args.client.now (sym c.in-Err.ensures.now.absent ∙ c.requires.rows.found c.args.client.now)).0
