@@ -3,11 +3,12 @@
 //!
 //! A contract sees an [`Id`], a [`User`] or a [`Text`] as the list of its bytes, a [`Num`] as a number, and a
 //! [`Sequence`] as the list of its items. A [`Source`] and a [`Sink`] count their faults, and a call says that it failed
-//! only where that count rose.
+//! only where that count rose. A [`Fault`] tells that it failed, or that memory was refused.
 #![tactic(auto)]
 
 mod adapter;
 mod bounded;
+mod fault;
 mod in_memory;
 mod memory;
 mod number;
@@ -18,6 +19,7 @@ mod writing;
 
 pub use adapter::{Reading, Writing};
 pub use bounded::{Bounded, Id, Text, TextRefusal, User};
+pub use fault::Fault;
 pub use in_memory::{MemorySink, MemorySource};
 pub use memory::Memory;
 pub use number::{Num, TooBig};

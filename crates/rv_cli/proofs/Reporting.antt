@@ -2,7 +2,7 @@
 use Rattle.std.proofs.Common.{◌≡◌, ℕ, ◌-◌, ◌^◌, ◌++◌, List, Option, None, Result, Ok, Err, IsOk, IsErr, IsErrAnd, IfOk, OnOk, refl, sym, ap, ◌∙◌, subst, arith, decimal, codes, inl}
 use Rattle.rv_base.specs.Outside.{OutputState}
 use Rattle.rv_base.specs.declared.memory.Memory.{Memory as Refused}
-use Rattle.rv_keeper.specs.declared.fault.KeepFault.{KeepFault}
+use Rattle.rv_base.specs.declared.fault.Fault.{Fault}
 use Rattle.rv_keeper.specs.declared.loaded.Loaded.{Loaded}
 use Rattle.rv_keeper.specs.declared.keeper.Keeper.{Ghosts}
 use Rattle.rv_keeper.specs.declared.place.Place.{Ghosts as PlaceGhosts}
@@ -80,7 +80,7 @@ module _ {P K : Type 0} (place : PlaceGhosts P K) (G : Ghosts K) (store : List �
       store_opened place G store kept old mid new (Err ending) out got gave honestly none still checked
 
   -- the place gave no keeper, and so nothing was checked
-  pub check_refused : {T : Type 0} (old new : P) (fault : KeepFault) (result : Result ℕ Ending) → HasKeepCause {T = T} (place.faults old) (place.faults new) (Err fault) → IsErr result × IsErrAnd result (λ ending. ending ≡ keep_ending fault) → (place.tells new → (held : Loaded) → place.holds old store held → place.holds new store held)
+  pub check_refused : {T : Type 0} (old new : P) (fault : Fault) (result : Result ℕ Ending) → HasKeepCause {T = T} (place.faults old) (place.faults new) (Err fault) → IsErr result × IsErrAnd result (λ ending. ending ≡ keep_ending fault) → (place.tells new → (held : Loaded) → place.holds old store held → place.holds new store held)
       → (place.tells new → (left : Option Loaded) → place.may_leave new store left → place.may_leave old store left) → ChecksStore place store old result new
   check_refused old new fault (Ok entries) cause is same left = absurd (let is = is.0 in cc)
   check_refused old new fault (Err ending) cause is same left = (not_given (change place store old new) fault ending cause is.1, record { held = λ t. inl (same t); left = λ t x may. inl (left t x may) })

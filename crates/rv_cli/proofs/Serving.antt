@@ -4,7 +4,6 @@ use Rattle.rv_base.specs.Causes.{Rose}
 use Rattle.rv_base.specs.Outside.{OutputState}
 use Rattle.rv_accounts.specs.File.{AccountsServed}
 use Rattle.rv_history.specs.Served.{IsSound}
-use Rattle.rv_net.specs.declared.net_fault.NetFault.{NetFault}
 use Rattle.rv_keeper.specs.declared.keeper.Keeper.{Ghosts}
 use Rattle.rv_keeper.specs.declared.loaded.Loaded.{Loaded}
 use Rattle.rv_keeper.specs.declared.place.Place.{Ghosts as PlaceGhosts}
@@ -13,6 +12,8 @@ use Rattle.rv_desk.specs.Seated.{Seated, KeepsBook, served}
 use Rattle.rv_cli.specs.ServePromise.{serve_statuses}
 use Rattle.rv_book.specs.Book.{Book, size}
 use Rattle.rv_base.specs.declared.memory.Memory.{Memory as MemoryFault}
+use Rattle.rv_base.specs.declared.fault.Fault.{Fault}
+use Rattle.rv_base.specs.declared.fault.Fault.TheVariants as outside
 use Rattle.rv_room.specs.declared.view.SeatView.{SeatView}
 use Rattle.rv_room.specs.Views.{newcomer}
 use Rattle.rv_workers.specs.Serving.{EachServes, ServesBothKinds}
@@ -28,7 +29,6 @@ use Rattle.rv_cli.specs.ServingSteps.{AccountsRead, NetResult, WritesCount, Writ
 use Rattle.rv_cli.specs.Storing.{HasOpened}
 use Rattle.rv_cli.proofs.Sound.{refused_sound}
 use Rattle.rv_cli.proofs.Storing.{WentBack, begins, leaves}
-use Rattle.rv_net.specs.declared.net_fault.NetFault.TheVariants as nets
 use Rattle.rv_cli.specs.declared.ending.Ending.TheVariants as endings
 
 -- what is opened as one thing is opened as another that it implies
@@ -165,11 +165,11 @@ all_back G Serves Pokes opened desk givens poked backs poked_back (Ok done) toge
 all_back G Serves Pokes opened desk givens poked backs poked_back (Err refused) (same, is, are) = (ap length is, ap length are)
 
 -- where the desk's keeper tells at the end, it told at the beginning
-pub net_before : {K : Type 0} (Is : Type 0) (kept_tells : K → Type 0) (before after : ℕ) (old new : Seated K) (result : Result (Unit {0}) NetFault)
+pub net_before : {K : Type 0} (Is : Type 0) (kept_tells : K → Type 0) (before after : ℕ) (old new : Seated K) (result : Result (Unit {0}) Fault)
     → NetResult Is kept_tells before after old new result → kept_tells new.keeper → kept_tells old.keeper
 net_before Is kept_tells before after old new (Ok done) (serves, told, same) = told
-net_before Is kept_tells before after old new (Err nets.Failed) (same, rose) = λ t. subst (λ (desk : Seated _). kept_tells desk.keeper) same t
-net_before Is kept_tells before after old new (Err nets.Memory) same = λ t. subst (λ (desk : Seated _). kept_tells desk.keeper) same t
+net_before Is kept_tells before after old new (Err outside.Failed) (same, rose) = λ t. subst (λ (desk : Seated _). kept_tells desk.keeper) same t
+net_before Is kept_tells before after old new (Err outside.Memory) same = λ t. subst (λ (desk : Seated _). kept_tells desk.keeper) same t
 
 module _ {P K : Type 0} (place : PlaceGhosts P K) (G : Ghosts K) (store name : List ℕ) where
   -- the store was opened, the net was served or not, and what is told of it
@@ -177,7 +177,7 @@ module _ {P K : Type 0} (place : PlaceGhosts P K) (G : Ghosts K) (store name : L
       → HasOpened place G store mid first opened → (place.tells opened → G.tells first.keeper → place.tells mid) → keeper ≡ last.keeper
       → KeepsBook G last.keeper last.book last.doubt → IsSound (served G.faults last)
       → WentBack place G store opened new keeper
-      → (Serves : AccountsServed → Seated K → Seated K → Type 0) (net net' : ℕ) (result : Result (Unit {0}) NetFault) (entries : ℕ) (out out' : OutputState) (ending : ServeEnding)
+      → (Serves : AccountsServed → Seated K → Seated K → Type 0) (net net' : ℕ) (result : Result (Unit {0}) Fault) (entries : ℕ) (out out' : OutputState) (ending : ServeEnding)
       → NetResult (Serves said first last) G.tells net net' first last result
       → entries ≡ size last.book → WritesServed result entries out out' ending
       → HasNoNet G (change place store old new) (place.accounts old name) net net' out out' ending
@@ -192,17 +192,17 @@ module _ {P K : Type 0} (place : PlaceGhosts P K) (G : Ghosts K) (store name : L
           → HasNoNet G (change place store old new) (place.accounts old name) net net' out out' other
       no_net other same why text = has_no_net place G store name old mid opened new said first last keeper read opens before is held kept home net net' out out' other same why text
 
-      by_result : (r : Result (Unit {0}) NetFault) → NetResult (Serves said first last) G.tells net net' first last r
+      by_result : (r : Result (Unit {0}) Fault) → NetResult (Serves said first last) G.tells net net' first last r
           → WritesServed r entries out out' ending
           → HasNoNet G (change place store old new) (place.accounts old name) net net' out out' ending
           ⊎ HasServed G (change place store old new) (place.accounts old name) Serves out out' ending
       by_result (Ok done) (serves, on, same) gives_accounts = inr (has_served place G store name old mid opened new said first last keeper read opens before is held kept home
           Serves entries out out' ending serves sound count gives_accounts)
-      by_result (Err nets.Failed) (same, rose) (ends, text) = inl (subst (λ (e : ServeEnding). HasNoNet G (change place store old new) (place.accounts old name) net net' out out' e) (sym ends) (no_net Net same rose text))
-      by_result (Err nets.Memory) same (ends, text) = inl (subst (λ (e : ServeEnding). HasNoNet G (change place store old new) (place.accounts old name) net net' out out' e) (sym ends) (no_net Memory same tt text))
+      by_result (Err outside.Failed) (same, rose) (ends, text) = inl (subst (λ (e : ServeEnding). HasNoNet G (change place store old new) (place.accounts old name) net net' out out' e) (sym ends) (no_net Net same rose text))
+      by_result (Err outside.Memory) same (ends, text) = inl (subst (λ (e : ServeEnding). HasNoNet G (change place store old new) (place.accounts old name) net net' out out' e) (sym ends) (no_net Memory same tt text))
 
 -- at other statuses than 0 and 7 the net did not serve
-pub unserved_by : (Unserves : Type 0) (result : Result (Unit {0}) NetFault) (entries : ℕ) (out out' : OutputState) (ending : ServeEnding) (status : ℕ)
+pub unserved_by : (Unserves : Type 0) (result : Result (Unit {0}) Fault) (entries : ℕ) (out out' : OutputState) (ending : ServeEnding) (status : ℕ)
     → WritesServed result entries out out' ending → status ≡ serve_status ending → IfErr result (λ fault. Unserves) → (status ≡ 0) ⊎ (status ≡ 7) ⊎ Unserves
 unserved_by Unserves (Err fault) entries out out' ending status tells is why = inr (inr why)
 unserved_by Unserves (Ok done) entries out out' Done status tells is why = inl is

@@ -1,7 +1,5 @@
 -- What stays of a place's other stores, and what goes on where nothing fails any more.
 use Rattle.std.proofs.Common.{codes, decimal, ◌≡◌, ◌≢◌, ◌⊎◌, inl, inr, ℕ, ◌-◌, ◌^◌, ◌++◌, List, Result, Ok, Err, IsErrOf, refl, sym, ap, ◌∙◌, subst, arith}
-use Rattle.rv_keeper.specs.declared.fault.KeepFault.{KeepFault}
-use Rattle.rv_keeper.specs.declared.fault.KeepFault.TheVariants as keeping
 use Rattle.rv_keeper.specs.declared.keeper.Keeper.{Ghosts}
 use Rattle.rv_keeper.specs.Keeping.{HasKeepCause}
 use Rattle.rv_keeper.specs.Stores.{TakesUp}
@@ -11,11 +9,11 @@ use Rattle.rv_desk.specs.declared.open_fault.OpenFault.{OpenFault}
 use Rattle.rv_desk.specs.declared.open_fault.OpenFault.TheVariants as faulting
 use Rattle.rv_base.specs.Outside.{OutputState}
 use Rattle.rv_base.specs.declared.memory.Memory.{Memory as Refused}
+use Rattle.rv_base.specs.declared.fault.Fault.{Fault}
+use Rattle.rv_base.specs.declared.fault.Fault.TheVariants as outside
 use Rattle.rv_answering.specs.declared.answer.Answer.{Answer}
 use Rattle.rv_cli.specs.Replying.{WritesReply}
 use Rattle.rv_cli.specs.Reporting.{WritesMade, WritesUntil}
-use Rattle.rv_net.specs.declared.net_fault.NetFault.{NetFault}
-use Rattle.rv_net.specs.declared.net_fault.NetFault.TheVariants as nets
 use Rattle.rv_cli.specs.declared.serve_ending.ServeEnding.{ServeEnding}
 use Rattle.rv_cli.specs.declared.serve_ending.ServeEnding.TheVariants as serves
 use Rattle.rv_cli.specs.Serving.{HasNoAccounts}
@@ -52,21 +50,21 @@ pub sound_is_none : (before now : OutputState) (entries : ℕ) (ending : Ending)
 sound_is_none before now entries ending w is = text_is_none before now (codes "ok " ++ (decimal entries ++ codes "\n")) ending w is
 
 -- a keeper that was not given was refused for memory
-pub not_given : {T : Type 0} (fault : KeepFault) (ending : Ending) → ¬ IsErrOf {T = T} (Err fault) keeping.Failed → ending ≡ keep_ending fault → ending ≡ Keeper → ⊥
-not_given keeping.Failed ending never is keeper = never refl
-not_given keeping.Memory ending never is keeper = absurd (cc)
+pub not_given : {T : Type 0} (fault : Fault) (ending : Ending) → ¬ IsErrOf {T = T} (Err fault) outside.Failed → ending ≡ keep_ending fault → ending ≡ Keeper → ⊥
+not_given outside.Failed ending never is keeper = never refl
+not_given outside.Memory ending never is keeper = absurd (cc)
 
 -- and the count stays
-pub count_stays : {T : Type 0} (fault : KeepFault) (before now : ℕ) → ¬ IsErrOf {T = T} (Err fault) keeping.Failed → HasKeepCause {T = T} before now (Err fault) → now ≡ before
-count_stays keeping.Failed before now never cause = absurd (never refl)
-count_stays keeping.Memory before now never cause = cause.memory refl
+pub count_stays : {T : Type 0} (fault : Fault) (before now : ℕ) → ¬ IsErrOf {T = T} (Err fault) outside.Failed → HasKeepCause {T = T} before now (Err fault) → now ≡ before
+count_stays outside.Failed before now never cause = absurd (never refl)
+count_stays outside.Memory before now never cause = cause.memory refl
 
 -- a desk, and a check, for which no keeper was given
-pub desk_not_given : {T K : Type 0} (steady : K → Type 0) (faults : K → ℕ) (fault : KeepFault) (result : Result (Seated K) Ending) → ¬ IsErrOf {T = T} (Err fault) keeping.Failed → IsErr result × IsErrAnd result (λ ending. ending ≡ keep_ending fault) → DeskIsSteady steady faults result
+pub desk_not_given : {T K : Type 0} (steady : K → Type 0) (faults : K → ℕ) (fault : Fault) (result : Result (Seated K) Ending) → ¬ IsErrOf {T = T} (Err fault) outside.Failed → IsErr result × IsErrAnd result (λ ending. ending ≡ keep_ending fault) → DeskIsSteady steady faults result
 desk_not_given steady faults fault (Ok desk) never is = absurd (let is = is.0 in cc)
 desk_not_given steady faults fault (Err ending) never is = not_given fault ending never is.1
 
-pub check_not_given : {T : Type 0} (fault : KeepFault) (result : Result ℕ Ending) → ¬ IsErrOf {T = T} (Err fault) keeping.Failed → IsErr result × IsErrAnd result (λ ending. ending ≡ keep_ending fault) → CheckIsSteady result
+pub check_not_given : {T : Type 0} (fault : Fault) (result : Result ℕ Ending) → ¬ IsErrOf {T = T} (Err fault) outside.Failed → IsErr result × IsErrAnd result (λ ending. ending ≡ keep_ending fault) → CheckIsSteady result
 check_not_given fault (Ok entries) never is = absurd (let is = is.0 in cc)
 check_not_given fault (Err ending) never is = not_given fault ending never is.1
 
@@ -101,10 +99,10 @@ no_store_not_four other never e = never (same_other other Keeper e)
 counted_none : (text : List ℕ) (old new : OutputState) (ending : ServeEnding) → WritesCount text old new ending → ending ≡ serves.NotOpened Keeper → ⊥
 counted_none text old new ending tells is = subst (λ (e : ServeEnding). WritesCount text old new e) is tells
 
-pub served_not_four : (result : Result (Unit {0}) NetFault) (entries : ℕ) (old new : OutputState) (ending : ServeEnding) → WritesServed result entries old new ending → ending ≡ serves.NotOpened Keeper → ⊥
+pub served_not_four : (result : Result (Unit {0}) Fault) (entries : ℕ) (old new : OutputState) (ending : ServeEnding) → WritesServed result entries old new ending → ending ≡ serves.NotOpened Keeper → ⊥
 served_not_four (Ok done) entries old new ending tells is = counted_none _ old new ending tells is
-served_not_four (Err nets.Failed) entries old new ending (e, text) is = absurd (let m = sym e ∙ is in cc)
-served_not_four (Err nets.Memory) entries old new ending (e, text) is = absurd (let m = sym e ∙ is in cc)
+served_not_four (Err outside.Failed) entries old new ending (e, text) is = absurd (let m = sym e ∙ is in cc)
+served_not_four (Err outside.Memory) entries old new ending (e, text) is = absurd (let m = sym e ∙ is in cc)
 
 pub serve_not_nine : (ending : ServeEnding) → (ending ≡ serves.Net → ⊥) → serve_status ending ≢ 9
 serve_not_nine serves.Done never is = omega (arith, is)
@@ -124,10 +122,10 @@ serve_not_nine serves.Write never is = omega (arith, is)
 counted_no_net : (text : List ℕ) (old new : OutputState) (ending : ServeEnding) → WritesCount text old new ending → ending ≡ serves.Net → ⊥
 counted_no_net text old new ending tells is = subst (λ (e : ServeEnding). WritesCount text old new e) is tells
 
-pub served_not_nine : (result : Result (Unit {0}) NetFault) (entries : ℕ) (old new : OutputState) (ending : ServeEnding) → WritesServed result entries old new ending → result ≢ Err nets.Failed → ending ≡ serves.Net → ⊥
+pub served_not_nine : (result : Result (Unit {0}) Fault) (entries : ℕ) (old new : OutputState) (ending : ServeEnding) → WritesServed result entries old new ending → result ≢ Err outside.Failed → ending ≡ serves.Net → ⊥
 served_not_nine (Ok done) entries old new ending tells never is = counted_no_net _ old new ending tells is
-served_not_nine (Err nets.Failed) entries old new ending tells never is = never refl
-served_not_nine (Err nets.Memory) entries old new ending (e, text) never is = absurd (let m = sym e ∙ is in cc)
+served_not_nine (Err outside.Failed) entries old new ending tells never is = never refl
+served_not_nine (Err outside.Memory) entries old new ending (e, text) never is = absurd (let m = sym e ∙ is in cc)
 
 -- what is written of the book's length ends with status 7 only where the write failed
 counted_seven : (text : List ℕ) (old new : OutputState) (ending : ServeEnding) (P : Type 0) → WritesCount text old new ending → (ending ≡ serves.Write → P) → P ⊎ (serve_status ending ≢ 7)
@@ -139,10 +137,10 @@ counted_seven text old new (serves.NotOpened ending) P never only = absurd never
 counted_seven text old new serves.Net P never only = absurd never
 counted_seven text old new serves.Memory P never only = absurd never
 
-pub served_seven : (result : Result (Unit {0}) NetFault) (entries : ℕ) (old new : OutputState) (ending : ServeEnding) (P : Type 0) → WritesServed result entries old new ending → (ending ≡ serves.Write → P) → P ⊎ (serve_status ending ≢ 7)
+pub served_seven : (result : Result (Unit {0}) Fault) (entries : ℕ) (old new : OutputState) (ending : ServeEnding) (P : Type 0) → WritesServed result entries old new ending → (ending ≡ serves.Write → P) → P ⊎ (serve_status ending ≢ 7)
 served_seven (Ok done) entries old new ending P tells only = counted_seven _ old new ending P tells only
-served_seven (Err nets.Failed) entries old new ending P (is, text) only = inr (λ seven. omega (arith, seven, ap serve_status is))
-served_seven (Err nets.Memory) entries old new ending P (is, text) only = inr (λ seven. omega (arith, seven, ap serve_status is))
+served_seven (Err outside.Failed) entries old new ending P (is, text) only = inr (λ seven. omega (arith, seven, ap serve_status is))
+served_seven (Err outside.Memory) entries old new ending P (is, text) only = inr (λ seven. omega (arith, seven, ap serve_status is))
 
 pub no_accounts_not_nine : (Told : Type 0) (HasFile : List ℕ → Type 0) (before after : ℕ) (ending : ServeEnding) → HasNoAccounts Told HasFile before after ending → ending ≡ serves.Net → ⊥
 no_accounts_not_nine Told HasFile before after ending why is = subst (λ (e : ServeEnding). HasNoAccounts Told HasFile before after e) is why

@@ -2,8 +2,9 @@
 use Rattle.std.proofs.Common.{◌≡◌, ◌≢◌, ◌⊎◌, ℕ, zero, suc, ◌<◌, ◌-◌, ◌^◌, List, [], codes, Option, Some, None, IfSome, Result, Ok, Err, IsOk, IsErr, IsErrAnd, refl, sym, ap, ◌∙◌, subst, arith, inl, inr}
 use Rattle.rv_base.specs.Causes.{Rose}
 use Rattle.rv_base.specs.Outside.{InputState, OutputState, Writes}
+use Rattle.rv_base.specs.declared.fault.Fault.{Fault}
+use Rattle.rv_base.specs.declared.fault.Fault.TheVariants as outside
 use Rattle.rv_history.specs.Served.{Served}
-use Rattle.rv_keeper.specs.declared.fault.KeepFault.{KeepFault}
 use Rattle.rv_keeper.specs.declared.loaded.Loaded.{Loaded}
 use Rattle.rv_keeper.specs.declared.keeper.Keeper.{Ghosts}
 use Rattle.rv_keeper.specs.declared.place.Place.{Ghosts as PlaceGhosts}
@@ -27,7 +28,6 @@ use Rattle.rv_cli.specs.Replying.{Replies, WritesReply}
 use Rattle.rv_cli.specs.Storing.{HasOpened, OpensStore, OpensKept, ToldBefore}
 use Rattle.rv_cli.specs.RunLaws.{takes_later}
 use Rattle.rv_cli.proofs.Ended.{ended}
-use Rattle.rv_keeper.specs.declared.fault.KeepFault.TheVariants as keeping
 
 -- what is told later was told before
 module _ (Told Now : Type 0) (then : Now → Told) where
@@ -41,10 +41,10 @@ module _ (Told Now : Type 0) (then : Now → Told) where
   feeds_later first now input input' output output' ending f = record { reads = f.reads; writes = f.writes; fed = fed_later input.left first now input' output output' ending f.fed }
 
 -- the place gave no keeper, and that is told
-pub not_given : {T : Type 0} (c : StoreChange) (fault : KeepFault) (ending : Ending) → HasKeepCause {T = T} c.before c.after (Err fault) → ending ≡ keep_ending fault
+pub not_given : {T : Type 0} (c : StoreChange) (fault : Fault) (ending : Ending) → HasKeepCause {T = T} c.before c.after (Err fault) → ending ≡ keep_ending fault
     → IsNotOpened c ending
-not_given c keeping.Failed ending cause is = subst (λ (e : Ending). IsNotOpened c e) (sym is) (cause.failed refl)
-not_given c keeping.Memory ending cause is = subst (λ (e : Ending). IsNotOpened c e) (sym is) tt
+not_given c outside.Failed ending cause is = subst (λ (e : Ending). IsNotOpened c e) (sym is) (cause.failed refl)
+not_given c outside.Memory ending cause is = subst (λ (e : Ending). IsNotOpened c e) (sym is) tt
 
 -- a store that did not open has no status 0
 pub refused_fails : (c : StoreChange) (ending : Ending) (status : ℕ) → IsNotOpened c ending → status ≡ status_of ending → status ≢ 0
@@ -122,7 +122,7 @@ module _ {P K : Type 0} (place : PlaceGhosts P K) (G : Ghosts K) (store : List �
       again (Malformed number) told never = never
 
   -- the place gave no keeper, and so there is no desk
-  pub store_refused : {T : Type 0} (old new : P) (fault : KeepFault) (result : Result (Seated K) Ending) → HasKeepCause {T = T} (place.faults old) (place.faults new) (Err fault) → IsErr result × IsErrAnd result (λ ending. ending ≡ keep_ending fault) → (place.tells new → (held : Loaded) → place.holds old store held → place.holds new store held)
+  pub store_refused : {T : Type 0} (old new : P) (fault : Fault) (result : Result (Seated K) Ending) → HasKeepCause {T = T} (place.faults old) (place.faults new) (Err fault) → IsErr result × IsErrAnd result (λ ending. ending ≡ keep_ending fault) → (place.tells new → (held : Loaded) → place.holds old store held → place.holds new store held)
       → (place.tells new → (left : Option Loaded) → place.may_leave new store left → place.may_leave old store left) → OpensStore place G store old result new
   store_refused old new fault (Ok desk) cause is same left = absurd (let is = is.0 in cc)
   store_refused old new fault (Err ending) cause is same left = (not_given (change place store old new) fault ending cause is.1, record { held = λ t. inl (same t); left = λ t x may. inl (left t x may) })

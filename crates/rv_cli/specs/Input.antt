@@ -3,14 +3,14 @@ use Rattle.std.specs.Prelude.{◌≡◌, ◌≤◌, ◌<◌, ℕ, List, length, 
 use Rattle.std.specs.Io.KnownBytes.{Consumes, IsAtEnd}
 use Rattle.rv_base.specs.Causes.{Rose}
 use Rattle.rv_base.specs.Outside.{InputState, counted}
-use Rattle.rv_lines.specs.declared.line_fault.LineFault.{LineFault}
-use Rattle.rv_lines.specs.declared.line_fault.LineFault.TheVariants as reading
+use Rattle.rv_base.specs.declared.fault.Fault.{Fault}
+use Rattle.rv_base.specs.declared.fault.Fault.TheVariants as outside
 use Rattle.rv_cli.specs.declared.input_fault.InputFault.{InputFault}
 use Rattle.rv_cli.specs.declared.input_fault.InputFault.TheVariants.{Read, TooLarge, Memory}
 
-abbrev pub fault_of : LineFault → InputFault
-fault_of reading.Read = Read
-fault_of reading.Memory = Memory
+abbrev pub fault_of : Fault → InputFault
+fault_of outside.Failed = Read
+fault_of outside.Memory = Memory
 
 -- These are all the bytes of the input, no more than an import may have. The end was told once.
 pub record IsReadWhole (old new : InputState) (bytes : List ℕ) : Type 0 where

@@ -7,8 +7,6 @@ use Rattle.rv_base.specs.Writes.{AppendsFront}
 use Rattle.rv_keeper.specs.declared.loaded.Loaded.{Loaded}
 use Rattle.rv_accounts.specs.File.{AccountsServed, file_in}
 use Rattle.rv_accounts.specs.declared.fault.AccountsFault.TheVariants as accounts
-use Rattle.rv_net.specs.declared.net_fault.NetFault.{NetFault}
-use Rattle.rv_net.specs.declared.net_fault.NetFault.TheVariants as nets
 use Rattle.rv_cli.specs.declared.ending.Ending.TheVariants as endings
 use Rattle.rv_cli.specs.declared.serve_ending.ServeEnding.{ServeEnding}
 use Rattle.rv_cli.specs.declared.serve_ending.ServeEnding.TheVariants.{Done, BadAccounts, TwiceAccounts, NotOpened, Net, Memory, Write}
@@ -19,6 +17,8 @@ use Rattle.rv_cli.specs.Running.{network}
 use Rattle.rv_cli.specs.Serving.{FileSays, HasNoAccounts, IsNetServed, pokes_wanted}
 use Rattle.rv_base.specs.declared.outside.Source.{Ghosts as SourceGhosts}
 use Rattle.rv_base.specs.declared.outside.Sink.{Ghosts as SinkGhosts}
+use Rattle.rv_base.specs.declared.fault.Fault.{Fault}
+use Rattle.rv_base.specs.declared.fault.Fault.TheVariants as outside
 use Rattle.rv_keeper.specs.declared.keeper.Keeper.{Ghosts as KeeperGhosts}
 use Rattle.rv_keeper.specs.declared.place.Place.{Ghosts as PlaceGhosts}
 use Rattle.rv_net.specs.Giving.{Giving}
@@ -64,10 +64,10 @@ abbrev pub MayWantPokes : ServeOptions → Option Wanted → Option Wanted → T
 MayWantPokes options before now = (now ≡ before) ⊎ ((0 < options.pokes) × (now ≡ Some (pokes_wanted options)))
 
 -- The net was served at a desk, or nothing was served and the desk is as it was.
-abbrev pub NetResult : {K : Type 0} → Type 0 → (K → Type 0) → ℕ → ℕ → Seated K → Seated K → Result (Unit {0}) NetFault → Type 0
+abbrev pub NetResult : {K : Type 0} → Type 0 → (K → Type 0) → ℕ → ℕ → Seated K → Seated K → Result (Unit {0}) Fault → Type 0
 NetResult Served kept_tells before after old new (Ok done) = Served × (kept_tells new.keeper → kept_tells old.keeper) × (after ≡ before)
-NetResult Served kept_tells before after old new (Err nets.Failed) = (new ≡ old) × Rose before after
-NetResult Served kept_tells before after old new (Err nets.Memory) = new ≡ old
+NetResult Served kept_tells before after old new (Err outside.Failed) = (new ≡ old) × Rose before after
+NetResult Served kept_tells before after old new (Err outside.Memory) = new ≡ old
 
 -- all of a count and its label was written, or a front, and a write failed
 abbrev pub WritesCount : List ℕ → OutputState → OutputState → ServeEnding → Type 0
@@ -79,13 +79,13 @@ abbrev pub count_text : ℕ → List ℕ
 count_text entries = codes "entries " ++ (decimal entries ++ codes "\n")
 
 -- what is told of the net that served, or did not
-abbrev pub WritesServed : Result (Unit {0}) NetFault → ℕ → OutputState → OutputState → ServeEnding → Type 0
+abbrev pub WritesServed : Result (Unit {0}) Fault → ℕ → OutputState → OutputState → ServeEnding → Type 0
 WritesServed (Ok done) entries old new ending = WritesCount (count_text entries) old new ending
-WritesServed (Err nets.Failed) entries old new ending = (ending ≡ Net) × WritesOnly old new (serve_text Net)
-WritesServed (Err nets.Memory) entries old new ending = (ending ≡ Memory) × WritesOnly old new (serve_text Memory)
+WritesServed (Err outside.Failed) entries old new ending = (ending ≡ Net) × WritesOnly old new (serve_text Net)
+WritesServed (Err outside.Memory) entries old new ending = (ending ≡ Memory) × WritesOnly old new (serve_text Memory)
 
 -- The listeners of a net were served side by side at a desk, with these accounts, as the options say.
 module _ {K N L P I O C : Type 0} (keeper : KeeperGhosts K) (net : NetGhosts N L P I O C) (listen : ListenGhosts L I O) (source : SourceGhosts I) (sink : SinkGhosts O) (pokes : PokeListenGhosts P C) (link : LinkGhosts C) where
-  abbrev pub ServesNet : AccountsServed → ServeOptions → N → N → Seated K → Seated K → Result (Unit {0}) NetFault → Type 0
+  abbrev pub ServesNet : AccountsServed → ServeOptions → N → N → Seated K → Seated K → Result (Unit {0}) Fault → Type 0
   ServesNet accounts options old new desk now result =
       NetResult (IsNetServed keeper (network net listen source sink pokes link) options old new accounts desk now) keeper.tells (net.faults old) (net.faults new) desk now result

@@ -2,8 +2,8 @@
 use Rattle.std.specs.Prelude.{ℕ, ◌&&◌, ◌==◌, List, [], ◌∷◌, ◌++◌, codes, decimal, nat_le, not, if◌then◌else◌}
 use Rattle.std.specs.List.{flat_map}
 use Rattle.percent_encoding.specs.Percent.{percent_encode_byte}
-use Rattle.rv_keeper.specs.declared.fault.KeepFault.{KeepFault}
-use Rattle.rv_keeper.specs.declared.fault.KeepFault.TheVariants as keeping
+use Rattle.rv_base.specs.declared.fault.Fault.{Fault}
+use Rattle.rv_base.specs.declared.fault.Fault.TheVariants as outside
 use Rattle.rv_record.specs.declared.fault.Damage.{Damage}
 use Rattle.rv_answering.specs.declared.answer.Answer.{Answer}
 use Rattle.rv_answering.specs.declared.answer.Answer.TheVariants as answers
@@ -32,9 +32,9 @@ fault_ending (faults.Damaged damage) = Damaged damage
 fault_ending faults.Memory = Memory
 
 -- and whose keeper the place does not give
-abbrev pub keep_ending : KeepFault → Ending
-keep_ending keeping.Failed = Keeper
-keep_ending keeping.Memory = Memory
+abbrev pub keep_ending : Fault → Ending
+keep_ending outside.Failed = Keeper
+keep_ending outside.Memory = Memory
 
 abbrev pub status_of : Ending → ℕ
 status_of Done = 0

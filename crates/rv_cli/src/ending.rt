@@ -1,5 +1,5 @@
+use rv_base::Fault;
 use rv_desk::OpenFault;
-use rv_keeper::KeepFault;
 use rv_record::Damage;
 
 /// How a run ends.
@@ -53,16 +53,16 @@ impl Ending {
 }
 
 // How a run ends whose keeper the place does not give.
-impl From<KeepFault> for Ending {
+impl From<Fault> for Ending {
     ghost use Rattle.std.specs.Prelude.{◌≡◌};
     ghost use Rattle.rv_cli.specs.Texts.{keep_ending};
 
     ghost from_gives = { λ fault ending. ending ≡ keep_ending fault };
 
-    fn from(fault: KeepFault) -> Ending {
+    fn from(fault: Fault) -> Ending {
         match fault {
-            KeepFault::Failed => Ending::Keeper,
-            KeepFault::Memory => Ending::Memory,
+            Fault::Failed => Ending::Keeper,
+            Fault::Memory => Ending::Memory,
         }
     }
 }

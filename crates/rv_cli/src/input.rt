@@ -4,8 +4,7 @@ ghost use Rattle.rv_lines.specs.Reading.{NextLineIsSteady};
 ghost use Rattle.rv_cli.specs.Input.{ReadsInput, WholeIsSteady};
 
 use crate::input_fault::InputFault;
-use rv_base::{Bytes, Source};
-use rv_lines::LineFault;
+use rv_base::{Bytes, Fault, Source};
 use std::alloc::Global;
 
 // The most bytes of one read.
@@ -15,7 +14,7 @@ const PIECE: usize = 4096;
 const IMPORT_LIMIT: usize = 16_777_216;
 
 // Takes some bytes from the source, none only at its end. The space is made first, so that nothing that was read is lost.
-fn read_more<S: Source>(bytes: &mut Vec<u8>, input: &mut S) -> Result<usize, LineFault>
+fn read_more<S: Source>(bytes: &mut Vec<u8>, input: &mut S) -> Result<usize, Fault>
     ensures piece { ReadsPiece bytes.old.items (S.state input.old) bytes.new.items (S.state input.new) result }
     ensures steady { S.fails_no_more input.old → NextLineIsSteady (S.fails_no_more input.new) result }
 {

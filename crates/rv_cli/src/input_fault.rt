@@ -1,4 +1,4 @@
-use rv_lines::LineFault;
+use rv_base::Fault;
 
 /// Why the input was not read whole.
 #[derive(Clone, Copy, Debug, PartialEq, Eq)]
@@ -11,16 +11,16 @@ pub(crate) enum InputFault {
     Memory,
 }
 
-impl From<LineFault> for InputFault {
+impl From<Fault> for InputFault {
     ghost use Rattle.std.specs.Prelude.{◌≡◌};
     ghost use Rattle.rv_cli.specs.Input.{fault_of};
 
     ghost from_gives = { λ fault made. made ≡ fault_of fault };
 
-    fn from(fault: LineFault) -> InputFault {
+    fn from(fault: Fault) -> InputFault {
         match fault {
-            LineFault::Read => InputFault::Read,
-            LineFault::Memory => InputFault::Memory,
+            Fault::Failed => InputFault::Read,
+            Fault::Memory => InputFault::Memory,
         }
     }
 }

@@ -2,9 +2,9 @@
 ghost use Rattle.std.specs.Prelude.{◌≡◌, ◌≢◌, ◌<◌, ◌≤◌, ◌^◌, ◌⊎◌, [], Err, None, Some, IfErr, IfOk, IsErrOf, MatchResult, length};
 ghost use Rattle.std.specs.List.{AllByRecursion};
 ghost use Rattle.rv_base.specs.Causes.{Counts, Rose};
+ghost use Rattle.rv_base.specs.declared.fault.Fault.TheVariants as Fault;
 ghost use Rattle.rv_keeper.specs.Stores.{OthersStay, PlaceStays};
 ghost use Rattle.rv_net.specs.Giving.{TakesBack};
-ghost use Rattle.rv_net.specs.declared.net_fault.NetFault.TheVariants as nets;
 ghost use Rattle.rv_cli.specs.Headline.{WritesOnly};
 ghost use Rattle.rv_cli.specs.Serving.{Unserved, listeners_wanted};
 ghost use Rattle.rv_cli.specs.Running.{network};
@@ -20,10 +20,10 @@ use crate::serve_ending::ServeEnding;
 use crate::store::open_desk;
 use crate::texts::{write_count, write_serve_ending};
 use rv_accounts::{Accounts, AccountsFault, read_accounts};
-use rv_base::{Bytes, Failed, Memory, Sink};
+use rv_base::{Bytes, Failed, Fault, Memory, Sink};
 use rv_desk::Desk;
-use rv_keeper::{KeepFault, Keeper, Place};
-use rv_net::{Listen, Listeners, Net, NetFault, PokeListen};
+use rv_keeper::{Keeper, Place};
+use rv_net::{Listen, Listeners, Net, PokeListen};
 use rv_poke::PokeLink;
 use rv_words::ServeOptions;
 use rv_workers::{Crew, Returned, serve_listeners};
@@ -50,13 +50,13 @@ fn accounts_of<P: Place>(alloc: Global, place: &mut P, name: &str) -> Result<Acc
 {
     match place.read_accounts(name) {
         Ok(bytes) => accounts_in(alloc, &bytes),
-        Err(KeepFault::Failed) => Err(ServeEnding::NotOpened(Ending::Keeper)),
-        Err(KeepFault::Memory) => Err(ServeEnding::NotOpened(Ending::Memory)),
+        Err(Fault::Failed) => Err(ServeEnding::NotOpened(Ending::Keeper)),
+        Err(Fault::Memory) => Err(ServeEnding::NotOpened(Ending::Memory)),
     }
 }
 
 // The listeners of connections, as many as there are workers.
-fn listeners_of<N: Net>(options: &ServeOptions, net: &mut N) -> Result<Vec<N::Listen>, NetFault>
+fn listeners_of<N: Net>(options: &ServeOptions, net: &mut N) -> Result<Vec<N::Listen>, Fault>
     ensures count { IfOk result (λ given. length given.items ≡ options.now.workers) }
     ensures few { IfOk result (λ given. length given.items < 2 ^ 32) }
     ensures tells { N.tells net.new → N.tells net.old }
@@ -64,8 +64,8 @@ fn listeners_of<N: Net>(options: &ServeOptions, net: &mut N) -> Result<Vec<N::Li
     ensures asked { N.tells net.new → (N.listeners net.new).wanted ≡ Some (listeners_wanted options.now) }
     ensures others { N.tells net.new → N.pokes net.new ≡ N.pokes net.old }
     ensures faults { Counts (N.faults net.old) (N.faults net.new) result }
-    ensures failed { IsErrOf result nets.Failed → Rose (N.faults net.old) (N.faults net.new) }
-    ensures steady { N.fails_no_more net.old → N.fails_no_more net.new × (options.now.workers ≤ length (N.listeners net.old).to_give → ¬ IsErrOf result nets.Failed) }
+    ensures failed { IsErrOf result Fault.Failed → Rose (N.faults net.old) (N.faults net.new) }
+    ensures steady { N.fails_no_more net.old → N.fails_no_more net.new × (options.now.workers ≤ length (N.listeners net.old).to_give → ¬ IsErrOf result Fault.Failed) }
 {
     match net.listen(options.port, options.workers, options.connections) {
         Ok(listeners) => Ok(listeners.into_vec()),
@@ -78,7 +78,7 @@ fn pokes_of<N: Net>(
     alloc: Global,
     options: &ServeOptions,
     net: &mut N,
-) -> Result<Vec<N::Pokes>, NetFault>
+) -> Result<Vec<N::Pokes>, Fault>
     ensures count { IfOk result (λ given. length given.items ≡ options.now.pokes) }
     ensures few { IfOk result (λ given. length given.items < 2 ^ 32) }
     ensures tells { N.tells net.new → N.tells net.old }
@@ -86,8 +86,8 @@ fn pokes_of<N: Net>(
     ensures asked { N.tells net.new → WantsPokes options.now (N.pokes net.old).wanted (N.pokes net.new).wanted }
     ensures others { N.tells net.new → N.listeners net.new ≡ N.listeners net.old }
     ensures faults { Counts (N.faults net.old) (N.faults net.new) result }
-    ensures failed { IsErrOf result nets.Failed → Rose (N.faults net.old) (N.faults net.new) }
-    ensures steady { N.fails_no_more net.old → N.fails_no_more net.new × (options.now.pokes ≤ length (N.pokes net.old).to_give → ¬ IsErrOf result nets.Failed) }
+    ensures failed { IsErrOf result Fault.Failed → Rose (N.faults net.old) (N.faults net.new) }
+    ensures steady { N.fails_no_more net.old → N.fails_no_more net.new × (options.now.pokes ≤ length (N.pokes net.old).to_give → ¬ IsErrOf result Fault.Failed) }
 {
     if options.pokes == 0 {
         return Ok(Vec::new(alloc));
@@ -103,7 +103,7 @@ fn listen_all<N: Net>(
     alloc: Global,
     options: &ServeOptions,
     net: &mut N,
-) -> Result<(Vec<N::Listen>, Vec<N::Pokes>), NetFault>
+) -> Result<(Vec<N::Listen>, Vec<N::Pokes>), Fault>
     ensures counts { IfOk result (λ given. (length given.0.items ≡ options.now.workers) × (length given.1.items ≡ options.now.pokes)) }
     ensures few { IfOk result (λ given. (length given.0.items < 2 ^ 32) × (length given.1.items < 2 ^ 32)) }
     ensures tells { N.tells net.new → N.tells net.old }
@@ -113,8 +113,8 @@ fn listen_all<N: Net>(
     ensures asked_pokes { N.tells net.new → MayWantPokes options.now (N.pokes net.old).wanted (N.pokes net.new).wanted }
     ensures asked_both { IfOk result (λ given. N.tells net.new → WantsPokes options.now (N.pokes net.old).wanted (N.pokes net.new).wanted) }
     ensures faults { Counts (N.faults net.old) (N.faults net.new) result }
-    ensures failed { IsErrOf result nets.Failed → Rose (N.faults net.old) (N.faults net.new) }
-    ensures steady { N.fails_no_more net.old → options.now.workers ≤ length (N.listeners net.old).to_give → options.now.pokes ≤ length (N.pokes net.old).to_give → ¬ IsErrOf result nets.Failed }
+    ensures failed { IsErrOf result Fault.Failed → Rose (N.faults net.old) (N.faults net.new) }
+    ensures steady { N.fails_no_more net.old → options.now.workers ≤ length (N.listeners net.old).to_give → options.now.pokes ≤ length (N.pokes net.old).to_give → ¬ IsErrOf result Fault.Failed }
 {
     let listeners = listeners_of(options, net)?;
     match pokes_of(alloc, options, net) {
@@ -148,7 +148,7 @@ fn serve_net<R: Wait + Sync, K: Keeper + Send, N: Net, C: Crew>(
     desk: Desk<K>,
     options: &ServeOptions,
     net: &mut N,
-) -> (Result<(), NetFault>, Desk<K>)
+) -> (Result<(), Fault>, Desk<K>)
 where
     <N::Listen as Listen>::In: Send,
     <N::Listen as Listen>::Out: Send,
@@ -159,7 +159,7 @@ where
     ensures wanted { N.tells net.new → (N.listeners net.new).wanted ≡ Some (listeners_wanted options.now) }
     ensures wanted_pokes { N.tells net.new → MayWantPokes options.now (N.pokes net.old).wanted (N.pokes net.new).wanted }
     ensures steady { K.fails_no_more desk.keeper → K.fails_no_more result.1.keeper }
-    ensures steady_net { N.fails_no_more net.old → options.now.workers ≤ length (N.listeners net.old).to_give → options.now.pokes ≤ length (N.pokes net.old).to_give → result.0 ≢ Err nets.Failed }
+    ensures steady_net { N.fails_no_more net.old → options.now.workers ≤ length (N.listeners net.old).to_give → options.now.pokes ≤ length (N.pokes net.old).to_give → result.0 ≢ Err Fault.Failed }
 {
     let (listeners, pokes) = match listen_all(alloc, options, net) {
         Ok(given) => given,
@@ -174,19 +174,19 @@ where
     give_back(net, listeners, pokes);
     match served {
         Ok(()) => (Ok(()), desk),
-        Err(Memory) => (Err(NetFault::Memory), desk),
+        Err(Memory) => (Err(Fault::Memory), desk),
     }
 }
 
 // Writes how many entries the book has that was served; or why nothing was served.
-fn write_served<O: Sink>(out: &mut O, served: Result<(), NetFault>, entries: u32) -> ServeEnding
+fn write_served<O: Sink>(out: &mut O, served: Result<(), Fault>, entries: u32) -> ServeEnding
     ensures writes { WritesServed served entries (O.state out.old) (O.state out.new) result }
     ensures steady { O.fails_no_more out.old → ServeIsSteady (O.fails_no_more out.new) (O.state out.old).refusals (O.state out.new).refusals result }
 {
     match served {
         Ok(()) => write_entries(out, entries),
-        Err(NetFault::Failed) => tell(out, ServeEnding::Net),
-        Err(NetFault::Memory) => tell(out, ServeEnding::Memory),
+        Err(Fault::Failed) => tell(out, ServeEnding::Net),
+        Err(Fault::Memory) => tell(out, ServeEnding::Memory),
     }
 }
 

@@ -3,7 +3,7 @@ use Rattle.std.proofs.Common.{◌≡◌, ℕ, List, Option, Some, None, Result, 
 use Rattle.sqlite_trees.specs.declared.store.Store.{Ghosts}
 use Rattle.sqlite.specs.State.{HasCleanDisk}
 use Rattle.sqlite.specs.Held.{state}
-use Rattle.rv_keeper.specs.declared.fault.KeepFault.{KeepFault}
+use Rattle.rv_base.specs.declared.fault.Fault.{Fault}
 use Rattle.rv_keeper.specs.declared.loaded.Loaded.{Loaded}
 use Rattle.rv_keeper.specs.Stores.{LeavesAsGiven, OpensWith, OthersStay, PlaceStays}
 use Rattle.rv_sqlite.specs.declared.sqlite_keeper.SqliteKeeper.{SqliteKeeper}
@@ -84,15 +84,15 @@ module _ {S : Type 0} {g : Ghosts S} where
   if_some P (Some keeper) p = p
 
   module _ (name : List ℕ) (old new : DatabasePlace S g) where
-    pub opened_tells : (result : Result (SqliteKeeper S g) KeepFault) → Opens old new name result → DatabaseTells new → MatchResult result (λ kept. KeeperTells kept → DatabaseTells old) (λ fault. DatabaseTells old)
+    pub opened_tells : (result : Result (SqliteKeeper S g) Fault) → Opens old new name result → DatabaseTells new → MatchResult result (λ kept. KeeperTells kept → DatabaseTells old) (λ fault. DatabaseTells old)
     opened_tells (Ok kept) (own, was, is) told = λ tells. ((subst (λ (place : DatabasePlace S g). DatabaseTells place) is told).0, if_some KeeperTells old.keeper (was_so KeeperTells old.keeper kept (λ keeper h. h) was tells))
     opened_tells (Err fault) is told = subst (λ (place : DatabasePlace S g). DatabaseTells place) is told
 
-    pub opened_honest : (result : Result (SqliteKeeper S g) KeepFault) → Opens old new name result → DatabaseIsHonest new → MatchResult result (λ kept. KeeperIsHonest kept → DatabaseIsHonest old) (λ fault. DatabaseIsHonest old)
+    pub opened_honest : (result : Result (SqliteKeeper S g) Fault) → Opens old new name result → DatabaseIsHonest new → MatchResult result (λ kept. KeeperIsHonest kept → DatabaseIsHonest old) (λ fault. DatabaseIsHonest old)
     opened_honest (Ok kept) (own, was, is) honest = λ clean. ((subst (λ (place : DatabasePlace S g). DatabaseIsHonest place) is honest).0, if_some KeeperIsHonest old.keeper (was_so KeeperIsHonest old.keeper kept (λ keeper h. h) was clean))
     opened_honest (Err fault) is honest = subst (λ (place : DatabasePlace S g). DatabaseIsHonest place) is honest
 
-    pub opened_kept : (result : Result (SqliteKeeper S g) KeepFault) → Opens old new name result → IfOk result (λ kept. KeeperTells kept → OpensWith name (DatabaseHolds old name) (KeeperHolds kept))
+    pub opened_kept : (result : Result (SqliteKeeper S g) Fault) → Opens old new name result → IfOk result (λ kept. KeeperTells kept → OpensWith name (DatabaseHolds old name) (KeeperHolds kept))
     opened_kept (Err fault) is = tt
     opened_kept (Ok kept) (own, was, is) = λ tells held opens. elim opens [
       | inl memory ↦ absurd (own.1 memory.0)
@@ -102,31 +102,31 @@ module _ {S : Type 0} {g : Ghosts S} where
       ]
     ]
 
-    pub opened_crash : (result : Result (SqliteKeeper S g) KeepFault) → Opens old new name result → IfOk result (λ kept. KeeperIsHonest kept → LeavesAsGiven name (DatabaseLeaves old name) (KeeperLeaves kept))
+    pub opened_crash : (result : Result (SqliteKeeper S g) Fault) → Opens old new name result → IfOk result (λ kept. KeeperIsHonest kept → LeavesAsGiven name (DatabaseLeaves old name) (KeeperLeaves kept))
     opened_crash (Err fault) is = tt
     opened_crash (Ok kept) (own, was, is) = λ honest left leaves. inr (own.1, inl (own, was_so (λ k. KeeperLeaves k left) old.keeper kept (λ keeper h. h) was leaves))
 
-    pub opened_out : (result : Result (SqliteKeeper S g) KeepFault) → Opens old new name result → OnOk result (IsDatabaseOut new name)
+    pub opened_out : (result : Result (SqliteKeeper S g) Fault) → Opens old new name result → OnOk result (IsDatabaseOut new name)
     opened_out (Err fault) is = tt
     opened_out (Ok kept) (own, was, is) = subst (λ (place : DatabasePlace S g). IsDatabaseOut place name) (sym is) (own, refl)
 
-    pub opened_others : (result : Result (SqliteKeeper S g) KeepFault) → Opens old new name result → OtherDatabasesStay name old new
+    pub opened_others : (result : Result (SqliteKeeper S g) Fault) → Opens old new name result → OtherDatabasesStay name old new
     opened_others (Err fault) is = others_too name old new (all_stay old new new.faults is)
     opened_others (Ok kept) (own, was, is) = others_stay name old new None old.faults own is
 
-    pub opened_there : (result : Result (SqliteKeeper S g) KeepFault) → Opens old new name result → IsOk result → IsDatabase old name
+    pub opened_there : (result : Result (SqliteKeeper S g) Fault) → Opens old new name result → IsOk result → IsDatabase old name
     opened_there (Err fault) is ok = absurd (cc)
     opened_there (Ok kept) (own, was, is) ok = own
 
-    pub opened_made : (result : Result (SqliteKeeper S g) KeepFault) → Opens old new name result → OnOk result (IsDatabase new name)
+    pub opened_made : (result : Result (SqliteKeeper S g) Fault) → Opens old new name result → OnOk result (IsDatabase new name)
     opened_made (Err fault) is = tt
     opened_made (Ok kept) (own, was, is) = subst (λ (place : DatabasePlace S g). IsDatabase place name) (sym is) own
 
-    pub opened_none : (result : Result (SqliteKeeper S g) KeepFault) → Opens old new name result → (other : List ℕ) → IsDatabase new other → IsDatabase old other
+    pub opened_none : (result : Result (SqliteKeeper S g) Fault) → Opens old new name result → (other : List ℕ) → IsDatabase new other → IsDatabase old other
     opened_none (Err fault) is other h = subst (λ (place : DatabasePlace S g). IsDatabase place other) is h
     opened_none (Ok kept) (own, was, is) other h = subst (λ (place : DatabasePlace S g). IsDatabase place other) is h
 
-    pub opened_refused : (result : Result (SqliteKeeper S g) KeepFault) → Opens old new name result → OnErr result (DatabaseStays old new)
+    pub opened_refused : (result : Result (SqliteKeeper S g) Fault) → Opens old new name result → OnErr result (DatabaseStays old new)
     opened_refused (Err fault) is = all_stay old new new.faults is
     opened_refused (Ok kept) opens = tt
 

@@ -3,7 +3,7 @@ use Rattle.std.specs.Prelude.{◌≡◌, ◌≢◌, ◌⊎◌, ℕ, false, List,
 use Rattle.sqlite_trees.specs.declared.store.Store.{Ghosts}
 use Rattle.sqlite.specs.State.{HasCleanDisk}
 use Rattle.sqlite.specs.Held.{state}
-use Rattle.rv_keeper.specs.declared.fault.KeepFault.{KeepFault}
+use Rattle.rv_base.specs.declared.fault.Fault.{Fault}
 use Rattle.rv_keeper.specs.declared.loaded.Loaded.{Loaded}
 use Rattle.rv_keeper.specs.Keeping.{holding}
 use Rattle.rv_sqlite.specs.declared.sqlite_keeper.SqliteKeeper.{SqliteKeeper}
@@ -41,7 +41,7 @@ module _ {S : Type 0} {g : Ghosts S} where
 
   -- An opening, by its answer: the keeper of the store, of which no call has failed yet, and which is out then; or nothing has changed but the
   -- count of faults.
-  abbrev pub Opens : DatabasePlace S g → DatabasePlace S g → List ℕ → Result (SqliteKeeper S g) KeepFault → Type 0
+  abbrev pub Opens : DatabasePlace S g → DatabasePlace S g → List ℕ → Result (SqliteKeeper S g) Fault → Type 0
   Opens old new name (Ok kept) = IsDatabase old name × IsSomeAnd old.keeper (λ keeper. kept ≡ record keeper { faults = 0 }) × (new ≡ record old { keeper = None })
   Opens old new name (Err fault) = new ≡ record old { faults = new.faults }
 

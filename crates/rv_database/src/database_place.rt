@@ -5,8 +5,8 @@ ghost use Rattle.rv_keeper.specs.Stores.{TakesUp};
 ghost use Rattle.rv_database.specs.Databases.{DatabaseHolds, DatabaseIsHonest, DatabaseLeaves, DatabaseTells, HasNoFile, IsDatabase, IsDatabaseOut, Opens, TakesBack};
 ghost use Rattle.rv_database.specs.DatabaseLaws.{absent_database, honest_database, one_database};
 
-use rv_base::Bytes;
-use rv_keeper::{KeepFault, Keeper, Place};
+use rv_base::{Bytes, Fault};
+use rv_keeper::{Keeper, Place};
 use rv_sqlite::SqliteKeeper;
 use sqlite::Alter;
 
@@ -108,7 +108,7 @@ impl<S: Alter> DatabasePlace<S> {
     }
 
     // The keeper of the store of this name, where it is in.
-    fn open_store(&mut self, name: &str) -> Result<SqliteKeeper<S>, KeepFault>
+    fn open_store(&mut self, name: &str) -> Result<SqliteKeeper<S>, Fault>
         ensures opens { Opens self.old self.new name.now result }
         ensures cause { HasKeepCause self.old.faults self.new.faults result }
     {
@@ -116,7 +116,7 @@ impl<S: Alter> DatabasePlace<S> {
             Some(keeper) => Ok(keeper.afresh()),
             None => {
                 self.count_fault();
-                Err(KeepFault::Failed)
+                Err(Fault::Failed)
             }
         }
     }
@@ -162,11 +162,11 @@ impl<S: Alter + Drop + Send> Place for DatabasePlace<S> {
         self.faults
     }
 
-    fn open_keeper(&mut self, name: &str) -> Result<SqliteKeeper<S>, KeepFault> {
+    fn open_keeper(&mut self, name: &str) -> Result<SqliteKeeper<S>, Fault> {
         self.open_store(name)
     }
 
-    fn open_existing(&mut self, name: &str) -> Result<SqliteKeeper<S>, KeepFault> {
+    fn open_existing(&mut self, name: &str) -> Result<SqliteKeeper<S>, Fault> {
         self.open_store(name)
     }
 
@@ -175,9 +175,9 @@ impl<S: Alter + Drop + Send> Place for DatabasePlace<S> {
         self.take_back(name, kept);
     }
 
-    fn read_accounts(&mut self, _name: &str) -> Result<Bytes, KeepFault> {
+    fn read_accounts(&mut self, _name: &str) -> Result<Bytes, Fault> {
         self.count_fault();
-        Err(KeepFault::Failed)
+        Err(Fault::Failed)
     }
 
     ghost steady_tells = { λ place steady. absurd steady };

@@ -1,12 +1,12 @@
 -- What the keeper holds after a commit, and when its generation is asked.
 use Rattle.std.proofs.Common.{◌≡◌, ℕ, List, Option, Some, None, sym, subst, inl, inr, ⊎_elim, ◌⊎◌}
 use Rattle.std.specs.Prelude.{Ok, Err, option_map}
+use Rattle.rv_base.specs.declared.fault.Fault.TheVariants.{Failed}
 use Rattle.rv_book.specs.Book.{Book, size}
 use Rattle.rv_history.specs.Served.{MayFollow, Next, with_next}
 use Rattle.rv_history.specs.TurnLaws.{size-with_next}
 use Rattle.rv_keeper.specs.declared.cell.Cell.{Cell}
 use Rattle.rv_keeper.specs.declared.change.Change.{Change}
-use Rattle.rv_keeper.specs.declared.fault.KeepFault.TheVariants.{Failed}
 use Rattle.rv_keeper.specs.declared.loaded.Loaded.{Loaded}
 use Rattle.rv_keeper.specs.Cells.{changed}
 use Rattle.rv_keeper.specs.Keeping.{Made, committed}

@@ -2,9 +2,9 @@
 use Rattle.std.proofs.Common.{◌≡◌, ◌<◌, ℕ, ◌+◌, Option, Some, None, Result, Ok, Err, inl, refl, sym, ap, ◌∙◌, subst}
 use Rattle.std.specs.Prelude.{option_map}
 use Rattle.rv_base.specs.Causes.{Rose}
+use Rattle.rv_base.specs.declared.fault.Fault.{Fault}
+use Rattle.rv_base.specs.declared.fault.Fault.TheVariants.{Failed, Memory}
 use Rattle.rv_book.specs.Book.{Book, size}
-use Rattle.rv_keeper.specs.declared.fault.KeepFault.{KeepFault}
-use Rattle.rv_keeper.specs.declared.fault.KeepFault.TheVariants.{Failed, Memory}
 use Rattle.rv_keeper.specs.declared.loaded.Loaded.{Loaded}
 use Rattle.rv_state.specs.declared.prepared.Prepared.{Prepared}
 use Rattle.rv_state.specs.Ready.{next_of}
@@ -24,7 +24,7 @@ use Rattle.rv_desk.specs.Seated.{AreInStep, HoldsBook, parts_served}
 use Rattle.rv_desk.specs.Stepping.{HasStepped}
 
 -- where what a step would enter is not kept
-pub not_kept : {T : Type 0} (ask : Ask) (entered : Outcome) (next : Next) (old new : Served) (fault : KeepFault) → refusal_of entered ≡ None → IsOf ask next → Step pull_json old.limit old.book ask entered (with_next old.book next) → Refuses old.limit old.book ask refusals.Memory
+pub not_kept : {T : Type 0} (ask : Ask) (entered : Outcome) (next : Next) (old new : Served) (fault : Fault) → refusal_of entered ≡ None → IsOf ask next → Step pull_json old.limit old.book ask entered (with_next old.book next) → Refuses old.limit old.book ask refusals.Memory
     → IsKept {T = T} old next (Err fault) new → HasStepped old ask (Err fault) new
 not_kept ask entered next old new Failed done is step memory kept = record {
   stepped = (next, record { outcome = entered; done = done; is = is; step = step; rose = kept.kept.2; book = kept.kept.0; doubt = kept.kept.1 });
@@ -51,13 +51,13 @@ closing_steps old (Next.closed new) place is closes below at = (below, at, close
 closing_steps old (Next.entry e) place is may below at = absurd is
 
 -- after the same book, what becomes of it is the same
-kept_or_not : {T : Type 0} (old other : Served) (next : Next) (result : Result T KeepFault) (new : Served) → old.book ≡ other.book → old.faults ≡ other.faults → KeepsOrNot old next result new → KeepsOrNot other next result new
+kept_or_not : {T : Type 0} (old other : Served) (next : Next) (result : Result T Fault) (new : Served) → old.book ≡ other.book → old.faults ≡ other.faults → KeepsOrNot old next result new → KeepsOrNot other next result new
 kept_or_not old other next (Ok done) new book faults kept = (kept.0 ∙ ap (λ (b : Book). with_next b next) book, kept.1, kept.2 ∙ faults)
 kept_or_not old other next (Err Failed) new book faults kept = (kept.0 ∙ book, kept.1, subst (λ (n : ℕ). Rose n new.faults) faults kept.2)
 kept_or_not old other next (Err Memory) new book faults kept = (kept.0 ∙ book, kept.1, kept.2 ∙ faults)
 
 -- what was prepared in a state of the same book is kept after that book
-pub kept_after : {T : Type 0} (state later : Standing) (doubt : Option Prepared) (faults : ℕ) (next prepared : Next) (result : Result T KeepFault) (new : Served) → later.book ≡ state.book → later.limit ≡ state.limit → prepared ≡ next
+pub kept_after : {T : Type 0} (state later : Standing) (doubt : Option Prepared) (faults : ℕ) (next prepared : Next) (result : Result T Fault) (new : Served) → later.book ≡ state.book → later.limit ≡ state.limit → prepared ≡ next
     → IsKept (parts_served later doubt faults) prepared result new → IsKept (parts_served state doubt faults) next result new
 kept_after state later doubt faults next prepared result new book limit is kept =
     let own : IsKept (parts_served later doubt faults) next result new = subst (λ (n : Next). IsKept (parts_served later doubt faults) n result new) is kept in

@@ -8,13 +8,13 @@ ghost use Rattle.rv_desk.specs.Stepping.{HasStepped};
 
 use crate::desk::Desk;
 use crate::keeping::keep;
-use rv_base::Num;
-use rv_keeper::{KeepFault, Keeper};
+use rv_base::{Fault, Num};
+use rv_keeper::Keeper;
 use rv_turns::{Outcome, Refusal, Which};
 
 impl<K: Keeper> Desk<K> {
     // A closing of the book.
-    pub(crate) fn end_book(&mut self) -> Result<Outcome, KeepFault>
+    pub(crate) fn end_book(&mut self) -> Result<Outcome, Fault>
         requires settled { self.old.doubt ≡ None }
         ensures stepped { HasStepped (served K.faults self.old) Ask.closing result (served K.faults self.new) }
         ensures assured { Assures K.tells K.fails_no_more self.old.keeper (keep_trouble result) self.new.keeper }
@@ -30,7 +30,7 @@ impl<K: Keeper> Desk<K> {
     }
 
     // Keeps the closed book. What is prepared is made and dropped here alone.
-    fn enter_closing(&mut self) -> Result<Outcome, KeepFault>
+    fn enter_closing(&mut self) -> Result<Outcome, Fault>
         requires settled { self.old.doubt ≡ None }
         requires within_limit { size self.old.book < self.old.limit }
         ensures stepped { HasStepped (served K.faults self.old) Ask.closing result (served K.faults self.new) }

@@ -5,9 +5,9 @@ ghost use Rattle.rv_desk.specs.Seated.{DeskTakes};
 ghost use Rattle.rv_turns.specs.Asks.{ask_of};
 
 use crate::open_fault::OpenFault;
-use rv_base::{Id, Num, Steps, User};
+use rv_base::{Fault, Id, Num, Steps, User};
 use rv_book::Book;
-use rv_keeper::{KeepFault, Keeper, Loaded};
+use rv_keeper::{Keeper, Loaded};
 use rv_news::Records;
 use rv_record::CellFault;
 use rv_rows::{Call, Tables};
@@ -62,8 +62,8 @@ impl<K: Keeper> Desk<K> {
         let mut keeper = keeper;
         match keeper.load() {
             Ok(loaded) => Desk::open_loaded(alloc, keeper, loaded, limit),
-            Err(KeepFault::Failed) => Err((OpenFault::Keeper, keeper)),
-            Err(KeepFault::Memory) => Err((OpenFault::Memory, keeper)),
+            Err(Fault::Failed) => Err((OpenFault::Keeper, keeper)),
+            Err(Fault::Memory) => Err((OpenFault::Memory, keeper)),
         }
     }
 
@@ -83,8 +83,8 @@ impl<K: Keeper> Desk<K> {
                 Err(CellFault::BadCell(damage)) => Err(OpenFault::Damaged(damage)),
                 Err(CellFault::Memory) => Err(OpenFault::Memory),
             },
-            Err(KeepFault::Failed) => Err(OpenFault::Keeper),
-            Err(KeepFault::Memory) => Err(OpenFault::Memory),
+            Err(Fault::Failed) => Err(OpenFault::Keeper),
+            Err(Fault::Memory) => Err(OpenFault::Memory),
         }
     }
 

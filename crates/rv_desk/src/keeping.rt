@@ -5,7 +5,8 @@ ghost use Rattle.rv_desk.specs.Seated.{Assures, AreInStep, LeavesInStep, parts_s
 ghost use Rattle.rv_state.specs.Ready.{IsPrepared, next_of};
 
 use crate::doubt::leave_in_doubt;
-use rv_keeper::{KeepFault, Keeper};
+use rv_base::Fault;
+use rv_keeper::Keeper;
 use rv_state::{Prepared, State};
 use rv_store::changes_for;
 use std::alloc::Global;
@@ -18,7 +19,7 @@ pub(crate) fn keep<K: Keeper>(
     doubt: &mut Option<Prepared>,
     keeper: &mut K,
     prepared: Prepared,
-) -> Result<(), KeepFault>
+) -> Result<(), Fault>
     requires prepared { IsPrepared state.old prepared }
     requires settled { doubt.old ≡ None }
     requires in_step { AreInStep state.old doubt.old (K.tells keeper.old) (K.holds keeper.old) }
@@ -35,10 +36,10 @@ pub(crate) fn keep<K: Keeper>(
             state.enter(prepared);
             Ok(())
         }
-        Err(KeepFault::Failed) => {
+        Err(Fault::Failed) => {
             leave_in_doubt(doubt, prepared);
-            Err(KeepFault::Failed)
+            Err(Fault::Failed)
         }
-        Err(KeepFault::Memory) => Err(KeepFault::Memory),
+        Err(Fault::Memory) => Err(Fault::Memory),
     }
 }

@@ -9,10 +9,10 @@ ghost use Rattle.rv_desk.specs.Stepping.{HasStepped};
 
 use crate::desk::Desk;
 use crate::keeping::keep;
-use rv_base::{Id, Num, User};
+use rv_base::{Fault, Id, Num, User};
 use rv_book::Found;
 use rv_history::{Admission, Numbering, admits, numbering_of};
-use rv_keeper::{KeepFault, Keeper};
+use rv_keeper::Keeper;
 use rv_rows::Call;
 use rv_turns::{Outcome, Refusal, Which};
 
@@ -25,7 +25,7 @@ impl<K: Keeper> Desk<K> {
         client: &Id,
         id: Num,
         call: Call,
-    ) -> Result<Outcome, KeepFault>
+    ) -> Result<Outcome, Fault>
         requires settled { self.old.doubt ≡ None }
         ensures stepped { HasStepped (served K.faults self.old) (Ask.mutation (record { user = user.now; group = group.now }) (record { client = client.now; id = id; call = call })) result (served K.faults self.new) }
         ensures assured { Assures K.tells K.fails_no_more self.old.keeper (keep_trouble result) self.new.keeper }
@@ -60,7 +60,7 @@ impl<K: Keeper> Desk<K> {
         id: Num,
         call: Call,
         found: Found,
-    ) -> Result<Outcome, KeepFault>
+    ) -> Result<Outcome, Fault>
         requires settled { self.old.doubt ≡ None }
         requires takes { TakesMutation (record { user = user.now; group = group.now }) client.now self.old.book }
         requires next { id ≡ last client.now self.old.book + 1 }

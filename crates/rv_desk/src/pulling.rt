@@ -14,10 +14,10 @@ ghost use Rattle.rv_desk.specs.Stepping.{HasStepped};
 
 use crate::desk::Desk;
 use crate::keeping::keep;
-use rv_base::{Num, Steps, User};
+use rv_base::{Fault, Num, Steps, User};
 use rv_book::Found;
 use rv_history::{Admission, admits, next_order};
-use rv_keeper::{KeepFault, Keeper};
+use rv_keeper::Keeper;
 use rv_news::News;
 use rv_turns::{Outcome, PullRequest, Refusal, Which};
 use rv_wire::same_reply;
@@ -30,7 +30,7 @@ impl<K: Keeper> Desk<K> {
         user: &User,
         request: &PullRequest,
         steps: &mut Steps<L>,
-    ) -> Result<Outcome, KeepFault>
+    ) -> Result<Outcome, Fault>
         requires settled { self.old.doubt ≡ None }
         ensures stepped { HasStepped (served K.faults self.old) (Ask.pull user.now request.now) result (served K.faults self.new) }
         ensures assured { Assures K.tells K.fails_no_more self.old.keeper (keep_trouble result) self.new.keeper }
@@ -50,7 +50,7 @@ impl<K: Keeper> Desk<K> {
         request: &PullRequest,
         group_at: usize,
         steps: &mut Steps<L>,
-    ) -> Result<Outcome, KeepFault>
+    ) -> Result<Outcome, Fault>
         requires settled { self.old.doubt ≡ None }
         requires admits { Admits user.now request.now.group self.old.book }
         ensures stepped { HasStepped (served K.faults self.old) (Ask.pull user.now request.now) result (served K.faults self.new) }
@@ -85,7 +85,7 @@ impl<K: Keeper> Desk<K> {
         order: Num,
         news: News,
         group_at: usize,
-    ) -> Result<Outcome, KeepFault>
+    ) -> Result<Outcome, Fault>
         requires settled { self.old.doubt ≡ None }
         requires admits { Admits user.now request.now.group self.old.book }
         requires changed { ¬ IsUnchanged user.now request.now self.old.book }
@@ -109,8 +109,8 @@ impl<K: Keeper> Desk<K> {
             prepared,
         ) {
             Ok(()) => Ok(Outcome::Pulled(reply)),
-            Err(KeepFault::Failed) => Err(KeepFault::Failed),
-            Err(KeepFault::Memory) => Err(KeepFault::Memory),
+            Err(Fault::Failed) => Err(Fault::Failed),
+            Err(Fault::Memory) => Err(Fault::Memory),
         }
     }
 }

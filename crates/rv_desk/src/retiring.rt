@@ -11,13 +11,13 @@ ghost use Rattle.rv_desk.specs.Stepping.{HasStepped};
 
 use crate::desk::Desk;
 use crate::keeping::keep;
-use rv_base::{Id, Num};
-use rv_keeper::{KeepFault, Keeper};
+use rv_base::{Fault, Id, Num};
+use rv_keeper::Keeper;
 use rv_turns::{Outcome, Refusal, Which};
 
 impl<K: Keeper> Desk<K> {
     // A retirement of a client group.
-    pub(crate) fn end_group(&mut self, group: &Id) -> Result<Outcome, KeepFault>
+    pub(crate) fn end_group(&mut self, group: &Id) -> Result<Outcome, Fault>
         requires settled { self.old.doubt ≡ None }
         ensures stepped { HasStepped (served K.faults self.old) (Ask.retirement group.now) result (served K.faults self.new) }
         ensures assured { Assures K.tells K.fails_no_more self.old.keeper (keep_trouble result) self.new.keeper }
@@ -42,7 +42,7 @@ impl<K: Keeper> Desk<K> {
     }
 
     // Keeps a retirement.
-    fn enter_retirement(&mut self, group: &Id) -> Result<u32, KeepFault>
+    fn enter_retirement(&mut self, group: &Id) -> Result<u32, Fault>
         requires settled { self.old.doubt ≡ None }
         requires within_limit { size self.old.book < self.old.limit }
         requires lawful { IsLawfulAfter self.old.book (Retire group.now) }

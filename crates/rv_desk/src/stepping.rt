@@ -7,8 +7,8 @@ ghost use Rattle.rv_desk.specs.Seated.{Assures, DeskTakes, KeepsBook, served};
 ghost use Rattle.rv_desk.specs.Stepping.{HasStepped};
 
 use crate::desk::Desk;
-use rv_base::Steps;
-use rv_keeper::{KeepFault, Keeper};
+use rv_base::{Fault, Steps};
+use rv_keeper::Keeper;
 use rv_turns::{Asked, Outcome, Refusal, Trouble};
 use std::sync::ledger::Ledger;
 
@@ -25,17 +25,13 @@ impl<K: Keeper> Desk<K> {
         let _book = self.book();
         match stepped {
             Ok(outcome) => outcome,
-            Err(KeepFault::Failed) => Outcome::Refused(Refusal::Trouble(Trouble::Keeper)),
-            Err(KeepFault::Memory) => Outcome::Refused(Refusal::Memory),
+            Err(Fault::Failed) => Outcome::Refused(Refusal::Trouble(Trouble::Keeper)),
+            Err(Fault::Memory) => Outcome::Refused(Refusal::Memory),
         }
     }
 
     // A step where nothing is in doubt.
-    fn step<L: Ledger>(
-        &mut self,
-        asked: Asked<'_>,
-        steps: &mut Steps<L>,
-    ) -> Result<Outcome, KeepFault>
+    fn step<L: Ledger>(&mut self, asked: Asked<'_>, steps: &mut Steps<L>) -> Result<Outcome, Fault>
         requires settled { self.old.doubt ≡ None }
         ensures stepped { HasStepped (served K.faults self.old) (ask_of asked.entry) result (served K.faults self.new) }
         ensures assured { Assures K.tells K.fails_no_more self.old.keeper (keep_trouble result) self.new.keeper }

@@ -10,14 +10,14 @@ use Rattle.rv_base.specs.InMemory.{fails_next}
 use Rattle.rv_base.specs.Positions.{equals}
 use Rattle.rv_keeper.specs.declared.accounts_file.AccountsFile.{AccountsFile}
 use Rattle.rv_keeper.specs.declared.memory_keeper.Fails.{Fails}
-use Rattle.rv_keeper.specs.declared.fault.KeepFault.{KeepFault}
 use Rattle.rv_keeper.specs.declared.loaded.Loaded.{Loaded}
 use Rattle.rv_keeper.specs.declared.memory_keeper.MemoryKeeper.{MemoryKeeper}
 use Rattle.rv_keeper.specs.declared.store.Store.{Store}
 use Rattle.rv_keeper.specs.Keeping.{holding}
 use Rattle.rv_keeper.specs.Schedules.{KeeperFailsNoMore, counted_fault, has_failed, next_call}
-use Rattle.rv_keeper.specs.declared.fault.KeepFault.TheVariants.{Failed, Memory}
 use Rattle.rv_base.specs.InMemoryLaws.{fails_no_more_later, not_next}
+use Rattle.rv_base.specs.declared.fault.Fault.{Fault}
+use Rattle.rv_base.specs.declared.fault.Fault.TheVariants.{Failed, Memory}
 use Rattle.rv_keeper.specs.Stores.{CallIsSteady, LeavesAsGiven, OpensAs, OpensWith, OthersStay, PlaceStays}
 use Rattle.rv_keeper.specs.declared.memory_place.MemoryPlace.{MemoryPlace}
 use Rattle.rv_keeper.specs.PlaceStates.{IsSteadyKeeper, IsSteadyPlace, place_file, place_has, place_holds, place_leaves, place_out}
@@ -182,13 +182,13 @@ pub steady_first : (schedules : List (List Fails)) → AllByRecursion (KeeperFai
 steady_first [] all = (tt, tt)
 steady_first (schedule ∷ schedules) all = all
 
-no_fault : {T : Type 0} (result : Result T KeepFault) → has_failed result ≡ false → ¬ IsErrOf result Failed
+no_fault : {T : Type 0} (result : Result T Fault) → has_failed result ≡ false → ¬ IsErrOf result Failed
 no_fault (Ok x) e h = absurd (cc)
 no_fault (Err Failed) e h = absurd (cc)
 no_fault (Err Memory) e h = absurd (cc)
 
 -- an opening of a place, as its clauses say it
-pub record OpensSo (name : List ℕ) (old new : MemoryPlace) (fails : Bool) (result : Result MemoryKeeper KeepFault) : Type 0 where
+pub record OpensSo (name : List ℕ) (old new : MemoryPlace) (fails : Bool) (result : Result MemoryKeeper Fault) : Type 0 where
   pub failed : has_failed result ≡ fails
   pub gives : IfOk result (λ kept. (holding kept.shelves kept.generation ≡ given name (found_store name old.stores.items)) × (kept.schedule.items ≡ first_schedule old.schedules.items))
   pub fresh : IfOk result (λ kept. (kept.loads ≡ 0) × (kept.questions ≡ 0) × (kept.commits ≡ 0) × (kept.faults ≡ 0))
@@ -197,19 +197,19 @@ pub record OpensSo (name : List ℕ) (old new : MemoryPlace) (fails : Bool) (res
   pub after : new ≡ record old { stores = new.stores; schedules = new.schedules; calls = next_call old.calls; faults = counted_fault (has_failed result) old.faults }
 
 module _ (name : List ℕ) (old new : MemoryPlace) (fails : Bool) where
-  pub so_refused : (result : Result MemoryKeeper KeepFault) → OpensSo name old new fails result → OnErr result (PlaceStays place_holds place_leaves place_out place_has place_file old new)
+  pub so_refused : (result : Result MemoryKeeper Fault) → OpensSo name old new fails result → OnErr result (PlaceStays place_holds place_leaves place_out place_has place_file old new)
   so_refused (Ok x) so = tt
   so_refused (Err fault) so = all_stays old new so.err.0 (ap (λ (place : MemoryPlace). place.files) so.after)
 
-  left : (result : Result MemoryKeeper KeepFault) → OpensSo name old new fails result → AllByRecursion (KeeperFailsNoMore 0 0 0) old.schedules.items → AllByRecursion (KeeperFailsNoMore 0 0 0) new.schedules.items
+  left : (result : Result MemoryKeeper Fault) → OpensSo name old new fails result → AllByRecursion (KeeperFailsNoMore 0 0 0) old.schedules.items → AllByRecursion (KeeperFailsNoMore 0 0 0) new.schedules.items
   left (Ok x) so all = rw so.ok.1 (steady_first old.schedules.items all).1
   left (Err fault) so all = rw so.err.1 all
 
-  is_given : (result : Result MemoryKeeper KeepFault) → OpensSo name old new fails result → AllByRecursion (KeeperFailsNoMore 0 0 0) old.schedules.items → IfOk result IsSteadyKeeper
+  is_given : (result : Result MemoryKeeper Fault) → OpensSo name old new fails result → AllByRecursion (KeeperFailsNoMore 0 0 0) old.schedules.items → IfOk result IsSteadyKeeper
   is_given (Ok x) so all = rw (so.fresh.0, so.fresh.1, so.fresh.2, so.gives.1) (steady_first old.schedules.items all).0
   is_given (Err fault) so all = tt
 
-  pub so_steady : (There : Type 0) (result : Result MemoryKeeper KeepFault) → OpensSo name old new fails result → (There → fails_next old.calls old.failing.items ≡ false → fails ≡ false) → IsSteadyPlace old
+  pub so_steady : (There : Type 0) (result : Result MemoryKeeper Fault) → OpensSo name old new fails result → (There → fails_next old.calls old.failing.items ≡ false → fails ≡ false) → IsSteadyPlace old
       → CallIsSteady (IsSteadyPlace new) There result × IfOk result IsSteadyKeeper
   so_steady There result so lasts (openings, schedules) =
       let calls = ap (λ (place : MemoryPlace). place.calls) so.after in
@@ -223,7 +223,7 @@ module _ (name : List ℕ) (old new : MemoryPlace) (fails : Bool) where
 
 -- what is so once a store was to be opened, with this answer
 module _ (name : List ℕ) (old new : List Store) where
-  pub record Opened (result : Result MemoryKeeper KeepFault) : Type 0 where
+  pub record Opened (result : Result MemoryKeeper Fault) : Type 0 where
     pub kept : IfOk result (λ kept. OpensWith name (StoreHolds old name) (λ held. held ≡ holding kept.shelves kept.generation))
     pub out : OnOk result (StoreIsOut new name)
     pub left : IfOk result (λ kept. LeavesAsGiven name (λ left. left ≡ Some (holding (found_store name old).shelves (found_store name old).generation)) (λ left. left ≡ Some (holding kept.shelves kept.generation)))
@@ -232,7 +232,7 @@ module _ (name : List ℕ) (old new : List Store) where
     pub none_made : (OnOk result (has_store old name ≡ true)) → (other : List ℕ) → has_store new other ≡ true → has_store old other ≡ true
     pub refused : OnErr result (new ≡ old)
 
-  pub opened : (result : Result MemoryKeeper KeepFault) (schedules schedules' : List (List Fails)) → IfOk result (λ kept. (holding kept.shelves kept.generation ≡ given name (found_store name old)) × (kept.schedule.items ≡ first_schedule schedules))
+  pub opened : (result : Result MemoryKeeper Fault) (schedules schedules' : List (List Fails)) → IfOk result (λ kept. (holding kept.shelves kept.generation ≡ given name (found_store name old)) × (kept.schedule.items ≡ first_schedule schedules))
       → OnOk result ((new ≡ with_store (out_store name) old) × (schedules' ≡ drop 1 schedules)) → OnErr result ((new ≡ old) × (schedules' ≡ schedules)) → Opened result
   opened (Ok kept) schedules schedules' gives (written, rest) unchanged = record {
     kept = λ held h. given_opens name old held h ∙ sym gives.0;
@@ -254,7 +254,7 @@ module _ (name : List ℕ) (old new : List Store) where
   }
 
 -- a store that was opened, where that fails of one that isn't there, was there
-pub was_there : {T : Type 0} (result : Result T KeepFault) (there fails : Bool) → has_failed result ≡ (not there || fails) → OnOk result (there ≡ true)
+pub was_there : {T : Type 0} (result : Result T Fault) (there fails : Bool) → has_failed result ≡ (not there || fails) → OnOk result (there ≡ true)
 was_there (Ok x) true fails e = refl
 was_there (Ok x) false fails e = absurd (cc)
 was_there (Err fault) there fails e = tt

@@ -3,8 +3,8 @@ use Rattle.std.proofs.Common.{◌≡◌, ℕ, ◌<◌, ◌==◌, ◌||◌, Bool,
 use Rattle.std.proofs.lemmas.Bool.Decides.{Decides-eqb}
 use Rattle.std.specs.Prelude.{Result, Ok, Err, IsErrOf}
 use Rattle.std.specs.Result.{IsErr, IsErrAnd}
-use Rattle.rv_keeper.specs.declared.fault.KeepFault.{KeepFault}
-use Rattle.rv_keeper.specs.declared.fault.KeepFault.TheVariants.{Failed, Memory}
+use Rattle.rv_base.specs.declared.fault.Fault.{Fault}
+use Rattle.rv_base.specs.declared.fault.Fault.TheVariants.{Failed, Memory}
 use Rattle.rv_keeper.specs.declared.memory_keeper.Fails.{Fails}
 use Rattle.rv_keeper.specs.declared.memory_keeper.Fails.TheVariants as calls
 use Rattle.rv_keeper.specs.declared.memory_keeper.Fails.TheVariants.{Before, After, Load, Generation}
@@ -98,7 +98,7 @@ pub both_so : {A : Type 0} {b : Bool} → b ≡ true → b ≡ false → A
 both_so is other = absurd (let clash : true ≡ false = sym is ∙ other in cc)
 
 -- want of memory is no failure
-pub not_failed : {T : Type 0} (result : Result T KeepFault) → IsErr result × IsErrAnd result (λ fault. fault ≡ Memory) → ¬ IsErrOf result Failed
+pub not_failed : {T : Type 0} (result : Result T Fault) → IsErr result × IsErrAnd result (λ fault. fault ≡ Memory) → ¬ IsErrOf result Failed
 not_failed (Ok x) is h = absurd (let is = is.0 in cc)
 not_failed (Err Memory) is h = absurd (cc)
 not_failed (Err Failed) is h = absurd (let is = is.1 in cc)

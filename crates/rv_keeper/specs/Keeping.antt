@@ -1,10 +1,10 @@
 -- What a keeper answers, and what it holds afterwards.
 use Rattle.std.specs.Prelude.{◌≡◌, ◌≢◌, ℕ, ◌+◌, ◌≤◌, ◌⊎◌, List, Result, Ok, Err, IsErrOf, OnOk}
 use Rattle.rv_base.specs.Causes.{Rose}
+use Rattle.rv_base.specs.declared.fault.Fault.{Fault}
+use Rattle.rv_base.specs.declared.fault.Fault.TheVariants.{Failed, Memory}
 use Rattle.rv_keeper.specs.declared.cell.Cell.{Cell}
 use Rattle.rv_keeper.specs.declared.change.Change.{Change}
-use Rattle.rv_keeper.specs.declared.fault.KeepFault.{KeepFault}
-use Rattle.rv_keeper.specs.declared.fault.KeepFault.TheVariants.{Failed, Memory}
 use Rattle.rv_keeper.specs.declared.loaded.Loaded.{Loaded}
 use Rattle.rv_keeper.specs.Cells.{changed}
 
@@ -21,13 +21,13 @@ abbrev pub LoadsHeld : Loaded → (Loaded → Type 0) → (Loaded → Type 0) �
 LoadsHeld loaded Held Holds = Holds loaded × ((held : Loaded) → Held held → held ≡ loaded)
 
 -- What is held after a commit, by its answer, where this was held before: at `Failed` the commit may have been made.
-abbrev pub Made : ℕ → List Change → Result (Unit {0}) KeepFault → (Loaded → Type 0) → Loaded → Type 0
+abbrev pub Made : ℕ → List Change → Result (Unit {0}) Fault → (Loaded → Type 0) → Loaded → Type 0
 Made from changes (Ok done) Holds held = Holds (committed from changes held)
 Made from changes (Err Failed) Holds held = Holds held ⊎ Holds (committed from changes held)
 Made from changes (Err Memory) Holds held = Holds held
 
 -- the count has risen where the keeper failed, and else it stays
-pub record HasKeepCause {T : Type 0} (before now : ℕ) (result : Result T KeepFault) : Type 0 where
+pub record HasKeepCause {T : Type 0} (before now : ℕ) (result : Result T Fault) : Type 0 where
   pub later : before ≤ now
   pub failed : IsErrOf result Failed → Rose before now
   pub still : OnOk result (now ≡ before)
@@ -53,6 +53,6 @@ module _ {K : Type 0} (faults : K → ℕ) (tells fails_no_more : K → Type 0) 
     pub later : faults old ≤ faults new
 
 -- of a keeper that fails no more: it goes on so, and this call did not fail
-pub record KeepsSteady {T : Type 0} (steady : Type 0) (result : Result T KeepFault) : Type 0 where
+pub record KeepsSteady {T : Type 0} (steady : Type 0) (result : Result T Fault) : Type 0 where
   pub goes_on : steady
   pub no_fault : ¬ IsErrOf result Failed

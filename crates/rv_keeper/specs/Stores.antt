@@ -1,8 +1,8 @@
 -- Stores by their names, and their keepers.
 use Rattle.std.specs.Prelude.{◌≡◌, ◌≢◌, ◌⊎◌, ℕ, zero, suc, List, [], codes, Option, Some, Result, IsErrOf}
 use Rattle.rv_base.specs.Causes.{Rose}
-use Rattle.rv_keeper.specs.declared.fault.KeepFault.{KeepFault}
-use Rattle.rv_keeper.specs.declared.fault.KeepFault.TheVariants.{Failed}
+use Rattle.rv_base.specs.declared.fault.Fault.{Fault}
+use Rattle.rv_base.specs.declared.fault.Fault.TheVariants.{Failed}
 use Rattle.rv_keeper.specs.declared.loaded.Loaded.{Loaded}
 use Rattle.rv_keeper.specs.Keeping.{holding}
 
@@ -44,6 +44,6 @@ module _ {P : Type 0} (holds : P → List ℕ → Loaded → Type 0) (may_leave 
     pub files : (other file : List ℕ) → accounts old other file → accounts new other file
 
 -- of a place that fails no more: it goes on so, and a call of what is there did not fail
-pub record CallIsSteady {T : Type 0} (steady There : Type 0) (result : Result T KeepFault) : Type 0 where
+pub record CallIsSteady {T : Type 0} (steady There : Type 0) (result : Result T Fault) : Type 0 where
   pub goes_on : steady
   pub no_fault : There → ¬ IsErrOf result Failed

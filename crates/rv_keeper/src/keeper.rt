@@ -1,14 +1,13 @@
 ghost use Rattle.std.specs.Prelude.{◌≡◌, ◌<◌, ◌-◌, ◌^◌, ℕ, Option, IsOk, IfOk, IsErrOf};
-ghost use Rattle.rv_keeper.specs.declared.fault.KeepFault.TheVariants.{Memory};
+ghost use Rattle.rv_base.specs.declared.fault.Fault.TheVariants.{Memory};
 ghost use Rattle.rv_keeper.specs.declared.loaded.Loaded.{Loaded};
 ghost use Rattle.rv_keeper.specs.Cells.{AreCells, AreChanges};
 ghost use Rattle.rv_keeper.specs.Keeping.{LoadsHeld, Made, HasKeepCause, HasGenerationCause, KeepsSteady};
 ghost use Rattle.rv_keeper.specs.Crashes.{IsHeld, IsMade, IsSettled, LeavesMore};
 
 use crate::change::Change;
-use crate::fault::KeepFault;
 use crate::loaded::Loaded;
-use rv_base::Failed;
+use rv_base::{Failed, Fault};
 
 /// Where cells and a generation are kept.
 pub trait Keeper {
@@ -36,7 +35,7 @@ pub trait Keeper {
 
     /// The cells and the generation. The cells are on shelves from 1, in the order of shelves and then of keys, each place
     /// once; what is held otherwise is a fault, and `Failed`.
-    fn load(&mut self) -> Result<Loaded, KeepFault>
+    fn load(&mut self) -> Result<Loaded, Fault>
         ensures order { IfOk result (λ loaded. AreCells loaded.cells) }
         ensures tells { tells self.new → tells self.old }
         ensures same { tells self.new → (held : Loaded) → holds self.old held → holds self.new held }
@@ -62,7 +61,7 @@ pub trait Keeper {
 
     /// Makes all the changes, and the generation is the one after `from`. Each place is named once. At `Failed` all is as
     /// before or as after `Ok`, and at `Memory` as before.
-    fn commit(&mut self, from: u64, changes: &[Change]) -> Result<(), KeepFault>
+    fn commit(&mut self, from: u64, changes: &[Change]) -> Result<(), Fault>
         requires from { from < 2 ^ 64 - 1 }
         requires changes { AreChanges changes.now }
         ensures tells { tells self.new → tells self.old }

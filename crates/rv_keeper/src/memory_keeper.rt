@@ -8,11 +8,10 @@ ghost use Rattle.rv_keeper.specs.Keeping.{Made, HasKeepCause, HasGenerationCause
 ghost use Rattle.rv_keeper.specs.Schedules.{same_fails, fails_at, next_call, counted_fault, is_strange, has_failed, KeeperFailsNoMore, IsLoad, IsCommitBy};
 
 use crate::change::Change;
-use crate::fault::KeepFault;
 use crate::keeper::Keeper;
 use crate::loaded::Loaded;
 use crate::shelves::Shelves;
-use rv_base::{Failed, Memory, Sequence};
+use rv_base::{Failed, Fault, Memory, Sequence};
 use std::alloc::Global;
 
 /// A call at which a keeper in memory fails. Calls are counted from 1, those of each kind apart. A commit that is to fail
@@ -157,7 +156,7 @@ impl Keeper for MemoryKeeper {
     }
 
     #[tactic(auto, using(crate::proofs::Schedule::next_load))]
-    fn load(&mut self) -> Result<Loaded, KeepFault>
+    fn load(&mut self) -> Result<Loaded, Fault>
         ensures order { IfOk result (λ loaded. AreCells loaded.cells) }
         ensures told { IfOk result (λ loaded. loaded ≡ holding self.old.shelves self.old.generation) }
         ensures cause { HasKeepCause self.old.faults self.new.faults result }
@@ -168,7 +167,7 @@ impl Keeper for MemoryKeeper {
         self.loads = self.loads.saturating_add(1);
         if fails_at(&self.schedule, Fails::Load(self.loads)) {
             self.count_fault();
-            return Err(KeepFault::Failed);
+            return Err(Fault::Failed);
         }
         let cells = self.shelves.cells(self.alloc)?;
         Ok(Loaded {
@@ -198,7 +197,7 @@ impl Keeper for MemoryKeeper {
     }
 
     #[tactic(auto, using(crate::proofs::Schedule::next_commit))]
-    fn commit(&mut self, from: u64, changes: &[Change]) -> Result<(), KeepFault>
+    fn commit(&mut self, from: u64, changes: &[Change]) -> Result<(), Fault>
         requires from { from < 2 ^ 64 - 1 }
         requires changes { AreChanges changes.now }
         ensures made { Made from changes.now result (λ held. held ≡ holding self.new.shelves self.new.generation) (holding self.old.shelves self.old.generation) }
@@ -210,15 +209,15 @@ impl Keeper for MemoryKeeper {
         self.commits = self.commits.saturating_add(1);
         if fails_at(&self.schedule, Fails::Before(self.commits)) {
             self.count_fault();
-            return Err(KeepFault::Failed);
+            return Err(Fault::Failed);
         }
         if fails_at(&self.schedule, Fails::Memory(self.commits)) {
-            return Err(KeepFault::Memory);
+            return Err(Fault::Memory);
         }
         self.make(from, changes)?;
         if fails_at(&self.schedule, Fails::After(self.commits)) {
             self.count_fault();
-            return Err(KeepFault::Failed);
+            return Err(Fault::Failed);
         }
         Ok(())
     }

@@ -15,12 +15,11 @@ ghost use Rattle.rv_keeper.specs.AbsentStores.{absent_holds};
 ghost use Rattle.rv_keeper.specs.Stores.{CallIsSteady, LeavesAsGiven, OpensWith, OthersStay, PlaceStays, TakesUp};
 
 use crate::accounts_file::{self, AccountsFile};
-use crate::fault::KeepFault;
 use crate::memory_keeper::{Fails, MemoryKeeper, Schedule};
 use crate::place::Place;
 use crate::shelves::Shelves;
 use crate::store::Store;
-use rv_base::{Bytes, Memory};
+use rv_base::{Bytes, Fault, Memory};
 use std::alloc::Global;
 
 /// Holds stores and accounts files in memory, and fails at the calls of a list. It tells what its stores hold and its files
@@ -172,7 +171,7 @@ impl MemoryPlace {
     }
 
     // The keeper of the store of a name, where it is there.
-    fn open_store(&mut self, name: &str, is_there: bool) -> Result<MemoryKeeper, KeepFault>
+    fn open_store(&mut self, name: &str, is_there: bool) -> Result<MemoryKeeper, Fault>
         ensures cause { HasKeepCause self.old.faults self.new.faults result }
         ensures fails { has_failed result ≡ (not is_there || fails_next self.old.calls self.old.failing.items) }
         ensures gives { IfOk result (λ kept. (holding kept.shelves kept.generation ≡ given name.now (found_store name.now self.old.stores.items)) × (kept.schedule.items ≡ first_schedule self.old.schedules.items)) }
@@ -183,7 +182,7 @@ impl MemoryPlace {
     {
         if self.next_opening_fails(is_there) {
             self.count_fault();
-            return Err(KeepFault::Failed);
+            return Err(Fault::Failed);
         }
         let (shelves, generation) = self.take_out(name)?;
         let schedule = self.next_schedule();
@@ -266,7 +265,7 @@ impl Place for MemoryPlace {
         self.faults
     }
 
-    fn open_keeper(&mut self, name: &str) -> Result<MemoryKeeper, KeepFault>
+    fn open_keeper(&mut self, name: &str) -> Result<MemoryKeeper, Fault>
         ensures kept { IfOk result (λ kept. OpensWith name.now (StoreHolds self.old.stores.items name.now) (λ held. held ≡ holding kept.shelves kept.generation)) }
         ensures out { OnOk result (StoreIsOut self.new.stores.items name.now) }
         ensures crash { IfOk result (λ kept. LeavesAsGiven name.now (place_leaves self.old name.now) (λ left. left ≡ Some (holding kept.shelves kept.generation))) }
@@ -285,7 +284,7 @@ impl Place for MemoryPlace {
         self.open_store(name, true)
     }
 
-    fn open_existing(&mut self, name: &str) -> Result<MemoryKeeper, KeepFault>
+    fn open_existing(&mut self, name: &str) -> Result<MemoryKeeper, Fault>
         ensures kept { IfOk result (λ kept. OpensWith name.now (StoreHolds self.old.stores.items name.now) (λ held. held ≡ holding kept.shelves kept.generation)) }
         ensures out { OnOk result (StoreIsOut self.new.stores.items name.now) }
         ensures crash { IfOk result (λ kept. LeavesAsGiven name.now (place_leaves self.old name.now) (λ left. left ≡ Some (holding kept.shelves kept.generation))) }
@@ -320,7 +319,7 @@ impl Place for MemoryPlace {
         self.put_back(name, kept.shelves, kept.generation);
     }
 
-    fn read_accounts(&mut self, name: &str) -> Result<Bytes, KeepFault>
+    fn read_accounts(&mut self, name: &str) -> Result<Bytes, Fault>
         ensures reads { (file : List ℕ) → bytes_of name.now self.old.files.items ≡ Some file → IfOk result (λ bytes. bytes ≡ file) }
         ensures there { IfOk result (λ bytes. bytes_of name.now self.old.files.items ≡ Some bytes) }
         ensures stays { PlaceStays place_holds place_leaves place_out place_has place_file self.old self.new }
@@ -333,7 +332,7 @@ impl Place for MemoryPlace {
             Some(file) => Ok(file.read(self.alloc)?),
             None => {
                 self.count_fault();
-                Err(KeepFault::Failed)
+                Err(Fault::Failed)
             }
         }
     }

@@ -3,9 +3,8 @@ ghost use Rattle.rv_keeper.specs.declared.loaded.Loaded.{Loaded};
 ghost use Rattle.rv_keeper.specs.Keeping.{HasKeepCause, holding};
 ghost use Rattle.rv_keeper.specs.Stores.{CallIsSteady, LeavesAsGiven, OpensWith, OthersStay, PlaceStays, TakesUp};
 
-use crate::fault::KeepFault;
 use crate::keeper::Keeper;
-use rv_base::Bytes;
+use rv_base::{Bytes, Fault};
 
 /// Where the keepers of stores come from, by the stores' names, and go back to; and where accounts files are read.
 pub trait Place {
@@ -48,7 +47,7 @@ pub trait Place {
     /// The keeper of a store, which holds what the store holds; that of the store `memory` holds no cell, at generation 0,
     /// whatever was kept there before. Its count of faults is 0. A store that isn't there is made, with no cell. While the keeper
     /// is out, it alone tells of its store: that the place told before is known where the keeper tells.
-    fn open_keeper(&mut self, name: &str) -> Result<Self::Kept, KeepFault>
+    fn open_keeper(&mut self, name: &str) -> Result<Self::Kept, Fault>
         ensures tells { tells self.new → MatchResult result (λ kept. Self.Kept.tells kept → tells self.old) (λ fault. tells self.old) }
         ensures kept { tells self.new → IfOk result (λ kept. Self.Kept.tells kept → OpensWith name.now (holds self.old name.now) (Self.Kept.holds kept)) }
         ensures out { tells self.new → OnOk result (is_out self.new name.now) }
@@ -63,7 +62,7 @@ pub trait Place {
 
     /// The keeper of a store that is there, as of [`open_keeper`](Place::open_keeper). Of a store that isn't there it fails, and
     /// makes none. The store `memory` is always there.
-    fn open_existing(&mut self, name: &str) -> Result<Self::Kept, KeepFault>
+    fn open_existing(&mut self, name: &str) -> Result<Self::Kept, Fault>
         ensures tells { tells self.new → MatchResult result (λ kept. Self.Kept.tells kept → tells self.old) (λ fault. tells self.old) }
         ensures kept { tells self.new → IfOk result (λ kept. Self.Kept.tells kept → OpensWith name.now (holds self.old name.now) (Self.Kept.holds kept)) }
         ensures out { tells self.new → OnOk result (is_out self.new name.now) }
@@ -90,7 +89,7 @@ pub trait Place {
         ensures steady { fails_no_more self.old → fails_no_more self.new };
 
     /// The bytes of the accounts file of this name, of any content. It fails where there is none. Nothing else changes.
-    fn read_accounts(&mut self, name: &str) -> Result<Bytes, KeepFault>
+    fn read_accounts(&mut self, name: &str) -> Result<Bytes, Fault>
         ensures tells { tells self.new → tells self.old }
         ensures honest { honest self.new → honest self.old }
         ensures reads { tells self.new → (file : List ℕ) → accounts self.old name.now file → IfOk result (λ bytes. bytes ≡ file) }

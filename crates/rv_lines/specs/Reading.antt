@@ -4,8 +4,8 @@ use Rattle.std.specs.declared.option.Option.{Option}
 use Rattle.std.specs.Io.KnownBytes.{Keeps, Consumes, IsAtEnd, prepend_known}
 use Rattle.rv_base.specs.Causes.{Rose}
 use Rattle.rv_base.specs.Outside.{InputState, counted_if}
-use Rattle.rv_lines.specs.declared.line_fault.LineFault.{LineFault}
-use Rattle.rv_lines.specs.declared.line_fault.LineFault.TheVariants.{Read, Memory}
+use Rattle.rv_base.specs.declared.fault.Fault.{Fault}
+use Rattle.rv_base.specs.declared.fault.Fault.TheVariants.{Failed, Memory}
 use Rattle.rv_lines.specs.declared.next.Next.{Next}
 use Rattle.rv_lines.specs.declared.next.Next.TheVariants.{Line, Last, End, TooLong}
 use Rattle.rv_lines.specs.Lines.{HasNoLf, BeginsLong, longest_line}
@@ -20,17 +20,17 @@ abbrev pub unread : List ℕ → Option (List ℕ) → Option (List ℕ)
 unread pending left = prepend_known pending left
 
 -- old and new are what wasn't given before the call and after it
-abbrev pub GivesNext : Option (List ℕ) → Option (List ℕ) → Reading → Result Next LineFault → Type 0
+abbrev pub GivesNext : Option (List ℕ) → Option (List ℕ) → Reading → Result Next Fault → Type 0
 GivesNext old new now (Ok Line) = HasNoLf now.line × (length now.line ≤ longest_line) × Consumes old new (now.line ++ 10 ∷ [])
 GivesNext old new now (Ok Last) = HasNoLf now.line × (0 < length now.line) × (length now.line ≤ longest_line) × Consumes old new now.line × IsAtEnd new
 GivesNext old new now (Ok End) = Keeps old new × IsAtEnd new
 GivesNext old new now (Ok TooLong) = Keeps old new × BeginsLong now.pending
 -- what was read of a line stays
-GivesNext old new now (Err Read) = Keeps old new × HasNoLf now.pending
+GivesNext old new now (Err Failed) = Keeps old new × HasNoLf now.pending
 GivesNext old new now (Err Memory) = Keeps old new
 
 -- a read told the end
-abbrev pub gives_end : Result Next LineFault → Bool
+abbrev pub gives_end : Result Next Fault → Bool
 gives_end (Ok Line) = false
 gives_end (Ok Last) = true
 gives_end (Ok End) = true
@@ -38,9 +38,9 @@ gives_end (Ok TooLong) = false
 gives_end (Err fault) = false
 
 -- a read failed
-abbrev pub read_failed : {T : Type 0} → Result T LineFault → Bool
+abbrev pub read_failed : {T : Type 0} → Result T Fault → Bool
 read_failed (Ok x) = false
-read_failed (Err Read) = true
+read_failed (Err Failed) = true
 read_failed (Err Memory) = false
 
 -- Nothing was read; or the last of what was read is one piece, and before it no whole line was there.
@@ -57,6 +57,6 @@ pub record ReadsFor (pending : List ℕ) (old new : InputState) (ended failed : 
   pub ahead : ReadsAhead pending old new
 
 -- of a source that fails no more: it goes on so, and no read failed
-pub record NextLineIsSteady {T : Type 0} (steady : Type 0) (result : Result T LineFault) : Type 0 where
+pub record NextLineIsSteady {T : Type 0} (steady : Type 0) (result : Result T Fault) : Type 0 where
   pub goes_on : steady
   pub no_fault : read_failed result ≡ false

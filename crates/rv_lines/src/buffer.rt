@@ -6,9 +6,8 @@ ghost use Rattle.rv_lines.specs.Found.{FindsLine, KeepsUnread, ReadsPiece, finds
 ghost use Rattle.rv_lines.specs.Reading.{ReadsFor, read_failed, NextLineIsSteady};
 ghost use Rattle.rv_lines.specs.declared.buffer.Found.TheVariants.{At};
 
-use crate::line_fault::LineFault;
 use memchr::memchr;
-use rv_base::Source;
+use rv_base::{Fault, Source};
 
 /// The most bytes of a line, its LF not counted.
 pub(crate) const LINE_LIMIT: usize = 4_195_328;
@@ -40,7 +39,7 @@ fn find_lf(bytes: &[u8], from: usize) -> Option<usize>
 }
 
 // Takes some bytes from the source, none only at its end. The space is made first, so that nothing that was read is lost.
-fn read_more<S: Source>(buffer: &mut Vec<u8>, source: &mut S) -> Result<usize, LineFault>
+fn read_more<S: Source>(buffer: &mut Vec<u8>, source: &mut S) -> Result<usize, Fault>
     ensures piece { ReadsPiece buffer.old.items (S.state source.old) buffer.new.items (S.state source.new) result }
     ensures steady { S.fails_no_more source.old → NextLineIsSteady (S.fails_no_more source.new) result }
 {
@@ -63,7 +62,7 @@ pub(crate) fn held_line(buffer: &[u8], start: usize) -> Option<usize>
 }
 
 /// Fills the buffer until the end of its first line is known.
-pub(crate) fn find_line<S: Source>(buffer: &mut Vec<u8>, source: &mut S) -> Result<Found, LineFault>
+pub(crate) fn find_line<S: Source>(buffer: &mut Vec<u8>, source: &mut S) -> Result<Found, Fault>
     ensures unread { KeepsUnread buffer.old.items (S.state source.old).left buffer.new.items (S.state source.new).left }
     ensures found { FindsLine buffer.new.items (S.state source.new).left result }
 

@@ -5,10 +5,8 @@
 #![tactic(auto)]
 
 mod buffer;
-mod line_fault;
 mod line_reader;
 mod next;
 
-pub use line_fault::LineFault;
 pub use line_reader::LineReader;
 pub use next::Next;

@@ -1,9 +1,8 @@
 ghost use Rattle.std.specs.Prelude.{◌≡◌, [], true};
 
 use crate::buffer::{Found, find_line, forget, held_line};
-use crate::line_fault::LineFault;
 use crate::next::Next;
-use rv_base::Source;
+use rv_base::{Fault, Source};
 use std::alloc::Global;
 use std::marker::Model;
 
@@ -47,7 +46,7 @@ impl LineReader {
 
     /// Goes to the next line. After a read that failed, or where memory was refused, nothing is lost: what was read of the
     /// line stays, and the call may be made again.
-    pub fn next<S: Source>(&mut self, source: &mut S) -> Result<Next, LineFault>
+    pub fn next<S: Source>(&mut self, source: &mut S) -> Result<Next, Fault>
         ensures gives { GivesNext (unread self.old.pending (S.state source.old).left) (unread self.new.pending (S.state source.new).left) self.new result }
 
         // Nothing is read while a whole line is held, and no more than one piece that the line did not need.
@@ -66,7 +65,7 @@ impl LineReader {
 
     // Goes to the next line, where no whole one is held or it is too long. What was given goes first, so that it goes once
     // for each piece that is read and not once for each line.
-    fn fill<S: Source>(&mut self, source: &mut S) -> Result<Next, LineFault>
+    fn fill<S: Source>(&mut self, source: &mut S) -> Result<Next, Fault>
         ensures gives { GivesNext (unread self.old.pending (S.state source.old).left) (unread self.new.pending (S.state source.new).left) self.new result }
 
         // Nothing is read while a whole line is held, and no more than one piece that the line did not need.

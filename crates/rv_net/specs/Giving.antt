@@ -1,7 +1,7 @@
 -- What a net answers, and what it leaves.
 use Rattle.std.specs.Prelude.{◌≡◌, ℕ, ◌+◌, Bool, true, false, List, ◌++◌, length, Option, Some, Result, Ok, Err}
-use Rattle.rv_net.specs.declared.net_fault.NetFault.{NetFault}
-use Rattle.rv_net.specs.declared.net_fault.NetFault.TheVariants.{Failed, Memory}
+use Rattle.rv_base.specs.declared.fault.Fault.{Fault}
+use Rattle.rv_base.specs.declared.fault.Fault.TheVariants.{Failed, Memory}
 use Rattle.rv_net.specs.declared.wanted.Wanted.{Wanted}
 use Rattle.rv_net.specs.Listed.{Listed}
 
@@ -33,7 +33,7 @@ pub record TakesBack {L : Type 0} (old new : Giving L) (returned : List L) : Typ
   pub wanted : new.wanted ≡ old.wanted
 
 -- the call failed, and not for want of memory
-abbrev pub has_failed : {T : Type 0} → Result T NetFault → Bool
+abbrev pub has_failed : {T : Type 0} → Result T Fault → Bool
 has_failed (Ok given) = false
 has_failed (Err Failed) = true
 has_failed (Err Memory) = false

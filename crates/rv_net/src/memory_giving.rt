@@ -5,13 +5,13 @@ ghost use Rattle.rv_net.specs.Stocks.{giving_of};
 
 use crate::listeners::Listeners;
 use crate::memory_stock::MemoryStock;
-use crate::net_fault::NetFault;
 use crate::wanted::Wanted;
+use rv_base::Fault;
 use std::mem;
 
 impl<L: Drop> MemoryStock<L> {
     /// Gives the listeners that are wanted. It fails where it is to, and where fewer are left.
-    pub(crate) fn give(&mut self, wanted: Wanted, fails: bool) -> Result<Listeners<L>, NetFault>
+    pub(crate) fn give(&mut self, wanted: Wanted, fails: bool) -> Result<Listeners<L>, Fault>
         ensures count { IfOk result (λ given. length given.listeners ≡ wanted.count) }
         ensures gives { Gives wanted (giving_of self.old) (giving_of self.new) result }
         ensures fails { has_failed result ≡ (fails || nat_lt (vec_len self.old.to_give) wanted.count) }
@@ -19,7 +19,7 @@ impl<L: Drop> MemoryStock<L> {
         self.wanted = Some(wanted);
         let count = wanted.count as usize;
         if fails || self.to_give.len() < count {
-            return Err(NetFault::Failed);
+            return Err(Fault::Failed);
         }
         let left = self.to_give.split_off(count)?;
         let given = mem::replace(&mut self.to_give, left);

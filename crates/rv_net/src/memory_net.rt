@@ -3,7 +3,7 @@ ghost use Rattle.std.specs.Prelude.{◌≡◌, ◌≤◌, ◌||◌, length, nat_
 ghost use Rattle.rv_base.specs.Causes.{Counts, Rose};
 ghost use Rattle.rv_base.specs.InMemory.{FailsNoMore, fails_next};
 ghost use Rattle.rv_base.specs.Outside.{counted, counted_if};
-ghost use Rattle.rv_net.specs.declared.net_fault.NetFault.TheVariants as NetFault;
+ghost use Rattle.rv_base.specs.declared.fault.Fault.TheVariants as Fault;
 ghost use Rattle.rv_net.specs.Giving.{Gives, TakesBack, has_failed};
 ghost use Rattle.rv_net.specs.Stocks.{giving_of};
 
@@ -12,9 +12,8 @@ use crate::listeners::Listeners;
 use crate::memory_listen::MemoryListen;
 use crate::memory_stock::MemoryStock;
 use crate::net::Net;
-use crate::net_fault::NetFault;
 use crate::wanted::Wanted;
-use rv_base::Memory;
+use rv_base::{Fault, Memory};
 use rv_poke::MemoryLink;
 use std::alloc::Global;
 
@@ -72,17 +71,17 @@ impl MemoryNet {
     }
 
     // Counts a fault where a call has failed.
-    fn told<T>(&mut self, given: Result<T, NetFault>) -> Result<T, NetFault>
+    fn told<T>(&mut self, given: Result<T, Fault>) -> Result<T, Fault>
         ensures same { result ≡ given }
         ensures counts { Counts self.old.faults self.new.faults result }
         ensures after { self.new ≡ record self.old { faults = counted_if (has_failed given) self.old.faults } }
     {
         match given {
             Ok(given) => Ok(given),
-            Err(NetFault::Memory) => Err(NetFault::Memory),
-            Err(NetFault::Failed) => {
+            Err(Fault::Memory) => Err(Fault::Memory),
+            Err(Fault::Failed) => {
                 self.faults = self.faults.saturating_add(1);
-                Err(NetFault::Failed)
+                Err(Fault::Failed)
             }
         }
     }
@@ -111,17 +110,17 @@ impl Net for MemoryNet {
         port: u16,
         count: u32,
         most: u32,
-    ) -> Result<Listeners<MemoryListen<MemoryConn>>, NetFault>
+    ) -> Result<Listeners<MemoryListen<MemoryConn>>, Fault>
         ensures count { IfOk result (λ given. length given.listeners ≡ count) }
         ensures gives { Gives (record { port = port; count = count; most = most }) (giving_of self.old.listeners) (giving_of self.new.listeners) result }
         ensures others { self.new.pokes ≡ self.old.pokes }
         ensures faults { Counts self.old.faults self.new.faults result }
-        ensures failed { IsErrOf result NetFault.Failed → Rose self.old.faults self.new.faults }
+        ensures failed { IsErrOf result Fault.Failed → Rose self.old.faults self.new.faults }
         ensures fails { has_failed result ≡ (fails_next self.old.calls self.old.failing.items || nat_lt (vec_len self.old.listeners.to_give) count) }
         ensures failing { self.new.failing ≡ self.old.failing }
         ensures calls { self.new.calls ≡ counted self.old.calls }
         ensures counted { self.new.faults ≡ counted_if (has_failed result) self.old.faults }
-        ensures steady { FailsNoMore self.old.calls self.old.failing.items → FailsNoMore self.new.calls self.new.failing.items × (count ≤ vec_len self.old.listeners.to_give → ¬ IsErrOf result NetFault.Failed) }
+        ensures steady { FailsNoMore self.old.calls self.old.failing.items → FailsNoMore self.new.calls self.new.failing.items × (count ≤ vec_len self.old.listeners.to_give → ¬ IsErrOf result Fault.Failed) }
     {
         let fails = self.fails();
         let given = self.listeners.give(Wanted { port, count, most }, fails);
@@ -134,17 +133,17 @@ impl Net for MemoryNet {
         port: u16,
         count: u32,
         most: u32,
-    ) -> Result<Listeners<MemoryPokes>, NetFault>
+    ) -> Result<Listeners<MemoryPokes>, Fault>
         ensures count { IfOk result (λ given. length given.listeners ≡ count) }
         ensures gives { Gives (record { port = port; count = count; most = most }) (giving_of self.old.pokes) (giving_of self.new.pokes) result }
         ensures others { self.new.listeners ≡ self.old.listeners }
         ensures faults { Counts self.old.faults self.new.faults result }
-        ensures failed { IsErrOf result NetFault.Failed → Rose self.old.faults self.new.faults }
+        ensures failed { IsErrOf result Fault.Failed → Rose self.old.faults self.new.faults }
         ensures fails { has_failed result ≡ (fails_next self.old.calls self.old.failing.items || nat_lt (vec_len self.old.pokes.to_give) count) }
         ensures failing { self.new.failing ≡ self.old.failing }
         ensures calls { self.new.calls ≡ counted self.old.calls }
         ensures counted { self.new.faults ≡ counted_if (has_failed result) self.old.faults }
-        ensures steady { FailsNoMore self.old.calls self.old.failing.items → FailsNoMore self.new.calls self.new.failing.items × (count ≤ vec_len self.old.pokes.to_give → ¬ IsErrOf result NetFault.Failed) }
+        ensures steady { FailsNoMore self.old.calls self.old.failing.items → FailsNoMore self.new.calls self.new.failing.items × (count ≤ vec_len self.old.pokes.to_give → ¬ IsErrOf result Fault.Failed) }
     {
         let fails = self.fails();
         let given = self.pokes.give(Wanted { port, count, most }, fails);

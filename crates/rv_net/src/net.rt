@@ -1,13 +1,13 @@
 ghost use Rattle.std.specs.Prelude.{◌≡◌, ◌≤◌, ℕ, length, IfOk, IsErrOf};
 ghost use Rattle.std.specs.List.{AllByRecursion};
 ghost use Rattle.rv_base.specs.Causes.{Counts, Rose};
-ghost use Rattle.rv_net.specs.declared.net_fault.NetFault.TheVariants as NetFault;
+ghost use Rattle.rv_base.specs.declared.fault.Fault.TheVariants as Fault;
 ghost use Rattle.rv_net.specs.Giving.{Gives, Giving, TakesBack};
 
 use crate::listen::Listen;
 use crate::listeners::Listeners;
-use crate::net_fault::NetFault;
 use crate::poke_listen::PokeListen;
+use rv_base::Fault;
 
 /// Where listeners come from, and go back to when their connections or links are served.
 pub trait Net {
@@ -34,19 +34,14 @@ pub trait Net {
 
     /// So many listeners for connections at one port, each of which takes at most `most`. In memory, what a listener takes was settled
     /// before, and neither the port nor `most` is looked at.
-    fn listen(
-        &mut self,
-        port: u16,
-        count: u32,
-        most: u32,
-    ) -> Result<Listeners<Self::Listen>, NetFault>
+    fn listen(&mut self, port: u16, count: u32, most: u32) -> Result<Listeners<Self::Listen>, Fault>
         ensures count { IfOk result (λ given. length given.listeners ≡ count) }
         ensures tells { tells self.new → tells self.old }
         ensures gives { tells self.new → Gives (record { port = port; count = count; most = most }) (listeners self.old) (listeners self.new) result }
         ensures others { tells self.new → pokes self.new ≡ pokes self.old }
         ensures faults { Counts (faults self.old) (faults self.new) result }
-        ensures failed { IsErrOf result NetFault.Failed → Rose (faults self.old) (faults self.new) }
-        ensures steady { fails_no_more self.old → fails_no_more self.new × (count ≤ length (listeners self.old).to_give → ¬ IsErrOf result NetFault.Failed) };
+        ensures failed { IsErrOf result Fault.Failed → Rose (faults self.old) (faults self.new) }
+        ensures steady { fails_no_more self.old → fails_no_more self.new × (count ≤ length (listeners self.old).to_give → ¬ IsErrOf result Fault.Failed) };
 
     /// So many listeners for links at one port, in the same way.
     fn listen_pokes(
@@ -54,14 +49,14 @@ pub trait Net {
         port: u16,
         count: u32,
         most: u32,
-    ) -> Result<Listeners<Self::Pokes>, NetFault>
+    ) -> Result<Listeners<Self::Pokes>, Fault>
         ensures count { IfOk result (λ given. length given.listeners ≡ count) }
         ensures tells { tells self.new → tells self.old }
         ensures gives { tells self.new → Gives (record { port = port; count = count; most = most }) (pokes self.old) (pokes self.new) result }
         ensures others { tells self.new → listeners self.new ≡ listeners self.old }
         ensures faults { Counts (faults self.old) (faults self.new) result }
-        ensures failed { IsErrOf result NetFault.Failed → Rose (faults self.old) (faults self.new) }
-        ensures steady { fails_no_more self.old → fails_no_more self.new × (count ≤ length (pokes self.old).to_give → ¬ IsErrOf result NetFault.Failed) };
+        ensures failed { IsErrOf result Fault.Failed → Rose (faults self.old) (faults self.new) }
+        ensures steady { fails_no_more self.old → fails_no_more self.new × (count ≤ length (pokes self.old).to_give → ¬ IsErrOf result Fault.Failed) };
 
     /// Takes listeners for connections back. It can't fail, and takes no memory. Where the net tells after that, so do they.
     fn done(&mut self, returned: Listeners<Self::Listen>)

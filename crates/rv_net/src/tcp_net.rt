@@ -1,12 +1,12 @@
 // A net over TCP.
 ghost use Rattle.std.specs.Prelude.{◌≡◌, [], None, Err, IfOk, All, IsErrOf, MatchResult, length, vec_len};
 ghost use Rattle.rv_base.specs.Causes.{Counts, Rose};
-ghost use Rattle.rv_net.specs.declared.net_fault.NetFault.TheVariants as NetFault;
+ghost use Rattle.rv_base.specs.declared.fault.Fault.TheVariants as Fault;
 
 use crate::listeners::Listeners;
 use crate::net::Net;
-use crate::net_fault::NetFault;
 use crate::tcp_listen::TcpListen;
+use rv_base::Fault;
 use std::io;
 use std::net::{Ipv4Addr, TcpListener};
 
@@ -29,20 +29,17 @@ impl<'a> TcpNet<'a> {
     }
 
     // Listeners that were opened; a fault is counted.
-    fn told(
-        &mut self,
-        opened: Result<Vec<TcpListen>, NetFault>,
-    ) -> Result<Listeners<TcpListen>, NetFault>
+    fn told(&mut self, opened: Result<Vec<TcpListen>, Fault>) -> Result<Listeners<TcpListen>, Fault>
         ensures given { MatchResult opened (λ opened. IfOk result (λ given. given.listeners ≡ opened.items)) (λ fault. result ≡ Err fault) }
         ensures faults { Counts self.old.faults self.new.faults result }
-        ensures failed { IsErrOf result NetFault.Failed → Rose self.old.faults self.new.faults }
+        ensures failed { IsErrOf result Fault.Failed → Rose self.old.faults self.new.faults }
     {
         match opened {
             Ok(given) => Ok(Listeners::from_vec(given)),
-            Err(NetFault::Memory) => Err(NetFault::Memory),
-            Err(NetFault::Failed) => {
+            Err(Fault::Memory) => Err(Fault::Memory),
+            Err(Fault::Failed) => {
                 self.faults = self.faults.saturating_add(1);
-                Err(NetFault::Failed)
+                Err(Fault::Failed)
             }
         }
     }
@@ -54,7 +51,7 @@ fn share(
     socket: &TcpListener,
     count: u32,
     most: u32,
-) -> Result<Vec<TcpListen>, NetFault>
+) -> Result<Vec<TcpListen>, Fault>
     ensures count { IfOk result (λ given. vec_len given ≡ count) }
     ensures left { IfOk result (λ given. All (λ listener. listener.left ≡ most) given.items) }
 {
@@ -62,39 +59,34 @@ fn share(
     for _ in 0..count {
         match socket.try_clone() {
             Ok(listener) => given.push_reserved(TcpListen::new(*rt, listener, most)),
-            Err(_) => return Err(NetFault::Failed),
+            Err(_) => return Err(Fault::Failed),
         }
     }
     Ok(given)
 }
 
 // So many listeners at a port, for links.
-fn open_pokes(
-    rt: &HostRuntime,
-    port: u16,
-    count: u32,
-    most: u32,
-) -> Result<Vec<TcpListen>, NetFault>
+fn open_pokes(rt: &HostRuntime, port: u16, count: u32, most: u32) -> Result<Vec<TcpListen>, Fault>
     ensures count { IfOk result (λ given. vec_len given ≡ count) }
     ensures left { IfOk result (λ given. All (λ listener. listener.left ≡ most) given.items) }
 {
     match bind(rt, port) {
         Ok(socket) => match socket.set_nonblocking(true) {
             Ok(()) => share(rt, &socket, count, most),
-            Err(_) => Err(NetFault::Failed),
+            Err(_) => Err(Fault::Failed),
         },
-        Err(_) => Err(NetFault::Failed),
+        Err(_) => Err(Fault::Failed),
     }
 }
 
 // So many listeners at a port, for connections.
-fn open(rt: &HostRuntime, port: u16, count: u32, most: u32) -> Result<Vec<TcpListen>, NetFault>
+fn open(rt: &HostRuntime, port: u16, count: u32, most: u32) -> Result<Vec<TcpListen>, Fault>
     ensures count { IfOk result (λ given. vec_len given ≡ count) }
     ensures left { IfOk result (λ given. All (λ listener. listener.left ≡ most) given.items) }
 {
     match bind(rt, port) {
         Ok(socket) => share(rt, &socket, count, most),
-        Err(_) => Err(NetFault::Failed),
+        Err(_) => Err(Fault::Failed),
     }
 }
 
@@ -119,11 +111,11 @@ impl Net for TcpNet<'_> {
 
     ghost fails_no_more = { λ s. ⊥ };
 
-    fn listen(&mut self, port: u16, count: u32, most: u32) -> Result<Listeners<TcpListen>, NetFault>
+    fn listen(&mut self, port: u16, count: u32, most: u32) -> Result<Listeners<TcpListen>, Fault>
         ensures count { IfOk result (λ given. length given.listeners ≡ count) }
         ensures left { IfOk result (λ given. All (λ listener. listener.left ≡ most) given.listeners) }
         ensures faults { Counts self.old.faults self.new.faults result }
-        ensures failed { IsErrOf result NetFault.Failed → Rose self.old.faults self.new.faults }
+        ensures failed { IsErrOf result Fault.Failed → Rose self.old.faults self.new.faults }
     {
         let opened = open(self.rt, port, count, most);
         self.told(opened)
@@ -134,11 +126,11 @@ impl Net for TcpNet<'_> {
         port: u16,
         count: u32,
         most: u32,
-    ) -> Result<Listeners<TcpListen>, NetFault>
+    ) -> Result<Listeners<TcpListen>, Fault>
         ensures count { IfOk result (λ given. length given.listeners ≡ count) }
         ensures left { IfOk result (λ given. All (λ listener. listener.left ≡ most) given.listeners) }
         ensures faults { Counts self.old.faults self.new.faults result }
-        ensures failed { IsErrOf result NetFault.Failed → Rose self.old.faults self.new.faults }
+        ensures failed { IsErrOf result Fault.Failed → Rose self.old.faults self.new.faults }
     {
         let opened = open_pokes(self.rt, port, count, most);
         self.told(opened)

@@ -3,8 +3,8 @@ ghost use Rattle.rv_place.specs.Stored.{StoredHolds, StoredHonest, StoredLeaves,
 ghost use Rattle.rv_place.specs.StoredLaws.{stored_honestly, stored_one, stored_tells};
 
 use crate::store_keeper::StoreKeeper;
-use rv_base::Failed;
-use rv_keeper::{Change, KeepFault, Keeper, Loaded};
+use rv_base::{Failed, Fault};
+use rv_keeper::{Change, Keeper, Loaded};
 use sqlite::{Connection, File, FileStore};
 use std::marker::PhantomData;
 
@@ -52,7 +52,7 @@ impl Keeper for HostKeeper<'_> {
         self.kept.fault_count()
     }
 
-    fn load(&mut self) -> Result<Loaded, KeepFault> {
+    fn load(&mut self) -> Result<Loaded, Fault> {
         self.kept.load()
     }
 
@@ -60,7 +60,7 @@ impl Keeper for HostKeeper<'_> {
         self.kept.generation(from)
     }
 
-    fn commit(&mut self, from: u64, changes: &[Change]) -> Result<(), KeepFault> {
+    fn commit(&mut self, from: u64, changes: &[Change]) -> Result<(), Fault> {
         self.kept.commit(from, changes)
     }
 

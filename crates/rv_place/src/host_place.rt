@@ -5,8 +5,8 @@ ghost use Rattle.rv_place.specs.Stored.{IsFresh, stored_faults};
 
 use crate::host_keeper::HostKeeper;
 use crate::store_keeper::StoreKeeper;
-use rv_base::Bytes;
-use rv_keeper::{KeepFault, Keeper, MemoryKeeper, Place};
+use rv_base::{Bytes, Fault};
+use rv_keeper::{Keeper, MemoryKeeper, Place};
 use rv_sqlite::{SqliteKeeper, fault_of};
 use sqlite::Connection;
 use std::fs;
@@ -38,42 +38,42 @@ fn count(faults: &mut u64)
 }
 
 // The same answer, with a fault counted where it is one.
-fn counted<T>(faults: &mut u64, answer: Result<T, KeepFault>) -> Result<T, KeepFault>
+fn counted<T>(faults: &mut u64, answer: Result<T, Fault>) -> Result<T, Fault>
     ensures same { result ≡ answer }
     ensures cause { HasKeepCause faults.old faults.new result }
 {
     match answer {
         Ok(value) => Ok(value),
-        Err(KeepFault::Memory) => Err(KeepFault::Memory),
-        Err(KeepFault::Failed) => {
+        Err(Fault::Memory) => Err(Fault::Memory),
+        Err(Fault::Failed) => {
             count(faults);
-            Err(KeepFault::Failed)
+            Err(Fault::Failed)
         }
     }
 }
 
 // What a refusal of the file system is: want of memory, or a fault.
-fn refused(error: io::Error) -> KeepFault {
+fn refused(error: io::Error) -> Fault {
     match error.kind() {
-        ErrorKind::OutOfMemory => KeepFault::Memory,
-        _ => KeepFault::Failed,
+        ErrorKind::OutOfMemory => Fault::Memory,
+        _ => Fault::Failed,
     }
 }
 
 // Whether the store of a name is there: `memory`, or else something at the path.
-fn find_store(rt: &HostRuntime, name: &str) -> Result<(), KeepFault> {
+fn find_store(rt: &HostRuntime, name: &str) -> Result<(), Fault> {
     if name == "memory" {
         return Ok(());
     }
     match fs::exists(rt, name) {
         Ok(true) => Ok(()),
-        Ok(false) => Err(KeepFault::Failed),
+        Ok(false) => Err(Fault::Failed),
         Err(error) => Err(refused(error)),
     }
 }
 
 // The bytes of the file at a path.
-fn read_file(rt: &HostRuntime, path: &str) -> Result<Bytes, KeepFault> {
+fn read_file(rt: &HostRuntime, path: &str) -> Result<Bytes, Fault> {
     match fs::read(rt, path) {
         Ok(bytes) => Ok(Bytes::from_vec(bytes)),
         Err(error) => Err(refused(error)),
@@ -81,7 +81,7 @@ fn read_file(rt: &HostRuntime, path: &str) -> Result<Bytes, KeepFault> {
 }
 
 // The keeper of the file at a path.
-fn open_file<'a>(rt: &'a HostRuntime, path: &str) -> Result<HostKeeper<'a>, KeepFault>
+fn open_file<'a>(rt: &'a HostRuntime, path: &str) -> Result<HostKeeper<'a>, Fault>
     requires { path.now ≢ codes "memory" }
     ensures { IfOk result (λ keeper. IsFresh path.now keeper.kept) }
 {
@@ -95,7 +95,7 @@ fn open_file<'a>(rt: &'a HostRuntime, path: &str) -> Result<HostKeeper<'a>, Keep
 }
 
 // The keeper of the store of a name.
-fn open_store<'a>(rt: &'a HostRuntime, name: &str) -> Result<HostKeeper<'a>, KeepFault>
+fn open_store<'a>(rt: &'a HostRuntime, name: &str) -> Result<HostKeeper<'a>, Fault>
     ensures { IfOk result (λ keeper. IsFresh name.now keeper.kept) }
 {
     if name == "memory" {
@@ -108,7 +108,7 @@ fn open_store<'a>(rt: &'a HostRuntime, name: &str) -> Result<HostKeeper<'a>, Kee
 
 // The keeper of the store of a name, which is there. An opening always makes a file that is missing, so the path is looked at
 // first. A file that is taken away between the two is made anew, and empty.
-fn open_found<'a>(rt: &'a HostRuntime, name: &str) -> Result<HostKeeper<'a>, KeepFault>
+fn open_found<'a>(rt: &'a HostRuntime, name: &str) -> Result<HostKeeper<'a>, Fault>
     ensures { IfOk result (λ keeper. IsFresh name.now keeper.kept) }
 {
     match find_store(rt, name) {
@@ -151,7 +151,7 @@ impl<'a> Place for HostPlace<'a> {
         self.faults
     }
 
-    fn open_keeper(&mut self, name: &str) -> Result<HostKeeper<'a>, KeepFault>
+    fn open_keeper(&mut self, name: &str) -> Result<HostKeeper<'a>, Fault>
         ensures fresh { IfOk result (λ keeper. stored_faults keeper.kept ≡ 0) }
         ensures cause { HasKeepCause self.old.faults self.new.faults result }
         ensures opened { IfOk result (λ keeper. IsFresh name.now keeper.kept) }
@@ -159,7 +159,7 @@ impl<'a> Place for HostPlace<'a> {
         counted(&mut self.faults, open_store(self.rt, name))
     }
 
-    fn open_existing(&mut self, name: &str) -> Result<HostKeeper<'a>, KeepFault>
+    fn open_existing(&mut self, name: &str) -> Result<HostKeeper<'a>, Fault>
         ensures fresh { IfOk result (λ keeper. stored_faults keeper.kept ≡ 0) }
         ensures cause { HasKeepCause self.old.faults self.new.faults result }
         ensures opened { IfOk result (λ keeper. IsFresh name.now keeper.kept) }
@@ -174,7 +174,7 @@ impl<'a> Place for HostPlace<'a> {
         close_file(kept);
     }
 
-    fn read_accounts(&mut self, name: &str) -> Result<Bytes, KeepFault> {
+    fn read_accounts(&mut self, name: &str) -> Result<Bytes, Fault> {
         counted(&mut self.faults, read_file(self.rt, name))
     }
 

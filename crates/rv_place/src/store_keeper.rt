@@ -6,8 +6,8 @@ ghost use Rattle.rv_keeper.specs.Keeping.{HasGenerationCause, HasKeepCause, Keep
 ghost use Rattle.rv_place.specs.Stored.{StoredFinds, StoredHolds, StoredHonest, StoredLeaves, StoredLoads, StoredSteady, StoredTells, stored_connection, stored_faults};
 ghost use Rattle.rv_place.specs.StoredLaws.{stored_honestly, stored_one, stored_tells};
 
-use rv_base::Failed;
-use rv_keeper::{Change, KeepFault, Keeper, Loaded, MemoryKeeper};
+use rv_base::{Failed, Fault};
+use rv_keeper::{Change, Keeper, Loaded, MemoryKeeper};
 use rv_sqlite::SqliteKeeper;
 use sqlite::{Alter, Connection};
 
@@ -60,7 +60,7 @@ impl<S: Alter> Keeper for StoreKeeper<S> {
         }
     }
 
-    fn load(&mut self) -> Result<Loaded, KeepFault>
+    fn load(&mut self) -> Result<Loaded, Fault>
         ensures order { IfOk result (λ loaded. AreCells loaded.cells) }
         ensures tells { StoredTells self.new → StoredTells self.old }
         ensures same { StoredTells self.new → (held : Loaded) → StoredHolds self.old held → StoredHolds self.new held }
@@ -96,7 +96,7 @@ impl<S: Alter> Keeper for StoreKeeper<S> {
         }
     }
 
-    fn commit(&mut self, from: u64, changes: &[Change]) -> Result<(), KeepFault> {
+    fn commit(&mut self, from: u64, changes: &[Change]) -> Result<(), Fault> {
         match self {
             StoreKeeper::Memory(keeper) => keeper.commit(from, changes),
             StoreKeeper::Sqlite(keeper) => keeper.commit(from, changes),

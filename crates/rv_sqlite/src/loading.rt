@@ -17,17 +17,14 @@ use crate::reading::read_table;
 use crate::statements::generation_row;
 use crate::table::{TableFound, find_table};
 use crate::writing::write;
-use rv_base::Failed;
-use rv_keeper::{Cells, KeepFault, Loaded};
+use rv_base::{Failed, Fault};
+use rv_keeper::{Cells, Loaded};
 use sqlite::types::ValueRef;
 use sqlite::{Alter, Connection, Row};
 use std::alloc::Global;
 
 // Makes the table, in which there is nothing.
-fn load_nothing<S: Alter>(
-    alloc: Global,
-    connection: &mut Connection<S>,
-) -> Result<Loaded, KeepFault>
+fn load_nothing<S: Alter>(alloc: Global, connection: &mut Connection<S>) -> Result<Loaded, Fault>
     requires autocommit { connection.old.in_transaction ≡ false }
     requires settled { IsSettledWhereOpen (state S.Store connection.old) }
     requires none { table_named (state S.Store connection.old).now.schema (codes "cell") ≡ None }
@@ -45,7 +42,7 @@ fn load_nothing<S: Alter>(
 }
 
 // What the table has, which is settled by a write of the same generation.
-fn load_table<S: Alter>(alloc: Global, connection: &mut Connection<S>) -> Result<Loaded, KeepFault>
+fn load_table<S: Alter>(alloc: Global, connection: &mut Connection<S>) -> Result<Loaded, Fault>
     requires autocommit { connection.old.in_transaction ≡ false }
     requires settled { IsSettledWhereOpen (state S.Store connection.old) }
     ensures order { IfOk result (λ loaded. AreCells loaded.cells) }
@@ -65,7 +62,7 @@ fn load_table<S: Alter>(alloc: Global, connection: &mut Connection<S>) -> Result
 pub(crate) fn load_from<S: Alter>(
     alloc: Global,
     connection: &mut Connection<S>,
-) -> Result<Loaded, KeepFault>
+) -> Result<Loaded, Fault>
     ensures order { IfOk result (λ loaded. AreCells loaded.cells) }
     ensures small { IfOk result (λ loaded. loaded.generation < 2 ^ 64) }
     ensures found { HasCleanDisk (state S.Store connection.new) → IfOk result (LoadsTable S.Store connection.old) }
@@ -75,12 +72,12 @@ pub(crate) fn load_from<S: Alter>(
     ensures tells { Tells (state S.Store connection.new) → Tells (state S.Store connection.old) }
 {
     if !connection.is_autocommit() {
-        return Err(KeepFault::Failed);
+        return Err(Fault::Failed);
     }
     match find_table(connection.schema()) {
         TableFound::Missing => load_nothing(alloc, connection),
         TableFound::Fits => load_table(alloc, connection),
-        TableFound::Other => Err(KeepFault::Failed),
+        TableFound::Other => Err(Fault::Failed),
     }
 }
 

@@ -14,8 +14,8 @@ use crate::number::number_in;
 use crate::row_read::RowRead;
 use crate::statements::{GENERATION_SHELF, all_rows};
 use crate::writing::fault_of;
-use rv_base::{Bytes, Memory};
-use rv_keeper::{Cell, Cells, KeepFault, Loaded};
+use rv_base::{Bytes, Fault, Memory};
+use rv_keeper::{Cell, Cells, Loaded};
 use sqlite::{Alter, Connection, Error, Row, Rows};
 use std::alloc::Global;
 use std::cmp::Ordering;
@@ -49,11 +49,11 @@ fn as_read(shelf: i64, key: Vec<u8>, body: Vec<u8>) -> Option<RowRead>
 }
 
 // What the row stands for.
-fn read_row(row: &Row) -> Result<RowRead, KeepFault>
+fn read_row(row: &Row) -> Result<RowRead, Fault>
     ensures { IfOk result (Shows row.now) }
 {
     match columns_of(row) {
-        Ok((shelf, key, body)) => as_read(shelf, key, body).ok_or(KeepFault::Failed),
+        Ok((shelf, key, body)) => as_read(shelf, key, body).ok_or(Fault::Failed),
         Err(error) => Err(fault_of(error)),
     }
 }
@@ -73,37 +73,33 @@ fn may_end(cells: &[Cell], cell: &Cell) -> bool
 }
 
 // Adds a cell at the end, where it is in order there.
-fn append(cells: &mut Vec<Cell>, cell: Cell) -> Result<(), KeepFault>
+fn append(cells: &mut Vec<Cell>, cell: Cell) -> Result<(), Fault>
     requires { AreCells cells.old.items }
     ensures order { AreCells cells.new.items }
     ensures added { OnOk result (cells.new.items ≡ cells.old.items ++ cell ∷ []) }
 {
     if !may_end(cells, &cell) {
-        return Err(KeepFault::Failed);
+        return Err(Fault::Failed);
     }
     match cells.push(cell) {
         Ok(()) => Ok(()),
-        Err(_) => Err(KeepFault::Memory),
+        Err(_) => Err(Fault::Memory),
     }
 }
 
 // Keeps the generation. A second one is a fault.
-fn keep_generation(generation: &mut Option<u64>, number: u64) -> Result<(), KeepFault>
+fn keep_generation(generation: &mut Option<u64>, number: u64) -> Result<(), Fault>
     ensures { OnOk result ((generation.old ≡ None) × (generation.new ≡ Some number)) }
 {
     if generation.is_some() {
-        return Err(KeepFault::Failed);
+        return Err(Fault::Failed);
     }
     *generation = Some(number);
     Ok(())
 }
 
 // Adds what a row stands for.
-fn gather(
-    cells: &mut Vec<Cell>,
-    generation: &mut Option<u64>,
-    read: RowRead,
-) -> Result<(), KeepFault>
+fn gather(cells: &mut Vec<Cell>, generation: &mut Option<u64>, read: RowRead) -> Result<(), Fault>
     requires { AreCells cells.old.items }
     ensures order { AreCells cells.new.items }
     ensures cells { OnOk result (cells.new.items ≡ cells.old.items ++ cells_among (read ∷ [])) }
@@ -116,7 +112,7 @@ fn gather(
 }
 
 // What the next row stands for, if there is one.
-fn next_read<S: Alter>(rows: &mut Rows<'_, S>) -> Result<Option<RowRead>, KeepFault>
+fn next_read<S: Alter>(rows: &mut Rows<'_, S>) -> Result<Option<RowRead>, Fault>
     ensures same_reference { rows.new.conn.ghost_name ≡ rows.old.conn.ghost_name }
     ensures mode { rows.old.conn.now.in_transaction ≡ false → rows.new.conn.now.in_transaction ≡ false }
     ensures found { HasCleanDisk (state S.Store rows.new.conn.now) → IfOk result (MovesTo S.Store rows.old.conn.now rows.new.conn.now) }
@@ -134,7 +130,7 @@ fn next_read<S: Alter>(rows: &mut Rows<'_, S>) -> Result<Option<RowRead>, KeepFa
 pub(crate) fn read_table<S: Alter>(
     alloc: Global,
     connection: &mut Connection<S>,
-) -> Result<Loaded, KeepFault>
+) -> Result<Loaded, Fault>
     ensures order { IfOk result (λ loaded. AreCells loaded.cells) }
     ensures small { IfOk result (λ loaded. loaded.generation < 2 ^ 64) }
     ensures found { HasCleanDisk (state S.Store connection.new) → IfOk result (ReadsTable (state S.Store connection.old) (state S.Store connection.new)) }
@@ -159,5 +155,5 @@ pub(crate) fn read_table<S: Alter>(
             }
         }
     }
-    Err(KeepFault::Failed)
+    Err(Fault::Failed)
 }

@@ -1,6 +1,6 @@
 ghost use Rattle.std.specs.Prelude.{◌≡◌, ◌↔◌, ◌≤◌, ◌<◌, ◌-◌, ◌^◌, IfOk, IsErrOf, IsOk, IsTrue, OnErr, OnOk, refl};
 ghost use Rattle.rv_base.specs.Causes.{Rose};
-ghost use Rattle.rv_keeper.specs.declared.fault.KeepFault.TheVariants.{Memory};
+ghost use Rattle.rv_base.specs.declared.fault.Fault.TheVariants.{Memory};
 ghost use Rattle.rv_keeper.specs.declared.loaded.Loaded.{Loaded};
 ghost use Rattle.rv_keeper.specs.Cells.{AreCells, AreChanges};
 ghost use Rattle.rv_keeper.specs.Crashes.{IsSettled};
@@ -18,8 +18,8 @@ use crate::connected::recall;
 use crate::exact::is_known;
 use crate::loading::{generation_in, load_from};
 use crate::writing::write;
-use rv_base::Failed;
-use rv_keeper::{Change, KeepFault, Keeper, Loaded};
+use rv_base::{Failed, Fault};
+use rv_keeper::{Change, Keeper, Loaded};
 use sqlite::{Alter, Connection};
 use std::alloc::Global;
 
@@ -108,16 +108,16 @@ fn count(faults: &mut u64)
 }
 
 // Counts what an answer tells.
-fn count_in<T: Drop>(faults: &mut u64, answer: Result<T, KeepFault>) -> Result<T, KeepFault>
+fn count_in<T: Drop>(faults: &mut u64, answer: Result<T, Fault>) -> Result<T, Fault>
     ensures same { result ≡ answer }
     ensures cause { HasKeepCause faults.old faults.new result }
 {
     match answer {
         Ok(value) => Ok(value),
-        Err(KeepFault::Memory) => Err(KeepFault::Memory),
-        Err(KeepFault::Failed) => {
+        Err(Fault::Memory) => Err(Fault::Memory),
+        Err(Fault::Failed) => {
             count(faults);
-            Err(KeepFault::Failed)
+            Err(Fault::Failed)
         }
     }
 }
@@ -154,7 +154,7 @@ impl<S: Alter> Keeper for SqliteKeeper<S> {
         self.faults
     }
 
-    fn load(&mut self) -> Result<Loaded, KeepFault>
+    fn load(&mut self) -> Result<Loaded, Fault>
         ensures order { IfOk result (λ loaded. AreCells loaded.cells) }
         ensures cause { HasKeepCause self.old.faults self.new.faults result }
         ensures found { HasCleanDisk (state S.Store self.new.connection) → IfOk result (LoadsTable S.Store self.old.connection) }
@@ -192,7 +192,7 @@ impl<S: Alter> Keeper for SqliteKeeper<S> {
         count_near(&mut self.faults, from, answer)
     }
 
-    fn commit(&mut self, from: u64, changes: &[Change]) -> Result<(), KeepFault>
+    fn commit(&mut self, from: u64, changes: &[Change]) -> Result<(), Fault>
         requires from { from < 2 ^ 64 - 1 }
         requires changes { AreChanges changes.now }
         ensures cause { HasKeepCause self.old.faults self.new.faults result }

@@ -1,6 +1,6 @@
 // A write: one transaction.
 ghost use Rattle.std.specs.Prelude.{◌≡◌, Ok, false, IfOk, IsErrOf, IsTrue, OnErr, OnOk};
-ghost use Rattle.rv_keeper.specs.declared.fault.KeepFault.TheVariants.{Memory};
+ghost use Rattle.rv_base.specs.declared.fault.Fault.TheVariants.{Memory};
 ghost use Rattle.rv_keeper.specs.Cells.{changed};
 ghost use Rattle.sqlite.specs.State.{HasCleanDisk, KeepsCommit, Survives};
 ghost use Rattle.sqlite.specs.Held.{state};
@@ -8,16 +8,17 @@ ghost use Rattle.rv_sqlite.specs.Faults.{fault_of};
 ghost use Rattle.rv_sqlite.specs.Steps.{Comes, IsSettledWhereOpen, IsUnderWay, KeepsWhereClean, ShowsCommitted, Steps, WritesCells, all_next};
 
 use crate::statements::{is_settled, make_change, make_table, put_generation};
-use rv_keeper::{Change, KeepFault};
+use rv_base::Fault;
+use rv_keeper::Change;
 use sqlite::{Alter, Connection, Error, ErrorCode, Transaction};
 
 /// What a refused statement is to a keeper: want of memory, or a fault.
-pub fn fault_of(error: Error) -> KeepFault
+pub fn fault_of(error: Error) -> Fault
     ensures { result ≡ fault_of error }
 {
     match error {
-        Error::SqliteFailure(ErrorCode::OutOfMemory) => KeepFault::Memory,
-        _ => KeepFault::Failed,
+        Error::SqliteFailure(ErrorCode::OutOfMemory) => Fault::Memory,
+        _ => Fault::Failed,
     }
 }
 
@@ -71,7 +72,7 @@ fn fill<S: Alter>(
 
 // Ends the transaction: at Ok what it had is committed. Where that is refused it may have been made.
 #[tactic(auto, using(crate::proofs::Kept::refused_keeps))]
-fn finish<S: Alter>(transaction: Transaction<'_, S>) -> Result<(), KeepFault>
+fn finish<S: Alter>(transaction: Transaction<'_, S>) -> Result<(), Fault>
     ensures committed { HasCleanDisk (state S.Store transaction.exit.0.now) → OnOk result ((state S.Store transaction.exit.0.now).committed ≡ (state S.Store transaction.entry.conn.now).now) }
     ensures shown { HasCleanDisk (state S.Store transaction.exit.0.now) → OnOk result (ShowsCommitted (state S.Store transaction.entry.conn.now) (state S.Store transaction.exit.0.now)) }
     ensures kept { HasCleanDisk (state S.Store transaction.exit.0.now) → OnErr result (KeepsCommit (state S.Store transaction.entry.conn.now) (state S.Store transaction.exit.0.now)) }
@@ -81,7 +82,7 @@ fn finish<S: Alter>(transaction: Transaction<'_, S>) -> Result<(), KeepFault>
 {
     match transaction.commit() {
         Ok(()) => Ok(()),
-        Err(_) => Err(KeepFault::Failed),
+        Err(_) => Err(Fault::Failed),
     }
 }
 
@@ -92,7 +93,7 @@ fn attempt<S: Alter>(
     makes_table: bool,
     generation: u64,
     changes: &[Change],
-) -> Result<Result<(), KeepFault>, Error>
+) -> Result<Result<(), Fault>, Error>
     requires autocommit { connection.old.in_transaction ≡ false }
     requires settled { IsSettledWhereOpen (state S.Store connection.old) }
     ensures comes { HasCleanDisk (state S.Store connection.new) → IfOk result (Comes (state S.Store connection.old) (state S.Store connection.new) generation changes.now) }
@@ -113,7 +114,7 @@ fn attempt<S: Alter>(
 }
 
 // Why a transaction was not made that was rolled back: a rollback that failed is a fault.
-fn undone<S: Alter>(connection: &mut Connection<S>, error: Error) -> KeepFault
+fn undone<S: Alter>(connection: &mut Connection<S>, error: Error) -> Fault
     requires autocommit { connection.old.in_transaction ≡ false }
     ensures kept { KeepsWhereClean S.Store connection.old connection.new }
     ensures survives { Survives (state S.Store connection.old) (state S.Store connection.new) (λ _. ⊥) }
@@ -121,7 +122,7 @@ fn undone<S: Alter>(connection: &mut Connection<S>, error: Error) -> KeepFault
     if is_settled(connection) {
         fault_of(error)
     } else {
-        KeepFault::Failed
+        Fault::Failed
     }
 }
 
@@ -131,14 +132,14 @@ pub(crate) fn write<S: Alter>(
     makes_table: bool,
     generation: u64,
     changes: &[Change],
-) -> Result<(), KeepFault>
+) -> Result<(), Fault>
     ensures comes { HasCleanDisk (state S.Store connection.new) → Comes (state S.Store connection.old) (state S.Store connection.new) generation changes.now result }
     ensures survives { Survives (state S.Store connection.old) (state S.Store connection.new) (WritesCells (state S.Store connection.old) generation changes.now) }
     ensures memory { IsErrOf result Memory → Survives (state S.Store connection.old) (state S.Store connection.new) (λ _. ⊥) }
     ensures outside { connection.new.in_transaction ≡ false → connection.old.in_transaction ≡ false }
 {
     if !connection.is_autocommit() {
-        return Err(KeepFault::Failed);
+        return Err(Fault::Failed);
     }
     match attempt(connection, makes_table, generation, changes) {
         Ok(ended) => ended,

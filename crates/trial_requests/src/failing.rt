@@ -3,8 +3,8 @@ ghost use Rattle.std.specs.Prelude.{◌≡◌, ◌≤◌};
 ghost use Rattle.rv_base.specs.Causes.{Rose};
 
 use crate::schedules::Troubles;
-use rv_base::Failed;
-use rv_keeper::{Change, Fails, KeepFault, Keeper, Loaded, Schedule};
+use rv_base::{Failed, Fault};
+use rv_keeper::{Change, Fails, Keeper, Loaded, Schedule};
 
 /// Keeps what another keeper keeps, and fails at the calls of a schedule besides, as a keeper in memory does. To each question for the
 /// generation it answers so much more. It claims nothing of what it holds.
@@ -67,19 +67,19 @@ impl<K: Keeper> Keeper for FailingKeeper<K> {
         self.faults
     }
 
-    fn load(&mut self) -> Result<Loaded, KeepFault> {
+    fn load(&mut self) -> Result<Loaded, Fault> {
         self.loads = self.loads.saturating_add(1);
         if self.fails(Fails::Load(self.loads)) {
             self.count_fault();
-            return Err(KeepFault::Failed);
+            return Err(Fault::Failed);
         }
         match self.kept.load() {
             Ok(loaded) => Ok(loaded),
-            Err(KeepFault::Failed) => {
+            Err(Fault::Failed) => {
                 self.count_fault();
-                Err(KeepFault::Failed)
+                Err(Fault::Failed)
             }
-            Err(KeepFault::Memory) => Err(KeepFault::Memory),
+            Err(Fault::Memory) => Err(Fault::Memory),
         }
     }
 
@@ -104,22 +104,22 @@ impl<K: Keeper> Keeper for FailingKeeper<K> {
         }
     }
 
-    fn commit(&mut self, from: u64, changes: &[Change]) -> Result<(), KeepFault> {
+    fn commit(&mut self, from: u64, changes: &[Change]) -> Result<(), Fault> {
         self.commits = self.commits.saturating_add(1);
         if self.fails(Fails::Before(self.commits)) {
             self.count_fault();
-            return Err(KeepFault::Failed);
+            return Err(Fault::Failed);
         }
         if self.fails(Fails::Memory(self.commits)) {
-            return Err(KeepFault::Memory);
+            return Err(Fault::Memory);
         }
         let made = self.kept.commit(from, changes);
-        if let Err(KeepFault::Memory) = made {
-            return Err(KeepFault::Memory);
+        if let Err(Fault::Memory) = made {
+            return Err(Fault::Memory);
         }
         if made.is_err() || self.fails(Fails::After(self.commits)) {
             self.count_fault();
-            return Err(KeepFault::Failed);
+            return Err(Fault::Failed);
         }
         Ok(())
     }

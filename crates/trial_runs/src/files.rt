@@ -2,7 +2,7 @@
 use crate::case::Case;
 use crate::machine::Machine;
 use crate::running::{Pieces, run_alone};
-use rv_base::Memory;
+use rv_base::{Fault, Memory};
 use rv_keeper::Place;
 use std::alloc::Global;
 use std::sync::Wait;
@@ -97,6 +97,14 @@ fn run_beside<R: Threads + Wait + Sync, P: Place>(
     }
 }
 
+// What is printed where no file is read.
+fn fault_text(fault: Fault) -> &'static str {
+    match fault {
+        Fault::Failed => "the keeper failed",
+        Fault::Memory => "out of memory",
+    }
+}
+
 // `accounts FILE`: what a place reads of an accounts file; or why it reads none, and how many faults it counts for that.
 fn read_accounts<P: Place>(alloc: Global, place: &mut P, path: &str) -> Result<String, Memory> {
     let before = place.fault_count();
@@ -108,7 +116,8 @@ fn read_accounts<P: Place>(alloc: Global, place: &mut P, path: &str) -> Result<S
         }
         Err(fault) => {
             let faults = place.fault_count().saturating_sub(before);
-            Ok(format!(in alloc; "{fault}, faults {faults}\n")?)
+            let text = fault_text(fault);
+            Ok(format!(in alloc; "{text}, faults {faults}\n")?)
         }
     }
 }

@@ -1,6 +1,6 @@
 use Rattle.std.proofs.Common.{rules, ◌≡◌, Result, Ok, Err, ◌<◌, ◌+◌, refl, sym, subst}
+use Rattle.rv_base.specs.declared.fault.Fault.{Fault}
 use Rattle.rv_book.specs.Book.{size}
-use Rattle.rv_keeper.specs.declared.fault.KeepFault.{KeepFault}
 use Rattle.rv_state.specs.Ready.{next_of}
 use Rattle.rv_turns.specs.Asks.{Ask}
 use Rattle.rv_turns.specs.declared.outcome.Outcome.{Outcome}
@@ -26,6 +26,6 @@ returns-clause-stepped g c =
     let step : Step pull_json old.limit old.book Ask.closing (Closed place) (with_next old.book next) = closing_steps old next place c.in_ok-prepared.ensures.closes c.in_ok-prepared.ensures.prepared.lawful below at in
     subst (λ (desk : Seated g.row.K.Denot). HasStepped (served g.K.Keeper.faults desk) Ask.closing c.match-keep.result new) c.self.view_is
     (elim c.match-keep.branch [
-      | in-Ok w ↦ subst (λ (result : Result Outcome KeepFault). HasStepped old Ask.closing result new) (sym w.result-is) (kept_ok Ask.closing (Closed place) next old new tt refl step w.in-Ok.ensures.kept)
-      | in-Err w ↦ subst (λ (result : Result Outcome KeepFault). HasStepped old Ask.closing result new) (sym w.result-is) (not_kept Ask.closing (Closed place) next old new w.in-Err.fault refl c.in_ok-prepared.ensures.closes step below w.in-Err.ensures.kept)
+      | in-Ok w ↦ subst (λ (result : Result Outcome Fault). HasStepped old Ask.closing result new) (sym w.result-is) (kept_ok Ask.closing (Closed place) next old new tt refl step w.in-Ok.ensures.kept)
+      | in-Err w ↦ subst (λ (result : Result Outcome Fault). HasStepped old Ask.closing result new) (sym w.result-is) (not_kept Ask.closing (Closed place) next old new w.in-Err.fault refl c.in_ok-prepared.ensures.closes step below w.in-Err.ensures.kept)
     ])

@@ -1,6 +1,6 @@
 use Rattle.std.proofs.Common.{rules, refl}
+use Rattle.rv_base.specs.declared.fault.Fault.TheVariants.{Failed}
 use Rattle.rv_book.specs.declared.entry.Entry.TheVariants.{Look}
-use Rattle.rv_keeper.specs.declared.fault.KeepFault.TheVariants.{Failed}
 use Rattle.rv_history.specs.Bases.{base_of}
 use Rattle.rv_history.specs.Machine.{next_order, reply_to}
 use Rattle.rv_history.specs.Served.{Next}

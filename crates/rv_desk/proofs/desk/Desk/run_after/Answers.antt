@@ -1,7 +1,7 @@
 use Rattle.std.proofs.Common.{rules, ◌≡◌, Result, Ok, Err, ◌+◌, refl, sym, ap, ◌∙◌, subst}
+use Rattle.rv_base.specs.declared.fault.Fault.{Fault}
 use Rattle.rv_book.specs.declared.entry.Entry.TheVariants.{Act}
 use Rattle.rv_book.specs.Book.{size}
-use Rattle.rv_keeper.specs.declared.fault.KeepFault.{KeepFault}
 use Rattle.rv_history.specs.Machine.{Step}
 use Rattle.rv_history.specs.Served.{Next, Served, with_next}
 use Rattle.rv_turns.specs.Asks.{Ask, Sender}
@@ -31,10 +31,10 @@ returns-clause-stepped g c =
     let new = parts_served c.keep.new.state c.keep.new.doubt (g.K.Keeper.faults c.keep.new.keeper) in
     let entered = Acted (c.len-place.result + 1) in
     let step : Step pull_json old.limit old.book (Ask.mutation from m) entered (with_next old.book next) = (c.requires.takes, search rules, search rules, search rules, refl) in
-    let kept : (result : Result (Unit {0}) KeepFault) → IsKept (parts_served c.prepare_act.new.self c.self.inside.doubt (g.K.Keeper.faults c.self.inside.keeper)) (next_of c.in_ok-prepared.prepared) result new → IsKept old next result new = λ result kept.
+    let kept : (result : Result (Unit {0}) Fault) → IsKept (parts_served c.prepare_act.new.self c.self.inside.doubt (g.K.Keeper.faults c.self.inside.keeper)) (next_of c.in_ok-prepared.prepared) result new → IsKept old next result new = λ result kept.
     subst (λ (old : Served). IsKept old next result new) (ap (served g.K.Keeper.faults) c.self.view_is)
     (kept_after c.self.inside.state c.prepare_act.new.self c.self.inside.doubt (g.K.Keeper.faults c.self.inside.keeper) next (next_of c.in_ok-prepared.prepared) result new c.prepare_act.ensures.book c.prepare_act.ensures.limit c.in_ok-prepared.ensures.entry kept) in
     elim c.match-keep.branch [
-      | in-Ok w ↦ subst (λ (result : Result Outcome KeepFault). HasStepped old (Ask.mutation from m) result new) (sym w.result-is) (kept_ok (Ask.mutation from m) entered next old new tt refl step (kept (Ok tt) w.in-Ok.ensures.kept))
-      | in-Err w ↦ subst (λ (result : Result Outcome KeepFault). HasStepped old (Ask.mutation from m) result new) (sym w.result-is) (not_kept (Ask.mutation from m) entered next old new w.in-Err.fault refl tt step (c.requires.takes, search rules, search rules) (kept (Err w.in-Err.fault) w.in-Err.ensures.kept))
+      | in-Ok w ↦ subst (λ (result : Result Outcome Fault). HasStepped old (Ask.mutation from m) result new) (sym w.result-is) (kept_ok (Ask.mutation from m) entered next old new tt refl step (kept (Ok tt) w.in-Ok.ensures.kept))
+      | in-Err w ↦ subst (λ (result : Result Outcome Fault). HasStepped old (Ask.mutation from m) result new) (sym w.result-is) (not_kept (Ask.mutation from m) entered next old new w.in-Err.fault refl tt step (c.requires.takes, search rules, search rules) (kept (Err w.in-Err.fault) w.in-Err.ensures.kept))
     ]

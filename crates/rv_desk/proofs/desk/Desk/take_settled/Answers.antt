@@ -1,5 +1,5 @@
 use Rattle.std.proofs.Common.{◌≡◌}
-use Rattle.rv_keeper.specs.declared.fault.KeepFault.TheVariants.{Failed, Memory}
+use Rattle.rv_base.specs.declared.fault.Fault.TheVariants.{Failed, Memory}
 use Rattle.rv_turns.specs.Asks.{ask_of}
 use Rattle.rv_desk.specs.Seated.{served}
 use Rattle.rv_desk.proofs.Settled.{turn_failed, turn_refused, turn_stepped}
