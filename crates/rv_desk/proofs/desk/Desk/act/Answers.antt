@@ -14,8 +14,8 @@ use Rattle.rv_desk.specs.Keeping.{IsKept}
 use Rattle.rv_desk.specs.Seated.{Seated, parts_served, served}
 use Rattle.rv_desk.specs.Stepping.{HasStepped}
 use Rattle.rv_desk.proofs.Settled.{in_step_after, kept_after, kept_ok, not_kept}
-use Rattle.rv_desk.proofs.desk.Desk.run_after.Goals.{in-Ok, in-Err}
-use Rattle.rv_desk.proofs.desk.Desk.run_after.Goals as goal
+use Rattle.rv_desk.proofs.desk.Desk.act.Goals.{in-Ok, in-Err}
+use Rattle.rv_desk.proofs.desk.Desk.act.Goals as goal
 
 pub keep-requires-clause-in_step : goal.keep-requires-clause-in_step
 keep-requires-clause-in_step g c =
