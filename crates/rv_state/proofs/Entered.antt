@@ -72,7 +72,7 @@ after_look s look (lawful, replay, records, all, marks, parts, within) ready =
       lawful_more s.book entry lawful ready.lawful,
       replay_look s.book s.rows look.user look.group look.order look.base replay,
       subst (λ (gone : Option ℕ). AreRecords (with_entry s.book entry) (with_record s.book gone look.view s.records)) (sym ready.effect.2)
-      (records_look_in_place s.book look.user look.group look.order look.base look.view s.records records ready.effect.1 ready.lawful.0.stands),
+          (records_look_in_place s.book look.user look.group look.order look.base look.view s.records records ready.effect.1 ready.lawful.0.stands),
       more_fit s.book.entries entry all ready.fits,
       marks_look s.book look.user look.group look.order look.base s.marks marks,
       parts,
