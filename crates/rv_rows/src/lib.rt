@@ -18,7 +18,6 @@ mod row;
 mod row_json;
 mod row_reading;
 mod rows_in_order;
-mod sought;
 mod tables;
 
 pub use call::{Call, Reason};

@@ -1,19 +1,40 @@
-// Rows in slots, and positions in orders of slots.
+// Rows in slots, positions in orders of slots, and how they are looked for: how the row of each slot stands to what is sought.
 ghost use Rattle.std.specs.Prelude.{◌≡◌, ◌≤◌, ◌<◌, ◌+◌, None, nat_eq, ◌∷◌, ◌++◌, [], length, true, slice_index_or, slice_set, vec_len, vec_capacity, MatchResult, Err};
 ghost use Rattle.std.specs.List.{list_any, filter, remove};
 ghost use Rattle.rv_base.specs.Sorted.{IsPositionOf, InOrder, find_by};
 ghost use Rattle.rv_pages.specs.Paging.{items, index_of, place, IsItem, IsGap};
 ghost use Rattle.rv_rows.specs.Keys.{key_text};
 ghost use Rattle.rv_rows.specs.Held.{AreRows, stored_key};
-ghost use Rattle.rv_rows.specs.Filed.{filed_key, filed_text};
-ghost use Rattle.rv_rows.specs.Slots.{standing, AreSlots, is_under, relabelled, renamed, Vacates};
+ghost use Rattle.rv_rows.specs.Filed.{filed_key, filed_text, under};
+ghost use Rattle.rv_rows.specs.Slots.{by_slot, standing, AreSlots, is_under, relabelled, renamed, Vacates};
 
 use crate::filing::Filing;
 use crate::key::Kind;
 use crate::row::Row;
-use crate::sought::{SoughtKey, SoughtRow, SoughtText};
 use rv_base::Id;
-use rv_pages::{At, Pages, Walk};
+use rv_pages::{At, Compare, Pages, Walk};
+use std::cmp::Ordering;
+
+// A key that is looked for in the order of the keys. A slot that is not there stands below it.
+#[derive(Drop)]
+struct SoughtKey<'a> {
+    slots: &'a [(Row, u32)],
+    kind: Kind,
+    id: &'a Id,
+}
+
+impl<'a> Compare<u32> for SoughtKey<'a> {
+    ghost order = { λ sought slot. by_slot stored_key (key_text (record { kind = sought.kind; id = sought.id.now })) sought.slots.now slot };
+
+    fn compare(&self, slot: &u32) -> Ordering {
+        let slot = *slot as usize;
+        if slot < self.slots.len() {
+            self.slots[slot].0.compare_key(self.kind, self.id)
+        } else {
+            Ordering::Less
+        }
+    }
+}
 
 // Where the row of a key stands in the order of the keys, or where it would go.
 pub(crate) fn position_by_key(
@@ -28,6 +49,27 @@ pub(crate) fn position_by_key(
     ensures at { MatchResult result (IsItem order.now.pages) (IsGap order.now.pages) }
 {
     order.position(&SoughtKey { slots, kind, id })
+}
+
+// A row that is looked for in an order by what rows are filed under. A slot that is not there stands below it.
+#[derive(Drop)]
+struct SoughtRow<'a> {
+    slots: &'a [(Row, u32)],
+    by: Filing,
+    row: &'a Row,
+}
+
+impl<'a> Compare<u32> for SoughtRow<'a> {
+    ghost order = { λ sought slot. by_slot (filed_key sought.by) (filed_text sought.by sought.row.now) sought.slots.now slot };
+
+    fn compare(&self, slot: &u32) -> Ordering {
+        let slot = *slot as usize;
+        if slot < self.slots.len() {
+            self.slots[slot].0.compare_filed(self.by, self.row)
+        } else {
+            Ordering::Less
+        }
+    }
 }
 
 // Where a row that is filed as this one and has its key stands in an order, or where it would go.
@@ -76,6 +118,27 @@ pub(crate) fn position_by_slot(
     match position_filed(slots, order, by, &slots[slot as usize].0) {
         Ok(at) => at,
         Err(_) => unreachable!(),
+    }
+}
+
+// What rows are filed under, looked for in such an order. A slot that is not there stands below it.
+#[derive(Drop)]
+struct SoughtText<'a> {
+    slots: &'a [(Row, u32)],
+    by: Filing,
+    text: &'a str,
+}
+
+impl<'a> Compare<u32> for SoughtText<'a> {
+    ghost order = { λ sought slot. by_slot (λ s. under sought.by s.0) sought.text.now sought.slots.now slot };
+
+    fn compare(&self, slot: &u32) -> Ordering {
+        let slot = *slot as usize;
+        if slot < self.slots.len() {
+            self.slots[slot].0.under(self.by).cmp(self.text)
+        } else {
+            Ordering::Less
+        }
     }
 }
 
