@@ -5,17 +5,15 @@ use Rattle.std.specs.Str.{bytes_eq}
 use Rattle.serde_json.specs.Data.{Data}
 use Rattle.serde_json.specs.Find.{at, as_bool}
 use Rattle.rv_base.specs.Options.{◌>>=◌}
-use Rattle.rv_rows.specs.Members.{text_in, num_in}
+use Rattle.rv_rows.specs.Members.{text_in, num_in, role_or_edit}
 use Rattle.rv_rows.specs.JsonTexts.{json_in}
 use Rattle.rv_rows.specs.declared.call.Call.{Call}
 use Rattle.rv_rows.specs.declared.call.Call.TheVariants.{CreateList, DeleteList, CreateShare, UpdateShare, DeleteShare, CreateTodo, UpdateTodo, DeleteTodo, Void}
 use Rattle.rv_rows.specs.declared.call.Reason.TheVariants.{UnknownName, BadArgs}
-use Rattle.rv_rows.specs.declared.role.Role.{Role}
-use Rattle.rv_rows.specs.declared.role.Role.TheVariants as roles
 use Rattle.rv_book.specs.declared.entry.Entry.{Entry}
 use Rattle.rv_book.specs.declared.entry.Entry.TheVariants.{Act, Look, Retire}
 use Rattle.rv_record.specs.CellReading.{IsText}
-use Rattle.rv_record.specs.ValueReading.{or_null, place_in, role_in, role_item, string_item, text_item, num_item, flag_item}
+use Rattle.rv_record.specs.ValueReading.{or_null, place_in, role_item, string_item, text_item, num_item, flag_item}
 
 -- a place is numbered from 1
 abbrev pub IsPlace : ℕ → Type 0
@@ -52,11 +50,6 @@ stored_create_list_in value = do
   name ← text_item 0 16384 2 value
   owner ← text_item 1 64 3 value
   Some (CreateList id name owner)
-
--- the role of a new share: where none is told, it is to edit
-abbrev pub role_or_edit : Option Data → Option Role
-role_or_edit None = Some roles.Edit
-role_or_edit (Some value) = role_in value
 
 -- ["createShare",ID,LIST,USER] or ["createShare",ID,LIST,USER,ROLE]
 unfoldable pub stored_create_share_in : Data → Option Call

@@ -3,9 +3,8 @@ use Rattle.std.specs.Prelude.{ℕ, ◌^◌, Bool, List, Option, Some, None, opti
 use Rattle.std.specs.Str.{is_utf8}
 use Rattle.serde_json.specs.Data.{Data}
 use Rattle.serde_json.specs.Find.{at, as_null, as_bool, as_number, as_u64, as_str}
-use Rattle.rv_rows.specs.Members.{within, text_in, num_in}
+use Rattle.rv_rows.specs.Members.{within, text_in, num_in, role_in}
 use Rattle.rv_rows.specs.declared.role.Role.{Role}
-use Rattle.rv_rows.specs.Roles.{role_named}
 
 -- bytes that are UTF-8, at least low and at most high of them
 unfoldable pub utf8_text_in : ℕ → ℕ → List ℕ → Option (List ℕ)
@@ -17,10 +16,6 @@ place_within n = if nat_lt n (2 ^ 32) then Some n else None
 
 abbrev pub place_in : Data → Option ℕ
 place_in value = option_and_then place_within (option_and_then as_u64 (as_number value))
-
--- the role whose text the value is
-abbrev pub role_in : Data → Option Role
-role_in value = option_and_then role_named (as_str value)
 
 -- null, or what else the value is read as
 abbrev pub or_null : {X : Type 0} → (Data → Option X) → Data → Option (Option X)

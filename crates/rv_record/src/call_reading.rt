@@ -1,13 +1,13 @@
-ghost use Rattle.std.specs.Prelude.{◌≡◌, IfOk, option_and_then, option_map};
+ghost use Rattle.std.specs.Prelude.{◌≡◌, IfOk, option_and_then};
 ghost use Rattle.serde_json.specs.Find.{at, as_bool};
 ghost use Rattle.serde_json.specs.View.{view};
 ghost use Rattle.rv_rows.specs.Members.{text_in, num_in};
 ghost use Rattle.rv_record.specs.ValueReading.{or_null, text_item};
-ghost use Rattle.rv_record.specs.EntryReading.{stored_create_list_in, role_or_edit, stored_create_share_in, stored_update_share_in, stored_create_todo_in, stored_update_todo_in, void_with, stored_call_with, stored_call_in};
+ghost use Rattle.rv_record.specs.EntryReading.{stored_create_list_in, stored_create_share_in, stored_update_share_in, stored_create_todo_in, stored_update_todo_in, void_with, stored_call_with, stored_call_in};
 
-use crate::value_reading::{flag_item, role_item, role_of_value, string_item, text_item};
+use crate::value_reading::{flag_item, role_item, string_item, text_item};
 use rv_base::{Id, Memory, Num, Text};
-use rv_rows::{Call, Reason, Role, num_of_value, text_of_value};
+use rv_rows::{Call, Reason, num_of_value, role_or_edit, text_of_value};
 use serde_json::Value;
 use std::alloc::Global;
 
@@ -31,16 +31,6 @@ fn create_list(alloc: Global, value: &Value) -> Result<Option<Call>, Memory>
         return Ok(None);
     };
     Ok(Some(Call::CreateList { id, name, owner }))
-}
-
-// The role of a new share, where it is told; else it is to edit.
-fn role_or_edit(item: Option<&Value>) -> Option<Role>
-    ensures { result ≡ role_or_edit (option_map (λ v. view v.now) item.entry) }
-{
-    match item {
-        None => Some(Role::Edit),
-        Some(item) => role_of_value(item),
-    }
 }
 
 #[tactic(auto, unfolding(crate::specs::EntryReading::stored_create_share_in))]

@@ -1,10 +1,10 @@
 // The items of a JSON array, and the text of a key.
 ghost use Rattle.std.specs.Prelude.{◌≡◌, IfOk, option_map};
 ghost use Rattle.serde_json.specs.View.{view};
-ghost use Rattle.rv_record.specs.ValueReading.{utf8_text_in, string_item, text_item, num_item, place_in, place_item, flag_item, role_in, role_item};
+ghost use Rattle.rv_record.specs.ValueReading.{utf8_text_in, string_item, text_item, num_item, place_in, place_item, flag_item, role_item};
 
 use rv_base::{Bounded, Memory, Num};
-use rv_rows::{Role, num_of_value, text_of_value, text_within};
+use rv_rows::{Role, num_of_value, role_of_value, text_of_value, text_within};
 use serde_json::Value;
 use std::alloc::Global;
 
@@ -70,13 +70,6 @@ pub(crate) fn flag_item(value: &Value, place: usize) -> Option<bool>
     ensures { result ≡ flag_item place (view value.now) }
 {
     value.get(place)?.as_bool()
-}
-
-// The role whose text a value is.
-pub(crate) fn role_of_value(value: &Value) -> Option<Role>
-    ensures { result ≡ role_in (view value.now) }
-{
-    Role::named(value.as_str()?)
 }
 
 // The role at a place of an array, from 0, where the text of one is there.

@@ -3,6 +3,9 @@ use Rattle.std.specs.Prelude.{ℕ, ◌^◌, List, length, Option, Some, None, op
 use Rattle.std.specs.Str.{bytes_eq}
 use Rattle.serde_json.specs.Data.{Data, Members, no_members, member}
 use Rattle.serde_json.specs.Find.{as_str, as_number, as_u64}
+use Rattle.rv_rows.specs.declared.role.Role.{Role}
+use Rattle.rv_rows.specs.declared.role.Role.TheVariants as roles
+use Rattle.rv_rows.specs.Roles.{role_named}
 
 -- a text of at least low and at most high bytes
 abbrev pub within : ℕ → ℕ → List ℕ → Option (List ℕ)
@@ -19,6 +22,16 @@ num_within n = if nat_lt n (2 ^ 53) then Some n else None
 -- a value that is such a number; one with a fraction or an exponent is none
 abbrev pub num_in : Data → Option ℕ
 num_in value = option_and_then num_within (option_and_then as_u64 (as_number value))
+
+-- the role whose text a value is
+abbrev pub role_in : Data → Option Role
+role_in value = option_and_then role_named (as_str value)
+
+-- the role of a new share, by the value that tells it: where no value stands there it is to edit, and a value that is no
+-- role's text, null included, tells none
+abbrev pub role_or_edit : Option Data → Option Role
+role_or_edit None = Some roles.Edit
+role_or_edit (Some value) = role_in value
 
 -- the value of the first member, where it has the name, and the members after it
 abbrev pub named : List ℕ → Members → Option (Data × Members)

@@ -2,8 +2,9 @@
 ghost use Rattle.std.specs.Prelude.{◌≡◌, IfOk, IfSome, IfNone, Some, None, option_map};
 ghost use Rattle.serde_json.specs.View.{view, members_view};
 ghost use Rattle.rv_rows.specs.JsonTexts.{json_in};
-ghost use Rattle.rv_rows.specs.Members.{named, within, text_in, num_in};
+ghost use Rattle.rv_rows.specs.Members.{named, within, text_in, num_in, role_in, role_or_edit};
 
+use crate::role::Role;
 use rv_base::{Bounded, Memory, Num, TextRefusal};
 use serde_json::Value;
 use std::alloc::Global;
@@ -72,4 +73,22 @@ pub fn num_of_value(value: &Value) -> Option<Num>
 {
     let number = value.as_u64()?;
     Num::new(number).ok()
+}
+
+/// The role whose text a value is.
+pub fn role_of_value(value: &Value) -> Option<Role>
+    ensures { result ≡ role_in (view value.now) }
+{
+    Role::named(value.as_str()?)
+}
+
+/// The role of a new share, by the value that tells it: where no value stands there it is to edit, and a value that is no
+/// role's text, null included, tells none.
+pub fn role_or_edit(value: Option<&Value>) -> Option<Role>
+    ensures { result ≡ role_or_edit (option_map (λ v. view v.now) value.entry) }
+{
+    match value {
+        None => Some(Role::Edit),
+        Some(value) => role_of_value(value),
+    }
 }

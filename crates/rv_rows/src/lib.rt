@@ -21,7 +21,9 @@ mod rows_in_order;
 mod tables;
 
 pub use call::{Call, Reason};
-pub use json_reading::{next_named, num_of_value, read_json, text_of_value, text_within};
+pub use json_reading::{
+    next_named, num_of_value, read_json, role_of_value, role_or_edit, text_of_value, text_within,
+};
 pub use json_writing::{write_bool_member, write_num_member, write_row, write_text_member};
 pub use key::{Key, Kind};
 pub use lists::{Clients, Keys, Rows, Users, Visible};

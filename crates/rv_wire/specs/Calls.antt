@@ -5,13 +5,11 @@ use Rattle.std.specs.Str.{bytes_eq}
 use Rattle.serde_json.specs.Data.{Data}
 use Rattle.serde_json.specs.Find.{get, as_bool}
 use Rattle.rv_base.specs.Options.{◌>>=◌}
-use Rattle.rv_rows.specs.Members.{text_in, num_in}
+use Rattle.rv_rows.specs.Members.{text_in, num_in, role_or_edit}
 use Rattle.rv_rows.specs.declared.call.Call.{Call}
 use Rattle.rv_rows.specs.declared.call.Call.TheVariants.{CreateList, DeleteList, CreateShare, UpdateShare, DeleteShare, CreateTodo, UpdateTodo, DeleteTodo, Void}
 use Rattle.rv_rows.specs.declared.call.Reason.TheVariants.{UnknownName, BadArgs}
-use Rattle.rv_rows.specs.declared.role.Role.{Role}
-use Rattle.rv_rows.specs.declared.role.Role.TheVariants as roles
-use Rattle.rv_wire.specs.Members.{text_member, bool_member, role_in, role_member, optional}
+use Rattle.rv_wire.specs.Members.{text_member, bool_member, role_member, optional}
 
 -- {id,name,ownerID}
 unfoldable pub create_list_in : Data → Option Call
@@ -20,11 +18,6 @@ create_list_in args = do
   name ← text_member 0 16384 (codes "name") args
   owner ← text_member 1 64 (codes "ownerID") args
   Some (CreateList id name owner)
-
--- the role of a new share: where none is named, it is to edit
-abbrev pub role_or_edit : Option Data → Option Role
-role_or_edit None = Some roles.Edit
-role_or_edit (Some value) = role_in value
 
 -- {id,listID,userID,role?}
 unfoldable pub create_share_in : Data → Option Call

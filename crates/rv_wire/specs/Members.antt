@@ -2,9 +2,8 @@
 use Rattle.std.specs.Prelude.{ℕ, Bool, List, Option, Some, None, codes, option_and_then, option_map}
 use Rattle.serde_json.specs.Data.{Data, Items}
 use Rattle.serde_json.specs.Find.{get, as_str, as_bool, as_array}
-use Rattle.rv_rows.specs.Members.{text_in, num_in}
+use Rattle.rv_rows.specs.Members.{text_in, num_in, role_in}
 use Rattle.rv_rows.specs.declared.role.Role.{Role}
-use Rattle.rv_rows.specs.Roles.{role_named}
 use Rattle.rv_wire.specs.declared.fault.FieldName.{FieldName}
 use Rattle.rv_wire.specs.declared.fault.FieldName.TheVariants as fields
 
@@ -32,10 +31,6 @@ string_member name body = option_and_then as_str (get name body)
 -- a member that is true or false
 abbrev pub bool_member : List ℕ → Data → Option Bool
 bool_member name body = option_and_then as_bool (get name body)
-
--- a value that is the text of a role
-abbrev pub role_in : Data → Option Role
-role_in value = option_and_then role_named (as_str value)
 
 -- a member that is the text of a role
 abbrev pub role_member : List ℕ → Data → Option Role

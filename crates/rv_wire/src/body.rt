@@ -2,11 +2,11 @@
 ghost use Rattle.std.specs.Prelude.{◌≡◌, ℕ, List, Bool, IfOk, option_map};
 ghost use Rattle.serde_json.specs.View.{view, items_view};
 ghost use Rattle.rv_wire.specs.Bodies.{GivesBody, group_in, is_schema_served};
-ghost use Rattle.rv_wire.specs.Members.{text_member, string_member, bool_member, num_member, role_in, role_member, array_member};
+ghost use Rattle.rv_wire.specs.Members.{text_member, string_member, bool_member, num_member, role_member, array_member};
 
 use crate::fault::{FieldName, VersionKind, WireFault};
 use rv_base::{Bounded, Id, Memory, Num, Sequence};
-use rv_rows::{Role, num_of_value, text_of_value};
+use rv_rows::{Role, num_of_value, role_of_value, text_of_value};
 use serde_json::Value;
 use std::alloc::Global;
 
@@ -43,13 +43,6 @@ pub(crate) fn num_member(value: &Value, name: &str) -> Option<Num>
     ensures { result ≡ num_member name.now (view value.now) }
 {
     num_of_value(value.get(name)?)
-}
-
-// The role whose text a value is.
-pub(crate) fn role_of_value(value: &Value) -> Option<Role>
-    ensures { result ≡ role_in (view value.now) }
-{
-    Role::named(value.as_str()?)
 }
 
 // The role whose text a member is.

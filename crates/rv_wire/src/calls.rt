@@ -3,11 +3,11 @@ ghost use Rattle.serde_json.specs.Find.{as_bool, get};
 ghost use Rattle.serde_json.specs.View.{view};
 ghost use Rattle.rv_rows.specs.Members.{text_in, num_in};
 ghost use Rattle.rv_wire.specs.Members.{optional};
-ghost use Rattle.rv_wire.specs.Calls.{call_in, call_with, create_list_in, create_share_in, create_todo_in, role_or_edit, update_share_in, update_todo_in};
+ghost use Rattle.rv_wire.specs.Calls.{call_in, call_with, create_list_in, create_share_in, create_todo_in, update_share_in, update_todo_in};
 
-use crate::body::{bool_member, role_member, role_of_value, text_member};
+use crate::body::{bool_member, role_member, text_member};
 use rv_base::{Id, Memory, Num, Text};
-use rv_rows::{Call, Reason, Role, num_of_value, text_of_value};
+use rv_rows::{Call, Reason, num_of_value, role_or_edit, text_of_value};
 use serde_json::Value;
 use std::alloc::Global;
 
@@ -58,16 +58,6 @@ fn create_list(alloc: Global, args: &Value) -> Result<Option<Call>, Memory>
         return Ok(None);
     };
     Ok(Some(Call::CreateList { id, name, owner }))
-}
-
-// The role of a new share, where it is named; else it is to edit.
-fn role_or_edit(value: Option<&Value>) -> Option<Role>
-    ensures { result ≡ role_or_edit (option_map (λ v. view v.now) value.entry) }
-{
-    match value {
-        None => Some(Role::Edit),
-        Some(value) => role_of_value(value),
-    }
 }
 
 #[tactic(auto, unfolding(crate::specs::Calls::create_share_in))]
