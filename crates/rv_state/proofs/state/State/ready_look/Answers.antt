@@ -1,4 +1,4 @@
-use Rattle.std.proofs.Common.{◌≡◌, ap, sym, subst, ◌∙◌, arith}
+use Rattle.std.proofs.Common.{ap, sym, subst, ◌∙◌, arith}
 use Rattle.rv_book.specs.Book.{Book, size}
 use Rattle.rv_book.specs.declared.entry.Entry.{Entry}
 use Rattle.rv_book.specs.declared.entry.Entry.TheVariants.{Look}
@@ -9,10 +9,9 @@ use Rattle.rv_state.proofs.state.State.ready_look.Goals as goal
 
 pub returns-clause-prepared : goal.returns-clause-prepared
 returns-clause-prepared c =
-    let s = c.returned.self.now in
     let entry : Entry = Look c.args.user c.args.group c.args.order c.args.base in
-    let book : s.book ≡ c.args.self.now.book = c.in_ok-reserve.ensures.book ∙ ap (λ (t : Standing). t.book) c.self.view_is in
-    let limit : s.limit ≡ c.args.self.now.limit = c.in_ok-reserve.ensures.limit ∙ ap (λ (t : Standing). t.limit) c.self.view_is in
+    let book = c.in_ok-reserve.ensures.book ∙ ap (λ (t : Standing). t.book) c.self.view_is in
+    let limit = c.in_ok-reserve.ensures.limit ∙ ap (λ (t : Standing). t.limit) c.self.view_is in
     let length = ap size book in record {
       lawful = subst (λ (b : Book). IsLawfulAfter b entry) (sym book) c.requires.lawful;
       fits = c.look_fits.ensures;
