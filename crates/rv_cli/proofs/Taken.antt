@@ -3,8 +3,8 @@ use Rattle.std.proofs.Common.{◌≡◌, ℕ, ◌+◌, ◌^◌, ◌<◌, ◌≤�
 use Rattle.rv_base.specs.Causes.{rose_before}
 use Rattle.rv_base.specs.Outside.{InputState, OutputState}
 use Rattle.rv_lines.specs.Reading.{Reading, unread, GivesNext, ReadsFor, gives_end, read_failed}
-use Rattle.rv_lines.specs.declared.line_fault.LineFault.{LineFault}
-use Rattle.rv_lines.specs.declared.line_fault.LineFault.TheVariants as faults
+use Rattle.rv_base.specs.declared.fault.Fault.{Fault}
+use Rattle.rv_base.specs.declared.fault.Fault.TheVariants as faults
 use Rattle.rv_lines.specs.declared.next.Next.{Next}
 use Rattle.rv_lines.specs.declared.next.Next.TheVariants.{Line, Last, End, TooLong}
 use Rattle.rv_cli.specs.declared.ending.Ending.{Ending}
@@ -42,15 +42,15 @@ module _ {T : Type 0} (taker : Taker T) (takes_later : (old new : T) → (taker.
   FindsNext new reading (Ok is_last) = Finds pending reading.pending reading.line old new is_last
   FindsNext new reading (Err ending) = TakesLines taker begun start new first out ending now
 
-  finds : (new : InputState) (reading : Reading) (next : Result Next LineFault) → ReadsFor pending old new (gives_end next) (read_failed next) → GivesNext (unread pending old.left) (unread reading.pending new.left) reading next → FindsNext new reading (found_line next number)
+  finds : (new : InputState) (reading : Reading) (next : Result Next Fault) → ReadsFor pending old new (gives_end next) (read_failed next) → GivesNext (unread pending old.left) (unread reading.pending new.left) reading next → FindsNext new reading (found_line next number)
   finds new reading (Ok Line) reads gives = record { reads = reads; no_lf = gives.0; short = gives.1; takes = gives.2 }
   finds new reading (Ok Last) reads gives = record { reads = reads; no_lf = gives.0; short = gives.2; takes = (gives.1, gives.3, gives.4) }
   finds new reading (Ok End) reads gives = ended new Done tt (ends_done taker.lines (taker.tells now) (taker.state begun) start first old new out pending reading.pending number (taker.state now) goes.going reads gives.0 gives.1)
   finds new reading (Ok TooLong) reads gives = ended new (Malformed number) tt (ends_long taker.lines (taker.tells now) (taker.state begun) start first old new out pending reading.pending number (taker.state now) goes.going reads gives.0 gives.1)
-  finds new reading (Err faults.Read) reads gives = ended new Read tt (ends_read taker.lines (taker.tells now) (taker.state begun) start first old new out pending reading.pending number (taker.state now) goes.going reads gives.0 gives.1)
+  finds new reading (Err faults.Failed) reads gives = ended new Read tt (ends_read taker.lines (taker.tells now) (taker.state begun) start first old new out pending reading.pending number (taker.state now) goes.going reads gives.0 gives.1)
   finds new reading (Err faults.Memory) reads gives = ended new Memory tt (ends_memory taker.lines (taker.tells now) (taker.state begun) start first old new out pending reading.pending number (taker.state now) goes.going reads gives)
 
-  pub finds_next : (new : InputState) (reading : Reading) (next : Result Next LineFault) {told result : Result Bool Ending} → ReadsFor pending old new (gives_end next) (read_failed next) → GivesNext (unread pending old.left) (unread reading.pending new.left) reading next
+  pub finds_next : (new : InputState) (reading : Reading) (next : Result Next Fault) {told result : Result Bool Ending} → ReadsFor pending old new (gives_end next) (read_failed next) → GivesNext (unread pending old.left) (unread reading.pending new.left) reading next
       → told ≡ found_line next number → told ≡ result → FindsNext new reading result
   finds_next new reading next {told} {result} reads gives is same = subst (FindsNext new reading) (sym is ∙ same) (finds new reading next reads gives)
 

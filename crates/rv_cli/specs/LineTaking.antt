@@ -4,8 +4,8 @@ use Rattle.std.specs.Io.KnownBytes.{Consumes, Appends}
 use Rattle.rv_base.specs.Causes.{Rose}
 use Rattle.rv_base.specs.Outside.{InputState, OutputState}
 use Rattle.rv_base.specs.Writes.{AppendsFront}
-use Rattle.rv_lines.specs.declared.line_fault.LineFault.{LineFault}
-use Rattle.rv_lines.specs.declared.line_fault.LineFault.TheVariants as faults
+use Rattle.rv_base.specs.declared.fault.Fault.{Fault}
+use Rattle.rv_base.specs.declared.fault.Fault.TheVariants as faults
 use Rattle.rv_lines.specs.declared.next.Next.{Next}
 use Rattle.rv_lines.specs.declared.next.Next.TheVariants.{Line, Last, End, TooLong}
 use Rattle.rv_cli.specs.declared.ending.Ending.{Ending}
@@ -15,12 +15,12 @@ use Rattle.rv_cli.specs.LineRuns.{Lines, Ends, ReadsSo}
 -- ---- What was read.
 
 -- whether the line that was read ends with the input; or how the lines end without one
-abbrev pub found_line : Result Next LineFault → ℕ → Result Bool Ending
+abbrev pub found_line : Result Next Fault → ℕ → Result Bool Ending
 found_line (Ok Line) number = Ok false
 found_line (Ok Last) number = Ok true
 found_line (Ok End) number = Err Done
 found_line (Ok TooLong) number = Err (Malformed number)
-found_line (Err faults.Read) number = Err Read
+found_line (Err faults.Failed) number = Err Read
 found_line (Err faults.Memory) number = Err Memory
 
 -- ---- One line.

@@ -5,15 +5,15 @@ ghost use Rattle.rv_cli.specs.Steadiness.{InputIsSteady, KeeperIsSteady, OutputI
 
 use crate::ending::Ending;
 use crate::line_taker::LineTaker;
-use rv_base::{Sink, Source};
-use rv_lines::{LineFault, LineReader, Next};
+use rv_base::{Fault, Sink, Source};
+use rv_lines::{LineReader, Next};
 use std::alloc::Global;
 
 /// The number of the first line that is none by its number alone.
 pub(crate) const LINES_END: u64 = 4_294_967_296;
 
 // Whether the line that was read ends with the input; or how the lines end without one.
-fn found(next: Result<Next, LineFault>, number: u64) -> Result<bool, Ending>
+fn found(next: Result<Next, Fault>, number: u64) -> Result<bool, Ending>
     ensures { result ≡ found_line next number }
 {
     match next {
@@ -21,8 +21,8 @@ fn found(next: Result<Next, LineFault>, number: u64) -> Result<bool, Ending>
         Ok(Next::Last) => Ok(true),
         Ok(Next::End) => Err(Ending::Done),
         Ok(Next::TooLong) => Err(Ending::Malformed(number)),
-        Err(LineFault::Read) => Err(Ending::Read),
-        Err(LineFault::Memory) => Err(Ending::Memory),
+        Err(Fault::Failed) => Err(Ending::Read),
+        Err(Fault::Memory) => Err(Ending::Memory),
     }
 }
 
