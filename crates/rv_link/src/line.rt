@@ -6,8 +6,8 @@ ghost use Rattle.tungstenite.specs.Content.{text};
 ghost use Rattle.websocket.specs.CloseCode.{close_code_of};
 ghost use Rattle.rv_link.specs.Sockets.{IsGreeted, OpensWith, ReadsFirst, WritesStep};
 
-use rv_base::{Bytes, Failed};
-use rv_poke::{First, LinkFault};
+use rv_base::{Bytes, Failed, Fault};
+use rv_poke::First;
 use std::alloc::Global;
 use std::io::{Read, Write};
 use std::mem;
@@ -46,27 +46,24 @@ fn config() -> WebSocketConfig
 }
 
 // The handshake of a server.
-fn shake<S: Read + Write + Drop>(
-    alloc: Global,
-    stream: S,
-) -> Result<WebSocket<S, NoMask>, LinkFault>
+fn shake<S: Read + Write + Drop>(alloc: Global, stream: S) -> Result<WebSocket<S, NoMask>, Fault>
     ensures { IfOk result IsGreeted }
 {
     match server::start(alloc, stream, NoCallback, Some(config())).handshake() {
         Ok(socket) => Ok(socket),
-        Err(HandshakeError::Failure(Error::OutOfMemory)) => Err(LinkFault::Memory),
-        Err(HandshakeError::Failure(_)) => Err(LinkFault::Failed),
-        Err(HandshakeError::Interrupted(_)) => Err(LinkFault::Failed),
+        Err(HandshakeError::Failure(Error::OutOfMemory)) => Err(Fault::Memory),
+        Err(HandshakeError::Failure(_)) => Err(Fault::Failed),
+        Err(HandshakeError::Interrupted(_)) => Err(Fault::Failed),
     }
 }
 
 // A text as a first message.
-fn text_of(alloc: Global, words: &Utf8Bytes) -> Result<First, LinkFault>
+fn text_of(alloc: Global, words: &Utf8Bytes) -> Result<First, Fault>
     ensures { IfOk result (λ first. first ≡ Text words.now) }
 {
     match Vec::from_slice(alloc, words.as_str().as_bytes()) {
         Ok(bytes) => Ok(First::Text(Bytes::from_vec(bytes))),
-        Err(_) => Err(LinkFault::Memory),
+        Err(_) => Err(Fault::Memory),
     }
 }
 
@@ -74,7 +71,7 @@ fn text_of(alloc: Global, words: &Utf8Bytes) -> Result<First, LinkFault>
 fn read<S: Read + Write + Drop>(
     alloc: Global,
     socket: &mut WebSocket<S, NoMask>,
-) -> Result<First, LinkFault>
+) -> Result<First, Fault>
     ensures { IfOk result (ReadsFirst S.remaining socket.old socket.new) }
 {
     match socket.read() {
@@ -85,18 +82,18 @@ fn read<S: Read + Write + Drop>(
         Ok(Message::Close(_)) => Ok(First::Other),
         Err(Error::Capacity(_)) => Ok(First::Other),
         Err(Error::Utf8) => Ok(First::Other),
-        Err(Error::OutOfMemory) => Err(LinkFault::Memory),
-        Err(_) => Err(LinkFault::Failed),
+        Err(Error::OutOfMemory) => Err(Fault::Memory),
+        Err(_) => Err(Fault::Failed),
     }
 }
 
 impl<S: Read + Write + Drop> Line<S> {
     /// Does the handshake of a stream that is fresh, and gives its first message.
-    pub(crate) fn first(&mut self, alloc: Global) -> Result<First, LinkFault>
+    pub(crate) fn first(&mut self, alloc: Global) -> Result<First, Fault>
         ensures { IfOk result (OpensWith S.remaining self.old self.new) }
     {
         let Line::Fresh(stream) = mem::replace(self, Line::Lost) else {
-            return Err(LinkFault::Failed);
+            return Err(Fault::Failed);
         };
         let mut socket = shake(alloc, stream)?;
         let first = read(alloc, &mut socket);

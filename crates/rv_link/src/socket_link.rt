@@ -4,8 +4,8 @@ ghost use Rattle.rv_base.specs.Causes.{HasCause};
 ghost use Rattle.rv_link.specs.declared.line.Line.TheVariants.{Fresh};
 
 use crate::line::Line;
-use rv_base::Failed;
-use rv_poke::{First, LinkFault, PokeLink};
+use rv_base::{Failed, Fault};
+use rv_poke::{First, PokeLink};
 use std::alloc::Global;
 use std::io::{Read, Write};
 
@@ -14,7 +14,7 @@ use std::io::{Read, Write};
 /// [`first`](PokeLink::first) does the handshake, in which the stream is to give a request head of at most 65,536 bytes and nothing
 /// after it, and reads one message. A text of at most 4,096 bytes is [`First::Text`]; a longer message, a text that is no UTF-8, a
 /// binary message, a ping, a pong and a close are [`First::Other`], so a client that pings before it sends its key is denied. Any
-/// other breach of the protocol is [`LinkFault::Failed`], and so are a handshake that fails, the end of the stream, a read that
+/// other breach of the protocol is [`Fault::Failed`], and so are a handshake that fails, the end of the stream, a read that
 /// fails or would block, and a second call. A head that asks for no upgrade is not answered. From then on nothing is read: a ping has
 /// no answer, and that the client has gone is told where a poke can't be sent.
 ///
@@ -64,7 +64,7 @@ impl<S: Read + Write + Drop> PokeLink for SocketLink<S> {
 
     ghost state = { link_state };
 
-    fn first(&mut self, alloc: Global) -> Result<First, LinkFault>
+    fn first(&mut self, alloc: Global) -> Result<First, Fault>
         ensures takes { Takes (link_state self.old) (link_state self.new) result }
 
         // The handshake of the stream was done, and what was read is this message.
@@ -73,10 +73,10 @@ impl<S: Read + Write + Drop> PokeLink for SocketLink<S> {
         let taken = self.line.first(alloc);
         match taken {
             Ok(first) => Ok(first),
-            Err(LinkFault::Memory) => Err(LinkFault::Memory),
-            Err(LinkFault::Failed) => {
+            Err(Fault::Memory) => Err(Fault::Memory),
+            Err(Fault::Failed) => {
                 self.faults = self.faults.saturating_add(1);
-                Err(LinkFault::Failed)
+                Err(Fault::Failed)
             }
         }
     }

@@ -1,9 +1,9 @@
 // A link over TCP.
 ghost use Rattle.rv_base.specs.Causes.{HasCause};
 
-use rv_base::Failed;
+use rv_base::{Failed, Fault};
 use rv_link::SocketLink;
-use rv_poke::{First, LinkFault, PokeLink};
+use rv_poke::{First, PokeLink};
 use std::alloc::Global;
 use std::io;
 use std::net::TcpStream;
@@ -77,13 +77,13 @@ impl PokeLink for TcpLink {
     // Nothing is told of a real client.
     ghost state = { λ s. record { coming = None; sent = None; faults = s.faults } };
 
-    fn first(&mut self, alloc: Global) -> Result<First, LinkFault> {
+    fn first(&mut self, alloc: Global) -> Result<First, Fault> {
         match self.link.first(alloc) {
             Ok(first) => Ok(first),
-            Err(LinkFault::Memory) => Err(LinkFault::Memory),
-            Err(LinkFault::Failed) => {
+            Err(Fault::Memory) => Err(Fault::Memory),
+            Err(Fault::Failed) => {
                 self.faults = self.faults.saturating_add(1);
-                Err(LinkFault::Failed)
+                Err(Fault::Failed)
             }
         }
     }

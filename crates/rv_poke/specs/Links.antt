@@ -3,8 +3,8 @@ use Rattle.std.specs.Prelude.{◌≡◌, ℕ, ◌≤◌, List, [], ◌∷◌, �
 use Rattle.rv_base.specs.Causes.{Rose, HasCause}
 use Rattle.rv_poke.specs.declared.first.First.{First}
 use Rattle.rv_poke.specs.declared.sent.Sent.{Sent}
-use Rattle.rv_poke.specs.declared.link_fault.LinkFault.{LinkFault}
-use Rattle.rv_poke.specs.declared.link_fault.LinkFault.TheVariants.{Failed, Memory}
+use Rattle.rv_base.specs.declared.fault.Fault.{Fault}
+use Rattle.rv_base.specs.declared.fault.Fault.TheVariants.{Failed, Memory}
 
 -- The first message, until it is taken, where the link tells; what was sent, in order, where the link tells; how often a call
 -- has failed.
@@ -37,7 +37,7 @@ pub record IsIdle (old new : LinkState) : Type 0 where
 
 -- A first message is the one that was to come; it is to come no more, and nothing was sent. Where none is taken the link is as
 -- before, but that at `Failed` the count of faults has risen.
-abbrev pub Takes : LinkState → LinkState → Result First LinkFault → Type 0
+abbrev pub Takes : LinkState → LinkState → Result First Fault → Type 0
 Takes old new (Ok first) = WasComing old.coming first × (new.coming ≡ None) × IsSilent old.sent new.sent × (new.faults ≡ old.faults)
 Takes old new (Err Failed) = IsIdle old new × (old.faults ≤ new.faults) × Rose old.faults new.faults
 Takes old new (Err Memory) = IsIdle old new × (new.faults ≡ old.faults)

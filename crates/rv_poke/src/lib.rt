@@ -8,7 +8,6 @@
 
 mod bell;
 mod first;
-mod link_fault;
 mod memory_bell;
 mod memory_link;
 mod poke_end;
@@ -19,7 +18,6 @@ mod waited;
 
 pub use bell::Bell;
 pub use first::First;
-pub use link_fault::LinkFault;
 pub use memory_bell::MemoryBell;
 pub use memory_link::MemoryLink;
 pub use poke_end::PokeEnd;

@@ -1,8 +1,7 @@
 use crate::first::First;
-use crate::link_fault::LinkFault;
 use crate::poke_link::PokeLink;
 use crate::sent::Sent;
-use rv_base::Failed;
+use rv_base::{Failed, Fault};
 use std::alloc::Global;
 
 /// Gives its first message and keeps what is sent. It fails at the calls of a list, where it has no message to give, and where it
@@ -76,7 +75,7 @@ impl PokeLink for MemoryLink {
 
     ghost state = { link_state };
 
-    fn first(&mut self, _alloc: Global) -> Result<First, LinkFault>
+    fn first(&mut self, _alloc: Global) -> Result<First, Fault>
         ensures takes { Takes (link_state self.old) (link_state self.new) result }
 
         // It fails exactly at the calls of its list and where no message is to come.
@@ -87,13 +86,13 @@ impl PokeLink for MemoryLink {
     {
         if self.fails() {
             self.faults = self.faults.saturating_add(1);
-            return Err(LinkFault::Failed);
+            return Err(Fault::Failed);
         }
         match self.coming.take() {
             Some(first) => Ok(first),
             None => {
                 self.faults = self.faults.saturating_add(1);
-                Err(LinkFault::Failed)
+                Err(Fault::Failed)
             }
         }
     }

@@ -2,8 +2,7 @@ ghost use Rattle.rv_poke.specs.declared.sent.Sent.TheVariants.{Close, Poke};
 ghost use Rattle.rv_poke.specs.Links.{LinkState, Says, Takes};
 
 use crate::first::First;
-use crate::link_fault::LinkFault;
-use rv_base::Failed;
+use rv_base::{Failed, Fault};
 use std::alloc::Global;
 
 /// A link to one client.
@@ -14,7 +13,7 @@ pub trait PokeLink {
 
     /// Takes the first message. It may wait for it. At `Failed` the count of faults rose, and at both errors the message is still to
     /// come; at a second call it is not told what comes.
-    fn first(&mut self, alloc: Global) -> Result<First, LinkFault>
+    fn first(&mut self, alloc: Global) -> Result<First, Fault>
         ensures { Takes (state self.old) (state self.new) result };
 
     /// Sends a poke. It fails only where the count of faults rises, and then nothing was sent.

@@ -5,12 +5,11 @@ ghost use Rattle.rv_poke.specs.Sessions.{EndCause, Session, Watches, poke_at, se
 
 use crate::bell::Bell;
 use crate::first::First;
-use crate::link_fault::LinkFault;
 use crate::poke_end::PokeEnd;
 use crate::poke_link::PokeLink;
 use crate::waited::Waited;
 use rv_accounts::Accounts;
-use rv_base::{Failed, User};
+use rv_base::{Failed, Fault, User};
 use rv_turns::Marks;
 use std::alloc::Global;
 use std::sync::Wait;
@@ -111,8 +110,8 @@ pub fn poke_session<M: Marks, L: PokeLink, B: Bell, R: Wait>(
 {
     let first = match link.first(alloc) {
         Ok(first) => first,
-        Err(LinkFault::Failed) => return PokeEnd::LinkFault,
-        Err(LinkFault::Memory) => return PokeEnd::Memory,
+        Err(Fault::Failed) => return PokeEnd::LinkFault,
+        Err(Fault::Memory) => return PokeEnd::Memory,
     };
     let Some(user) = user_of(accounts, &first) else {
         let _ = link.close(POLICY_VIOLATION);
