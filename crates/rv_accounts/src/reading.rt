@@ -1,19 +1,20 @@
-ghost use Rattle.std.specs.Prelude.{◌≡◌, ◌<◌, ◌^◌, ◌∷◌, [], length, map, option_map, string_bytes, codes, IfOk};
+ghost use Rattle.std.specs.Prelude.{◌≡◌, ◌<◌, ◌^◌, length, map, option_map, string_bytes, IfOk};
 ghost use Rattle.toml.specs.View.{view};
+ghost use Rattle.rv_base.specs.Schemas.{first_schemas};
 ghost use Rattle.rv_base.specs.Sorted.{InOrder};
 ghost use Rattle.rv_accounts.specs.File.{ReadsFile, account_key, accounts_in, ordered_accounts, schemas_in, file_in, are_tables};
 
 use crate::account::Account;
-use crate::accounts::{Accounts, Schemas, position_of};
+use crate::accounts::{Accounts, position_of};
 use crate::document::{account_of, array_of, document_of, texts_of};
 use crate::fault::AccountsFault;
-use rv_base::{Memory, Sequence};
+use rv_base::{Memory, Schemas, Sequence};
 use std::alloc::Global;
 use toml::Value;
 
 // The schema versions that are served where none are named.
 fn first_schemas(alloc: Global) -> Result<Schemas, Memory>
-    ensures { IfOk result (λ schemas. map string_bytes schemas ≡ [] ∷ codes "1" ∷ codes "2" ∷ []) }
+    ensures { IfOk result (λ schemas. map string_bytes schemas ≡ first_schemas) }
 {
     let mut schemas = Sequence::new(alloc);
     schemas.push(String::new(alloc))?;

@@ -1,12 +1,13 @@
 -- What a line is: {"user":U,"push":V}, {"user":U,"pull":V}, {"retire":G} or {"closeBook":true}, which ask something, or {"stop":true};
 -- members in any order, and no others.
-use Rattle.std.specs.Prelude.{ℕ, List, [], ◌∷◌, Bool, Option, Some, None, codes, Result, Ok, Err, option_map, option_and_then, if◌then◌else◌}
+use Rattle.std.specs.Prelude.{ℕ, List, Bool, Option, Some, None, codes, Result, Ok, Err, option_map, option_and_then, if◌then◌else◌}
 use Rattle.std.specs.List.{list_any}
 use Rattle.std.specs.Option.{option_map_or}
 use Rattle.std.specs.Str.{bytes_eq}
 use Rattle.serde_json.specs.Data.{Data, Members, no_members, member}
 use Rattle.serde_json.specs.Find.{as_object, as_bool}
 use Rattle.rv_base.specs.Options.{◌>>=◌}
+use Rattle.rv_base.specs.Schemas.{first_schemas}
 use Rattle.rv_rows.specs.Members.{text_in}
 use Rattle.rv_rows.specs.JsonTexts.{json_in}
 use Rattle.rv_wire.specs.Bodies.{push_in, pull_in}
@@ -22,7 +23,7 @@ use Rattle.rv_answering.specs.declared.asking.Verb.TheVariants as verbs
 
 -- the schema versions that a feed serves
 abbrev pub serves : List ℕ → Bool
-serves schema = list_any (λ served. bytes_eq served schema) ([] ∷ codes "1" ∷ codes "2" ∷ [])
+serves schema = list_any (λ served. bytes_eq served schema) first_schemas
 
 -- What a line of the form asks: a request, or the first thing that is wrong with its body.
 abbrev pub Parsed : Type 0

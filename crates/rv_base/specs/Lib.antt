@@ -9,4 +9,5 @@ pub mod Sorted
 pub mod Positions
 pub mod Chains
 pub mod Options
+pub mod Schemas
 pub mod Arranged

@@ -10,9 +10,9 @@ ghost use Rattle.rv_serve.specs.Steps.{user_found};
 ghost use Rattle.rv_serve.specs.declared.http_answer.HttpAnswer.TheVariants as answers;
 
 use crate::http_answer::{HttpAnswer, HttpAnswered};
-use rv_accounts::{Accounts, Schemas};
+use rv_accounts::Accounts;
 use rv_answering::{Answer, Answered, run_pull, run_push};
-use rv_base::User;
+use rv_base::{Schemas, User};
 use rv_http::{Rejection, Request, Route, Routes};
 use rv_turns::Turns;
 use rv_wire::{read_pull, read_push};

@@ -5,7 +5,7 @@ ghost use Rattle.rv_wire.specs.Bodies.{GivesBody, group_in, is_schema_served};
 ghost use Rattle.rv_wire.specs.Members.{text_member, string_member, bool_member, num_member, role_member, array_member};
 
 use crate::fault::{FieldName, VersionKind, WireFault};
-use rv_base::{Bounded, Id, Memory, Num, Sequence};
+use rv_base::{Bounded, Id, Memory, Num, Schemas};
 use rv_rows::{Role, num_of_value, role_of_value, text_of_value};
 use serde_json::Value;
 use std::alloc::Global;
@@ -69,9 +69,6 @@ pub trait SchemaVersions {
     fn is_served(&self, schema: &str) -> bool
         ensures { result ≡ serves self.now schema.now };
 }
-
-/// The schema versions that are served, one after another.
-pub type Schemas = Sequence<String>;
 
 impl SchemaVersions for Schemas {
     ghost serves = { is_schema_served };

@@ -19,7 +19,7 @@ mod reply;
 mod retirement;
 
 pub use answer::pull_text;
-pub use body::{SchemaVersions, Schemas};
+pub use body::SchemaVersions;
 pub use calls::read_call;
 pub use closing::closed_text;
 pub use error_body::ErrorBody;
