@@ -190,13 +190,6 @@ impl Book {
         groups::row(self.log(), &self.groups, group).order
     }
 
-    /// The same. The group's row is looked for at an index first, where it was found before.
-    pub fn last_order_at(&self, group: &Id, at: usize) -> Num
-        ensures { result ≡ last_order group.now self.now.book }
-    {
-        groups::row_from(self.log(), &self.groups, group, at).order
-    }
-
     /// Whether a group is retired.
     pub fn retired(&self, group: &Id) -> bool
         ensures { result ≡ retired group.now self.now.book }
@@ -211,6 +204,15 @@ impl Book {
         ensures last_order { result.last_order ≡ last_order group.now self.now.book }
     {
         groups::info(self.log(), &self.groups, group)
+    }
+
+    /// The same. The group's row is looked for at an index first, where it was found before.
+    pub fn group_found(&self, group: &Id, at: usize) -> GroupRef<'_>
+        ensures user { option_map (λ user. user.now) result.user ≡ bound group.now self.now.book }
+        ensures retired { result.retired ≡ retired group.now self.now.book }
+        ensures last_order { result.last_order ≡ last_order group.now self.now.book }
+    {
+        groups::info_from(self.log(), &self.groups, group, at)
     }
 
     /// All that the book says of a client for a mutation, found by one search. Of a client that neither the page nor an act names
@@ -358,7 +360,7 @@ impl Book {
             page: &self.page,
             entries: &self.entries,
         };
-        let look_row = look::look_row(log, &self.groups, &entry);
+        let look_row = look::look_row(log, &self.groups, &entry, found.group);
         match self.look_rows.push(look_row) {
             Ok(()) => {}
             Err(_) => unreachable!(),

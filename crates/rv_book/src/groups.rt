@@ -23,7 +23,7 @@ pub struct GroupRef<'a> {
     pub retired: bool,
     /// The order of the group's last look, or else that of the page, or 0.
     pub last_order: Num,
-    /// The index of the group's row, at which a later look-up begins; 0 where it has none.
+    /// The index of the group's row, at which a later look-up begins; 0 where it has none. A look-up that was given an index keeps it.
     pub at: usize,
 }
 
@@ -229,7 +229,16 @@ pub(crate) fn info<'b>(log: Log<'b>, rows: &[GroupRow], group: &Id) -> GroupRef<
     ensures retired { result.retired ≡ retired group.now (logged log.entry) }
     ensures last_order { result.last_order ≡ last_order group.now (logged log.entry) }
 {
-    let at = index(log, rows, group);
+    info_from(log, rows, group, index(log, rows, group))
+}
+
+// The same. The group's row is looked for at an index first.
+pub(crate) fn info_from<'b>(log: Log<'b>, rows: &[GroupRow], group: &Id, at: usize) -> GroupRef<'b>
+    requires { AreGroupRows (logged log) rows.now }
+    ensures user { option_map (λ user. user.now) result.user ≡ bound group.now (logged log.entry) }
+    ensures retired { result.retired ≡ retired group.now (logged log.entry) }
+    ensures last_order { result.last_order ≡ last_order group.now (logged log.entry) }
+{
     let row = row_from(log, rows, group, at);
     GroupRef {
         user: user_of(log, &row),

@@ -51,8 +51,8 @@ pub(crate) struct LookRow {
     before: Option<u32>,
 }
 
-// The look row of an entry that follows the entries.
-pub(crate) fn look_row(log: Log<'_>, groups: &[GroupRow], entry: &Entry) -> LookRow
+// The look row of an entry that follows the entries. The row of its group is looked for at an index first.
+pub(crate) fn look_row(log: Log<'_>, groups: &[GroupRow], entry: &Entry, at: usize) -> LookRow
     requires groups { AreGroupRows (logged log) groups.now }
     requires length { size (logged log) + 1 < 2 ^ 32 }
     ensures { result ≡ look_row_at (length log.entry.entries.now) (with_entry (logged log.entry) entry.now) }
@@ -63,7 +63,7 @@ pub(crate) fn look_row(log: Log<'_>, groups: &[GroupRow], entry: &Entry) -> Look
             before: None,
         },
         Entry::Look { group, .. } => {
-            let row = groups::row(log, groups, group);
+            let row = groups::row_from(log, groups, group, at);
             LookRow {
                 number: row.looks + 1,
                 before: row.last_look,

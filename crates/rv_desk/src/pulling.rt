@@ -61,10 +61,8 @@ impl<K: Keeper> Desk<K> {
             return Ok(Outcome::Pulled(same_reply(self.alloc, request)?));
         };
         let book = self.state.book();
-        let order = next_order(
-            &request.cookie,
-            book.last_order_at(&request.group, group_at),
-        );
+        let told = book.group_found(&request.group, group_at);
+        let order = next_order(&request.cookie, told.last_order);
         if order > Num::MAX {
             return Ok(Outcome::Refused(Refusal::Limit(Which::Order, Num::from_u64(Num::MAX))));
         }

@@ -29,9 +29,9 @@ fn add_first_group(
 ) -> Result<(), Memory>
     ensures { OnOk result (changes.new.items ≡ changes.old.items ++ first_group book.now.book user.now group.now) }
 {
-    if book.bound(group).is_none() {
-        let order = book.last_order_at(group, at);
-        changes.push(Change::Put(cell_of_group(alloc, group, user, order, false)?))?;
+    let told = book.group_found(group, at);
+    if told.user.is_none() {
+        changes.push(Change::Put(cell_of_group(alloc, group, user, told.last_order, false)?))?;
     }
     Ok(())
 }

@@ -12,7 +12,7 @@ returns-in-Act c = look_row_of_other (logged c.args.log) c.args.entry.now (rw c.
 pub returns-in-Look : goal.returns-in-Look
 returns-in-Look c =
     let book = logged c.args.log in
-    (λ i. record { number = c.row-row.ensures.looks i + 1; before = c.row-row.ensures.last_look i })
+    (λ i. record { number = c.row_from-row.ensures.looks i + 1; before = c.row_from-row.ensures.last_look i })
     ∙ look_row_of_look book c.in-Look.user c.in-Look.group c.in-Look.order c.in-Look.base
     ∙ ap (λ (e : Entry). look_row_at (length book.entries) (with_entry book e)) (sym c.in-Look.is)
 
