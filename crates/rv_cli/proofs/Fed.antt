@@ -4,7 +4,8 @@ use Rattle.rv_base.specs.Outside.{InputState, OutputState}
 use Rattle.rv_book.specs.Book.{Book}
 use Rattle.rv_history.specs.Served.{Doubt}
 use Rattle.rv_keeper.specs.declared.keeper.Keeper.{Ghosts}
-use Rattle.rv_desk.specs.Seated.{DeskKeeps, KeepsBook, Seated}
+use Rattle.rv_doubt.specs.Kept.{KeepsBook}
+use Rattle.rv_desk.specs.Seated.{DeskKeeps, Seated}
 use Rattle.rv_cli.specs.declared.ending.Ending.{Ending}
 use Rattle.rv_cli.specs.declared.ending.Ending.TheVariants.{Done, Keeper, Damaged, Read, Write, Memory, Malformed}
 use Rattle.rv_cli.specs.Feeding.{FeedsWith, RoseAt, desk_taker}

@@ -7,7 +7,8 @@ use Rattle.rv_keeper.specs.declared.place.Place.{Ghosts as PlaceGhosts}
 use Rattle.rv_turns.specs.Asks.{Ask, Sender}
 use Rattle.rv_turns.specs.declared.mutation.Mutation.{Mutation}
 use Rattle.rv_turns.specs.declared.outcome.Outcome.{Outcome}
-use Rattle.rv_desk.specs.Seated.{DeskTakes, KeepsBook, Seated, served}
+use Rattle.rv_doubt.specs.Kept.{KeepsBook}
+use Rattle.rv_desk.specs.Seated.{DeskTakes, Seated, served}
 use Rattle.rv_import.specs.Imports.{Asked}
 use Rattle.rv_import.specs.Importing.{Imported, Imports, TakesInOrder}
 use Rattle.rv_import.specs.declared.import_end.ImportEnd.{ImportEnd}

@@ -9,7 +9,8 @@ use Rattle.rv_keeper.specs.declared.place.Place.{Ghosts as PlaceGhosts}
 use Rattle.rv_keeper.specs.Keeping.{HasKeepCause}
 use Rattle.rv_keeper.specs.Stores.{LeavesAsGiven, OpensWith}
 use Rattle.rv_book.specs.Book.{Book}
-use Rattle.rv_desk.specs.Seated.{Seated, served, KeepsBook}
+use Rattle.rv_doubt.specs.Kept.{KeepsBook}
+use Rattle.rv_desk.specs.Seated.{Seated, served}
 use Rattle.rv_cli.specs.declared.ending.Ending.{Ending}
 use Rattle.rv_cli.specs.declared.ending.Ending.TheVariants.{Done, Keeper, Damaged, Read, Write, Memory, Malformed}
 use Rattle.rv_cli.specs.Change.{change}

@@ -8,7 +8,8 @@ use Rattle.rv_keeper.specs.declared.keeper.Keeper.{Ghosts}
 use Rattle.rv_keeper.specs.declared.loaded.Loaded.{Loaded}
 use Rattle.rv_keeper.specs.declared.place.Place.{Ghosts as PlaceGhosts}
 use Rattle.rv_keeper.specs.Stores.{OpensAs}
-use Rattle.rv_desk.specs.Seated.{Seated, KeepsBook, served}
+use Rattle.rv_doubt.specs.Kept.{KeepsBook}
+use Rattle.rv_desk.specs.Seated.{Seated, served}
 use Rattle.rv_cli.specs.ServePromise.{serve_statuses}
 use Rattle.rv_book.specs.Book.{Book, size}
 use Rattle.rv_base.specs.declared.memory.Memory.{Memory as MemoryFault}

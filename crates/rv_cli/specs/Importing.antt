@@ -11,7 +11,8 @@ use Rattle.rv_turns.specs.Outcomes.{IsChanged, trouble_of}
 use Rattle.rv_turns.specs.declared.outcome.Outcome.{Outcome}
 use Rattle.rv_wire.specs.Answers.{pull_json}
 use Rattle.rv_history.specs.Served.{Served, TakesTurn}
-use Rattle.rv_desk.specs.Seated.{DeskTakes, KeepsBook, Seated}
+use Rattle.rv_doubt.specs.Kept.{KeepsBook}
+use Rattle.rv_desk.specs.Seated.{DeskTakes, Seated}
 use Rattle.rv_import.specs.Importing.{Imports, import_text}
 use Rattle.rv_import.specs.declared.import_end.ImportEnd.{ImportEnd}
 use Rattle.rv_import.specs.declared.import_end.ImportEnd.TheVariants as ends

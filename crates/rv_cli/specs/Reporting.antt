@@ -11,7 +11,7 @@ use Rattle.rv_keeper.specs.declared.place.Place.{Ghosts as PlaceGhosts}
 use Rattle.rv_keeper.specs.Crashes.{LeavesMore}
 use Rattle.rv_keeper.specs.Stores.{OpensAs}
 use Rattle.rv_book.specs.Book.{Book, size}
-use Rattle.rv_desk.specs.Seated.{LeavesBook}
+use Rattle.rv_doubt.specs.Kept.{LeavesBook}
 use Rattle.rv_store.specs.Opening.{MayOpen}
 use Rattle.rv_cli.specs.declared.ending.Ending.{Ending}
 use Rattle.rv_cli.specs.declared.ending.Ending.TheVariants.{Done, Write, Memory}

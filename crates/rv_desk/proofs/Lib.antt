@@ -1,4 +1,2 @@
 pub mod Settled
-pub mod Holding
-pub mod Leaving
 pub mod Reopening

@@ -13,7 +13,7 @@ use Rattle.rv_store.specs.Opening.{IsDamaged, IsSoundBook, MayOpen}
 use Rattle.rv_store.specs.OpeningLaws.{opens-not_damaged}
 use Rattle.rv_store.specs.StoreBooks.{doubt_sound, settled_unique, sound-told}
 use Rattle.rv_store.specs.StoreCells.{IsKeptWith}
-use Rattle.rv_desk.specs.Seated.{AreInStep}
+use Rattle.rv_doubt.specs.Kept.{AreInStep}
 
 module _ (limit : ℕ) (book : Book) (doubt : Doubt) (sound : IsSoundBook limit book) (small : limit < 2 ^ 32) (fits : IfSome doubt NextFits) (next : MayStand book limit doubt) where
   -- what opens is the settled book

@@ -19,8 +19,8 @@ use Rattle.rv_wire.specs.Answers.{pull_json}
 use Rattle.rv_history.specs.Machine.{Refuses, Step}
 use Rattle.rv_history.specs.Served.{IsOf, MayFollow, Next, Served, TurnOf, TakesTurn, with_next}
 use Rattle.rv_turns.specs.Outcomes.{refusal_of, trouble_of}
-use Rattle.rv_desk.specs.Keeping.{IsKept, KeepsOrNot}
-use Rattle.rv_desk.specs.Seated.{AreInStep, HoldsBook, parts_served}
+use Rattle.rv_doubt.specs.Keeping.{IsKept, KeepsOrNot}
+use Rattle.rv_doubt.specs.Kept.{AreInStep, HoldsBook, parts_served}
 use Rattle.rv_desk.specs.Stepping.{HasStepped}
 
 -- where what a step would enter is not kept

@@ -1,6 +1,4 @@
 pub mod Seated
 pub mod Opened
-pub mod Keeping
-pub mod Settling
 pub mod Stepping
 pub mod TurnLaws

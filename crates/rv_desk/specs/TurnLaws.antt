@@ -12,8 +12,8 @@ use Rattle.rv_turns.specs.declared.refusal.Trouble.{Trouble}
 use Rattle.rv_turns.specs.declared.refusal.Trouble.TheVariants.{Keeper, Changed}
 use Rattle.rv_history.specs.Machine.{ReplyText, Step}
 use Rattle.rv_history.specs.Served.{Doubt, with_doubt, with_next, Served, Settles, TurnOf, TakesTurn}
-use Rattle.rv_desk.specs.Seated.{Assures}
-use Rattle.rv_desk.specs.Settling.{HasSettled}
+use Rattle.rv_doubt.specs.Kept.{Assures}
+use Rattle.rv_doubt.specs.Settling.{HasSettled}
 
 -- nothing in doubt settles as the book that it is
 pub none_settles : (book : Book) (doubt : Doubt) (settled : Book) → doubt ≡ None → Settles book doubt settled → settled ≡ book

@@ -32,7 +32,8 @@ pub struct Desk<K: Keeper> {
 impl<K: Keeper> Model for Desk<K> {
     ghost use Rattle.std.specs.Prelude.{option_map};
     ghost use Rattle.rv_state.specs.Ready.{next_of};
-    ghost use Rattle.rv_desk.specs.Seated.{Seated, AreInStep, LeavesInStep};
+    ghost use Rattle.rv_doubt.specs.Kept.{AreInStep, LeavesInStep};
+    ghost use Rattle.rv_desk.specs.Seated.{Seated};
 
     ghost Value = { Seated K };
 
@@ -51,7 +52,8 @@ impl<K: Keeper> Desk<K> {
     ghost use Rattle.rv_news.specs.Records.{AreRecords};
     ghost use Rattle.rv_opening.specs.PageCells.{PartsFit};
     ghost use Rattle.rv_record.specs.EntryReading.{EntryFits};
-    ghost use Rattle.rv_desk.specs.Seated.{DeskKeeps, HoldsBook, IsSoundDesk, KeepsBook, LeavesBook};
+    ghost use Rattle.rv_doubt.specs.Kept.{HoldsBook, KeepsBook, LeavesBook};
+    ghost use Rattle.rv_desk.specs.Seated.{DeskKeeps, IsSoundDesk};
 
     /// The desk of the book that the keeper holds, which takes at most so many entries. Whatever is kept is left as it is. The
     /// refusals give the keeper back: the keeper failed, and its count of faults rose; the cells are not just those of a lawful

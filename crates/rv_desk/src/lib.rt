@@ -7,8 +7,6 @@
 
 mod closing;
 mod desk;
-mod doubt;
-mod keeping;
 mod mutating;
 mod open_fault;
 mod pulling;

@@ -3,14 +3,15 @@ ghost use Rattle.std.specs.Prelude.{◌≡◌, ◌+◌, None};
 ghost use Rattle.rv_book.specs.Book.{last};
 ghost use Rattle.rv_history.specs.Machine.{TakesMutation};
 ghost use Rattle.rv_turns.specs.Asks.{Ask};
-ghost use Rattle.rv_desk.specs.Keeping.{keep_trouble};
-ghost use Rattle.rv_desk.specs.Seated.{Assures, served};
+ghost use Rattle.rv_doubt.specs.Keeping.{keep_trouble};
+ghost use Rattle.rv_doubt.specs.Kept.{Assures};
+ghost use Rattle.rv_desk.specs.Seated.{served};
 ghost use Rattle.rv_desk.specs.Stepping.{HasStepped};
 
 use crate::desk::Desk;
-use crate::keeping::keep;
 use rv_base::{Fault, Id, Num, User};
 use rv_book::Found;
+use rv_doubt::keep;
 use rv_history::{Admission, Numbering, admits, numbering_of};
 use rv_keeper::Keeper;
 use rv_rows::Call;

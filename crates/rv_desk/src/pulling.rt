@@ -8,14 +8,15 @@ ghost use Rattle.rv_history.specs.Machine.{IsUnchanged, next_order};
 ghost use Rattle.rv_history.specs.Reading.{pull_entries};
 ghost use Rattle.rv_news.specs.News.{IsNews};
 ghost use Rattle.rv_turns.specs.Asks.{Ask};
-ghost use Rattle.rv_desk.specs.Keeping.{keep_trouble};
-ghost use Rattle.rv_desk.specs.Seated.{Assures, served};
+ghost use Rattle.rv_doubt.specs.Keeping.{keep_trouble};
+ghost use Rattle.rv_doubt.specs.Kept.{Assures};
+ghost use Rattle.rv_desk.specs.Seated.{served};
 ghost use Rattle.rv_desk.specs.Stepping.{HasStepped};
 
 use crate::desk::Desk;
-use crate::keeping::keep;
 use rv_base::{Fault, Num, Steps, User};
 use rv_book::Found;
+use rv_doubt::keep;
 use rv_history::{Admission, admits, next_order};
 use rv_keeper::Keeper;
 use rv_news::News;

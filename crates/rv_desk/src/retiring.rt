@@ -5,13 +5,14 @@ ghost use Rattle.rv_book.specs.Book.{size};
 ghost use Rattle.rv_history.specs.Lawful.{IsLawfulAfter};
 ghost use Rattle.rv_history.specs.Served.{Next};
 ghost use Rattle.rv_turns.specs.Asks.{Ask};
-ghost use Rattle.rv_desk.specs.Keeping.{IsKept, keep_trouble};
-ghost use Rattle.rv_desk.specs.Seated.{Assures, served};
+ghost use Rattle.rv_doubt.specs.Keeping.{IsKept, keep_trouble};
+ghost use Rattle.rv_doubt.specs.Kept.{Assures};
+ghost use Rattle.rv_desk.specs.Seated.{served};
 ghost use Rattle.rv_desk.specs.Stepping.{HasStepped};
 
 use crate::desk::Desk;
-use crate::keeping::keep;
 use rv_base::{Fault, Id, Num};
+use rv_doubt::keep;
 use rv_keeper::Keeper;
 use rv_turns::{Outcome, Refusal, Which};
 

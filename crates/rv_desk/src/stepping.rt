@@ -2,8 +2,9 @@
 ghost use Rattle.std.specs.Prelude.{◌≡◌, ◌≤◌, ◌+◌, None};
 ghost use Rattle.rv_history.specs.Reading.{turn_entries};
 ghost use Rattle.rv_turns.specs.Asks.{ask_of};
-ghost use Rattle.rv_desk.specs.Keeping.{keep_trouble};
-ghost use Rattle.rv_desk.specs.Seated.{Assures, DeskTakes, KeepsBook, served};
+ghost use Rattle.rv_doubt.specs.Keeping.{keep_trouble};
+ghost use Rattle.rv_doubt.specs.Kept.{Assures, KeepsBook};
+ghost use Rattle.rv_desk.specs.Seated.{DeskTakes, served};
 ghost use Rattle.rv_desk.specs.Stepping.{HasStepped};
 
 use crate::desk::Desk;

@@ -6,7 +6,7 @@ use Rattle.rv_keeper.specs.declared.loaded.Loaded.{Loaded}
 use Rattle.rv_book.specs.Book.{Book, size}
 use Rattle.rv_store.specs.Opening.{MayOpen}
 use Rattle.rv_desk.specs.Opened.{WasLoaded, IsDamagedIn, IsLeft}
-use Rattle.rv_desk.specs.Seated.{LeavesBook}
+use Rattle.rv_doubt.specs.Kept.{LeavesBook}
 use Rattle.rv_report.specs.declared.check_answer.CheckAnswer.{CheckAnswer}
 use Rattle.rv_report.specs.declared.check_answer.CheckAnswer.TheVariants.{Sound, Damaged, Keeper, Memory}
 

@@ -17,8 +17,9 @@ use Rattle.rv_history.specs.TurnLaws.{Adds, step_adds}
 use Rattle.rv_history.specs.Reading.{turn_entries}
 use Rattle.rv_history.specs.Served.{Doubt, IsNoClosing, Next, Served, Settles, TurnOf, TakesTurn}
 use Rattle.rv_keeper.specs.declared.keeper.Keeper.{Ghosts}
-use Rattle.rv_desk.specs.Seated.{Assures, DeskTakes, KeepsBook, Seated, served}
-use Rattle.rv_desk.specs.Settling.{HasSettled, settle_trouble}
+use Rattle.rv_doubt.specs.Kept.{Assures, KeepsBook}
+use Rattle.rv_desk.specs.Seated.{DeskTakes, Seated, served}
+use Rattle.rv_doubt.specs.Settling.{HasSettled, settle_trouble}
 use Rattle.rv_desk.specs.TurnLaws.{assures_on, no_doubt, none_settles, turn_after, turn_unsettled}
 use Rattle.rv_room.specs.declared.view.SeatView.{SeatView}
 use Rattle.rv_room.specs.Following.{KeeperFollows, FollowsAll, follows_on}

@@ -10,8 +10,9 @@ use Rattle.rv_turns.specs.declared.outcome.Outcome.{Outcome}
 use Rattle.rv_turns.specs.declared.outcome.Outcome.TheVariants.{Acted}
 use Rattle.rv_state.specs.Ready.{next_of}
 use Rattle.rv_wire.specs.Answers.{pull_json}
-use Rattle.rv_desk.specs.Keeping.{IsKept}
-use Rattle.rv_desk.specs.Seated.{Seated, parts_served, served}
+use Rattle.rv_doubt.specs.Keeping.{IsKept}
+use Rattle.rv_doubt.specs.Kept.{parts_served}
+use Rattle.rv_desk.specs.Seated.{Seated, served}
 use Rattle.rv_desk.specs.Stepping.{HasStepped}
 use Rattle.rv_desk.proofs.Settled.{in_step_after, kept_after, kept_ok, not_kept}
 use Rattle.rv_desk.proofs.desk.Desk.act.Goals.{in-Ok, in-Err}

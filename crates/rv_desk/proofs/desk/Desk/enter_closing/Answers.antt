@@ -8,7 +8,8 @@ use Rattle.rv_turns.specs.declared.outcome.Outcome.TheVariants.{Closed}
 use Rattle.rv_wire.specs.Answers.{pull_json}
 use Rattle.rv_history.specs.Machine.{Step}
 use Rattle.rv_history.specs.Served.{with_next}
-use Rattle.rv_desk.specs.Seated.{Seated, parts_served, served}
+use Rattle.rv_doubt.specs.Kept.{parts_served}
+use Rattle.rv_desk.specs.Seated.{Seated, served}
 use Rattle.rv_desk.specs.Stepping.{HasStepped}
 use Rattle.rv_desk.proofs.Settled.{closing_steps, kept_ok, not_kept}
 use Rattle.rv_desk.proofs.desk.Desk.enter_closing.Goals.{in-Ok, in-Err}

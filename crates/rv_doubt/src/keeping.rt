@@ -1,7 +1,7 @@
 // Keeping what is prepared: the changes of cells that it makes are committed, and then it is entered.
 ghost use Rattle.std.specs.Prelude.{◌≡◌, None};
-ghost use Rattle.rv_desk.specs.Keeping.{IsKept, keep_trouble};
-ghost use Rattle.rv_desk.specs.Seated.{Assures, AreInStep, LeavesInStep, parts_served};
+ghost use Rattle.rv_doubt.specs.Keeping.{IsKept, keep_trouble};
+ghost use Rattle.rv_doubt.specs.Kept.{Assures, AreInStep, LeavesInStep, parts_served};
 ghost use Rattle.rv_state.specs.Ready.{IsPrepared, next_of};
 
 use crate::doubt::leave_in_doubt;
@@ -11,9 +11,9 @@ use rv_state::{Prepared, State};
 use rv_store::changes_for;
 use std::alloc::Global;
 
-// Commits what is changed, and enters what is prepared. All memory is taken before the commit. Where the keeper fails, it is in
-// doubt.
-pub(crate) fn keep<K: Keeper>(
+/// Commits what is changed, and enters what is prepared. All memory is taken before the commit. Where the keeper fails, it is in
+/// doubt.
+pub fn keep<K: Keeper>(
     alloc: Global,
     state: &mut State,
     doubt: &mut Option<Prepared>,

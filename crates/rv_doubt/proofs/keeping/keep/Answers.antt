@@ -1,8 +1,8 @@
 use Rattle.std.proofs.Common.{◌∙◌, ap, refl}
 use Rattle.rv_book.specs.Book.{size}
-use Rattle.rv_desk.proofs.Holding.{left_entered, left_in_doubt}
-use Rattle.rv_desk.proofs.Leaving.{settled_in_step, left_where_it_failed, left_as_before}
-use Rattle.rv_desk.proofs.keeping.keep.Goals as goal
+use Rattle.rv_doubt.proofs.Holding.{left_entered, left_in_doubt}
+use Rattle.rv_doubt.proofs.Leaving.{settled_in_step, left_where_it_failed, left_as_before}
+use Rattle.rv_doubt.proofs.keeping.keep.Goals as goal
 
 pub returns-in-Ok-clause-in_step : goal.returns-in-Ok-clause-in_step
 returns-in-Ok-clause-in_step g c =

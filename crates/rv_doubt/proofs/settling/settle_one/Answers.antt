@@ -1,7 +1,7 @@
 use Rattle.std.proofs.Common.{rules, refl, ◌≡◌, ◌+◌}
 use Rattle.rv_book.specs.Book.{size}
-use Rattle.rv_desk.proofs.Leaving.{settled_in_step, dropped_in_step, entered_in_step}
-use Rattle.rv_desk.proofs.settling.settle_one.Goals as goal
+use Rattle.rv_doubt.proofs.Leaving.{settled_in_step, dropped_in_step, entered_in_step}
+use Rattle.rv_doubt.proofs.settling.settle_one.Goals as goal
 
 pub returns-then-found-kept-clause-left : goal.returns-then-found-kept-clause-left
 returns-then-found-kept-clause-left g c =

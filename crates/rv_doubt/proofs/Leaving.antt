@@ -12,8 +12,8 @@ use Rattle.rv_store.specs.StoreCells.{IsKeptWith}
 use Rattle.rv_state.specs.declared.prepared.Prepared.{Prepared}
 use Rattle.rv_state.specs.Ready.{IsPrepared, next_of}
 use Rattle.rv_state.specs.Standing.{Standing}
-use Rattle.rv_desk.specs.Seated.{AreInStep, HoldsBook, LeavesBook, LeavesInStep}
-use Rattle.rv_desk.proofs.Holding.{Leads, kept_next, kept_surely}
+use Rattle.rv_doubt.specs.Kept.{AreInStep, HoldsBook, LeavesBook, LeavesInStep}
+use Rattle.rv_doubt.proofs.Holding.{Leads, kept_next, kept_surely}
 
 -- where the keeper tells, what it holds is all that a crash may leave
 pub settled_in_step : (state : Standing) (doubt : Option Prepared) (Tells Honest : Type 0) (Holds : Loaded → Type 0) (Leaves : Option Loaded → Type 0) → (Honest → Tells) → AreInStep state doubt Tells Holds → (Tells → IsSettled Holds Leaves) → LeavesInStep state doubt Honest Leaves

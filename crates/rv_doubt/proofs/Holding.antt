@@ -14,7 +14,7 @@ use Rattle.rv_store.specs.StoreCells.{AreCellsOf, IsKeptAs, IsKeptWith}
 use Rattle.rv_state.specs.declared.prepared.Prepared.{Prepared}
 use Rattle.rv_state.specs.Ready.{IsPrepared, next_of}
 use Rattle.rv_state.specs.Standing.{Standing}
-use Rattle.rv_desk.specs.Seated.{AreInStep, HoldsBook}
+use Rattle.rv_doubt.specs.Kept.{AreInStep, HoldsBook}
 
 -- the changes make of the book's cells those of the book with what is entered
 abbrev pub Leads : Book → Next → List Change → Type 0
