@@ -1,12 +1,9 @@
 pub mod Going
 pub mod Taken
 pub mod Ended
-pub mod LawfulRuns
 pub mod Taking
 pub mod Storing
 pub mod Serving
-pub mod ServedRuns
-pub mod Troubled
 pub mod Fed
 pub mod Sound
 mod Inputs

@@ -26,7 +26,7 @@ use Rattle.rv_cli.specs.Replying.{Replies}
 use Rattle.rv_cli.specs.Steadiness.{DeskKeepsSteady, LineKeepsSteady}
 use Rattle.rv_cli.specs.Feeding.{Restarts, RestartsOrNot, ServesOrNot, StandsAs, desk_taker}
 use Rattle.rv_cli.specs.RunLaws.{desk_stands}
-use Rattle.rv_cli.proofs.Troubled.{any_step_causes, takes_cause}
+use Rattle.rv_cli.specs.TroubleLaws.{any_step_causes, takes_cause}
 use Rattle.rv_turns.specs.Asks.{Ask}
 use Rattle.rv_turns.specs.Outcomes.{IsChanged, trouble_of}
 use Rattle.rv_turns.specs.declared.outcome.Outcome.{Outcome}

@@ -6,6 +6,7 @@ pub mod LineRunLaws
 pub mod Headline
 pub mod Feeding
 pub mod RunLaws
+pub mod TroubleLaws
 pub mod Storing
 pub mod Steadiness
 pub mod Replying

@@ -14,7 +14,6 @@ mod import;
 mod import_ending;
 mod input;
 mod input_fault;
-pub mod laws;
 mod line;
 mod line_taker;
 mod lines;

@@ -1,3 +1,5 @@
+pub mod LawfulRuns
+pub mod ServedRuns
 pub mod FedLaws
 pub mod FedRuns
 pub mod ServeRuns

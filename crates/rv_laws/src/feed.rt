@@ -16,21 +16,21 @@ pub fn feeds_are_runs<P: Place, S: Source, O: Sink>()
 pub fn books_are_lawful<P: Place>()
     ensures { FedBooksAreLawful P.Place }
 {
-    rv_cli::laws::books_are_lawful();
+    crate::runs::books_are_lawful();
 }
 
 /// The patch of each pull that it answers, applied to the view that its cookie names, gives exactly what its user sees at that point.
 pub fn pulls_are_shown<P: Place>()
     ensures { FedPullsAreShown P.Place }
 {
-    rv_cli::laws::pulls_are_shown();
+    crate::runs::pulls_are_shown();
 }
 
 /// Where the place's count of faults stayed, and stands below its last value, no answer tells a trouble with what keeps the book.
 pub fn troubles_have_causes<P: Place>()
     ensures { FedTroublesHaveCauses P.Place }
 {
-    rv_cli::laws::troubles_have_causes();
+    crate::runs::troubles_have_causes();
 }
 
 /// Each mutation of a push that was answered as done stands in the book at the end, as an act of its user, group and client with its id;
@@ -38,8 +38,8 @@ pub fn troubles_have_causes<P: Place>()
 pub fn pushes_stand<P: Place>()
     ensures { FedPushesStand P.Place }
 {
-    rv_cli::laws::books_are_lawful();
-    rv_cli::laws::steps_stand();
+    crate::runs::books_are_lawful();
+    crate::runs::steps_stand();
     rv_history::laws::mutations_stay();
 }
 
@@ -48,8 +48,8 @@ pub fn pushes_stand<P: Place>()
 pub fn clients_follow<P: Place>()
     ensures { FedClientsFollow P.Place }
 {
-    rv_cli::laws::books_are_lawful();
-    rv_cli::laws::steps_show();
+    crate::runs::books_are_lawful();
+    crate::runs::steps_show();
     rv_history::laws::closed_books_are_successive();
     rv_history::laws::clients_follow_on();
 }

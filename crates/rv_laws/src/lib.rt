@@ -7,4 +7,5 @@
 
 pub mod feed;
 pub mod listeners;
+pub mod runs;
 pub mod serve;

@@ -23,7 +23,7 @@ pub fn serves_are_runs<
 pub fn books_are_lawful<K: Keeper, P: Place<Kept = K>, L: Listen, N: Net<Listen = L>>()
     ensures { ServeBooksAreLawful P.Place K.Keeper N.Net L.Listen L.In.Source L.Out.Sink }
 {
-    rv_cli::laws::served_books_are_lawful::<K, L>();
+    crate::listeners::books_are_lawful::<K, L>();
 }
 
 /// The patch of each pull that was answered, applied to the view that its cookie names, gives exactly what its user sees at a point of that
@@ -31,21 +31,21 @@ pub fn books_are_lawful<K: Keeper, P: Place<Kept = K>, L: Listen, N: Net<Listen 
 pub fn pulls_are_shown<K: Keeper, P: Place<Kept = K>, L: Listen, N: Net<Listen = L>>()
     ensures { ServePullsAreShown P.Place K.Keeper N.Net L.Listen L.In.Source L.Out.Sink }
 {
-    rv_cli::laws::served_pulls_are_shown::<K, L>();
+    crate::listeners::pulls_are_shown::<K, L>();
 }
 
 /// Where the place's count of faults stayed, and stands below its last value, no answer tells a trouble with what keeps the book.
 pub fn troubles_have_causes<K: Keeper, P: Place<Kept = K>, L: Listen, N: Net<Listen = L>>()
     ensures { ServeTroublesHaveCauses P.Place K.Keeper N.Net L.Listen L.In.Source L.Out.Sink }
 {
-    rv_cli::laws::served_troubles_have_causes::<K, L>();
+    crate::listeners::troubles_have_causes::<K, L>();
 }
 
 /// Where the place tells, no answer says that another changed what is kept.
 pub fn keepers_stay<K: Keeper, P: Place<Kept = K>, L: Listen, N: Net<Listen = L>>()
     ensures { ServeKeepersStay P.Place K.Keeper N.Net L.Listen L.In.Source L.Out.Sink }
 {
-    rv_cli::laws::served_keepers_stay::<K, L>();
+    crate::listeners::keepers_stay::<K, L>();
 }
 
 /// Each mutation of a push that was answered as done stands in the book at the end, as an act of its user, group and client with its id;
@@ -61,6 +61,6 @@ pub fn pushes_stand<K: Keeper, P: Place<Kept = K>, L: Listen, N: Net<Listen = L>
 pub fn clients_follow<K: Keeper, P: Place<Kept = K>, L: Listen, N: Net<Listen = L>>()
     ensures { ServeClientsFollow P.Place K.Keeper N.Net L.Listen L.In.Source L.Out.Sink }
 {
-    rv_cli::laws::served_books_are_lawful::<K, L>();
+    crate::listeners::books_are_lawful::<K, L>();
     crate::listeners::clients_follow::<K, L>();
 }

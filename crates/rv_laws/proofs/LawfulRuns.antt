@@ -17,7 +17,7 @@ use Rattle.rv_answering.specs.AnswerLaws.{no_push, pulled_same, went}
 use Rattle.rv_answering.specs.Steps.{answer_of}
 use Rattle.rv_history.specs.Succession.{goes_on_same, goes_on_through}
 use Rattle.rv_cli.specs.Headline.{Handles, Reopens, TakesLine, Run, ShowsAt, IsLawfulFeed, IsShown}
-use Rattle.rv_cli.proofs.Troubled.{any_step_causes}
+use Rattle.rv_cli.specs.TroubleLaws.{any_step_causes}
 use Rattle.rv_wire.specs.Answers.{pull_json}
 use Rattle.rv_turns.specs.declared.pull.PullRequest.{PullRequest}
 use Rattle.rv_turns.specs.declared.pull.PullReply.{PullReply}

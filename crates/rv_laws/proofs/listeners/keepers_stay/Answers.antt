@@ -1,5 +1,5 @@
-use Rattle.rv_cli.proofs.ServedRuns.{keepers_stay}
-use Rattle.rv_cli.proofs.laws.served_keepers_stay.Goals as goal
+use Rattle.rv_laws.proofs.ServedRuns.{keepers_stay}
+use Rattle.rv_laws.proofs.listeners.keepers_stay.Goals as goal
 
 pub returns : goal.returns
 returns g c = λ accounts. keepers_stay g.K.Keeper g.L.Listen g.L.In.Source g.L.Out.Sink accounts

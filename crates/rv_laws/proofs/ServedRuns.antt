@@ -27,8 +27,8 @@ use Rattle.rv_workers.specs.Serving.{EachServes}
 use Rattle.rv_cli.specs.Headline.{AnswersChange, AnswersTrouble}
 use Rattle.rv_cli.specs.Serving.{IsShownIn, ServedBooksAreLawful, ServedKeepersStay, ServedPullsAreShown, ServedTroublesHaveCauses, Serves, ShowsIn, StandsIn, TurnsStand, turns_served}
 use Rattle.rv_answering.specs.AnswerLaws.{no_push, pulled_same}
-use Rattle.rv_cli.proofs.LawfulRuns.{no_retirement, pulled_shown}
-use Rattle.rv_cli.proofs.Troubled.{HasTrouble, any_step_causes, taken_rises, turns_each, turns_later}
+use Rattle.rv_laws.proofs.LawfulRuns.{no_retirement, pulled_shown}
+use Rattle.rv_cli.specs.TroubleLaws.{HasTrouble, any_step_causes, taken_rises, turns_each, turns_later}
 use Rattle.rv_wire.specs.Answers.{pull_json}
 use Rattle.rv_turns.specs.Asks.{Ask}
 use Rattle.rv_turns.specs.Outcomes.{IsChanged, trouble_of}
