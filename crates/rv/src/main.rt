@@ -5,7 +5,7 @@
 use rv_base::{Reading, Writing, write_all};
 use rv_cli::run;
 use rv_net::{Listen, Net, PokeListen, TcpNet};
-use rv_place::HostPlace;
+use rv_place::{FileOpener, RunPlace, Start, Unknown, close_store};
 use rv_poke::PokeLink;
 use rv_workers::{Bells, Threaded};
 use std::alloc::Global;
@@ -24,24 +24,25 @@ fn words(rt: &HostRuntime, alloc: Global) -> io::Result<Vec<String>> {
     Ok(words)
 }
 
-// Does what the words say over a net, with the machine's threads, stores and standard streams.
-fn run_over<R: Threads + Wait + Sync, N: Net>(
+// Does what the words say over a net, with the machine's threads, stores and standard streams, whatever the file of the store holds.
+fn run_over<R: Threads + Wait + Sync, N: Net, S: Start + Send>(
     rt: &HostRuntime,
     threads: &R,
     words: &[String],
     net: &mut N,
+    start: S,
 ) -> u8
 where
     <N::Listen as Listen>::In: Send,
     <N::Listen as Listen>::Out: Send,
     <N::Pokes as PokeListen>::Link: PokeLink + Send,
 {
-    let mut place = HostPlace::new(rt);
+    let mut place = RunPlace::new(rt.alloc(), FileOpener::new(rt), start);
     let mut input = Reading::new(rt.reader());
     let mut output = Writing::new(io::writer(rt));
     let bells = Bells::new();
     let mut crew = Threaded::new(threads, &bells);
-    run(
+    let status = run(
         rt.alloc(),
         threads,
         words,
@@ -50,7 +51,11 @@ where
         &mut output,
         net,
         &mut crew,
-    )
+    );
+    if let Some(kept) = place.into_keeper() {
+        close_store(kept);
+    }
+    status
 }
 
 // Memory was refused in reading the words.
@@ -67,5 +72,5 @@ fn main(rt: HostRuntime) -> ExitCode {
         Err(_) => Vec::new(rt.alloc()),
     };
     let mut net = TcpNet::new(&rt);
-    ExitCode::from(run_over(&rt, &rt, &words, &mut net))
+    ExitCode::from(run_over(&rt, &rt, &words, &mut net, Unknown))
 }

@@ -254,6 +254,8 @@ impl Place for MemoryPlace {
 
     ghost accounts = { place_file };
 
+    ghost knows_files = { Unit };
+
     ghost faults = { λ s. s.faults };
 
     // No opening that is to come fails, and no call of a keeper that is to be given.

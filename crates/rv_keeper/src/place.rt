@@ -34,6 +34,9 @@ pub trait Place {
     /// The accounts file of this name has these bytes. It is said where the place tells.
     ghost accounts: { Self → List ℕ → List ℕ → Type 0 };
 
+    /// A place of this type knows what its accounts files have before they are read.
+    ghost knows_files: { Type 0 };
+
     /// How often a call has failed, and how many keepers came back that had failed. It stands still at 2^64 - 1.
     ghost faults: { Self → ℕ };
 
@@ -93,7 +96,7 @@ pub trait Place {
         ensures tells { tells self.new → tells self.old }
         ensures honest { honest self.new → honest self.old }
         ensures reads { tells self.new → (file : List ℕ) → accounts self.old name.now file → IfOk result (λ bytes. bytes ≡ file) }
-        ensures there { tells self.new → IfOk result (λ bytes. accounts self.old name.now bytes) }
+        ensures there { knows_files → tells self.new → IfOk result (λ bytes. accounts self.old name.now bytes) }
         ensures stays { tells self.new → PlaceStays holds may_leave is_out has accounts self.old self.new }
         ensures cause { HasKeepCause (faults self.old) (faults self.new) result }
         ensures steady { fails_no_more self.old → CallIsSteady (fails_no_more self.new) ((file : List ℕ) × accounts self.old name.now file) result };

@@ -1,1 +1,3 @@
-pub mod Sends
+pub mod Opening
+pub mod Given
+pub mod Adopted

@@ -1,2 +1,6 @@
+pub mod Files
+pub mod FileLaws
 pub mod Stored
 pub mod StoredLaws
+pub mod Places
+pub mod PlaceLaws

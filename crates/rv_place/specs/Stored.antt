@@ -8,6 +8,8 @@ use Rattle.rv_keeper.specs.Keeping.{holding}
 use Rattle.rv_keeper.specs.Schedules.{KeeperFailsNoMore}
 use Rattle.rv_place.specs.declared.store_keeper.StoreKeeper.{StoreKeeper}
 use Rattle.rv_place.specs.declared.store_keeper.StoreKeeper.TheVariants.{Memory, Sqlite}
+use Rattle.sqlite_wal.specs.Recovery.{Image}
+use Rattle.rv_place.specs.Files.{FilesHold}
 use Rattle.rv_sqlite.specs.Asked.{FindsGeneration}
 use Rattle.rv_sqlite.specs.Loads.{LoadsTable}
 use Rattle.rv_sqlite.specs.Telling.{Holds, MayLeave, Tells}
@@ -69,3 +71,8 @@ StoredFinds g (Memory old) (Memory new) number = Unit {0}
 StoredFinds g (Sqlite old) (Sqlite new) number = HasCleanDisk (state g new.connection) → FindsGeneration g old.connection number
 StoredFinds g (Memory old) (Sqlite new) number = ⊥
 StoredFinds g (Sqlite old) (Memory new) number = ⊥
+
+-- The keeper that was given holds what the store's file and its log held, where it tells. The store `memory` holds nothing.
+pub record IsGiven {S : Type 0} {g : Ghosts S} (image : Image) (name : List ℕ) (keeper : StoreKeeper S g) : Type 0 where
+  pub fresh : IsFresh name keeper
+  pub found : name ≢ codes "memory" → StoredTells keeper → (held : Loaded) → FilesHold image held → StoredHolds keeper held

@@ -1,14 +1,20 @@
-//! The stores of this machine: memory, and the files of the file system.
+//! The stores of a run: memory, and the files of the file system.
 //!
 //! What keeps a store is a [`StoreKeeper`]: memory, which tells what it holds, or a SQLite database, which tells it where its keeper does.
-//! [`HostPlace`] gives the keepers of stores by their names, each a [`HostKeeper`], and reads accounts files. What its stores hold and
-//! its files have is not told: of it are proved safety, the causes of each answer, and which kind of keeper it gives for which name.
+//! [`RunPlace`] gives the keeper of the one store that a run opens, and takes it back; an [`Opener`] opens it. The machine's is
+//! [`FileOpener`]. Its type parameter stands for what the store's file and its log held, which no code reads: what is proved of a run is
+//! proved for all that they may have held.
 #![tactic(auto)]
 
-mod host_keeper;
-mod host_place;
+mod file_opener;
+mod opened;
+mod opener;
+mod run_place;
 mod store_keeper;
 
-pub use host_keeper::HostKeeper;
-pub use host_place::HostPlace;
+pub use file_opener::{FileOpener, close_store};
+pub use opened::Opened;
+pub use opener::Opener;
+pub use run_place::RunPlace;
+pub use sqlite::{Start, Unknown};
 pub use store_keeper::StoreKeeper;

@@ -68,24 +68,6 @@ impl<S: Alter> SqliteKeeper<S> {
         }
     }
 
-    /// The same keeper, as one of which no call has failed yet. No statement is run.
-    pub fn afresh(self) -> SqliteKeeper<S>
-        ensures { result ≡ record self { faults = 0 } }
-    {
-        let SqliteKeeper {
-            alloc,
-            connection,
-            faults: _,
-            is_known,
-        } = self;
-        SqliteKeeper {
-            alloc,
-            connection,
-            faults: 0,
-            is_known,
-        }
-    }
-
     /// The connection.
     pub fn into_connection(self) -> Connection<S>
         ensures { result ≡ self.connection }

@@ -3,18 +3,14 @@ use crate::answering::{fed, held_text};
 use crate::failing::FailingKeeper;
 use crate::feeding::{draw_all, plan_of, played_over};
 use crate::schedules::{Troubles, schedule, troubles_of};
-use rv_base::{Bytes, Memory};
-use rv_database::DatabasePlace;
-use rv_keeper::{Keeper, MemoryKeeper, Place};
+use rv_base::Memory;
+use rv_keeper::{Keeper, MemoryKeeper};
 use rv_sqlite::SqliteKeeper;
 use sqlite::{Connection, FileStore, Files, Options};
 use sqlite_disk::Memory as MemoryDisk;
 use std::alloc::Global;
 use trial_stage::Part::Text;
 use trial_stage::joined;
-
-// The name of the store.
-const NAME: &str = "kept";
 
 // A store that a database on two disks in memory keeps.
 type Store = FileStore<MemoryDisk>;
@@ -31,14 +27,9 @@ fn on_disks(alloc: Global) -> Result<Connection<Store>, Memory> {
     }
 }
 
-// The keeper that the place of such a database gives.
+// The keeper of such a database.
 fn given(alloc: Global) -> Result<SqliteKeeper<Store>, Memory> {
-    let name = Bytes::from_vec(Vec::from_slice(alloc, NAME.as_bytes())?);
-    let keeper = SqliteKeeper::adopt(alloc, on_disks(alloc)?);
-    match DatabasePlace::new(name, keeper).open_keeper(NAME) {
-        Ok(keeper) => Ok(keeper),
-        Err(_) => Err(Memory),
-    }
+    Ok(SqliteKeeper::adopt(alloc, on_disks(alloc)?))
 }
 
 // What lines were answered, and what the store then held.

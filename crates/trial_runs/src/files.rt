@@ -1,9 +1,10 @@
 // Runs over the files of the folder.
 use crate::case::Case;
-use crate::machine::Machine;
-use crate::running::{Pieces, run_alone};
+use crate::machine::{leave, machine, run_here};
+use crate::running::Pieces;
 use rv_base::{Fault, Memory};
 use rv_keeper::Place;
+use rv_net::MemoryNet;
 use std::alloc::Global;
 use std::sync::Wait;
 use std::thread::Threads;
@@ -66,31 +67,32 @@ fn add_line(alloc: Global, case: &mut Case, text: &str) -> Result<String, Memory
 }
 
 // `rv WORD ..`: runs these words over the lines since the last run, and prints what was written and the status.
-fn run_words<R: Threads + Wait + Sync, P: Place>(
+fn run_words<R: Threads + Wait + Sync>(
     stage: &Stage<'_, R>,
     case: &mut Case,
-    place: &mut P,
     line: &str,
 ) -> Result<String, Memory> {
     let alloc = stage.host.alloc();
     case.say(alloc, line)?;
     let input = mem::replace(&mut case.input, Vec::new(alloc));
-    run_alone(stage, &case.words, place, &input, Pieces::of(100_000))?.joined(alloc)
+    let mut net = MemoryNet::new(alloc, Vec::new(alloc), Vec::new(alloc), Vec::new(alloc))?;
+    run_here(stage, &case.words, &input, Pieces::of(100_000), &mut net)?.joined(alloc)
 }
 
-// `while-open STORE`: feeds the store while another place has its keeper out.
-fn run_beside<R: Threads + Wait + Sync, P: Place>(
+// `while-open STORE`: feeds the store while its keeper is out elsewhere.
+fn run_beside<R: Threads + Wait + Sync>(
     stage: &Stage<'_, R>,
     case: &mut Case,
-    machine: &mut Machine<P>,
     store: &str,
 ) -> Result<String, Memory> {
     let alloc = stage.host.alloc();
     let line = joined(alloc, &[Text("rv feed "), Text(store)])?;
-    match machine.beside.open_keeper(store) {
+    let mut beside = machine(stage.host);
+    match beside.open_keeper(store) {
         Ok(kept) => {
-            let text = run_words(stage, case, &mut machine.place, line.as_str());
-            machine.beside.close_keeper(store, kept);
+            let text = run_words(stage, case, line.as_str());
+            beside.close_keeper(store, kept);
+            leave(beside);
             text
         }
         Err(_) => joined(alloc, &[Text("no keeper\n")]),
@@ -106,7 +108,9 @@ fn fault_text(fault: Fault) -> &'static str {
 }
 
 // `accounts FILE`: what a place reads of an accounts file; or why it reads none, and how many faults it counts for that.
-fn read_accounts<P: Place>(alloc: Global, place: &mut P, path: &str) -> Result<String, Memory> {
+fn read_accounts(rt: &HostRuntime, path: &str) -> Result<String, Memory> {
+    let alloc = rt.alloc();
+    let mut place = machine(rt);
     let before = place.fault_count();
     match place.read_accounts(path) {
         Ok(bytes) => {
@@ -123,18 +127,17 @@ fn read_accounts<P: Place>(alloc: Global, place: &mut P, path: &str) -> Result<S
 }
 
 // What a command prints.
-fn played<R: Threads + Wait + Sync, P: Place>(
+fn played<R: Threads + Wait + Sync>(
     stage: &Stage<'_, R>,
     case: &mut Case,
-    machine: &mut Machine<P>,
     command: Command,
     line: &str,
     rest: &str,
 ) -> Result<String, Memory> {
     match command {
-        Command::Run => run_words(stage, case, &mut machine.place, line),
-        Command::Accounts => read_accounts(stage.host.alloc(), &mut machine.place, rest),
-        Command::WhileOpen => run_beside(stage, case, machine, rest),
+        Command::Run => run_words(stage, case, line),
+        Command::Accounts => read_accounts(stage.host, rest),
+        Command::WhileOpen => run_beside(stage, case, rest),
         Command::Remember => remember(stage.host, case, rest),
         Command::Is => compare(stage.host, case, rest),
         Command::Line => add_line(stage.host.alloc(), case, rest),
@@ -142,15 +145,14 @@ fn played<R: Threads + Wait + Sync, P: Place>(
 }
 
 /// What a command on files prints, where it is one.
-pub fn answer<R: Threads + Wait + Sync, P: Place>(
+pub fn answer<R: Threads + Wait + Sync>(
     stage: &Stage<'_, R>,
     case: &mut Case,
-    machine: &mut Machine<P>,
     line: &str,
 ) -> Result<Option<String>, Memory> {
     let (word, rest) = first_word(line);
     match named(&COMMANDS, word) {
-        Some(command) => Ok(Some(played(stage, case, machine, command, line, rest)?)),
+        Some(command) => Ok(Some(played(stage, case, command, line, rest)?)),
         None => Ok(None),
     }
 }

@@ -19,10 +19,7 @@ mod views;
 mod words;
 
 use case::Case;
-use machine::Machine;
 use rv_base::Memory;
-use rv_keeper::Place;
-use rv_place::HostPlace;
 use std::alloc::Global;
 use std::io;
 use std::sync::Wait;
@@ -45,15 +42,14 @@ static SUBJECTS: [(&str, Subject); 4] = [
     ("words", Subject::Words),
 ];
 
-// The case that is played, and the stores of the machine.
+// The case that is played.
 #[derive(Drop)]
-struct Runs<P: Place> {
+struct Runs {
     subject: Subject,
     case: Case,
-    machine: Machine<P>,
 }
 
-impl<P: Place> Runs<P> {
+impl Runs {
     // Begins a case, with nothing left of those before it.
     fn begin(&mut self, alloc: Global) -> Result<(), Memory> {
         self.case = Case::new(alloc);
@@ -74,8 +70,8 @@ impl<P: Place> Runs<P> {
     ) -> Result<Option<String>, Memory> {
         match self.subject {
             Subject::Scripts => scripts::answer(stage, &mut self.case, line),
-            Subject::Files => files::answer(stage, &mut self.case, &mut self.machine, line),
-            Subject::Serving => serving::answer(stage, &mut self.machine, line),
+            Subject::Files => files::answer(stage, &mut self.case, line),
+            Subject::Serving => serving::answer(stage, line),
             Subject::Words => words::asked(stage.host.alloc(), line),
         }
     }
@@ -98,10 +94,7 @@ impl<P: Place> Runs<P> {
 }
 
 // Plays the lines of the input, one after another.
-fn play_lines<R: Threads + Wait + Sync, P: Place>(
-    stage: &Stage<'_, R>,
-    runs: &mut Runs<P>,
-) -> io::Result<()> {
+fn play_lines<R: Threads + Wait + Sync>(stage: &Stage<'_, R>, runs: &mut Runs) -> io::Result<()> {
     for line in stage.host.lines(stage.host.alloc()) {
         let line = line?;
         let answer = runs.answer(stage, line.as_str());
@@ -118,10 +111,6 @@ fn main(rt: HostRuntime) -> io::Result<()> {
     let mut runs = Runs {
         subject: Subject::Scripts,
         case: Case::new(rt.alloc()),
-        machine: Machine {
-            place: HostPlace::new(&rt),
-            beside: HostPlace::new(&rt),
-        },
     };
     play_lines(&stage, &mut runs)
 }

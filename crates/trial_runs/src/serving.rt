@@ -1,8 +1,7 @@
 // `serve` over listeners of connections and of links in memory, in threads.
-use crate::machine::Machine;
-use crate::running::{Pieces, failing, run_over};
+use crate::machine::run_here;
+use crate::running::{Pieces, failing};
 use rv_base::{Bytes, Memory, MemorySink, MemorySource};
-use rv_keeper::Place;
 use rv_net::{Conn, MemoryConn, MemoryListen, MemoryNet, MemoryStock, Wanted};
 use rv_poke::{First, MemoryLink};
 use std::alloc::Global;
@@ -151,9 +150,8 @@ fn bytes_of(rt: &HostRuntime, path: &str) -> Vec<u8> {
 /// and pulls, and so many of links, to each of which one comes, and of which this call fails. Prints of each kind what was wanted, how
 /// many listeners came back, are out and are left, and how many connections or links were served; and what the program wrote, with its
 /// status.
-pub fn answer<R: Threads + Wait + Sync, P: Place>(
+pub fn answer<R: Threads + Wait + Sync>(
     stage: &Stage<'_, R>,
-    machine: &mut Machine<P>,
     line: &str,
 ) -> Result<Option<String>, Memory> {
     let alloc = stage.host.alloc();
@@ -162,7 +160,7 @@ pub fn answer<R: Threads + Wait + Sync, P: Place>(
     let bytes = bytes_of(stage.host, REQUESTS);
     let mut net = net_of(alloc, plan, &bytes)?;
     let pieces = Pieces::of(1000);
-    let finished = run_over(stage, &words, &mut machine.place, b"", pieces, &mut net)?;
+    let finished = run_here(stage, &words, b"", pieces, &mut net)?;
     let line = finished.line(alloc)?;
     Ok(Some(told(alloc, &net, line.as_str())?))
 }
