@@ -1,10 +1,11 @@
 // Runs over the files of the folder.
 use crate::case::Case;
-use crate::machine::{leave, machine, run_here};
+use crate::machine::{accounts_here, run_here};
 use crate::running::Pieces;
 use rv_base::{Fault, Memory};
 use rv_keeper::Place;
 use rv_net::MemoryNet;
+use rv_place::{FileOpener, RunPlace, Start, Unknown, close_store};
 use std::alloc::Global;
 use std::sync::Wait;
 use std::thread::Threads;
@@ -76,23 +77,31 @@ fn run_words<R: Threads + Wait + Sync>(
     case.say(alloc, line)?;
     let input = mem::replace(&mut case.input, Vec::new(alloc));
     let mut net = MemoryNet::new(alloc, Vec::new(alloc), Vec::new(alloc), Vec::new(alloc))?;
-    run_here(stage, &case.words, &input, Pieces::of(100_000), &mut net)?.joined(alloc)
+    run_here(
+        stage,
+        &case.words,
+        &input,
+        Pieces::of(100_000),
+        &mut net,
+        Unknown,
+    )?
+    .joined(alloc)
 }
 
 // `while-open STORE`: feeds the store while its keeper is out elsewhere.
-fn run_beside<R: Threads + Wait + Sync>(
+fn run_beside<R: Threads + Wait + Sync, S: Start + Send>(
     stage: &Stage<'_, R>,
     case: &mut Case,
     store: &str,
+    start: S,
 ) -> Result<String, Memory> {
     let alloc = stage.host.alloc();
     let line = joined(alloc, &[Text("rv feed "), Text(store)])?;
-    let mut beside = machine(stage.host);
+    let mut beside = RunPlace::new(alloc, FileOpener::new(stage.host), start);
     match beside.open_keeper(store) {
         Ok(kept) => {
             let text = run_words(stage, case, line.as_str());
-            beside.close_keeper(store, kept);
-            leave(beside);
+            close_store(kept);
             text
         }
         Err(_) => joined(alloc, &[Text("no keeper\n")]),
@@ -110,16 +119,14 @@ fn fault_text(fault: Fault) -> &'static str {
 // `accounts FILE`: what a place reads of an accounts file; or why it reads none, and how many faults it counts for that.
 fn read_accounts(rt: &HostRuntime, path: &str) -> Result<String, Memory> {
     let alloc = rt.alloc();
-    let mut place = machine(rt);
-    let before = place.fault_count();
-    match place.read_accounts(path) {
+    let (read, faults) = accounts_here(rt, path, Unknown);
+    match read {
         Ok(bytes) => {
             let count = bytes.len() as u64;
             let text = text_of(bytes.as_slice());
             joined(alloc, &[Number(count), Text(" bytes\n"), Text(text)])
         }
         Err(fault) => {
-            let faults = place.fault_count().saturating_sub(before);
             let text = fault_text(fault);
             Ok(format!(in alloc; "{text}, faults {faults}\n")?)
         }
@@ -137,7 +144,7 @@ fn played<R: Threads + Wait + Sync>(
     match command {
         Command::Run => run_words(stage, case, line),
         Command::Accounts => read_accounts(stage.host, rest),
-        Command::WhileOpen => run_beside(stage, case, rest),
+        Command::WhileOpen => run_beside(stage, case, rest, Unknown),
         Command::Remember => remember(stage.host, case, rest),
         Command::Is => compare(stage.host, case, rest),
         Command::Line => add_line(stage.host.alloc(), case, rest),

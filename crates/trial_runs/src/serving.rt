@@ -3,6 +3,7 @@ use crate::machine::run_here;
 use crate::running::{Pieces, failing};
 use rv_base::{Bytes, Memory, MemorySink, MemorySource};
 use rv_net::{Conn, MemoryConn, MemoryListen, MemoryNet, MemoryStock, Wanted};
+use rv_place::Unknown;
 use rv_poke::{First, MemoryLink};
 use std::alloc::Global;
 use std::fs;
@@ -160,7 +161,7 @@ pub fn answer<R: Threads + Wait + Sync>(
     let bytes = bytes_of(stage.host, REQUESTS);
     let mut net = net_of(alloc, plan, &bytes)?;
     let pieces = Pieces::of(1000);
-    let finished = run_here(stage, &words, b"", pieces, &mut net)?;
+    let finished = run_here(stage, &words, b"", pieces, &mut net, Unknown)?;
     let line = finished.line(alloc)?;
     Ok(Some(told(alloc, &net, line.as_str())?))
 }
