@@ -1,5 +1,5 @@
 -- The table as a schema has it, and the texts of the statements that write into it.
-use Rattle.std.specs.Prelude.{◌≡◌, ◌⊎◌, true, false, [], ◌∷◌, None, codes, List, ℕ}
+use Rattle.std.specs.Prelude.{◌≡◌, ◌⊎◌, true, false, [], ◌∷◌, None, Some, codes, slice_get, List, ℕ}
 use Rattle.sqlite_value.specs.declared.value.Value.TheVariants.{Null}
 use Rattle.sqlite_value.specs.declared.keys.Collation.TheVariants.{Binary}
 use Rattle.sqlite_value.specs.Keys.{plain}
@@ -8,6 +8,7 @@ use Rattle.sqlite_schema.specs.declared.schema.Kind.{Kind}
 use Rattle.sqlite_schema.specs.declared.schema.Table.{Table}
 use Rattle.sqlite_schema.specs.declared.schema.Schema.{Schema}
 use Rattle.sqlite_schema.specs.declared.schema.Kind.TheVariants.{Integer, Blob}
+use Rattle.sqlite_schema.specs.Names.{table_named}
 use Rattle.sqlite_catalog.specs.Change.{created}
 
 -- a column that takes values of its kind alone, and no null
@@ -30,6 +31,14 @@ cell_table = record {
   stamps = record { places = []; terms = []; formats = [] };
   is_counted = false;
 }
+
+-- the table is of the form in which `cell` is made, wherever its rows stand
+abbrev pub HasCellForm : Table → Type 0
+HasCellForm table = table ≡ record cell_table { tree = table.tree }
+
+-- the schema has a table of the name, and it is of the form
+abbrev pub FindsForm : Schema → Type 0
+FindsForm schema = (at : ℕ) × (table : Table) × (table_named schema (codes "cell") ≡ Some at) × (slice_get schema.tables at ≡ Some table) × HasCellForm table
 
 -- the schema of a new database
 abbrev pub no_schema : Schema

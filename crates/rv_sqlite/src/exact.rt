@@ -2,16 +2,26 @@
 ghost use Rattle.std.specs.Prelude.{◌≡◌, ◌⊎◌, ◌↔◌, ◌∷◌, [], IsTrue};
 ghost use Rattle.sqlite_value.specs.Keys.{plain};
 ghost use Rattle.rv_sqlite.specs.Shape.{HasCellColumns, HasNoRules, cell_columns, cell_index};
-ghost use Rattle.rv_sqlite.specs.Table.{cell_schema, cell_table, no_schema, strict_column};
+ghost use Rattle.rv_sqlite.specs.Table.{HasCellForm, cell_schema, cell_table, no_schema, strict_column};
 
-use crate::table::is_column;
 use sqlite_items::Items;
 use sqlite_schema::code::Terms;
 use sqlite_schema::schema::{Column, Index, Kind, Schema, Stamps, Table};
-use sqlite_value::keys::Order;
+use sqlite_value::keys::{Collation, Order};
 use sqlite_value::value::Value;
 
-// A column of this name and kind that takes values of its kind alone, and no null, with no default.
+// A column of this name and kind that takes values of its kind alone, and no null.
+fn is_column(column: &Column, name: &[u8], kind: Kind) -> bool
+    ensures { IsTrue result ↔ (column.now ≡ record (strict_column name.now kind) { default = column.now.default }) }
+{
+    column.name.as_slice() == name
+        && column.kind == kind
+        && column.is_strict
+        && column.not_null
+        && column.collation == Collation::Binary
+}
+
+// The same, with no default.
 fn is_strict_column(column: &Column, name: &[u8], kind: Kind) -> bool
     ensures { IsTrue result ↔ (column.now ≡ strict_column name.now kind) }
 {
@@ -32,8 +42,8 @@ fn are_all_columns(columns: &[Column]) -> bool
     }
 }
 
-/// The columns 1 and 2: `shelf` and then `k`.
-pub(crate) fn is_key(places: &Items<usize>) -> bool
+// The columns 1 and 2: `shelf` and then `k`.
+fn is_key(places: &Items<usize>) -> bool
     ensures { IsTrue result ↔ (places.now ≡ 1 ∷ 2 ∷ []) }
 {
     places.as_slice() == [1, 2].as_slice()
@@ -95,14 +105,18 @@ fn has_no_rules(table: &Table) -> bool
         && !table.is_counted
 }
 
-// The table is `cell`.
+/// The table is of the form in which `cell` is made, wherever its rows stand.
+pub(crate) fn has_form(table: &Table) -> bool
+    ensures { IsTrue result ↔ HasCellForm table.now }
+{
+    table.name.as_slice() == b"cell".as_slice() && has_columns(table) && has_no_rules(table)
+}
+
+// The table is `cell`, and stands first.
 fn is_cell_table(table: &Table) -> bool
     ensures { IsTrue result ↔ (table.now ≡ cell_table) }
 {
-    table.name.as_slice() == b"cell".as_slice()
-        && table.tree == 0
-        && has_columns(table)
-        && has_no_rules(table)
+    table.tree == 0 && has_form(table)
 }
 
 // The index is the one that is made with the table.
