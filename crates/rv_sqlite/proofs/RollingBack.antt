@@ -7,7 +7,13 @@ use Rattle.sqlite.specs.Command.TheVariants.{Rollback}
 use Rattle.sqlite.specs.declared.error.Error.{Error}
 use Rattle.sqlite.specs.Does.{Tally, Does}
 use Rattle.sqlite.specs.Effect.{Database}
-use Rattle.sqlite.specs.State.{State, KeepsCommit, Executes, CommitsBy, MayCommit, text_of, mode_of}
+use Rattle.sqlite.specs.State.{State, KeepsCommit, Executes, ExecutesIn, CommitsBy, IsNoStatement, IsNotRun, IsUnchanged, MayCommit, RunsCommand, mode_of, shows_rows, store_error, text_of}
+use Rattle.sqlite.specs.declared.error.Error.TheVariants.{ExecuteReturnedResults, SqliteFailure}
+use Rattle.sqlite.specs.declared.error.ErrorCode.TheVariants.{TransactionState}
+use Rattle.sqlite_resolve.specs.declared.compiled.Compiled.{Compiled}
+use Rattle.sqlite_trees.specs.declared.error.StoreError.{StoreError}
+use Rattle.sqlite_trees.specs.declared.error.StoreError.TheVariants as stored
+use Rattle.std.specs.Prelude.{IfErr, MatchBool}
 use Rattle.sqlite.proofs.Callers.{IsPlain, command_of, runs_as}
 use Rattle.rv_sqlite.proofs.Kept.{error_keeps}
 use Rattle.rv_sqlite.proofs.Meaning.{rollback_is, rollback_plain}
@@ -36,3 +42,40 @@ rollback_commits s trees h =
       | inl ends ↦ elim ends.0 [ inl commit ↦ absurd (cc) | inr release ↦ absurd (let e = release.2 in cc) ]
       | inr writes ↦ does_nothing s (timed [] c.formats h.1.now) (text_of (codes "ROLLBACK") c) (writes.1, writes.2) (subst (λ r. Does s.step_limit (mode_of s) (timed [] c.formats h.1.now) s.now (text_of (codes "ROLLBACK") c) r Rollback (Ok (writes.1, writes.2))) plain writes.3)
     ]
+
+-- ---- Refused for the state of the transaction it is on a connection that is open.
+
+abbrev in_state : Error
+in_state = SqliteFailure TransactionState
+
+no_store_error : (cause : StoreError) → ¬ (in_state ≡ store_error cause)
+no_store_error stored.OutOfMemory h = absurd (cc)
+no_store_error stored.Io h = absurd (cc)
+no_store_error stored.Corrupt h = absurd (cc)
+no_store_error stored.Full h = absurd (cc)
+no_store_error stored.Broken h = absurd (cc)
+no_store_error stored.Unstorable h = absurd (cc)
+
+no_statement : (s : State) (sql : List ℕ) (params : Row) → ¬ IsNoStatement s sql params in_state
+no_statement s sql params (inl (fault, none, is)) = absurd (cc)
+no_statement s sql params (inr (c, is, inl (long, e))) = absurd (cc)
+no_statement s sql params (inr (c, is, inr (inl (many, e)))) = absurd (cc)
+no_statement s sql params (inr (c, is, inr (inr (clock, e)))) = absurd (cc)
+
+runs_open : (old new : State) (sql : List ℕ) (c : Compiled) (params : Row) → RunsCommand old new sql c params (Err in_state) → IsTrue new.is_open
+runs_open old new sql c params (inl (why, same)) = same.0.is_open
+runs_open old new sql c params (inr (cause, is, why, back, named)) = absurd (no_store_error cause is)
+
+alone_open : (old new : State) (sql : List ℕ) (c : Compiled) (params : Row) (shows : Bool) → MatchBool shows (◌≡◌ {A = Result ℕ Error} (Err in_state) (Err ExecuteReturnedResults) × IsUnchanged old new) (RunsCommand old new sql c params (Err in_state)) → IsTrue new.is_open
+alone_open old new sql c params true (is, same) = absurd (cc)
+alone_open old new sql c params false runs = runs_open old new sql c params runs
+
+open_where_refused : (old new : State) → Executes (codes "ROLLBACK") [] old new (Err in_state) → IsTrue new.is_open
+unfolding ExecutesIn IsNotRun
+open_where_refused old new (inl (inl (none, same))) = absurd (no_statement old (codes "ROLLBACK") [] none)
+open_where_refused old new (inl (inr (cause, is, why, back, named))) = absurd (no_store_error cause is)
+open_where_refused old new (inr (c, it, alone)) = alone_open old new (codes "ROLLBACK") c (timed [] c.formats it.now) (shows_rows false c) alone
+
+pub refused_open : (old new : State) (r : Result ℕ Error) → Executes (codes "ROLLBACK") [] old new r → IfErr r (λ e. e ≡ in_state → IsTrue new.is_open)
+refused_open old new (Ok count) h = tt
+refused_open old new (Err e) h = λ is. open_where_refused old new (subst (λ (f : Error). Executes (codes "ROLLBACK") [] old new (Err f)) is h)

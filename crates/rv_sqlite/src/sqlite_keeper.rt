@@ -186,6 +186,7 @@ impl<S: Alter> Keeper for SqliteKeeper<S> {
         ensures survives { Survives (state S.Store self.old.connection) (state S.Store self.new.connection) (LeavesNext (committed from changes.now) (state S.Store self.old.connection)) }
         ensures crash { IsTrue self.new.is_known × HasCleanDisk (state S.Store self.new.connection) → LeavesAs self.old.is_known (committed from changes.now) (state S.Store self.old.connection) (state S.Store self.new.connection) }
         ensures memory { HasCleanDisk (state S.Store self.new.connection) → IsErrOf result Memory → LeavesNoMore (state S.Store self.old.connection) (state S.Store self.new.connection) }
+        ensures open { HasCleanDisk (state S.Store self.new.connection) → IsErrOf result Memory → IsTrue (state S.Store self.new.connection).is_open }
         ensures outcome { Tells (state S.Store self.new.connection) → IsSettled (Holds (state S.Store self.new.connection)) (MayLeave (state S.Store self.new.connection)) }
         ensures settled { IsTrue self.new.is_known × Tells (state S.Store self.new.connection) → IsSettled (Holds (state S.Store self.new.connection)) (MayLeave (state S.Store self.new.connection)) }
     {

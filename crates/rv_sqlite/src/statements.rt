@@ -1,5 +1,7 @@
 // The statements, each in a function of its own.
-ghost use Rattle.std.specs.Prelude.{◌≡◌, ◌∷◌, [], false, IfOk, OnOk};
+ghost use Rattle.std.specs.Prelude.{◌≡◌, ◌∷◌, [], false, IfErr, IfOk, IsTrue, OnOk};
+ghost use Rattle.sqlite.specs.declared.error.Error as Error;
+ghost use Rattle.sqlite.specs.declared.error.ErrorCode as ErrorCode;
 ghost use Rattle.rv_base.specs.Sorted.{put_by, without};
 ghost use Rattle.rv_keeper.specs.Cells.{cell_key, changed_by};
 ghost use Rattle.std.specs.Borrow.{sem, RestsIfErr};
@@ -154,6 +156,7 @@ pub(crate) fn put_generation<S: Alter>(
 // Runs a ROLLBACK outside a transaction, where it is refused.
 fn roll_nothing_back<S: Alter>(connection: &mut Connection<S>) -> Result<usize, Error>
     requires autocommit { connection.old.in_transaction ≡ false }
+    ensures open { HasCleanDisk (state S.Store connection.new) → IfErr result (λ e. e ≡ Error.SqliteFailure ErrorCode.TransactionState → IsTrue (state S.Store connection.new).is_open) }
     ensures kept { KeepsWhereClean S.Store connection.old connection.new }
     ensures survives { Survives (state S.Store connection.old) (state S.Store connection.new) (λ _. ⊥) }
 {
@@ -164,6 +167,7 @@ fn roll_nothing_back<S: Alter>(connection: &mut Connection<S>) -> Result<usize, 
 /// nothing.
 pub(crate) fn is_settled<S: Alter>(connection: &mut Connection<S>) -> bool
     requires autocommit { connection.old.in_transaction ≡ false }
+    ensures open { HasCleanDisk (state S.Store connection.new) → IsTrue result → IsTrue (state S.Store connection.new).is_open }
     ensures kept { KeepsWhereClean S.Store connection.old connection.new }
     ensures survives { Survives (state S.Store connection.old) (state S.Store connection.new) (λ _. ⊥) }
 {

@@ -116,6 +116,7 @@ fn attempt<S: Alter>(
 // Why a transaction was not made that was rolled back: a rollback that failed is a fault.
 fn undone<S: Alter>(connection: &mut Connection<S>, error: Error) -> Fault
     requires autocommit { connection.old.in_transaction ≡ false }
+    ensures open { HasCleanDisk (state S.Store connection.new) → result ≡ Memory → IsTrue (state S.Store connection.new).is_open }
     ensures kept { KeepsWhereClean S.Store connection.old connection.new }
     ensures survives { Survives (state S.Store connection.old) (state S.Store connection.new) (λ _. ⊥) }
 {
@@ -136,6 +137,7 @@ pub(crate) fn write<S: Alter>(
     ensures comes { HasCleanDisk (state S.Store connection.new) → Comes (state S.Store connection.old) (state S.Store connection.new) generation changes.now result }
     ensures survives { Survives (state S.Store connection.old) (state S.Store connection.new) (WritesCells (state S.Store connection.old) generation changes.now) }
     ensures memory { IsErrOf result Memory → Survives (state S.Store connection.old) (state S.Store connection.new) (λ _. ⊥) }
+    ensures open { HasCleanDisk (state S.Store connection.new) → IsErrOf result Memory → IsTrue (state S.Store connection.new).is_open }
     ensures outside { connection.new.in_transaction ≡ false → connection.old.in_transaction ≡ false }
 {
     if !connection.is_autocommit() {
