@@ -1,3 +1,4 @@
+mod InMemory
 mod Ordered
 mod Gathered
 mod RowsGiven

@@ -13,6 +13,7 @@
 
 mod connected;
 mod exact;
+mod in_memory;
 mod loading;
 mod number;
 mod reading;
@@ -22,5 +23,6 @@ mod statements;
 mod table;
 mod writing;
 
+pub use in_memory::keeper_in_memory;
 pub use sqlite_keeper::SqliteKeeper;
 pub use writing::fault_of;
