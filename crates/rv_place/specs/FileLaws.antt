@@ -6,7 +6,9 @@ use Rattle.sqlite_trees.specs.Tree.{Trees}
 use Rattle.sqlite_schema.specs.declared.schema.Schema.{Schema}
 use Rattle.sqlite_catalog.specs.Listing.{IsSound, IsTableRow, is_table_row}
 use Rattle.sqlite.specs.Effect.{Database}
-use Rattle.sqlite.specs.Files.{AreFoundIn, IsEmpty}
+use Rattle.sqlite.specs.Files.{AreFoundIn, IsEmpty, IsNothing}
+use Rattle.std.proofs.Math.Logic.{∥∥₁_elim}
+use Rattle.rv_place.specs.BlankLaws.{nothing_adopts}
 use Rattle.sqlite.specs.Start.{FindsIn}
 use Rattle.sqlite.specs.State.{State}
 use Rattle.rv_keeper.specs.declared.loaded.Loaded.{Loaded}
@@ -43,10 +45,10 @@ nothing_in trees schema empty sound (inl is) = record {
   has = record { sound = sound; are = inr (is, refl) };
 }
 
--- what is found in an empty file is empty
-found_empty : (image : Image) (trees : Trees) → image.db ≡ [] → AreFoundIn image trees → IsEmpty trees
+-- what is found where no database was made yet is empty
+found_empty : (image : Image) (trees : Trees) → IsNothing image → AreFoundIn image trees → IsEmpty trees
 found_empty image trees none (inr (nothing, empty)) = empty
-found_empty image trees none (inl (size, pages, wanted, adopts, ours, is)) = absurd (let n : length image.db ≡ 0 = ap length none in omega (arith, adopts.found.present, n))
+found_empty image trees none (inl (size, pages, wanted, adopts, ours, is)) = absurd (∥∥₁_elim ours (λ a b. absurd a) (λ it. nothing_adopts size image pages adopts it.file.sound none))
 
 -- what the files held is held as they were opened
 pub found_holds : (image : Image) (s : State) (held : Loaded) → FindsIn image s → IsSound s.committed.schema s.committed.trees → IsKnown s.committed.schema → FilesHold image held → Holds s held

@@ -1,4 +1,5 @@
 pub mod Files
+pub mod BlankLaws
 pub mod FileLaws
 pub mod Stored
 pub mod StoredLaws
