@@ -1,5 +1,5 @@
 -- A new database holds nothing.
-use Rattle.std.proofs.Common.{◌≡◌, [], IsTrue, inl, inr, refl, sym, subst, arith}
+use Rattle.std.proofs.Common.{◌≡◌, [], inr, refl, subst, arith}
 use Rattle.sqlite.specs.Effect.{Database}
 use Rattle.sqlite.specs.State.{HasCleanDisk, IsLive, Opens, State}
 use Rattle.sqlite.specs.Held.{Held, state}

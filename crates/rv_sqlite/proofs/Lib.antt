@@ -1,4 +1,5 @@
 mod InMemory
+mod NextRuns
 mod Ordered
 mod Gathered
 mod RowsGiven

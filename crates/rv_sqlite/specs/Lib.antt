@@ -7,6 +7,7 @@ pub mod Table
 pub mod Stands
 pub mod Steps
 pub mod Telling
+pub mod NextRun
 pub mod Shape
 pub mod Props
 pub mod HeldLaws

@@ -14,6 +14,7 @@
 mod connected;
 mod exact;
 mod in_memory;
+pub mod laws;
 mod loading;
 mod number;
 mod reading;

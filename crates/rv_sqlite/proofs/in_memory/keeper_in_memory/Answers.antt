@@ -1,4 +1,4 @@
-use Rattle.std.proofs.Common.{[], inl, refl, sym, subst}
+use Rattle.std.proofs.Common.{[], inl, sym, subst}
 use Rattle.rv_keeper.specs.Keeping.{holding}
 use Rattle.sqlite.specs.Held.{Held, state}
 use Rattle.sqlite.specs.Steps.{over_memory}
