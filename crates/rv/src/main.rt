@@ -5,7 +5,7 @@
 use rv_base::{Reading, Writing, write_all};
 use rv_cli::run;
 use rv_net::{Listen, Net, PokeListen, TcpNet};
-use rv_place::{FileOpener, RunPlace, Start, Unknown, close_store};
+use rv_place::{FileOpener, RunPlace, Start, Unknown, end_run};
 use rv_poke::PokeLink;
 use rv_workers::{Bells, Threaded};
 use std::alloc::Global;
@@ -52,9 +52,7 @@ where
         net,
         &mut crew,
     );
-    if let Some(kept) = place.into_keeper() {
-        close_store(kept);
-    }
+    end_run(place);
     status
 }
 

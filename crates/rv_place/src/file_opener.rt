@@ -4,6 +4,7 @@ ghost use Rattle.rv_place.specs.Files.{FilesHold};
 ghost use Rattle.rv_place.specs.Stored.{IsGiven};
 
 use crate::opener::Opener;
+use crate::run_place::RunPlace;
 use crate::store_keeper::StoreKeeper;
 use rv_base::{Bytes, Fault};
 use rv_keeper::MemoryKeeper;
@@ -105,10 +106,20 @@ impl<S: Start + Send> Opener for FileOpener<'_, S> {
     ghost held_one = { λ one two is also. also.only one is.stand };
 }
 
+/// The stores of this machine, for one run, which opens one of them.
+pub type HostPlace<'a, S> = RunPlace<FileOpener<'a, S>, S, StoreKeeper<FileStore<FileFrom<S>>>>;
+
 /// Closes the file of a store, if there is one: its log is copied into it. That it was not closed is nothing that anybody is told: what was
 /// committed is in the file or its log, and the next opening reads both.
 pub fn close_store<S: Start>(kept: StoreKeeper<FileStore<FileFrom<S>>>) {
     if let Some(connection) = kept.into_connection() {
         let _ = connection.close();
+    }
+}
+
+/// Ends a run: the file of the store whose keeper came back is closed.
+pub fn end_run<S: Start + Send>(place: HostPlace<'_, S>) {
+    if let Some(kept) = place.into_keeper() {
+        close_store(kept);
     }
 }

@@ -12,7 +12,7 @@ mod opener;
 mod run_place;
 mod store_keeper;
 
-pub use file_opener::{FileOpener, close_store};
+pub use file_opener::{FileOpener, HostPlace, close_store, end_run};
 pub use opened::Opened;
 pub use opener::Opener;
 pub use run_place::RunPlace;

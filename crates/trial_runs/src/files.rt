@@ -5,7 +5,7 @@ use crate::running::Pieces;
 use rv_base::{Fault, Memory};
 use rv_keeper::Place;
 use rv_net::MemoryNet;
-use rv_place::{FileOpener, RunPlace, Start, Unknown, close_store};
+use rv_place::{FileOpener, RunPlace, Start, Unknown, end_run};
 use std::alloc::Global;
 use std::sync::Wait;
 use std::thread::Threads;
@@ -98,14 +98,16 @@ fn run_beside<R: Threads + Wait + Sync, S: Start + Send>(
     let alloc = stage.host.alloc();
     let line = joined(alloc, &[Text("rv feed "), Text(store)])?;
     let mut beside = RunPlace::new(alloc, FileOpener::new(stage.host), start);
-    match beside.open_keeper(store) {
+    let text = match beside.open_keeper(store) {
         Ok(kept) => {
             let text = run_words(stage, case, line.as_str());
-            close_store(kept);
+            beside.close_keeper(store, kept);
             text
         }
         Err(_) => joined(alloc, &[Text("no keeper\n")]),
-    }
+    };
+    end_run(beside);
+    text
 }
 
 // What is printed where no file is read.

@@ -3,7 +3,7 @@ use crate::running::{Finished, Pieces, run_over};
 use rv_base::{Bytes, Fault, Memory};
 use rv_keeper::Place;
 use rv_net::MemoryNet;
-use rv_place::{FileOpener, RunPlace, Start, close_store};
+use rv_place::{FileOpener, RunPlace, Start, end_run};
 use std::sync::Wait;
 use std::thread::Threads;
 use trial_stage::Stage;
@@ -19,9 +19,7 @@ pub fn run_here<R: Threads + Wait + Sync, S: Start + Send>(
 ) -> Result<Finished, Memory> {
     let mut place = RunPlace::new(stage.host.alloc(), FileOpener::new(stage.host), start);
     let finished = run_over(stage, words, &mut place, bytes, pieces, net);
-    if let Some(kept) = place.into_keeper() {
-        close_store(kept);
-    }
+    end_run(place);
     finished
 }
 
@@ -33,5 +31,7 @@ pub fn accounts_here<S: Start + Send>(
 ) -> (Result<Bytes, Fault>, u64) {
     let mut place = RunPlace::new(rt.alloc(), FileOpener::new(rt), start);
     let read = place.read_accounts(path);
-    (read, place.fault_count())
+    let faults = place.fault_count();
+    end_run(place);
+    (read, faults)
 }
