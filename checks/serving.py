@@ -170,6 +170,17 @@ def main():
         talk(server, [b"GET / HTTP/1.1\r\n\r\n" * 101], response(404, "Not Found", missing) * 99 + response(404, "Not Found", missing, close=True))
         server.ends("entries 0\n")
 
+        # no other address of the machine is listened to
+        server = start(2)
+        server.connect().close()
+        try:
+            socket.create_connection(("127.0.0.2", server.port), timeout=20).close()
+            sys.exit("a connection at 127.0.0.2 is taken")
+        except ConnectionRefusedError:
+            pass
+        server.connect().close()
+        server.ends("entries 0\n")
+
         # accounts that can't be read, and that aren't of the form; a port that is taken
         twice = folder / "twice.toml"
         twice.write_text(ACCOUNTS.replace("Bearer k bob", "k-ann"))
