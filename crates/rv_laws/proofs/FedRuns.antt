@@ -1,7 +1,8 @@
 -- From the clause of `run` to the run that there was.
-use Rattle.std.proofs.Common.{◌≡◌, ℕ, ◌+◌, ◌==◌, ◌⊎◌, inl, inr, true, false, cond, List, [], ◌∷◌, ◌++◌, length, Option, Some, None, IfSome, refl, sym, ap, ◌∙◌, append_assoc, append-nil}
+use Rattle.std.proofs.Common.{◌≡◌, ℕ, ◌+◌, ◌==◌, ◌⊎◌, inl, inr, true, false, cond, List, [], ◌∷◌, ◌++◌, length, Option, Some, None, IfSome, refl, sym, ap, subst, ◌∙◌, append_assoc, append-nil}
 use Rattle.std.specs.List.{flat_map}
-use Rattle.std.specs.Io.KnownBytes.{Consumes}
+use Rattle.std.specs.Io.KnownBytes.{Appends, Consumes}
+use Rattle.rv_base.specs.Outside.{OutputState}
 use Rattle.rv_lines.specs.Lines.{onto, onto_ended, lines_of, ended_lines_of}
 use Rattle.rv_keeper.specs.declared.place.Place.{Ghosts as PlaceGhosts}
 use Rattle.rv_base.specs.declared.outside.Source.{Ghosts as SourceGhosts}
@@ -11,10 +12,11 @@ use Rattle.rv_answering.specs.declared.answer.Answer.{Answer}
 use Rattle.rv_answering.specs.declared.line.Line.{Line}
 use Rattle.rv_cli.specs.declared.ending.Ending.{Ending}
 use Rattle.rv_cli.specs.declared.ending.Ending.TheVariants.{Done, Keeper, Damaged, Read, Write, Memory, Malformed}
-use Rattle.rv_cli.specs.Headline.{Answered, Ends, Fed, IsCutOff, Run, served_lines, told_text}
+use Rattle.rv_cli.specs.Change.{change}
+use Rattle.rv_cli.specs.Headline.{Answered, Ends, EndsOne, Fed, IsCutOff, Replied, Run, TakesLine, served_lines, told_text}
 use Rattle.rv_cli.specs.LineRunLaws.{answered_more}
 use Rattle.rv_cli.specs.Texts.{text_of}
-use Rattle.rv_laws.specs.Feeds.{AreFirst, DidNotOpen, FeedRun, FeedsAreRuns, IsFrontOrAll}
+use Rattle.rv_laws.specs.Feeds.{AreFirst, DidNotOpen, FeedRun, FeedsAreRuns, IsFrontOrAll, RepliesAreRuns}
 
 -- ---- Lines that end at LF are the first of all lines.
 
@@ -71,6 +73,20 @@ module _ (Told : Type 0) (first now : Served) (bytes read text : List ℕ) where
   run_of left Keeper consumed closed = of_answered closed.lines (closed.line ∷ closed.others) closed.are closed.answered
   run_of left (Damaged damage) consumed closed = of_answered closed.lines (closed.line ∷ closed.others) closed.are closed.answered
 
+-- ---- One line that is answered is a run over it.
+
+abbrev IsAnsweredOnce : Type 0 → Served → Line → List ℕ → Served → Type 0
+IsAnsweredOnce Told first line text now = (answer : Answer) × TakesLine Told first line (Some answer) now × IsFrontOrAll text (flat_map told_text (Some answer ∷ []))
+
+once_of : (Told : Type 0) (first : Served) (line : Line) (text : List ℕ) (now : Served) (ending : Ending) → EndsOne Told first line text now ending → IsAnsweredOnce Told first line text now
+once_of Told first line text now Done (answer, takes, told) = (answer, takes, inl (told ∙ sym (append-nil (text_of answer))))
+once_of Told first line text now Write (answer, takes, (rest, is, some)) = (answer, takes, inr (rest, append-nil (text_of answer) ∙ is, some))
+once_of Told first line text now Keeper never = absurd never
+once_of Told first line text now (Damaged damage) never = absurd never
+once_of Told first line text now Read never = absurd never
+once_of Told first line text now Memory never = absurd never
+once_of Told first line text now (Malformed number) never = absurd never
+
 -- ---- The run.
 
 of_some : {X : Type 0} (o : Option X) (Q : X → Type 0) → ((x : X) → Q x) → IfSome o Q
@@ -105,3 +121,24 @@ module _ {P K : Type 0} (place : PlaceGhosts P K) where
             asked = run.asked;
             written = (f.text, f.own, f.appended, run.told);
           }
+
+  of_reply : (old new : P) (store bytes : List ℕ) (line : Line) (output output' : OutputState) (ending : Ending) → place.tells new → AreFirst (line ∷ []) bytes
+      → Replied (change place store old new) line output output' ending → FeedRun place old new store bytes output output'
+  of_reply old new store bytes line output output' ending told asked r =
+      let (answer, takes, part) = once_of (place.tells new) r.first line r.text r.now ending r.ends in
+      record {
+        told = told;
+        first = r.first;
+        now = r.now;
+        lines = line ∷ [];
+        answers = Some answer ∷ [];
+        begins = r.begins;
+        run = (r.now, takes, refl);
+        leaves = r.leaves;
+        asked = asked;
+        written = (r.text, [], subst (λ (t : List ℕ). Appends output.written output'.written t) (sym (append-nil r.text)) r.appended, part);
+      }
+
+  pub replies_are_runs : {O : Type 0} (output : SinkGhosts O) → RepliesAreRuns place output
+  replies_are_runs output old new store line out out' status (ending, is, inl refused) told bytes asked = inl (ending, is, refused.0, refused.1)
+  replies_are_runs output old new store line out out' status (ending, is, inr r) told bytes asked = inr (of_reply old new store bytes line (output.state out) (output.state out') ending told asked r)

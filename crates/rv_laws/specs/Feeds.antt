@@ -1,4 +1,5 @@
--- What follows from the promise of `feed`, over a place and a source that tell.
+-- What follows from the promise of `feed`, over a place and a source that tell; and of `retire` and `close-book`, which are `feed` over their
+-- one line.
 use Rattle.std.specs.Prelude.{ℕ, ◌≡◌, ◌≤◌, ◌<◌, ◌-◌, ◌^◌, ◌⊎◌, List, [], ◌∷◌, ◌++◌, length, Option, Some, IfSome, Ok}
 use Rattle.std.specs.List.{flat_map, AllByRecursion}
 use Rattle.std.specs.Io.KnownBytes.{Appends}
@@ -19,8 +20,9 @@ use Rattle.rv_answering.specs.declared.request.Request.TheVariants.{Push, Pull}
 use Rattle.rv_answering.specs.Requests.{Parsed}
 use Rattle.rv_cli.specs.declared.ending.Ending.{Ending}
 use Rattle.rv_cli.specs.Change.{change}
-use Rattle.rv_cli.specs.Headline.{Are, Begins, IsLawfulFeed, IsLeftAs, IsShown, Leaves, NotFed, Run, AnswersTrouble, told_text}
+use Rattle.rv_cli.specs.Headline.{Are, Begins, IsLawfulFeed, IsLeftAs, IsShown, Leaves, NotFed, NotOpened, Run, AnswersTrouble, told_text}
 use Rattle.rv_cli.specs.FeedPromise.{WasFed}
+use Rattle.rv_cli.specs.ReplyPromises.{WasAnswered}
 use Rattle.rv_cli.specs.Texts.{status_of}
 use Rattle.rv_turns.specs.declared.pull.PullReply.{PullReply}
 use Rattle.rv_wire.specs.declared.push.Push as pushes
@@ -90,6 +92,18 @@ module _ {P K : Type 0} (place : PlaceGhosts P K) where
   FeedsAreRuns {S} {O} input output = (old new : P) (store : List ℕ) (read read' : S) (out out' : O) (status : ℕ)
       → WasFed place input output store old new read read' out out' status → place.tells new
       → IfSome (input.state read).left (λ bytes. DidNotOpen old new store (input.state read) (input.state read') (output.state out) (output.state out') status ⊎ FeedRun old new store bytes (output.state out) (output.state out'))
+
+  -- the store did not open, and holds what it held
+  abbrev pub DidNotReply : P → P → List ℕ → OutputState → OutputState → ℕ → Type 0
+  DidNotReply old new store output output' status =
+      (ending : Ending) × (status ≡ status_of ending) × NotOpened (change place store old new) output output' ending × IsLeftAs (change place store old new)
+
+  -- The promise of a command that answers one line says that there was such a run over any bytes that begin with that line, or that the store
+  -- did not open.
+  abbrev pub RepliesAreRuns : {O : Type 0} → SinkGhosts O → Type 0
+  RepliesAreRuns {O} output = (old new : P) (store : List ℕ) (line : Line) (out out' : O) (status : ℕ)
+      → WasAnswered place output store line old new out out' status → place.tells new → (bytes : List ℕ) → AreFirst (line ∷ []) bytes
+      → DidNotReply old new store (output.state out) (output.state out') status ⊎ FeedRun old new store bytes (output.state out) (output.state out')
 
   -- something holds of all such runs
   abbrev pub OfAllRuns : ((old new : P) (store bytes : List ℕ) (output output' : OutputState) → FeedRun old new store bytes output output' → Type 0) → Type 0

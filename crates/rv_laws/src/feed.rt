@@ -1,5 +1,5 @@
-//! What follows from the promise of `feed`.
-ghost use Rattle.rv_laws.specs.Feeds.{FeedsAreRuns, FedBooksAreLawful, FedPullsAreShown, FedTroublesHaveCauses, FedPushesStand, FedClientsFollow};
+//! What follows from the promise of `feed`, and of `retire` and `close-book`, which are `feed` over their one line.
+ghost use Rattle.rv_laws.specs.Feeds.{FeedsAreRuns, RepliesAreRuns, FedBooksAreLawful, FedPullsAreShown, FedTroublesHaveCauses, FedPushesStand, FedClientsFollow};
 
 use rv_base::{Sink, Source};
 use rv_keeper::Place;
@@ -9,6 +9,12 @@ use rv_keeper::Place;
 /// its answers, or, where a write failed, a front of it.
 pub fn feeds_are_runs<P: Place, S: Source, O: Sink>()
     ensures { FeedsAreRuns P.Place S.Source O.Sink }
+{}
+
+/// A run of `retire` or of `close-book` over a place that tells did not open its store, or is the run of `feed` over the first line of any
+/// bytes that begin with the line that it answers. So each of the other laws of runs of `feed` is one of it too.
+pub fn replies_are_runs<P: Place, O: Sink>()
+    ensures { RepliesAreRuns P.Place O.Sink }
 {}
 
 /// The book of such a run is lawful and goes on from the one that the store kept: each client's acts have the ids 1, 2, 3 and so on, and
