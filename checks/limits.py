@@ -339,6 +339,7 @@ def stores(program, folder):
     asked = [text_of({"user": "ann", "pull": pull(group="g000000")}), '{"closeBook":true}', '{"stop":true}', text_of({"user": "ann", "pull": pull(group="g000000")})]
     status, told = feed(program, asked, path)
     for answer in (told[0], told[-1]):
+        same("a pull of all rows", "200 ", answer[:4] if answer.startswith("200 ") else answer)
         patch = json.loads(answer.removeprefix("200 "))["patch"]
         same("the rows that a pull tells", sorted(key for key, _ in rows), sorted(op["key"] for op in patch[1:]))
         same("their values", dict((key, body[1]) for key, body in rows), {op["key"]: op["value"] for op in patch[1:]})
