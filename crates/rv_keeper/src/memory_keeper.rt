@@ -144,6 +144,11 @@ impl Keeper for MemoryKeeper {
     // What is in memory is there after any call; it leaves what it holds.
     ghost may_leave = { λ s left. left ≡ Some (holding s.shelves s.generation) };
 
+    ghost loads = { λ old result new. IsLoad (fails_at (calls.Load new.loads) old.schedule.items) (holding old.shelves old.generation) result };
+
+    // It answers its generation, whatever the number.
+    ghost asks = { λ old from result new. IfOk result (λ n. n ≡ old.generation) };
+
     ghost faults = { λ s. s.faults };
 
     // No call of the schedule is still to come.

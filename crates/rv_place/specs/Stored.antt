@@ -1,11 +1,14 @@
 -- What a keeper of either kind shows.
-use Rattle.std.specs.Prelude.{◌≡◌, ◌≢◌, ℕ, List, [], Option, Some, None, IsTrue, codes}
+use Rattle.std.specs.Prelude.{◌≡◌, ◌≢◌, ℕ, List, [], Option, Some, None, Result, IfOk, IsTrue, codes}
 use Rattle.sqlite_trees.specs.declared.store.Store.{Ghosts}
 use Rattle.sqlite.specs.State.{HasCleanDisk}
 use Rattle.sqlite.specs.Held.{Held, state}
+use Rattle.rv_base.specs.declared.fault.Fault.{Fault}
+use Rattle.rv_base.specs.declared.outside.Failed.{Failed}
 use Rattle.rv_keeper.specs.declared.loaded.Loaded.{Loaded}
 use Rattle.rv_keeper.specs.Keeping.{holding}
-use Rattle.rv_keeper.specs.Schedules.{KeeperFailsNoMore}
+use Rattle.rv_keeper.specs.Schedules.{IsLoad, KeeperFailsNoMore, fails_at}
+use Rattle.rv_keeper.specs.declared.memory_keeper.Fails.TheVariants.{Load}
 use Rattle.rv_place.specs.declared.store_keeper.StoreKeeper.{StoreKeeper}
 use Rattle.rv_place.specs.declared.store_keeper.StoreKeeper.TheVariants.{Memory, Sqlite}
 use Rattle.sqlite_wal.specs.Recovery.{Image}
@@ -56,21 +59,21 @@ module _ {S : Type 0} {g : Ghosts S} where
   IsFresh name (Memory keeper) = (name ≡ codes "memory") × (keeper.shelves ≡ []) × (keeper.generation ≡ 0) × (keeper.faults ≡ 0) × (keeper.schedule.items ≡ [])
   IsFresh name (Sqlite keeper) = (name ≢ codes "memory") × (keeper.faults ≡ 0)
 
--- What is loaded by a keeper in memory is what it held, and by one over a database, where the disk gave back what was written, what the
--- table has. Neither becomes the other.
-abbrev pub StoredLoads : {S : Type 0} → (g : Ghosts S) → StoreKeeper S g → StoreKeeper S g → Loaded → Type 0
-StoredLoads g (Memory old) (Memory new) loaded = loaded ≡ holding old.shelves old.generation
-StoredLoads g (Sqlite old) (Sqlite new) loaded = HasCleanDisk (state g new.connection) → LoadsTable g old.connection loaded
-StoredLoads g (Memory old) (Sqlite new) loaded = ⊥
-StoredLoads g (Sqlite old) (Memory new) loaded = ⊥
+-- A load by a keeper in memory fails just where its schedule says so, and answers what it held; what one over a database answers is, where
+-- the disk gave back what was written, what the table has. Neither becomes the other.
+abbrev pub StoredLoads : {S : Type 0} → (g : Ghosts S) → StoreKeeper S g → Result Loaded Fault → StoreKeeper S g → Type 0
+StoredLoads g (Memory old) result (Memory new) = IsLoad (fails_at (Load new.loads) old.schedule.items) (holding old.shelves old.generation) result
+StoredLoads g (Sqlite old) result (Sqlite new) = HasCleanDisk (state g new.connection) → IfOk result (LoadsTable g old.connection)
+StoredLoads g (Memory old) result (Sqlite new) = ⊥
+StoredLoads g (Sqlite old) result (Memory new) = ⊥
 
--- The generation that a keeper over a database answers is, where the disk gave back what was written, the one that the table has. Of one in
--- memory the clauses of a keeper that tells say which it is. Neither becomes the other.
-abbrev pub StoredFinds : {S : Type 0} → (g : Ghosts S) → StoreKeeper S g → StoreKeeper S g → ℕ → Type 0
-StoredFinds g (Memory old) (Memory new) number = Unit {0}
-StoredFinds g (Sqlite old) (Sqlite new) number = HasCleanDisk (state g new.connection) → FindsGeneration g old.connection number
-StoredFinds g (Memory old) (Sqlite new) number = ⊥
-StoredFinds g (Sqlite old) (Memory new) number = ⊥
+-- The generation that a keeper in memory answers is its own; what one over a database answers is, where the disk gave back what was written,
+-- the one that the table has. Neither becomes the other.
+abbrev pub StoredAsks : {S : Type 0} → (g : Ghosts S) → StoreKeeper S g → Result ℕ Failed → StoreKeeper S g → Type 0
+StoredAsks g (Memory old) result (Memory new) = IfOk result (λ number. number ≡ old.generation)
+StoredAsks g (Sqlite old) result (Sqlite new) = HasCleanDisk (state g new.connection) → IfOk result (FindsGeneration g old.connection)
+StoredAsks g (Memory old) result (Sqlite new) = ⊥
+StoredAsks g (Sqlite old) result (Memory new) = ⊥
 
 -- The keeper that was given holds what the store's file and its log held, where it tells. The store `memory` holds nothing.
 pub record IsGiven {S : Type 0} {g : Ghosts S} (image : Image) (name : List ℕ) (keeper : StoreKeeper S g) : Type 0 where

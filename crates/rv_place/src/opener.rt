@@ -1,4 +1,4 @@
-ghost use Rattle.std.specs.Prelude.{◌≡◌, IfOk};
+ghost use Rattle.std.specs.Prelude.{◌≡◌, ℕ, List, IfOk, IsOk};
 ghost use Rattle.rv_keeper.specs.declared.loaded.Loaded.{Loaded};
 ghost use Rattle.rv_keeper.specs.Stores.{LeavesAsGiven, OpensWith};
 
@@ -16,8 +16,12 @@ pub trait Opener {
     /// The file of the store held this.
     ghost held: { Loaded → Type 0 };
 
-    /// Whether the store of this name is there. Nothing is made.
-    fn find(&self, name: &str) -> Result<(), Fault>;
+    /// A store of this name was looked for, and was there.
+    ghost found: { Self → List ℕ → Type 0 };
+
+    /// Looks whether the store of this name is there. It fails where it isn't. Nothing is made.
+    fn find(&self, name: &str) -> Result<(), Fault>
+        ensures { IsOk result → found self.now name.now };
 
     /// The bytes of the file at a path.
     fn read_file(&self, path: &str) -> Result<Bytes, Fault>;

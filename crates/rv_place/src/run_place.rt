@@ -1,7 +1,7 @@
-ghost use Rattle.std.specs.Prelude.{◌≡◌, ◌≤◌, IfOk};
+ghost use Rattle.std.specs.Prelude.{◌≡◌, ◌≤◌, IfOk, IsOk, MatchResult, OnErr, OnOk};
 ghost use Rattle.rv_base.specs.Causes.{Rose};
 ghost use Rattle.rv_keeper.specs.Keeping.{HasKeepCause};
-ghost use Rattle.rv_keeper.specs.Stores.{TakesUp};
+ghost use Rattle.rv_keeper.specs.Stores.{LeavesAsGiven, OpensWith, OthersStay, PlaceStays, TakesUp};
 ghost use Rattle.rv_place.specs.declared.opened.Opened.TheVariants.{Not};
 ghost use Rattle.rv_place.specs.Places.{Opens, PlaceFile, PlaceHas, PlaceHolds, PlaceLeaves, PlaceOut, PlaceTells, TakesBack, keeper_back};
 ghost use Rattle.rv_place.specs.PlaceLaws.{opened_honestly, opened_one};
@@ -116,6 +116,7 @@ impl<S: Drop, K: Keeper + Drop, O: Opener<Start = S, Kept = K> + Drop> RunPlace<
     // Opens the first store, where there is one of this name. An opening makes a store that is missing, so it is looked for first. One that
     // is taken away between the two is made anew, and empty.
     fn open_found(&mut self, name: &str) -> Result<K, Fault>
+        ensures found { IsOk result → O.found self.old.opener name.now }
         ensures opens { Opens K.Keeper O.held self.old.opened self.new.opened name.now result }
         ensures cause { HasKeepCause self.old.faults self.new.faults result }
     {
@@ -191,7 +192,20 @@ impl<S: Drop, K: Keeper + Send + Drop, O: Opener<Start = S, Kept = K> + Drop> Pl
         self.open_store(name)
     }
 
-    fn open_existing(&mut self, name: &str) -> Result<K, Fault> {
+    fn open_existing(&mut self, name: &str) -> Result<K, Fault>
+        ensures tells { PlaceTells K.tells self.new → MatchResult result (λ kept. K.tells kept → PlaceTells K.tells self.old) (λ fault. PlaceTells K.tells self.old) }
+        ensures kept { PlaceTells K.tells self.new → IfOk result (λ kept. K.tells kept → OpensWith name.now (PlaceHolds K.holds O.held self.old name.now) (K.holds kept)) }
+        ensures out { PlaceTells K.tells self.new → OnOk result (PlaceOut self.new name.now) }
+        ensures honest { PlaceTells K.honest self.new → MatchResult result (λ kept. K.honest kept → PlaceTells K.honest self.old) (λ fault. PlaceTells K.honest self.old) }
+        ensures crash { PlaceTells K.honest self.new → IfOk result (λ kept. K.honest kept → LeavesAsGiven name.now (PlaceLeaves K.may_leave self.old name.now) (K.may_leave kept)) }
+        ensures others { PlaceTells K.tells self.new → OthersStay (PlaceHolds K.holds O.held) (PlaceLeaves K.may_leave) PlaceOut PlaceHas PlaceFile name.now self.old self.new }
+        ensures refused { PlaceTells K.tells self.new → OnErr result (PlaceStays (PlaceHolds K.holds O.held) (PlaceLeaves K.may_leave) PlaceOut PlaceHas PlaceFile self.old self.new) }
+        ensures fresh { IfOk result (λ kept. K.faults kept ≡ 0) }
+        ensures cause { HasKeepCause self.old.faults self.new.faults result }
+
+        // The store was looked for before it was opened, and was there.
+        ensures found { IsOk result → O.found self.old.opener name.now }
+    {
         self.open_found(name)
     }
 

@@ -1,9 +1,10 @@
-ghost use Rattle.std.specs.Prelude.{◌≡◌, ◌<◌, ◌-◌, ◌^◌, IfOk, IsOk, None, Some};
+ghost use Rattle.std.specs.Prelude.{◌≡◌, ◌⊎◌, ◌<◌, ◌-◌, ◌^◌, IfOk, IsOk, None, Some};
+ghost use Rattle.rv_base.specs.Causes.{Rose};
 ghost use Rattle.rv_keeper.specs.declared.loaded.Loaded.{Loaded};
 ghost use Rattle.rv_keeper.specs.Cells.{AreCells};
 ghost use Rattle.rv_keeper.specs.Crashes.{IsHeld, IsSettled, LeavesMore};
 ghost use Rattle.rv_keeper.specs.Keeping.{HasGenerationCause, HasKeepCause, KeepsSteady, LoadsHeld};
-ghost use Rattle.rv_place.specs.Stored.{StoredFinds, StoredHolds, StoredHonest, StoredLeaves, StoredLoads, StoredSteady, StoredTells, stored_connection, stored_faults};
+ghost use Rattle.rv_place.specs.Stored.{StoredAsks, StoredHolds, StoredHonest, StoredLeaves, StoredLoads, StoredSteady, StoredTells, stored_connection, stored_faults};
 ghost use Rattle.rv_place.specs.StoredLaws.{stored_honestly, stored_one, stored_tells};
 
 use rv_base::{Failed, Fault};
@@ -49,6 +50,10 @@ impl<S: Alter> Keeper for StoreKeeper<S> {
 
     ghost may_leave = { λ s left. StoredLeaves s left };
 
+    ghost loads = { λ old result new. StoredLoads S.Store old result new };
+
+    ghost asks = { λ old from result new. StoredAsks S.Store old result new };
+
     ghost faults = { λ s. stored_faults s };
 
     ghost fails_no_more = { λ s. StoredSteady s };
@@ -61,16 +66,17 @@ impl<S: Alter> Keeper for StoreKeeper<S> {
     }
 
     fn load(&mut self) -> Result<Loaded, Fault>
+        ensures loads { StoredLoads S.Store self.old result self.new }
         ensures order { IfOk result (λ loaded. AreCells loaded.cells) }
         ensures tells { StoredTells self.new → StoredTells self.old }
         ensures same { StoredTells self.new → (held : Loaded) → StoredHolds self.old held → StoredHolds self.new held }
         ensures told { StoredTells self.new → IfOk result (λ loaded. LoadsHeld loaded (StoredHolds self.old) (StoredHolds self.new)) }
         ensures honest { StoredHonest self.new → StoredHonest self.old × (IsOk result → StoredTells self.new) }
+        ensures clean { StoredHonest self.new → StoredTells self.old → StoredTells self.new ⊎ Rose (stored_faults self.old) (stored_faults self.new) }
         ensures crash { StoredHonest self.new → LeavesMore (StoredLeaves self.old) (StoredLeaves self.new) (IsHeld (StoredTells self.old) (StoredHolds self.old)) }
         ensures settled { StoredTells self.new → IsSettled (StoredHolds self.new) (StoredLeaves self.new) }
         ensures cause { HasKeepCause (stored_faults self.old) (stored_faults self.new) result }
         ensures steady { StoredSteady self.old → KeepsSteady (StoredSteady self.new) result }
-        ensures found { IfOk result (StoredLoads S.Store self.old self.new) }
     {
         match self {
             StoreKeeper::Memory(keeper) => keeper.load(),
@@ -80,15 +86,16 @@ impl<S: Alter> Keeper for StoreKeeper<S> {
 
     fn generation(&mut self, from: u64) -> Result<u64, Failed>
         requires { from < 2 ^ 64 - 1 }
+        ensures asks { StoredAsks S.Store self.old result self.new }
         ensures tells { StoredTells self.new → StoredTells self.old }
         ensures same { StoredTells self.new → (held : Loaded) → StoredHolds self.old held → StoredHolds self.new held }
         ensures told { StoredTells self.new → IfOk result (λ n. (held : Loaded) → StoredHolds self.old held → held.generation ≡ n) }
         ensures honest { StoredHonest self.new → StoredHonest self.old × (IsOk result → StoredTells self.new) }
+        ensures clean { StoredHonest self.new → StoredTells self.old → StoredTells self.new ⊎ Rose (stored_faults self.old) (stored_faults self.new) }
         ensures crash { StoredHonest self.new → LeavesMore (StoredLeaves self.old) (StoredLeaves self.new) (IsHeld (StoredTells self.old) (StoredHolds self.old)) }
         ensures settled { StoredTells self.new → IsSettled (StoredHolds self.new) (StoredLeaves self.new) }
         ensures cause { HasGenerationCause from (stored_faults self.old) (stored_faults self.new) result }
         ensures steady { StoredSteady self.old → StoredSteady self.new × IsOk result }
-        ensures found { IfOk result (StoredFinds S.Store self.old self.new) }
     {
         match self {
             StoreKeeper::Memory(keeper) => keeper.generation(from),

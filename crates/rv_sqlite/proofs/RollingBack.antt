@@ -1,5 +1,5 @@
 -- A ROLLBACK where no transaction is under way.
-use Rattle.std.proofs.Common.{◌≡◌, ℕ, Bool, true, false, IsTrue, List, [], codes, Ok, Err, Result, None, inl, inr, refl, subst}
+use Rattle.std.proofs.Common.{◌≡◌, ℕ, Bool, true, false, IsTrue, List, [], codes, Ok, Err, Result, None, inl, inr, refl, subst, ◌∙◌}
 use Rattle.sqlite_value.specs.Order.{Row}
 use Rattle.sqlite_trees.specs.Tree.{Trees}
 use Rattle.sqlite.specs.Clock.{timed}
@@ -15,6 +15,7 @@ use Rattle.sqlite_trees.specs.declared.error.StoreError.{StoreError}
 use Rattle.sqlite_trees.specs.declared.error.StoreError.TheVariants as stored
 use Rattle.std.specs.Prelude.{IfErr, MatchBool}
 use Rattle.sqlite.proofs.Callers.{IsPlain, command_of, runs_as}
+use Rattle.rv_sqlite.specs.Steps.{IsReady}
 use Rattle.rv_sqlite.proofs.Kept.{error_keeps}
 use Rattle.rv_sqlite.proofs.Meaning.{rollback_is, rollback_plain}
 
@@ -43,7 +44,7 @@ rollback_commits s trees h =
       | inr writes ↦ does_nothing s (timed [] c.formats h.1.now) (text_of (codes "ROLLBACK") c) (writes.1, writes.2) (subst (λ r. Does s.step_limit (mode_of s) (timed [] c.formats h.1.now) s.now (text_of (codes "ROLLBACK") c) r Rollback (Ok (writes.1, writes.2))) plain writes.3)
     ]
 
--- ---- Refused for the state of the transaction it is on a connection that is open.
+-- ---- Refused for the state of the transaction it is on a connection that is open, and in none.
 
 abbrev in_state : Error
 in_state = SqliteFailure TransactionState
@@ -62,20 +63,24 @@ no_statement s sql params (inr (c, is, inl (long, e))) = absurd (cc)
 no_statement s sql params (inr (c, is, inr (inl (many, e)))) = absurd (cc)
 no_statement s sql params (inr (c, is, inr (inr (clock, e)))) = absurd (cc)
 
-runs_open : (old new : State) (sql : List ℕ) (c : Compiled) (params : Row) → RunsCommand old new sql c params (Err in_state) → IsTrue new.is_open
-runs_open old new sql c params (inl (why, same)) = same.0.is_open
-runs_open old new sql c params (inr (cause, is, why, back, named)) = absurd (no_store_error cause is)
+unchanged_ready : (old new : State) → old.in_transaction ≡ false → IsUnchanged old new → IsReady new
+unchanged_ready old new outside same = record { is_open = same.0.is_open; autocommit = same.0.mode ∙ outside }
 
-alone_open : (old new : State) (sql : List ℕ) (c : Compiled) (params : Row) (shows : Bool) → MatchBool shows (◌≡◌ {A = Result ℕ Error} (Err in_state) (Err ExecuteReturnedResults) × IsUnchanged old new) (RunsCommand old new sql c params (Err in_state)) → IsTrue new.is_open
-alone_open old new sql c params true (is, same) = absurd (cc)
-alone_open old new sql c params false runs = runs_open old new sql c params runs
+runs_ready : (old new : State) (sql : List ℕ) (c : Compiled) (params : Row) → old.in_transaction ≡ false → RunsCommand old new sql c params (Err in_state) → IsReady new
+runs_ready old new sql c params outside (inl (why, same)) = unchanged_ready old new outside same
+runs_ready old new sql c params outside (inr (cause, is, why, back, named)) = absurd (no_store_error cause is)
 
-open_where_refused : (old new : State) → Executes (codes "ROLLBACK") [] old new (Err in_state) → IsTrue new.is_open
+alone_ready : (old new : State) (sql : List ℕ) (c : Compiled) (params : Row) (shows : Bool) → old.in_transaction ≡ false
+    → MatchBool shows (◌≡◌ {A = Result ℕ Error} (Err in_state) (Err ExecuteReturnedResults) × IsUnchanged old new) (RunsCommand old new sql c params (Err in_state)) → IsReady new
+alone_ready old new sql c params true outside (is, same) = absurd (cc)
+alone_ready old new sql c params false outside runs = runs_ready old new sql c params outside runs
+
+ready_where_refused : (old new : State) → old.in_transaction ≡ false → Executes (codes "ROLLBACK") [] old new (Err in_state) → IsReady new
 unfolding ExecutesIn IsNotRun
-open_where_refused old new (inl (inl (none, same))) = absurd (no_statement old (codes "ROLLBACK") [] none)
-open_where_refused old new (inl (inr (cause, is, why, back, named))) = absurd (no_store_error cause is)
-open_where_refused old new (inr (c, it, alone)) = alone_open old new (codes "ROLLBACK") c (timed [] c.formats it.now) (shows_rows false c) alone
+ready_where_refused old new outside (inl (inl (none, same))) = absurd (no_statement old (codes "ROLLBACK") [] none)
+ready_where_refused old new outside (inl (inr (cause, is, why, back, named))) = absurd (no_store_error cause is)
+ready_where_refused old new outside (inr (c, it, alone)) = alone_ready old new (codes "ROLLBACK") c (timed [] c.formats it.now) (shows_rows false c) outside alone
 
-pub refused_open : (old new : State) (r : Result ℕ Error) → Executes (codes "ROLLBACK") [] old new r → IfErr r (λ e. e ≡ in_state → IsTrue new.is_open)
-refused_open old new (Ok count) h = tt
-refused_open old new (Err e) h = λ is. open_where_refused old new (subst (λ (f : Error). Executes (codes "ROLLBACK") [] old new (Err f)) is h)
+pub refused_ready : (old new : State) (r : Result ℕ Error) → old.in_transaction ≡ false → Executes (codes "ROLLBACK") [] old new r → IfErr r (λ e. e ≡ in_state → IsReady new)
+refused_ready old new (Ok count) outside h = tt
+refused_ready old new (Err e) outside h = λ is. ready_where_refused old new outside (subst (λ (f : Error). Executes (codes "ROLLBACK") [] old new (Err f)) is h)

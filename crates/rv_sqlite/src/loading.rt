@@ -1,6 +1,7 @@
 // What the table has, settled by a commit before it is told.
-ghost use Rattle.std.specs.Prelude.{◌≡◌, ◌<◌, ◌^◌, [], codes, false, IfOk, IfSome, None, OnErr};
+ghost use Rattle.std.specs.Prelude.{◌≡◌, ◌<◌, ◌^◌, [], codes, false, IfOk, IfSome, IsErrOf, None, OnErr};
 ghost use Rattle.sqlite_schema.specs.Names.{table_named};
+ghost use Rattle.rv_base.specs.declared.fault.Fault.TheVariants.{Memory};
 ghost use Rattle.rv_keeper.specs.Cells.{AreCells};
 ghost use Rattle.rv_keeper.specs.Keeping.{holding};
 ghost use Rattle.sqlite.specs.State.{HasCleanDisk, KeepsCommit, Survives};
@@ -8,7 +9,7 @@ ghost use Rattle.sqlite.specs.Held.{state};
 ghost use Rattle.rv_sqlite.specs.Asked.{FindsGeneration, FindsNumber};
 ghost use Rattle.rv_sqlite.specs.Loads.{LoadsTable};
 ghost use Rattle.rv_sqlite.specs.Rows.{ShowsNumber};
-ghost use Rattle.rv_sqlite.specs.Steps.{IsSettledWhereOpen, KeepsWhereClean};
+ghost use Rattle.rv_sqlite.specs.Steps.{IsReady, IsSettledWhereOpen, KeepsWhereClean};
 ghost use Rattle.rv_sqlite.specs.Telling.{IsGenerationBy, IsToldBy, LeavesNext, Tells};
 
 use crate::connected::recall;
@@ -16,7 +17,7 @@ use crate::number::number_in;
 use crate::reading::read_table;
 use crate::statements::generation_row;
 use crate::table::{TableFound, find_table};
-use crate::writing::write;
+use crate::writing::{settled_fault, write};
 use rv_base::{Failed, Fault};
 use rv_keeper::{Cells, Loaded};
 use sqlite::types::ValueRef;
@@ -31,6 +32,7 @@ fn load_nothing<S: Alter>(alloc: Global, connection: &mut Connection<S>) -> Resu
     ensures nothing { IfOk result (λ loaded. loaded ≡ holding [] 0) }
     ensures told { HasCleanDisk (state S.Store connection.new) → IfOk result (IsToldBy (state S.Store connection.old) (state S.Store connection.new)) }
     ensures kept { HasCleanDisk (state S.Store connection.new) → OnErr result (KeepsCommit (state S.Store connection.old) (state S.Store connection.new)) }
+    ensures ready { HasCleanDisk (state S.Store connection.new) → IsErrOf result Memory → IsReady (state S.Store connection.new) }
     ensures survives { Survives (state S.Store connection.old) (state S.Store connection.new) (LeavesNext (λ held. held) (state S.Store connection.old)) }
 {
     recall(connection);
@@ -50,10 +52,14 @@ fn load_table<S: Alter>(alloc: Global, connection: &mut Connection<S>) -> Result
     ensures found { HasCleanDisk (state S.Store connection.new) → IfOk result (LoadsTable S.Store connection.old) }
     ensures told { HasCleanDisk (state S.Store connection.new) → IfOk result (IsToldBy (state S.Store connection.old) (state S.Store connection.new)) }
     ensures kept { HasCleanDisk (state S.Store connection.new) → OnErr result (KeepsCommit (state S.Store connection.old) (state S.Store connection.new)) }
+    ensures ready { HasCleanDisk (state S.Store connection.new) → IsErrOf result Memory → IsReady (state S.Store connection.new) }
     ensures survives { Survives (state S.Store connection.old) (state S.Store connection.new) (LeavesNext (λ held. held) (state S.Store connection.old)) }
 {
     recall(connection);
-    let loaded = read_table(alloc, connection)?;
+    let loaded = match read_table(alloc, connection) {
+        Ok(loaded) => loaded,
+        Err(fault) => return Err(settled_fault(connection, fault)),
+    };
     write(connection, false, loaded.generation, &[])?;
     Ok(loaded)
 }
@@ -68,6 +74,7 @@ pub(crate) fn load_from<S: Alter>(
     ensures found { HasCleanDisk (state S.Store connection.new) → IfOk result (LoadsTable S.Store connection.old) }
     ensures told { HasCleanDisk (state S.Store connection.new) → IfOk result (IsToldBy (state S.Store connection.old) (state S.Store connection.new)) }
     ensures kept { HasCleanDisk (state S.Store connection.new) → OnErr result (KeepsCommit (state S.Store connection.old) (state S.Store connection.new)) }
+    ensures ready { HasCleanDisk (state S.Store connection.new) → IsErrOf result Memory → IsReady (state S.Store connection.new) }
     ensures survives { Survives (state S.Store connection.old) (state S.Store connection.new) (LeavesNext (λ held. held) (state S.Store connection.old)) }
     ensures tells { Tells (state S.Store connection.new) → Tells (state S.Store connection.old) }
 {

@@ -1,4 +1,4 @@
-ghost use Rattle.std.specs.Prelude.{◌≡◌, ◌↔◌, ◌≤◌, ◌<◌, ◌-◌, ◌^◌, IfOk, IsErrOf, IsOk, IsTrue, OnErr, OnOk, refl};
+ghost use Rattle.std.specs.Prelude.{◌≡◌, ◌⊎◌, ◌↔◌, ◌≤◌, ◌<◌, ◌-◌, ◌^◌, IfOk, IsErrOf, IsOk, IsTrue, OnErr, OnOk, refl};
 ghost use Rattle.rv_base.specs.Causes.{Rose};
 ghost use Rattle.rv_base.specs.declared.fault.Fault.TheVariants.{Memory};
 ghost use Rattle.rv_keeper.specs.declared.loaded.Loaded.{Loaded};
@@ -9,6 +9,7 @@ ghost use Rattle.sqlite.specs.State.{HasCleanDisk, KeepsCommit, Survives};
 ghost use Rattle.sqlite.specs.Held.{state};
 ghost use Rattle.rv_sqlite.specs.Asked.{FindsGeneration};
 ghost use Rattle.rv_sqlite.specs.Loads.{LoadsTable};
+ghost use Rattle.rv_sqlite.specs.Steps.{IsReady};
 ghost use Rattle.rv_sqlite.specs.Table.{IsKnown};
 ghost use Rattle.rv_sqlite.specs.Telling.{CallMakes, CommitsOrNot, Holds, IsGenerationBy, IsToldBy, LeavesAs, LeavesNext, LeavesNoMore, MayLeave, Tells};
 ghost use Rattle.rv_sqlite.specs.HeldLaws.{stand_same};
@@ -128,6 +129,10 @@ impl<S: Alter> Keeper for SqliteKeeper<S> {
 
     ghost may_leave = { λ s left. MayLeave (state S.Store s.connection) left };
 
+    ghost loads = { λ old result new. HasCleanDisk (state S.Store new.connection) → IfOk result (LoadsTable S.Store old.connection) };
+
+    ghost asks = { λ old from result new. HasCleanDisk (state S.Store new.connection) → IfOk result (FindsGeneration S.Store old.connection) };
+
     ghost faults = { λ s. s.faults };
 
     ghost fails_no_more = { λ s. ⊥ };
@@ -143,10 +148,12 @@ impl<S: Alter> Keeper for SqliteKeeper<S> {
         ensures known { self.new.is_known ≡ self.old.is_known }
         ensures answer { HasCleanDisk (state S.Store self.new.connection) → IfOk result (IsToldBy (state S.Store self.old.connection) (state S.Store self.new.connection)) }
         ensures kept { HasCleanDisk (state S.Store self.new.connection) → OnErr result (KeepsCommit (state S.Store self.old.connection) (state S.Store self.new.connection)) }
+        ensures ready { HasCleanDisk (state S.Store self.new.connection) → IsErrOf result Memory → IsReady (state S.Store self.new.connection) }
         ensures tells { Tells (state S.Store self.new.connection) → Tells (state S.Store self.old.connection) }
         ensures same { Tells (state S.Store self.new.connection) → (held : Loaded) → Holds (state S.Store self.old.connection) held → Holds (state S.Store self.new.connection) held }
         ensures told { IsTrue self.old.is_known → Tells (state S.Store self.new.connection) → IfOk result (λ loaded. LoadsHeld loaded (Holds (state S.Store self.old.connection)) (Holds (state S.Store self.new.connection))) }
         ensures honest { HasCleanDisk (state S.Store self.new.connection) → HasCleanDisk (state S.Store self.old.connection) × (IsOk result → Tells (state S.Store self.new.connection)) }
+        ensures clean { IsTrue self.new.is_known × HasCleanDisk (state S.Store self.new.connection) → (IsTrue self.new.is_known × Tells (state S.Store self.new.connection)) ⊎ Rose self.old.faults self.new.faults }
         ensures survives { Survives (state S.Store self.old.connection) (state S.Store self.new.connection) (LeavesNext (λ held. held) (state S.Store self.old.connection)) }
         ensures crash { IsTrue self.new.is_known × HasCleanDisk (state S.Store self.new.connection) → LeavesAs self.old.is_known (λ held. held) (state S.Store self.old.connection) (state S.Store self.new.connection) }
         ensures settled { IsTrue self.new.is_known × Tells (state S.Store self.new.connection) → IsSettled (Holds (state S.Store self.new.connection)) (MayLeave (state S.Store self.new.connection)) }
@@ -166,6 +173,7 @@ impl<S: Alter> Keeper for SqliteKeeper<S> {
         ensures same { Tells (state S.Store self.new.connection) → (held : Loaded) → Holds (state S.Store self.old.connection) held → Holds (state S.Store self.new.connection) held }
         ensures told { Tells (state S.Store self.new.connection) → IfOk result (λ n. (held : Loaded) → Holds (state S.Store self.old.connection) held → held.generation ≡ n) }
         ensures honest { HasCleanDisk (state S.Store self.new.connection) → HasCleanDisk (state S.Store self.old.connection) × (IsOk result → Tells (state S.Store self.new.connection)) }
+        ensures clean { IsTrue self.new.is_known × HasCleanDisk (state S.Store self.new.connection) → (IsTrue self.new.is_known × Tells (state S.Store self.new.connection)) ⊎ Rose self.old.faults self.new.faults }
         ensures survives { Survives (state S.Store self.old.connection) (state S.Store self.new.connection) (LeavesNext (λ held. held) (state S.Store self.old.connection)) }
         ensures crash { IsTrue self.new.is_known × HasCleanDisk (state S.Store self.new.connection) → LeavesAs self.old.is_known (λ held. held) (state S.Store self.old.connection) (state S.Store self.new.connection) }
         ensures settled { IsTrue self.new.is_known × Tells (state S.Store self.new.connection) → IsSettled (Holds (state S.Store self.new.connection)) (MayLeave (state S.Store self.new.connection)) }
@@ -183,10 +191,11 @@ impl<S: Alter> Keeper for SqliteKeeper<S> {
         ensures tells { Tells (state S.Store self.new.connection) → Tells (state S.Store self.old.connection) }
         ensures made { Tells (state S.Store self.new.connection) → (held : Loaded) → Holds (state S.Store self.old.connection) held → CommitsOrNot from changes.now result (Holds (state S.Store self.new.connection)) held }
         ensures honest { HasCleanDisk (state S.Store self.new.connection) → HasCleanDisk (state S.Store self.old.connection) × (IsOk result → Tells (state S.Store self.new.connection)) }
+        ensures clean { IsTrue self.new.is_known × HasCleanDisk (state S.Store self.new.connection) → (IsTrue self.new.is_known × Tells (state S.Store self.new.connection)) ⊎ Rose self.old.faults self.new.faults }
         ensures survives { Survives (state S.Store self.old.connection) (state S.Store self.new.connection) (LeavesNext (committed from changes.now) (state S.Store self.old.connection)) }
         ensures crash { IsTrue self.new.is_known × HasCleanDisk (state S.Store self.new.connection) → LeavesAs self.old.is_known (committed from changes.now) (state S.Store self.old.connection) (state S.Store self.new.connection) }
         ensures memory { HasCleanDisk (state S.Store self.new.connection) → IsErrOf result Memory → LeavesNoMore (state S.Store self.old.connection) (state S.Store self.new.connection) }
-        ensures open { HasCleanDisk (state S.Store self.new.connection) → IsErrOf result Memory → IsTrue (state S.Store self.new.connection).is_open }
+        ensures ready { HasCleanDisk (state S.Store self.new.connection) → IsErrOf result Memory → IsReady (state S.Store self.new.connection) }
         ensures outcome { Tells (state S.Store self.new.connection) → IsSettled (Holds (state S.Store self.new.connection)) (MayLeave (state S.Store self.new.connection)) }
         ensures settled { IsTrue self.new.is_known × Tells (state S.Store self.new.connection) → IsSettled (Holds (state S.Store self.new.connection)) (MayLeave (state S.Store self.new.connection)) }
     {

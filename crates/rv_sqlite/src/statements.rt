@@ -11,7 +11,7 @@ ghost use Rattle.sqlite.specs.Held.{state};
 ghost use Rattle.sqlite.specs.Given.{HasBegun, IsRefused};
 ghost use Rattle.rv_sqlite.specs.Asked.{FindsRow, generation_key, one_text};
 ghost use Rattle.rv_sqlite.specs.Loads.{all_text};
-ghost use Rattle.rv_sqlite.specs.Steps.{KeepsWhereClean, Steps, cell_of, generation_cell};
+ghost use Rattle.rv_sqlite.specs.Steps.{IsReady, KeepsWhereClean, Steps, cell_of, generation_cell};
 
 use itoa::Buffer;
 use rv_keeper::Change;
@@ -156,7 +156,7 @@ pub(crate) fn put_generation<S: Alter>(
 // Runs a ROLLBACK outside a transaction, where it is refused.
 fn roll_nothing_back<S: Alter>(connection: &mut Connection<S>) -> Result<usize, Error>
     requires autocommit { connection.old.in_transaction ≡ false }
-    ensures open { HasCleanDisk (state S.Store connection.new) → IfErr result (λ e. e ≡ Error.SqliteFailure ErrorCode.TransactionState → IsTrue (state S.Store connection.new).is_open) }
+    ensures ready { HasCleanDisk (state S.Store connection.new) → IfErr result (λ e. e ≡ Error.SqliteFailure ErrorCode.TransactionState → IsReady (state S.Store connection.new)) }
     ensures kept { KeepsWhereClean S.Store connection.old connection.new }
     ensures survives { Survives (state S.Store connection.old) (state S.Store connection.new) (λ _. ⊥) }
 {
@@ -167,7 +167,7 @@ fn roll_nothing_back<S: Alter>(connection: &mut Connection<S>) -> Result<usize, 
 /// nothing.
 pub(crate) fn is_settled<S: Alter>(connection: &mut Connection<S>) -> bool
     requires autocommit { connection.old.in_transaction ≡ false }
-    ensures open { HasCleanDisk (state S.Store connection.new) → IsTrue result → IsTrue (state S.Store connection.new).is_open }
+    ensures ready { HasCleanDisk (state S.Store connection.new) → IsTrue result → IsReady (state S.Store connection.new) }
     ensures kept { KeepsWhereClean S.Store connection.old connection.new }
     ensures survives { Survives (state S.Store connection.old) (state S.Store connection.new) (λ _. ⊥) }
 {

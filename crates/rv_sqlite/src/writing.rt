@@ -5,7 +5,7 @@ ghost use Rattle.rv_keeper.specs.Cells.{changed};
 ghost use Rattle.sqlite.specs.State.{HasCleanDisk, KeepsCommit, Survives};
 ghost use Rattle.sqlite.specs.Held.{state};
 ghost use Rattle.rv_sqlite.specs.Faults.{fault_of};
-ghost use Rattle.rv_sqlite.specs.Steps.{Comes, IsSettledWhereOpen, IsUnderWay, KeepsWhereClean, ShowsCommitted, Steps, WritesCells, all_next};
+ghost use Rattle.rv_sqlite.specs.Steps.{Comes, IsReady, IsSettledWhereOpen, IsUnderWay, KeepsWhereClean, ShowsCommitted, Steps, WritesCells, all_next};
 
 use crate::statements::{is_settled, make_change, make_table, put_generation};
 use rv_base::Fault;
@@ -113,15 +113,16 @@ fn attempt<S: Alter>(
     }
 }
 
-// Why a transaction was not made that was rolled back: a rollback that failed is a fault.
-fn undone<S: Alter>(connection: &mut Connection<S>, error: Error) -> Fault
+/// The fault of a call that committed nothing, as it is told: want of memory only of a connection that is open and in no transaction.
+/// So a rollback that failed is a fault.
+pub(crate) fn settled_fault<S: Alter>(connection: &mut Connection<S>, fault: Fault) -> Fault
     requires autocommit { connection.old.in_transaction ≡ false }
-    ensures open { HasCleanDisk (state S.Store connection.new) → result ≡ Memory → IsTrue (state S.Store connection.new).is_open }
+    ensures ready { HasCleanDisk (state S.Store connection.new) → result ≡ Memory → IsReady (state S.Store connection.new) }
     ensures kept { KeepsWhereClean S.Store connection.old connection.new }
     ensures survives { Survives (state S.Store connection.old) (state S.Store connection.new) (λ _. ⊥) }
 {
     if is_settled(connection) {
-        fault_of(error)
+        fault
     } else {
         Fault::Failed
     }
@@ -137,7 +138,7 @@ pub(crate) fn write<S: Alter>(
     ensures comes { HasCleanDisk (state S.Store connection.new) → Comes (state S.Store connection.old) (state S.Store connection.new) generation changes.now result }
     ensures survives { Survives (state S.Store connection.old) (state S.Store connection.new) (WritesCells (state S.Store connection.old) generation changes.now) }
     ensures memory { IsErrOf result Memory → Survives (state S.Store connection.old) (state S.Store connection.new) (λ _. ⊥) }
-    ensures open { HasCleanDisk (state S.Store connection.new) → IsErrOf result Memory → IsTrue (state S.Store connection.new).is_open }
+    ensures ready { HasCleanDisk (state S.Store connection.new) → IsErrOf result Memory → IsReady (state S.Store connection.new) }
     ensures outside { connection.new.in_transaction ≡ false → connection.old.in_transaction ≡ false }
 {
     if !connection.is_autocommit() {
@@ -145,6 +146,6 @@ pub(crate) fn write<S: Alter>(
     }
     match attempt(connection, makes_table, generation, changes) {
         Ok(ended) => ended,
-        Err(error) => Err(undone(connection, error)),
+        Err(error) => Err(settled_fault(connection, fault_of(error))),
     }
 }

@@ -1,6 +1,9 @@
 // A keeper over any other that fails at the calls of a schedule, and whose generation somebody else raises.
-ghost use Rattle.std.specs.Prelude.{◌≡◌, ◌≤◌};
+ghost use Rattle.std.specs.Prelude.{◌≡◌, ◌≤◌, ◌⊎◌, ◌+◌, ◌-◌, ◌^◌, ℕ, min, Result, IsErr, IsErrOf};
+ghost use Rattle.std.specs.Result.{result_map_both};
 ghost use Rattle.rv_base.specs.Causes.{Rose};
+ghost use Rattle.rv_base.specs.declared.fault.Fault.TheVariants as fault;
+ghost use Rattle.rv_base.specs.declared.outside.Failed.{Failed};
 
 use crate::schedules::Troubles;
 use rv_base::{Failed, Fault};
@@ -45,6 +48,7 @@ impl<K> FailingKeeper<K> {
     fn count_fault(&mut self)
         ensures later { self.old.faults ≤ self.new.faults }
         ensures rose { Rose self.old.faults self.new.faults }
+        ensures others { self.new ≡ record self.old { faults = self.new.faults } }
     {
         self.faults = self.faults.saturating_add(1);
     }
@@ -58,6 +62,12 @@ impl<K: Keeper> Keeper for FailingKeeper<K> {
     ghost honest = { λ s. ⊥ };
 
     ghost may_leave = { λ s left. Unit {0} };
+
+    // It failed before it asked the one that it is over, or answers what that one did.
+    ghost loads = { λ old result new. (IsErrOf result fault.Failed × (new.kept ≡ old.kept)) ⊎ K.loads old.kept result new.kept };
+
+    // The same, with the number raised.
+    ghost asks = { λ old from result new. (IsErr result × (new.kept ≡ old.kept)) ⊎ ((asked : Result ℕ Failed) × K.asks old.kept from asked new.kept × (result ≡ result_map_both (λ n. min (n + old.raised) (2 ^ 64 - 1)) (λ e. e) asked)) };
 
     ghost faults = { λ s. s.faults };
 

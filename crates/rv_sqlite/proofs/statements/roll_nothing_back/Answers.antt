@@ -2,7 +2,7 @@ use Rattle.std.proofs.Common.{[], codes}
 use Rattle.sqlite.specs.State.{CommitsBy}
 use Rattle.sqlite.specs.Held.{state}
 use Rattle.sqlite.proofs.StateLemmas.{survives_weaker}
-use Rattle.rv_sqlite.proofs.RollingBack.{refused_open, rollback_keeps, rollback_commits}
+use Rattle.rv_sqlite.proofs.RollingBack.{refused_ready, rollback_keeps, rollback_commits}
 use Rattle.rv_sqlite.proofs.statements.roll_nothing_back.Goals as goal
 
 pub returns-clause-kept : goal.returns-clause-kept
@@ -13,5 +13,6 @@ returns-clause-survives g c =
     let old = state g.S.Store c.args.connection.now in
     survives_weaker old (state g.S.Store c.execute.new.self) (CommitsBy (codes "ROLLBACK") [] old) (λ _. ⊥) (λ clean trees may. rollback_commits old trees may) c.execute.ensures.survives
 
-pub returns-clause-open : goal.returns-clause-open
-returns-clause-open g c clean = refused_open (state g.S.Store c.args.connection.now) (state g.S.Store c.execute.new.self) c.execute.result (c.execute.ensures.runs clean)
+pub returns-clause-ready : goal.returns-clause-ready
+returns-clause-ready g c clean =
+    refused_ready (state g.S.Store c.args.connection.now) (state g.S.Store c.execute.new.self) c.execute.result c.requires.autocommit (c.execute.ensures.runs clean)
