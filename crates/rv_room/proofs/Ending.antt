@@ -1,9 +1,9 @@
 -- What a turn leaves in what its seat knows.
-use Rattle.std.proofs.Common.{◌≡◌, ◌≢◌, ◌⊎◌, ℕ, ◌+◌, ◌≤◌, Bool, true, false, List, [], ◌∷◌, ◌++◌, Option, Some, None, refl, sym, ap, ◌∙◌, subst, ⊎_elim, inl, inr, arith, append-nil}
+use Rattle.std.proofs.Common.{◌≡◌, ◌≢◌, ◌⊎◌, ℕ, ◌+◌, ◌-◌, ◌^◌, ◌≤◌, ◌<◌, length, Bool, true, false, List, [], ◌∷◌, ◌++◌, Option, Some, None, refl, sym, ap, ◌∙◌, subst, ⊎_elim, inl, inr, arith, append-nil, length-append}
 use Rattle.std.specs.Prelude.{Result, Ok, Err, IfSome}
 use Rattle.rv_book.specs.declared.entry.Entry.{Entry}
 use Rattle.rv_book.specs.Book.{Book, size, since, with_entry, Extends}
-use Rattle.rv_book.specs.BookWords.{since-all, size-with_entry}
+use Rattle.rv_book.specs.BookWords.{since-all, since-with_entry, size-with_entries, size-with_entry}
 use Rattle.rv_turns.specs.Asks.{Ask, IsClosing}
 use Rattle.rv_turns.specs.Outcomes.{trouble_of}
 use Rattle.rv_turns.specs.declared.outcome.Outcome.{Outcome}
@@ -29,7 +29,7 @@ use Rattle.rv_room.specs.Rule.{IsOf}
 use Rattle.rv_room.specs.Plays.{Knows}
 use Rattle.rv_room.specs.Ends.{end_view, held_view}
 use Rattle.rv_room.specs.SeatMarks.{IsSeatMark}
-use Rattle.rv_room.specs.SeatTurns.{IsSeatTurn, IsSeatTurnWithin}
+use Rattle.rv_room.specs.SeatTurns.{IsSeatTurn, IsSeatTurnWithin, SettlesSo}
 
 -- ---- Which way a book settled, and whether a step made an entry.
 
@@ -222,6 +222,51 @@ module _ {K : Type 0} (G : Ghosts K) where
             (subst (λ (r : Result (Unit {0}) Trouble). Assures G.tells G.fails_no_more d.keeper (settle_trouble r) d'.keeper) err assured) kept,
         omega arith,
       )
+
+-- ---- What a turn settled.
+
+pub settled_more : (book : Book) (doubt : Doubt) (s : Book) → IsNoClosing doubt → Settles book doubt s → size s ≡ size book + length (since (size book) s)
+settled_more book doubt s entry is =
+    ⊎_elim
+    (λ (same : s ≡ book). let none = ap length (since-all (size book) s (omega (arith, ap size same))) in omega (arith, ap size same, none))
+    (λ (t : (e : Entry) × (doubt ≡ Some (Next.entry e)) × (s ≡ with_entry book e)).
+    let one = ap (λ (b : Book). length (since (size book) b)) t.2 ∙ ap length (since-with_entry (size book) book t.0 (omega arith)) ∙ length-append (since (size book) book) (t.0 ∷ []) in
+    let none = ap length (since-all (size book) book (omega arith)) in
+    omega (arith, longer_by_one book t.0 s t.2, one, none))
+    (settled_ways book doubt s entry is)
+
+extends_size : (new old : Book) → Extends new old → size old ≤ size new
+extends_size new old (more, is) = omega (arith, ap size is, size-with_entries old more)
+
+adds_size : (old new : Book) → Adds old new → size old ≤ size new
+adds_size old new (inl same) = omega (arith, ap size same)
+adds_size old new (inr (e, is)) = omega (arith, longer_by_one old e new is)
+
+module _ {K : Type 0} (G : Ghosts K) where
+  -- the desk settled and stepped
+  pub ended_settles : (v : SeatView K) (d mid d' : Seated K) (m : Knows K) (w : SeatView K) → HasTaken G v d m → IsOf G v d → Extends d.book v.seen → Settles d.book d.doubt mid.book → Adds mid.book d'.book
+      → w ≡ end_view m.0 mid.book d'.book d'.doubt d'.keeper
+      → (began settled now : ℕ) → began ≡ size d.book → settled ≡ size mid.book → now ≡ size d'.book → now < 2 ^ 32 → SettlesSo v (settled - began) w
+  ended_settles v d mid d' m w taken of begins settles adds view began settled now b0 s0 n0 few =
+      let is : w ≡ end_view (on_turn G.faults (waiting v taken.0) d) mid.book d'.book d'.doubt d'.keeper = view ∙ ap (λ (m : Knows K). end_view m.0 mid.book d'.book d'.doubt d'.keeper) taken.1 in
+      let more = settled_more d.book d.doubt mid.book of.2.doubt settles in
+      let count = ap (λ (s : SeatView K). length s.settled) is ∙ length-append v.settled (since (size d.book) mid.book) in
+      let seen = ap (λ (s : SeatView K). size s.seen) is in record {
+        count = omega (arith, count, more, b0, s0);
+        seen = omega (arith, seen, more, b0, s0, extends_size d.book v.seen begins, adds_size mid.book d'.book adds);
+        few = omega (arith, seen, n0, few);
+      }
+
+  -- the desk could not settle
+  pub held_settles : (v : SeatView K) (d d' : Seated K) (m : Knows K) (w : SeatView K) → HasTaken G v d m → Extends d.book v.seen → w ≡ held_view m.0 d'.keeper → (began : ℕ) → began ≡ size d.book → began < 2 ^ 32 → SettlesSo v 0 w
+  held_settles v d d' m w taken begins view began b0 few =
+      let is : w ≡ held_view (on_turn G.faults (waiting v taken.0) d) d'.keeper = view ∙ ap (λ (m : Knows K). held_view m.0 d'.keeper) taken.1 in
+      let count = ap (λ (s : SeatView K). length s.settled) is in
+      let seen = ap (λ (s : SeatView K). size s.seen) is in record {
+        count = omega (arith, count);
+        seen = omega (arith, seen, extends_size d.book v.seen begins);
+        few = omega (arith, seen, b0, few);
+      }
 
 -- ---- All of a turn that leaves the desk as it is.
 

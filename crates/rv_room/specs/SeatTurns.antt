@@ -1,5 +1,5 @@
 -- What a turn of a seat is.
-use Rattle.std.specs.Prelude.{◌≡◌, ℕ, ◌+◌, ◌≤◌, [], ◌∷◌, ◌++◌, Some}
+use Rattle.std.specs.Prelude.{◌≡◌, ℕ, ◌+◌, ◌≤◌, ◌<◌, ◌^◌, length, [], ◌∷◌, ◌++◌, Some}
 use Rattle.rv_book.specs.Book.{size, since, Extends}
 use Rattle.rv_turns.specs.Asks.{Ask, IsClosing}
 use Rattle.rv_turns.specs.declared.outcome.Outcome.{Outcome}
@@ -35,6 +35,16 @@ pub record IsSeatTurn {K : Type 0} (G : Ghosts K) (old : SeatView K) (ask : Ask)
   pub left : new.left ≡ old.left ++ option_items takes.turn.left
   pub before : new.before ≡ old.before ++ G.faults desk.keeper ∷ []
   pub after : new.after ≡ old.after ++ now.keeper ∷ []
+
+-- how many entries that had been in doubt the turns of a seat have entered
+abbrev pub settled_by : {K : Type 0} → SeatView K → ℕ
+settled_by v = length v.settled
+
+-- Of a turn of a seat: it entered so many entries that had been in doubt, and what the seat has seen is longer by that at least.
+pub record SettlesSo {K : Type 0} (old : SeatView K) (settled : ℕ) (new : SeatView K) : Type 0 where
+  pub count : settled_by new ≡ settled_by old + settled
+  pub seen : size old.seen + settled ≤ size new.seen
+  pub few : size new.seen < 2 ^ 32
 
 -- The same with the steps that were counted before it and after: at most as many were taken as the walks of what is asked have entries
 -- at the book as it settled.

@@ -14,6 +14,7 @@ mod seat;
 mod seat_turns;
 mod seats;
 mod steps;
+mod turned;
 mod turning;
 mod view;
 mod waiting;

@@ -154,19 +154,26 @@ impl<K: Keeper> Room<K> {
     }
 
     // Puts the desk home after it has settled and stepped, and passes the turn on. The desk had so many entries as the turn began,
-    // and so many once it had settled. No closing was in doubt.
-    pub(crate) fn end(&self, token: &mut Token<K>, desk: Desk<K>, began: u32, settled: u32)
+    // so many once it had settled, and has so many now. No closing was in doubt.
+    pub(crate) fn end(
+        &self,
+        token: &mut Token<K>,
+        desk: Desk<K>,
+        began: u32,
+        settled: u32,
+        now: u32,
+    )
         requires table { token.old.table_id ≡ self.now.table.shared.table_id }
         requires empty { (token.old.me.1 ≡ (0, None) ∷ []) × (token.old.me.0.turns ≡ 1) }
         requires of { IsOf K.Keeper token.old.me.0 desk }
         requires doubt { IsNoClosing token.old.me.0.doubt }
         requires began { began ≡ size token.old.me.0.book }
+        requires now { now ≡ size desk.book }
         requires settled { (s : Book) × (settled ≡ size s) × Settles token.old.me.0.book token.old.me.0.doubt s × Adds s desk.book }
         requires follows { IfSome token.old.me.0.keeper (λ keeper. KeeperFollows K.Keeper keeper desk.keeper) }
         ensures same { (token.new.table_id ≡ token.old.table_id) × (token.new.id ≡ token.old.id) }
         ensures ended { (s : Book) → settled ≡ size s → Settles token.old.me.0.book token.old.me.0.doubt s → Adds s desk.book → token.new.me ≡ (end_view token.old.me.0 s desk.book desk.doubt desk.keeper, []) }
     {
-        let now = desk.book().len();
         self.put_home(token, desk);
         self.count_settled_if(token, differs(began, settled));
         self.count_made_if(token, differs(settled, now));

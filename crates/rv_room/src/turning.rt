@@ -2,11 +2,12 @@
 ghost use Rattle.std.specs.Prelude.{◌≡◌, ◌<◌, None};
 ghost use Rattle.rv_turns.specs.Asks.{Ask, IsClosing, ask_of};
 ghost use Rattle.rv_room.specs.SeatMarks.{IsSeatMark};
-ghost use Rattle.rv_room.specs.SeatTurns.{IsSeatTurn, IsSeatTurnWithin};
+ghost use Rattle.rv_room.specs.SeatTurns.{IsSeatTurn, IsSeatTurnWithin, SettlesSo};
 ghost use Rattle.rv_room.specs.Seats.{id_of, room_of, view_of};
 
 use crate::room::Room;
 use crate::seat::Seat;
+use crate::turned::Turned;
 use rv_base::{Id, Num, Steps, User};
 use rv_keeper::Keeper;
 use rv_rows::Call;
@@ -22,6 +23,17 @@ impl<K: Keeper> Room<K> {
         requires asks { ¬ IsClosing (ask_of asked) }
         ensures same { room_of seat.new ≡ room_of seat.old }
         ensures turn { IsSeatTurn K.Keeper (view_of seat.old) (ask_of asked.entry) result (view_of seat.new) }
+    {
+        self.turned(rt, seat, asked).outcome
+    }
+
+    /// The same, with what the turn settled.
+    pub(crate) fn turned(&self, rt: &impl Wait, seat: &mut Seat<K>, asked: Asked<'_>) -> Turned
+        requires room { room_of seat.old ≡ id_of self.now }
+        requires asks { ¬ IsClosing (ask_of asked) }
+        ensures same { room_of seat.new ≡ room_of seat.old }
+        ensures turn { IsSeatTurn K.Keeper (view_of seat.old) (ask_of asked.entry) result.outcome (view_of seat.new) }
+        ensures settles { SettlesSo (view_of seat.old) result.settled (view_of seat.new) }
     {
         turn_from::<_, K, Brand>(rt, self, seat, asked, Blank::new(1))
     }
@@ -39,6 +51,23 @@ impl<K: Keeper> Room<K> {
         ensures same { room_of seat.new ≡ room_of seat.old }
         ensures turn { IsSeatTurnWithin K.Keeper (view_of seat.old) (ask_of asked.entry) result (view_of seat.new) steps.old steps.new }
     {
+        self.turned_counted(rt, seat, asked, steps).outcome
+    }
+
+    // The same, with what the turn settled.
+    fn turned_counted<L: Ledger>(
+        &self,
+        rt: &impl Wait,
+        seat: &mut Seat<K>,
+        asked: Asked<'_>,
+        steps: &mut Steps<L>,
+    ) -> Turned
+        requires room { room_of seat.old ≡ id_of self.now }
+        requires asks { ¬ IsClosing (ask_of asked) }
+        ensures same { room_of seat.new ≡ room_of seat.old }
+        ensures turn { IsSeatTurnWithin K.Keeper (view_of seat.old) (ask_of asked.entry) result.outcome (view_of seat.new) steps.old steps.new }
+        ensures settles { SettlesSo (view_of seat.old) result.settled (view_of seat.new) }
+    {
         let token = &mut seat.token;
         let mut desk = self.begin(rt, token);
         let began = desk.book().len();
@@ -46,12 +75,19 @@ impl<K: Keeper> Room<K> {
             Ok(()) => {
                 let settled = desk.book().len();
                 let outcome = desk.take_settled(asked, steps);
-                self.end(token, desk, began, settled);
-                outcome
+                let now = desk.book().len();
+                self.end(token, desk, began, settled, now);
+                Turned {
+                    outcome,
+                    settled: settled - began,
+                }
             }
             Err(trouble) => {
                 self.end_held(token, desk);
-                Outcome::Refused(Refusal::Trouble(trouble))
+                Turned {
+                    outcome: Outcome::Refused(Refusal::Trouble(trouble)),
+                    settled: 0,
+                }
             }
         }
     }
@@ -130,14 +166,15 @@ fn turn_from<R: Wait, K: Keeper, L: Ledger>(
     seat: &mut Seat<K>,
     asked: Asked<'_>,
     blank: Blank,
-) -> Outcome
+) -> Turned
     requires room { room_of seat.old ≡ id_of room.now }
     requires asks { ¬ IsClosing (ask_of asked) }
     requires name { blank.name ≡ L.name }
     requires parts { (blank.parts ≡ L.parts) × (0 < L.parts) }
     ensures same { room_of seat.new ≡ room_of seat.old }
-    ensures turn { IsSeatTurn K.Keeper (view_of seat.old) (ask_of asked.entry) result (view_of seat.new) }
+    ensures turn { IsSeatTurn K.Keeper (view_of seat.old) (ask_of asked.entry) result.outcome (view_of seat.new) }
+    ensures settles { SettlesSo (view_of seat.old) result.settled (view_of seat.new) }
 {
     let mut steps = Steps::<L>::new(blank);
-    room.turn_counted(rt, seat, asked, &mut steps)
+    room.turned_counted(rt, seat, asked, &mut steps)
 }

@@ -27,12 +27,12 @@ pub record AreConnsServed {I O : Type 0} (conns : List (ServedConn I O)) (to_com
   pub back : came_back' ≡ came_back ++ map (λ conn. conn.back) conns
   pub same : out' ≡ out
 
-module _ {S L I O W : Type 0} (takes : S → Ask → Outcome → S → Type 0) (listen : ListenGhosts L I O) (source : SourceGhosts I) (sink : SinkGhosts O) (accounts : Accounts) (gate : GateGhosts W) where
+module _ {S L I O W : Type 0} (takes : S → Ask → Outcome → S → Type 0) (settled : S → ℕ) (listen : ListenGhosts L I O) (source : SourceGhosts I) (sink : SinkGhosts O) (accounts : Accounts) (gate : GateGhosts W) where
   abbrev Each : S → List (ServedConn I O) → S → Type 0
-  Each = ServesEach takes source sink accounts
+  Each = ServesEach takes settled source sink accounts
 
   abbrev One : S → ServedConn I O → S → Type 0
-  One = ServesConn takes source sink accounts
+  One = ServesConn takes settled source sink accounts
 
   each_one : (old mid new : S) (conns : List (ServedConn I O)) (conn : ServedConn I O) → Each old conns mid → One mid conn new → Each old (conns ++ conn ∷ []) new
   each_one old mid new [] conn same one = (new, subst (λ (s : S). One s conn new) same one, refl)
@@ -46,14 +46,14 @@ module _ {S L I O W : Type 0} (takes : S → Ask → Outcome → S → Type 0) (
 
   -- the next connection is given, served, and goes back
   pub served_more : (old : S) (first : L) (before : W) (mid : S) (left : L) (then : W) (new : S) (next : L) (after : W) (given returned : Conn I O) (end : ConnEnd) → ServedSoFar old first before mid left then
-      → TalksPast takes accounts mid new (source.state given.source) (source.state returned.source) (sink.state given.sink) (sink.state returned.sink) (gate.heard then) (gate.heard after) end
+      → TalksPast takes settled accounts mid new (source.state given.source) (source.state returned.source) (sink.state given.sink) (sink.state returned.sink) (gate.heard then) (gate.heard after) end
       → ConnCause (source.state given.source) (source.state returned.source) (sink.state given.sink) (sink.state returned.sink) end
       → (source.fails_no_more given.source → ConnInputIsSteady (source.fails_no_more returned.source) end)
       → (sink.fails_no_more given.sink → ConnOutputIsSteady (sink.fails_no_more returned.sink) (sink.state given.sink) (sink.state returned.sink) end)
       → (listen.tells next → listen.tells left) → (listen.tells next → listen.to_come left ≡ given ∷ listen.to_come next) → (listen.tells next → listen.came_back next ≡ listen.came_back left ++ returned ∷ [])
       → (listen.tells next → listen.out left ≡ listen.out next) → ServedSoFar old first before new next after
   served_more old first before mid left then new next after given returned end served past cause steady_input steady_output earlier gives goes stays =
-      let conn : ServedConn I O = record { given = given; back = returned; end = end; answers = answered takes accounts past.talks } in record {
+      let conn : ServedConn I O = record { given = given; back = returned; end = end; answers = answered takes settled accounts past.talks } in record {
         conns = served.conns ++ conn ∷ [];
         serves = each_one old mid new served.conns conn served.serves (record { talks = past.talks; answers = refl; cause = cause; steady_input = steady_input; steady_output = steady_output });
         hears = subst (λ (l : List Heard). Hears (gate.heard before) (gate.heard after) l) (sym (heard_more served.conns conn))
@@ -71,7 +71,7 @@ module _ {S L I O W : Type 0} (takes : S → Ask → Outcome → S → Type 0) (
   -- none is to come any more
   pub served_all : (old : S) (first : L) (before : W) (new : S) (left back : L) (after : W) → ServedSoFar old first before new left after
       → (listen.tells back → listen.tells left) → (listen.tells back → listen.to_come left ≡ []) → (listen.tells back → listen.to_come back ≡ [])
-      → (listen.tells back → listen.came_back back ≡ listen.came_back left) → (listen.tells back → listen.out back ≡ listen.out left) → ServesPast takes listen source sink accounts gate old first before new back after
+      → (listen.tells back → listen.came_back back ≡ listen.came_back left) → (listen.tells back → listen.out back ≡ listen.out left) → ServesPast takes settled listen source sink accounts gate old first before new back after
   served_all old first before new left back after served earlier none rests stays same = record {
     all = record {
       conns = served.conns;

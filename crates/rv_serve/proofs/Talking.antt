@@ -24,12 +24,12 @@ use Rattle.rv_turns.specs.Asks.{Ask}
 use Rattle.rv_turns.specs.declared.outcome.Outcome.{Outcome}
 use Rattle.rv_http.specs.declared.http_end.HttpEnd.TheVariants as reading
 
-module _ {S : Type 0} (takes : S → Ask → Outcome → S → Type 0) (accounts : Accounts) where
+module _ {S : Type 0} (takes : S → Ask → Outcome → S → Type 0) (settled : S → ℕ) (accounts : Accounts) where
   abbrev Each : ℕ → S → List ℕ → List Exchange → S → List ℕ → Type 0
-  Each = AnswersEach takes accounts
+  Each = AnswersEach takes settled accounts
 
   abbrev ExchangeReplied : S → Request → Exchange → S → Type 0
-  ExchangeReplied old request x new = Responds takes accounts old request x.answer x.acted new
+  ExchangeReplied old request x new = Responds takes settled accounts old request x.answer x.entered new
 
   answers_more : (n : ℕ) (old : S) (bytes more : List ℕ) (xs : List Exchange) (new : S) (rest : List ℕ) → Each n old bytes xs new rest → Each n old (bytes ++ more) xs new (rest ++ more)
   answers_more n old bytes more [] new rest (same, left) = (same, ap (λ l. l ++ more) left)
@@ -86,9 +86,9 @@ module _ {S : Type 0} (takes : S → Ask → Outcome → S → Type 0) (accounts
 
   module _ (old now : S) (input input' input'' : InputState) (output output' output'' : OutputState) (heard heard' heard'' : Option (List Heard)) (bytes bytes' : List ℕ) (count : ℕ) (going : Going old now input input' output output' heard heard' bytes count) where
     pub going_on : (request : Request) (new : S) → ReadsOne bytes bytes' input'.left input''.left (Ok request) → CountsReads input' input'' false false
-        → AnswersOne takes accounts (count + 1) now request output' output'' heard' heard'' new (Ok false) → Going old new input input'' output output'' heard heard'' bytes' (count + 1)
+        → AnswersOne takes settled accounts (count + 1) now request output' output'' heard' heard'' new (Ok false) → Going old new input input'' output output'' heard heard'' bytes' (count + 1)
     going_on request new one counts told =
-        let x : Exchange = record { request = request; answer = told.answer; acted = told.acted } in
+        let x : Exchange = record { request = request; answer = told.answer; entered = told.entered } in
         let at : count + 1 ≡ 1 + length going.exchanges = omega (arith, going.counted) in record {
           read = going.read ++ one.read;
           exchanges = going.exchanges ++ x ∷ [];
@@ -104,9 +104,9 @@ module _ {S : Type 0} (takes : S → Ask → Outcome → S → Type 0) (accounts
         }
 
     pub closed : (request : Request) (new : S) → ReadsOne bytes bytes' input'.left input''.left (Ok request) → CountsReads input' input'' false false
-        → AnswersOne takes accounts (count + 1) now request output' output'' heard' heard'' new (Ok true) → TalksPast takes accounts old new input input'' output output'' heard heard'' (Done (count + 1))
+        → AnswersOne takes settled accounts (count + 1) now request output' output'' heard' heard'' new (Ok true) → TalksPast takes settled accounts old new input input'' output output'' heard heard'' (Done (count + 1))
     closed request new one counts told =
-        let x : Exchange = record { request = request; answer = told.answer; acted = told.acted } in record {
+        let x : Exchange = record { request = request; answer = told.answer; entered = told.entered } in record {
           talks = record {
             read = going.read ++ one.read;
             exchanges = going.exchanges;
@@ -128,9 +128,9 @@ module _ {S : Type 0} (takes : S → Ask → Outcome → S → Type 0) (accounts
         }
 
     pub write_failed : (request : Request) (new : S) (fault : WriteFailed) → ReadsOne bytes bytes' input'.left input''.left (Ok request) → CountsReads input' input'' false false
-        → AnswersOne takes accounts (count + 1) now request output' output'' heard' heard'' new (Err fault) → TalksPast takes accounts old new input input'' output output'' heard heard'' WriteFault
+        → AnswersOne takes settled accounts (count + 1) now request output' output'' heard' heard'' new (Err fault) → TalksPast takes settled accounts old new input input'' output output'' heard heard'' WriteFault
     write_failed request new fault one counts told =
-        let x : Exchange = record { request = request; answer = told.answer; acted = told.acted } in
+        let x : Exchange = record { request = request; answer = told.answer; entered = told.entered } in
         let (part, front, added) = told.writes.bytes in record {
           talks = record {
             read = going.read ++ one.read;
@@ -153,7 +153,7 @@ module _ {S : Type 0} (takes : S → Ask → Outcome → S → Type 0) (accounts
         }
 
     pub refused : (cause : HttpEnd) (end : ConnEnd) → ReadsOne bytes bytes' input'.left input''.left (Err cause) → CountsReads input' input'' (saw_end {T = Request} (Err cause)) (read_failed {T = Request} (Err cause))
-        → EndsConn count cause output' output'' end → TalksPast takes accounts old now input input'' output output'' heard heard' end
+        → EndsConn count cause output' output'' end → TalksPast takes settled accounts old now input input'' output output'' heard heard' end
     refused cause end one counts told = record {
       talks = record {
         read = going.read ++ one.read;
@@ -176,7 +176,7 @@ module _ {S : Type 0} (takes : S → Ask → Outcome → S → Type 0) (accounts
     }
 
   -- memory was refused before anything was read
-  pub no_buffer : (old : S) (input : InputState) (output output' : OutputState) (heard : Option (List Heard)) (end : ConnEnd) → EndsConn 0 (reading.Memory false) output output' end → TalksPast takes accounts old old input input output output' heard heard end
+  pub no_buffer : (old : S) (input : InputState) (output output' : OutputState) (heard : Option (List Heard)) (end : ConnEnd) → EndsConn 0 (reading.Memory false) output output' end → TalksPast takes settled accounts old old input input output output' heard heard end
   no_buffer old input output output' heard end told = record {
     talks = record {
       read = [];

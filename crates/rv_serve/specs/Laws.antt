@@ -1,5 +1,5 @@
 -- What is answered over connections is a run of the server's turns.
-use Rattle.std.specs.Prelude.{List, [], ◌∷◌, ◌++◌, map, Result, Ok}
+use Rattle.std.specs.Prelude.{ℕ, List, [], ◌∷◌, ◌++◌, map, Result, Ok}
 use Rattle.std.specs.List.{flat_map}
 use Rattle.rv_base.specs.Outside.{InputState, OutputState}
 use Rattle.rv_base.specs.declared.outside.Source.{Ghosts as SourceGhosts}
@@ -35,10 +35,10 @@ module _ {S : Type 0} (takes : S → Ask → Outcome → S → Type 0) where
 
   -- What was answered on a connection is a run from the state before it to the state after it.
   abbrev pub TalksAreRuns : Type 0
-  TalksAreRuns = (accounts : Accounts) (old new : S) (input input' : InputState) (output output' : OutputState) (end : ConnEnd) (talk : Talks takes accounts old new input input' output output' end)
-      → RunsTurns old (turns_of accounts (answered takes accounts talk)) new
+  TalksAreRuns = (settled : S → ℕ) (accounts : Accounts) (old new : S) (input input' : InputState) (output output' : OutputState) (end : ConnEnd) (talk : Talks takes settled accounts old new input input' output output' end)
+      → RunsTurns old (turns_of accounts (answered takes settled accounts talk)) new
 
   -- So is all that was answered on connections that were served one after another.
   abbrev pub ConnsAreRuns : {I O : Type 0} → SourceGhosts I → SinkGhosts O → Type 0
-  ConnsAreRuns {I} {O} source sink = (accounts : Accounts) (old new : S) (conns : List (ServedConn I O))
-      → ServesEach takes source sink accounts old conns new → RunsTurns old (turns_of accounts (flat_map (λ conn. conn.answers) conns)) new
+  ConnsAreRuns {I} {O} source sink = (settled : S → ℕ) (accounts : Accounts) (old new : S) (conns : List (ServedConn I O))
+      → ServesEach takes settled source sink accounts old conns new → RunsTurns old (turns_of accounts (flat_map (λ conn. conn.answers) conns)) new

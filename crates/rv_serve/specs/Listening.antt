@@ -34,11 +34,11 @@ pub record AreBack {I O : Type 0} (conns : List (ServedConn I O)) (to_come to_co
   pub back : came_back' ≡ came_back ++ map (λ conn. conn.back) conns
   pub same : out' ≡ out
 
-module _ {S I O : Type 0} (takes : S → Ask → Outcome → S → Type 0) (source : SourceGhosts I) (sink : SinkGhosts O) (accounts : Accounts) where
+module _ {S I O : Type 0} (takes : S → Ask → Outcome → S → Type 0) (settled : S → ℕ) (source : SourceGhosts I) (sink : SinkGhosts O) (accounts : Accounts) where
   -- a connection is served from one state to the next, as the clauses of serving it say
   pub record ServesConn (old : S) (conn : ServedConn I O) (new : S) : Type 0 where
-    pub talks : Talks takes accounts old new (source.state conn.given.source) (source.state conn.back.source) (sink.state conn.given.sink) (sink.state conn.back.sink) conn.end
-    pub answers : conn.answers ≡ answered takes accounts talks
+    pub talks : Talks takes settled accounts old new (source.state conn.given.source) (source.state conn.back.source) (sink.state conn.given.sink) (sink.state conn.back.sink) conn.end
+    pub answers : conn.answers ≡ answered takes settled accounts talks
     pub cause : ConnCause (source.state conn.given.source) (source.state conn.back.source) (sink.state conn.given.sink) (sink.state conn.back.sink) conn.end
     pub steady_input : source.fails_no_more conn.given.source → ConnInputIsSteady (source.fails_no_more conn.back.source) conn.end
     pub steady_output : sink.fails_no_more conn.given.sink → ConnOutputIsSteady (sink.fails_no_more conn.back.sink) (sink.state conn.given.sink) (sink.state conn.back.sink) conn.end
@@ -48,11 +48,11 @@ module _ {S I O : Type 0} (takes : S → Ask → Outcome → S → Type 0) (sour
   ServesEach old [] new = new ≡ old
   ServesEach old (conn ∷ conns) new = (mid : S) × ServesConn old conn mid × ServesEach mid conns new
 
-module _ {S L I O : Type 0} (takes : S → Ask → Outcome → S → Type 0) (listen : ListenGhosts L I O) (source : SourceGhosts I) (sink : SinkGhosts O) (accounts : Accounts) where
+module _ {S L I O : Type 0} (takes : S → Ask → Outcome → S → Type 0) (settled : S → ℕ) (listen : ListenGhosts L I O) (source : SourceGhosts I) (sink : SinkGhosts O) (accounts : Accounts) where
   -- All connections that a listener gave are served and went back to it.
   pub record ServesAll (old : S) (given : L) (new : S) (back : L) : Type 0 where
     pub conns : List (ServedConn I O)
-    pub serves : ServesEach takes source sink accounts old conns new
+    pub serves : ServesEach takes settled source sink accounts old conns new
     pub are_back : listen.tells back → AreBack conns (listen.to_come given) (listen.to_come back) (listen.came_back given) (listen.came_back back) (listen.out given) (listen.out back)
 
   -- They are served past a gate, which heard of all that was answered on them and of nothing else.

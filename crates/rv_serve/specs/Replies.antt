@@ -1,5 +1,5 @@
 -- What a request asks, and what it is answered. The state, and the turns on it, are anyone's who takes turns.
-use Rattle.std.specs.Prelude.{◌≡◌, ℕ, Bool, false, List, bytes_eq, Result, Ok, Err, option_and_then}
+use Rattle.std.specs.Prelude.{◌≡◌, ◌==◌, ◌||◌, ℕ, Bool, not, false, List, bytes_eq, Result, Ok, Err, option_and_then}
 use Rattle.std.specs.List.{list_any}
 use Rattle.rv_base.specs.Chains.{◌>>=◌, need}
 use Rattle.rv_wire.specs.Bodies.{push_body, pull_body}
@@ -38,14 +38,14 @@ asked_at accounts request Pull = user_by_key accounts request >>= λ user. Ok (p
 abbrev pub asked_of : Accounts → Request → Result Parsed Rejection
 asked_of accounts request = asked_at accounts request (route_of request.method request.path)
 
-module _ {S : Type 0} (takes : S → Ask → Outcome → S → Type 0) where
-  -- What is asked is answered by its turns, and acted tells whether a mutation was run for it. Where nothing is asked the rejection is
-  -- the answer, and nothing changes.
+module _ {S : Type 0} (takes : S → Ask → Outcome → S → Type 0) (settled : S → ℕ) where
+  -- What is asked is answered by its turns, and entered tells whether they entered what others may have to be told of: a mutation that
+  -- was run for it, or what had been in doubt. Where nothing is asked the rejection is the answer, and nothing changes.
   abbrev pub AnswersAsked : S → Result Parsed Rejection → HttpAnswer → Bool → S → Type 0
-  AnswersAsked old (Ok parsed) (Answered answer) acted new = HandlesActing takes old parsed answer acted new
-  AnswersAsked old (Ok parsed) (Rejected rejection) acted new = ⊥
-  AnswersAsked old (Err rejection) answer acted new = (answer ≡ Rejected rejection) × (acted ≡ false) × (new ≡ old)
+  AnswersAsked old (Ok parsed) (Answered answer) entered new = (acted : Bool) × HandlesActing takes old parsed answer acted new × (entered ≡ (acted || not (settled old == settled new)))
+  AnswersAsked old (Ok parsed) (Rejected rejection) entered new = ⊥
+  AnswersAsked old (Err rejection) answer entered new = (answer ≡ Rejected rejection) × (entered ≡ false) × (new ≡ old)
 
   -- a request is answered so
   abbrev pub Responds : Accounts → S → Request → HttpAnswer → Bool → S → Type 0
-  Responds accounts old request answer acted new = AnswersAsked old (asked_of accounts request) answer acted new
+  Responds accounts old request answer entered new = AnswersAsked old (asked_of accounts request) answer entered new

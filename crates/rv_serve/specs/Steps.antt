@@ -38,13 +38,13 @@ pub record EndsConn (count : ℕ) (unread : HttpEnd) (output output' : OutputSta
   pub appended : Appends output.written output'.written text
   pub cause : OutputCause output output' end
 
-module _ {S : Type 0} (takes : S → Ask → Outcome → S → Type 0) (accounts : Accounts) where
+module _ {S : Type 0} (takes : S → Ask → Outcome → S → Type 0) (settled : S → ℕ) (accounts : Accounts) where
   -- A request, a connection's so many-th, is answered, and its response is written, or a front of it. Whether it closes is told, and
   -- the gate hears of it.
   pub record AnswersOne (number : ℕ) (old : S) (request : Request) (output output' : OutputState) (heard heard' : Option (List Heard)) (new : S) (result : Result Bool WriteFault) : Type 0 where
     pub answer : HttpAnswer
-    pub acted : Bool
-    pub replies : Responds takes accounts old request answer acted new
-    pub writes : Writes output output' result (exchange_text number (record { request = request; answer = answer; acted = acted }))
-    pub hears : Hears heard heard' (heard_of number (record { request = request; answer = answer; acted = acted }))
+    pub entered : Bool
+    pub replies : Responds takes settled accounts old request answer entered new
+    pub writes : Writes output output' result (exchange_text number (record { request = request; answer = answer; entered = entered }))
+    pub hears : Hears heard heard' (heard_of number (record { request = request; answer = answer; entered = entered }))
     pub closes : IfOk result (λ closes. closes ≡ closes_at number request)

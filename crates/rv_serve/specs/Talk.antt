@@ -22,11 +22,11 @@ use Rattle.rv_turns.specs.declared.outcome.Outcome.{Outcome}
 use Rattle.rv_http.specs.declared.rejection.Rejection.TheVariants as rejections
 use Rattle.rv_http.specs.declared.http_end.HttpEnd.TheVariants as reading
 
--- a request and its answer, and whether a mutation was run for it
+-- a request and its answer, and whether its turns entered what others may have to be told of
 pub record Exchange : Type 0 where
   pub request : Request
   pub answer : HttpAnswer
-  pub acted : Bool
+  pub entered : Bool
 
 -- The answer to a connection's so many-th request closes where the request asks so, and at the 100th (RFC 9112, sections 9.3
 -- and 9.6).
@@ -43,9 +43,9 @@ text_from number [] = []
 text_from number (x ∷ xs) = exchange_text number x ++ text_from (number + 1) xs
 
 -- What a gate hears of a connection's so many-th request: that it was read, and then with which status it was answered, and whether
--- a mutation was run for it.
+-- its turns entered what others may have to be told of.
 abbrev pub heard_of : ℕ → Exchange → List Heard
-heard_of number x = Before number ∷ After (http_status x.answer) x.acted ∷ []
+heard_of number x = Before number ∷ After (http_status x.answer) x.entered ∷ []
 
 -- the same of requests in order, from the one with this number on
 abbrev pub heard_from : ℕ → List Exchange → List Heard
@@ -101,18 +101,18 @@ EndsTalk count (Ok x) text before now ReadFault = ⊥
 EndsTalk count (Ok x) text before now Memory = ⊥
 EndsTalk count (Err cause) text before now end = EndsUnread count cause text before now end
 
-module _ {S : Type 0} (takes : S → Ask → Outcome → S → Type 0) (accounts : Accounts) where
+module _ {S : Type 0} (takes : S → Ask → Outcome → S → Type 0) (settled : S → ℕ) (accounts : Accounts) where
   -- The bytes give these requests one after another, from the one with this number on. Each is answered at the state that the
   -- one before it left, no answer closes, and this is left of the bytes.
   abbrev pub AnswersEach : ℕ → S → List ℕ → List Exchange → S → List ℕ → Type 0
   AnswersEach number old bytes [] new rest = (new ≡ old) × (rest ≡ bytes)
   AnswersEach number old bytes (x ∷ xs) new rest =
-      (after : List ℕ) × (mid : S) × Gives bytes after (Ok x.request) × Responds takes accounts old x.request x.answer x.acted mid
+      (after : List ℕ) × (mid : S) × Gives bytes after (Ok x.request) × Responds takes settled accounts old x.request x.answer x.entered mid
       × (closes_at number x.request ≡ false) × AnswersEach (number + 1) mid after xs new rest
 
   -- the request that was read last is answered; where none was read, nothing changes
   abbrev pub AnswersLast : S → Result Exchange HttpEnd → S → Type 0
-  AnswersLast old (Ok x) new = Responds takes accounts old x.request x.answer x.acted new
+  AnswersLast old (Ok x) new = Responds takes settled accounts old x.request x.answer x.entered new
   AnswersLast old (Err cause) new = new ≡ old
 
   -- A connection was served: these bytes were read, these requests were answered in turn, then this was read last, and this text

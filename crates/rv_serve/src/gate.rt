@@ -12,9 +12,10 @@ pub trait Gate: Drop {
     fn before(&mut self, number: u32)
         ensures { Hears (heard self.old) (heard self.new) (Before number ∷ []) };
 
-    /// The request was answered with this status, and a mutation was run for it, or none was.
-    fn after(&mut self, status: u16, acted: bool)
-        ensures { Hears (heard self.old) (heard self.new) (After status acted ∷ []) };
+    /// The request was answered with this status; and a mutation was run for it, or what had been in doubt was entered in its turns, or
+    /// neither was.
+    fn after(&mut self, status: u16, entered: bool)
+        ensures { Hears (heard self.old) (heard self.new) (After status entered ∷ []) };
 
     /// The worker has served all its connections, and leaves.
     fn leave(&mut self)
@@ -32,7 +33,7 @@ impl Gate for OpenGate {
 
     fn before(&mut self, _number: u32) {}
 
-    fn after(&mut self, _status: u16, _acted: bool) {}
+    fn after(&mut self, _status: u16, _entered: bool) {}
 
     fn leave(&mut self) {}
 }

@@ -25,11 +25,11 @@ impl HttpAnswer {
     }
 }
 
-/// What a request is answered over HTTP, and whether a mutation was run for it.
+/// What a request is answered over HTTP, and whether its turns entered what others may have to be told of.
 #[derive(Debug, Drop)]
 pub struct HttpAnswered {
     /// The answer.
     pub answer: HttpAnswer,
-    /// Whether a mutation was run.
-    pub acted: bool,
+    /// Whether a mutation was run, or what had been in doubt was entered.
+    pub entered: bool,
 }

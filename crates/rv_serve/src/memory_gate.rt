@@ -55,8 +55,8 @@ impl Gate for MemoryGate {
         self.keep(Heard::Before(number));
     }
 
-    fn after(&mut self, status: u16, acted: bool) {
-        self.keep(Heard::After(status, acted));
+    fn after(&mut self, status: u16, entered: bool) {
+        self.keep(Heard::After(status, entered));
     }
 
     fn leave(&mut self) {

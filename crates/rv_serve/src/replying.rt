@@ -1,5 +1,5 @@
 // The answer to one request.
-ghost use Rattle.std.specs.Prelude.{◌≡◌, false, map, string_bytes};
+ghost use Rattle.std.specs.Prelude.{◌≡◌, ◌==◌, ◌||◌, not, false, map, string_bytes};
 ghost use Rattle.rv_base.specs.Chains.{need};
 ghost use Rattle.rv_wire.specs.Bodies.{push_body, pull_body};
 ghost use Rattle.rv_answering.specs.Requests.{push_asked, pull_asked};
@@ -14,7 +14,7 @@ use rv_accounts::Accounts;
 use rv_answering::{Answer, Answered, run_pull, run_push};
 use rv_base::{Schemas, User};
 use rv_http::{Rejection, Request, Route, Routes};
-use rv_turns::Turns;
+use rv_turns::{CountsSettled, Turns};
 use rv_wire::{read_pull, read_push};
 use std::alloc::Global;
 
@@ -60,17 +60,25 @@ fn answer_pull<T: Turns>(
     }
 }
 
+// Whether a mutation was run, or something settled since so much was.
+fn has_entered<T: CountsSettled>(turns: &T, before: u32, acted: bool) -> bool
+    ensures { result ≡ (acted || not (before == T.settled turns.now)) }
+{
+    acted || turns.settled_count() != before
+}
+
 // Answers a request whose route is that of a push.
-fn reply_push<T: Turns>(
+fn reply_push<T: Turns + CountsSettled>(
     alloc: Global,
     turns: &mut T,
     accounts: &Accounts,
     request: &Request,
 ) -> HttpAnswered
-    ensures { AnswersAsked T.takes turns.old (asked_at accounts.now request.now routes.Push) result.answer result.acted turns.new }
+    ensures { AnswersAsked T.takes T.settled turns.old (asked_at accounts.now request.now routes.Push) result.answer result.entered turns.new }
 {
     match user_by_key(accounts, request) {
         Some(user) => {
+            let before = turns.settled_count();
             let Answered { answer, acted } = answer_push(
                 alloc,
                 turns,
@@ -80,7 +88,7 @@ fn reply_push<T: Turns>(
             );
             HttpAnswered {
                 answer: HttpAnswer::Answered(answer),
-                acted,
+                entered: has_entered(turns, before, acted),
             }
         }
         None => rejected(Rejection::Unauthorized),
@@ -88,48 +96,52 @@ fn reply_push<T: Turns>(
 }
 
 // Answers a request whose route is that of a pull.
-fn reply_pull<T: Turns>(
+fn reply_pull<T: Turns + CountsSettled>(
     alloc: Global,
     turns: &mut T,
     accounts: &Accounts,
     request: &Request,
 ) -> HttpAnswered
-    ensures { AnswersAsked T.takes turns.old (asked_at accounts.now request.now routes.Pull) result.answer result.acted turns.new }
+    ensures { AnswersAsked T.takes T.settled turns.old (asked_at accounts.now request.now routes.Pull) result.answer result.entered turns.new }
 {
     match user_by_key(accounts, request) {
-        Some(user) => HttpAnswered {
-            answer: HttpAnswer::Answered(answer_pull(
+        Some(user) => {
+            let before = turns.settled_count();
+            let answer = answer_pull(
                 alloc,
                 turns,
                 accounts.schemas(),
                 user,
                 request.body.as_slice(),
-            )),
-            acted: false,
-        },
+            );
+            HttpAnswered {
+                answer: HttpAnswer::Answered(answer),
+                entered: has_entered(turns, before, false),
+            }
+        }
         None => rejected(Rejection::Unauthorized),
     }
 }
 
-// A rejection, for which no mutation was run.
+// A rejection, for which nothing was entered.
 fn rejected(rejection: Rejection) -> HttpAnswered
-    ensures { (result.answer ≡ answers.Rejected rejection) × (result.acted ≡ false) }
+    ensures { (result.answer ≡ answers.Rejected rejection) × (result.entered ≡ false) }
 {
     HttpAnswered {
         answer: HttpAnswer::Rejected(rejection),
-        acted: false,
+        entered: false,
     }
 }
 
 /// Answers a request: the route, the method and the user are looked at, and then the body and the turns.
-pub(crate) fn reply<T: Turns>(
+pub(crate) fn reply<T: Turns + CountsSettled>(
     alloc: Global,
     turns: &mut T,
     accounts: &Accounts,
     routes: &Routes,
     request: &Request,
 ) -> HttpAnswered
-    ensures { Responds T.takes accounts.now turns.old request.now result.answer result.acted turns.new }
+    ensures { Responds T.takes T.settled accounts.now turns.old request.now result.answer result.entered turns.new }
 {
     match routes.route(&request.method, request.path.as_slice()) {
         Route::NoRoute => rejected(Rejection::NoRoute),

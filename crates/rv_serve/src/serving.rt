@@ -17,7 +17,7 @@ use rv_accounts::Accounts;
 use rv_base::{Sink, Source};
 use rv_http::{Buffer, HttpEnd, Rejection, Request, Routes, WriteFault, read_request};
 use rv_net::Conn;
-use rv_turns::Turns;
+use rv_turns::{CountsSettled, Turns};
 use std::alloc::Global;
 
 // The most requests of a connection.
@@ -32,7 +32,7 @@ fn closes_at(number: u32, request: &Request) -> bool
 
 // Answers a connection's so many-th request, writes the answer, and tells whether it closes. The gate may hold the request first, and
 // hears of the answer, whether or not it could be written.
-fn answer_request<T: Turns, G: Gate, O: Sink>(
+fn answer_request<T: Turns + CountsSettled, G: Gate, O: Sink>(
     alloc: Global,
     turns: &mut T,
     accounts: &Accounts,
@@ -42,14 +42,14 @@ fn answer_request<T: Turns, G: Gate, O: Sink>(
     number: u32,
     sink: &mut O,
 ) -> Result<bool, WriteFault>
-    ensures answers { AnswersOne T.takes accounts.now number turns.old request.now (O.state sink.old) (O.state sink.new) (G.heard gate.old) (G.heard gate.new) turns.new result }
+    ensures answers { AnswersOne T.takes T.settled accounts.now number turns.old request.now (O.state sink.old) (O.state sink.new) (G.heard gate.old) (G.heard gate.new) turns.new result }
     ensures steady { O.fails_no_more sink.old → IsSteady (O.fails_no_more sink.new) (O.state sink.old) (O.state sink.new) result }
 {
     gate.before(number);
-    let HttpAnswered { answer, acted } = reply(alloc, turns, accounts, routes, request);
+    let HttpAnswered { answer, entered } = reply(alloc, turns, accounts, routes, request);
     let closes = closes_at(number, request);
     let written = write_answer(sink, &answer, closes, request.head_only);
-    gate.after(answer.status(), acted);
+    gate.after(answer.status(), entered);
     match written {
         Ok(()) => Ok(closes),
         Err(WriteFault) => Err(WriteFault),
@@ -99,7 +99,7 @@ fn refuse<O: Sink>(sink: &mut O, cause: HttpEnd, count: u32) -> ConnEnd
 }
 
 // Answers requests until something ends the connection.
-fn serve_requests<T: Turns, G: Gate, S: Source, O: Sink>(
+fn serve_requests<T: Turns + CountsSettled, G: Gate, S: Source, O: Sink>(
     alloc: Global,
     turns: &mut T,
     accounts: &Accounts,
@@ -110,7 +110,7 @@ fn serve_requests<T: Turns, G: Gate, S: Source, O: Sink>(
     sink: &mut O,
 ) -> ConnEnd
     requires { buffer.old ≡ [] }
-    ensures talks { TalksPast T.takes accounts.now turns.old turns.new (S.state source.old) (S.state source.new) (O.state sink.old) (O.state sink.new) (G.heard gate.old) (G.heard gate.new) result }
+    ensures talks { TalksPast T.takes T.settled accounts.now turns.old turns.new (S.state source.old) (S.state source.new) (O.state sink.old) (O.state sink.new) (G.heard gate.old) (G.heard gate.new) result }
     ensures cause { ConnCause (S.state source.old) (S.state source.new) (O.state sink.old) (O.state sink.new) result }
     ensures steady_input { S.fails_no_more source.old → ConnInputIsSteady (S.fails_no_more source.new) result }
     ensures steady_output { O.fails_no_more sink.old → ConnOutputIsSteady (O.fails_no_more sink.new) (O.state sink.old) (O.state sink.new) result }
@@ -140,7 +140,7 @@ fn serve_requests<T: Turns, G: Gate, S: Source, O: Sink>(
 
 /// Answers the requests of a connection as [`serve_connection`] does, with the tools of the connection before it, if there are any, and
 /// gives the tools for the next one.
-pub(crate) fn serve_with<T: Turns, G: Gate, S: Source, O: Sink>(
+pub(crate) fn serve_with<T: Turns + CountsSettled, G: Gate, S: Source, O: Sink>(
     alloc: Global,
     turns: &mut T,
     accounts: &Accounts,
@@ -148,7 +148,7 @@ pub(crate) fn serve_with<T: Turns, G: Gate, S: Source, O: Sink>(
     tools: Option<Tools>,
     conn: &mut Conn<S, O>,
 ) -> (ConnEnd, Option<Tools>)
-    ensures talks { TalksPast T.takes accounts.now turns.old turns.new (S.state conn.old.source) (S.state conn.new.source) (O.state conn.old.sink) (O.state conn.new.sink) (G.heard gate.old) (G.heard gate.new) result.0 }
+    ensures talks { TalksPast T.takes T.settled accounts.now turns.old turns.new (S.state conn.old.source) (S.state conn.new.source) (O.state conn.old.sink) (O.state conn.new.sink) (G.heard gate.old) (G.heard gate.new) result.0 }
     ensures cause { ConnCause (S.state conn.old.source) (S.state conn.new.source) (O.state conn.old.sink) (O.state conn.new.sink) result.0 }
     ensures steady_input { S.fails_no_more conn.old.source → ConnInputIsSteady (S.fails_no_more conn.new.source) result.0 }
     ensures steady_output { O.fails_no_more conn.old.sink → ConnOutputIsSteady (O.fails_no_more conn.new.sink) (O.state conn.old.sink) (O.state conn.new.sink) result.0 }
@@ -171,14 +171,14 @@ pub(crate) fn serve_with<T: Turns, G: Gate, S: Source, O: Sink>(
 
 /// Answers the requests of a connection, each by its turns, until one is answered that closes, none can be read, or the
 /// connection ends. Each request that was read passes the gate before its turns.
-pub fn serve_connection<T: Turns, G: Gate, S: Source, O: Sink>(
+pub fn serve_connection<T: Turns + CountsSettled, G: Gate, S: Source, O: Sink>(
     alloc: Global,
     turns: &mut T,
     accounts: &Accounts,
     gate: &mut G,
     conn: &mut Conn<S, O>,
 ) -> ConnEnd
-    ensures talks { TalksPast T.takes accounts.now turns.old turns.new (S.state conn.old.source) (S.state conn.new.source) (O.state conn.old.sink) (O.state conn.new.sink) (G.heard gate.old) (G.heard gate.new) result }
+    ensures talks { TalksPast T.takes T.settled accounts.now turns.old turns.new (S.state conn.old.source) (S.state conn.new.source) (O.state conn.old.sink) (O.state conn.new.sink) (G.heard gate.old) (G.heard gate.new) result }
     ensures cause { ConnCause (S.state conn.old.source) (S.state conn.new.source) (O.state conn.old.sink) (O.state conn.new.sink) result }
     ensures steady_input { S.fails_no_more conn.old.source → ConnInputIsSteady (S.fails_no_more conn.new.source) result }
     ensures steady_output { O.fails_no_more conn.old.sink → ConnOutputIsSteady (O.fails_no_more conn.new.sink) (O.state conn.old.sink) (O.state conn.new.sink) result }

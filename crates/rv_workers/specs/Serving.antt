@@ -13,7 +13,7 @@ use Rattle.rv_room.specs.Closing.{Closes}
 use Rattle.rv_room.specs.Views.{newcomer}
 use Rattle.rv_room.specs.Following.{FollowsAll}
 use Rattle.rv_room.specs.SeatMarks.{IsSeatMark}
-use Rattle.rv_room.specs.SeatTurns.{IsSeatTurn}
+use Rattle.rv_room.specs.SeatTurns.{IsSeatTurn, settled_by}
 use Rattle.rv_book.specs.Book.{Extends}
 use Rattle.rv_net.specs.declared.poke_listen.PokeListen.{Ghosts as PokeListenGhosts}
 use Rattle.rv_poke.specs.Bells.{BellState, unasked}
@@ -28,7 +28,7 @@ module _ {K L I O : Type 0} (G : Ghosts K) (listen : ListenGhosts L I O) (source
   pub record IsServed (first : SeatView K) (given : L) (last : SeatView K) (back : L) : Type 0 where
     pub told : listen.tells back → listen.tells given
     pub ended : listen.ends back ≡ counted (listen.ends given)
-    pub serves : ServesAll (IsSeatTurn G) listen source sink accounts first given last back
+    pub serves : ServesAll (IsSeatTurn G) settled_by listen source sink accounts first given last back
 
 module _ {K P C : Type 0} (G : Ghosts K) (listen : PokeListenGhosts P C) (link : LinkGhosts C) (accounts : Accounts) where
   -- A listener of links was served by looks of a seat that knew this first and knows that last: a poke session over each link, one after the

@@ -18,7 +18,7 @@ use Rattle.rv_room.specs.SeatMarks.{IsSeatMark}
 use Rattle.rv_workers.specs.Looking.{HasEnteredNothing}
 use Rattle.rv_workers.specs.declared.poke_job.PokeJob.{PokeJob}
 use Rattle.rv_workers.specs.declared.worker.Worker.{Worker}
-use Rattle.rv_room.specs.SeatTurns.{IsSeatTurn}
+use Rattle.rv_room.specs.SeatTurns.{IsSeatTurn, settled_by}
 
 module _ {R K L W I O : Type 0} (G : Ghosts K) (listen : ListenGhosts L I O) (source : SourceGhosts I) (sink : SinkGhosts O) (gate : GateGhosts W) where
   -- It is in the same room. Its listener's connections were served by turns of its seat, one after the other, and the listener said once
@@ -28,7 +28,7 @@ module _ {R K L W I O : Type 0} (G : Ghosts K) (listen : ListenGhosts L I O) (so
       (new.turns.room.now ≡ old.turns.room.now)
       × (listen.tells new.listener → listen.tells old.listener)
       × (listen.ends new.listener ≡ counted (listen.ends old.listener))
-      × (then : W) × ServesPast (IsSeatTurn G) listen source sink old.accounts.now gate (view_of old.turns.seat) old.listener old.gate (view_of new.turns.seat) new.listener then
+      × (then : W) × ServesPast (IsSeatTurn G) settled_by listen source sink old.accounts.now gate (view_of old.turns.seat) old.listener old.gate (view_of new.turns.seat) new.listener then
       × Hears (gate.heard then) (gate.heard new.gate) (Left ∷ [])
 
 module _ {R K P B C : Type 0} (G : Ghosts K) (listen : PokeListenGhosts P C) (link : LinkGhosts C) (bell : BellGhosts B) where

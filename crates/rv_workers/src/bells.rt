@@ -15,14 +15,14 @@ const RING: u64 = 256;
 const LOW: u64 = 1 << 32;
 
 /// What the workers of one run tell its poke jobs, in one word: in its low 8 bits how many workers have left, and above them how often
-/// something acted. A change of it wakes all who wait.
+/// something was entered that others may have to be told of. A change of it wakes all who wait.
 #[derive(Drop)]
 pub struct Bells {
     word: AtomicU64,
 }
 
 impl Bells {
-    /// Nothing has acted, and no worker has left.
+    /// Nothing was entered, and no worker has left.
     pub fn new() -> Bells {
         Bells {
             word: AtomicU64::new(0),
@@ -41,7 +41,7 @@ impl Bells {
     }
 }
 
-/// A gate that holds no request, rings all bells after each one in which something acted, and tells them that its worker leaves. It tells
+/// A gate that holds no request, rings all bells after each one in which something was entered, and tells them that its worker leaves. It tells
 /// nothing of what it has heard.
 #[derive(Drop)]
 pub struct RingingGate<'r> {
@@ -62,8 +62,8 @@ impl Gate for RingingGate<'_> {
 
     fn before(&mut self, _number: u32) {}
 
-    fn after(&mut self, _status: u16, acted: bool) {
-        if acted {
+    fn after(&mut self, _status: u16, entered: bool) {
+        if entered {
             self.bells.add(RING);
         }
     }
@@ -73,7 +73,7 @@ impl Gate for RingingGate<'_> {
     }
 }
 
-/// A bell that is rung where something has acted since it was asked last, and over once so many workers have left. A ring that is not yet
+/// A bell that is rung where something was entered since it was asked last, and over once so many workers have left. A ring that is not yet
 /// heard comes before the end.
 #[derive(Drop)]
 pub struct WordBell<'r> {
@@ -88,7 +88,7 @@ pub struct WordBell<'r> {
 }
 
 impl<'r> WordBell<'r> {
-    /// A bell that is over once so many workers have left. Of what acted before it knows already.
+    /// A bell that is over once so many workers have left. Of what was entered before it knows already.
     pub fn new(bells: &'r Bells, workers: u32) -> WordBell<'r>
         ensures { word_bell_state result ≡ unasked }
     {

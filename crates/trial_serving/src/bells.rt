@@ -19,7 +19,7 @@ const PAUSE: u64 = 5;
 struct Known {
     // After how many leaves it is over.
     workers: u64,
-    // How often something acted.
+    // How often something was entered.
     rings: u64,
     // Of how many of these it was told, or knew when it was made.
     heard: u64,
@@ -105,9 +105,9 @@ impl<'x> Tower<'x> {
     }
 
     // A request was answered.
-    fn answer(&mut self, acted: bool) -> &'static str {
-        RingingGate::new(self.bells).after(200, acted);
-        if acted {
+    fn answer(&mut self, entered: bool) -> &'static str {
+        RingingGate::new(self.bells).after(200, entered);
+        if entered {
             self.known.rings = self.known.rings.saturating_add(1);
         }
         "-"
@@ -195,7 +195,7 @@ fn played<R: Threads + Wait + Sync>(
 }
 
 /// What `WORKERS EVENTS` prints, a character for each event, over a bell that is over once so many workers have left: `b` a request was
-/// read, `a` it was answered and something acted, `n` it was and nothing did, `l` a worker leaves, and `m` another bell takes the place
+/// read, `a` it was answered and something was entered, `n` it was and nothing did, `l` a worker leaves, and `m` another bell takes the place
 /// of this one (`-` each); `w` the bell is waited for (`R` where it was rung, `O` where all is over, `?` where the wait would not end); `A`
 /// and `L` it is waited for while beside that something acts, or the last worker leaves, a little later (the same letters, `?` where the
 /// wait would end before that, or would not end); `o` it is asked whether all is over (`y` or `n`).

@@ -13,7 +13,7 @@ const SPINS: u32 = 1_000_000;
 /// What the gates of a run count.
 #[derive(Drop)]
 pub struct Counts {
-    /// The answers of the second worker that acted.
+    /// The answers of status 200 of the second worker, in whose turns something was entered.
     pub answers: AtomicU64,
     /// How often the first worker's gate gave up.
     pub given_up: AtomicU64,
@@ -78,10 +78,10 @@ impl Gate for WatchingGate<'_> {
         }
     }
 
-    fn after(&mut self, status: u16, acted: bool) {
+    fn after(&mut self, status: u16, entered: bool) {
         self.hear(self.is_open);
         self.is_open = false;
-        if self.is_second && status == 200 && acted {
+        if self.is_second && status == 200 && entered {
             self.counts.answers.fetch_add(1, Ordering::SeqCst);
         }
     }

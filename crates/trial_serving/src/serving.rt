@@ -94,11 +94,23 @@ pub fn serve<R: Wait + Sync, C: Crew>(
     crew: &mut C,
     net: Listening,
 ) -> Result<Served, Memory> {
+    let keeper = MemoryKeeper::new(alloc, Vec::new(alloc));
+    serve_over(alloc, runtime, crew, net, keeper)
+}
+
+/// The same at a desk of the book that this keeper keeps.
+pub fn serve_over<R: Wait + Sync, C: Crew>(
+    alloc: Global,
+    runtime: &R,
+    crew: &mut C,
+    net: Listening,
+    keeper: MemoryKeeper,
+) -> Result<Served, Memory> {
     let accounts = accounts(alloc)?;
     if net.listeners.len() > MOST || net.pokes.len() > MOST {
         return Err(Memory);
     }
-    match Desk::open(alloc, MemoryKeeper::new(alloc, Vec::new(alloc)), LIMIT) {
+    match Desk::open(alloc, keeper, LIMIT) {
         Ok(desk) => serve_at(alloc, runtime, crew, desk, &accounts, net),
         Err(_) => Err(Memory),
     }

@@ -16,10 +16,10 @@ cut_so {U = U} old new fault fault' text text' same w =
 pub returns-clause-answers : goal.returns-clause-answers
 returns-clause-answers g c = record {
   answer = c.reply-answer.result.answer;
-  acted = c.reply-answer.result.acted;
+  entered = c.reply-answer.result.entered;
   replies = c.reply-answer.ensures;
   writes = cut_so {T = Unit {0}} (g.O.Sink.state c.args.sink.now) (g.O.Sink.state c.write_answer-written.new.sink) c.in-Err.field-0 (record {}) _ _ (ap (λ (b : Bool). answer_text c.reply-answer.result.answer b c.args.request.now.head_only) c.closes_at-closes.ensures) c.in-Err.ensures.writes;
   closes = tt;
   hears = hears_both (g.G.Gate.heard c.args.gate.now) (g.G.Gate.heard c.before-2.new.self) (g.G.Gate.heard c.after.new.self) c.args.number c.status.result
-      (record { request = c.args.request.now; answer = c.reply-answer.result.answer; acted = c.reply-answer.result.acted }) c.status.ensures c.before-2.ensures c.after.ensures;
+      (record { request = c.args.request.now; answer = c.reply-answer.result.answer; entered = c.reply-answer.result.entered }) c.status.ensures c.before-2.ensures c.after.ensures;
 }

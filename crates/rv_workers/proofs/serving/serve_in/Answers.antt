@@ -4,7 +4,7 @@ use Rattle.rv_accounts.specs.File.{AccountsServed as Accounts}
 use Rattle.rv_poke.specs.Bells.{BellState, unasked}
 use Rattle.rv_room.specs.declared.view.SeatView.{SeatView}
 use Rattle.rv_room.specs.SeatMarks.{IsSeatMark}
-use Rattle.rv_room.specs.SeatTurns.{IsSeatTurn}
+use Rattle.rv_room.specs.SeatTurns.{IsSeatTurn, settled_by}
 use Rattle.rv_room.specs.Seats.{opened_of, view_of}
 use Rattle.rv_room.specs.Views.{newcomer}
 use Rattle.rv_serve.specs.Listening.{ServesAll}
@@ -128,7 +128,7 @@ returns-clause-serves g c =
     (λ w w' h j. record {
       told = j.1;
       ended = j.2;
-      serves = subst (λ (x : Accounts × SeatView g.row.K.Denot). ServesAll (IsSeatTurn g.K.Keeper) g.L.Listen g.L.In.Source g.L.Out.Sink x.0 x.1 w.listener (view_of w'.turns.seat) w'.listener) (λ i. (h.1 i, h.2 i)) j.4.all;
+      serves = subst (λ (x : Accounts × SeatView g.row.K.Denot). ServesAll (IsSeatTurn g.K.Keeper) settled_by g.L.Listen g.L.In.Source g.L.Out.Sink x.0 x.1 w.listener (view_of w'.turns.seat) w'.listener) (λ i. (h.1 i, h.2 i)) j.4.all;
     })
     workers workers' c.hire_all.ensures.each c.work_all-workers.ensures.workers in
     let pokes = each-serves poked Pokes first (λ job. job.listener) (λ job. view_of job.turns.seat) (λ job. (job.turns.room.now ≡ c.args.room.now) × (job.accounts.now ≡ c.args.accounts.now) × (view_of job.turns.seat ≡ first) × (g.C.Bell.Bell.state job.bell ≡ unasked))

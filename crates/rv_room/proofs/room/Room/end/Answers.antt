@@ -37,12 +37,12 @@ count_made_if-requires-clause-grown g c made =
     let ways : Settles v.book v.doubt s = c.requires.settled.2 in
     let adds : Adds s d.book = c.requires.settled.3 in
     let put : c.put_home.new.token.me ≡ (v, (0, Some d) ∷ []) = c.put_home.ensures.desk in
-    let now : c.len-now.result ≡ size d.book = c.len-now.ensures.value ∙ ap size c.book.ensures.book in
+    let now : c.args.now ≡ size d.book = c.requires.now in
     let at1 : c.count_settled_if.new.token.me ≡ (entered v s, (0, Some d) ∷ []) =
     after_settling v s c.args.began c.args.settled c.differs.result c.put_home.new.token.me c.count_settled_if.new.token.me c.requires.began settled c.requires.doubt ways c.differs.ensures.yes c.differs.ensures.no (ap (λ (m : M). m.0) put) c.count_settled_if.ensures.entered c.count_settled_if.ensures.not
     ∙ (λ i. (entered v s, (put i).1)) in
-    let t = some_made s d.book c.args.settled c.len-now.result settled now adds (c.differs-2.ensures.yes made) in
-    let few = c.len-now.ensures.range in
+    let t = some_made s d.book c.args.settled c.args.now settled now adds (c.differs-2.ensures.yes made) in
+    let few = c.ranges.now.fits in
     (d, t.0, ap (λ (m : M). m.1) at1, ap (λ (m : M). m.0.turns) at1 ∙ c.requires.empty.1, t.1 ∙ sym (ap (λ (m : M). with_entry m.0.book t.0) at1), omega (arith, few))
 
 pub note_settled-requires-clause-carries : goal.note_settled-requires-clause-carries
@@ -55,12 +55,12 @@ note_settled-requires-clause-carries g c =
     let ways : Settles v.book v.doubt s = c.requires.settled.2 in
     let adds : Adds s d.book = c.requires.settled.3 in
     let put : c.put_home.new.token.me ≡ (v, (0, Some d) ∷ []) = c.put_home.ensures.desk in
-    let now : c.len-now.result ≡ size d.book = c.len-now.ensures.value ∙ ap size c.book.ensures.book in
+    let now : c.args.now ≡ size d.book = c.requires.now in
     let at1 : c.count_settled_if.new.token.me ≡ (entered v s, (0, Some d) ∷ []) =
     after_settling v s c.args.began c.args.settled c.differs.result c.put_home.new.token.me c.count_settled_if.new.token.me c.requires.began settled c.requires.doubt ways c.differs.ensures.yes c.differs.ensures.no (ap (λ (m : M). m.0) put) c.count_settled_if.ensures.entered c.count_settled_if.ensures.not
     ∙ (λ i. (entered v s, (put i).1)) in
     let at2 : c.count_made_if.new.token.me ≡ (grown (entered v s) d.book, (0, Some d) ∷ []) =
-    after_making (entered v s) d c.args.settled c.len-now.result c.differs-2.result c.count_settled_if.new.token.me c.count_made_if.new.token.me settled now adds c.differs-2.ensures.yes c.differs-2.ensures.no at1 c.count_made_if.ensures.counted c.count_made_if.ensures.not in
+    after_making (entered v s) d c.args.settled c.args.now c.differs-2.result c.count_settled_if.new.token.me c.count_made_if.new.token.me settled now adds c.differs-2.ensures.yes c.differs-2.ensures.no at1 c.count_made_if.ensures.counted c.count_made_if.ensures.not in
     (d, ap (λ (m : M). m.1) at2, ap (λ (m : M). m.0.turns) at2 ∙ c.requires.empty.1, subst (λ (m : M). IfSome m.0.keeper (λ keeper. KeeperFollows g.K.Keeper keeper d.keeper)) (sym at2) c.requires.follows)
 
 pub pass-requires-clause-home : goal.pass-requires-clause-home
@@ -73,12 +73,12 @@ pass-requires-clause-home g c =
     let ways : Settles v.book v.doubt s = c.requires.settled.2 in
     let adds : Adds s d.book = c.requires.settled.3 in
     let put : c.put_home.new.token.me ≡ (v, (0, Some d) ∷ []) = c.put_home.ensures.desk in
-    let now : c.len-now.result ≡ size d.book = c.len-now.ensures.value ∙ ap size c.book.ensures.book in
+    let now : c.args.now ≡ size d.book = c.requires.now in
     let at1 : c.count_settled_if.new.token.me ≡ (entered v s, (0, Some d) ∷ []) =
     after_settling v s c.args.began c.args.settled c.differs.result c.put_home.new.token.me c.count_settled_if.new.token.me c.requires.began settled c.requires.doubt ways c.differs.ensures.yes c.differs.ensures.no (ap (λ (m : M). m.0) put) c.count_settled_if.ensures.entered c.count_settled_if.ensures.not
     ∙ (λ i. (entered v s, (put i).1)) in
     let at2 : c.count_made_if.new.token.me ≡ (grown (entered v s) d.book, (0, Some d) ∷ []) =
-    after_making (entered v s) d c.args.settled c.len-now.result c.differs-2.result c.count_settled_if.new.token.me c.count_made_if.new.token.me settled now adds c.differs-2.ensures.yes c.differs-2.ensures.no at1 c.count_made_if.ensures.counted c.count_made_if.ensures.not in
+    after_making (entered v s) d c.args.settled c.args.now c.differs-2.result c.count_settled_if.new.token.me c.count_made_if.new.token.me settled now adds c.differs-2.ensures.yes c.differs-2.ensures.no at1 c.count_made_if.ensures.counted c.count_made_if.ensures.not in
     let at3 : c.note_settled.new.token.me ≡ (noted (grown (entered v s) d.book) d.doubt (Some d.keeper), (0, Some d) ∷ []) = c.note_settled.ensures.noted d (ap (λ (m : M). m.1) at2) ∙ (λ i. (noted (at2 i).0 d.doubt (Some d.keeper), (at2 i).1)) in (
       d,
       ap (λ (m : M). m.1) at3,
@@ -95,11 +95,11 @@ returns-clause-ended g c s settled ways adds =
     let d : Seated g.row.K.Denot = c.args.desk in
     let v : SeatView g.row.K.Denot = c.args.token.now.me.0 in
     let put : c.put_home.new.token.me ≡ (v, (0, Some d) ∷ []) = c.put_home.ensures.desk in
-    let now : c.len-now.result ≡ size d.book = c.len-now.ensures.value ∙ ap size c.book.ensures.book in
+    let now : c.args.now ≡ size d.book = c.requires.now in
     let at1 : c.count_settled_if.new.token.me ≡ (entered v s, (0, Some d) ∷ []) =
     after_settling v s c.args.began c.args.settled c.differs.result c.put_home.new.token.me c.count_settled_if.new.token.me c.requires.began settled c.requires.doubt ways c.differs.ensures.yes c.differs.ensures.no (ap (λ (m : M). m.0) put) c.count_settled_if.ensures.entered c.count_settled_if.ensures.not
     ∙ (λ i. (entered v s, (put i).1)) in
     let at2 : c.count_made_if.new.token.me ≡ (grown (entered v s) d.book, (0, Some d) ∷ []) =
-    after_making (entered v s) d c.args.settled c.len-now.result c.differs-2.result c.count_settled_if.new.token.me c.count_made_if.new.token.me settled now adds c.differs-2.ensures.yes c.differs-2.ensures.no at1 c.count_made_if.ensures.counted c.count_made_if.ensures.not in
+    after_making (entered v s) d c.args.settled c.args.now c.differs-2.result c.count_settled_if.new.token.me c.count_made_if.new.token.me settled now adds c.differs-2.ensures.yes c.differs-2.ensures.no at1 c.count_made_if.ensures.counted c.count_made_if.ensures.not in
     let at3 : c.note_settled.new.token.me ≡ (noted (grown (entered v s) d.book) d.doubt (Some d.keeper), (0, Some d) ∷ []) = c.note_settled.ensures.noted d (ap (λ (m : M). m.1) at2) ∙ (λ i. (noted (at2 i).0 d.doubt (Some d.keeper), (at2 i).1)) in
     c.pass.ensures.ended ∙ ap (λ (m : M). (ended m.0, [])) at3

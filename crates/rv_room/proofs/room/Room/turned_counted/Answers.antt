@@ -1,4 +1,4 @@
-use Rattle.std.proofs.Common.{◌≡◌, [], None, ap, ◌∙◌, sym, subst}
+use Rattle.std.proofs.Common.{◌≡◌, ◌<◌, ◌^◌, [], None, ap, ◌∙◌, sym, subst, arith}
 use Rattle.rv_book.specs.Book.{size}
 use Rattle.rv_desk.specs.Seated.{served}
 use Rattle.rv_history.specs.Served.{IsNoClosing, Settles}
@@ -8,8 +8,8 @@ use Rattle.rv_wire.specs.Answers.{pull_json}
 use Rattle.rv_room.specs.Ends.{end_view}
 use Rattle.rv_room.specs.Following.{follows_on}
 use Rattle.rv_room.specs.Plays.{Knows}
-use Rattle.rv_room.proofs.Ending.{goes_with, turn_adds, taken_entry, taken_of, taken_follows, taken_settles, ended_within, held_within}
-use Rattle.rv_room.proofs.room.Room.turn_counted.Goals as goal
+use Rattle.rv_room.proofs.Ending.{goes_with, turn_adds, taken_entry, taken_of, taken_follows, taken_settles, ended_settles, ended_within, held_within, settled_more}
+use Rattle.rv_room.proofs.room.Room.turned_counted.Goals as goal
 
 pub end-requires-clause-of : goal.end-requires-clause-of
 end-requires-clause-of g c =
@@ -81,3 +81,26 @@ invariant_of-seat g c =
       one = ap (λ (m : M). m.0.parts) eq ∙ (ap (λ (m : M). m.0.parts) c.begin-desk.ensures.view.1 ∙ c.args.seat.now.one);
       bare = ap (λ (m : M). m.1) eq;
     }
+
+pub overflow_sub-result : goal.overflow_sub-result
+overflow_sub-result g c =
+    let more = settled_more c.begin-desk.result.book c.begin-desk.result.doubt c.settle.new.self.book c.begin-desk.ensures.of.2.doubt c.in-Ok.ensures.settled.settled.0 in
+    let began = c.len-began.ensures.value ∙ ap size c.book.ensures.book in
+    let settled = c.len-settled.ensures.value ∙ ap size c.book-in-Ok.ensures.book in
+    omega (arith, more, began, settled)
+
+pub returns-in-Ok-clause-settles : goal.returns-in-Ok-clause-settles
+returns-in-Ok-clause-settles g c =
+    let M : Type 0 = Knows g.row.K.Denot in
+    let mid = c.settle.new.self in
+    let now = c.take_settled-outcome.new.self in
+    let st : Settles c.begin-desk.result.book c.begin-desk.result.doubt mid.book × (mid.doubt ≡ None) × (g.K.Keeper.faults mid.keeper ≡ g.K.Keeper.faults c.begin-desk.result.keeper) = c.in-Ok.ensures.settled.settled in
+    let m = c.begin-desk.new.token.me in
+    let adds = turn_adds (served g.K.Keeper.faults mid) (ask_of c.args.asked) c.take_settled-outcome.result (served g.K.Keeper.faults now) c.requires.asks st.1 c.take_settled-outcome.ensures.turn.turn in
+    let eq : c.end.new.token.me ≡ (end_view m.0 mid.book now.book now.doubt now.keeper, []) =
+    c.end.ensures.ended mid.book (c.len-settled.ensures.value ∙ ap size c.book-in-Ok.ensures.book) (taken_settles g.K.Keeper c.args.seat.now.token.me.0 c.begin-desk.result m mid.book c.begin-desk.ensures.view st.0) adds in
+    let bound = c.len-now.ensures.bound in
+    let range = c.len-now.ensures.range in
+    let few : c.len-now.result < 2 ^ 32 = omega (arith, bound, range) in
+    ended_settles g.K.Keeper c.args.seat.now.token.me.0 c.begin-desk.result mid now m c.end.new.token.me.0 c.begin-desk.ensures.view c.begin-desk.ensures.of c.begin-desk.ensures.begins st.0 adds (ap (λ (m : M). m.0) eq)
+    c.len-began.result c.len-settled.result c.len-now.result (c.len-began.ensures.value ∙ ap size c.book.ensures.book) (c.len-settled.ensures.value ∙ ap size c.book-in-Ok.ensures.book) (c.len-now.ensures.value ∙ ap size c.book-in-Ok-2.ensures.book) few
