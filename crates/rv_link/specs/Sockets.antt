@@ -12,7 +12,7 @@ use Rattle.tungstenite.specs.declared.error.Error.TheVariants as error
 use Rattle.tungstenite.specs.declared.message.Message.{Message}
 use Rattle.websocket.specs.declared.error.Error.{Error as FrameError}
 use Rattle.rv_link.specs.declared.line.Line.{Line}
-use Rattle.rv_link.specs.declared.line.Line.TheVariants.{Fresh, Open}
+use Rattle.rv_link.specs.declared.line.Line.TheVariants.{Fresh, Open, Lost}
 use Rattle.rv_link.specs.declared.socket_link.SocketLink.{SocketLink}
 
 -- The socket of a server that has done its handshake and nothing since. It takes messages of at most 4,096 bytes.
@@ -31,6 +31,23 @@ IsNoText (Err other) = ⊥
 abbrev pub ReadsFirst : {S : Type 0} → (S → Option (List ℕ)) → Socket S → Socket S → First → Type 0
 ReadsFirst remaining old new (first.Text bytes) = (message : Message) × Reads remaining old new (Ok message) × (content_of message ≡ text bytes)
 ReadsFirst remaining old new first.Other = (read : Result Message Error) × Reads remaining old new read × IsNoText read
+
+-- the read failed: what came is neither a message, nor one that is too long or no UTF-8, and memory was not wanted
+abbrev pub IsBreach : Error → Type 0
+IsBreach (error.Capacity cause) = ⊥
+IsBreach error.Utf8 = ⊥
+IsBreach error.OutOfMemory = ⊥
+IsBreach other = Unit {0}
+
+-- no message was read, since the stream or the client failed
+abbrev pub FailsToRead : {S : Type 0} → (S → Option (List ℕ)) → Socket S → Socket S → Type 0
+FailsToRead remaining old new = (why : Error) × Reads remaining old new (Err why) × IsBreach why
+
+-- A line gives no first message by a fault: its handshake failed; or it was done, and reading failed; or the line was not fresh.
+abbrev pub FailsToOpen : {S : Type 0} → (S → Option (List ℕ)) → Line S → Line S → Type 0
+FailsToOpen {S} remaining (Fresh stream) (Open new) = (socket : Socket S) × IsGreeted socket × FailsToRead remaining socket new
+FailsToOpen remaining old Lost = Unit {0}
+FailsToOpen remaining old new = ⊥
 
 -- The handshake of a fresh line was done, and this first message was read.
 abbrev pub OpensWith : {S : Type 0} → (S → Option (List ℕ)) → Line S → Line S → First → Type 0

@@ -1,10 +1,11 @@
 // A stream, as far as WebSocket has come on it.
-ghost use Rattle.std.specs.Prelude.{◌≡◌, [], codes, IfOk, OnOk, Some};
-ghost use Rattle.rv_poke.specs.declared.first.First.TheVariants.{Text};
+ghost use Rattle.std.specs.Prelude.{◌≡◌, [], codes, Err, IfOk, IsErrOf, OnOk, Some};
+ghost use Rattle.rv_base.specs.declared.fault.Fault.TheVariants as fault;
+ghost use Rattle.rv_poke.specs.declared.first.First.TheVariants.{Other, Text};
 ghost use Rattle.tungstenite.specs.Connection.{close_step, write_step};
 ghost use Rattle.tungstenite.specs.Content.{text};
 ghost use Rattle.websocket.specs.CloseCode.{close_code_of};
-ghost use Rattle.rv_link.specs.Sockets.{IsGreeted, OpensWith, ReadsFirst, WritesStep};
+ghost use Rattle.rv_link.specs.Sockets.{FailsToOpen, FailsToRead, IsBreach, IsGreeted, IsNoText, OpensWith, ReadsFirst, WritesStep};
 
 use rv_base::{Bytes, Failed, Fault};
 use rv_poke::First;
@@ -59,11 +60,25 @@ fn shake<S: Read + Write + Drop>(alloc: Global, stream: S) -> Result<WebSocket<S
 
 // A text as a first message.
 fn text_of(alloc: Global, words: &Utf8Bytes) -> Result<First, Fault>
-    ensures { IfOk result (λ first. first ≡ Text words.now) }
+    ensures text { IfOk result (λ first. first ≡ Text words.now) }
+    ensures memory { ¬ IsErrOf result fault.Failed }
 {
     match Vec::from_slice(alloc, words.as_str().as_bytes()) {
         Ok(bytes) => Ok(First::Text(Bytes::from_vec(bytes))),
         Err(_) => Err(Fault::Memory),
+    }
+}
+
+// What is told where no message was read, for this error. A message that is too long and a text that is no UTF-8 are no texts.
+fn unread(error: &Error) -> Result<First, Fault>
+    ensures other { IfOk result (λ first. (first ≡ Other) × IsNoText (Err error.now)) }
+    ensures fails { IsErrOf result fault.Failed → IsBreach error.now }
+{
+    match error {
+        Error::Capacity(_) => Ok(First::Other),
+        Error::Utf8 => Ok(First::Other),
+        Error::OutOfMemory => Err(Fault::Memory),
+        _ => Err(Fault::Failed),
     }
 }
 
@@ -72,7 +87,8 @@ fn read<S: Read + Write + Drop>(
     alloc: Global,
     socket: &mut WebSocket<S, NoMask>,
 ) -> Result<First, Fault>
-    ensures { IfOk result (ReadsFirst S.remaining socket.old socket.new) }
+    ensures reads { IfOk result (ReadsFirst S.remaining socket.old socket.new) }
+    ensures fails { IsErrOf result fault.Failed → FailsToRead S.remaining socket.old socket.new }
 {
     match socket.read() {
         Ok(Message::Text(words)) => text_of(alloc, &words),
@@ -80,17 +96,15 @@ fn read<S: Read + Write + Drop>(
         Ok(Message::Ping(_)) => Ok(First::Other),
         Ok(Message::Pong(_)) => Ok(First::Other),
         Ok(Message::Close(_)) => Ok(First::Other),
-        Err(Error::Capacity(_)) => Ok(First::Other),
-        Err(Error::Utf8) => Ok(First::Other),
-        Err(Error::OutOfMemory) => Err(Fault::Memory),
-        Err(_) => Err(Fault::Failed),
+        Err(error) => unread(&error),
     }
 }
 
 impl<S: Read + Write + Drop> Line<S> {
     /// Does the handshake of a stream that is fresh, and gives its first message.
     pub(crate) fn first(&mut self, alloc: Global) -> Result<First, Fault>
-        ensures { IfOk result (OpensWith S.remaining self.old self.new) }
+        ensures opens { IfOk result (OpensWith S.remaining self.old self.new) }
+        ensures fails { IsErrOf result fault.Failed → FailsToOpen S.remaining self.old self.new }
     {
         let Line::Fresh(stream) = mem::replace(self, Line::Lost) else {
             return Err(Fault::Failed);

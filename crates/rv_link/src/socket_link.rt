@@ -54,13 +54,14 @@ impl<S> SocketLink<S> {
 }
 
 impl<S: Read + Write + Drop> PokeLink for SocketLink<S> {
-    ghost use Rattle.std.specs.Prelude.{[], Some, codes, IfOk, OnOk};
+    ghost use Rattle.std.specs.Prelude.{[], Some, codes, IfOk, IsErrOf, OnOk};
     ghost use Rattle.rv_poke.specs.declared.sent.Sent.TheVariants.{Close, Poke};
     ghost use Rattle.rv_poke.specs.Links.{Says, Takes};
     ghost use Rattle.tungstenite.specs.Connection.{close_step, write_step};
     ghost use Rattle.tungstenite.specs.Content.{text};
     ghost use Rattle.websocket.specs.CloseCode.{close_code_of};
-    ghost use Rattle.rv_link.specs.Sockets.{OpensWith, WritesStep, link_state};
+    ghost use Rattle.rv_base.specs.declared.fault.Fault.TheVariants as fault;
+    ghost use Rattle.rv_link.specs.Sockets.{FailsToOpen, OpensWith, WritesStep, link_state};
 
     ghost state = { link_state };
 
@@ -69,6 +70,9 @@ impl<S: Read + Write + Drop> PokeLink for SocketLink<S> {
 
         // The handshake of the stream was done, and what was read is this message.
         ensures opens { IfOk result (OpensWith S.remaining self.old.line self.new.line) }
+
+        // It fails only where the handshake or reading failed, or it was called before: a message of another kind is no fault.
+        ensures fails { IsErrOf result fault.Failed → FailsToOpen S.remaining self.old.line self.new.line }
     {
         let taken = self.line.first(alloc);
         match taken {
