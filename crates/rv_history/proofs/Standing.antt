@@ -1,7 +1,7 @@
 -- What is run or skipped stands in the book.
 use Rattle.std.proofs.Common.{◌≡◌, ℕ, zero, suc, ◌+◌, ◌<◌, ◌≤◌, ◌⊎◌, inl, inr, Bool, true, false, not, cond, List, [], ◌∷◌, Option, Some, None, refl, sym, ap, ◌∙◌, subst, arith}
 use Rattle.std.specs.List.{AllByRecursion, Contains, cons_option, range_with_len}
-use Rattle.std.specs.Option.{MatchOption, option_map_or}
+use Rattle.std.specs.Option.{IsSome, MatchOption, option_map, option_map_or, option_or}
 use Rattle.std.specs.Str.{bytes_eq}
 use Rattle.std.proofs.lemmas.Bool.{cases_lt}
 use Rattle.std.proofs.lemmas.Option.{same_Some}
@@ -18,12 +18,15 @@ use Rattle.rv_turns.specs.declared.refusal.Refusal.{Refusal}
 use Rattle.rv_book.specs.declared.entry.Entry.{Entry}
 use Rattle.rv_book.specs.declared.entry.Entry.TheVariants.{Act, Look, Retire}
 use Rattle.rv_book.specs.Entries.{last_in}
-use Rattle.rv_book.specs.Book.{Book, bound, group_of, last, opening}
-use Rattle.rv_history.specs.GroupLaws.{groups_have_one_user, clients_have_one_group}
+use Rattle.rv_book.specs.Book.{Book, bound, group_of, last, opening, page_client, page_group}
+use Rattle.rv_book.specs.SoundPages.{IsOpening}
+use Rattle.rv_history.specs.ClosingLaws.{groupless_last}
+use Rattle.rv_history.specs.GroupLaws.{bound_stays, groups_have_one_user, clients_have_one_group, group_stays}
 use Rattle.rv_history.specs.Lawful.{IsLawful}
 use Rattle.rv_history.specs.LawfulBooks.{ids_count_up, last_append}
-use Rattle.rv_history.specs.Laws.{act_ids, IsEntered}
+use Rattle.rv_history.specs.Laws.{act_ids, HasRun, IsEntered}
 use Rattle.rv_history.specs.Machine.{ReplyText, Step, TakesMutation}
+use Rattle.rv_history.specs.SoundClosing.{page_act}
 use Rattle.rv_history.specs.Succession.{mutations_stay}
 use Rattle.rv_history.specs.Served.{Served, IsSound, TakesTurn}
 use Rattle.rv_history.specs.TurnLaws.{no_trouble, step_of}
@@ -95,10 +98,39 @@ same_text (Some other) is text some own = sym (same_Some other is some) ∙ (byt
 itself : (text : List ℕ) → bytes_eq text text ≡ true
 itself text = (bytes_eq-Decides text text).1 refl
 
+-- A client that the page has of an id has its group there, and that group its user.
+home_there : (book : Book) (client : List ℕ) → 1 ≤ last client (opening book) → (group : List ℕ) × (group_of client (opening book) ≡ Some group)
+home_there book client first = by (group_of client (opening book)) refl
+  where
+    by : (o : Option (List ℕ)) → group_of client (opening book) ≡ o → (group : List ℕ) × (group_of client (opening book) ≡ Some group)
+    by None none = absurd (omega (arith, first, groupless_last client (opening book) none))
+    by (Some group) some = (group, some)
+
+owner_there : (book : Book) (client group : List ℕ) → IsOpening book.page → group_of client (opening book) ≡ Some group → (user : List ℕ) × (bound group (opening book) ≡ Some user)
+owner_there book client group opens home = by (page_group group book.page) refl (page_act book.page client group opens (on_page (option_map (λ c. c.1) (page_client client book.page)) home)).1
+  where
+    on_page : (o : Option (List ℕ)) → option_or o None ≡ Some group → o ≡ Some group
+    on_page None some = absurd (cc)
+    on_page (Some other) some = some
+
+    by : (o : Option (List ℕ × List ℕ × ℕ × Bool)) → page_group group book.page ≡ o → IsSome o → (user : List ℕ) × (bound group (opening book) ≡ Some user)
+    by None none some = absurd (cc)
+    by (Some g) is some = (g.1, ap (λ (p : Option (List ℕ × List ℕ × ℕ × Bool)). option_or (option_map (λ g. g.1) p) None) is)
+
+-- They are those of the sender, whose mutation is taken.
+paged : (from : Sender) (m : Mutation) (book : Book) → IsLawful book → TakesMutation from m.client book → 1 ≤ m.id → m.id ≤ last m.client (opening book) → HasRun from (opening book) m
+paged from m book lawful takes first below =
+    let (group, home) = home_there book m.client (omega (arith, first, below)) in
+    let (user, owner) = owner_there book m.client group lawful.opens home in
+    let which : group ≡ from.group = same_text (group_of m.client book) group from.group (group_stays m.client group (opening book) book.entries home) takes.here in
+    let bound_there : bound from.group (opening book) ≡ Some user = subst (λ (g : List ℕ). bound g (opening book) ≡ Some user) which owner in
+    let who : user ≡ from.user = same_text (bound from.group book) user from.user (bound_stays from.group user (opening book) book.entries bound_there) takes.admits.own in
+    record { id = below; home = home ∙ ap (λ (g : List ℕ). Some g) which; owner = bound_there ∙ ap (λ (u : List ℕ). Some u) who }
+
 -- and it is an act of the sender
-entered : (from : Sender) (m : Mutation) (book : Book) → IsLawful book → TakesMutation from m.client book → HasAct m.client m.id book.entries ⊎ (m.id ≤ last m.client (opening book)) → IsEntered from book m
-entered from m book lawful takes (inr below) = inr below
-entered from m book lawful takes (inl (user, group, call, there)) =
+entered : (from : Sender) (m : Mutation) (book : Book) → IsLawful book → TakesMutation from m.client book → 1 ≤ m.id → HasAct m.client m.id book.entries ⊎ (m.id ≤ last m.client (opening book)) → IsEntered from book m
+entered from m book lawful takes first (inr below) = inr (paged from m book lawful takes first below)
+entered from m book lawful takes first (inl (user, group, call, there)) =
     let e : Entry = Act user group m.client m.id call in
     let owner : bound group book ≡ Some user = groups_have_one_user book group user e lawful there (ap (λ (b : Bool). cond b (Some user) None) (itself group)) in
     let home : group_of m.client book ≡ Some group = clients_have_one_group book m.client group e lawful there (ap (λ (b : Bool). cond b (Some group) None) (itself m.client)) in
@@ -113,7 +145,7 @@ module _ (write : ReplyText) (from : Sender) where
       let e : Entry = Act from.user from.group m.client m.id m.call in
       inl (m.call, subst (λ (b : Book). Contains b.entries e) (sym is) (Contains-append_right book.entries (e ∷ []) e (0, omega arith, refl)))
   mutation_stands limit m book new (Skipped number) (takes, le, is, same) none lawful first =
-      subst (λ (b : Book). IsEntered from b m) (sym same) (entered from m book lawful takes (has_act book m.client m.id lawful le))
+      subst (λ (b : Book). IsEntered from b m) (sym same) (entered from m book lawful takes first (has_act book m.client m.id lawful le))
   mutation_stands limit m book new (Refused refusal) step some lawful first = absurd (cc)
   mutation_stands limit m book new (Pulled reply) never none lawful first = absurd never
   mutation_stands limit m book new (Retired place) never none lawful first = absurd never

@@ -8,11 +8,11 @@ use Rattle.std.proofs.lemmas.Slice.Eq.{bytes_eq-Decides}
 use Rattle.rv_book.specs.declared.entry.Entry.{Entry}
 use Rattle.rv_book.specs.declared.entry.Entry.TheVariants.{Act, Look, Retire}
 use Rattle.rv_book.specs.Entries.{retires, order_after, bound_in, retired_in, last_in, group_of_in}
-use Rattle.rv_book.specs.Book.{Book, bound, retired, group_of, last, last_order, page_client, page_group, with_entry, book_from, with_entries}
+use Rattle.rv_book.specs.Book.{Book, bound, retired, group_of, last, last_order, opening, page_client, page_group, with_entry, book_from, with_entries}
 use Rattle.rv_book.specs.BookWords.{last_order-with_entry, with_entries-more, with_entry-more}
 use Rattle.rv_history.specs.Groups.{is_of_other, is_elsewhere}
 use Rattle.rv_history.specs.Lawful.{IsLawfulAfter, IsLawful}
-use Rattle.rv_history.specs.Laws.{is_of_group, user_for_group, group_for_client}
+use Rattle.rv_history.specs.Laws.{is_of_group, user_for_group, group_for_client, RetiredGroupsRest}
 use Rattle.rv_history.specs.LawfulBooks.{lawful_front, here, onward, last_append, last_cons, orders_stay, one}
 
 -- where an entry of a list stands
@@ -99,6 +99,18 @@ or_later : {X : Type 0} (o p q r : Option X) → (p ≡ None → q ≡ r) → op
 or_later None p q r later is = later is
 or_later (Some y) p q r later is = absurd (cc)
 
+pub bound_stays : (group user : List ℕ) (book : Book) (more : List Entry) → bound group book ≡ Some user → bound group (with_entries book more) ≡ Some user
+bound_stays group user book more is =
+    or_kept (option_map (λ g. g.1) (page_group group book.page)) (bound_in group book.entries) (bound_in group (book.entries ++ more)) user (bound_some group book.entries more user) is
+
+pub group_stays : (client group : List ℕ) (book : Book) (more : List Entry) → group_of client book ≡ Some group → group_of client (with_entries book more) ≡ Some group
+group_stays client group book more is =
+    or_kept (option_map (λ c. c.1) (page_client client book.page)) (group_of_in client book.entries) (group_of_in client (book.entries ++ more)) group (group_some client book.entries more group) is
+
+-- and a group that is retired stays so
+pub retired_stays : (group : List ℕ) (book : Book) (more : List Entry) → retired group book ≡ true → retired group (with_entries book more) ≡ true
+retired_stays group book more gone = retired_append group book more ∙ ap (λ (b : Bool). b || retired_in group more) gone
+
 -- after its retirement a group is retired
 pub retired_since : (group : List ℕ) (before : Book) (after : List Entry) → retired group (with_entries before (Retire group ∷ after)) ≡ true
 retired_since group before after =
@@ -181,12 +193,20 @@ unnamed book (Act user other client id call) group next gone = rests other group
 unnamed book (Look user other order base) group next gone = rests other group book next.0.stands gone
 unnamed book (Retire other) group next gone = rests other group book next.1 gone
 
-pub retired_groups_rest : (book before : Book) (after : List Entry) (group : List ℕ) (entry : Entry) → IsLawful book → book ≡ with_entries before (Retire group ∷ after) → Contains after entry → is_of_group group entry ≡ false
-retired_groups_rest book before after group entry lawful is within =
-    let (mid, rest, split) = split_in after entry within in
-    let front : Book = with_entries before (Retire group ∷ mid) in
-    let whole : book ≡ with_entries front (entry ∷ rest) = is ∙ ap (λ (xs : List Entry). with_entries before (Retire group ∷ xs)) split ∙ sym (with_entries-more before (Retire group ∷ mid) (entry ∷ rest)) in
-    unnamed front entry group (lawful.each front rest entry whole) (retired_since group before mid)
+-- nothing of a group that is retired follows
+rest_after : (book before : Book) (more : List Entry) (group : List ℕ) (entry : Entry) → IsLawful book → retired group before ≡ true → book ≡ with_entries before more → Contains more entry → is_of_group group entry ≡ false
+rest_after book before more group entry lawful gone is within =
+    let (mid, rest, split) = split_in more entry within in
+    let front : Book = with_entries before mid in
+    let whole : book ≡ with_entries front (entry ∷ rest) = is ∙ ap (with_entries before) split ∙ sym (with_entries-more before mid (entry ∷ rest)) in
+    unnamed front entry group (lawful.each front rest entry whole) (retired_stays group before mid gone)
+
+pub retired_groups_rest : RetiredGroupsRest
+retired_groups_rest = record {
+  behind = λ book before after group entry lawful is within.
+      rest_after book (with_entries before (Retire group ∷ [])) after group entry lawful (retired_since group before []) (is ∙ sym (with_entries-more before (Retire group ∷ []) after)) within;
+  paged = λ book group entry lawful gone within. rest_after book (opening book) book.entries group entry lawful gone refl within;
+}
 
 -- what may stand after some entries may not stand again after itself
 once : (before : Book) (between : List Entry) (entry : Entry) → IsLawful (with_entries before (entry ∷ between)) → IsLawfulAfter before entry → IsLawfulAfter (with_entries before (entry ∷ between)) entry → ⊥

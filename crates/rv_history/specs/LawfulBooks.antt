@@ -125,17 +125,17 @@ climbs group before (Retire other ∷ rest) lawful =
     let e : Entry = Retire other in
     subst (λ (n : ℕ). Climbs n (look_orders group rest)) (last_order-with_entry group before e) (climbs group (with_entry before e) rest (onward before rest e lawful))
 
-step_up : (low : ℕ) (xs : List ℕ) → Climbs low xs → (k : ℕ) → suc k < length xs → get_or xs k 0 < get_or xs (suc k) 0
+step_up : (low : ℕ) (xs : List ℕ) → Climbs low xs → (k : ℕ) → suc k < length (low ∷ xs) → get_or (low ∷ xs) k 0 < get_or (low ∷ xs) (suc k) 0
 step_up low [] c k lt = absurd (omega arith)
-step_up low (x ∷ []) c k lt = absurd (omega arith)
-step_up low (x ∷ y ∷ ys) c zero lt = c.1.0
-step_up low (x ∷ y ∷ ys) c (suc k) lt = step_up x (y ∷ ys) c.1 k (omega arith)
+step_up low (x ∷ xs) c zero lt = c.0
+step_up low (x ∷ xs) c (suc k) lt = step_up x xs c.1 k (omega arith)
 
-pub orders_rise : (book : Book) (group : List ℕ) → IsLawful book → IsStrictlyIncreasing (look_orders group book.entries)
+pub orders_rise : (book : Book) (group : List ℕ) → IsLawful book → IsStrictlyIncreasing (last_order group (opening book) ∷ look_orders group book.entries)
 orders_rise book group lawful = λ k lt.
+    let low : ℕ = last_order group (opening book) in
     let orders : List ℕ = look_orders group book.entries in
     let n : suc k ≡ k + 1 = omega arith in
-    subst (λ (m : ℕ). get_or orders k 0 < get_or orders m 0) n (step_up (last_order group (opening book)) orders (climbs group (opening book) book.entries lawful) k (omega (arith, lt)))
+    subst (λ (m : ℕ). get_or (low ∷ orders) k 0 < get_or (low ∷ orders) m 0) n (step_up low orders (climbs group (opening book) book.entries lawful) k (omega (arith, lt)))
 
 order_step : (group : List ℕ) (before : Book) (e : Entry) → IsLawfulAfter before e → last_order group before ≤ order_after group (last_order group before) e
 order_step group before (Act user other client id call) next = omega arith

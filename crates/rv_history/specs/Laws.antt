@@ -18,7 +18,7 @@ use Rattle.rv_turns.specs.declared.refusal.Refusal.{Refusal}
 use Rattle.rv_book.specs.declared.entry.Entry.{Entry}
 use Rattle.rv_book.specs.declared.entry.Entry.TheVariants.{Act, Look, Retire}
 use Rattle.rv_book.specs.Entries.{last_in}
-use Rattle.rv_book.specs.Book.{Book, bound, group_of, ids, last, last_order, opening, size, up_to, with_entries, with_entry}
+use Rattle.rv_book.specs.Book.{Book, bound, group_of, ids, last, last_order, opening, retired, size, up_to, with_entries, with_entry}
 use Rattle.rv_rows.specs.declared.row.Row.{Row}
 use Rattle.rv_rows.specs.declared.call.Call.{Call}
 use Rattle.rv_rows.specs.Keys.{row_key}
@@ -55,9 +55,9 @@ look_orders group entries = filter_map (look_order group) entries
 abbrev pub IdsCountUp : Type 0
 IdsCountUp = (book : Book) (client : List ℕ) → IsLawful book → act_ids client book.entries ≡ range_with_len (last client (opening book) + 1) (last_in client book.entries)
 
--- The orders of each group's looks rise.
+-- The orders of each group's looks rise, and the first is above the one that the page has of the group, or above 0 where it has none.
 abbrev pub OrdersRise : Type 0
-OrdersRise = (book : Book) (group : List ℕ) → IsLawful book → IsStrictlyIncreasing (look_orders group book.entries)
+OrdersRise = (book : Book) (group : List ℕ) → IsLawful book → IsStrictlyIncreasing (last_order group (opening book) ∷ look_orders group book.entries)
 
 -- the entry names the group, as an act, a look or a retirement
 abbrev pub is_of_group : List ℕ → Entry → Bool
@@ -85,9 +85,10 @@ GroupsHaveOneUser = (book : Book) (group user : List ℕ) (entry : Entry) → Is
 abbrev pub ClientsHaveOneGroup : Type 0
 ClientsHaveOneGroup = (book : Book) (client group : List ℕ) (entry : Entry) → IsLawful book → Contains book.entries entry → group_for_client client entry ≡ Some group → group_of client book ≡ Some group
 
--- Nothing of a group follows its retirement.
-abbrev pub RetiredGroupsRest : Type 0
-RetiredGroupsRest = (book before : Book) (after : List Entry) (group : List ℕ) (entry : Entry) → IsLawful book → book ≡ with_entries before (Retire group ∷ after) → Contains after entry → is_of_group group entry ≡ false
+-- Nothing of a group follows its retirement: neither behind the entry that retires it, nor in a book on whose page it is retired.
+pub record RetiredGroupsRest : Type 0 where
+  pub behind : (book before : Book) (after : List Entry) (group : List ℕ) (entry : Entry) → IsLawful book → book ≡ with_entries before (Retire group ∷ after) → Contains after entry → is_of_group group entry ≡ false
+  pub paged : (book : Book) (group : List ℕ) (entry : Entry) → IsLawful book → retired group (opening book) ≡ true → Contains book.entries entry → is_of_group group entry ≡ false
 
 -- No entry stands twice.
 abbrev pub EntriesStandOnce : Type 0
@@ -101,10 +102,17 @@ TurnsKeepLaw write = (ask : Ask) (old new : Served) (outcome : Outcome) → Take
 abbrev pub PushesKeepLaw : ReplyText → Type 0
 PushesKeepLaw write = (from : Sender) (mutations : List Mutation) (old new : Served) (refused : Option Refusal) (acted : Bool) → Pushes (TakesTurn write) from mutations old refused acted new → IsSound old → KeepsLaw old new
 
--- The mutation stands in the book, as an act of its sender, of its client and with its id; or it had run before the book opened, and its
--- client's last id on the page says so. If it was skipped, the call is that of the one that came first.
+-- The book says that the sender's mutation has run: its client's last id is not below its own, the client is of the sender's group, and that
+-- group is bound to the sender's user.
+pub record HasRun (from : Sender) (book : Book) (m : Mutation) : Type 0 where
+  pub id : m.id ≤ last m.client book
+  pub home : group_of m.client book ≡ Some from.group
+  pub owner : bound from.group book ≡ Some from.user
+
+-- The mutation stands in the book, as an act of its sender, of its client and with its id; or it had run before the book opened, and the page
+-- says so of its sender. If it was skipped, the call is that of the one that came first.
 abbrev pub IsEntered : Sender → Book → Mutation → Type 0
-IsEntered from book m = ((call : Call) × Contains book.entries (Act from.user from.group m.client m.id call)) ⊎ (m.id ≤ last m.client (opening book))
+IsEntered from book m = ((call : Call) × Contains book.entries (Act from.user from.group m.client m.id call)) ⊎ HasRun from (opening book) m
 
 -- A mutation that is run or skipped at a lawful book stands in the book that is left; but for an id of 0, which is skipped and stands
 -- nowhere.

@@ -187,7 +187,7 @@ page_last page client (inr (above, sound)) = by (page_client client page) refl
     by None is = omega arith
     by (Some c) is = (all_found (λ (d : List ℕ × List ℕ × ℕ). d.0) (λ (d : List ℕ × List ℕ × ℕ). (1 ≤ d.2) × (d.2 ≤ page.at)) client page.clients c sound.lasts is).0.1
 
-page_act : (page : Page) (client group : List ℕ) → IsOpening page → option_map (λ (c : List ℕ × List ℕ × ℕ). c.1) (page_client client page) ≡ Some group → (1 ≤ option_map_or (λ (c : List ℕ × List ℕ × ℕ). c.2) (page_client client page) 0) × IsSome (page_group group page)
+pub page_act : (page : Page) (client group : List ℕ) → IsOpening page → option_map (λ (c : List ℕ × List ℕ × ℕ). c.1) (page_client client page) ≡ Some group → (1 ≤ option_map_or (λ (c : List ℕ × List ℕ × ℕ). c.2) (page_client client page) 0) × IsSome (page_group group page)
 page_act page client group (inl none) told = absurd (let absent : option_map (λ (c : List ℕ × List ℕ × ℕ). c.1) (page_client client page) ≡ None = ap (λ (p : Page). option_map (λ (c : List ℕ × List ℕ × ℕ). c.1) (page_client client p)) none in let both : Some group ≡ None = sym told ∙ absent in cc)
 page_act page client group (inr (above, sound)) told = by (page_client client page) refl told
   where

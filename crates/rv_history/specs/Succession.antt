@@ -1,5 +1,5 @@
 -- Books that go on from one another by entries and by closings: they are one after another, and what was entered in one stays entered.
-use Rattle.std.proofs.Common.{◌≡◌, ℕ, ◌+◌, ◌<◌, ◌≤◌, inl, inr, List, [], ◌∷◌, ◌++◌, map, cond, Bool, sym, ap, ◌∙◌, subst, arith}
+use Rattle.std.proofs.Common.{◌≡◌, ℕ, ◌+◌, ◌<◌, ◌≤◌, inl, inr, List, [], ◌∷◌, ◌++◌, map, cond, Bool, Some, None, refl, sym, ap, ◌∙◌, subst, arith}
 use Rattle.std.specs.List.{AllByRecursion, Contains}
 use Rattle.std.proofs.lemmas.List.Elements.{Contains-append_left}
 use Rattle.rv_base.specs.Positions.{equals}
@@ -9,15 +9,15 @@ use Rattle.rv_turns.specs.declared.mutation.Mutation.{Mutation}
 use Rattle.rv_book.specs.declared.entry.Entry.{Entry}
 use Rattle.rv_book.specs.declared.entry.Entry.TheVariants.{Act}
 use Rattle.rv_book.specs.Entries.{last_in}
-use Rattle.rv_book.specs.Book.{Book, last, opening, size, Extends}
+use Rattle.rv_book.specs.Book.{Book, book_from, bound, group_of, last, opening, size, Extends}
 use Rattle.rv_book.specs.BookWords.{extends_same, extends_on}
 use Rattle.rv_history.specs.Clients.{AreSuccessive}
 use Rattle.rv_history.specs.Closing.{Closes, GoesOnBy, GoesOnFrom}
-use Rattle.rv_history.specs.ClosingLaws.{closed_last}
-use Rattle.rv_history.specs.GroupLaws.{split_at}
+use Rattle.rv_history.specs.ClosingLaws.{closed_bound, closed_group_of, closed_last}
+use Rattle.rv_history.specs.GroupLaws.{bound_stays, clients_have_one_group, group_stays, groups_have_one_user, split_at}
 use Rattle.rv_history.specs.Lawful.{IsLawful}
 use Rattle.rv_history.specs.LawfulBooks.{last_append, last_cons}
-use Rattle.rv_history.specs.Laws.{IsEntered}
+use Rattle.rv_history.specs.Laws.{HasRun, IsEntered}
 
 -- the books as they were when they were closed, and the last one
 abbrev pub books_of : List (Book × Book) → Book → List Book
@@ -27,7 +27,7 @@ books_of closings new = map (λ closing. closing.0) closings ++ new ∷ []
 abbrev pub ClosedBooksAreSuccessive : Type 0
 ClosedBooksAreSuccessive = (old new : Book) (closings : List (Book × Book)) → GoesOnBy old closings new → AreSuccessive (books_of closings new)
 
--- A mutation that is entered in a lawful book is so in each that goes on from it: as its act, or by its client's last id on the page.
+-- A mutation that is entered in a lawful book is so in each that goes on from it: as its act, or by what the page says of its client.
 abbrev pub MutationsStay : Type 0
 MutationsStay = (from : Sender) (m : Mutation) (old new : Book) → IsLawful old → GoesOnFrom old new → IsEntered from old m → IsEntered from new m
 
@@ -71,7 +71,7 @@ closed_books_are_successive old new (closing ∷ closings) (goes, closes, rest) 
 -- ---- What was entered stays entered.
 
 pub entered_on : (from : Sender) (m : Mutation) (old new : Book) → Extends new old → IsEntered from old m → IsEntered from new m
-entered_on from m old new (more, is) (inr below) = inr (subst (λ (b : Book). m.id ≤ last m.client (opening b)) (sym is) below)
+entered_on from m old new (more, is) (inr early) = inr (subst (λ (b : Book). HasRun from (opening b) m) (sym is) early)
 entered_on from m old new (more, is) (inl (call, there)) =
     let e : Entry = Act from.user from.group m.client m.id call in
     inl (call, subst (λ (b : Book). Contains b.entries e) (sym is) (Contains-append_left old.entries more e there))
@@ -86,31 +86,45 @@ act_within book user group client id call lawful there =
     let first : last_in client (e ∷ after) ≡ 1 + last_in client after = last_cons client after e ∙ ap (λ (b : Bool). cond b 1 0 + last_in client after) (equals client) in
     omega (arith, next, whole, first)
 
--- a client's last id on the page is not above its last one
-page_within : (client : List ℕ) (book : Book) → last client (opening book) ≤ last client book
-page_within client book = let whole : last client book ≡ last client (opening book) + last_in client book.entries = last_append client (opening book) book.entries in omega (arith, whole)
+-- what has run has run in each book that goes on by entries, and so on the page that sums it up
+ran_on : (from : Sender) (m : Mutation) (old new : Book) → Extends new old → HasRun from old m → HasRun from new m
+ran_on from m old new (more, is) ran =
+    let whole : last m.client new ≡ last m.client old + last_in m.client more = ap (last m.client) is ∙ last_append m.client old more in
+    let id = ran.id in
+    record {
+      id = omega (arith, id, whole);
+      home = ap (group_of m.client) is ∙ group_stays m.client from.group old more ran.home;
+      owner = ap (bound from.group) is ∙ bound_stays from.group from.user old more ran.owner;
+    }
 
-entered_within : (from : Sender) (m : Mutation) (book : Book) → IsLawful book → IsEntered from book m → m.id ≤ last m.client book
-entered_within from m book lawful (inl (call, there)) = act_within book from.user from.group m.client m.id call lawful there
-entered_within from m book lawful (inr below) = omega (arith, below, page_within m.client book)
+ran_closed : (from : Sender) (m : Mutation) (old new : Book) → Closes old new → HasRun from old m → HasRun from (opening new) m
+ran_closed from m old new closes ran =
+    let page : opening new ≡ book_from closes.page [] = ap (λ (b : Book). opening b) closes.is in
+    subst (λ (b : Book). HasRun from b m) (sym page) (record {
+      id = subst (λ (n : ℕ). m.id ≤ n) (sym (closed_last old closes.page closes.sums m.client)) ran.id;
+      home = closed_group_of old closes.page closes.sums m.client ∙ ran.home;
+      owner = closed_bound old closes.page closes.sums from.group ∙ ran.owner;
+    })
 
--- and so the page that sums up a book has it
-last_on : (client : List ℕ) (old new : Book) → Extends new old → last client old ≤ last client new
-last_on client old new (more, is) = let whole : last client new ≡ last client old + last_in client more = ap (last client) is ∙ last_append client old more in omega (arith, whole)
+-- what is entered in a lawful book has run there
+pub entered_ran : (from : Sender) (m : Mutation) (book : Book) → IsLawful book → IsEntered from book m → HasRun from book m
+entered_ran from m book lawful (inl (call, there)) =
+    let e : Entry = Act from.user from.group m.client m.id call in record {
+      id = act_within book from.user from.group m.client m.id call lawful there;
+      home = clients_have_one_group book m.client from.group e lawful there (ap (λ (b : Bool). cond b (Some from.group) None) (equals m.client));
+      owner = groups_have_one_user book from.group from.user e lawful there (ap (λ (b : Bool). cond b (Some from.user) None) (equals from.group));
+    }
+entered_ran from m book lawful (inr early) = ran_on from m (opening book) book (book.entries, refl) early
 
-closed_id : (client : List ℕ) (old new : Book) → Closes old new → last client (opening new) ≡ last client old
-closed_id client old new closes = ap (λ (b : Book). last client (opening b)) closes.is ∙ closed_last old closes.page closes.sums client
-
-stays_below : (client : List ℕ) (id : ℕ) (old new : Book) (closings : List (Book × Book)) → GoesOnBy old closings new → id ≤ last client (opening old) → id ≤ last client (opening new)
-stays_below client id old new [] (more, is) below = subst (λ (b : Book). id ≤ last client (opening b)) (sym is) below
-stays_below client id old new (closing ∷ closings) (goes, closes, rest) below =
-    let most = last_on client old closing.0 goes in
-    let page = closed_id client closing.0 closing.1 closes in
-    stays_below client id closing.1 new closings rest (omega (arith, below, page_within client old, most, page))
+-- and what a page says stays said
+stays_said : (from : Sender) (m : Mutation) (old new : Book) (closings : List (Book × Book)) → GoesOnBy old closings new → HasRun from (opening old) m → HasRun from (opening new) m
+stays_said from m old new [] (more, is) early = subst (λ (b : Book). HasRun from (opening b) m) (sym is) early
+stays_said from m old new (closing ∷ closings) (goes, closes, rest) early =
+    let before : HasRun from old m = ran_on from m (opening old) old (old.entries, refl) early in
+    stays_said from m closing.1 new closings rest (ran_closed from m closing.0 closing.1 closes (ran_on from m old closing.0 goes before))
 
 pub mutations_stay : MutationsStay
 mutations_stay from m old new lawful ([], goes) entered = entered_on from m old new goes entered
 mutations_stay from m old new lawful (closing ∷ closings, (goes, closes, rest)) entered =
-    let most = last_on m.client old closing.0 goes in
-    let page = closed_id m.client closing.0 closing.1 closes in
-    inr (stays_below m.client m.id closing.1 new closings rest (omega (arith, entered_within from m old lawful entered, most, page)))
+    let before : HasRun from closing.0 m = ran_on from m old closing.0 goes (entered_ran from m old lawful entered) in
+    inr (stays_said from m closing.1 new closings rest (ran_closed from m closing.0 closing.1 closes before))

@@ -10,7 +10,7 @@ pub fn ids_count_up()
     ensures { IdsCountUp }
 {}
 
-/// In a lawful book the orders of each group's looks rise.
+/// In a lawful book the orders of each group's looks rise, from above the one that its page has of the group.
 pub fn orders_rise()
     ensures { OrdersRise }
 {}
@@ -25,7 +25,7 @@ pub fn clients_have_one_group()
     ensures { ClientsHaveOneGroup }
 {}
 
-/// In a lawful book nothing of a group follows its retirement.
+/// In a lawful book nothing of a group follows its retirement, whether an entry or the page retires it.
 pub fn retired_groups_rest()
     ensures { RetiredGroupsRest }
 {}
@@ -45,8 +45,8 @@ pub fn pushes_keep_law()
     ensures { (write : ReplyText) → PushesKeepLaw write }
 {}
 
-/// A mutation that is run or skipped stands in the book that is left, as an act of its user, group and client with its id; but for an
-/// id of 0, which is skipped and stands nowhere.
+/// A mutation that is run or skipped stands in the book that is left, as an act of its user, group and client with its id, or the page says
+/// that it had run for this user, group and client; but for an id of 0, which is skipped and stands nowhere.
 pub fn mutations_stand()
     ensures { (write : ReplyText) → MutationsStand write }
 {}
@@ -105,7 +105,7 @@ pub fn closed_books_are_successive()
 {}
 
 /// A mutation that is entered in a lawful book is so in each book that goes on from it by entries and by closings: its act stands there,
-/// or its client's last id on the page says that it had run.
+/// or the page says that it had run, with its client's group and the user of that.
 pub fn mutations_stay()
     ensures { MutationsStay }
 {}
