@@ -22,10 +22,11 @@ abbrev pub IsLoaded : (Option Loaded → Type 0) → Loaded → Type 0
 IsLoaded Leaves loaded = (left : Option Loaded) → Leaves left → left ≡ Some loaded
 
 module _ {K : Type 0} (G : Ghosts K) where
-  -- Nothing is in doubt, and the book is kept as what was loaded; a crash leaves of a keeper that is honest what it might before, or what
-  -- was held; the keeper's count of faults stays.
+  -- Nothing is in doubt, and the book is kept as what the keeper's load answered; a crash leaves of a keeper that is honest what it might before,
+  -- or what was held; the keeper's count of faults stays.
   pub record Opens (limit : ℕ) (before : K) (desk : Seated K) : Type 0 where
     pub loaded : Loaded
+    pub loads : G.loads before (Ok loaded) desk.keeper
     pub was : WasLoaded (G.tells desk.keeper) (G.holds before) loaded
     pub opens : MayOpen limit desk.book loaded
     pub held : G.tells desk.keeper → G.holds desk.keeper loaded
@@ -37,9 +38,10 @@ module _ {K : Type 0} (G : Ghosts K) where
     pub still : G.faults desk.keeper ≡ G.faults before
     pub goes_on : G.fails_no_more before → G.fails_no_more desk.keeper
 
-  -- what was loaded is damaged first at this place; the keeper's count of faults stays
+  -- what the keeper's load answered is damaged first at this place; the keeper's count of faults stays
   pub record IsDamagedIn (limit : ℕ) (before now : K) (damage : Damage) : Type 0 where
     pub loaded : Loaded
+    pub loads : G.loads before (Ok loaded) now
     pub was : WasLoaded (G.tells now) (G.holds before) loaded
     pub damaged : IsDamaged limit loaded damage
     pub still : G.faults now ≡ G.faults before

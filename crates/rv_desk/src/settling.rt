@@ -1,6 +1,6 @@
 // Settling what is in doubt.
 ghost use Rattle.rv_doubt.specs.Kept.{Assures, KeepsBook};
-ghost use Rattle.rv_doubt.specs.Settling.{HasSettled, settle_trouble};
+ghost use Rattle.rv_doubt.specs.Settling.{HasSettled, IsFound, settle_trouble};
 ghost use Rattle.rv_desk.specs.Seated.{served};
 
 use crate::desk::Desk;
@@ -14,6 +14,7 @@ impl<K: Keeper> Desk<K> {
     pub fn settle(&mut self) -> Result<(), Trouble>
         ensures settled { HasSettled (served K.faults self.old) result (served K.faults self.new) }
         ensures assured { Assures K.tells K.fails_no_more self.old.keeper (settle_trouble result) self.new.keeper }
+        ensures found { IsFound K.asks self.old.book self.old.keeper (settle_trouble result) self.new.keeper }
         ensures kept { KeepsBook K.Keeper self.new.keeper self.new.book self.new.doubt }
     {
         settle(&mut self.state, &mut self.doubt, &mut self.keeper)

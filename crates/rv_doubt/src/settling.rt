@@ -1,7 +1,7 @@
 // Settling what is in doubt: the keeper's generation tells whether it was kept.
 ghost use Rattle.std.specs.Prelude.{◌≡◌, None, Some};
 ghost use Rattle.rv_doubt.specs.Kept.{Assures, AreInStep, LeavesInStep, parts_served};
-ghost use Rattle.rv_doubt.specs.Settling.{HasSettled, settle_trouble};
+ghost use Rattle.rv_doubt.specs.Settling.{HasSettled, IsFound, settle_trouble};
 ghost use Rattle.rv_state.specs.Ready.{IsPrepared};
 
 use crate::doubt::leave_in_doubt;
@@ -21,6 +21,7 @@ pub fn settle<K: Keeper>(
     requires left { LeavesInStep state.old doubt.old (K.honest keeper.old) (K.may_leave keeper.old) }
     ensures settled { HasSettled (parts_served state.old doubt.old (K.faults keeper.old)) result (parts_served state.new doubt.new (K.faults keeper.new)) }
     ensures assured { Assures K.tells K.fails_no_more keeper.old (settle_trouble result) keeper.new }
+    ensures found { IsFound K.asks state.old.book keeper.old (settle_trouble result) keeper.new }
     ensures in_step { AreInStep state.new doubt.new (K.tells keeper.new) (K.holds keeper.new) }
     ensures left { LeavesInStep state.new doubt.new (K.honest keeper.new) (K.may_leave keeper.new) }
 {
@@ -44,6 +45,7 @@ fn settle_one<K: Keeper>(
     requires left { LeavesInStep state.old (Some prepared) (K.honest keeper.old) (K.may_leave keeper.old) }
     ensures settled { HasSettled (parts_served state.old (Some prepared) (K.faults keeper.old)) result (parts_served state.new doubt.new (K.faults keeper.new)) }
     ensures assured { Assures K.tells K.fails_no_more keeper.old (settle_trouble result) keeper.new }
+    ensures found { IsFound K.asks state.old.book keeper.old (settle_trouble result) keeper.new }
     ensures in_step { AreInStep state.new doubt.new (K.tells keeper.new) (K.holds keeper.new) }
     ensures left { LeavesInStep state.new doubt.new (K.honest keeper.new) (K.may_leave keeper.new) }
 {

@@ -29,6 +29,7 @@ returns-in-Ok-restore g c =
     subst (λ (old : Seated g.row.K.Denot). OpensAgain g.K.Keeper old new) c.self.view_is (record {
       opens = record {
         loaded = c.in-Ok.loaded;
+        loads = c.in-Ok.ensures.loads;
         was = record { order = c.in-Ok.ensures.order; told = λ tells. (c.in-Ok.ensures.told tells).1 };
         opens = opens;
         held = λ tells. (c.in-Ok.ensures.told tells).0;
@@ -54,6 +55,7 @@ returns-in-Err-BadCell g c =
     subst (λ (old : Seated g.row.K.Denot). StaysAsItWas g.K.Keeper old (Damaged c.in-Err-BadCell.damage) now) c.self.view_is (record {
       why = record {
         loaded = c.in-Ok.loaded;
+        loads = c.in-Ok.ensures.loads;
         was = record { order = c.in-Ok.ensures.order; told = λ tells. (c.in-Ok.ensures.told tells).1 };
         damaged = damaged;
         still = c.in-Ok.ensures.cause.still;
