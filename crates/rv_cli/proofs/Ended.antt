@@ -43,10 +43,10 @@ own_text before mid out Memory result e w = let (own, a, part) = part_of before 
 own_text before mid out (Malformed number) result e w = let (own, a, part) = part_of before mid out (status_text (Malformed number)) result e w in (own, a, part, part_faults before out.faults own (status_text (Malformed number)) part)
 
 module _ (L : Lines) where
-  with_own : (Told : Type 0) (begun now : L.State) (o : Option (List ℕ)) (input : InputState) (first mid out : OutputState) (ending : Ending) (own : List ℕ) → IfSome o (λ bytes. FedAnswers L Told begun now bytes input first mid ending) → Appends mid.written out.written own → IsOwnText first.faults out.faults own ending
-      → IfSome o (λ bytes. Fed L Told begun now bytes input first out ending)
-  with_own Told begun now None input first mid out ending own f a h = tt
-  with_own Told begun now (Some bytes) input first mid out ending own f a h = record {
+  with_own : (Told : Type 0) (begun now : L.State) (o : Option (List ℕ)) (start input : InputState) (first mid out : OutputState) (ending : Ending) (own : List ℕ) → IfSome o (λ bytes. FedAnswers L Told begun now bytes start input first mid ending) → Appends mid.written out.written own → IsOwnText first.faults out.faults own ending
+      → IfSome o (λ bytes. Fed L Told begun now bytes start input first out ending)
+  with_own Told begun now None start input first mid out ending own f a h = tt
+  with_own Told begun now (Some bytes) start input first mid out ending own f a h = record {
     read = f.read;
     text = f.text;
     own = own;
@@ -58,10 +58,10 @@ module _ (L : Lines) where
 
   -- the status's text comes after the answers
   pub ended : {T E : Type 0} (Told : Type 0) (begun now : L.State) (start input : InputState) (first mid out : OutputState) (ending : Ending) (result : Result T E) → Feeds L Told begun now start input first mid ending → Writes mid out result (status_text ending)
-      → ReadsSo start input ending × WritesSo first.faults out.faults ending × IfSome start.left (λ bytes. Fed L Told begun now bytes input first out ending)
+      → ReadsSo start input ending × WritesSo first.faults out.faults ending × IfSome start.left (λ bytes. Fed L Told begun now bytes start input first out ending)
   ended Told begun now start input first mid out ending result f w =
       let (own, a, h, so) = own_text first.faults mid out ending result f.writes w in
-      (f.reads, so, with_own Told begun now start.left input first mid out ending own f.fed a h)
+      (f.reads, so, with_own Told begun now start.left start input first mid out ending own f.fed a h)
 
   -- where all lines are of the form, so is each
   line_among : (n : ℕ) (rest others : List (List ℕ)) (bytes : List ℕ) (lines : List L.Line) (number : ℕ) → number ≡ n + length rest → Are L n (rest ++ bytes ∷ others) lines → (line : L.Line) × (line_at L number bytes ≡ Some line)
@@ -70,19 +70,19 @@ module _ (L : Lines) where
   line_among n (l ∷ rest) others bytes [] number e h = absurd h
   line_among n (l ∷ rest) others bytes (line ∷ lines) number e h = line_among (n + 1) rest others bytes lines number (omega (arith, e)) h.1
 
-  none_malformed : (Told : Type 0) (begun now : L.State) (bytes : List ℕ) (input : InputState) (first out : OutputState) (number : ℕ) (lines : List L.Line) → FedAnswers L Told begun now bytes input first out (Malformed number) → Are L 1 (lines_of bytes) lines → ⊥
-  none_malformed Told begun now bytes input first out number lines f are =
+  none_malformed : (Told : Type 0) (begun now : L.State) (bytes : List ℕ) (start input : InputState) (first out : OutputState) (number : ℕ) (lines : List L.Line) → FedAnswers L Told begun now bytes start input first out (Malformed number) → Are L 1 (lines_of bytes) lines → ⊥
+  none_malformed Told begun now bytes start input first out number lines f are =
       let (line, is) = line_among 1 f.ends.lines f.ends.others f.ends.line lines number (let e = f.ends.count in omega (arith, e)) (subst (λ (ls : List (List ℕ)). Are L 1 ls lines) f.ends.are are) in
       let no : None ≡ Some line = sym f.ends.asks ∙ is in
       cc
 
   -- where all lines are of the form, no line is told to be none
-  pub completes : (Told : Type 0) (begun now : L.State) (o : Option (List ℕ)) (input : InputState) (first out : OutputState) (ending : Ending) → IfSome o (λ bytes. FedAnswers L Told begun now bytes input first out ending) → AllAre L o (IsOther (status_of ending))
-  completes Told begun now None input first out ending f = tt
-  completes Told begun now (Some bytes) input first out Done f = λ lines are. inl refl
-  completes Told begun now (Some bytes) input first out Keeper f = λ lines are. inr (inl refl)
-  completes Told begun now (Some bytes) input first out (Damaged damage) f = λ lines are. inr (inr (inl refl))
-  completes Told begun now (Some bytes) input first out Read f = λ lines are. inr (inr (inr (inl refl)))
-  completes Told begun now (Some bytes) input first out Write f = λ lines are. inr (inr (inr (inr (inl refl))))
-  completes Told begun now (Some bytes) input first out Memory f = λ lines are. inr (inr (inr (inr (inr refl))))
-  completes Told begun now (Some bytes) input first out (Malformed number) f = λ lines are. absurd (none_malformed Told begun now bytes input first out number lines f are)
+  pub completes : (Told : Type 0) (begun now : L.State) (o : Option (List ℕ)) (start input : InputState) (first out : OutputState) (ending : Ending) → IfSome o (λ bytes. FedAnswers L Told begun now bytes start input first out ending) → AllAre L o (IsOther (status_of ending))
+  completes Told begun now None start input first out ending f = tt
+  completes Told begun now (Some bytes) start input first out Done f = λ lines are. inl refl
+  completes Told begun now (Some bytes) start input first out Keeper f = λ lines are. inr (inl refl)
+  completes Told begun now (Some bytes) start input first out (Damaged damage) f = λ lines are. inr (inr (inl refl))
+  completes Told begun now (Some bytes) start input first out Read f = λ lines are. inr (inr (inr (inl refl)))
+  completes Told begun now (Some bytes) start input first out Write f = λ lines are. inr (inr (inr (inr (inl refl))))
+  completes Told begun now (Some bytes) start input first out Memory f = λ lines are. inr (inr (inr (inr (inr refl))))
+  completes Told begun now (Some bytes) start input first out (Malformed number) f = λ lines are. absurd (none_malformed Told begun now bytes start input first out number lines f are)

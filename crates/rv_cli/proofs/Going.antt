@@ -12,7 +12,7 @@ use Rattle.rv_cli.specs.declared.ending.Ending.{Ending}
 use Rattle.rv_cli.specs.declared.ending.Ending.TheVariants.{Done, Keeper, Damaged, Read, Write, Memory, Malformed}
 use Rattle.rv_cli.specs.LineRuns.{Lines, StaysClosed, line_at, told_text, Answered}
 use Rattle.rv_cli.specs.LineTaking.{OutputStays, TakesLater, Adds, LineGoesOn, CutsAnswer, EndsLine, FedAnswers, Feeds}
-use Rattle.rv_cli.specs.LineRunLaws.{line_as, too_long, too_late, answered_later, answered_more, answered_none}
+use Rattle.rv_cli.specs.LineRunLaws.{line_as, too_long, too_late, run_more, answered_later, answered_more, answered_none}
 
 -- ---- A line that was found.
 
@@ -111,7 +111,8 @@ module _ (L : Lines) where
     ends_done old new out pending pending' number now w r k e = record {
       reads = (r.faults ∙ w.faults, r.ends ∙ ap counted w.ends);
       writes = w.stays.faults;
-      fed = known start.left (λ bytes. FedAnswers L Told begun now bytes new first out Done) (λ bytes is.
+      reached = (w.answered.taken, w.answered.answers, w.answered.run);
+      fed = known start.left (λ bytes. FedAnswers L Told begun now bytes start new first out Done) (λ bytes is.
           let on = read_to_end bytes pending pending' old new w.lines (of_bytes start.left bytes pending old.left w.lines is w.taken) r.ahead k e in
           record { read = bytes; text = w.text; consumed = on.consumed; appended = w.appended; ends = (refl, subst (λ (ls : List (List ℕ)). Answered L Told begun ls w.text now) (sym (on.are ∙ append-nil w.lines)) w.answered) });
     }
@@ -122,7 +123,8 @@ module _ (L : Lines) where
     ends_read old new out pending pending' number now w r k h = record {
       reads = (rw (← w.faults) r.faults, r.ends ∙ w.ends);
       writes = w.stays.faults;
-      fed = known start.left (λ bytes. FedAnswers L Told begun now bytes new first out Read) (λ bytes is.
+      reached = (w.answered.taken, w.answered.answers, w.answered.run);
+      fed = known start.left (λ bytes. FedAnswers L Told begun now bytes start new first out Read) (λ bytes is.
           let (read, others, on, count) = read_to_fault bytes pending pending' old new w.lines (of_bytes start.left bytes pending old.left w.lines is w.taken) r.ahead k h in
           record { read = read; text = w.text; consumed = on.consumed; appended = w.appended; ends = (rw count w.answered, rw count on.needed) });
     }
@@ -133,9 +135,10 @@ module _ (L : Lines) where
     ends_memory old new out pending pending' number now w r k = record {
       reads = (r.faults ∙ w.faults, inl (r.ends ∙ w.ends));
       writes = w.stays.faults;
-      fed = known start.left (λ bytes. FedAnswers L Told begun now bytes new first out Memory) (λ bytes is.
+      reached = (w.answered.taken, w.answered.answers, w.answered.run);
+      fed = known start.left (λ bytes. FedAnswers L Told begun now bytes start new first out Memory) (λ bytes is.
           let (read, others, on) = read_on bytes pending pending' old new w.lines (of_bytes start.left bytes pending old.left w.lines is w.taken) r.ahead k in
-          record { read = read; text = w.text; consumed = on.consumed; appended = w.appended; ends = record { lines = w.lines; others = others; are = on.are; needed = on.needed; answered = w.answered } });
+          record { read = read; text = w.text; consumed = on.consumed; appended = w.appended; ends = record { lines = w.lines; others = others; are = on.are; waits = inr (r.ends ∙ w.ends); needed = on.needed; answered = w.answered } });
     }
 
     -- a line is too long
@@ -144,7 +147,8 @@ module _ (L : Lines) where
     ends_long old new out pending pending' number now w r k h = record {
       reads = (r.faults ∙ w.faults, inl (r.ends ∙ w.ends));
       writes = w.stays.faults;
-      fed = known start.left (λ bytes. FedAnswers L Told begun now bytes new first out (Malformed number)) (λ bytes is.
+      reached = (w.answered.taken, w.answered.answers, w.answered.run);
+      fed = known start.left (λ bytes. FedAnswers L Told begun now bytes start new first out (Malformed number)) (λ bytes is.
           let (read, line, others, on, lt) = read_too_long bytes pending pending' old new w.lines (of_bytes start.left bytes pending old.left w.lines is w.taken) r.ahead k h in
           record { read = read; text = w.text; consumed = on.consumed; appended = w.appended; ends = record { lines = w.lines; line = line; others = others; are = on.are; count = w.count; asks = too_long L number line lt; needed = on.needed; answered = w.answered } });
     }
@@ -157,7 +161,8 @@ module _ (L : Lines) where
     line_malformed old new out pending line number now w l none = record {
       reads = (l.faults ∙ w.faults, ends_as start old new w.ends l.ends);
       writes = w.stays.faults;
-      fed = known start.left (λ bytes. FedAnswers L Told begun now bytes new first out (Malformed number)) (λ bytes is.
+      reached = (w.answered.taken, w.answered.answers, w.answered.run);
+      fed = known start.left (λ bytes. FedAnswers L Told begun now bytes start new first out (Malformed number)) (λ bytes is.
           let (read, others, more, on, within) = l.on bytes is in
           record { read = read; text = w.text; consumed = on.consumed; appended = w.appended; ends = record { lines = w.lines; line = line; others = others; are = on.are; count = w.count; asks = none; needed = on.needed; answered = w.answered } });
     }
@@ -168,9 +173,10 @@ module _ (L : Lines) where
     line_memory old new out pending line number now w l = record {
       reads = (l.faults ∙ w.faults, ends_as start old new w.ends l.ends);
       writes = w.stays.faults;
-      fed = known start.left (λ bytes. FedAnswers L Told begun now bytes new first out Memory) (λ bytes is.
+      reached = (w.answered.taken, w.answered.answers, w.answered.run);
+      fed = known start.left (λ bytes. FedAnswers L Told begun now bytes start new first out Memory) (λ bytes is.
           let (read, others, more, on, within) = l.on bytes is in
-          record { read = read; text = w.text; consumed = on.consumed; appended = w.appended; ends = record { lines = w.lines; others = line ∷ others; are = on.are; needed = on.needed; answered = w.answered } });
+          record { read = read; text = w.text; consumed = on.consumed; appended = w.appended; ends = record { lines = w.lines; others = line ∷ others; are = on.are; waits = inl (λ e. absurd (cc)); needed = on.needed; answered = w.answered } });
     }
 
     -- a write of the answer failed
@@ -179,7 +185,8 @@ module _ (L : Lines) where
     line_cut old new out out' pending line number now next w l le lt a = record {
       reads = (l.faults ∙ w.faults, ends_as start old new w.ends l.ends);
       writes = rw (← w.stays.faults) a.rose;
-      fed = known start.left (λ bytes. FedAnswers L Told begun next bytes new first out' Write) (λ bytes is.
+      reached = (w.answered.taken ++ a.step.taken ∷ [], w.answered.answers ++ Some a.answer ∷ [], run_more L Told w.answered.taken w.answered.answers begun now next a.step.taken (Some a.answer) w.answered.run a.step.step);
+      fed = known start.left (λ bytes. FedAnswers L Told begun next bytes start new first out' Write) (λ bytes is.
           let (read, others, more, on, within) = l.on bytes is in
           let (part, front, appended) = a.front in
           record {
@@ -231,7 +238,8 @@ module _ (L : Lines) where
         subst (λ (s : L.State). Feeds L Told begun s start new first out' Keeper) (sym same) (subst (λ (o : OutputState). Feeds L Told begun now start new first o Keeper) (sym kept) (record {
           reads = (l.faults ∙ w.faults, ends_as start old new w.ends l.ends);
           writes = w.stays.faults;
-          fed = known start.left (λ bytes. FedAnswers L Told begun now bytes new first out Keeper) (λ bytes is.
+          reached = (w.answered.taken, w.answered.answers, w.answered.run);
+          fed = known start.left (λ bytes. FedAnswers L Told begun now bytes start new first out Keeper) (λ bytes is.
               let (read, consumed, closed) = line_stop old new out pending line number now w l le lt stop bytes is in
               record { read = read; text = w.text; consumed = consumed; appended = w.appended; ends = closed });
         }))
@@ -239,7 +247,8 @@ module _ (L : Lines) where
         subst (λ (s : L.State). Feeds L Told begun s start new first out' (Damaged damage)) (sym same) (subst (λ (o : OutputState). Feeds L Told begun now start new first o (Damaged damage)) (sym kept) (record {
           reads = (l.faults ∙ w.faults, ends_as start old new w.ends l.ends);
           writes = w.stays.faults;
-          fed = known start.left (λ bytes. FedAnswers L Told begun now bytes new first out (Damaged damage)) (λ bytes is.
+          reached = (w.answered.taken, w.answered.answers, w.answered.run);
+          fed = known start.left (λ bytes. FedAnswers L Told begun now bytes start new first out (Damaged damage)) (λ bytes is.
               let (read, consumed, closed) = line_stop old new out pending line number now w l le lt stop bytes is in
               record { read = read; text = w.text; consumed = consumed; appended = w.appended; ends = closed });
         }))
@@ -297,7 +306,8 @@ module _ (L : Lines) where
     ends_last old new out out' pending pending' line number now next w f lt goes = record {
       reads = (f.reads.faults ∙ w.faults, f.reads.ends ∙ ap counted w.ends);
       writes = (adds_stays goes.answer first out out' goes.adds w.stays).faults;
-      fed = known start.left (λ bytes. FedAnswers L Now begun next bytes new first out' Done) (λ bytes is.
+      reached = let all = more_answered old out out' pending line number now next w f.short lt goes in (all.taken, all.answers, all.run);
+      fed = known start.left (λ bytes. FedAnswers L Now begun next bytes start new first out' Done) (λ bytes is.
           let on = read_last bytes pending pending' old new w.lines line (of_bytes start.left bytes pending old.left w.lines is w.taken) f.reads.ahead f.no_lf f.takes.0 f.takes.1 f.takes.2 in
           record {
             read = bytes;

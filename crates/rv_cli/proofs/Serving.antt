@@ -59,31 +59,32 @@ entries_written book entries old new (NotOpened ending) is never = never
 entries_written book entries old new Net is never = never
 entries_written book entries old new Memory is never = never
 
-module _ {P K : Type 0} (place : PlaceGhosts P K) (G : Ghosts K) (store name : List ℕ) where
+module _ {P K N : Type 0} (place : PlaceGhosts P K) (G : Ghosts K) (faults : N → ℕ) (store name : List ℕ) where
   abbrev Read : P → Result AccountsServed ServeEnding → P → Type 0
   Read old result mid = AccountsRead place name old result mid
 
   -- the file was read before the place told what it tells later
-  says_later : (Now : Type 0) (old mid : P) (said : Result AccountsServed _) → (Now → place.tells mid) → FileSays (place.tells mid) (place.accounts old name) said → FileSays Now (place.accounts old name) said
-  says_later Now old mid said before says = record { bytes = says.bytes; read = λ t. says.read (before t); says = says.says }
+  says_later : (old mid new : P) (said : Result AccountsServed _) → (place.tells new → place.tells mid) → FileSays place name old mid said → FileSays place name old new said
+  says_later old mid new said before says = record { bytes = says.bytes; read = λ t. says.read (before t); there = λ knows t. says.there knows (before t); says = says.says }
 
   -- the store did not open
-  pub has_no_store : (old mid new : P) (said : AccountsServed) (other : Ending) (out out' : OutputState) → Read old (Ok said) mid → (place.tells new → place.tells mid)
+  pub has_no_store : (old mid new : P) (said : AccountsServed) (other : Ending) (net : N) (out out' : OutputState) → Read old (Ok said) mid → (place.tells new → place.tells mid)
       → IsNotOpened (change place store mid new) other × IsLeftAs (change place store mid new)
       → WritesOnly out out' (serve_text (NotOpened other))
-      → HasNoStore G (change place store old new) (place.accounts old name) out out' (NotOpened other)
-  has_no_store old mid new said other out out' read before (why, left) text = record {
+      → HasNoStore place G faults store name old new net net out out' (NotOpened other)
+  has_no_store old mid new said other net out out' read before (why, left) text = record {
     other = other;
     is = refl;
     accounts = said;
-    says = says_later (place.tells new) old mid (Ok said) before read.gives_accounts.0;
-    why = not_opened_before (change place store mid new) (change place store old new) other (λ t. t) (λ t. opens_as store (place.holds old store) (place.holds mid store) (λ held was. read.stays (before t) store held was)) (λ t held was. was) read.gives_accounts.1 refl why;
+    says = says_later old mid new (Ok said) before read.gives_accounts.0;
+    why = not_opened_before (change place store mid new) (change place store old new) other (λ t. t) (λ t. opens_as store (place.holds old store) (place.holds mid store) ((read.stays (before t)).held store)) (λ t held was. was) read.gives_accounts.1 refl why;
     left = record {
-      held = λ t. ⊎_elim (λ same. inl (λ held was. same held (read.stays (before t) store held was)))
-          (λ same. inr (λ held was. same held (opens_as store (place.holds old store) (place.holds mid store) (λ h w. read.stays (before t) store h w) held was))) (left.held t);
-      left = λ t x may. ⊎_elim (λ might. inl (read.left (before t) store x might))
-          (λ opens. inr (λ held was. opens held (opens_as store (place.holds old store) (place.holds mid store) (λ h w. read.stays (before t) store h w) held was))) (left.left t x may);
+      held = λ t. ⊎_elim (λ same. inl (λ held was. same held ((read.stays (before t)).held store held was)))
+          (λ same. inr (λ held was. same held (opens_as store (place.holds old store) (place.holds mid store) ((read.stays (before t)).held store) held was))) (left.held t);
+      left = λ t x may. ⊎_elim (λ might. inl ((read.stays (before t)).left store x might))
+          (λ opens. inr (λ held was. opens held (opens_as store (place.holds old store) (place.holds mid store) ((read.stays (before t)).held store) held was))) (left.left t x may);
     };
+    net_stays = refl;
     text = text;
   }
 
@@ -103,7 +104,7 @@ module _ {P K : Type 0} (place : PlaceGhosts P K) (G : Ghosts K) (store name : L
         let from = begins place G store mid opened new first last.keeper opens kept_before home in
         record {
           loaded = from.loaded;
-          stored = λ t held was. from.stored t held (opens_as store (place.holds old store) (place.holds mid store) (λ h w. read.stays (told t) store h w) held was);
+          stored = λ t held was. from.stored t held (opens_as store (place.holds old store) (place.holds mid store) ((read.stays (told t)).held store) held was);
           opens = from.opens;
           limit = from.limit;
           doubt = from.doubt;
@@ -114,13 +115,13 @@ module _ {P K : Type 0} (place : PlaceGhosts P K) (G : Ghosts K) (store name : L
     serve_leaves = leaves place G store old opened new (served G.faults last) last.keeper
         (opens.same ∙ read.gives_accounts.1) (record { kept = record { held = kept.held; left = kept.left }; later = omega arith }) home
 
-    pub serve_says : FileSays (place.tells new) (place.accounts old name) (Ok said)
-    serve_says = says_later (place.tells new) old mid (Ok said) told read.gives_accounts.0
+    pub serve_says : FileSays place name old new (Ok said)
+    serve_says = says_later old mid new (Ok said) told read.gives_accounts.0
 
-    pub has_served : (Serves : AccountsServed → Seated K → Seated K → Type 0) (entries : ℕ) (out out' : OutputState) (ending : ServeEnding) → Serves said first last
+    pub has_served : (Serves : AccountsServed → Seated K → Seated K → Type 0) (net net' : N) (entries : ℕ) (out out' : OutputState) (ending : ServeEnding) → Serves said first last
         → IsSound (served G.faults last) → entries ≡ size last.book → WritesCount (count_text entries) out out' ending
-        → HasServed G (change place store old new) (place.accounts old name) Serves out out' ending
-    has_served Serves entries out out' ending serves sound count text = record {
+        → HasServed place G faults store name old new net net' Serves out out' ending
+    has_served Serves net net' entries out out' ending serves sound count text = record {
       accounts = said;
       says = serve_says;
       first = first;
@@ -133,8 +134,8 @@ module _ {P K : Type 0} (place : PlaceGhosts P K) (G : Ghosts K) (store name : L
       entries = entries_written last.book entries out out' ending count text;
     }
 
-    pub has_no_net : (net net' : ℕ) (out out' : OutputState) (ending : ServeEnding) → last ≡ first → IsNoNet net net' ending → WritesOnly out out' (serve_text ending)
-        → HasNoNet G (change place store old new) (place.accounts old name) net net' out out' ending
+    pub has_no_net : (net net' : N) (out out' : OutputState) (ending : ServeEnding) → last ≡ first → IsNoNet (faults net) (faults net') ending → WritesOnly out out' (serve_text ending)
+        → HasNoNet place G faults store name old new net net' out out' ending
     has_no_net net net' out out' ending same why text = record {
       accounts = said;
       says = serve_says;
@@ -172,35 +173,35 @@ net_before Is kept_tells before after old new (Ok done) (serves, told, same) = t
 net_before Is kept_tells before after old new (Err outside.Failed) (same, rose) = λ t. subst (λ (desk : Seated _). kept_tells desk.keeper) same t
 net_before Is kept_tells before after old new (Err outside.Memory) same = λ t. subst (λ (desk : Seated _). kept_tells desk.keeper) same t
 
-module _ {P K : Type 0} (place : PlaceGhosts P K) (G : Ghosts K) (store name : List ℕ) where
+module _ {P K N : Type 0} (place : PlaceGhosts P K) (G : Ghosts K) (faults : N → ℕ) (store name : List ℕ) where
   -- the store was opened, the net was served or not, and what is told of it
   pub serve_ended : (old mid opened new : P) (said : AccountsServed) (first last : Seated K) (keeper : K) → AccountsRead place name old (Ok said) mid
       → HasOpened place G store mid first opened → (place.tells opened → G.tells first.keeper → place.tells mid) → keeper ≡ last.keeper
       → KeepsBook G last.keeper last.book last.doubt → IsSound (served G.faults last)
       → WentBack place G store opened new keeper
-      → (Serves : AccountsServed → Seated K → Seated K → Type 0) (net net' : ℕ) (result : Result (Unit {0}) Fault) (entries : ℕ) (out out' : OutputState) (ending : ServeEnding)
-      → NetResult (Serves said first last) G.tells net net' first last result
+      → (Serves : AccountsServed → Seated K → Seated K → Type 0) (net net' : N) (result : Result (Unit {0}) Fault) (entries : ℕ) (out out' : OutputState) (ending : ServeEnding)
+      → NetResult (Serves said first last) G.tells (faults net) (faults net') first last result
       → entries ≡ size last.book → WritesServed result entries out out' ending
-      → HasNoNet G (change place store old new) (place.accounts old name) net net' out out' ending
-      ⊎ HasServed G (change place store old new) (place.accounts old name) Serves out out' ending
+      → HasNoNet place G faults store name old new net net' out out' ending
+      ⊎ HasServed place G faults store name old new net net' Serves out out' ending
   serve_ended old mid opened new said first last keeper read opens before is held sound home Serves net net' result entries out out' ending net_served count told =
       by_result result net_served told
     where
       kept : G.tells last.keeper → G.tells first.keeper
-      kept = net_before (Serves said first last) G.tells net net' first last result net_served
+      kept = net_before (Serves said first last) G.tells (faults net) (faults net') first last result net_served
 
-      no_net : (other : ServeEnding) → last ≡ first → IsNoNet net net' other → WritesOnly out out' (serve_text other)
-          → HasNoNet G (change place store old new) (place.accounts old name) net net' out out' other
-      no_net other same why text = has_no_net place G store name old mid opened new said first last keeper read opens before is held kept home net net' out out' other same why text
+      no_net : (other : ServeEnding) → last ≡ first → IsNoNet (faults net) (faults net') other → WritesOnly out out' (serve_text other)
+          → HasNoNet place G faults store name old new net net' out out' other
+      no_net other same why text = has_no_net place G faults store name old mid opened new said first last keeper read opens before is held kept home net net' out out' other same why text
 
-      by_result : (r : Result (Unit {0}) Fault) → NetResult (Serves said first last) G.tells net net' first last r
+      by_result : (r : Result (Unit {0}) Fault) → NetResult (Serves said first last) G.tells (faults net) (faults net') first last r
           → WritesServed r entries out out' ending
-          → HasNoNet G (change place store old new) (place.accounts old name) net net' out out' ending
-          ⊎ HasServed G (change place store old new) (place.accounts old name) Serves out out' ending
-      by_result (Ok done) (serves, on, same) gives_accounts = inr (has_served place G store name old mid opened new said first last keeper read opens before is held kept home
-          Serves entries out out' ending serves sound count gives_accounts)
-      by_result (Err outside.Failed) (same, rose) (ends, text) = inl (subst (λ (e : ServeEnding). HasNoNet G (change place store old new) (place.accounts old name) net net' out out' e) (sym ends) (no_net Net same rose text))
-      by_result (Err outside.Memory) same (ends, text) = inl (subst (λ (e : ServeEnding). HasNoNet G (change place store old new) (place.accounts old name) net net' out out' e) (sym ends) (no_net Memory same tt text))
+          → HasNoNet place G faults store name old new net net' out out' ending
+          ⊎ HasServed place G faults store name old new net net' Serves out out' ending
+      by_result (Ok done) (serves, on, same) gives_accounts = inr (has_served place G faults store name old mid opened new said first last keeper read opens before is held kept home
+          Serves net net' entries out out' ending serves sound count gives_accounts)
+      by_result (Err outside.Failed) (same, rose) (ends, text) = inl (subst (λ (e : ServeEnding). HasNoNet place G faults store name old new net net' out out' e) (sym ends) (no_net Net same rose text))
+      by_result (Err outside.Memory) same (ends, text) = inl (subst (λ (e : ServeEnding). HasNoNet place G faults store name old new net net' out out' e) (sym ends) (no_net Memory same tt text))
 
 -- at other statuses than 0 and 7 the net did not serve
 pub unserved_by : (Unserves : Type 0) (result : Result (Unit {0}) Fault) (entries : ℕ) (out out' : OutputState) (ending : ServeEnding) (status : ℕ)
@@ -216,20 +217,20 @@ unserved_by Unserves (Ok done) entries out out' Memory status tells is why = abs
 
 -- ---- A store that keeps a lawful book is not damaged.
 
-accounts_undamaged : (Told : Type 0) (HasFile : List ℕ → Type 0) (before after : ℕ) (ending : ServeEnding) → HasNoAccounts Told HasFile before after ending → serve_status ending ≢ 5
-accounts_undamaged Told HasFile before after (BadAccounts number) why is = omega (arith, is)
-accounts_undamaged Told HasFile before after (TwiceAccounts number) why is = omega (arith, is)
-accounts_undamaged Told HasFile before after (NotOpened endings.Keeper) why is = omega (arith, is)
-accounts_undamaged Told HasFile before after (NotOpened endings.Memory) why is = omega (arith, is)
-accounts_undamaged Told HasFile before after (NotOpened endings.Done) never is = never
-accounts_undamaged Told HasFile before after (NotOpened (endings.Damaged damage)) never is = never
-accounts_undamaged Told HasFile before after (NotOpened endings.Read) never is = never
-accounts_undamaged Told HasFile before after (NotOpened endings.Write) never is = never
-accounts_undamaged Told HasFile before after (NotOpened (endings.Malformed number)) never is = never
-accounts_undamaged Told HasFile before after Done never is = never
-accounts_undamaged Told HasFile before after Net never is = never
-accounts_undamaged Told HasFile before after Memory never is = never
-accounts_undamaged Told HasFile before after Write never is = never
+accounts_undamaged : {P K : Type 0} (place : PlaceGhosts P K) (name : List ℕ) (old new : P) (ending : ServeEnding) → HasNoAccounts place name old new ending → serve_status ending ≢ 5
+accounts_undamaged place name old new (BadAccounts number) why is = omega (arith, is)
+accounts_undamaged place name old new (TwiceAccounts number) why is = omega (arith, is)
+accounts_undamaged place name old new (NotOpened endings.Keeper) why is = omega (arith, is)
+accounts_undamaged place name old new (NotOpened endings.Memory) why is = omega (arith, is)
+accounts_undamaged place name old new (NotOpened endings.Done) never is = never
+accounts_undamaged place name old new (NotOpened (endings.Damaged damage)) never is = never
+accounts_undamaged place name old new (NotOpened endings.Read) never is = never
+accounts_undamaged place name old new (NotOpened endings.Write) never is = never
+accounts_undamaged place name old new (NotOpened (endings.Malformed number)) never is = never
+accounts_undamaged place name old new Done never is = never
+accounts_undamaged place name old new Net never is = never
+accounts_undamaged place name old new Memory never is = never
+accounts_undamaged place name old new Write never is = never
 
 net_undamaged : (before after : ℕ) (ending : ServeEnding) → IsNoNet before after ending → serve_status ending ≢ 5
 net_undamaged before after Net why is = omega (arith, is)
@@ -249,15 +250,15 @@ served_undamaged book old new (NotOpened ending) never is = never
 served_undamaged book old new Net never is = never
 served_undamaged book old new Memory never is = never
 
-pub serve_sound : {K : Type 0} (G : Ghosts K) (c : StoreChange) (HasFile : List ℕ → Type 0) (Serves : AccountsServed → Seated K → Seated K → Type 0) (net net' : ℕ) (out out' : OutputState) (status : ℕ)
-    → c.told → KeptSound c.opens → RunsServe G c HasFile Serves net net' out out' status → status ≢ 5
-serve_sound G c HasFile Serves net net' out out' status told kept (ending, is, inl refused) five =
-    accounts_undamaged c.told HasFile c.before c.after ending refused.why (sym is ∙ five)
-serve_sound G c HasFile Serves net net' out out' status told kept (ending, is, inr (inl none)) five =
-    refused_sound c told kept none.other status none.why (is ∙ ap serve_status none.is) five
-serve_sound G c HasFile Serves net net' out out' status told kept (ending, is, inr (inr (inl none))) five =
-    net_undamaged net net' ending none.why (sym is ∙ five)
-serve_sound G c HasFile Serves net net' out out' status told kept (ending, is, inr (inr (inr served))) five =
+pub serve_sound : {P K N : Type 0} (place : PlaceGhosts P K) (G : Ghosts K) (faults : N → ℕ) (store name : List ℕ) (old new : P) (net net' : N) (Serves : AccountsServed → Seated K → Seated K → Type 0) (out out' : OutputState) (status : ℕ)
+    → place.tells new → KeptSound (OpensAs store (place.holds old store)) → RunsServe place G faults store name old new net net' Serves out out' status → status ≢ 5
+serve_sound place G faults store name old new net net' Serves out out' status told kept (ending, is, inl refused) five =
+    accounts_undamaged place name old new ending refused.why (sym is ∙ five)
+serve_sound place G faults store name old new net net' Serves out out' status told kept (ending, is, inr (inl none)) five =
+    refused_sound (change place store old new) told kept none.other status none.why (is ∙ ap serve_status none.is) five
+serve_sound place G faults store name old new net net' Serves out out' status told kept (ending, is, inr (inr (inl none))) five =
+    net_undamaged (faults net) (faults net') ending none.why (sym is ∙ five)
+serve_sound place G faults store name old new net net' Serves out out' status told kept (ending, is, inr (inr (inr served))) five =
     served_undamaged served.now.book out out' ending served.entries (sym is ∙ five)
 
 -- ---- What a run of `serve` tells by its status.
@@ -274,9 +275,9 @@ only_written : (out out' : OutputState) (text : List ℕ) (status : ℕ) → Wri
 only_written out out' text status (own, appended, inl (same, still)) some = inr (inl still)
 only_written out out' text status (own, appended, inr (front, rose)) some = inr (inr (some, rose))
 
-module _ (c : StoreChange) (net net' : ℕ) (out out' : OutputState) (status : ℕ) where
+module _ {P K N : Type 0} (place : PlaceGhosts P K) (faults : N → ℕ) (store name : List ℕ) (old new : P) (net net' : N) (out out' : OutputState) (status : ℕ) where
   abbrev Facts : Type 0
-  Facts = ServeFacts c.before c.after net net' out out' status
+  Facts = ServeFacts (place.faults old) (place.faults new) (faults net) (faults net') out out' status
 
   -- a status that tells neither a trouble of the place, nor of the net, nor of the output
   plain_facts : (k : ℕ) → status ≡ k → k ≢ 4 → k ≢ 7 → k ≢ 9 → Contains serve_statuses status
@@ -289,7 +290,7 @@ module _ (c : StoreChange) (net net' : ℕ) (out out' : OutputState) (status : �
     complete = among;
   }
 
-  keeper_facts : status ≡ 4 → Rose c.before c.after → (text : List ℕ) → WritesOnly out out' text → Facts
+  keeper_facts : status ≡ 4 → Rose (place.faults old) (place.faults new) → (text : List ℕ) → WritesOnly out out' text → Facts
   keeper_facts is rose text only = record {
     keeper = λ e. rose;
     net_rose = λ e. absurd (omega (arith, is, e));
@@ -298,7 +299,7 @@ module _ (c : StoreChange) (net net' : ℕ) (out out' : OutputState) (status : �
     complete = (2, lit< tt, sym is);
   }
 
-  net_facts : status ≡ 9 → Rose net net' → (text : List ℕ) → WritesOnly out out' text → Facts
+  net_facts : status ≡ 9 → Rose (faults net) (faults net') → (text : List ℕ) → WritesOnly out out' text → Facts
   net_facts is rose text only = record {
     keeper = λ e. absurd (omega (arith, is, e));
     net_rose = λ e. rose;
@@ -328,22 +329,22 @@ module _ (c : StoreChange) (net net' : ℕ) (out out' : OutputState) (status : �
   done_facts : status ≡ 0 → out'.faults ≡ out.faults → Facts
   done_facts is still = plain_facts 0 is (λ e. omega (arith, e)) (λ e. omega (arith, e)) (λ e. omega (arith, e)) (0, lit< tt, sym is) (inr (inl still))
 
-  refused_facts : (HasFile : List ℕ → Type 0) (ending : ServeEnding) → status ≡ serve_status ending → HasNoAccounts c.told HasFile c.before c.after ending → WritesOnly out out' (serve_text ending) → Facts
-  refused_facts HasFile (BadAccounts number) is why only = accounts_facts is (serve_text (BadAccounts number)) only
-  refused_facts HasFile (TwiceAccounts number) is why only = accounts_facts is (serve_text (TwiceAccounts number)) only
-  refused_facts HasFile (NotOpened endings.Keeper) is why only = keeper_facts is why (serve_text (NotOpened endings.Keeper)) only
-  refused_facts HasFile (NotOpened endings.Memory) is why only = memory_facts is (serve_text (NotOpened endings.Memory)) only
-  refused_facts HasFile (NotOpened endings.Done) is never only = absurd never
-  refused_facts HasFile (NotOpened (endings.Damaged damage)) is never only = absurd never
-  refused_facts HasFile (NotOpened endings.Read) is never only = absurd never
-  refused_facts HasFile (NotOpened endings.Write) is never only = absurd never
-  refused_facts HasFile (NotOpened (endings.Malformed number)) is never only = absurd never
-  refused_facts HasFile Done is never only = absurd never
-  refused_facts HasFile Net is never only = absurd never
-  refused_facts HasFile Memory is never only = absurd never
-  refused_facts HasFile Write is never only = absurd never
+  refused_facts : (ending : ServeEnding) → status ≡ serve_status ending → HasNoAccounts place name old new ending → WritesOnly out out' (serve_text ending) → Facts
+  refused_facts (BadAccounts number) is why only = accounts_facts is (serve_text (BadAccounts number)) only
+  refused_facts (TwiceAccounts number) is why only = accounts_facts is (serve_text (TwiceAccounts number)) only
+  refused_facts (NotOpened endings.Keeper) is why only = keeper_facts is why (serve_text (NotOpened endings.Keeper)) only
+  refused_facts (NotOpened endings.Memory) is why only = memory_facts is (serve_text (NotOpened endings.Memory)) only
+  refused_facts (NotOpened endings.Done) is never only = absurd never
+  refused_facts (NotOpened (endings.Damaged damage)) is never only = absurd never
+  refused_facts (NotOpened endings.Read) is never only = absurd never
+  refused_facts (NotOpened endings.Write) is never only = absurd never
+  refused_facts (NotOpened (endings.Malformed number)) is never only = absurd never
+  refused_facts Done is never only = absurd never
+  refused_facts Net is never only = absurd never
+  refused_facts Memory is never only = absurd never
+  refused_facts Write is never only = absurd never
 
-  store_facts : (other : Ending) → status ≡ status_of other → IsNotOpened c other → (text : List ℕ) → WritesOnly out out' text → Facts
+  store_facts : (other : Ending) → status ≡ status_of other → IsNotOpened (change place store old new) other → (text : List ℕ) → WritesOnly out out' text → Facts
   store_facts endings.Keeper is why text only = keeper_facts is why text only
   store_facts (endings.Damaged damage) is why text only = damage_facts is text only
   store_facts endings.Memory is why text only = memory_facts is text only
@@ -352,7 +353,7 @@ module _ (c : StoreChange) (net net' : ℕ) (out out' : OutputState) (status : �
   store_facts endings.Write is never text only = absurd never
   store_facts (endings.Malformed number) is never text only = absurd never
 
-  no_net_facts : (ending : ServeEnding) → status ≡ serve_status ending → IsNoNet net net' ending → WritesOnly out out' (serve_text ending) → Facts
+  no_net_facts : (ending : ServeEnding) → status ≡ serve_status ending → IsNoNet (faults net) (faults net') ending → WritesOnly out out' (serve_text ending) → Facts
   no_net_facts Net is why only = net_facts is why (serve_text Net) only
   no_net_facts Memory is why only = memory_facts is (serve_text Memory) only
   no_net_facts Done is never only = absurd never
@@ -370,8 +371,8 @@ module _ (c : StoreChange) (net net' : ℕ) (out out' : OutputState) (status : �
   served_facts book Net is never = absurd never
   served_facts book Memory is never = absurd never
 
-  pub serve_facts : {K : Type 0} (G : Ghosts K) (HasFile : List ℕ → Type 0) (Serves : AccountsServed → Seated K → Seated K → Type 0) → RunsServe G c HasFile Serves net net' out out' status → Facts
-  serve_facts G HasFile Serves (ending, is, inl refused) = refused_facts HasFile ending is refused.why refused.text
-  serve_facts G HasFile Serves (ending, is, inr (inl none)) = store_facts none.other (is ∙ ap serve_status none.is) none.why (serve_text ending) none.text
-  serve_facts G HasFile Serves (ending, is, inr (inr (inl none))) = no_net_facts ending is none.why none.text
-  serve_facts G HasFile Serves (ending, is, inr (inr (inr served))) = served_facts served.now.book ending is served.entries
+  pub serve_facts : (G : Ghosts K) (Serves : AccountsServed → Seated K → Seated K → Type 0) → RunsServe place G faults store name old new net net' Serves out out' status → Facts
+  serve_facts G Serves (ending, is, inl refused) = refused_facts ending is refused.why refused.text
+  serve_facts G Serves (ending, is, inr (inl none)) = store_facts none.other (is ∙ ap serve_status none.is) none.why (serve_text ending) none.text
+  serve_facts G Serves (ending, is, inr (inr (inl none))) = no_net_facts ending is none.why none.text
+  serve_facts G Serves (ending, is, inr (inr (inr served))) = served_facts served.now.book ending is served.entries

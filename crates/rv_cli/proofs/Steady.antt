@@ -1,6 +1,7 @@
 -- What stays of a place's other stores, and what goes on where nothing fails any more.
 use Rattle.std.proofs.Common.{codes, decimal, ◌≡◌, ◌≢◌, ◌⊎◌, inl, inr, ℕ, ◌-◌, ◌^◌, ◌++◌, List, Result, Ok, Err, IsErrOf, refl, sym, ap, ◌∙◌, subst, arith}
 use Rattle.rv_keeper.specs.declared.keeper.Keeper.{Ghosts}
+use Rattle.rv_keeper.specs.declared.place.Place.{Ghosts as PlaceGhosts}
 use Rattle.rv_keeper.specs.Keeping.{HasKeepCause}
 use Rattle.rv_keeper.specs.Stores.{TakesUp}
 use Rattle.rv_desk.specs.Seated.{Seated}
@@ -142,8 +143,8 @@ served_seven (Ok done) entries old new ending P tells only = counted_seven _ old
 served_seven (Err outside.Failed) entries old new ending P (is, text) only = inr (λ seven. omega (arith, seven, ap serve_status is))
 served_seven (Err outside.Memory) entries old new ending P (is, text) only = inr (λ seven. omega (arith, seven, ap serve_status is))
 
-pub no_accounts_not_nine : (Told : Type 0) (HasFile : List ℕ → Type 0) (before after : ℕ) (ending : ServeEnding) → HasNoAccounts Told HasFile before after ending → ending ≡ serves.Net → ⊥
-no_accounts_not_nine Told HasFile before after ending why is = subst (λ (e : ServeEnding). HasNoAccounts Told HasFile before after e) is why
+pub no_accounts_not_nine : {P K : Type 0} (place : PlaceGhosts P K) (name : List ℕ) (old new : P) (ending : ServeEnding) → HasNoAccounts place name old new ending → ending ≡ serves.Net → ⊥
+no_accounts_not_nine place name old new ending why is = subst (λ (e : ServeEnding). HasNoAccounts place name old new e) is why
 
 pub no_store_not_nine : (other : Ending) → serves.NotOpened other ≡ serves.Net → ⊥
 no_store_not_nine other e = absurd (cc)

@@ -22,7 +22,7 @@ use Rattle.rv_cli.specs.Texts.{fault_ending, keep_ending, status_of, status_text
 use Rattle.rv_cli.specs.Change.{StoreChange, change, kept_change}
 use Rattle.rv_cli.specs.Headline.{Begins, Leaves, IsNotOpened, KeepsSo, HasFed, Replied, served_lines}
 use Rattle.rv_cli.specs.LineTaking.{FedAnswers, Feeds}
-use Rattle.rv_cli.specs.LineRunLaws.{ends_later}
+use Rattle.rv_cli.specs.LineRunLaws.{ends_later, reached_later}
 use Rattle.rv_cli.specs.Feeding.{IsLeftWith, RoseAt, FeedsWith}
 use Rattle.rv_cli.specs.Replying.{Replies, WritesReply}
 use Rattle.rv_cli.specs.Storing.{HasOpened, OpensStore, OpensKept, ToldBefore}
@@ -31,14 +31,19 @@ use Rattle.rv_cli.proofs.Ended.{ended}
 
 -- what is told later was told before
 module _ (Told Now : Type 0) (then : Now → Told) where
-  fed_later : (o : Option (List ℕ)) (first now : Served) (input' : InputState) (output output' : OutputState) (ending : Ending) → IfSome o (λ bytes. FedAnswers served_lines Told first now bytes input' output output' ending)
-      → IfSome o (λ bytes. FedAnswers served_lines Now first now bytes input' output output' ending)
-  fed_later None first now input' output output' ending f = tt
-  fed_later (Some bytes) first now input' output output' ending f =
-      record { read = f.read; text = f.text; consumed = f.consumed; appended = f.appended; ends = ends_later served_lines Told Now (takes_later Told Now then) first bytes f.read f.text now ending f.ends }
+  fed_later : (o : Option (List ℕ)) (first now : Served) (input input' : InputState) (output output' : OutputState) (ending : Ending) → IfSome o (λ bytes. FedAnswers served_lines Told first now bytes input input' output output' ending)
+      → IfSome o (λ bytes. FedAnswers served_lines Now first now bytes input input' output output' ending)
+  fed_later None first now input input' output output' ending f = tt
+  fed_later (Some bytes) first now input input' output output' ending f =
+      record { read = f.read; text = f.text; consumed = f.consumed; appended = f.appended; ends = ends_later served_lines Told Now (takes_later Told Now then) first bytes input input' f.read f.text now ending f.ends }
 
   pub feeds_later : (first now : Served) (input input' : InputState) (output output' : OutputState) (ending : Ending) → Feeds served_lines Told first now input input' output output' ending → Feeds served_lines Now first now input input' output output' ending
-  feeds_later first now input input' output output' ending f = record { reads = f.reads; writes = f.writes; fed = fed_later input.left first now input' output output' ending f.fed }
+  feeds_later first now input input' output output' ending f = record {
+    reads = f.reads;
+    writes = f.writes;
+    reached = reached_later served_lines Told Now (takes_later Told Now then) first now f.reached;
+    fed = fed_later input.left first now input input' output output' ending f.fed;
+  }
 
 -- the place gave no keeper, and that is told
 pub not_given : {T : Type 0} (c : StoreChange) (fault : Fault) (ending : Ending) → HasKeepCause {T = T} c.before c.after (Err fault) → ending ≡ keep_ending fault
@@ -204,6 +209,7 @@ module _ {P K : Type 0} (place : PlaceGhosts P K) (G : Ghosts K) (store : List �
         begins = begins old mid new desk ended'.1 opened fed.told back;
         reads = reads;
         writes = writes;
+        reached = later.reached;
         fed = all;
         keeps = keeps_so old mid new desk ended'.1 ended'.0 opened.none opened.same back fed.rose;
         leaves = leaves old mid new fed.now ended'.1 opened.same fed.left back;

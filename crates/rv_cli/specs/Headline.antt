@@ -10,7 +10,7 @@ use Rattle.rv_base.specs.Outside.{InputState, OutputState}
 use Rattle.rv_base.specs.Writes.{AppendsFront, IsFront}
 use Rattle.rv_rows.specs.Held.{Stored as StoredRow, rows_in}
 use Rattle.rv_rows.specs.Sharing.{seen}
-use Rattle.rv_book.specs.Book.{Book, last, opening, size, Extends}
+use Rattle.rv_book.specs.Book.{Book, last, last_order, opening, size, Extends}
 use Rattle.rv_book.specs.Entries.{last_in}
 use Rattle.rv_history.specs.Served.{Served, IsSound, Settles, TakesTurn}
 use Rattle.rv_history.specs.Closing.{GoesOnFrom}
@@ -100,6 +100,10 @@ Are = line_runs.Are served_lines
 abbrev pub Run : Type 0 → Served → List Line → List (Option Answer) → Served → Type 0
 Run = line_runs.Run served_lines
 
+-- this state is reached from the first one by a run of some lines
+abbrev pub IsReached : Type 0 → Served → Served → Type 0
+IsReached = line_runs.IsReached served_lines
+
 abbrev pub told_text : Option Answer → List ℕ
 told_text = line_runs.told_text served_lines
 
@@ -109,10 +113,10 @@ Answered = line_runs.Answered served_lines
 abbrev pub IsCutOff : Type 0 → Served → List ℕ → List ℕ → List ℕ → Served → Type 0
 IsCutOff = line_runs.IsCutOff served_lines
 
-abbrev pub Ends : Type 0 → Served → List ℕ → List ℕ → List ℕ → Served → Ending → Type 0
+abbrev pub Ends : Type 0 → Served → List ℕ → InputState → InputState → List ℕ → List ℕ → Served → Ending → Type 0
 Ends = line_runs.Ends served_lines
 
-abbrev pub Fed : Type 0 → Served → Served → List ℕ → InputState → OutputState → OutputState → Ending → Type 0
+abbrev pub Fed : Type 0 → Served → Served → List ℕ → InputState → InputState → OutputState → OutputState → Ending → Type 0
 Fed = line_runs.Fed served_lines
 
 -- where the source tells and all its lines are of the form, P
@@ -169,8 +173,8 @@ KeepsSo c Keeper = Rose c.before c.after
 KeepsSo c (Damaged damage) = c.told → ⊥
 KeepsSo c ending = Unit {0}
 
--- ---- What `run` promises of `feed`: the status is that of an ending. The store did not open, and nothing was read; or the faults
--- are told by the ending, and where the source tells its bytes, the run ended so.
+-- ---- What `run` promises of `feed`: the status is that of an ending. The store did not open, and nothing was read; or some lines were
+-- taken, the faults are told by the ending, and where the source tells its bytes, the run over them ended so.
 module _ (c : StoreChange) where
   pub record NotFed (input input' : InputState) (output output' : OutputState) (ending : Ending) : Type 0 where
     pub why : IsNotOpened c ending
@@ -183,7 +187,8 @@ module _ (c : StoreChange) where
     pub begins : Begins c first
     pub reads : ReadsSo input input' ending
     pub writes : WritesSo output.faults output'.faults ending
-    pub fed : IfSome input.left (λ bytes. Fed c.told first now bytes input' output output' ending)
+    pub reached : IsReached c.told first now
+    pub fed : IfSome input.left (λ bytes. Fed c.told first now bytes input input' output output' ending)
     pub keeps : KeepsSo c ending
     pub leaves : Leaves c now
 
@@ -278,12 +283,13 @@ RunsMake seed requests output output' status = (ending : Ending) × (status ≡ 
 -- ---- What follows.
 
 -- A run from a sound state leaves a sound one: its book is lawful, each client's acts have the ids 1, 2, 3 and so on, those after a page
--- from the client's last one there, and the orders of each group's looks rise. Where what is kept is told, the book goes on from the first.
+-- from the client's last one there, and the orders of each group's looks rise, those after a page from above the group's last one there. Where
+-- what is kept is told, the book goes on from the first.
 pub record IsLawfulRun (Told : Type 0) (first now : Served) : Type 0 where
   pub sound : IsSound now
   pub more : Told → Extends now.book first.book
   pub ids : (client : List ℕ) → act_ids client now.book.entries ≡ range_with_len (last client (opening now.book) + 1) (last_in client now.book.entries)
-  pub orders : (group : List ℕ) → IsStrictlyIncreasing (look_orders group now.book.entries)
+  pub orders : (group : List ℕ) → IsStrictlyIncreasing (last_order group (opening now.book) ∷ look_orders group now.book.entries)
   pub later : first.faults ≤ now.faults
   pub limit : first.limit ≡ 2 ^ 32 - 1 → now.limit ≡ 2 ^ 32 - 1
 
@@ -292,7 +298,7 @@ pub record IsLawfulFeed (Told : Type 0) (first now : Served) : Type 0 where
   pub sound : IsSound now
   pub more : Told → GoesOnFrom first.book now.book
   pub ids : (client : List ℕ) → act_ids client now.book.entries ≡ range_with_len (last client (opening now.book) + 1) (last_in client now.book.entries)
-  pub orders : (group : List ℕ) → IsStrictlyIncreasing (look_orders group now.book.entries)
+  pub orders : (group : List ℕ) → IsStrictlyIncreasing (last_order group (opening now.book) ∷ look_orders group now.book.entries)
   pub later : first.faults ≤ now.faults
   pub limit : first.limit ≡ 2 ^ 32 - 1 → now.limit ≡ 2 ^ 32 - 1
 

@@ -2,10 +2,11 @@
 use Rattle.std.proofs.Common.{◌≡◌, ℕ, ◌+◌, ◌^◌, ◌<◌, ◌≤◌, ◌&&◌, true, false, List, [], ◌∷◌, ◌++◌, length, nat_le, nat_lt, Option, Some, None, refl, ap, ◌∙◌, subst, arith, cond}
 use Rattle.std.proofs.lemmas.List.{flat_map_more}
 use Rattle.std.proofs.lemmas.Grind.{common_steps}
+use Rattle.rv_base.specs.Outside.{InputState}
 use Rattle.rv_lines.specs.Lines.{longest_line}
 use Rattle.rv_cli.specs.declared.ending.Ending.{Ending}
 use Rattle.rv_cli.specs.declared.ending.Ending.TheVariants.{Done, Keeper, Damaged, Read, Write, Memory, Malformed}
-use Rattle.rv_cli.specs.LineRuns.{Lines, line_at, Are, Run, told_text, Answered, Ends}
+use Rattle.rv_cli.specs.LineRuns.{Lines, line_at, Are, IsReached, Run, told_text, Answered, Ends}
 use Rattle.rv_cli.specs.LineTaking.{TakesLater}
 
 -- a line that is short enough, and early enough, is what its bytes are
@@ -34,7 +35,8 @@ module _ (L : Lines) where
   are_more n (l ∷ rest) bytes [] line number e h is = absurd h
   are_more n (l ∷ rest) bytes (a ∷ lines) line number e (here, more) is = (here, are_more (n + 1) rest bytes lines line number (omega (arith, e)) more is)
 
-  run_more : (Told : Type 0) (lines : List L.Line) (answers : List (Option L.Answer)) (first mid new : L.State) (line : L.Line) (answer : Option L.Answer) → Run L Told first lines answers mid → L.Takes Told mid line answer new
+  -- a run goes on by one line
+  pub run_more : (Told : Type 0) (lines : List L.Line) (answers : List (Option L.Answer)) (first mid new : L.State) (line : L.Line) (answer : Option L.Answer) → Run L Told first lines answers mid → L.Takes Told mid line answer new
       → Run L Told first (lines ++ line ∷ []) (answers ++ answer ∷ []) new
   run_more Told [] [] first mid new line answer r s = (new, subst (λ (b : L.State). L.Takes Told b line answer new) r s, refl)
   run_more Told [] (a ∷ answers) first mid new line answer r s = absurd r
@@ -66,10 +68,13 @@ module _ (L : Lines) where
     pub answered_later : (first : L.State) (lines : List (List ℕ)) (text : List ℕ) (new : L.State) → Answered L Told first lines text new → Answered L Now first lines text new
     answered_later first lines text new w = record { taken = w.taken; answers = w.answers; are = w.are; run = run_later w.taken w.answers first new w.run; told = w.told }
 
-    pub ends_later : (first : L.State) (bytes read text : List ℕ) (now : L.State) (ending : Ending) → Ends L Told first bytes read text now ending → Ends L Now first bytes read text now ending
-    ends_later first bytes read text now Done (all, w) = (all, answered_later first _ text now w)
-    ends_later first bytes read text now Read (w, needed) = (answered_later first _ text now w, needed)
-    ends_later first bytes read text now Write e = record {
+    pub reached_later : (first now : L.State) → IsReached L Told first now → IsReached L Now first now
+    reached_later first now (lines, answers, run) = (lines, answers, run_later lines answers first now run)
+
+    pub ends_later : (first : L.State) (bytes : List ℕ) (input input' : InputState) (read text : List ℕ) (now : L.State) (ending : Ending) → Ends L Told first bytes input input' read text now ending → Ends L Now first bytes input input' read text now ending
+    ends_later first bytes input input' read text now Done (all, w) = (all, answered_later first _ text now w)
+    ends_later first bytes input input' read text now Read (w, needed) = (answered_later first _ text now w, needed)
+    ends_later first bytes input input' read text now Write e = record {
       lines = e.lines;
       line = e.line;
       others = e.others;
@@ -87,10 +92,10 @@ module _ (L : Lines) where
       told = e.told;
       front = e.front;
     }
-    ends_later first bytes read text now Memory e = record { lines = e.lines; others = e.others; are = e.are; needed = e.needed; answered = answered_later first e.lines text now e.answered }
-    ends_later first bytes read text now (Malformed number) e =
+    ends_later first bytes input input' read text now Memory e = record { lines = e.lines; others = e.others; are = e.are; waits = e.waits; needed = e.needed; answered = answered_later first e.lines text now e.answered }
+    ends_later first bytes input input' read text now (Malformed number) e =
         record { lines = e.lines; line = e.line; others = e.others; are = e.are; count = e.count; asks = e.asks; needed = e.needed; answered = answered_later first e.lines text now e.answered }
-    ends_later first bytes read text now Keeper e =
+    ends_later first bytes input input' read text now Keeper e =
         record { lines = e.lines; line = e.line; others = e.others; are = e.are; stop = e.stop; needed = e.needed; answered = answered_later first e.lines text now e.answered }
-    ends_later first bytes read text now (Damaged damage) e =
+    ends_later first bytes input input' read text now (Damaged damage) e =
         record { lines = e.lines; line = e.line; others = e.others; are = e.are; stop = e.stop; needed = e.needed; answered = answered_later first e.lines text now e.answered }

@@ -1,5 +1,5 @@
 -- Runs over lines, over whoever takes them: what a line is, what a run over lines answers, how it ends, and what it reads and writes.
-use Rattle.std.specs.Prelude.{ℕ, ◌≡◌, ◌+◌, ◌^◌, ◌⊎◌, ◌&&◌, List, [], ◌∷◌, ◌++◌, length, nat_le, nat_lt, Option, Some, None, IfSome, if◌then◌else◌}
+use Rattle.std.specs.Prelude.{ℕ, ◌≡◌, ◌≢◌, ◌+◌, ◌^◌, ◌⊎◌, ◌&&◌, List, [], ◌∷◌, ◌++◌, length, nat_le, nat_lt, Option, Some, None, IfSome, if◌then◌else◌}
 use Rattle.std.specs.List.{flat_map}
 use Rattle.std.specs.Option.{option_map_or}
 use Rattle.std.specs.Io.KnownBytes.{Consumes, Appends}
@@ -50,6 +50,10 @@ module _ (L : Lines) where
   Run Told old [] (answer ∷ answers) new = ⊥
   Run Told old (line ∷ lines) [] new = ⊥
 
+  -- a run over some lines leads from the first state to this one
+  abbrev pub IsReached : Type 0 → L.State → L.State → Type 0
+  IsReached Told first now = (lines : List L.Line) × (answers : List (Option L.Answer)) × Run Told first lines answers now
+
   -- the line of an answer; what has none writes nothing
   abbrev pub told_text : Option L.Answer → List ℕ
   told_text answer = option_map_or L.text answer []
@@ -94,11 +98,13 @@ module _ (L : Lines) where
     pub needed : IsNeeded read (length lines + 1)
     pub answered : Answered Told first lines text now
 
-  -- These first lines are answered, and memory was refused before it was known what the next one is, or at a stop.
-  pub record StopsAfter (Told : Type 0) (first : L.State) (bytes read text : List ℕ) (now : L.State) : Type 0 where
+  -- These first lines are answered, and memory was refused before it was known what the next one is, or at a stop. There is a next one,
+  -- or no read has told the end.
+  pub record StopsAfter (Told : Type 0) (first : L.State) (bytes : List ℕ) (input input' : InputState) (read text : List ℕ) (now : L.State) : Type 0 where
     pub lines : List (List ℕ)
     pub others : List (List ℕ)
     pub are : lines_of bytes ≡ lines ++ others
+    pub waits : (others ≢ []) ⊎ (input'.ends ≡ input.ends)
     pub needed : IsNeeded read (length lines + 1)
     pub answered : Answered Told first lines text now
 
@@ -112,17 +118,18 @@ module _ (L : Lines) where
     pub needed : IsNeeded read (length lines + 1)
     pub answered : Answered Told first lines text now
 
-  -- A run over these bytes, of which some were read, may end so, with this text of answers and this state.
-  abbrev pub Ends : Type 0 → L.State → List ℕ → List ℕ → List ℕ → L.State → Ending → Type 0
+  -- A run over these bytes, of which some were read, may end so, with this text of answers and this state. The input was so before and
+  -- is so afterwards.
+  abbrev pub Ends : Type 0 → L.State → List ℕ → InputState → InputState → List ℕ → List ℕ → L.State → Ending → Type 0
   -- the input was read to its end, and all its lines are answered
-  Ends Told first bytes read text now Done = (read ≡ bytes) × Answered Told first (lines_of bytes) text now
+  Ends Told first bytes input input' read text now Done = (read ≡ bytes) × Answered Told first (lines_of bytes) text now
   -- a read failed, and all lines whose LF was read are answered
-  Ends Told first bytes read text now Read = Answered Told first (ended_lines_of read) text now × IsNeeded read (length (ended_lines_of read) + 1)
-  Ends Told first bytes read text now Write = IsCutOff Told first bytes read text now
-  Ends Told first bytes read text now Memory = StopsAfter Told first bytes read text now
-  Ends Told first bytes read text now (Malformed number) = StopsAt Told first number bytes read text now
-  Ends Told first bytes read text now Keeper = StaysClosed Told first bytes read text now
-  Ends Told first bytes read text now (Damaged damage) = StaysClosed Told first bytes read text now
+  Ends Told first bytes input input' read text now Read = Answered Told first (ended_lines_of read) text now × IsNeeded read (length (ended_lines_of read) + 1)
+  Ends Told first bytes input input' read text now Write = IsCutOff Told first bytes read text now
+  Ends Told first bytes input input' read text now Memory = StopsAfter Told first bytes input input' read text now
+  Ends Told first bytes input input' read text now (Malformed number) = StopsAt Told first number bytes read text now
+  Ends Told first bytes input input' read text now Keeper = StaysClosed Told first bytes read text now
+  Ends Told first bytes input input' read text now (Damaged damage) = StaysClosed Told first bytes read text now
 
   -- where the source tells and all its lines are of the form, P
   abbrev pub AllAre : Option (List ℕ) → Type 0 → Type 0
@@ -147,13 +154,13 @@ IsOwnText before now own (Malformed number) = IsPart before now own (status_text
 
 -- The bytes that were read are the front of the input's, and what was added to the output is the text of the answers, and
 -- then the status's own.
-pub record Fed (L : Lines) (Told : Type 0) (first now : L.State) (bytes : List ℕ) (input' : InputState) (output output' : OutputState) (ending : Ending) : Type 0 where
+pub record Fed (L : Lines) (Told : Type 0) (first now : L.State) (bytes : List ℕ) (input input' : InputState) (output output' : OutputState) (ending : Ending) : Type 0 where
   pub read : List ℕ
   pub text : List ℕ
   pub own : List ℕ
   pub consumed : Consumes (Some bytes) input'.left read
   pub appended : Appends output.written output'.written (text ++ own)
-  pub ends : Ends L Told first bytes read text now ending
+  pub ends : Ends L Told first bytes input input' read text now ending
   pub status : IsOwnText output.faults output'.faults own ending
 
 -- A failed read is told by its status, and by no other; nothing is read after the end.

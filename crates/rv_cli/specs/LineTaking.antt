@@ -10,7 +10,7 @@ use Rattle.rv_lines.specs.declared.next.Next.{Next}
 use Rattle.rv_lines.specs.declared.next.Next.TheVariants.{Line, Last, End, TooLong}
 use Rattle.rv_cli.specs.declared.ending.Ending.{Ending}
 use Rattle.rv_cli.specs.declared.ending.Ending.TheVariants.{Done, Keeper, Damaged, Read, Write, Memory, Malformed}
-use Rattle.rv_cli.specs.LineRuns.{Lines, Ends, ReadsSo}
+use Rattle.rv_cli.specs.LineRuns.{Lines, Ends, IsReached, ReadsSo}
 
 -- ---- What was read.
 
@@ -88,18 +88,19 @@ module _ (L : Lines) where
   -- ---- All lines.
 
   -- what was read, and the text of answers that was added
-  pub record FedAnswers (Told : Type 0) (first now : L.State) (bytes : List ℕ) (input' : InputState) (output output' : OutputState) (ending : Ending) : Type 0 where
+  pub record FedAnswers (Told : Type 0) (first now : L.State) (bytes : List ℕ) (input input' : InputState) (output output' : OutputState) (ending : Ending) : Type 0 where
     pub read : List ℕ
     pub text : List ℕ
     pub consumed : Consumes (Some bytes) input'.left read
     pub appended : Appends output.written output'.written text
-    pub ends : Ends L Told first bytes read text now ending
+    pub ends : Ends L Told first bytes input input' read text now ending
 
   -- how the lines end
   pub record Feeds (Told : Type 0) (first now : L.State) (input input' : InputState) (output output' : OutputState) (ending : Ending) : Type 0 where
     pub reads : ReadsSo input input' ending
     pub writes : AnswerFaults output.faults output'.faults ending
-    pub fed : IfSome input.left (λ bytes. FedAnswers Told first now bytes input' output output' ending)
+    pub reached : IsReached L Told first now
+    pub fed : IfSome input.left (λ bytes. FedAnswers Told first now bytes input input' output output' ending)
 
 -- ---- Who takes the lines.
 

@@ -5,7 +5,6 @@ use Rattle.rv_keeper.specs.declared.place.Place.{Ghosts as PlaceGhosts}
 use Rattle.rv_keeper.specs.declared.keeper.Keeper.{Ghosts as KeeperGhosts}
 use Rattle.rv_net.specs.declared.net.Net.{Ghosts as NetGhosts}
 use Rattle.rv_words.specs.declared.serve_options.ServeOptions.{ServeOptions}
-use Rattle.rv_cli.specs.Change.{change}
 use Rattle.rv_cli.specs.Commands.{HasFile}
 use Rattle.rv_cli.specs.Running.{Network, Outside, Run}
 use Rattle.rv_cli.specs.Serving.{IsNetServed, RunsServe, Unserved, listeners_wanted}
@@ -19,8 +18,7 @@ serve_statuses = 0 ∷ 3 ∷ 4 ∷ 5 ∷ 7 ∷ 8 ∷ 9 ∷ []
 -- the store keeps the book that they leave; what is sent over links are pokes, by looks of seats at that book.
 abbrev pub WasServed : {P K O : Type 0} → PlaceGhosts P K → KeeperGhosts K → (n : Network) → SinkGhosts O → List ℕ → ServeOptions → P → P → n.Net → n.Net → O → O → ℕ → Type 0
 WasServed place keeper n output store options old new before after out out' =
-    RunsServe keeper (change place store old new) (place.accounts old options.accounts) (IsNetServed keeper n options before after)
-    (n.net.faults before) (n.net.faults after) (output.state out) (output.state out')
+    RunsServe place keeper n.net.faults store options.accounts old new before after (IsNetServed keeper n options before after) (output.state out) (output.state out')
 
 module _ {N L P I O C : Type 0} (net : NetGhosts N L P I O C) (before after : N) where
   -- What the net was asked for, if it was: at the port of the options as many listeners as workers, each for as many connections; and, where

@@ -10,7 +10,8 @@ use Rattle.rv_base.specs.declared.outside.Source.{Ghosts as SourceGhosts}
 use Rattle.rv_base.specs.declared.outside.Sink.{Ghosts as SinkGhosts}
 use Rattle.rv_base.specs.Writes.{AppendsFront}
 use Rattle.rv_keeper.specs.declared.keeper.Keeper.{Ghosts}
-use Rattle.rv_keeper.specs.declared.loaded.Loaded.{Loaded}
+use Rattle.rv_keeper.specs.declared.place.Place.{Ghosts as PlaceGhosts}
+use Rattle.rv_keeper.specs.Stores.{PlaceStays}
 use Rattle.rv_accounts.specs.File.{AccountsServed, file_in}
 use Rattle.rv_accounts.specs.declared.fault.AccountsFault.{AccountsFault}
 use Rattle.rv_book.specs.Book.{Book, size, Extends}
@@ -31,7 +32,7 @@ use Rattle.rv_workers.specs.Serving.{EachServes, IsServed, ServesAtDesk, ServesT
 use Rattle.rv_cli.specs.declared.ending.Ending.{Ending}
 use Rattle.rv_cli.specs.declared.serve_ending.ServeEnding.{ServeEnding}
 use Rattle.rv_cli.specs.declared.serve_ending.ServeEnding.TheVariants.{Done, BadAccounts, TwiceAccounts, NotOpened, Net, Memory, Write}
-use Rattle.rv_cli.specs.Change.{StoreChange}
+use Rattle.rv_cli.specs.Change.{change}
 use Rattle.rv_cli.specs.Running.{Network}
 use Rattle.rv_cli.specs.Texts.{serve_status, serve_text}
 use Rattle.rv_cli.specs.Headline.{Begins, IsLawfulRun, IsLeftAs, IsNotOpened, Leaves, ShowsAt, AnswersChange, AnswersTrouble, WritesOnly}
@@ -40,23 +41,25 @@ use Rattle.rv_room.specs.SeatTurns.{IsSeatTurn}
 use Rattle.rv_accounts.specs.declared.fault.AccountsFault.TheVariants as accounts
 use Rattle.rv_cli.specs.declared.ending.Ending.TheVariants as endings
 
--- ---- The accounts file. Where the place tells, it has these bytes.
+-- ---- The accounts file. The place was this before the run and is this after it.
 
-module _ (Told : Type 0) (HasFile : List ℕ → Type 0) where
-  -- the accounts file was read, and says this
+module _ {P K : Type 0} (place : PlaceGhosts P K) (name : List ℕ) (old new : P) where
+  -- The accounts file of the name was read, and says this. Where the place tells, the file has these bytes; and where the place knows its
+  -- files besides, there is such a file.
   pub record FileSays (said : Result AccountsServed AccountsFault) : Type 0 where
     pub bytes : List ℕ
-    pub read : Told → (file : List ℕ) → HasFile file → file ≡ bytes
+    pub read : place.tells new → (file : List ℕ) → place.accounts old name file → file ≡ bytes
+    pub there : place.knows_files → place.tells new → place.accounts old name bytes
     pub says : file_in bytes ≡ said
 
   -- Why there are no accounts, by the place's counts of faults: the first thing that is wrong with the file; or the file could not be
   -- read; or memory was refused.
-  abbrev pub HasNoAccounts : ℕ → ℕ → ServeEnding → Type 0
-  HasNoAccounts before after (BadAccounts number) = FileSays (Err (accounts.BadFile number)) × (after ≡ before)
-  HasNoAccounts before after (TwiceAccounts number) = FileSays (Err (accounts.Twice number)) × (after ≡ before)
-  HasNoAccounts before after (NotOpened endings.Keeper) = Rose before after
-  HasNoAccounts before after (NotOpened endings.Memory) = Unit {0}
-  HasNoAccounts before after ending = ⊥
+  abbrev pub HasNoAccounts : ServeEnding → Type 0
+  HasNoAccounts (BadAccounts number) = FileSays (Err (accounts.BadFile number)) × (place.faults new ≡ place.faults old)
+  HasNoAccounts (TwiceAccounts number) = FileSays (Err (accounts.Twice number)) × (place.faults new ≡ place.faults old)
+  HasNoAccounts (NotOpened endings.Keeper) = Rose (place.faults old) (place.faults new)
+  HasNoAccounts (NotOpened endings.Memory) = Unit {0}
+  HasNoAccounts ending = ⊥
 
 -- ---- The net.
 
@@ -119,52 +122,53 @@ WritesEntries book old new ending = ⊥
 
 -- ---- What becomes of a run. The net is served so, with these accounts, between opening a desk and closing it.
 
-module _ {K : Type 0} (G : Ghosts K) (c : StoreChange) (HasFile : List ℕ → Type 0) where
-  -- the store was not opened, and is left as it was
+module _ {P K N : Type 0} (place : PlaceGhosts P K) (G : Ghosts K) (faults : N → ℕ) (store name : List ℕ) (old new : P) (net net' : N) where
+  -- The store was not opened: where the place tells, all its stores and files are as they were, and none was made. The net was not asked.
   pub record HasRefused (output output' : OutputState) (ending : ServeEnding) : Type 0 where
-    pub why : HasNoAccounts c.told HasFile c.before c.after ending
-    pub stays : c.told → (held : Loaded) → c.held held → c.holds held
-    pub left : c.told → (left : Option Loaded) → c.may_leave left → c.might_leave left
+    pub why : HasNoAccounts place name old new ending
+    pub stays : place.tells new → PlaceStays place.holds place.may_leave place.is_out place.has place.accounts old new
+    pub net_stays : net' ≡ net
     pub text : WritesOnly output output' (serve_text ending)
 
-  -- the store did not open, and holds what it held
+  -- The store did not open, and holds what it held. The net was not asked.
   pub record HasNoStore (output output' : OutputState) (ending : ServeEnding) : Type 0 where
     pub other : Ending
     pub is : ending ≡ NotOpened other
     pub accounts : AccountsServed
-    pub says : FileSays c.told HasFile (Ok accounts)
-    pub why : IsNotOpened c other
-    pub left : IsLeftAs c
+    pub says : FileSays place name old new (Ok accounts)
+    pub why : IsNotOpened (change place store old new) other
+    pub left : IsLeftAs (change place store old new)
+    pub net_stays : net' ≡ net
     pub text : WritesOnly output output' (serve_text ending)
 
   -- nothing was listened to, and the store keeps its book
-  pub record HasNoNet (net net' : ℕ) (output output' : OutputState) (ending : ServeEnding) : Type 0 where
+  pub record HasNoNet (output output' : OutputState) (ending : ServeEnding) : Type 0 where
     pub accounts : AccountsServed
-    pub says : FileSays c.told HasFile (Ok accounts)
+    pub says : FileSays place name old new (Ok accounts)
     pub first : Served
-    pub begins : Begins c first
-    pub why : IsNoNet net net' ending
-    pub leaves : Leaves c first
+    pub begins : Begins (change place store old new) first
+    pub why : IsNoNet (faults net) (faults net') ending
+    pub leaves : Leaves (change place store old new) first
     pub text : WritesOnly output output' (serve_text ending)
 
   -- The net was served, and the store keeps the book that is left, which is lawful. Where the place tells, so did the desk's keeper to
   -- the end.
   pub record HasServed (Serves : AccountsServed → Seated K → Seated K → Type 0) (output output' : OutputState) (ending : ServeEnding) : Type 0 where
     pub accounts : AccountsServed
-    pub says : FileSays c.told HasFile (Ok accounts)
+    pub says : FileSays place name old new (Ok accounts)
     pub first : Seated K
     pub now : Seated K
-    pub begins : Begins c (served G.faults first)
+    pub begins : Begins (change place store old new) (served G.faults first)
     pub serves : Serves accounts first now
     pub sound : IsSound (served G.faults now)
-    pub told : c.told → G.tells now.keeper
-    pub leaves : Leaves c (served G.faults now)
+    pub told : place.tells new → G.tells now.keeper
+    pub leaves : Leaves (change place store old new) (served G.faults now)
     pub entries : WritesEntries now.book output output' ending
 
   -- the status is that of an ending, and the run ended so
-  abbrev pub RunsServe : (AccountsServed → Seated K → Seated K → Type 0) → ℕ → ℕ → OutputState → OutputState → ℕ → Type 0
-  RunsServe Serves net net' output output' status = (ending : ServeEnding) × (status ≡ serve_status ending)
-      × (HasRefused output output' ending ⊎ HasNoStore output output' ending ⊎ HasNoNet net net' output output' ending ⊎ HasServed Serves output output' ending)
+  abbrev pub RunsServe : (AccountsServed → Seated K → Seated K → Type 0) → OutputState → OutputState → ℕ → Type 0
+  RunsServe Serves output output' status = (ending : ServeEnding) × (status ≡ serve_status ending)
+      × (HasRefused output output' ending ⊎ HasNoStore output output' ending ⊎ HasNoNet output output' ending ⊎ HasServed Serves output output' ending)
 
 -- ---- What follows.
 

@@ -4,7 +4,7 @@ use Rattle.std.specs.Io.KnownBytes.{Appends}
 use Rattle.rv_base.specs.Causes.{Rose}
 use Rattle.rv_base.specs.Outside.{OutputState}
 use Rattle.rv_base.specs.Writes.{AppendsFront}
-use Rattle.rv_keeper.specs.declared.loaded.Loaded.{Loaded}
+use Rattle.rv_keeper.specs.Stores.{PlaceStays}
 use Rattle.rv_accounts.specs.File.{AccountsServed, file_in}
 use Rattle.rv_accounts.specs.declared.fault.AccountsFault.TheVariants as accounts
 use Rattle.rv_cli.specs.declared.ending.Ending.TheVariants as endings
@@ -38,16 +38,15 @@ ReadsAccounts bytes (Err (NotOpened endings.Memory)) = Unit {0}
 ReadsAccounts bytes (Err ending) = ⊥
 
 -- the accounts of a file, or why there are none
-abbrev pub GivesAccounts : Type 0 → (List ℕ → Type 0) → ℕ → ℕ → Result AccountsServed ServeEnding → Type 0
-GivesAccounts Told HasFile before after (Ok served) = FileSays Told HasFile (Ok served) × (after ≡ before)
-GivesAccounts Told HasFile before after (Err ending) = HasNoAccounts Told HasFile before after ending
+abbrev pub GivesAccounts : {P K : Type 0} → PlaceGhosts P K → List ℕ → P → P → Result AccountsServed ServeEnding → Type 0
+GivesAccounts place name old new (Ok served) = FileSays place name old new (Ok served) × (place.faults new ≡ place.faults old)
+GivesAccounts place name old new (Err ending) = HasNoAccounts place name old new ending
 
--- the file was read, and the stores stay as they are
+-- the file was read, and the stores and files stay as they are
 pub record AccountsRead {P K : Type 0} (place : PlaceGhosts P K) (name : List ℕ) (old : P) (result : Result AccountsServed ServeEnding) (new : P) : Type 0 where
   pub told : place.tells new → place.tells old
-  pub stays : place.tells new → (store : List ℕ) (held : Loaded) → place.holds old store held → place.holds new store held
-  pub left : place.tells new → (store : List ℕ) (left : Option Loaded) → place.may_leave new store left → place.may_leave old store left
-  pub gives_accounts : GivesAccounts (place.tells new) (place.accounts old name) (place.faults old) (place.faults new) result
+  pub stays : place.tells new → PlaceStays place.holds place.may_leave place.is_out place.has place.accounts old new
+  pub gives_accounts : GivesAccounts place name old new result
 
 -- Of one kind of listeners these were given, the first that were to be, and none has come back.
 pub record HasGiven {L : Type 0} (old new : Giving L) (given : List L) : Type 0 where

@@ -3,7 +3,7 @@ ghost use Rattle.std.specs.Prelude.{◌≡◌, ◌≢◌, ◌<◌, ◌≤◌, �
 ghost use Rattle.std.specs.List.{AllByRecursion};
 ghost use Rattle.rv_base.specs.Causes.{Counts, Rose};
 ghost use Rattle.rv_base.specs.declared.fault.Fault.TheVariants as Fault;
-ghost use Rattle.rv_keeper.specs.Stores.{OthersStay, PlaceStays};
+ghost use Rattle.rv_keeper.specs.Stores.{OthersStay};
 ghost use Rattle.rv_net.specs.Giving.{TakesBack};
 ghost use Rattle.rv_cli.specs.Headline.{WritesOnly};
 ghost use Rattle.rv_cli.specs.Serving.{Unserved, listeners_wanted};
@@ -45,7 +45,6 @@ fn accounts_in(alloc: Global, bytes: &Bytes) -> Result<Accounts, ServeEnding>
 // The accounts of the file of this name; or why there are none.
 fn accounts_of<P: Place>(alloc: Global, place: &mut P, name: &str) -> Result<Accounts, ServeEnding>
     ensures read { AccountsRead P.Place name.now place.old result place.new }
-    ensures stays { P.tells place.new → PlaceStays P.holds P.may_leave P.is_out P.has P.accounts place.old place.new }
     ensures steady { P.fails_no_more place.old → HasFile (P.accounts place.old) name.now → P.fails_no_more place.new × AccountsAreSteady result }
 {
     match place.read_accounts(name) {

@@ -1,25 +1,29 @@
 -- What holds of each run of `feed`.
-use Rattle.std.proofs.Common.{◌≡◌, ℕ, zero, suc, ◌-◌, ◌^◌, ◌<◌, ◌≤◌, List, [], ◌∷◌, ◌++◌, true, Option, Some, Ok, refl, sym, subst, arith}
+use Rattle.std.proofs.Common.{◌≡◌, ℕ, zero, suc, ◌-◌, ◌^◌, ◌<◌, ◌≤◌, inl, inr, List, [], ◌∷◌, ◌++◌, true, Option, Some, Ok, refl, sym, subst, arith}
 use Rattle.std.specs.List.{AllByRecursion}
+use Rattle.rv_base.specs.declared.outside.Source.{Ghosts as SourceGhosts}
+use Rattle.rv_base.specs.declared.outside.Sink.{Ghosts as SinkGhosts}
 use Rattle.rv_keeper.specs.declared.place.Place.{Ghosts as PlaceGhosts}
 use Rattle.rv_keeper.specs.Stores.{TakesUp}
 use Rattle.rv_book.specs.Book.{Book, size}
 use Rattle.rv_history.specs.Clients.{ClientPull, ClientsFollowOn, EachCurrentIn, WasSentIn}
-use Rattle.rv_history.specs.Succession.{ClosedBooksAreSuccessive, MutationsStay, books_of}
+use Rattle.rv_history.specs.Succession.{ClosedBooksAreSuccessive, MutationsStay, books_of, goes_on_through}
 use Rattle.rv_wire.specs.Answers.{pull_json}
 use Rattle.rv_history.specs.Laws.{ReplyShows}
 use Rattle.rv_history.specs.Served.{Doubt, IsSound, Served, MayStand}
 use Rattle.rv_answering.specs.declared.answer.Answer.{Answer}
-use Rattle.rv_answering.specs.declared.answer.Answer.TheVariants.{Pulled}
+use Rattle.rv_answering.specs.declared.answer.Answer.TheVariants.{Pulled, Pushed}
 use Rattle.rv_answering.specs.declared.line.Line.{Line}
 use Rattle.rv_answering.specs.declared.line.Line.TheVariants.{Asks}
-use Rattle.rv_answering.specs.declared.request.Request.TheVariants.{Pull}
+use Rattle.rv_answering.specs.declared.request.Request.TheVariants.{Pull, Push}
 use Rattle.rv_answering.specs.Requests.{Parsed}
 use Rattle.rv_cli.specs.Change.{StoreChange, change}
 use Rattle.rv_cli.specs.Headline.{Begins, BooksAreLawful, IsLawfulFeed, IsShown, PullsAreShown, Run, StepsShow, StepsStand, TroublesHaveCauses}
 use Rattle.rv_cli.specs.RunLaws.{run_later}
-use Rattle.rv_laws.specs.Feeds.{FedBooksAreLawful, FedPullsAreShown, FedTroublesHaveCauses, FedPushesStand, FedClientsFollow, IsTurn, IsPull, EachFollows}
-use Rattle.rv_laws.proofs.Turns.{At, Yes, all_stay, each_shorter, run_goes, turn_at}
+use Rattle.rv_laws.specs.Feeds.{FeedsKeepLawful, FedBooksAreLawful, FedPullsAreShown, FedTroublesHaveCauses, FedPushesStand, FedClientsFollow, FedWritesAreRead, IsTurn, IsPull, EachFollows}
+use Rattle.rv_laws.proofs.LawfulRuns.{settling_goes}
+use Rattle.rv_laws.proofs.Reading.{all_read, lawful_settled}
+use Rattle.rv_laws.proofs.Turns.{At, Yes, all_stay, each_shorter, run_goes, turn_at, AllStand}
 use Rattle.rv_turns.specs.declared.pull.PullRequest.{PullRequest}
 use Rattle.rv_turns.specs.declared.pull.PullReply.{PullReply}
 
@@ -141,6 +145,18 @@ no_fault zero before after faults taken stays below le = omega arith
 no_fault (suc kept) before after faults taken stays below le = absurd (omega (arith, taken))
 
 module _ {P K : Type 0} (place : PlaceGhosts P K) where
+  pub feeds_keep_lawful : {S O : Type 0} (input : SourceGhosts S) (output : SinkGhosts O) → BooksAreLawful → FeedsKeepLawful place input output
+  feeds_keep_lawful input output law old new store read read' out out' status (ending, is, inl refused) told = inl (ending, is, refused.0, refused.1)
+  feeds_keep_lawful input output law old new store read read' out out' status (ending, is, inr fed) told =
+      let (lines, answers, run) = fed.reached in
+      inr (record {
+        first = fed.first;
+        now = fed.now;
+        begins = fed.begins;
+        lawful = lawful (place.tells new) fed.first fed.now lines answers law told run (begins_sound (change place store old new) fed.first fed.begins);
+        leaves = fed.leaves;
+      })
+
   pub books_are_lawful : BooksAreLawful → FedBooksAreLawful place
   books_are_lawful law old new store bytes output output' run = lawful (place.tells new) run.first run.now run.lines run.answers law run.told run.run (begins_sound (change place store old new) run.first run.begins)
 
@@ -172,3 +188,16 @@ module _ {P K : Type 0} (place : PlaceGhosts P K) where
       each_follows (place.tells new) first run.now run.lines run.answers user run.told law show sound run.run pulls turns
       (follow user (books_of goes.0 run.now.book) pulls one (each_fits (books_of goes.0 run.now.book) (size run.now.book) (omega (arith, limit, within)) (each_shorter run.now.book goes.0 one)) client
       (all_told (place.tells new) first run.now run.lines run.answers user run.told law show sound run.run pulls turns))
+
+  pub writes_are_read : BooksAreLawful → PullsAreShown → StepsStand → MutationsStay → FedWritesAreRead place
+  writes_are_read law show stand stay old new store bytes output output' run user reader push request reply read wrote =
+      let sound = begins_sound (change place store old new) run.first run.begins in
+      let is = shown (place.tells new) run.first run.now run.lines run.answers show run.told run.run sound (Ok (Pull reader request)) reply read in
+      let before : Run Yes run.first read.before read.answered is.point = told_run (place.tells new) run.first is.point read.before read.answered run.told is.run in
+      let kept = law true run.first is.point read.before read.answered before sound in
+      let at = turn_at law run.first is.point wrote.before wrote.after wrote.answered wrote.others (Ok (Push user push)) Pushed sound wrote.same
+      (run_at (place.tells new) run.first is.point read.before read.answered (Ok (Push user push)) Pushed wrote before) in
+      let goes = goes_on_through at.new.book is.point.book is.settled at.more (settling_goes is.point.limit is.point.book is.settled is.point.doubt kept.sound.next is.settles) in
+      let stands : AllStand user push is.settled =
+      all_stay stay (record { user = user; group = push.group }) push.mutations at.new.book is.settled at.lawful goes (stand at.point at.new user push at.sound at.takes.step) in
+      record { shown = is; reads = all_read user push is.settled (lawful_settled is.point.book is.settled is.point.limit is.point.doubt kept.sound.lawful kept.sound.next is.settles) stands }

@@ -2,7 +2,7 @@
 use Rattle.std.proofs.Common.{◌≡◌, ℕ, ◌+◌, ◌==◌, ◌⊎◌, inl, inr, true, false, cond, List, [], ◌∷◌, ◌++◌, length, Option, Some, None, IfSome, refl, sym, ap, subst, ◌∙◌, append_assoc, append-nil}
 use Rattle.std.specs.List.{flat_map}
 use Rattle.std.specs.Io.KnownBytes.{Appends, Consumes}
-use Rattle.rv_base.specs.Outside.{OutputState}
+use Rattle.rv_base.specs.Outside.{InputState, OutputState}
 use Rattle.rv_lines.specs.Lines.{onto, onto_ended, lines_of, ended_lines_of}
 use Rattle.rv_keeper.specs.declared.place.Place.{Ghosts as PlaceGhosts}
 use Rattle.rv_base.specs.declared.outside.Source.{Ghosts as SourceGhosts}
@@ -61,17 +61,17 @@ module _ (Told : Type 0) (first now : Served) (bytes read text : List ℕ) where
       sym w.told ∙ ap (λ (t : List ℕ). c.before ++ t) is ∙ sym (append_assoc c.before c.part rest) ∙ ap (λ (t : List ℕ). t ++ rest) (sym c.told) in
       record { lines = w.taken; answers = w.answers; run = w.run; asked = (lines, c.others, c.are ∙ sym (append_assoc c.lines (c.line ∷ []) c.others), w.are); told = inr (rest, whole, some) }
 
-  run_of : (left : Option (List ℕ)) (ending : Ending) → Consumes (Some bytes) left read → Ends Told first bytes read text now ending → IsRun Told first now bytes text
-  run_of left Done consumed (same, w) = of_answered (lines_of bytes) [] (sym (append-nil (lines_of bytes))) w
-  run_of left Read consumed (w, needed) =
-      let (more, is) = read_front bytes left read consumed in
+  run_of : (input input' : InputState) (ending : Ending) → Consumes (Some bytes) input'.left read → Ends Told first bytes input input' read text now ending → IsRun Told first now bytes text
+  run_of input input' Done consumed (same, w) = of_answered (lines_of bytes) [] (sym (append-nil (lines_of bytes))) w
+  run_of input input' Read consumed (w, needed) =
+      let (more, is) = read_front bytes input'.left read consumed in
       let (others, are) = ended_first read more in
       of_answered (ended_lines_of read) others (ap lines_of is ∙ are) w
-  run_of left Write consumed cut = of_cut cut
-  run_of left Memory consumed stops = of_answered stops.lines stops.others stops.are stops.answered
-  run_of left (Malformed number) consumed stops = of_answered stops.lines (stops.line ∷ stops.others) stops.are stops.answered
-  run_of left Keeper consumed closed = of_answered closed.lines (closed.line ∷ closed.others) closed.are closed.answered
-  run_of left (Damaged damage) consumed closed = of_answered closed.lines (closed.line ∷ closed.others) closed.are closed.answered
+  run_of input input' Write consumed cut = of_cut cut
+  run_of input input' Memory consumed stops = of_answered stops.lines stops.others stops.are stops.answered
+  run_of input input' (Malformed number) consumed stops = of_answered stops.lines (stops.line ∷ stops.others) stops.are stops.answered
+  run_of input input' Keeper consumed closed = of_answered closed.lines (closed.line ∷ closed.others) closed.are closed.answered
+  run_of input input' (Damaged damage) consumed closed = of_answered closed.lines (closed.line ∷ closed.others) closed.are closed.answered
 
 -- ---- One line that is answered is a run over it.
 
@@ -103,12 +103,12 @@ module _ {P K : Type 0} (place : PlaceGhosts P K) where
       of_some (input.state read).left (λ bytes. DidNotOpen place old new store (input.state read) (input.state read') (output.state out) (output.state out') status ⊎ FeedRun place old new store bytes (output.state out) (output.state out'))
       (λ bytes. inl (ending, is, refused.0, refused.1))
   feeds_are_runs input output old new store read read' out out' status (ending, is, inr fed) told =
-      some_to (input.state read).left (λ bytes. Fed (place.tells new) fed.first fed.now bytes (input.state read') (output.state out) (output.state out') ending)
+      some_to (input.state read).left (λ bytes. Fed (place.tells new) fed.first fed.now bytes (input.state read) (input.state read') (output.state out) (output.state out') ending)
       (λ bytes. DidNotOpen place old new store (input.state read) (input.state read') (output.state out) (output.state out') status ⊎ FeedRun place old new store bytes (output.state out) (output.state out')) (λ bytes f. inr (of_fed bytes f)) fed.fed
     where
-      of_fed : (bytes : List ℕ) → Fed (place.tells new) fed.first fed.now bytes (input.state read') (output.state out) (output.state out') ending → FeedRun place old new store bytes (output.state out) (output.state out')
+      of_fed : (bytes : List ℕ) → Fed (place.tells new) fed.first fed.now bytes (input.state read) (input.state read') (output.state out) (output.state out') ending → FeedRun place old new store bytes (output.state out) (output.state out')
       of_fed bytes f =
-          let run = run_of (place.tells new) fed.first fed.now bytes f.read f.text (input.state read').left ending f.consumed f.ends in
+          let run = run_of (place.tells new) fed.first fed.now bytes f.read f.text (input.state read) (input.state read') ending f.consumed f.ends in
           record {
             told = told;
             first = fed.first;

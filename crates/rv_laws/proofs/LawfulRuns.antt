@@ -67,7 +67,7 @@ settled_goes limit book settled (Some (Next.entry entry)) next is = ([], (entry 
 settled_goes limit book settled (Some (Next.closed closed)) next is =
     ((book, settled) ∷ [], (extends_same book book refl, subst (λ (b : Book). Closes book b) (sym is) next.0, extends_same settled settled refl))
 
-settling_goes : (limit : ℕ) (book settled : Book) (doubt : Doubt) → MayStand book limit doubt → Settles book doubt settled → GoesOnFrom book settled
+pub settling_goes : (limit : ℕ) (book settled : Book) (doubt : Doubt) → MayStand book limit doubt → Settles book doubt settled → GoesOnFrom book settled
 settling_goes limit book settled doubt next (inl same) = goes_on_same book settled same
 settling_goes limit book settled doubt next (inr is) = settled_goes limit book settled doubt next is
 

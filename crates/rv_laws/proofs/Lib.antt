@@ -1,5 +1,6 @@
 pub mod LawfulRuns
 pub mod ServedRuns
+pub mod Reading
 pub mod FedLaws
 pub mod FedRuns
 pub mod ServeRuns

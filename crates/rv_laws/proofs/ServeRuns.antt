@@ -19,8 +19,8 @@ use Rattle.rv_cli.specs.Change.{StoreChange, change}
 use Rattle.rv_cli.specs.Headline.{IsNotOpened, AnswersChange, AnswersTrouble}
 use Rattle.rv_cli.specs.Serving.{HasNoAccounts, IsNoNet, ServedBooksAreLawful, ServedKeepersStay, ServedPullsAreShown, ServedTroublesHaveCauses}
 use Rattle.rv_cli.specs.Texts.{serve_status, status_of}
-use Rattle.rv_laws.specs.Listeners.{ServedClientsFollow, ServedPushesStand}
-use Rattle.rv_laws.specs.Serves.{all_turns, ServeBooksAreLawful, ServeClientsFollow, ServeKeepersStay, ServePullsAreShown, ServePushesStand, ServesAreRuns, ServeTroublesHaveCauses}
+use Rattle.rv_laws.specs.Listeners.{ServedClientsFollow, ServedPushesStand, ServedWritesAreRead}
+use Rattle.rv_laws.specs.Serves.{all_turns, ServeBooksAreLawful, ServeClientsFollow, ServeKeepersStay, ServePullsAreShown, ServePushesStand, ServesAreRuns, ServeTroublesHaveCauses, ServeWritesAreRead}
 use Rattle.rv_laws.proofs.FedLaws.{no_fault}
 
 -- what holds of each under a premise that holds
@@ -37,12 +37,12 @@ neither : (n : ℕ) → 0 < n → (n ≡ 7 → ⊥) → IsOf n → ⊥
 neither n some other (inl is) = omega (arith, is)
 neither n some other (inr is) = other is
 
-no_accounts : (Told : Type 0) (HasFile : List ℕ → Type 0) (before after : ℕ) (ending : ServeEnding) → HasNoAccounts Told HasFile before after ending → IsOf (serve_status ending) → ⊥
-no_accounts Told HasFile before after (BadAccounts number) why of = neither 3 (omega arith) (λ is. omega (arith, is)) of
-no_accounts Told HasFile before after (TwiceAccounts number) why of = neither 3 (omega arith) (λ is. omega (arith, is)) of
-no_accounts Told HasFile before after (NotOpened endings.Keeper) why of = neither 4 (omega arith) (λ is. omega (arith, is)) of
-no_accounts Told HasFile before after (NotOpened endings.Memory) why of = neither 8 (omega arith) (λ is. omega (arith, is)) of
-no_accounts Told HasFile before after ending why of = absurd why
+no_accounts : {P K : Type 0} (place : PlaceGhosts P K) (name : List ℕ) (old new : P) (ending : ServeEnding) → HasNoAccounts place name old new ending → IsOf (serve_status ending) → ⊥
+no_accounts place name old new (BadAccounts number) why of = neither 3 (omega arith) (λ is. omega (arith, is)) of
+no_accounts place name old new (TwiceAccounts number) why of = neither 3 (omega arith) (λ is. omega (arith, is)) of
+no_accounts place name old new (NotOpened endings.Keeper) why of = neither 4 (omega arith) (λ is. omega (arith, is)) of
+no_accounts place name old new (NotOpened endings.Memory) why of = neither 8 (omega arith) (λ is. omega (arith, is)) of
+no_accounts place name old new ending why of = absurd why
 
 no_store : (c : StoreChange) (ending : Ending) → IsNotOpened c ending → IsOf (status_of ending) → ⊥
 no_store c endings.Keeper why of = neither 4 (omega arith) (λ is. omega (arith, is)) of
@@ -60,7 +60,7 @@ no_net before after ending why of = absurd why
 module _ {P N K L W I O C : Type 0} (place : PlaceGhosts P K) (G : Ghosts K) (net : NetGhosts N L W I O C) (listen : ListenGhosts L I O) (source : SourceGhosts I) (sink : SinkGhosts O) where
   pub serves_are_runs : {Out : Type 0} (pokes : PokeListenGhosts W C) (link : LinkGhosts C) (output : SinkGhosts Out) → ServesAreRuns place G net listen source sink pokes link output
   serves_are_runs pokes link output old new before after store options out out' status (ending, is, inl refused) at =
-      absurd (no_accounts (place.tells new) (place.accounts old options.accounts) (place.faults old) (place.faults new) ending refused.why (subst (λ (n : ℕ). IsOf n) is at))
+      absurd (no_accounts place options.accounts old new ending refused.why (subst (λ (n : ℕ). IsOf n) is at))
   serves_are_runs pokes link output old new before after store options out out' status (ending, is, inr (inl closed)) at =
       absurd (no_store (change place store old new) closed.other closed.why (subst (λ (n : ℕ). IsOf n) (is ∙ ap serve_status closed.is) at))
   serves_are_runs pokes link output old new before after store options out out' status (ending, is, inr (inr (inl idle))) at =
@@ -115,3 +115,7 @@ module _ {P N K L W I O C : Type 0} (place : PlaceGhosts P K) (G : Ghosts K) (ne
       let limit : run.now.limit ≡ 2 ^ 32 - 1 = kept.limit run.begins.limit in
       let within : size run.now.book ≤ run.now.limit = run.sound.within in
       law run.accounts run.opened run.now run.givens run.backs run.together run.sound (omega (arith, limit, within))
+
+  pub writes_are_read : ((accounts : AccountsServed) → ServedWritesAreRead G listen source sink accounts)
+      → ServeWritesAreRead place G net listen source sink
+  writes_are_read law old new before after store options run = law run.accounts run.opened run.now run.givens run.backs run.together run.sound

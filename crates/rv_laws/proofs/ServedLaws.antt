@@ -1,5 +1,5 @@
 -- What holds of listeners that are served side by side.
-use Rattle.std.proofs.Common.{◌≡◌, ℕ, zero, suc, ◌≤◌, inl, inr, Bool, false, List, [], ◌∷◌, Option, Some, None, Ok, refl, sym, ap, ◌∙◌, subst, arith}
+use Rattle.std.proofs.Common.{◌≡◌, ℕ, zero, suc, ◌≤◌, inl, inr, Bool, true, false, List, [], ◌∷◌, Option, Some, None, Ok, refl, sym, ap, ◌∙◌, subst, arith}
 use Rattle.std.specs.List.{AllByRecursion, Contains}
 use Rattle.std.specs.Option.{MatchOption}
 use Rattle.rv_base.specs.declared.outside.Source.{Ghosts as SourceGhosts}
@@ -12,6 +12,7 @@ use Rattle.rv_history.specs.TurnLaws.{goes_from, no_trouble, settles_go, step_of
 use Rattle.rv_history.specs.Lawful.{IsLawful}
 use Rattle.rv_history.specs.LawfulBooks.{lawful_front}
 use Rattle.rv_history.specs.Laws.{IsEntered, MutationsStand, PullsShow, ReplyShows}
+use Rattle.rv_history.specs.Succession.{entered_on}
 use Rattle.rv_answering.specs.declared.answer.Answer.{Answer}
 use Rattle.rv_answering.specs.declared.answer.Answer.TheVariants.{Pushed, Pulled}
 use Rattle.rv_answering.specs.declared.request.Request.TheVariants.{Push, Pull}
@@ -24,8 +25,9 @@ use Rattle.rv_keeper.specs.declared.keeper.Keeper.{Ghosts}
 use Rattle.rv_desk.specs.Seated.{Seated, served}
 use Rattle.rv_room.specs.declared.view.SeatView.{SeatView}
 use Rattle.rv_cli.specs.Serving.{StandsIn, TurnsStand}
-use Rattle.rv_laws.specs.Listeners.{FollowsIn, IsServedPull, ServedClientsFollow, ServedPushesStand, Together, turns_in}
-use Rattle.rv_laws.proofs.Turns.{AllStand, entered_later}
+use Rattle.rv_laws.specs.Listeners.{FollowsIn, IsServedPull, ReadsIn, ServedClientsFollow, ServedPushesStand, ServedWritesAreRead, Together, turns_in}
+use Rattle.rv_laws.proofs.Reading.{all_read, front_of}
+use Rattle.rv_laws.proofs.Turns.{AllStand}
 use Rattle.rv_turns.specs.Asks.{Sender, Ask}
 use Rattle.rv_turns.specs.Outcomes.{refusal_of}
 use Rattle.rv_turns.specs.declared.outcome.Outcome.{Outcome}
@@ -33,6 +35,8 @@ use Rattle.rv_turns.specs.declared.outcome.Outcome.TheVariants as outcomes
 use Rattle.rv_turns.specs.declared.refusal.Refusal.{Refusal}
 use Rattle.rv_turns.specs.Pushing.{Pushes}
 use Rattle.rv_turns.specs.declared.mutation.Mutation.{Mutation}
+use Rattle.rv_turns.specs.declared.pull.PullReply.{PullReply}
+use Rattle.rv_turns.specs.declared.pull.PullRequest.{PullRequest}
 use Rattle.rv_room.specs.SeatTurns.{IsSeatTurn}
 use Rattle.rv_wire.specs.declared.push.Push as pushes
 
@@ -66,7 +70,7 @@ module _ {K : Type 0} (G : Ghosts K) (book : Book) (lawful : IsLawful book) (sta
       let later : Extends book turn.now.book = subst (λ (b : Book). Extends book b) turn.seen within in
       let (more, is) = extends_on book turn.now.book taken.settled later (goes_from pull_json ask outcome (served G.faults turn.desk) (served G.faults turn.now) turn.asks taken) in
       let front : IsLawful taken.settled = lawful_front taken.settled more (subst (λ (b : Book). IsLawful b) is lawful) in
-      entered_later from m turn.now.book book later (stand turn.desk.limit from m taken.settled turn.now.book outcome step none front first)
+      entered_on from m turn.now.book book later (stand turn.desk.limit from m taken.settled turn.now.book outcome step none front first)
 
   pushes_stand : (ms : List Mutation) (old new : SeatView K) (acted : Bool) → Pushes (IsSeatTurn G) from ms old None acted new → Extends book new.seen
       → Extends new.seen old.seen × AllByRecursion (λ m. 1 ≤ m.id → IsEntered from book m) ms
@@ -124,6 +128,27 @@ module _ {K : Type 0} (G : Ghosts K) (show : PullsShow pull_json) (book : Book) 
       let turn = all_at (StandsIn G book) turns (Ok (Pull user pull.request), Pulled pull.reply) stand there in
       (step_served pull turn.old turn.new turn.step turn.within, all_served turns stand pulls rest)
 
+-- ---- A push that a pull reads.
+
+-- the pull's point is a front of the book that its turn left
+left_from : (user : List ℕ) (request : PullRequest) (point new : Book) (reply : PullReply) → ReplyShows pull_json user request point new reply → Extends new point
+left_from user request point new reply tells = by reply.same refl
+  where
+    by : (b : Bool) → reply.same ≡ b → Extends new point
+    by true same = extends_same new point (tells.same same).3
+    by false other = let (order, cookie, is) = tells.looks other in (_, is)
+
+reads_in : {K : Type 0} (G : Ghosts K) → PullsShow pull_json → (book : Book) → IsLawful book → MutationsStand pull_json → (user reader : List ℕ) (push : pushes.Push) (pull : ClientPull) → StandsIn G book (Ok (Push user push), Pushed) → IsServedPull G book reader pull
+    → ReadsIn G book user reader push pull
+reads_in G show book lawful stand user reader push pull at served = record {
+  wrote = at;
+  served = served;
+  reads = λ le.
+      let here : Extends book served.point = extends_on book served.new.seen served.point served.within (left_from reader pull.request served.point served.new.seen pull.reply served.tells) in
+      let front : IsLawful served.point = lawful_front served.point here.0 (subst (λ (b : Book). IsLawful b) here.1 lawful) in
+      all_read user push served.point front (step_stands G served.point front stand at.old at.new user push at.step (front_of book at.new.seen served.point at.within here le));
+}
+
 -- ---- All that is served.
 
 module _ {K L I O : Type 0} (G : Ghosts K) (listen : ListenGhosts L I O) (source : SourceGhosts I) (sink : SinkGhosts O) (accounts : AccountsServed) (turns_stand : TurnsStand G listen source sink accounts) where
@@ -139,3 +164,11 @@ module _ {K L I O : Type 0} (G : Ghosts K) (listen : ListenGhosts L I O) (source
   served_clients_follow show follow opened now givens backs together sound fits user pulls client there =
       let served = all_served G show now.book user (turns opened givens now backs together) (turns_stand opened now givens backs together) pulls there in
       each_follows G show now.book user pulls served (follow user now.book pulls fits client (all_told G show now.book user pulls served))
+
+  pub served_writes_are_read : MutationsStand pull_json → PullsShow pull_json → ServedWritesAreRead G listen source sink accounts
+  served_writes_are_read stand show opened now givens backs together sound user reader push pull wrote read =
+      let stood = turns_stand opened now givens backs together in
+      let at = all_at (StandsIn G now.book) (turns opened givens now backs together) (Ok (Push user push), Pushed) stood wrote in
+      let turn = all_at (StandsIn G now.book) (turns opened givens now backs together) (Ok (Pull reader pull.request), Pulled pull.reply) stood read in
+      let served = step_served G show now.book reader pull turn.old turn.new turn.step turn.within in
+      reads_in G show now.book sound.lawful stand user reader push pull at served

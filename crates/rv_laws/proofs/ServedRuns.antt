@@ -37,7 +37,7 @@ use Rattle.rv_turns.specs.declared.outcome.Outcome.TheVariants as outcomes
 use Rattle.rv_turns.specs.declared.refusal.Trouble.{Trouble}
 use Rattle.rv_turns.specs.declared.pull.PullRequest.{PullRequest}
 use Rattle.rv_turns.specs.declared.pull.PullReply.{PullReply}
-use Rattle.rv_room.specs.SeatTurns.{IsSeatTurn}
+use Rattle.rv_room.specs.SeatTurns.{IsSeatTurn, settled_by}
 
 -- ---- Fronts of lists.
 
@@ -203,7 +203,7 @@ module _ {K L I O : Type 0} (G : Ghosts K) (listen : ListenGhosts L I O) (source
       → ((last old new : SeatView K) (turn : Parsed × Answer) → Good last → last.opened ≡ first.opened → Handles (IsSeatTurn G) old turn.0 turn.1 new → SeatGoes new last → Holds turn)
       → (givens : List L) (lasts : List (SeatView K)) (backs : List L) (each : EachServes Is first givens lasts backs) → AllByRecursion Good lasts → AllByRecursion Holds (turns_in first givens lasts backs each)
   served_each Good Holds first holds (given ∷ givens) (last ∷ lasts) (back ∷ backs) (is, each) (good, goods) =
-      let run = conns_run (IsSeatTurn G) source sink accounts first last is.serves.conns is.serves.serves in
+      let run = conns_run (IsSeatTurn G) source sink settled_by accounts first last is.serves.conns is.serves.serves in
       all_both Holds (turns_of accounts (flat_map (λ conn. conn.answers) is.serves.conns)) (turns_in first givens lasts backs each)
       (seat_each G Holds last (λ old new turn step goes. holds last old new turn good (seat_later G first last (turns_of accounts (flat_map (λ conn. conn.answers) is.serves.conns)) run).opened step goes) first (turns_of accounts (flat_map (λ conn. conn.answers) is.serves.conns)) run)
       (served_each Good Holds first holds givens lasts backs each goods)

@@ -1,9 +1,8 @@
 -- One turn of a run: the run before it, its step, and that the book goes on from there, in one of the books of the run.
-use Rattle.std.proofs.Common.{◌≡◌, ℕ, ◌≤◌, ◌<◌, inl, inr, List, [], ◌∷◌, ◌++◌, length, map, true, Option, Some, refl, sym, ap, subst, arith}
+use Rattle.std.proofs.Common.{◌≡◌, ℕ, ◌≤◌, ◌<◌, List, [], ◌∷◌, ◌++◌, length, map, true, Option, Some, refl, ap, arith}
 use Rattle.std.specs.List.{AllByRecursion, Contains}
-use Rattle.std.proofs.lemmas.List.Elements.{Contains-append_left, Contains-append_right}
-use Rattle.rv_book.specs.declared.entry.Entry.TheVariants.{Act}
-use Rattle.rv_book.specs.Book.{Book, last, opening, size, Extends}
+use Rattle.std.proofs.lemmas.List.Elements.{Contains-append_right}
+use Rattle.rv_book.specs.Book.{Book, size, Extends}
 use Rattle.rv_history.specs.Clients.{AreSuccessive}
 use Rattle.rv_history.specs.Closing.{GoesOnBy, GoesOnFrom}
 use Rattle.rv_history.specs.Served.{IsSound, Served}
@@ -121,8 +120,3 @@ all_stay stay from (m ∷ ms) old new lawful goes (one, all) = (λ first. stay f
 
 abbrev pub AllStand : List ℕ → pushes.Push → Book → Type 0
 AllStand user push book = AllByRecursion (λ m. 1 ≤ m.id → IsEntered (record { user = user; group = push.group }) book m) push.mutations
-
-pub entered_later : (from : Sender) (m : Mutation) (book new : Book) → Extends new book → IsEntered from book m → IsEntered from new m
-entered_later from m book new (more, is) (inl (call, there)) =
-    inl (call, subst (λ (b : Book). Contains b.entries (Act from.user from.group m.client m.id call)) (sym is) (Contains-append_left book.entries more (Act from.user from.group m.client m.id call) there))
-entered_later from m book new (more, is) (inr early) = inr (subst (λ (b : Book). m.id ≤ last m.client (opening b)) (sym is) early)

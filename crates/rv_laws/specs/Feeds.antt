@@ -24,7 +24,9 @@ use Rattle.rv_cli.specs.Headline.{Are, Begins, IsLawfulFeed, IsLeftAs, IsShown, 
 use Rattle.rv_cli.specs.FeedPromise.{WasFed}
 use Rattle.rv_cli.specs.ReplyPromises.{WasAnswered}
 use Rattle.rv_cli.specs.Texts.{status_of}
+use Rattle.rv_laws.specs.Reads.{AllRead}
 use Rattle.rv_turns.specs.declared.pull.PullReply.{PullReply}
+use Rattle.rv_turns.specs.declared.pull.PullRequest.{PullRequest}
 use Rattle.rv_wire.specs.declared.push.Push as pushes
 
 -- ---- A run, and what was asked at a line of it.
@@ -65,6 +67,11 @@ module _ (Told : Type 0) (first now : Served) (lines : List Line) (answers : Lis
   EachFollows [] turns = Unit {0}
   EachFollows (pull ∷ pulls) (turn, turns) = FollowsRun pull turn × EachFollows pulls turns
 
+-- The pull is answered at the settled book of that point of the run, and reads the push there.
+pub record ReadsRun (Told : Type 0) (first now : Served) (lines : List Line) (answers : List (Option Answer)) (user reader : List ℕ) (push : pushes.Push) (request : PullRequest) (reply : PullReply) (read : IsTurn lines answers (Ok (Pull reader request)) (Pulled reply)) : Type 0 where
+  pub shown : IsShown Told first now read.before read.answered (Ok (Pull reader request)) reply
+  pub reads : AllRead user push shown.settled
+
 -- ---- What holds of each run of `feed` on a store of a place, which is this before and this after. The source held these bytes.
 
 module _ {P K : Type 0} (place : PlaceGhosts P K) where
@@ -92,6 +99,20 @@ module _ {P K : Type 0} (place : PlaceGhosts P K) where
   FeedsAreRuns {S} {O} input output = (old new : P) (store : List ℕ) (read read' : S) (out out' : O) (status : ℕ)
       → WasFed place input output store old new read read' out out' status → place.tells new
       → IfSome (input.state read).left (λ bytes. DidNotOpen old new store (input.state read) (input.state read') (output.state out) (output.state out') status ⊎ FeedRun old new store bytes (output.state out) (output.state out'))
+
+  -- The book at the end of a run is lawful and goes on from the one that the store kept, and the store keeps it.
+  pub record KeepsLawful (old new : P) (store : List ℕ) : Type 0 where
+    pub first : Served
+    pub now : Served
+    pub begins : Begins (change place store old new) first
+    pub lawful : IsLawfulFeed (place.tells new) first now
+    pub leaves : Leaves (change place store old new) now
+
+  -- Whatever the source tells, the promise says that there was such a run, or that the store did not open.
+  abbrev pub FeedsKeepLawful : {S O : Type 0} → SourceGhosts S → SinkGhosts O → Type 0
+  FeedsKeepLawful {S} {O} input output = (old new : P) (store : List ℕ) (read read' : S) (out out' : O) (status : ℕ)
+      → WasFed place input output store old new read read' out out' status → place.tells new
+      → DidNotOpen old new store (input.state read) (input.state read') (output.state out) (output.state out') status ⊎ KeepsLawful old new store
 
   -- the store did not open, and holds what it held
   abbrev pub DidNotReply : P → P → List ℕ → OutputState → OutputState → ℕ → Type 0
@@ -130,3 +151,8 @@ module _ {P K : Type 0} (place : PlaceGhosts P K) where
   abbrev pub FedClientsFollow : Type 0
   FedClientsFollow = OfAllRuns (λ old new store bytes output output' run. (user : List ℕ) (pulls : List ClientPull) → IsClient pulls → (turns : AllByRecursion (IsPull (place.tells new) run.first run.now run.lines run.answers user) pulls)
       → EachFollows (place.tells new) run.first run.now run.lines run.answers user pulls turns)
+
+  -- Each pull reads, at the settled book at which it is answered, each push that was answered as done at a line before it, whoever asks.
+  abbrev pub FedWritesAreRead : Type 0
+  FedWritesAreRead = OfAllRuns (λ old new store bytes output output' run. (user reader : List ℕ) (push : pushes.Push) (request : PullRequest) (reply : PullReply) (read : IsTurn run.lines run.answers (Ok (Pull reader request)) (Pulled reply))
+      → IsTurn read.before read.answered (Ok (Push user push)) Pushed → ReadsRun (place.tells new) run.first run.now run.lines run.answers user reader push request reply read)

@@ -1,3 +1,4 @@
+pub mod Reads
 pub mod Feeds
 pub mod Listeners
 pub mod Serves

@@ -20,7 +20,8 @@ use Rattle.rv_net.specs.declared.listen.Listen.{Ghosts as ListenGhosts}
 use Rattle.rv_room.specs.declared.view.SeatView.{SeatView}
 use Rattle.rv_room.specs.Views.{newcomer}
 use Rattle.rv_workers.specs.Serving.{ServesTogether}
-use Rattle.rv_cli.specs.Serving.{Serves, turns_served}
+use Rattle.rv_cli.specs.Serving.{Serves, StandsIn, turns_served}
+use Rattle.rv_laws.specs.Reads.{AllRead}
 use Rattle.rv_room.specs.SeatTurns.{IsSeatTurn}
 use Rattle.rv_wire.specs.declared.push.Push as pushes
 
@@ -38,6 +39,13 @@ pub record IsServedPull {K : Type 0} (G : Ghosts K) (book : Book) (user : List �
 pub record FollowsIn {K : Type 0} (G : Ghosts K) (book : Book) (user : List ℕ) (pull : ClientPull) : Type 0 where
   pub served : IsServedPull G book user pull
   pub current : IsCurrent user pull.request.group served.point (held_then pull)
+
+-- The push was answered at the end of a turn of a seat, and the pull at a point of the book at the end; where that point is not before that
+-- end, the pull reads the push there.
+pub record ReadsIn {K : Type 0} (G : Ghosts K) (book : Book) (user reader : List ℕ) (push : pushes.Push) (pull : ClientPull) : Type 0 where
+  pub wrote : StandsIn G book (Ok (Push user push), Pushed)
+  pub served : IsServedPull G book reader pull
+  pub reads : size wrote.new.seen ≤ size served.point → AllRead user push served.point
 
 module _ {K L I O : Type 0} (G : Ghosts K) (listen : ListenGhosts L I O) (source : SourceGhosts I) (sink : SinkGhosts O) (accounts : AccountsServed) where
   -- these listeners were served at the desk that was opened, which was closed as this one
@@ -63,3 +71,8 @@ module _ {K L I O : Type 0} (G : Ghosts K) (listen : ListenGhosts L I O) (source
   abbrev pub ServedClientsFollow : Type 0
   ServedClientsFollow = OfAllSound (λ now turns. size now.book < 2 ^ 64 → (user : List ℕ) (pulls : List ClientPull) → IsClient pulls
       → AllByRecursion (λ pull. Contains turns (Ok (Pull user pull.request), Pulled pull.reply)) pulls → AllByRecursion (FollowsIn G now.book user) pulls)
+
+  -- What one seat answered to a push each seat reads that answers a pull at the book as it was then, or at a longer one.
+  abbrev pub ServedWritesAreRead : Type 0
+  ServedWritesAreRead = OfAllSound (λ now turns. (user reader : List ℕ) (push : pushes.Push) (pull : ClientPull) → Contains turns (Ok (Push user push), Pushed) → Contains turns (Ok (Pull reader pull.request), Pulled pull.reply)
+      → ReadsIn G now.book user reader push pull)

@@ -24,7 +24,7 @@ use Rattle.rv_cli.specs.Headline.{Begins, IsLawfulRun, Leaves, AnswersChange, An
 use Rattle.rv_cli.specs.Serving.{ShowsIn}
 use Rattle.rv_cli.specs.Running.{network}
 use Rattle.rv_cli.specs.ServePromise.{WasServed}
-use Rattle.rv_laws.specs.Listeners.{FollowsIn, Together, turns_in}
+use Rattle.rv_laws.specs.Listeners.{FollowsIn, ReadsIn, Together, turns_in}
 use Rattle.rv_wire.specs.declared.push.Push as pushes
 
 -- A run of `serve` on a store of a place and over a net, which are these before and these after.
@@ -92,3 +92,8 @@ module _ {P N K L W I O C : Type 0} (place : PlaceGhosts P K) (G : Ghosts K) (ne
   abbrev pub ServeClientsFollow : Type 0
   ServeClientsFollow = OfAllServes (λ old new before after store options run. (user : List ℕ) (pulls : List ClientPull) → IsClient pulls
       → AllByRecursion (λ pull. Contains (all_turns old new before after store options run) (Ok (Pull user pull.request), Pulled pull.reply)) pulls → AllByRecursion (FollowsIn G run.now.book user) pulls)
+
+  -- What one worker answered to a push each worker reads that answers a pull at the book as it was then, or at a longer one.
+  abbrev pub ServeWritesAreRead : Type 0
+  ServeWritesAreRead = OfAllServes (λ old new before after store options run. (user reader : List ℕ) (push : pushes.Push) (pull : ClientPull) → Contains (all_turns old new before after store options run) (Ok (Push user push), Pushed)
+      → Contains (all_turns old new before after store options run) (Ok (Pull reader pull.request), Pulled pull.reply) → ReadsIn G run.now.book user reader push pull)

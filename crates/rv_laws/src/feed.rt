@@ -1,5 +1,5 @@
 //! What follows from the promise of `feed`, and of `retire` and `close-book`, which are `feed` over their one line.
-ghost use Rattle.rv_laws.specs.Feeds.{FeedsAreRuns, RepliesAreRuns, FedBooksAreLawful, FedPullsAreShown, FedTroublesHaveCauses, FedPushesStand, FedClientsFollow};
+ghost use Rattle.rv_laws.specs.Feeds.{FeedsAreRuns, FeedsKeepLawful, RepliesAreRuns, FedBooksAreLawful, FedPullsAreShown, FedTroublesHaveCauses, FedPushesStand, FedClientsFollow, FedWritesAreRead};
 
 use rv_base::{Sink, Source};
 use rv_keeper::Place;
@@ -10,6 +10,14 @@ use rv_keeper::Place;
 pub fn feeds_are_runs<P: Place, S: Source, O: Sink>()
     ensures { FeedsAreRuns P.Place S.Source O.Sink }
 {}
+
+/// Over a place that tells, and whatever the source tells, the book at the end of a run of `feed` that opened its store is lawful and goes
+/// on from the one that the store kept, and the store keeps it.
+pub fn feeds_keep_lawful<P: Place, S: Source, O: Sink>()
+    ensures { FeedsKeepLawful P.Place S.Source O.Sink }
+{
+    crate::runs::books_are_lawful();
+}
 
 /// A run of `retire` or of `close-book` over a place that tells did not open its store, or is the run of `feed` over the first line of any
 /// bytes that begin with the line that it answers. So each of the other laws of runs of `feed` is one of it too.
@@ -58,4 +66,16 @@ pub fn clients_follow<P: Place>()
     crate::runs::steps_show();
     rv_history::laws::closed_books_are_successive();
     rv_history::laws::clients_follow_on();
+}
+
+/// What one line wrote a later one reads: at the book at which a pull is answered stands each mutation of each push that was answered as
+/// done at a line before it, and among the last mutation ids of its group there its client has one that is not below its own; but for an
+/// id of 0, which is skipped and stands nowhere.
+pub fn writes_are_read<P: Place>()
+    ensures { FedWritesAreRead P.Place }
+{
+    crate::runs::books_are_lawful();
+    crate::runs::pulls_are_shown();
+    crate::runs::steps_stand();
+    rv_history::laws::mutations_stay();
 }

@@ -1,7 +1,7 @@
 //! What follows of listeners that are served side by side, which is a part of the promise of `serve`.
 ghost use Rattle.rv_accounts.specs.File.{AccountsServed};
 ghost use Rattle.rv_cli.specs.Serving.{ServedBooksAreLawful, ServedKeepersStay, ServedPullsAreShown, ServedTroublesHaveCauses, TurnsStand};
-ghost use Rattle.rv_laws.specs.Listeners.{ServedPushesStand, ServedClientsFollow};
+ghost use Rattle.rv_laws.specs.Listeners.{ServedPushesStand, ServedClientsFollow, ServedWritesAreRead};
 
 use rv_keeper::Keeper;
 use rv_net::Listen;
@@ -55,4 +55,15 @@ pub fn clients_follow<K: Keeper, L: Listen>()
     turns_stand::<K, L>();
     rv_history::laws::pulls_show();
     rv_history::laws::clients_follow();
+}
+
+/// What one seat wrote any seat reads: where a pull was answered at the book as it was when a push had been answered as done, or at a longer
+/// one, each mutation of the push stands there, and among the last mutation ids of its group there its client has one that is not below its
+/// own; but for an id of 0, which is skipped and stands nowhere.
+pub fn writes_are_read<K: Keeper, L: Listen>()
+    ensures { (accounts : AccountsServed) → ServedWritesAreRead K.Keeper L.Listen L.In.Source L.Out.Sink accounts }
+{
+    turns_stand::<K, L>();
+    rv_history::laws::mutations_stand();
+    rv_history::laws::pulls_show();
 }

@@ -2,7 +2,7 @@
 ghost use Rattle.rv_cli.specs.Headline.{BooksAreLawful, PullsAreShown, StepsShow, StepsStand, TroublesHaveCauses};
 
 /// In the book of a run from a lawful book each client's acts have the ids 1, 2, 3 and so on, and the orders of each group's looks
-/// rise.
+/// rise; those after a page go on from what it has.
 pub fn books_are_lawful()
     ensures { BooksAreLawful }
 {
@@ -28,7 +28,7 @@ pub fn steps_show()
 }
 
 /// Each mutation of a push that is answered as done stands in the book that its step leaves, as an act of its user, group and client with
-/// its id, or its client's last id on the page says that it had run; but for an id of 0, which is skipped and stands nowhere.
+/// its id, or the page says that it had run for them; but for an id of 0, which is skipped and stands nowhere.
 pub fn steps_stand()
     ensures { StepsStand }
 {

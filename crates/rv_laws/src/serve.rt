@@ -1,5 +1,5 @@
 //! What follows from the promise of `serve`.
-ghost use Rattle.rv_laws.specs.Serves.{ServesAreRuns, ServeBooksAreLawful, ServePullsAreShown, ServeTroublesHaveCauses, ServeKeepersStay, ServePushesStand, ServeClientsFollow};
+ghost use Rattle.rv_laws.specs.Serves.{ServesAreRuns, ServeBooksAreLawful, ServePullsAreShown, ServeTroublesHaveCauses, ServeKeepersStay, ServePushesStand, ServeClientsFollow, ServeWritesAreRead};
 
 use rv_base::Sink;
 use rv_keeper::{Keeper, Place};
@@ -63,4 +63,13 @@ pub fn clients_follow<K: Keeper, P: Place<Kept = K>, L: Listen, N: Net<Listen = 
 {
     crate::listeners::books_are_lawful::<K, L>();
     crate::listeners::clients_follow::<K, L>();
+}
+
+/// What one worker wrote any worker reads: where a pull was answered at the book as it was when a push had been answered as done, or at a
+/// longer one, each mutation of the push stands there, and among the last mutation ids of its group there its client has one that is not
+/// below its own; but for an id of 0, which is skipped and stands nowhere.
+pub fn writes_are_read<K: Keeper, P: Place<Kept = K>, L: Listen, N: Net<Listen = L>>()
+    ensures { ServeWritesAreRead P.Place K.Keeper N.Net L.Listen L.In.Source L.Out.Sink }
+{
+    crate::listeners::writes_are_read::<K, L>();
 }
