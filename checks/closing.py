@@ -1,7 +1,7 @@
 #!/usr/bin/env python3
 """Checks how `rv serve` closes connections, and what it bears before it says that none can be had: checks/closing.py PROGRAM [PORT]
 
-PROGRAM is the program `rv` as it was built, PORT the first port that is tried (42380). A client that sends more than the server reads
+PROGRAM is the program `rv` as it was built, PORT the first port that is tried (20380). A client that sends more than the server reads
 must read every answer that was written, to its end, and a closed connection may hold its worker for no longer than two seconds. Clients
 that abort at once, files that are short for a while, and calls of accept that fail must not end a worker; a failure that doesn't pass,
 or that goes on for too long, must. The last needs gcc, since a library stands before accept4 (LD_PRELOAD, failing.c). Ends with status 1
@@ -20,7 +20,7 @@ import sys
 import tempfile
 import time
 
-from serving import ACCOUNTS, PULL, Server, request, response, same
+from serving import ACCOUNTS, PULL, Server, free_ports, request, response, same
 
 HERE = pathlib.Path(__file__).parent
 LIMIT = 4_194_304
@@ -137,10 +137,12 @@ def hold(start):
 
 
 def abort(start):
-    """Clients that abort at once, and then one that is served."""
+    """Clients that abort at once, within a request and before its answer is read, and then one that is served."""
+    sent = {1: ASKED[:-1], 2: ASKED, 3: request("/push", "{}"), 4: request("/pull", PULL) * 100}
     server = start(2 * ABORTS)
-    for _ in range(ABORTS):
+    for number in range(ABORTS):
         connection = server.connect()
+        connection.sendall(sent.get(number % 20, b""))
         connection.setsockopt(socket.SOL_SOCKET, socket.SO_LINGER, struct.pack("ii", 1, 0))
         connection.close()
     asks(server)
@@ -200,7 +202,7 @@ def fail(start, library):
 
 def main():
     program = os.path.abspath(sys.argv[1])
-    ports = iter(range(int(sys.argv[2]) if len(sys.argv) > 2 else 42380, 65536))
+    ports = free_ports(int(sys.argv[2]) if len(sys.argv) > 2 else 20380)
     with tempfile.TemporaryDirectory() as folder:
         folder = pathlib.Path(folder)
         accounts = folder / "accounts.toml"

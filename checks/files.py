@@ -106,6 +106,24 @@ def no_files(program, folder):
     expect("an empty file", feed(program, path), OPENS)
 
 
+def missing(program, folder):
+    """A report of a store that is not there makes none; what feeds it does, at that path."""
+    path = os.path.join(folder, "missing.db")
+    link = os.path.join(folder, "link.db")
+    os.symlink(path, link)
+    reports = (["lists"], ["activity"], ["check"], ["export", "ann"])
+    for name in (path, link, os.path.join(folder, "none", "x.db"), os.path.join(__file__, "x.db"), os.path.join(folder, "n" * 300)):
+        for command, *more in reports:
+            run = subprocess.run([program, command, name, *more], stdout=subprocess.PIPE, timeout=60)
+            expect(f"{command} of a store that is not there", (run.returncode, run.stdout.decode()), FAILS)
+            expect(f"the files after {command} of {name}", standing(path), None)
+    left_as_it_was("a link to no file", program, link)
+    expect("a feed of a store that is not there", feed(program, path), OPENS)
+    for command, *more in reports:
+        run = subprocess.run([program, command, path, *more], stdout=subprocess.PIPE, timeout=60)
+        expect(f"{command} of a store that is there", run.returncode, 0)
+
+
 def no_databases(program, folder):
     path = os.path.join(folder, "text.db")
     for name, bytes_ in (("a text", b"milk and eggs\n" * 500), ("a word", b"milk\n"), ("zeros", bytes(8192))):
@@ -259,7 +277,7 @@ def main():
     program = os.path.abspath(sys.argv[1])
     folder = tempfile.mkdtemp()
     os.chmod(folder, 0o755)
-    for check in (no_files, no_databases, other_tables, bad_rows, locks, of_somebody_else, not_to_be_written, full_disk):
+    for check in (no_files, missing, no_databases, other_tables, bad_rows, locks, of_somebody_else, not_to_be_written, full_disk):
         check(program, folder)
         print(f"{check.__name__.replace('_', ' ')}: as it should be")
     shutil.rmtree(folder)

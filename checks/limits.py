@@ -1,7 +1,7 @@
 #!/usr/bin/env python3
 """Tries every limit below it, at it and above it: checks/limits.py PROGRAM [PORT]
 
-PROGRAM is the program `rv` as it was built, PORT the first port that is tried (43180). Prints a table: the limit, how much was tried
+PROGRAM is the program `rv` as it was built, PORT the first port that is tried (20680). Prints a table: the limit, how much was tried
 below it (each power of two and one more), what came there and at the limit, and what came above it. Where the book has no limit that can
 be reached (how many cells a store has, how many rows a pull tells, how many records an import has, how many clients and groups a closing
 sums up) the sizes that are tried are large ones, and nothing stands above. So a program that gives up for want of memory that nobody
@@ -14,7 +14,7 @@ import subprocess
 import sys
 import tempfile
 
-from serving import Server, same, talk
+from serving import Server, free_ports, same, talk
 
 TABLE = "CREATE TABLE cell (shelf INTEGER NOT NULL, k BLOB NOT NULL, body BLOB NOT NULL, PRIMARY KEY (shelf, k)) STRICT"
 LINE, BODY, HEAD, FIELDS, KEY, USER, NAME, TEXT, IMPORT = 4_195_328, 4_194_304, 16_384, 64, 256, 64, 128, 16_384, 16_777_216
@@ -355,7 +355,7 @@ def main():
     if len(sys.argv) not in (2, 3):
         sys.exit(__doc__)
     program = os.path.abspath(sys.argv[1])
-    port = iter(range(int(sys.argv[2]) if len(sys.argv) > 2 else 43180, 65536))
+    port = free_ports(int(sys.argv[2]) if len(sys.argv) > 2 else 20680)
     print("| Limit | At | Sizes tried up to it | There | One above |\n|---|---|---|---|---|")
     with tempfile.TemporaryDirectory() as folder:
         lines(program)

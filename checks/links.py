@@ -40,15 +40,19 @@ def free_port():
     return wrong("no port is free")
 
 
-def connected(port):
-    """A connection to the program, which may still be starting."""
+def connected(port, options=()):
+    """A connection to the program, which may still be starting, from a socket with these options."""
     end = time.monotonic() + LATE
     while True:
+        stream = socket.socket()
+        stream.settimeout(LATE)
+        for option in ((socket.IPPROTO_TCP, socket.TCP_NODELAY, 1), *options):
+            stream.setsockopt(*option)
         try:
-            stream = socket.create_connection(("127.0.0.1", port), timeout=LATE)
-            stream.setsockopt(socket.IPPROTO_TCP, socket.TCP_NODELAY, 1)
+            stream.connect(("127.0.0.1", port))
             return stream
         except ConnectionRefusedError:
+            stream.close()
             if time.monotonic() > end:
                 wrong("the program doesn't listen")
             time.sleep(0.05)
@@ -205,8 +209,8 @@ def request(path, user, body):
     return f"POST /{path} HTTP/1.1\r\nAuthorization: k-{user}\r\nContent-Length: {len(body)}\r\n\r\n".encode() + body
 
 
-def answer(stream):
-    """The body of the next answer, whose status must be 200."""
+def whole_answer(stream):
+    """The bytes of the next answer, and where its body begins."""
     got, whole = b"", None
     while whole is None or len(got) < whole:
         piece = stream.recv(65536)
@@ -215,10 +219,22 @@ def answer(stream):
         got += piece
         head, end, _ = got.partition(b"\r\n\r\n")
         if end and whole is None:
-            same("an answer's status", b"HTTP/1.1 200", got[:12])
             start = len(head) + len(end)
             whole = start + int(head.partition(b"Content-Length: ")[2].partition(b"\r\n")[0])
+    return got, start
+
+
+def answer(stream):
+    """The body of the next answer, whose status must be 200."""
+    got, start = whole_answer(stream)
+    same("an answer's status", b"HTTP/1.1 200", got[:12])
     return got[start:]
+
+
+def size_of(stream, sent):
+    """How many bytes the answer to this request has."""
+    stream.sendall(sent)
+    return len(whole_answer(stream)[0])
 
 
 def asked(stream, sent):

@@ -12,7 +12,9 @@ import threading
 import time
 from concurrent.futures import ThreadPoolExecutor
 
-from links import BINARY, CLOSE, LATE, PING, POKE, PONG, QUIET, SOON, TEXT, Link, Server, answer, connected, reset, same, taken, wrong
+from held import Held
+from links import (BINARY, CLOSE, LATE, PING, POKE, PONG, QUIET, SOON, TEXT, Link, Server, answer, connected, request, reset, same, size_of,
+                   taken, wrong)
 
 NORMAL, POLICY_VIOLATION = (code.to_bytes(2, "big") for code in (1000, 1008))
 
@@ -205,6 +207,126 @@ def check_end(program):
     print(f"the end: links had the last push's poke and ended; the program had ended {took:.0f} ms after the last connection began")
 
 
+def check_idle(program):
+    """Links are served where other jobs have no client, and where one worker of two has left; the program ends though its clients stay."""
+    Server(program, connections=1).ends(0)
+    # the one connection of its start is all that a worker has here, so one of the two has left
+    server = Server(program, workers=2, connections=1)
+    ann, bob = server.link("ann"), server.link("bob")
+    for link in (ann, bob):
+        link.quiet("a link as nothing has happened")
+    with server.http() as stream:
+        taken(stream, server.next_push("ann", "paint", None))
+        ann.poked("a client that says nothing, where two jobs have no client", LATE)
+        later = server.link("ann")
+        later.poked("a link as it begins", LATE)
+        last = server.link("bob")
+        taken(stream, server.next_push("ann", "paint", None))
+        for link in (ann, later):
+            link.poked("a client that says nothing, where each job has a client", LATE)
+        for link in (bob, last):
+            link.quiet("a link of somebody else")
+    server.ends(2)
+    for link in (ann, bob, later, last):
+        link.ended("the link of a client that stays")
+    print("idle: links had their pokes beside jobs without a client, and as one worker of two had left; the program ended though clients stayed")
+
+
+def check_aborts(program, most=300):
+    """Clients that abort, before a job has them, before the answer to their handshake and after it: the one job serves the next."""
+    server = Server(program, pokes=1, workers=1, connections=2 * most)
+    for number in range(most):
+        if number % 30 == 0:
+            reset(Link(server.poke_port).greeted().stream)
+        elif number % 30 < 10:
+            reset(Link(server.poke_port).stream)
+        else:
+            reset(connected(server.poke_port))
+    link = server.link("ann")
+    server.push("ann", "paint", None)
+    link.poked("the client after those that aborted", LATE)
+    server.ends(1)
+    print(f"aborts: {most} clients aborted at the one job, and it served the next")
+
+
+def waits(server, held, link):
+    """Whether the answer to a push waits for its client, though the push has run. Where it doesn't, its poke came, once it was written."""
+    end, has_run = time.monotonic() + LATE, False
+    while time.monotonic() < end:
+        told = link.frame(QUIET)
+        if told == POKE:
+            if not held.has_all(SOON):
+                wrong(f"a poke, where {held.told - held.written()} bytes of the answer to its push are not written yet")
+            return False
+        same("what a client is told as an answer waits", "nothing", told)
+        if has_run and not held.has_all():
+            return True
+        has_run = server.pull("cat", "g-cat", None)["lastMutationIDChanges"]["c"] == server.last["c"]
+    return wrong("a push that has no poke")
+
+
+def paints(numbers):
+    """A push of mutations with these ids."""
+    acts = [{"clientID": "c", "id": number, "name": "paint", "args": None} for number in numbers]
+    return request("push", "cat", {"pushVersion": 1, "clientGroupID": "g-cat", "mutations": acts})
+
+
+def next_half(server):
+    """A push of which the first mutation runs, and the second is refused, so that its answer is a longer one."""
+    server.last["c"] += 1
+    return paints([server.last["c"], 900000])
+
+
+def held_up(server, link, asks):
+    """A connection on which the answer to a push waits for its client; and how much could be written before."""
+    for _ in range(5):
+        held = Held(server.port)
+        room = held.room(*asks[0])
+        reset(held.stream)
+        held = Held(server.port)
+        filled = held.fill(asks[:-1], room)
+        while filled and held.asked < 99:
+            held.ask(next_half(server), asks[-1][1])
+            if waits(server, held, link):
+                return held, room
+        reset(held.stream)
+    return wrong("no answer to a push waits for its client")
+
+
+def prepared(server):
+    """Pulls whose answers are large, middling and small, and a push at last, each with the size of its answer, which stays."""
+    # from here on places and ids have four digits, and orders seven
+    server.last["c"] = 1000
+    asks = [paints(range(1, 1001))]
+    for user, size in (("ann", 16000), ("bob", 4000), ("dan", 700)):
+        server.push(user, "createList", {"id": f"l-{user}", "name": "n" * size, "ownerID": user})
+        asks.append(request("pull", user, {"pullVersion": 1, "clientGroupID": f"g-{user}", "cookie": 1000000}))
+    asks.append(next_half(server))
+    with server.http() as stream:
+        return [(sent, size_of(stream, sent)) for sent in asks][1:]
+
+
+def check_order(program):
+    """A poke comes once the answer to its push is written: where that waits for its client, so does the poke. A pull that waits holds up none."""
+    server = Server(program)
+    asks = prepared(server)
+    link = server.link("cat")
+    link.poked("a link as it begins", LATE)
+    held, room = held_up(server, link, asks)
+    held.read()
+    link.poked("the client once the answer is read", LATE)
+    held = Held(server.port)
+    held.room(*asks[0])
+    link = server.link("ann")
+    link.poked("a link as it begins", LATE)
+    server.push("ann", "createList", {"id": "last", "name": "Home", "ownerID": "ann"})
+    link.poked("a client whose pull waits to be read", LATE)
+    pulled = server.pull("ann", "g-ann-2", None)["patch"]
+    same("whether the next pull after a poke has the push", True, "list/last" in [change.get("key") for change in pulled])
+    server.kill()
+    print(f"order: with {room} bytes written ahead the answer to a push waited for its client, and no poke came before it was written")
+
+
 def check_limit(program, most=10000):
     """Each of 10,000 pushes, one after the other, has its poke. Then the session ends without a close, and its job is free."""
     server = Server(program, pokes=1, connections=26)
@@ -351,7 +473,8 @@ def main():
     words = [word for word in sys.argv[1:] if word != "--slow"]
     if len(words) != 1:
         sys.exit("usage: checks/pokes.py PROGRAM [--slow]")
-    checks = [check_sharing, check_denied, check_leaving, check_sixteen, check_crossing, check_end, check_limit, check_many]
+    checks = [check_sharing, check_denied, check_idle, check_aborts, check_leaving, check_sixteen, check_crossing, check_order, check_end,
+              check_limit, check_many]
     for check in checks + [check_silence] * ("--slow" in sys.argv):
         check(words[0])
         sys.stdout.flush()

@@ -1,9 +1,9 @@
 #!/usr/bin/env python3
 """Checks `rv serve` as curl and plain sockets see it: checks/serving.py PROGRAM [PORT]
 
-PROGRAM is the program `rv` as it was built, PORT the first port that is tried (42180). Each case starts the program with as many
-connections as it makes, so that it ends by itself, and compares every byte, what the program writes and its status. Ends with
-status 1 at the first difference.
+PROGRAM is the program `rv` as it was built, PORT the first port that is tried (20180; one below those that outgoing
+connections get, which could be one of them). Each case starts the program with as many connections as it makes, so that it ends by
+itself, and compares every byte, what the program writes and its status. Ends with status 1 at the first difference.
 """
 import json
 import pathlib
@@ -67,6 +67,16 @@ class Server:
         same("its status", status, self.process.returncode)
 
 
+def free_ports(first):
+    """The ports from this one on that nobody has."""
+    for port in range(first, 65536):
+        try:
+            socket.create_server(("127.0.0.1", port)).close()
+        except OSError:
+            continue
+        yield port
+
+
 def same(what, expected, got):
     if expected != got:
         sys.exit(f"{what}:\nexpected {expected!r}\ngot      {got!r}")
@@ -108,7 +118,7 @@ def curl(server, path, body, *options):
 
 def main():
     program = sys.argv[1]
-    ports = iter(range(int(sys.argv[2]) if len(sys.argv) > 2 else 42180, 65536))
+    ports = free_ports(int(sys.argv[2]) if len(sys.argv) > 2 else 20180)
     with tempfile.TemporaryDirectory() as folder:
         folder = pathlib.Path(folder)
         accounts = folder / "accounts.toml"
@@ -184,7 +194,8 @@ def main():
         # accounts that can't be read, and that aren't of the form; a port that is taken
         twice = folder / "twice.toml"
         twice.write_text(ACCOUNTS.replace("Bearer k bob", "k-ann"))
-        start(1, file=folder / "nothing.toml").ends("keeper\n", 4)
+        for file in (folder / "nothing.toml", folder, accounts / "x", folder / ("n" * 300)):
+            start(1, file=file).ends("keeper\n", 4)
         start(1, file=twice).ends("accounts: twice 2\n", 3)
         bad = folder / "bad.toml"
         bad.write_text(ACCOUNTS.replace('user = "bob"', ""))
