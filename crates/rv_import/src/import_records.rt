@@ -113,7 +113,7 @@ impl<'a> ImportRecords<'a> {
         }))
     }
 
-    // The next mutation. After an `Err` there are no more.
+    // The next mutation. After an `Err` it is not asked again.
     pub(crate) fn next(&mut self, alloc: Global) -> Result<Mutation, Stop>
         ensures { NextAsked self.old self.new result }
     {

@@ -1,4 +1,7 @@
-ghost use Rattle.std.specs.Prelude.{◌≡◌, ◌≢◌, IfOk, codes};
+ghost use Rattle.std.specs.Prelude.{◌≡◌, ◌≢◌, ◌↔◌, Err, IfErr, IfOk, IsOk, Ok, codes, false, true};
+ghost use Rattle.std_io.specs.IoError.{error_kind};
+ghost use Rattle.std_io.specs.declared.io.kind.ErrorKind.TheVariants as kinds;
+ghost use Rattle.rv_base.specs.declared.fault.Fault.TheVariants as fault;
 ghost use Rattle.sqlite_wal.specs.Files.{image_at};
 ghost use Rattle.rv_place.specs.Files.{FilesHold};
 ghost use Rattle.rv_place.specs.Stored.{IsGiven};
@@ -35,11 +38,26 @@ impl<'a, S> FileOpener<'a, S> {
     }
 }
 
-// What a refusal of the file system is: want of memory, or a fault.
-fn refused(error: io::Error) -> Fault {
+// What a refusal of the file system is: want of memory exactly where it says so, and else a fault.
+fn refused(error: io::Error) -> Fault
+    ensures { (result ≡ fault.Memory) ↔ (error_kind error ≡ kinds.OutOfMemory) }
+{
     match error.kind() {
         ErrorKind::OutOfMemory => Fault::Memory,
         _ => Fault::Failed,
+    }
+}
+
+// What is told of a look for a file: it is there; or it isn't, which is a fault, or the look was refused.
+fn found_by(look: io::Result<bool>) -> Result<(), Fault>
+    ensures there { IsOk result ↔ look ≡ Ok true }
+    ensures missing { look ≡ Ok false → result ≡ Err fault.Failed }
+    ensures refused { IfErr look (λ error. (result ≡ Err fault.Memory) ↔ (error_kind error ≡ kinds.OutOfMemory)) }
+{
+    match look {
+        Ok(true) => Ok(()),
+        Ok(false) => Err(Fault::Failed),
+        Err(error) => Err(refused(error)),
     }
 }
 
@@ -88,11 +106,7 @@ impl<S: Start + Send> Opener for FileOpener<'_, S> {
         if name == "memory" {
             return Ok(());
         }
-        match fs::exists(self.rt, name) {
-            Ok(true) => Ok(()),
-            Ok(false) => Err(Fault::Failed),
-            Err(error) => Err(refused(error)),
-        }
+        found_by(fs::exists(self.rt, name))
     }
 
     fn read_file(&self, path: &str) -> Result<Bytes, Fault> {
