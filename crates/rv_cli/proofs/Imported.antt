@@ -26,6 +26,7 @@ use Rattle.rv_cli.specs.Importing.{HasImported, ImportsInput, ImportsWith, Takes
 use Rattle.rv_cli.specs.Input.{WholeIsSteady}
 use Rattle.rv_cli.specs.Storing.{HasOpened}
 use Rattle.rv_cli.specs.Texts.{import_ending_text, import_status, status_of}
+use Rattle.rv_cli.proofs.Fed.{seat_sound}
 use Rattle.rv_cli.proofs.Storing.{WentBack, begins, leaves}
 use Rattle.rv_cli.proofs.Taking.{Before, turn_before}
 
@@ -91,7 +92,7 @@ has_imported {P} {K} place G store old mid new desk user name told input input' 
       imports = on.1 (λ t. subst G.tells w.keeper (back.told t).1);
       writes = writes;
       leaves = leaves place G store old mid new (served G.faults w.new) told.1 opened.same
-          (record { kept = (let own = subst (λ (k : K). KeepsBook G k w.new.book w.new.doubt) (sym w.keeper) w.kept in record { held = own.held; left = own.left }); later = subst (λ (k : K). G.faults w.new.keeper ≤ G.faults k) (sym w.keeper) (omega arith) }) back;
+          (record { kept = (let own = subst (λ (k : K). KeepsBook G k w.new.book w.new.doubt) (sym w.keeper) w.kept in record { held = own.held; left = own.left }); sound = seat_sound G w.new (served G.faults w.new) told.1 refl refl refl w.sound; later = subst (λ (k : K). G.faults w.new.keeper ≤ G.faults k) (sym w.keeper) (omega arith) }) back;
     }
 
 -- ---- The statuses.

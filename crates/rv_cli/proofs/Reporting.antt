@@ -10,7 +10,7 @@ use Rattle.rv_keeper.specs.Keeping.{HasKeepCause}
 use Rattle.rv_keeper.specs.Stores.{LeavesAsGiven, OpensWith}
 use Rattle.rv_book.specs.Book.{Book}
 use Rattle.rv_doubt.specs.Kept.{KeepsBook}
-use Rattle.rv_desk.specs.Seated.{Seated, served}
+use Rattle.rv_desk.specs.Seated.{IsSoundDesk, Seated, served}
 use Rattle.rv_cli.specs.declared.ending.Ending.{Ending}
 use Rattle.rv_cli.specs.declared.ending.Ending.TheVariants.{Done, Keeper, Damaged, Read, Write, Memory, Malformed}
 use Rattle.rv_cli.specs.Change.{change}
@@ -49,16 +49,16 @@ module _ {P K : Type 0} (place : PlaceGhosts P K) (G : Ghosts K) (store : List �
 
   -- the desk was opened and reported of, and its keeper went back
   pub has_reported : (Reports : Book → List ℕ → Type 0) (old mid new : P) (desk : Seated K) (keeper : K) (out out' : OutputState) (ending : Ending)
-      → HasOpened place G store old desk mid → keeper ≡ desk.keeper → KeepsBook G desk.keeper desk.book desk.doubt
+      → HasOpened place G store old desk mid → keeper ≡ desk.keeper → KeepsBook G desk.keeper desk.book desk.doubt → IsSoundDesk desk
       → Back mid new keeper → WritesReport (Reports desk.book) out out' ending
       → Reported (change place store old new) Reports out out' ending
-  has_reported Reports old mid new desk keeper out out' ending opened is kept back w =
+  has_reported Reports old mid new desk keeper out out' ending opened is kept sound back w =
       let home = subst (λ (k : K). Back mid new k) is back in
       record {
         first = served G.faults desk;
         begins = begins place G store old mid new desk desk.keeper opened (λ t. t) home;
         writes = w;
-        leaves = leaves place G store old mid new (served G.faults desk) desk.keeper opened.same (record { kept = record { held = kept.held; left = kept.left }; later = omega arith }) home;
+        leaves = leaves place G store old mid new (served G.faults desk) desk.keeper opened.same (record { kept = record { held = kept.held; left = kept.left }; sound = record { book = sound.book; small = sound.small; fits = sound.fits; next = sound.next }; later = omega arith }) home;
       }
 
   -- the store's keeper was fetched and checked
@@ -99,5 +99,5 @@ has_checked place store old new entries out out' ending was w = record {
   first = record { book = was.book; limit = 2 ^ 32 - 1; doubt = None; faults = 0 };
   begins = record { loaded = was.loaded; stored = was.stored; opens = was.opens; limit = refl; doubt = refl; faults = refl };
   writes = reports_text (ReportsSound was.book) _ out out' ending (ap (λ n. codes "ok " ++ (decimal n ++ codes "\n")) (sym was.length)) w;
-  leaves = record { held = λ t. (was.loaded, was.held t, inl was.opens.kept); left = was.left; kept = 0; later = omega arith; taken = was.same };
+  leaves = record { sound = record { book = was.opens.sound; small = omega arith; fits = tt; next = tt }; held = λ t. (was.loaded, was.held t, inl was.opens.kept); left = was.left; kept = 0; later = omega arith; taken = was.same };
 }

@@ -3,13 +3,12 @@ use Rattle.std.proofs.Common.{◌≡◌, ◌≢◌, ◌⊎◌, ⊎_elim, ℕ, Li
 use Rattle.rv_base.specs.Causes.{Rose}
 use Rattle.rv_base.specs.Outside.{OutputState}
 use Rattle.rv_accounts.specs.File.{AccountsServed}
-use Rattle.rv_history.specs.Served.{IsSound}
 use Rattle.rv_keeper.specs.declared.keeper.Keeper.{Ghosts}
 use Rattle.rv_keeper.specs.declared.loaded.Loaded.{Loaded}
 use Rattle.rv_keeper.specs.declared.place.Place.{Ghosts as PlaceGhosts}
 use Rattle.rv_keeper.specs.Stores.{OpensAs}
 use Rattle.rv_doubt.specs.Kept.{KeepsBook}
-use Rattle.rv_desk.specs.Seated.{Seated, served}
+use Rattle.rv_desk.specs.Seated.{IsSoundDesk, Seated, served}
 use Rattle.rv_cli.specs.ServePromise.{serve_statuses}
 use Rattle.rv_book.specs.Book.{Book, size}
 use Rattle.rv_base.specs.declared.memory.Memory.{Memory as MemoryFault}
@@ -91,7 +90,7 @@ module _ {P K N : Type 0} (place : PlaceGhosts P K) (G : Ghosts K) (faults : N �
   -- the store was opened, its desk came from the first to the last, and its keeper went back
   module _ (old mid opened new : P) (said : AccountsServed) (first last : Seated K) (keeper : K) (read : Read old (Ok said) mid)
       (opens : HasOpened place G store mid first opened) (before : place.tells opened → G.tells first.keeper → place.tells mid) (is : keeper ≡ last.keeper)
-      (kept : KeepsBook G last.keeper last.book last.doubt) (kept_before : G.tells last.keeper → G.tells first.keeper)
+      (kept : KeepsBook G last.keeper last.book last.doubt) (sound : IsSoundDesk last) (kept_before : G.tells last.keeper → G.tells first.keeper)
       (back : WentBack place G store opened new keeper) where
     home : WentBack place G store opened new last.keeper
     home = subst (λ (k : K). WentBack place G store opened new k) is back
@@ -113,22 +112,22 @@ module _ {P K N : Type 0} (place : PlaceGhosts P K) (G : Ghosts K) (faults : N �
 
     pub serve_leaves : Leaves (change place store old new) (served G.faults last)
     serve_leaves = leaves place G store old opened new (served G.faults last) last.keeper
-        (opens.same ∙ read.gives_accounts.1) (record { kept = record { held = kept.held; left = kept.left }; later = omega arith }) home
+        (opens.same ∙ read.gives_accounts.1) (record { kept = record { held = kept.held; left = kept.left }; sound = record { book = sound.book; small = sound.small; fits = sound.fits; next = sound.next }; later = omega arith }) home
 
     pub serve_says : FileSays place name old new (Ok said)
     serve_says = says_later old mid new (Ok said) told read.gives_accounts.0
 
     pub has_served : (Serves : AccountsServed → Seated K → Seated K → Type 0) (net net' : N) (entries : ℕ) (out out' : OutputState) (ending : ServeEnding) → Serves said first last
-        → IsSound (served G.faults last) → entries ≡ size last.book → WritesCount (count_text entries) out out' ending
+        → entries ≡ size last.book → WritesCount (count_text entries) out out' ending
         → HasServed place G faults store name old new net net' Serves out out' ending
-    has_served Serves net net' entries out out' ending serves sound count text = record {
+    has_served Serves net net' entries out out' ending serves count text = record {
       accounts = said;
       says = serve_says;
       first = first;
       now = last;
       begins = serve_begins;
       serves = serves;
-      sound = sound;
+      sound = record { lawful = sound.book.lawful; within = sound.book.within; next = sound.next };
       told = λ t. (home.told t).1;
       leaves = serve_leaves;
       entries = entries_written last.book entries out out' ending count text;
@@ -177,7 +176,7 @@ module _ {P K N : Type 0} (place : PlaceGhosts P K) (G : Ghosts K) (faults : N �
   -- the store was opened, the net was served or not, and what is told of it
   pub serve_ended : (old mid opened new : P) (said : AccountsServed) (first last : Seated K) (keeper : K) → AccountsRead place name old (Ok said) mid
       → HasOpened place G store mid first opened → (place.tells opened → G.tells first.keeper → place.tells mid) → keeper ≡ last.keeper
-      → KeepsBook G last.keeper last.book last.doubt → IsSound (served G.faults last)
+      → KeepsBook G last.keeper last.book last.doubt → IsSoundDesk last
       → WentBack place G store opened new keeper
       → (Serves : AccountsServed → Seated K → Seated K → Type 0) (net net' : N) (result : Result (Unit {0}) Fault) (entries : ℕ) (out out' : OutputState) (ending : ServeEnding)
       → NetResult (Serves said first last) G.tells (faults net) (faults net') first last result
@@ -192,14 +191,14 @@ module _ {P K N : Type 0} (place : PlaceGhosts P K) (G : Ghosts K) (faults : N �
 
       no_net : (other : ServeEnding) → last ≡ first → IsNoNet (faults net) (faults net') other → WritesOnly out out' (serve_text other)
           → HasNoNet place G faults store name old new net net' out out' other
-      no_net other same why text = has_no_net place G faults store name old mid opened new said first last keeper read opens before is held kept home net net' out out' other same why text
+      no_net other same why text = has_no_net place G faults store name old mid opened new said first last keeper read opens before is held sound kept home net net' out out' other same why text
 
       by_result : (r : Result (Unit {0}) Fault) → NetResult (Serves said first last) G.tells (faults net) (faults net') first last r
           → WritesServed r entries out out' ending
           → HasNoNet place G faults store name old new net net' out out' ending
           ⊎ HasServed place G faults store name old new net net' Serves out out' ending
-      by_result (Ok done) (serves, on, same) gives_accounts = inr (has_served place G faults store name old mid opened new said first last keeper read opens before is held kept home
-          Serves net net' entries out out' ending serves sound count gives_accounts)
+      by_result (Ok done) (serves, on, same) gives_accounts = inr (has_served place G faults store name old mid opened new said first last keeper read opens before is held sound kept home
+          Serves net net' entries out out' ending serves count gives_accounts)
       by_result (Err outside.Failed) (same, rose) (ends, text) = inl (subst (λ (e : ServeEnding). HasNoNet place G faults store name old new net net' out out' e) (sym ends) (no_net Net same rose text))
       by_result (Err outside.Memory) same (ends, text) = inl (subst (λ (e : ServeEnding). HasNoNet place G faults store name old new net net' out out' e) (sym ends) (no_net Memory same tt text))
 

@@ -189,6 +189,7 @@ module _ {P K : Type 0} (place : PlaceGhosts P K) (G : Ghosts K) (store : List �
 
   pub leaves : (old mid new : P) (now : Served) (keeper : K) → place.faults mid ≡ place.faults old → IsLeftWith G now keeper → WentBack mid new keeper → Leaves (change place store old new) now
   leaves old mid new now keeper same left back = record {
+    sound = record { book = left.sound.book; small = left.sound.small; fits = left.sound.fits; next = left.sound.next };
     held = λ t. let (h, was, with) = left.kept.held (back.told t).1 in (h, back.held t h was, with);
     left = λ honest x may. left.kept.left (back.honest honest).1 x (back.left honest x may);
     kept = G.faults keeper;

@@ -5,7 +5,7 @@ use Rattle.rv_book.specs.Book.{Book, size}
 use Rattle.rv_history.specs.Served.{Doubt, MayStand, TakesTurn}
 use Rattle.rv_history.specs.TurnLaws.{still_of}
 use Rattle.rv_keeper.specs.declared.keeper.Keeper.{Ghosts}
-use Rattle.rv_desk.specs.Seated.{DeskKeeps, DeskTakes, Seated, served}
+use Rattle.rv_desk.specs.Seated.{DeskKeeps, DeskTakes, IsSoundDesk, Seated, served}
 use Rattle.rv_desk.specs.Opened.{OpensAgain, StaysAsItWas}
 use Rattle.rv_desk.specs.declared.open_fault.OpenFault.{OpenFault}
 use Rattle.rv_desk.specs.declared.open_fault.OpenFault.TheVariants as faulting
@@ -119,10 +119,10 @@ module _ {K : Type 0} (G : Ghosts K) where
       (record { step = goes.0; near = λ told change. (desk_near old new asked answer step).1 change told }, goes.1)
 
   -- the answer to one request, with the keeper of the desk that is closed then
-  pub desk_replies : (old new : Seated K) (keeper : K) (asked : Parsed) (answer : Answer) → steps.Handles (DeskTakes G) old asked answer new → keeper ≡ new.keeper → DeskKeeps G new → Replies G old (Asks asked) (answer, keeper)
-  desk_replies old new keeper asked answer handled same kept =
+  pub desk_replies : (old new : Seated K) (keeper : K) (asked : Parsed) (answer : Answer) → steps.Handles (DeskTakes G) old asked answer new → keeper ≡ new.keeper → DeskKeeps G new → IsSoundDesk new → Replies G old (Asks asked) (answer, keeper)
+  desk_replies old new keeper asked answer handled same kept sound =
       let (step, before) = desk_handles old new asked answer handled in
-      subst (λ (k : K). Replies G old (Asks asked) (answer, k)) (sym same) (record { new = served G.faults new; step = step; left = record { kept = kept; later = omega arith }; before = before.told })
+      subst (λ (k : K). Replies G old (Asks asked) (answer, k)) (sym same) (record { new = served G.faults new; step = step; left = record { kept = kept; sound = record { book = sound.book; small = sound.small; fits = sound.fits; next = sound.next }; later = omega arith }; before = before.told })
 
   pub replies_steady : (old new : Seated K) (keeper : K) (asked : Parsed) (answer : Answer) → steps.Handles (DeskTakes G) old asked answer new → keeper ≡ new.keeper → G.fails_no_more old.keeper → G.fails_no_more keeper × (G.faults keeper ≡ G.faults old.keeper)
   replies_steady old new keeper asked answer handled same f =

@@ -6,7 +6,7 @@ use Rattle.rv_base.specs.Outside.{InputState, OutputState}
 use Rattle.rv_base.specs.Writes.{AppendsFront}
 use Rattle.rv_keeper.specs.declared.keeper.Keeper.{Ghosts}
 use Rattle.rv_history.specs.Served.{Served}
-use Rattle.rv_desk.specs.Seated.{DeskKeeps, Seated, served}
+use Rattle.rv_desk.specs.Seated.{DeskKeeps, IsSoundDesk, Seated, served}
 use Rattle.rv_answering.specs.declared.answer.Answer.{Answer}
 use Rattle.rv_answering.specs.Requests.{Parsed}
 use Rattle.rv_cli.specs.declared.ending.Ending.{Ending}
@@ -34,10 +34,11 @@ module _ {K : Type 0} (G : Ghosts K) where
   abbrev pub seat_at : Served → K → Seated K
   seat_at now keeper = record { book = now.book; limit = now.limit; doubt = now.doubt; keeper = keeper }
 
-  -- A keeper that is left with this state: it keeps the book, with what is in doubt; and its count of faults is not below that of the
-  -- state.
+  -- A keeper that is left with this state: it keeps the book, with what is in doubt, which are sound; and its count of faults is not below
+  -- that of the state.
   pub record IsLeftWith (now : Served) (keeper : K) : Type 0 where
     pub kept : DeskKeeps G (seat_at now keeper)
+    pub sound : IsSoundDesk (seat_at now keeper)
     pub later : now.faults ≤ G.faults keeper
 
   -- at the ending of that name the keeper failed, and a damage comes only of one that doesn't tell

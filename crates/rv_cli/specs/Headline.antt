@@ -1,7 +1,7 @@
 -- The headline: what a run of the program reads, writes and answers, and what is kept. It is read from the top down: what is
 -- answered, a run over lines and how it ends (what a line is and what is said of such runs stands in `LineRuns.antt`), how it begins
 -- and what it leaves, what `run` promises of each command, and what follows.
-use Rattle.std.specs.Prelude.{codes, decimal, ℕ, ◌≡◌, ◌≤◌, ◌+◌, ◌-◌, ◌^◌, ◌⊎◌, List, [], ◌∷◌, ◌++◌, length, Bool, true, Option, Some, None, IfSome, Ok}
+use Rattle.std.specs.Prelude.{codes, decimal, ℕ, ◌≡◌, ◌<◌, ◌≤◌, ◌+◌, ◌-◌, ◌^◌, ◌⊎◌, List, [], ◌∷◌, ◌++◌, length, Bool, true, Option, Some, None, IfSome, Ok}
 use Rattle.std.specs.List.{range_with_len, AllByRecursion}
 use Rattle.std.specs.List.Sorted.{IsStrictlyIncreasing}
 use Rattle.std.specs.Io.KnownBytes.{Appends}
@@ -12,14 +12,15 @@ use Rattle.rv_rows.specs.Held.{Stored as StoredRow, rows_in}
 use Rattle.rv_rows.specs.Sharing.{seen}
 use Rattle.rv_book.specs.Book.{Book, last, last_order, opening, size, Extends}
 use Rattle.rv_book.specs.Entries.{last_in}
-use Rattle.rv_history.specs.Served.{Served, IsSound, Settles, TakesTurn}
+use Rattle.rv_history.specs.Served.{Served, IsSound, MayStand, Settles, TakesTurn}
 use Rattle.rv_history.specs.Closing.{GoesOnFrom}
 use Rattle.rv_history.specs.Replay.{IsReplay}
 use Rattle.rv_history.specs.Laws.{act_ids, look_orders, IsEntered, ReplyShows}
 use Rattle.rv_keeper.specs.declared.loaded.Loaded.{Loaded}
 use Rattle.rv_keeper.specs.Stores.{TakesUp}
 use Rattle.rv_keeper.specs.Crashes.{LeavesMore}
-use Rattle.rv_store.specs.Opening.{MayOpen, IsDamaged}
+use Rattle.rv_state.specs.Ready.{NextFits}
+use Rattle.rv_store.specs.Opening.{MayOpen, IsDamaged, IsSoundBook}
 use Rattle.rv_store.specs.StoreCells.{IsKeptWith}
 use Rattle.rv_report.specs.Lists.{lists_text}
 use Rattle.rv_report.specs.Activity.{activity_text}
@@ -142,9 +143,18 @@ pub record Begins (c : StoreChange) (first : Served) : Type 0 where
   pub doubt : first.doubt ≡ None
   pub faults : first.faults ≡ 0
 
--- Where the place tells, the store holds the cells of the book, or of the book with what is in doubt, an entry or a closing; where it is
--- honest, a crash leaves the same. The place takes up the faults of the keeper, of which each trouble in the run was one.
+-- The book is lawful, within the limit and of the form; and what is in doubt may come next, and is of the form.
+pub record IsSoundStore (now : Served) : Type 0 where
+  pub book : IsSoundBook now.limit now.book
+  pub small : now.limit < 2 ^ 32
+  pub fits : IfSome now.doubt NextFits
+  pub next : MayStand now.book now.limit now.doubt
+
+-- The book is sound, and what is in doubt may come next. Where the place tells, the store holds the cells of the book, or of the book with
+-- what is in doubt, an entry or a closing; where it is honest, a crash leaves the same. The place takes up the faults of the keeper, of which
+-- each trouble in the run was one.
 pub record Leaves (c : StoreChange) (now : Served) : Type 0 where
+  pub sound : IsSoundStore now
   pub held : c.told → (held : Loaded) × c.holds held × IsKeptWith now.book now.doubt held
   pub left : c.honest → (left : Option Loaded) → c.may_leave left → (held : Loaded) × (left ≡ Some held) × IsKeptWith now.book now.doubt held
   pub kept : ℕ

@@ -22,6 +22,7 @@ pub mod FeedPromise
 pub mod ReplyPromises
 pub mod ReportPromise
 pub mod ImportPromise
+pub mod ImportLaws
 pub mod ServePromise
 pub mod MakePromise
 pub mod Promises

@@ -1,5 +1,5 @@
 -- Runs keep the law, each pull is shown, and each trouble has its cause.
-use Rattle.std.proofs.Common.{◌≡◌, ℕ, List, [], ◌∷◌, ◌++◌, ◌≤◌, ◌+◌, ◌-◌, ◌^◌, length, Option, Some, None, Ok, Err, refl, sym, ◌∙◌, subst, inl, inr, arith}
+use Rattle.std.proofs.Common.{◌≡◌, ℕ, List, [], ◌∷◌, ◌++◌, ◌≤◌, ◌-◌, ◌^◌, length, Option, Some, None, Ok, Err, refl, sym, ◌∙◌, subst, inl, inr, arith}
 use Rattle.rv_book.specs.Book.{Book, Extends}
 use Rattle.rv_book.specs.BookWords.{extends_same}
 use Rattle.rv_history.specs.Machine.{Step}

@@ -6,3 +6,9 @@ pub mod FedRuns
 pub mod ServeRuns
 pub mod ServedLaws
 pub mod Turns
+pub mod MadeUsers
+pub mod MadeTurns
+pub mod MadeSteps
+pub mod AddingUp
+pub mod StoreLaws
+pub mod ImportLaws

@@ -7,6 +7,7 @@ returns-clause-imports g c = record {
   imports = c.import_input-came.ensures.imports;
   keeper = c.close.ensures.keeper;
   kept = c.close.ensures.kept;
+  sound = c.close.ensures.sound;
 }
 
 pub returns-clause-steady_keeper : goal.returns-clause-steady_keeper

@@ -16,7 +16,7 @@ returns-in-Ok-clause-report g c = (
   c.status.ensures,
   inr (has_reported g.P.Place g.P.Kept.Keeper c.args.store.now ReportsActivity c.args.place.now c.open_existing_desk.new.place c.close_keeper.new.self c.in-Ok.desk c.close.result
       (g.O.Sink.state c.args.out.now) (g.O.Sink.state c.write_report.new.out) c.write_report.result
-      c.in-Ok.ensures.opens c.close.ensures.keeper c.close.ensures.kept (record { told = c.close_keeper.ensures.tells; honest = c.close_keeper.ensures.honest; held = c.close_keeper.ensures.kept; left = c.close_keeper.ensures.crash; taken = c.close_keeper.ensures.faults })
+      c.in-Ok.ensures.opens c.close.ensures.keeper c.close.ensures.kept c.close.ensures.sound (record { told = c.close_keeper.ensures.tells; honest = c.close_keeper.ensures.honest; held = c.close_keeper.ensures.kept; left = c.close_keeper.ensures.crash; taken = c.close_keeper.ensures.faults })
       (reports_made (ReportsActivity c.in-Ok.desk.book) c.activity_text-report.result (g.O.Sink.state c.args.out.now) (g.O.Sink.state c.write_report.new.out) c.write_report.result (λ text is. if_ok (λ t. t ≡ activity_text c.book.result.now.book) c.activity_text-report.result text c.activity_text-report.ensures is ∙ ap activity_text c.book.ensures.book) c.write_report.ensures.writes)),
 )
 

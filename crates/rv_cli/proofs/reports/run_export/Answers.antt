@@ -18,7 +18,7 @@ returns-in-Ok-clause-report g c = (
   c.status.ensures,
   inr (has_reported g.P.Place g.P.Kept.Keeper c.args.store.now (ReportsView c.args.user.now) c.args.place.now c.open_existing_desk.new.place c.close_keeper.new.self c.in-Ok.desk c.close.result
       (g.O.Sink.state c.args.out.now) (g.O.Sink.state c.write_report.new.out) c.write_report.result
-      c.in-Ok.ensures.opens c.close.ensures.keeper c.close.ensures.kept (record { told = c.close_keeper.ensures.tells; honest = c.close_keeper.ensures.honest; held = c.close_keeper.ensures.kept; left = c.close_keeper.ensures.crash; taken = c.close_keeper.ensures.faults })
+      c.in-Ok.ensures.opens c.close.ensures.keeper c.close.ensures.kept c.close.ensures.sound (record { told = c.close_keeper.ensures.tells; honest = c.close_keeper.ensures.honest; held = c.close_keeper.ensures.kept; left = c.close_keeper.ensures.crash; taken = c.close_keeper.ensures.faults })
       (reports_made (ReportsView c.args.user.now c.in-Ok.desk.book) c.export_text-report.result (g.O.Sink.state c.args.out.now) (g.O.Sink.state c.write_report.new.out) c.write_report.result (λ text is. (c.tables.result.now.rows, c.tables.ensures, on_ok _ c.export_text-report.result text c.export_text-report.ensures.view is, if_ok (λ t. t ≡ view_text (seen c.args.user.now (rows_in c.tables.result.now.rows))) c.export_text-report.result text c.export_text-report.ensures.text is)) c.write_report.ensures.writes)),
 )
 

@@ -23,8 +23,7 @@ returns-clause-serve g c =
       c.write_served.result,
       c.status-2.ensures,
       inr (inr (serve_ended g.P.Place g.P.Kept.Keeper g.N.Net.faults c.args.store.now c.args.options.now.accounts
-          c.args.place.now c.accounts_of.new.place c.open_desk.new.place c.close_keeper.new.self c.in-Ok.accounts c.in-Ok-open_desk.desk c.serve_net-served.result.1 c.close.result read c.in-Ok-open_desk.ensures.opens c.in-Ok-open_desk.ensures.told c.close.ensures.keeper c.close.ensures.kept
-          (record { lawful = c.close.ensures.sound.book.lawful; within = c.close.ensures.sound.book.within; next = c.close.ensures.sound.next })
+          c.args.place.now c.accounts_of.new.place c.open_desk.new.place c.close_keeper.new.self c.in-Ok.accounts c.in-Ok-open_desk.desk c.serve_net-served.result.1 c.close.result read c.in-Ok-open_desk.ensures.opens c.in-Ok-open_desk.ensures.told c.close.ensures.keeper c.close.ensures.kept c.close.ensures.sound
           (record { told = c.close_keeper.ensures.tells; honest = c.close_keeper.ensures.honest; held = c.close_keeper.ensures.kept; left = c.close_keeper.ensures.crash; taken = c.close_keeper.ensures.faults })
           _ c.args.net.now c.serve_net-served.new.net c.serve_net-served.result.0 c.len-entries.result (g.O.Sink.state c.args.out.now) (g.O.Sink.state c.write_served.new.out) c.write_served.result
           c.serve_net-served.ensures.serves (c.len-entries.ensures.value ∙ ap size c.book.ensures.book) c.write_served.ensures.writes)),
