@@ -7,8 +7,9 @@ import time
 
 from links import LATE, QUIET, connected, wrong
 
-# A small buffer, and small segments, by which Linux makes the server's buffer small too. What both hold differs by a window at most.
-BUFFER, SEGMENT, WINDOW = 2048, 536, 2200
+# A small buffer, and small segments, by which Linux makes the server's buffer small too. How much the two hold differs by some thousand
+# bytes from one connection to the next, so no more than up to MARGIN below it is asked for blindly.
+BUFFER, SEGMENT, MARGIN = 2048, 536, 2200
 
 
 class Held:
@@ -59,7 +60,7 @@ class Held:
     def fill(self, asks, room):
         """Asks for answers for which there is room, the large ones first. Whether all of them are written."""
         for sent, size in asks:
-            while self.told + size + WINDOW < room:
+            while self.told + size + MARGIN < room:
                 self.ask(sent, size)
                 if not self.has_all(LATE / 2):
                     return False
