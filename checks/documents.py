@@ -8,9 +8,10 @@ writes the line of HAProxy's log that the document shows, with 409. What is play
 backticks what begins as BEGINNINGS say and has no word in capitals that stands for a value.
 
 What comes must be what the document shows: a block after a text that ends with `writes` or `write` is all that the commands before it
-wrote, in which a word in capitals is a number; and behind a command between backticks `says` or `writes` has what it wrote, and
-`with status N` its status, which is 0 where nothing is said. A command that can't be played stands in UNPLAYED with the reason, and a
-block that is neither a command nor shown in TEXTS. Ends with status 1 at the first difference. As root; needs curl, sqlite3 and openssl.
+wrote, in which a word in capitals is a number; and behind a command between backticks `says` or `writes` has what it wrote, where the path
+of a file stands for what the file holds, and `with status N` its status, which is 0 where nothing is said. A command that can't be played
+stands in UNPLAYED with the reason, and a block that is neither a command nor shown stands in TEXTS. Ends with status 1 at the first
+difference, and where a row of these tables is not used. As root; needs curl, sqlite3 and openssl.
 """
 import fcntl
 import glob
@@ -280,7 +281,12 @@ def play_command(document, shell, command, counts):
     status, out, err = shell.run(command.text)
     if status != command.status:
         wrong(document, command.line, command.text, f"status {command.status}", f"status {status}: {out}{err}")
-    if command.said is not None and re.search(pattern(command.said), out + err) is None:
+    if command.said is not None and os.path.isfile(f"{TOP}/{command.said}"):
+        with open(f"{TOP}/{command.said}", encoding="utf-8") as file:
+            expected = file.read()
+        if out != expected:
+            wrong(document, command.line, command.text, expected, out)
+    elif command.said is not None and re.search(pattern(command.said), out + err) is None:
         wrong(document, command.line, command.text, command.said, out + err)
     counts["played"] += 1
     counts["compared"] += command.said is not None
