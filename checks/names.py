@@ -17,7 +17,8 @@ import sys
 TOP = os.path.dirname(os.path.dirname(os.path.abspath(__file__)))
 # Words of tools, of the kit and of Replicache's clients.
 OTHERS = set("rt git curl auth pushURL pullURL CRATE Scratch".split())
-NUMBERS = ("none one two three four five six seven eight nine ten".split(), "none first second third fourth fifth sixth seventh eighth ninth tenth".split())
+NUMBERS = ("none one two three four five six seven eight nine ten".split(),
+           "none first second third fourth fifth sixth seventh eighth ninth tenth".split())
 CONTRIBUTING, COSTS, OPERATING, PROTOCOL = (f"docs/{name}.md" for name in ("contributing", "costs", "operating", "protocol"))
 UNIT, PROXY, LISTS, CALLS = "examples/deploy/rv@.service", "examples/deploy/haproxy.cfg", "examples/deploy/lists.env", "crates/rv_rows/src/call.rt"
 # Numbers that a document states, each in the text around it, and where they are had: the pattern of a file that has them too, or how
@@ -155,13 +156,14 @@ def check_crates(paths, documents, found):
     listed = [re.findall(r"`(\w+)`", line) for line in re.findall(r"(?m)^- ((?:`(?:rv|trial)\w*\*?`,? ?)+):", text)]
     table = [(crate, edits) for crate, edits in re.findall(r"(?m)^\| `(\w+)` \| \d+ \| (\w+) \|$", documents[COSTS])]
     programs = {crate for crate in ours if crate.startswith("trial_")}
-    for what, crates, wants in (("the layers", sum(reversed(layers), []), set(ours) - programs), ("the list of crates", sum(listed, []), set(ours) - programs | {"trial_stage"}),
+    for what, crates, wants in (("the layers", sum(reversed(layers), []), set(ours) - programs),
+                                ("the list of crates", sum(listed, []), set(ours) - programs | {"trial_stage"}),
                                 ("the table of costs", [crate for crate, _ in table], set(ours))):
         if sorted(crates) != sorted(wants):
             found.append(f"{what} has not each crate once: {' '.join(sorted(set(crates) ^ wants)) or 'one stands twice'}")
         elif what != "the table of costs":
             found += [f"in {what} {crate} does not stand behind {on}" for at, crate in enumerate(crates) for on in sorted(ours[crate]) if on in crates[at:]]
-    found += [f"{' and '.join(set(layer) & ours[crate])} in the layer of {crate}, which stands on it" for layer in layers for crate in layer if set(layer) & ours.get(crate, set())]
+    found += [f"{crate} stands on {on}, which is in its layer" for layer in layers for crate in layer for on in sorted(set(layer) & ours.get(crate, set()))]
     for crate, edits in table:
         if (edits == "none") == any(fnmatch.fnmatch(path, f"crates/{crate}/must-fail/*.edit") for path in paths):
             found.append(f"{COSTS}: edits of {crate}: {edits}")
