@@ -16,7 +16,7 @@ import sys
 
 TOP = os.path.dirname(os.path.dirname(os.path.abspath(__file__)))
 # Words of tools, of the kit and of Replicache's clients.
-OTHERS = set("rt git curl auth pushURL pullURL CRATE Scratch".split())
+OTHERS = set("rt git curl auth pushURL pullURL CRATE Scratch Wary".split())
 NUMBERS = ("none one two three four five six seven eight nine ten".split(),
            "none first second third fourth fifth sixth seventh eighth ninth tenth".split())
 CONTRIBUTING, COSTS, OPERATING, PROTOCOL = (f"docs/{name}.md" for name in ("contributing", "costs", "operating", "protocol"))
