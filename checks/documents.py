@@ -45,12 +45,12 @@ UNPLAYED = {
 TEXTS = {
     ("docs/contributing.md", "rv, rv_laws"): "the layers",
     (PROTOCOL, "list,text,complete"): "the first record of what an import reads",
-    (PROTOCOL, "CREATE TABLE"): "the table of a store, by which checks/stores.py reads stores",
     (OPERATING, "127.0.0.1 ["): "a line of HAProxy's log, from which `journalctl` here makes its own",
 }
-# Shown texts that are the form of what a command writes, whose words have no value there: the command with values.
+# Shown texts, as they begin, that are the form of what a command writes, whose words have no value there: the command with values.
 FORMS = {
     (PROTOCOL, "records N acted A skipped S"): "rv import memory ann home < ~/todos.csv",
+    (PROTOCOL, "CREATE TABLE IF NOT EXISTS cell"): "rv feed ~/made.db && sqlite3 ~/made.db 'SELECT sql FROM sqlite_schema'",
     (PROTOCOL, "requests N acted A skipped S looks L same M entries E rows R"): "rv make 5 1000",
 }
 # In which folder a section begins, where it is not the top of the tree.
@@ -185,7 +185,7 @@ def sections(document, text, names):
             continue
         if any(lines[0].startswith(word + " ") for word in BEGINNINGS + OTHERS):
             section += [Command(at, re.sub(r" {2,}# .*", "", line)) for at, line in enumerate(lines, number)]
-        elif re.search(r"\bwrites?( one line)?:?$", before) or (document, lines[0]) in FORMS:
+        elif re.search(r"\bwrites?$", before) or meets(FORMS, document, lines[0]):
             section.append(Shown(number, "\n".join(lines)))
         elif not meets(TEXTS, document, lines[0]):
             wrong(document, number, lines[0], "a command, or what one writes, or a block of TEXTS", "none of these")
@@ -193,8 +193,8 @@ def sections(document, text, names):
 
 
 def pattern(shown):
-    """What is shown, as a pattern: a word in capitals is a number."""
-    return re.sub(r"\b[A-Z]+\b", "[0-9]+", re.escape(shown))
+    """What is shown, as a pattern: a word in capitals is a number, or itself."""
+    return re.sub(r"\b[A-Z]+\b", lambda word: f"(?:[0-9]+|{word[0]})", re.escape(shown))
 
 
 def sockets():
@@ -280,7 +280,8 @@ def play_command(document, shell, command, counts):
             wrong(document, command.line, f"what stands before it: {PREPARED[prepared]}", "status 0", f"status {status}: {out}{err}")
     status, out, err = shell.run(command.text)
     if status != command.status:
-        wrong(document, command.line, command.text, f"status {command.status}", f"status {status}: {out}{err}")
+        got = f"neither an end nor a socket after {LATE} seconds" if status is None else f"status {status}"
+        wrong(document, command.line, command.text, f"status {command.status}", f"{got}: {out}{err}")
     if command.said is not None and os.path.isfile(f"{TOP}/{command.said}"):
         with open(f"{TOP}/{command.said}", encoding="utf-8") as file:
             expected = file.read()
@@ -305,7 +306,7 @@ def play(document, program):
         if word not in known:
             wrong(where, line, text_named, f"one of {', '.join(known)}", word)
     log_line = next((line.strip() for line in text.split("\n") if line.startswith("    127.0.0.1 [")), "")
-    with tempfile.TemporaryDirectory() as room:
+    with tempfile.TemporaryDirectory(ignore_cleanup_errors=True) as room:
         furnish(room, program, log_line)
         for title, section in parts:
             if not section:
