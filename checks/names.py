@@ -5,7 +5,8 @@ usage: checks/names.py
 A name is what stands between backticks, a word of a language or a path. In docs/definitions.md the first column's names must stand in
 the file that their row names. Each file of checks/, bench/ and examples/ but the planted bodies must be named, by its name or by a
 pattern. Of docs/contributing.md the layers and the list of crates must have each crate once, behind those that it stands on by
-crates.txt; of docs/costs.md the table too, with edits where a crate has some. STATED says which numbers of the documents are counted.
+crates.txt; of docs/costs.md the table too, with edits where a crate has some. STATED says which numbers of the documents are counted,
+and the words that a check takes are those that its own file says.
 Ends with status 1 where something is missing or another, and says which.
 """
 import fnmatch
@@ -147,6 +148,14 @@ def check_numbers(paths, documents, found):
             found.append(f"{document}: {match[0]!r}, where it is {count} by {where}")
 
 
+def check_words(documents, found):
+    """The words that a check takes are those that its own file says."""
+    for path, words in re.findall(r"(?m)^- `(checks/[a-z_/]+(?:\.py)?)((?: [^`]*)?)`", documents[CONTRIBUTING]):
+        said = re.search(re.escape(path) + r"((?: (?:\[*-*[A-Za-z]+\]*|\.\.\]))*)\n", text_of(path))
+        if said is None or said[1] != words:
+            found.append(f"{CONTRIBUTING}: {path}{words}, where the file says {said and path + said[1]}")
+
+
 def check_crates(paths, documents, found):
     """Layers, list and costs have each crate once; in the first two it stands behind those that it stands on."""
     stands = {crate: set(on.split()) for crate, on in re.findall(r"(?m)^(\w+):(.*)$", text_of("crates.txt"))}
@@ -187,6 +196,7 @@ def main():
     documents = {path: text_of(path) for path in paths if path.endswith(".md")}
     check_files(paths, documents, found)
     check_numbers(paths, documents, found)
+    check_words(documents, found)
     check_crates(paths, documents, found)
     for line in found:
         print(line)
