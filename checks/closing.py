@@ -149,9 +149,24 @@ def abort(start):
     server.process.kill()
 
 
+def sockets(pid):
+    """How many sockets the program has open."""
+    count = 0
+    for name in os.listdir(f"/proc/{pid}/fd"):
+        try:
+            count += os.readlink(f"/proc/{pid}/fd/{name}").startswith("socket:")
+        except FileNotFoundError:
+            pass
+    return count
+
+
 def limit_files(server):
-    """Leaves the program the files that it has, and gives the limits that it had."""
-    pid = server.process.pid
+    """Leaves the program the files that it has, once the listener alone is left of its sockets, and gives the limits that it had."""
+    pid, begun = server.process.pid, time.monotonic()
+    while sockets(pid) > 1:
+        if time.monotonic() - begun > 20:
+            sys.exit("a connection that had ended was not closed for 20 s")
+        time.sleep(0.01)
     most = max(int(name) for name in os.listdir(f"/proc/{pid}/fd"))
     had = resource.prlimit(pid, resource.RLIMIT_NOFILE)
     resource.prlimit(pid, resource.RLIMIT_NOFILE, (most + 1, had[1]))
