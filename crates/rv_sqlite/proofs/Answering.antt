@@ -9,7 +9,9 @@ use Rattle.rv_keeper.specs.declared.change.Change.{Change}
 use Rattle.rv_keeper.specs.declared.loaded.Loaded.{Loaded}
 use Rattle.rv_keeper.specs.Cells.{AreChanges}
 use Rattle.rv_keeper.specs.Crashes.{IsSettled}
-use Rattle.rv_keeper.specs.Keeping.{committed}
+use Rattle.rv_base.specs.declared.fault.Fault.{Fault}
+use Rattle.rv_base.specs.declared.fault.Fault.TheVariants.{Failed, Memory}
+use Rattle.rv_keeper.specs.Keeping.{Made, committed}
 use Rattle.rv_sqlite.specs.Steps.{Comes}
 use Rattle.rv_sqlite.specs.Telling.{CallMakes, CommitsOrNot, Holds, LeavesAs, LeavesNext, LeavesNoMore, MayLeave, StandFor, Tells}
 use Rattle.rv_sqlite.specs.HeldLaws.{stand_same}
@@ -30,6 +32,12 @@ pub made_by : {E : Type 0} (old new : State) (from : ℕ) (changes : List Change
     → CommitsOrNot from changes r (Holds new) held
 made_by old new from changes (Ok done) low are comes tells held h = (commit_next old new from changes low are comes).holds held h
 made_by old new from changes (Err e) low are comes tells held h = kept_holds old new held comes tells.ready.is_open h
+
+-- So it is by the answer of a keeper.
+pub held_by : (from : ℕ) (changes : List Change) (r : Result (Unit {0}) Fault) (Holding : Loaded → Type 0) (held : Loaded) → CommitsOrNot from changes r Holding held → Made from changes r Holding held
+held_by from changes (Ok done) Holding held h = h
+held_by from changes (Err Failed) Holding held h = inl h
+held_by from changes (Err Memory) Holding held h = h
 
 -- ---- a crash
 

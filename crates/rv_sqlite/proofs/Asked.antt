@@ -1,5 +1,5 @@
 -- A query of the generation's row, that finds it or finds none.
-use Rattle.std.proofs.Common.{◌≡◌, ◌<◌, ◌^◌, ℕ, pos, List, [], ◌∷◌, decimal, Ok, Err, Option, inl, inr, refl, sym, ap, subst, ◌∙◌, arith}
+use Rattle.std.proofs.Common.{◌≡◌, ◌<◌, ◌^◌, ℕ, pos, true, List, [], ◌∷◌, decimal, Ok, Err, Option, inl, inr, refl, sym, ap, subst, ◌∙◌, arith}
 use Rattle.std.proofs.lemmas.Fmt.{decimal_injective}
 use Rattle.sqlite_value.specs.declared.value.Value.TheVariants.{Null, Int, Blob}
 use Rattle.sqlite_value.specs.Order.{Row, column}
@@ -20,11 +20,12 @@ use Rattle.rv_keeper.specs.declared.cell.Cell.{Cell}
 use Rattle.rv_keeper.specs.declared.loaded.Loaded.{Loaded}
 use Rattle.rv_keeper.specs.Cells.{cell_key}
 use Rattle.rv_sqlite.specs.Asked.{one_text, generation_key, FindsNumber}
-use Rattle.rv_sqlite.specs.Table.{cell_schema, no_schema}
+use Rattle.rv_sqlite.specs.Table.{IsCellAt, is_unused}
 use Rattle.rv_sqlite.specs.Stands.{Stands, cell_row}
 use Rattle.rv_sqlite.specs.Steps.{generation_cell}
 use Rattle.rv_sqlite.specs.Telling.{IsAll, Holds}
-use Rattle.rv_sqlite.proofs.Meaning.{at_place, one_command, one_is, one_plain, one_nowhere}
+use Rattle.rv_sqlite.proofs.CellAt.{low as low_tree}
+use Rattle.rv_sqlite.proofs.Meaning.{at_place, one_command, one_means, one_nowhere}
 use Rattle.rv_sqlite.proofs.Scan.{are_shown}
 use Rattle.rv_sqlite.proofs.Members.{IsAt, one_place}
 use Rattle.rv_sqlite.proofs.Compare.{at_if_passes, passes_if_at}
@@ -40,10 +41,10 @@ no_failure Full e = absurd (cc)
 no_failure Broken e = absurd (cc)
 no_failure Unstorable e = absurd (cc)
 
-never_refused : (limit : Option ℕ) (db : Database) (params : Row) → ¬ RefusesToRead limit one_command db params QueryReturnedNoRows
-never_refused limit db params (inl mismatch) = absurd (let e = mismatch.0 in cc)
-never_refused limit db params (inr (inl overflow)) = absurd (let e = overflow.0 in cc)
-never_refused limit db params (inr (inr interrupted)) = absurd (let e = interrupted.0 in cc)
+never_refused : (tree : ℕ) (limit : Option ℕ) (db : Database) (params : Row) → ¬ RefusesToRead limit (one_command tree) db params QueryReturnedNoRows
+never_refused tree limit db params (inl mismatch) = absurd (let e = mismatch.0 in cc)
+never_refused tree limit db params (inr (inl overflow)) = absurd (let e = overflow.0 in cc)
+never_refused tree limit db params (inr (inr interrupted)) = absurd (let e = interrupted.0 in cc)
 
 was_run : (old new : State) (sql : List ℕ) (params : Row) → ¬ IsNotRun old new sql params QueryReturnedNoRows
 unfolding IsNotRun
@@ -54,16 +55,17 @@ was_run old new sql params (inl (inr statement, same)) = elim statement.2 [
 ]
 was_run old new sql params (inr fails) = no_failure fails.0 fails.1
 
-module _ (old new : State) (params : Row) (has : old.now.schema ≡ cell_schema) where
+module _ (old new : State) (at tree : ℕ) (params : Row) (has : IsCellAt old.now.schema at tree) where
   never_fails : ¬ FailsToQuery one_text params old new QueryReturnedNoRows
   unfolding FailsToQuery
   never_fails (inl stopped) = was_run old new one_text params stopped
   never_fails (inr ran) =
-      let known = sym ran.1.is ∙ ap (λ s. understood s one_text) has in
-      let bare = subst IsPlain (sym known) one_plain in
+      let it = one_means old.now.schema at tree has in
+      let known = sym ran.1.is in
+      let bare = subst IsPlain (sym known) it.plain in
       let failed = rw (bare.0) at ran.2 in
-      let command = ap command_of known ∙ one_is.0 in
-      never_refused old.step_limit failed.0 (timed params ran.0.formats ran.1.now) (subst (λ k. RefusesToRead old.step_limit k failed.0 (timed params ran.0.formats ran.1.now) QueryReturnedNoRows) command failed.2)
+      let command = ap command_of known ∙ it.is in
+      never_refused tree old.step_limit failed.0 (timed params ran.0.formats ran.1.now) (subst (λ k. RefusesToRead old.step_limit k failed.0 (timed params ran.0.formats ran.1.now) QueryReturnedNoRows) command failed.2)
 
   shows_none : QueriesRow one_text params old new (Err QueryReturnedNoRows) → Shown one_text params old new []
   unfolding QueriesRow
@@ -72,24 +74,26 @@ module _ (old new : State) (params : Row) (has : old.now.schema ≡ cell_schema)
 
 -- ---- what is found
 
-module _ (old new : State) (shelf : ℕ) (key : List ℕ) (cells : List Cell) (has : old.now.schema ≡ cell_schema) (stands : Stands (old.now.trees 0) cells) where
+module _ (old new : State) (at tree : ℕ) (shelf : ℕ) (key : List ℕ) (cells : List Cell) (has : IsCellAt old.now.schema at tree) (stands : Stands (old.now.trees tree) cells) where
   -- a row that is found is that of the cell at the place
   finds : (row : Row) → QueriesRow one_text (Int (pos shelf) ∷ Blob key ∷ []) old new (Ok row) → (c : Cell) × Has cells c × IsAt (shelf ∷ key) c × (row ≡ Blob c.body ∷ [])
   finds row h =
       let params = Int (pos shelf) ∷ Blob key ∷ [] in
-      let got = (first_as one_text params old new cell_schema has one_command one_is.0 one_plain one_is.1 row h).1 in
-      let it = are_shown at_place (col 1 3 ∷ []) [] old.now.trees params (row ∷ got.0) (got.1 Null) in
+      let means = one_means old.now.schema at tree has in
+      let got = (first_as one_text params old new old.now.schema refl (one_command tree) means.is means.plain means.unlisted row h).1 in
+      let it = are_shown tree (low_tree old.now.schema at tree has) at_place (col 1 3 ∷ []) [] old.now.trees params (row ∷ got.0) (got.1 Null) in
       let r = it.sound row (inl refl) in
       let e = stands.read r.0 r.1 in
       (e.1, e.3, at_if_passes e.0 e.1 shelf key (rw e.2 at r.2), r.3 ∙ ap (λ (z : Row). eval_all (col 1 3 ∷ []) (params ∷ z ∷ [])) e.2)
 
   -- where none is found, no cell is at the place
   finds_none : Shown one_text (Int (pos shelf) ∷ Blob key ∷ []) old new [] → (c : Cell) → Has cells c → ¬ IsAt (shelf ∷ key) c
-  finds_none h c there at =
+  finds_none h c there here =
       let params = Int (pos shelf) ∷ Blob key ∷ [] in
-      let it = are_shown at_place (col 1 3 ∷ []) [] old.now.trees params [] ((reads_as one_text params old new cell_schema has one_command one_is.0 one_plain one_is.1 [] h).answer Null) in
+      let means = one_means old.now.schema at tree has in
+      let it = are_shown tree (low_tree old.now.schema at tree has) at_place (col 1 3 ∷ []) [] old.now.trees params [] ((reads_as one_text params old new old.now.schema refl (one_command tree) means.is means.plain means.unlisted [] h).answer Null) in
       let row = stands.kept c there in
-      it.complete (cell_row row.0 c) row.1 (passes_if_at row.0 c shelf key at)
+      it.complete (cell_row row.0 c) row.1 (passes_if_at row.0 c shelf key here)
 
 -- the generation, by the cell at its place or by its want
 module _ (held : Loaded) (number : ℕ) (all : List Cell) (order : InOrder cell_key all) (whole : IsAll held all) where
@@ -113,11 +117,11 @@ module _ (held : Loaded) (number : ℕ) (all : List Cell) (order : InOrder cell_
 same_text : (s t : List ℕ) → ◌≡◌ {A = _} (Blob s) (Blob t) → s ≡ t
 same_text s t e = cc
 
--- ---- a new database has no such row, and says so of no query
+-- ---- a database without the table has no such row, and says so of no query
 
-module _ (old new : State) (params : Row) (none : old.now.schema ≡ no_schema) where
+module _ (old new : State) (params : Row) (none : is_unused old.now.schema ≡ true) where
   no_statement : (c : _) → ¬ IsStatement old one_text params c
-  no_statement c it = is_no_error (understood no_schema one_text) c (sym (ap (λ s. understood s one_text) none) ∙ it.is) one_nowhere
+  no_statement c it = is_no_error (understood old.now.schema one_text) c it.is (one_nowhere old.now.schema none)
 
   never_answered : (row : Row) → ¬ QueriesRow one_text params old new (Ok row)
   unfolding QueriesRow Begins Shown
@@ -134,20 +138,21 @@ module _ (old new : State) (params : Row) (none : old.now.schema ≡ no_schema) 
 pub number_held : (old new : State) (held : Loaded) (number : ℕ) → old.now ≡ old.committed → FindsNumber old new number → number < 2 ^ 64 → Holds old held → held.generation ≡ number
 number_held old new held number settled found low h = elim h.has.are [ inl there ↦ by_table there found | inr new_one ↦ absurd (nowhere new_one.0 found) ]
   where
-    schema_is : (s : Schema) → old.committed.schema ≡ s → old.now.schema ≡ s
-    schema_is s is = ap (λ (d : Database). d.schema) settled ∙ is
+    by_schema : (P : Schema → Type 0) → P old.committed.schema → P old.now.schema
+    by_schema P = subst (λ (d : Database). P d.schema) (sym settled)
 
-    nowhere : old.committed.schema ≡ no_schema → ¬ FindsNumber old new number
-    nowhere none (inl some) = never_answered old new generation_key (schema_is no_schema none) some.0 some.1
-    nowhere none (inr missed) = never_missed old new generation_key (schema_is no_schema none) missed.0
+    nowhere : is_unused old.committed.schema ≡ true → ¬ FindsNumber old new number
+    nowhere none (inl some) = never_answered old new generation_key (by_schema (λ s. is_unused s ≡ true) none) some.0 some.1
+    nowhere none (inr missed) = never_missed old new generation_key (by_schema (λ s. is_unused s ≡ true) none) missed.0
 
-    by_table : (old.committed.schema ≡ cell_schema) × Stands (old.committed.trees 0) h.all → FindsNumber old new number → held.generation ≡ number
-    by_table there (inl some) =
-        let stands = subst (λ (d : Database). Stands (d.trees 0) h.all) (sym settled) there.1 in
-        let c = finds old new 0 [] h.all (schema_is cell_schema there.0) stands some.0 some.1 in
+    by_table : ((at : ℕ) × (tree : ℕ) × IsCellAt old.committed.schema at tree × Stands (old.committed.trees tree) h.all) → FindsNumber old new number → held.generation ≡ number
+    by_table (at, tree, is, rows) (inl some) =
+        let has = by_schema (λ s. IsCellAt s at tree) is in
+        let stands = subst (λ (d : Database). Stands (d.trees tree) h.all) (sym settled) rows in
+        let c = finds old new at tree 0 [] h.all has stands some.0 some.1 in
         let body = same_text c.0.body (decimal number) (sym (ap (λ (r : Row). column r 0) c.3) ∙ some.2) in
-        by_cell held number h.all there.1.order h.whole c.0 c.1 c.2 body low
-    by_table there (inr missed) =
-        let has = schema_is cell_schema there.0 in
-        let stands = subst (λ (d : Database). Stands (d.trees 0) h.all) (sym settled) there.1 in
-        by_none held number h.all there.1.order h.whole (finds_none old new 0 [] h.all has stands (shows_none old new generation_key has missed.0)) ∙ sym missed.1
+        by_cell held number h.all rows.order h.whole c.0 c.1 c.2 body low
+    by_table (at, tree, is, rows) (inr missed) =
+        let has = by_schema (λ s. IsCellAt s at tree) is in
+        let stands = subst (λ (d : Database). Stands (d.trees tree) h.all) (sym settled) rows in
+        by_none held number h.all rows.order h.whole (finds_none old new at tree 0 [] h.all has stands (shows_none old new at tree generation_key has missed.0)) ∙ sym missed.1

@@ -15,11 +15,12 @@ use Rattle.rv_sqlite.specs.declared.row_read.RowRead.{RowRead}
 use Rattle.rv_sqlite.specs.declared.row_read.RowRead.TheVariants as row_read
 use Rattle.rv_sqlite.specs.Rows.{Shows}
 use Rattle.rv_sqlite.specs.Loads.{AllShow, AreLoaded, IsOnlyGeneration, cells_among, generations_among, all_text}
-use Rattle.rv_sqlite.specs.Table.{cell_schema}
+use Rattle.rv_sqlite.specs.Table.{IsCellAt}
 use Rattle.rv_sqlite.specs.Stands.{Stands, cell_row}
 use Rattle.rv_sqlite.specs.Steps.{generation_cell}
 use Rattle.rv_sqlite.specs.Telling.{IsAll}
-use Rattle.rv_sqlite.proofs.Meaning.{by_place, all_command, all_is, all_plain}
+use Rattle.rv_sqlite.proofs.CellAt.{low as low_tree}
+use Rattle.rv_sqlite.proofs.Meaning.{by_place, all_command, all_means}
 use Rattle.rv_sqlite.proofs.Scan.{AreShown, are_shown}
 use Rattle.rv_sqlite.specs.HeldLaws.{loaded_same, ordered_same}
 use Rattle.rv_sqlite.proofs.Told.{in_order}
@@ -176,8 +177,9 @@ module _ (table rows : List Row) (held loaded : Loaded) (all : List Cell) (stand
   ]
 
 -- What is shown of the table and loaded is what it holds.
-pub found_held : (old new : State) (rows : List Row) (held loaded : Loaded) (all : List Cell) → old.now.schema ≡ cell_schema → Shown all_text [] old new rows → IsAll held all → Stands (old.now.trees 0) all → AreLoaded rows loaded
+pub found_held : (old new : State) (at tree : ℕ) (rows : List Row) (held loaded : Loaded) (all : List Cell) → IsCellAt old.now.schema at tree → Shown all_text [] old new rows → IsAll held all → Stands (old.now.trees tree) all → AreLoaded rows loaded
     → AreCells loaded.cells → loaded.generation < 2 ^ 64 → held ≡ loaded
-found_held old new rows held loaded all has h whole stands read are low =
-    let shown = are_shown [] columns by_place old.now.trees [] rows ((reads_as all_text [] old new cell_schema has all_command all_is.0 all_plain all_is.1 rows h).answer Null) in
-    loaded_same held loaded (same_held_cells (old.now.trees 0) rows held loaded all stands whole shown read are) (same_generation (old.now.trees 0) rows held loaded all stands whole shown read low)
+found_held old new at tree rows held loaded all is h whole stands read are low =
+    let it = all_means old.now.schema at tree is in
+    let shown = are_shown tree (low_tree old.now.schema at tree is) [] columns by_place old.now.trees [] rows ((reads_as all_text [] old new old.now.schema refl (all_command tree) it.is it.plain it.unlisted rows h).answer Null) in
+    loaded_same held loaded (same_held_cells (old.now.trees tree) rows held loaded all stands whole shown read are) (same_generation (old.now.trees tree) rows held loaded all stands whole shown read low)

@@ -3,6 +3,7 @@ mod NextRuns
 mod Ordered
 mod Gathered
 mod RowsGiven
+mod CellAt
 mod Meaning
 mod Scan
 mod Compare
@@ -18,7 +19,6 @@ mod PutRun
 mod Kept
 mod RollingBack
 mod Stepping
-mod CellSchema
 mod Listed
 mod Told
 mod Found

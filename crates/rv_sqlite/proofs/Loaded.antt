@@ -23,11 +23,12 @@ use Rattle.rv_sqlite.specs.declared.row_read.RowRead.{RowRead}
 use Rattle.rv_sqlite.specs.declared.row_read.RowRead.TheVariants as row_read
 use Rattle.rv_sqlite.specs.Rows.{Shows}
 use Rattle.rv_sqlite.specs.Loads.{AreLoaded, IsOnlyGeneration, generations_among, all_text}
-use Rattle.rv_sqlite.specs.Table.{cell_schema}
+use Rattle.rv_sqlite.specs.Table.{IsCellAt}
 use Rattle.rv_sqlite.specs.Stands.{Stands, cell_row}
 use Rattle.rv_sqlite.specs.Steps.{generation_cell}
 use Rattle.rv_sqlite.specs.Telling.{IsAll}
-use Rattle.rv_sqlite.proofs.Meaning.{by_place, all_command, all_is, all_plain}
+use Rattle.rv_sqlite.proofs.CellAt.{low as low_tree}
+use Rattle.rv_sqlite.proofs.Meaning.{by_place, all_command, all_means}
 use Rattle.rv_sqlite.proofs.Scan.{AreShown, are_shown}
 use Rattle.rv_sqlite.proofs.Found.{columns, row_of, read_of, from_among, among_cells, from_generations, among_generations, only_one}
 use Rattle.rv_sqlite.specs.HeldLaws.{row_cell_same}
@@ -139,12 +140,13 @@ module _ (table rows : List Row) (loaded : Loaded) (formed : (row : Row) → Has
   ]
 
 -- What is shown of a sound table and loaded, its rows stand for.
-pub loaded_stands : (old new : State) (rows : List Row) (loaded : Loaded) → old.now.schema ≡ cell_schema → IsSound cell_schema old.now.trees → IsShaped shape.Table (old.now.trees 0)
-    → Shown all_text [] old new rows → AreLoaded rows loaded → AreCells loaded.cells → loaded.generation < 2 ^ 64 → (all : List Cell) × IsAll loaded all × Stands (old.now.trees 0) all
-loaded_stands old new rows loaded has sound shaped h read are low =
-    let table = old.now.trees 0 in
-    let shown = are_shown [] columns by_place old.now.trees [] rows ((reads_as all_text [] old new cell_schema has all_command all_is.0 all_plain all_is.1 rows h).answer Null) in
-    let formed = forms old.now.trees sound shaped in
+pub loaded_stands : (old new : State) (at tree : ℕ) (rows : List Row) (loaded : Loaded) → IsCellAt old.now.schema at tree → IsSound old.now.schema old.now.trees → IsShaped shape.Table (old.now.trees tree)
+    → Shown all_text [] old new rows → AreLoaded rows loaded → AreCells loaded.cells → loaded.generation < 2 ^ 64 → (all : List Cell) × IsAll loaded all × Stands (old.now.trees tree) all
+loaded_stands old new at tree rows loaded is sound shaped h read are low =
+    let table = old.now.trees tree in
+    let it = all_means old.now.schema at tree is in
+    let shown = are_shown tree (low_tree old.now.schema at tree is) [] columns by_place old.now.trees [] rows ((reads_as all_text [] old new old.now.schema refl (all_command tree) it.is it.plain it.unlisted rows h).answer Null) in
+    let formed = forms old.now.schema at tree is old.now.trees sound shaped in
     let told = generations_among read.reads in (
       all_of told loaded,
       is_all told loaded read.generation low are,
@@ -152,7 +154,7 @@ loaded_stands old new rows loaded has sound shaped h read are low =
         order = in_order told loaded are;
         read = stands_for table rows loaded formed shown read;
         kept = kept table rows loaded formed shown read;
-        once = once old.now.trees sound shaped;
-        numbered = λ i one two p q. row_cell_same i i one two (numbered old.now.trees sound shaped i (cell_row i one) (cell_row i two) p q refl refl);
+        once = once old.now.schema at tree is old.now.trees sound shaped;
+        numbered = λ i one two p q. row_cell_same i i one two (numbered old.now.schema at tree is old.now.trees sound shaped i (cell_row i one) (cell_row i two) p q refl refl);
       },
     )

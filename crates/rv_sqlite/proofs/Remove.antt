@@ -1,28 +1,30 @@
 -- The fourth statement takes one cell out.
-use Rattle.std.proofs.Common.{◌≡◌, ℕ, ℤ, pos, true, false, List, [], ◌∷◌, Ok, None, inl, inr, refl, sym, ap, subst, ◌∙◌}
+use Rattle.std.proofs.Common.{◌≡◌, ℕ, ℤ, pos, true, false, List, [], ◌∷◌, Ok, Option, None, inl, inr, refl, sym, ap, subst, ◌∙◌}
 use Rattle.std.proofs.lemmas.Bool.{cases_Bool}
 use Rattle.sqlite_value.specs.declared.value.Value.TheVariants.{Null, Int, Blob}
 use Rattle.sqlite_value.specs.Order.{Row}
+use Rattle.sqlite_schema.specs.declared.schema.Table.{Table}
 use Rattle.sqlite_trees.specs.Tree.{Trees, rowid, has_rowid}
 use Rattle.sqlite_sql.specs.Term.{col, eval_all}
 use Rattle.sqlite_rules.specs.Lists.{Has}
-use Rattle.sqlite_rules.specs.Edit.{id_in, without_all, edit_of}
+use Rattle.sqlite_rules.specs.Edit.{id_in, without_all, edit_of, taken_by}
 use Rattle.sqlite_rules.specs.declared.error.Rowids.TheVariants.{Given}
 use Rattle.sqlite_rules.specs.Calls.{ids_of}
 use Rattle.sqlite_rules.proofs.ProbeLemmas.{has_mapped, mapped_has}
 use Rattle.sqlite.specs.Effect.{Database, IsDatabase}
-use Rattle.sqlite.specs.Rows.{Written}
-use Rattle.sqlite.specs.Does.{Tally, Does}
+use Rattle.sqlite.specs.Rows.{Task, Written}
+use Rattle.sqlite.specs.Does.{AtPlace, OnRows, Tally}
 use Rattle.sqlite.specs.Listing.{understood}
-use Rattle.sqlite.specs.State.{State, mode_of, Executes}
+use Rattle.sqlite.specs.State.{State, Runs, mode_of, Executes}
 use Rattle.sqlite.proofs.Callers.{statement_of, runs_as, one_step}
 use Rattle.rv_keeper.specs.declared.cell.Cell.{Cell}
 use Rattle.rv_base.specs.Sorted.{without}
 use Rattle.rv_base.specs.Positions.{in_order-without}
 use Rattle.rv_keeper.specs.Cells.{cell_key}
-use Rattle.rv_sqlite.specs.Table.{cell_table, cell_schema, remove_text}
+use Rattle.rv_sqlite.specs.Table.{IsCellAt, cell_in, remove_text}
 use Rattle.rv_sqlite.specs.Stands.{Stands, cell_row}
-use Rattle.rv_sqlite.proofs.Meaning.{at_place, remove_command, remove_is, remove_plain}
+use Rattle.rv_sqlite.proofs.CellAt.{low as low_tree, sets_nothing_off}
+use Rattle.rv_sqlite.proofs.Meaning.{at_place, remove_command, remove_means}
 use Rattle.rv_sqlite.proofs.Scan.{AreShown, are_shown}
 use Rattle.rv_sqlite.proofs.Members.{IsAt, Lacks, left_from, left_has, without_has, has_without}
 use Rattle.rv_sqlite.proofs.Parts.{went, same_value}
@@ -74,19 +76,38 @@ module _ (shelf : ℕ) (key : List ℕ) (rows found : List Row) (cells : List Ce
     numbered = λ i c d p q. old.numbered i c d (left_from gone rows (cell_row i c) p).0 (left_from gone rows (cell_row i d) q).0;
   }
 
-pub removes : (old new : State) (shelf : ℕ) (key : List ℕ) (count : ℕ) → old.now.schema ≡ cell_schema → Executes remove_text (place_params shelf key) old new (Ok count)
-    → (new.now.schema ≡ cell_schema) × IsDatabase new.now × ((cells : List Cell) → Stands (old.now.trees 0) cells → Stands (new.now.trees 0) (without cell_key (shelf ∷ key) cells))
-removes old new shelf key count has h =
-    let params = place_params shelf key in
-    let tables = old.now.trees in
-    let w = runs_as remove_text params old new cell_schema has remove_command remove_is remove_plain count h in
-    let text = statement_of remove_text (understood cell_schema remove_text) in
-    let done = went (subst (λ s. Does old.step_limit (mode_of old) params (record old.now { schema = s }) text None remove_command (Ok (w.tally, new.now))) has w.changed) in
-    let now = ap (λ (p : Tally × Database). p.1) (same_value (went (went done.2).2).2) in
-    let given = went done.1 in
-    let written = went given.2 in
-    let trees : done.0.trees ≡ written.0 = ap (λ (it : Written). it.trees) (same_value written.2) in
-    let rows = (one_step cell_schema _ tables written.0 (edit_of tables cell_table (ids_of given.0) Given 0 []) refl written.1).rows in
-    let left : new.now.trees 0 ≡ without_all (tables 0) (ids_of given.0) = ap (λ (d : Database). d.trees 0) now ∙ ap (λ (t : Trees). t 0) trees ∙ rows in
-    let shown = are_shown at_place (col 1 0 ∷ []) [] tables params given.0 (given.1.answer Null) in
-    (ap (λ (d : Database). d.schema) now, w.sound, λ cells stands. subst (λ l. Stands l (without cell_key (shelf ∷ key) cells)) (sym left) (removed shelf key (tables 0) given.0 cells shown stands))
+module _ (old new : State) (at tree : ℕ) (is : IsCellAt old.now.schema at tree) (shelf : ℕ) (key : List ℕ) (count : ℕ) (h : Executes remove_text (place_params shelf key) old new (Ok count)) where
+  abbrev params : Row
+  params = place_params shelf key
+
+  abbrev tables : Trees
+  tables = old.now.trees
+
+  abbrev task : Table → Task
+  task table = record { limit = old.step_limit; keys = (mode_of old).keys; schema = old.now.schema; table = table; params = params }
+
+  ran : Runs old new None (remove_command at tree) (statement_of remove_text (understood old.now.schema remove_text)) params count
+  ran = let it = remove_means old.now.schema at tree is in runs_as remove_text params old new old.now.schema refl (remove_command at tree) it.is it.plain count h
+
+  on_table : OnRows (task (cell_in tree)) (mode_of old) None (remove_command at tree) tables (Ok (ran.tally, new.now))
+  on_table = subst (λ (o : Option Table). AtPlace (λ table. OnRows (task table) (mode_of old) None (remove_command at tree) tables) o (Ok (ran.tally, new.now))) is.there ran.changed
+
+  -- The schema is what it was, and the cell is gone.
+  pub removes_schema : new.now.schema ≡ old.now.schema
+  removes_schema = ap (λ (p : Tally × Database). p.1.schema) (same_value (went (went (went on_table).2).2).2)
+
+  pub removes : (cells : List Cell) → Stands (old.now.trees tree) cells → Stands (new.now.trees tree) (without cell_key (shelf ∷ key) cells)
+  removes cells stands =
+      let done = went on_table in
+      let now = ap (λ (p : Tally × Database). p.1) (same_value (went (went done.2).2).2) in
+      let given = went done.1 in
+      let written = went given.2 in
+      let trees : done.0.trees ≡ written.0 = ap (λ (it : Written). it.trees) (same_value written.2) in
+      let edit = edit_of tables (cell_in tree) (ids_of given.0) Given 0 [] in
+      let rows = (one_step old.now.schema (mode_of old).keys tables written.0 edit (sets_nothing_off old.now.schema at tree is (mode_of old).keys (taken_by tables edit) edit.news) written.1).rows in
+      let left : new.now.trees tree ≡ without_all (tables tree) (ids_of given.0) = ap (λ (d : Database). d.trees tree) now ∙ ap (λ (t : Trees). t tree) trees ∙ rows in
+      let shown = are_shown tree (low_tree old.now.schema at tree is) at_place (col 1 0 ∷ []) [] tables params given.0 (given.1.answer Null) in
+      subst (λ l. Stands l (without cell_key (shelf ∷ key) cells)) (sym left) (removed shelf key (tables tree) given.0 cells shown stands)
+
+  pub removes_sound : IsDatabase new.now
+  removes_sound = ran.sound

@@ -1,5 +1,5 @@
 -- The rows of an answer are those of the table that pass.
-use Rattle.std.proofs.Common.{◌≡◌, Bool, true, false, cond, List, [], ◌∷◌, ◌++◌, map, flat_map, subst, inl, inr, IsPermutation, refl, sym, ap, ◌∙◌}
+use Rattle.std.proofs.Common.{◌≡◌, ◌^◌, ℕ, nat_le, Bool, true, false, cond, List, [], ◌∷◌, ◌++◌, map, flat_map, subst, inl, inr, IsPermutation, refl, sym, ap, ◌∙◌}
 use Rattle.std.specs.List.{list_all}
 use Rattle.std.proofs.lemmas.List.Sorted.{IsPermutation-sym}
 use Rattle.sqlite_value.specs.Order.{Row}
@@ -36,21 +36,23 @@ pub record AreShown (terms shown : List Term) (rows : List Row) (params : Row) (
   pub sound : (x : Row) → Has found x → (r : Row) × Has rows r × (list_all (holds (params ∷ r ∷ [])) terms ≡ true) × (x ≡ eval_all shown (params ∷ r ∷ []))
   pub complete : (r : Row) → Has rows r → list_all (holds (params ∷ r ∷ [])) terms ≡ true → Has found (eval_all shown (params ∷ r ∷ []))
 
-pub are_shown : (terms shown : List Term) (order : List (Term × Key)) (tables : Trees) (params : Row) (found : List Row) → IsAnswer (scan terms shown order) (overlay tables []) params found → AreShown terms shown (tables 0) params found
-are_shown terms shown order tables params found answer =
-    let q = scan terms shown order in
+pub are_shown : (tree : ℕ) → nat_le (2 ^ 31) tree ≡ false → (terms shown : List Term) (order : List (Term × Key)) (tables : Trees) (params : Row) (found : List Row) → IsAnswer (scan tree terms shown order) (overlay tables []) params found → AreShown terms shown (tables tree) params found
+are_shown tree low terms shown order tables params found answer =
+    let q = scan tree terms shown order in
     let test = λ (r : Row). list_all (holds (params ∷ r ∷ [])) terms in
     let env = λ (r : Row). params ∷ r ∷ [] in
-    let all = matches (overlay tables []) terms (inner 0 end) (params ∷ []) in
+    let all = matches (overlay tables []) terms (inner tree end) (params ∷ []) in
+    let there : overlay tables [] tree ≡ tables tree = rw low refl in
+    let all_is : all ≡ flat_map (λ r. cond (test r) (env r ∷ []) []) (tables tree) = ap (flat_map (λ r. cond (test r) (env r ∷ []) [])) there in
     let kept : answer.kept ≡ map (output q) all = answer.distinct ∙ ap (map (output q)) answer.grouped in
     record {
       sound = λ x h.
           let o = has_mapped (λ (k : Output). k.1) answer.ordered x (subst (λ l. Has l x) answer.shown h) in
           let e = has_mapped (output q) all o.0 (subst (λ l. Has l o.0) kept (has_permuted answer.kept answer.ordered o.0 answer.same o.1)) in
-          let r = has_matched test env (tables 0) e.0 e.1 in
+          let r = has_matched test env (tables tree) e.0 (subst (λ l. Has l e.0) all_is e.1) in
           (r.0, r.1, r.2, o.2 ∙ ap (λ (k : Output). k.1) (e.2 ∙ ap (output q) r.3));
       complete = λ r h passes.
           let o = output q (env r) in
-          let there = subst (λ l. Has l o) (sym kept) (mapped_has (output q) all (env r) (matched_has test env (tables 0) r h passes)) in
+          let there = subst (λ l. Has l o) (sym kept) (mapped_has (output q) all (env r) (subst (λ l. Has l (env r)) (sym all_is) (matched_has test env (tables tree) r h passes))) in
           subst (λ l. Has l (eval_all shown (env r))) (sym answer.shown) (mapped_has (λ (k : Output). k.1) answer.ordered o (has_permuted answer.ordered answer.kept o (IsPermutation-sym _ _ answer.same) there));
     }

@@ -8,7 +8,7 @@ use Rattle.rv_keeper.specs.declared.change.Change.{Change}
 use Rattle.rv_keeper.specs.declared.loaded.Loaded.{Loaded}
 use Rattle.rv_keeper.specs.Cells.{AreChanges, changed}
 use Rattle.rv_keeper.specs.Keeping.{committed, holding}
-use Rattle.rv_sqlite.specs.Table.{IsKnown}
+use Rattle.rv_sqlite.specs.Table.{Stays}
 use Rattle.rv_sqlite.specs.Steps.{IsReady, IsWritten, WritesCells, all_next}
 use Rattle.rv_sqlite.specs.Telling.{Holds, LeftHolding, CallMakes, LeavesNext, StandFor, HasTable}
 use Rattle.rv_sqlite.specs.HeldLaws.{loaded_same}
@@ -39,7 +39,7 @@ module _ (old new : State) (from : ℕ) (changes : List Change) (below : from < 
   low = omega (arith, below)
 
   pub commit_next : IsWritten old new (from + 1) changes → CallMakes old new (committed from changes)
-  commit_next w = record { was = w.was; is = w.is; known = w.known; holds = λ held h. written (from + 1) changes low are old held h new w; table = λ held h. written_table (from + 1) changes low are old held h new w }
+  commit_next w = record { was = w.was; is = w.is; stays = w.stays; holds = λ held h. written (from + 1) changes low are old held h new w; table = λ held h. written_table (from + 1) changes low are old held h new w }
 
   pub commit_survives : Survives old new (WritesCells old (from + 1) changes) → Survives old new (LeavesNext (committed from changes) old)
   commit_survives = survives_weaker old new _ _ (λ clean trees w. record { was = w.was; holds = λ held h. written_in (from + 1) changes low are old held h trees w })
@@ -60,7 +60,7 @@ module _ (old mid new : State) (generation : ℕ) (low : generation < 2 ^ 64) (o
   settled_next kept only w = record {
     was = record { is_open = kept.was_open w.was.is_open; autocommit = outside };
     is = w.is;
-    known = λ k. w.known (subst (λ (d : Database). IsKnown d.schema) (sym (kept.committed w.was.is_open)) k);
+    stays = subst (λ (d : Database). Stays d.schema new.committed.schema) (kept.committed w.was.is_open) w.stays;
     holds = λ held h. subst (Holds new) (same_held held generation (only (kept.was_open w.was.is_open) held h)) (written generation [] low no_changes mid held (held_still kept w.was held h) new w);
     table = λ held h. subst (HasTable new.committed) (same_held held generation (only (kept.was_open w.was.is_open) held h)) (written_table generation [] low no_changes mid held (held_still kept w.was held h) new w);
   }

@@ -2,7 +2,6 @@
 use Rattle.std.proofs.Common.{◌≡◌, ◌<◌, ◌^◌, ℕ, false, IsTrue, List, [], codes, None, sym, ap, subst, arith}
 use Rattle.sqlite_trees.specs.View.{IsShaped}
 use Rattle.sqlite_trees.specs.declared.store.Shape.TheVariants as shape
-use Rattle.sqlite_schema.specs.declared.schema.Schema.{Schema}
 use Rattle.sqlite_schema.specs.Names.{table_named}
 use Rattle.sqlite_catalog.specs.Listing.{IsSound}
 use Rattle.sqlite.specs.Effect.{IsDatabase}
@@ -14,7 +13,7 @@ use Rattle.rv_keeper.specs.Cells.{AreCells}
 use Rattle.rv_keeper.specs.Keeping.{holding}
 use Rattle.rv_sqlite.specs.Asked.{FindsNumber}
 use Rattle.rv_sqlite.specs.Loads.{ReadsTable}
-use Rattle.rv_sqlite.specs.Table.{cell_schema}
+use Rattle.rv_sqlite.specs.Table.{IsCellAt}
 use Rattle.rv_sqlite.specs.Steps.{IsSettledWhereOpen, IsWritten, WritesCells}
 use Rattle.rv_sqlite.specs.Telling.{Holds, IsGenerationBy, IsToldBy, LeavesNext}
 use Rattle.rv_sqlite.proofs.Asked.{number_held}
@@ -47,7 +46,7 @@ module _ (old mid new : State) (loaded : Loaded) (outside : old.in_transaction �
   read_generation : ReadsTable old mid loaded → IsTrue old.is_open → (held : Loaded) → Holds old held → held.generation ≡ loaded.generation
   read_generation reads is_open held h = ap (λ (x : Loaded). x.generation) (read_only old mid loaded (settled is_open) reads are low held h)
 
-  pub table_told : (IsTrue old.is_open → (schema : Schema) → old.now.schema ≡ schema → IsSound schema old.now.trees) → (IsTrue old.is_open → old.now.schema ≡ cell_schema → IsShaped shape.Table (old.now.trees 0))
+  pub table_told : (IsTrue old.is_open → IsSound old.now.schema old.now.trees) → (IsTrue old.is_open → (at tree : ℕ) → IsCellAt old.now.schema at tree → IsShaped shape.Table (old.now.trees tree))
       → ReadsTable old mid loaded → KeepsCommit old mid → IsWritten mid new loaded.generation [] → IsToldBy old new loaded
   table_told sound shaped reads kept w =
       let is_open = kept.was_open w.was.is_open in

@@ -83,13 +83,13 @@ pub has_table : (db : Database) (generation : ℕ) (changes : List Change) (c : 
 has_table db generation changes c all are up p has =
     let is = next_is generation changes c all are up p in
     elim has.are [
-      | inl there ↦ record { schema = there.0; rows = subst (Stands (db.trees 0)) is there.1 }
+      | inl there ↦ record { at = there.0; tree = there.1; is = there.2; rows = subst (Stands (db.trees there.1)) is there.3 }
       | inr none ↦ absurd (let e = sym is ∙ none.1 in cc)
     ]
 
 -- the cells of a database are in order
 pub has_order : (db : Database) (cells : List Cell) → HasCells db cells → InOrder cell_key cells
-has_order db cells h = elim h.are [ inl there ↦ there.1.order | inr none ↦ subst (InOrder cell_key) (sym none.1) tt ]
+has_order db cells h = elim h.are [ inl there ↦ there.3.order | inr none ↦ subst (InOrder cell_key) (sym none.1) tt ]
 
 -- the trees of a database that holds something hold it
 pub left_by : (db : Database) (held : Loaded) → StandFor db held → LeftHolding db.trees held

@@ -20,12 +20,17 @@ use Rattle.sqlite_sql.specs.declared.ops.CompareOp.TheVariants.{Eq}
 use Rattle.sqlite_sql.specs.Ops.{binary, is_true, is_null, from_truth}
 use Rattle.sqlite_schema.specs.declared.schema.Constraint.TheVariants.{Datatype, NotNull, Unique}
 use Rattle.sqlite_schema.specs.declared.schema.Kind.TheVariants as kind
-use Rattle.sqlite_schema.specs.Rules.{is_of, are_typed, are_present, agree, differ, clashes, passes}
+use Rattle.sqlite_schema.specs.Rules.{is_of, are_typed, are_present, agree, differ, clashes, guards, passes}
+use Rattle.sqlite_schema.specs.declared.schema.Constraint.{Constraint}
+use Rattle.sqlite_schema.specs.declared.schema.Schema.{Schema}
+use Rattle.sqlite_schema.specs.declared.schema.Table.{Table}
+use Rattle.std.specs.List.{AllByRecursion}
+use Rattle.rv_sqlite.proofs.CellAt.{guard, listed, of_key}
 use Rattle.sqlite_rules.specs.Lists.{Has}
-use Rattle.sqlite_rules.proofs.ListLemmas.{all_has, some_from}
+use Rattle.sqlite_rules.proofs.ListLemmas.{all_has, some_from, test_has}
 use Rattle.sqlite_catalog.specs.Listing.{IsSound}
 use Rattle.rv_keeper.specs.declared.cell.Cell.{Cell}
-use Rattle.rv_sqlite.specs.Table.{cell_schema, cell_table}
+use Rattle.rv_sqlite.specs.Table.{IsCellAt, cell_in, cell_table}
 use Rattle.rv_sqlite.specs.Shape.{cell_columns}
 use Rattle.rv_sqlite.specs.Stands.{cell_row}
 use Rattle.rv_sqlite.proofs.Compare.{same_int, same_blob}
@@ -136,17 +141,21 @@ no_clash rows i j c there none = elim (cases_Bool (differ (Int i) (Int j))) [
 
 -- ---- the rows of the table
 
-module _ (trees : Trees) (sound : IsSound cell_schema trees) (shaped : IsShaped shape.Table (trees 0)) where
-  pub forms : (row : Row) → Has (trees 0) row → HasForm row
-  forms row h =
-      let typed = all_has (λ r. passes Datatype cell_schema trees cell_table r ≡ true) (trees 0) row (sound.obeys.rules Datatype).0 h in
-      let present = all_has (λ r. passes NotNull cell_schema trees cell_table r ≡ true) (trees 0) row (sound.obeys.rules NotNull).0 h in
-      form row (all_has (λ r. IsTrue (is_int (rowid r))) (trees 0) row shaped.1 h) (and_parts _ _ typed).0 present
+module _ (schema : Schema) (at tree : ℕ) (is : IsCellAt schema at tree) (trees : Trees) (sound : IsSound schema trees) (shaped : IsShaped shape.Table (trees tree)) where
+  obeys : (rule : Constraint) (row : Row) → Has (trees tree) row → passes rule schema trees (cell_in tree) row ≡ true
+  obeys rule row h =
+      all_has (λ r. passes rule schema trees (cell_in tree) r ≡ true) (trees tree) row
+      (all_has (λ (t : Table). AllByRecursion (λ r. passes rule schema trees t r ≡ true) (trees t.tree)) schema.tables (cell_in tree) (sound.obeys.rules rule) (listed schema at tree is)) h
 
-  pub once : (i j : ℤ) (c : Cell) → Has (trees 0) (cell_row i c) → Has (trees 0) (cell_row j c) → i ≡ j
+  pub forms : (row : Row) → Has (trees tree) row → HasForm row
+  forms row h = form row (all_has (λ r. IsTrue (is_int (rowid r))) (trees tree) row shaped.1 h) (and_parts _ _ (obeys Datatype row h)).0 (obeys NotNull row h)
+
+  pub once : (i j : ℤ) (c : Cell) → Has (trees tree) (cell_row i c) → Has (trees tree) (cell_row j c) → i ≡ j
   once i j c p q =
-      let unique = all_has (λ r. passes Unique cell_schema trees cell_table r ≡ true) (trees 0) (cell_row j c) (sound.obeys.rules Unique).0 q in
-      no_clash (trees 0) i j c p (not_true _ (and_parts _ _ unique).0)
+      let g = guard schema at tree is in
+      let own = of_key schema at tree is g.0 g.1 g.2 in
+      let unique = test_has (λ x. not (guards x (cell_in tree) && clashes x.order x.columns (trees tree) (cell_row j c))) schema.indexes g.0 (obeys Unique (cell_row j c) q) g.1 in
+      no_clash (trees tree) i j c p (not_true _ (rw (g.2, own.0, own.1) at unique))
 
-  pub numbered : (i : ℤ) (row other : Row) → Has (trees 0) row → Has (trees 0) other → rowid row ≡ Int i → rowid other ≡ Int i → row ≡ other
-  numbered i row other p q a b = one_numbered (trees 0) row other shaped.0 p q (a ∙ sym b)
+  pub numbered : (i : ℤ) (row other : Row) → Has (trees tree) row → Has (trees tree) other → rowid row ≡ Int i → rowid other ≡ Int i → row ≡ other
+  numbered i row other p q a b = one_numbered (trees tree) row other shaped.0 p q (a ∙ sym b)

@@ -1,16 +1,18 @@
 -- A database holds one thing, and so do its trees.
-use Rattle.std.proofs.Common.{◌≡◌, ◌≢◌, ◌<◌, ℕ, ℤ, filter, List, [], ◌∷◌, inl, inr, refl, sym, ap, subst, ◌∙◌, arith}
+use Rattle.std.proofs.Common.{◌≡◌, ◌≢◌, ◌<◌, ℕ, ℤ, true, unwrap_or, option_map, slice_get, Option, None, Some, List, [], ◌∷◌, inl, inr, refl, sym, ap, subst, ◌∙◌, arith}
 use Rattle.std.proofs.lemmas.Cmp.{tied_itself, nat_list_cmp_total}
 use Rattle.std.proofs.lemmas.Fmt.{decimal_injective}
 use Rattle.std.specs.Ordering.{nat_cmp}
 use Rattle.std.specs.Cmp.Lexicographic.{slice_cmp}
-use Rattle.std.specs.List.{AllByRecursion, AllZip}
+use Rattle.std.specs.List.{AllByRecursion}
 use Rattle.std.specs.declared.cmp.Ordering.TheVariants.{Less, Equal}
 use Rattle.sqlite_value.specs.Order.{Row}
 use Rattle.sqlite_trees.specs.Tree.{Trees}
 use Rattle.sqlite_trees.specs.Objects.{catalog_tree}
 use Rattle.sqlite_schema.specs.declared.schema.Table.{Table}
-use Rattle.sqlite_catalog.specs.Listing.{IsSound, IsTableRow, is_table_row}
+use Rattle.sqlite_schema.specs.declared.schema.Schema.{Schema}
+use Rattle.sqlite_catalog.specs.Listing.{IsSound, Lists}
+use Rattle.sqlite_catalog.proofs.ReadLemmas.{lists_once}
 use Rattle.sqlite_rules.specs.Lists.{Has}
 use Rattle.sqlite_rules.proofs.ListLemmas.{all_has}
 use Rattle.sqlite.specs.Effect.{Database}
@@ -19,7 +21,8 @@ use Rattle.rv_base.specs.Positions.{Above, Below}
 use Rattle.rv_keeper.specs.declared.cell.Cell.{Cell}
 use Rattle.rv_keeper.specs.declared.loaded.Loaded.{Loaded}
 use Rattle.rv_keeper.specs.Cells.{cell_key}
-use Rattle.rv_sqlite.specs.Table.{cell_schema, cell_table, no_schema}
+use Rattle.rv_sqlite.specs.KnownLaws.{unused_names}
+use Rattle.rv_sqlite.specs.Table.{IsCellAt, cell_in, is_unused}
 use Rattle.rv_sqlite.specs.Stands.{HasCells, Stands, cell_row}
 use Rattle.rv_sqlite.specs.Steps.{generation_cell}
 use Rattle.rv_sqlite.specs.Telling.{IsAll, StandFor}
@@ -109,26 +112,39 @@ whole_same c d all p q = elim p.are [
 
 -- ---- trees list one schema
 
-not_both : (rows : List Row) (table : Table) (more : List Table) → AllZip IsTableRow rows (table ∷ more) → AllZip IsTableRow rows [] → ⊥
-not_both [] table more some none = some
-not_both (row ∷ rows) table more some none = none
+-- two databases of the same trees that are both sound have one schema
+pub one_schema : (one two : Database) → one.trees ≡ two.trees → IsSound one.schema one.trees → IsSound two.schema two.trees → one.schema ≡ two.schema
+one_schema one two same p q = lists_once (two.trees catalog_tree) one.schema two.schema (subst (λ (t : Trees). Lists (t catalog_tree) one.schema) same p.lists) q.lists
 
--- Trees that list the table do not list nothing.
-pub one_listing : (trees : Trees) → IsSound cell_schema trees → IsSound no_schema trees → ⊥
-one_listing trees one none = not_both (filter is_table_row (trees catalog_tree)) cell_table [] one.lists.listed.tables none.lists.listed.tables
+-- one table has the name
+one_tree : (schema : Schema) (at place tree other : ℕ) → IsCellAt schema at tree → IsCellAt schema place other → tree ≡ other
+one_tree schema at place tree other p q =
+    let here : Some at ≡ Some place = sym p.named ∙ q.named in
+    let same : at ≡ place = cc in
+    let found : Some (cell_in tree) ≡ Some (cell_in other) = sym p.there ∙ ap (slice_get schema.tables) same ∙ q.there in
+    ap (λ (o : Option Table). unwrap_or (option_map (λ (t : Table). t.tree) o) 0) found
 
--- two databases of the same trees that are both sound have the same cells
+-- a table that stands nowhere does not stand at a place
+pub not_both : (schema : Schema) (at tree : ℕ) → IsCellAt schema at tree → ¬ (is_unused schema ≡ true)
+not_both schema at tree is unused = absurd (let e : Some at ≡ None = sym is.named ∙ (unused_names schema unused).0 in cc)
+
+-- and the same cells
 cells_same : (one two : Database) (xs ys : List Cell) → one.trees ≡ two.trees → HasCells one xs → HasCells two ys → xs ≡ ys
-cells_same one two xs ys same p q = elim p.are [
-  | inl a ↦ elim q.are [
-    | inl b ↦ same_cells (two.trees 0) xs ys (subst (λ (t : Trees). Stands (t 0) xs) same a.1) b.1
-    | inr b ↦ absurd (one_listing two.trees (subst (λ s. IsSound s two.trees) a.0 (subst (IsSound one.schema) same p.sound)) (subst (λ s. IsSound s two.trees) b.0 q.sound))
-  ]
-  | inr a ↦ elim q.are [
-    | inl b ↦ absurd (one_listing two.trees (subst (λ s. IsSound s two.trees) b.0 q.sound) (subst (λ s. IsSound s two.trees) a.0 (subst (IsSound one.schema) same p.sound)))
-    | inr b ↦ a.1 ∙ sym b.1
-  ]
-]
+cells_same one two xs ys same p q =
+    let schema = one_schema one two same p.sound q.sound in
+    elim p.are [
+      | inl a ↦ elim q.are [ inl b ↦ by_tables a b schema | inr b ↦ absurd (not_both two.schema a.0 a.1 (subst (λ s. IsCellAt s a.0 a.1) schema a.2) b.0) ]
+      | inr a ↦ elim q.are [ inl b ↦ absurd (not_both two.schema b.0 b.1 b.2 (subst (λ s. is_unused s ≡ true) schema a.0)) | inr b ↦ a.1 ∙ sym b.1 ]
+    ]
+  where
+    Has-Table : Database → List Cell → Type 0
+    Has-Table db cells = (at : ℕ) × (tree : ℕ) × IsCellAt db.schema at tree × Stands (db.trees tree) cells
+
+    by_tables : Has-Table one xs → Has-Table two ys → one.schema ≡ two.schema → xs ≡ ys
+    by_tables a b schema =
+        let is = subst (λ s. IsCellAt s a.0 a.1) schema a.2 in
+        let tree = one_tree two.schema a.0 b.0 a.1 b.1 is b.2 in
+        same_cells (two.trees b.1) xs ys (subst (λ (n : ℕ). Stands (two.trees n) xs) tree (subst (λ (t : Trees). Stands (t a.1) xs) same a.3)) b.3
 
 -- and hold one thing
 pub stand_same : (one two : Database) (c d : Loaded) → one.trees ≡ two.trees → StandFor one c → StandFor two d → c ≡ d

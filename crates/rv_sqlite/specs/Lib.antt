@@ -10,4 +10,5 @@ pub mod Telling
 pub mod NextRun
 pub mod Shape
 pub mod Props
+pub mod KnownLaws
 pub mod HeldLaws

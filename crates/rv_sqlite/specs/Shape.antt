@@ -1,19 +1,14 @@
 -- The parts of the table and of its index, each of them whole.
-use Rattle.std.specs.Prelude.{◌≡◌, true, false, [], ◌∷◌, codes, None, List}
+use Rattle.std.specs.Prelude.{◌≡◌, false, [], ◌∷◌, codes, None, List}
 use Rattle.sqlite_value.specs.Keys.{plain}
 use Rattle.sqlite_schema.specs.declared.schema.Column.{Column}
 use Rattle.sqlite_schema.specs.declared.schema.Kind.TheVariants.{Integer, Blob}
 use Rattle.sqlite_schema.specs.declared.schema.Table.{Table}
-use Rattle.sqlite_schema.specs.declared.schema.Index.{Index}
 use Rattle.rv_sqlite.specs.Table.{strict_column}
 
 -- the columns `shelf`, `k` and `body`
 abbrev pub cell_columns : List Column
 cell_columns = strict_column (codes "shelf") Integer ∷ strict_column (codes "k") Blob ∷ strict_column (codes "body") Blob ∷ []
-
--- the index that is made with the table, for its key
-abbrev pub cell_index : Index
-cell_index = record { name = codes "sqlite_autoindex_cell_1"; tree = 1; table = 0; columns = 1 ∷ 2 ∷ []; order = plain; is_unique = true }
 
 -- the three columns and the key, which is of the first two
 abbrev pub HasCellColumns : Table → Type 0

@@ -1,5 +1,5 @@
 -- What the rows of the table stand for.
-use Rattle.std.specs.Prelude.{◌≡◌, ◌⊎◌, ℤ, pos, List, [], ◌∷◌}
+use Rattle.std.specs.Prelude.{◌≡◌, ◌⊎◌, ℕ, ℤ, pos, true, List, [], ◌∷◌}
 use Rattle.sqlite_value.specs.declared.value.Value.TheVariants.{Int, Blob}
 use Rattle.sqlite_value.specs.Order.{Row}
 use Rattle.sqlite_rules.specs.Lists.{Has}
@@ -7,7 +7,7 @@ use Rattle.sqlite.specs.Effect.{Database, IsDatabase}
 use Rattle.rv_base.specs.Sorted.{InOrder}
 use Rattle.rv_keeper.specs.declared.cell.Cell.{Cell}
 use Rattle.rv_keeper.specs.Cells.{cell_key}
-use Rattle.rv_sqlite.specs.Table.{cell_schema, no_schema}
+use Rattle.rv_sqlite.specs.Table.{IsCellAt, is_unused}
 
 -- the row of a cell, with the number of the row before its columns
 abbrev pub cell_row : ℤ → Cell → Row
@@ -21,7 +21,7 @@ pub record Stands (rows : List Row) (cells : List Cell) : Type 0 where
   pub once : (i j : ℤ) (cell : Cell) → Has rows (cell_row i cell) → Has rows (cell_row j cell) → i ≡ j
   pub numbered : (i : ℤ) (one two : Cell) → Has rows (cell_row i one) → Has rows (cell_row i two) → one ≡ two
 
--- the database has the table, alone, and in it rows for just these cells; or it is new, and there are none
+-- the database has the table, apart, and in it rows for just these cells; or nothing of its name, and there are none
 pub record HasCells (db : Database) (cells : List Cell) : Type 0 where
   pub sound : IsDatabase db
-  pub are : ((db.schema ≡ cell_schema) × Stands (db.trees 0) cells) ⊎ ((db.schema ≡ no_schema) × (cells ≡ []))
+  pub are : ((at : ℕ) × (tree : ℕ) × IsCellAt db.schema at tree × Stands (db.trees tree) cells) ⊎ ((is_unused db.schema ≡ true) × (cells ≡ []))

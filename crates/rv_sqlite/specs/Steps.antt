@@ -9,7 +9,7 @@ use Rattle.rv_base.specs.Sorted.{put_by}
 use Rattle.rv_keeper.specs.declared.cell.Cell.{Cell}
 use Rattle.rv_keeper.specs.declared.change.Change.{Change}
 use Rattle.rv_keeper.specs.Cells.{cell_key, changed}
-use Rattle.rv_sqlite.specs.Table.{IsKnown}
+use Rattle.rv_sqlite.specs.Table.{Stays}
 use Rattle.rv_sqlite.specs.Stands.{HasCells}
 
 -- a cell of this shelf, this key and this body
@@ -34,13 +34,13 @@ pub record IsReady (s : State) : Type 0 where
   pub is_open : IsTrue s.is_open
   pub autocommit : s.in_transaction ≡ false
 
--- The transaction goes on, and nothing was committed. The schema is still one of the two, and the database has what the function makes of
--- the cells that it had.
+-- The transaction goes on, and nothing was committed. A known schema stays known and has the table besides at most, and the database
+-- has what the function makes of the cells that it had.
 pub record Steps (old new : State) (f : List Cell → List Cell) : Type 0 where
   pub was : IsUnderWay old
   pub is : IsUnderWay new
   pub committed : new.committed ≡ old.committed
-  pub known : IsKnown old.now.schema → IsKnown new.now.schema
+  pub stays : Stays old.now.schema new.now.schema
   pub leads : (cells : List Cell) → HasCells old.now cells → HasCells new.now (f cells)
 
 -- what the transaction saw is committed, and the transaction is over
@@ -60,7 +60,7 @@ pub record WritesCells (old : State) (generation : ℕ) (changes : List Change) 
 pub record IsWritten (old new : State) (generation : ℕ) (changes : List Change) : Type 0 where
   pub was : IsReady old
   pub is : IsReady new
-  pub known : IsKnown old.committed.schema → IsKnown new.committed.schema
+  pub stays : Stays old.committed.schema new.committed.schema
   pub writes : (cells : List Cell) → HasCells old.committed cells → HasCells new.committed (all_next generation changes cells)
 
 -- what comes of a write, by its answer: it was made, or nothing was committed

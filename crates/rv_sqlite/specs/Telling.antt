@@ -10,7 +10,7 @@ use Rattle.rv_keeper.specs.declared.change.Change.{Change}
 use Rattle.rv_keeper.specs.declared.loaded.Loaded.{Loaded}
 use Rattle.rv_keeper.specs.Crashes.{LeavesMore}
 use Rattle.rv_keeper.specs.Keeping.{committed}
-use Rattle.rv_sqlite.specs.Table.{IsKnown, cell_schema}
+use Rattle.rv_sqlite.specs.Table.{IsCellAt, IsKnown, Stays}
 use Rattle.rv_sqlite.specs.Stands.{HasCells, Stands}
 use Rattle.rv_sqlite.specs.Steps.{IsReady, generation_cell}
 
@@ -44,17 +44,19 @@ abbrev pub MayLeave : State → Option Loaded → Type 0
 MayLeave s (Some held) = (trees : Trees) × s.may_leave trees × LeftHolding trees held
 MayLeave s None = (trees : Trees) × s.may_leave trees × ((held : Loaded) → ¬ LeftHolding trees held)
 
--- the database has the table, alone, and in it a row for each cell that is held and one for the generation
+-- the database has the table, apart, and in it a row for each cell that is held and one for the generation
 pub record HasTable (db : Database) (held : Loaded) : Type 0 where
-  pub schema : db.schema ≡ cell_schema
-  pub rows : Stands (db.trees 0) (generation_cell held.generation ∷ held.cells)
+  pub at : ℕ
+  pub tree : ℕ
+  pub is : IsCellAt db.schema at tree
+  pub rows : Stands (db.trees tree) (generation_cell held.generation ∷ held.cells)
 
--- The call was made, on a connection that was open and is. The schema is still one of the two, and what the function makes of what was held
--- is held, in a table that has a row for the generation too.
+-- The call was made, on a connection that was open and is. A known schema is what it was, or has the table besides; and what the function
+-- makes of what was held is held, in a table that has a row for the generation too.
 pub record CallMakes (old new : State) (f : Loaded → Loaded) : Type 0 where
   pub was : IsReady old
   pub is : IsReady new
-  pub known : IsKnown old.committed.schema → IsKnown new.committed.schema
+  pub stays : Stays old.committed.schema new.committed.schema
   pub holds : (held : Loaded) → Holds old held → Holds new (f held)
   pub table : (held : Loaded) → Holds old held → HasTable new.committed (f held)
 
@@ -63,7 +65,7 @@ pub record LeavesNext (f : Loaded → Loaded) (old : State) (trees : Trees) : Ty
   pub was : IsReady old
   pub holds : (held : Loaded) → Holds old held → LeftHolding trees (f held)
 
--- what was loaded is what was held, and by a schema of the two it is held now
+-- what was loaded is what was held, and by a known schema it is held now
 pub record IsToldBy (old new : State) (loaded : Loaded) : Type 0 where
   pub next : CallMakes old new (λ held. held)
   pub only : (held : Loaded) → Holds old held → held ≡ loaded

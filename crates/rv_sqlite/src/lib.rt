@@ -2,8 +2,8 @@
 //!
 //! [`SqliteKeeper`] keeps them over any store of the crate `sqlite`: a file, or memory.
 //!
-//! Where the database it was adopted with was new, or had the server's table alone, it tells what it holds, and what a crash may leave,
-//! for as long as the disk gives back what was written and the connection is open and in no transaction. What is loaded, and the
+//! Where nothing of the database it was adopted with had the table's name, or the server's table stood there, whatever stood beside it, it
+//! tells what it holds, and what a crash may leave, for as long as the disk gives back what was written and the connection is open and in no transaction. What is loaded, and the
 //! generation that is answered, are what it holds, and the call has committed it once more. A commit makes its changes and writes the
 //! generation after `from`, or, where it is refused, leaves all as it was. A crash leaves no third thing.
 //!

@@ -4,7 +4,7 @@ ghost use Rattle.rv_base.specs.declared.fault.Fault.TheVariants.{Memory};
 ghost use Rattle.rv_keeper.specs.declared.loaded.Loaded.{Loaded};
 ghost use Rattle.rv_keeper.specs.Cells.{AreCells, AreChanges};
 ghost use Rattle.rv_keeper.specs.Crashes.{IsSettled};
-ghost use Rattle.rv_keeper.specs.Keeping.{HasKeepCause, HasGenerationCause, LoadsHeld, committed};
+ghost use Rattle.rv_keeper.specs.Keeping.{HasKeepCause, HasGenerationCause, LoadsHeld, Made, committed};
 ghost use Rattle.sqlite.specs.State.{HasCleanDisk, KeepsCommit, Survives};
 ghost use Rattle.sqlite.specs.Held.{state};
 ghost use Rattle.rv_sqlite.specs.Asked.{FindsGeneration};
@@ -30,8 +30,9 @@ use std::alloc::Global;
 /// A commit is one transaction, and so is what settles a load or a question for the generation: the same generation, written again.
 /// Each refusal but want of memory is counted as a fault, and in `generation` each refusal. The count stands still at 2^64 - 1.
 ///
-/// Where the database it was adopted with was new, or had this table alone, it tells what it holds, and what a crash may leave, for as
-/// long as the disk gives back what was written and the connection is open and in no transaction. A new database holds nothing.
+/// Where nothing of the database it was adopted with had the table's name, or this table stood there, whatever stood beside it, it tells
+/// what it holds, and what a crash may leave, for as long as the disk gives back what was written and the connection is open and in no
+/// transaction. A database without the table holds nothing.
 pub struct SqliteKeeper<S: Alter> {
     alloc: Global,
     connection: Connection<S>,
@@ -190,6 +191,7 @@ impl<S: Alter> Keeper for SqliteKeeper<S> {
         ensures answer { HasCleanDisk (state S.Store self.new.connection) → OnOk result (CallMakes (state S.Store self.old.connection) (state S.Store self.new.connection) (committed from changes.now)) }
         ensures tells { Tells (state S.Store self.new.connection) → Tells (state S.Store self.old.connection) }
         ensures made { Tells (state S.Store self.new.connection) → (held : Loaded) → Holds (state S.Store self.old.connection) held → CommitsOrNot from changes.now result (Holds (state S.Store self.new.connection)) held }
+        ensures held { IsTrue self.new.is_known × Tells (state S.Store self.new.connection) → (held : Loaded) → Holds (state S.Store self.old.connection) held → Made from changes.now result (Holds (state S.Store self.new.connection)) held }
         ensures honest { HasCleanDisk (state S.Store self.new.connection) → HasCleanDisk (state S.Store self.old.connection) × (IsOk result → Tells (state S.Store self.new.connection)) }
         ensures clean { IsTrue self.new.is_known × HasCleanDisk (state S.Store self.new.connection) → (IsTrue self.new.is_known × Tells (state S.Store self.new.connection)) ⊎ Rose self.old.faults self.new.faults }
         ensures survives { Survives (state S.Store self.old.connection) (state S.Store self.new.connection) (LeavesNext (committed from changes.now) (state S.Store self.old.connection)) }

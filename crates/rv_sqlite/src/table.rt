@@ -1,7 +1,7 @@
 // What a schema has under the name of the table.
 ghost use Rattle.std.specs.Prelude.{◌≡◌, ◌↔◌, codes, None};
 ghost use Rattle.sqlite_schema.specs.Names.{table_named};
-ghost use Rattle.rv_sqlite.specs.Table.{FindsForm, cell_schema, no_schema};
+ghost use Rattle.rv_sqlite.specs.Table.{FindsForm};
 
 use crate::exact::has_form;
 use sqlite_schema::schema::Schema;
@@ -18,12 +18,9 @@ pub(crate) enum TableFound {
 }
 
 /// What the schema has under the name of the table.
-#[tactic(auto, using(crate::proofs::CellSchema::is_named))]
 pub(crate) fn find_table(schema: &Schema) -> TableFound
     ensures missing { (result ≡ TableFound.Missing) ↔ (table_named schema.now (codes "cell") ≡ None) }
     ensures form { (result ≡ TableFound.Fits) ↔ FindsForm schema.now }
-    ensures none { schema.now ≡ no_schema → result ≡ TableFound.Missing }
-    ensures fits { schema.now ≡ cell_schema → result ≡ TableFound.Fits }
 {
     let Some(at) = schema.table_named(b"cell".as_slice()) else {
         return TableFound::Missing;

@@ -16,7 +16,7 @@ returns-clause-told g c clean =
     let h = c.args.connection.now in
     let early : HasCleanDisk (state g.S.Store c.read_table.new.connection) = omega (arith, clean, c.write.ensures.survives.clean) in
     table_told (state g.S.Store h) (state g.S.Store c.read_table.new.connection) (state g.S.Store c.write.new.connection) c.in-Ok.loaded c.requires.autocommit c.requires.settled c.in-Ok.ensures.order c.in-Ok.ensures.small
-    (sound_now g.S.Store h c.recall.ensures) (λ is_open has. shaped_table g.S.Store h c.recall.ensures is_open g.met.S.Alter.listed g.met.S.Store.ordered has)
+    (sound_now g.S.Store h c.recall.ensures) (λ is_open. shaped_table g.S.Store h c.recall.ensures is_open g.met.S.Alter.listed g.met.S.Store.ordered)
     (c.in-Ok.ensures.found early) (c.read_table.ensures.kept early) (c.in_ok-write.ensures.comes clean)
 
 pub returns-clause-survives : goal.returns-clause-survives

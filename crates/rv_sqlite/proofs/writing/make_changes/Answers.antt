@@ -1,5 +1,5 @@
 use Rattle.std.proofs.Common.{◌≡◌, ◌∙◌, ◌+◌, ◌++◌, ◌∷◌, [], List, take, sym, ap, subst, arith}
-use Rattle.std.proofs.lemmas.List.{take_more}
+use Rattle.std.proofs.lemmas.List.{take_all, take_more}
 use Rattle.sqlite.specs.State.{HasCleanDisk}
 use Rattle.sqlite.specs.Held.{state}
 use Rattle.sqlite.proofs.StateLemmas.{survives_then}
@@ -31,3 +31,11 @@ loop-change-preserved g c =
           let longer : take (i + 1) xs ≡ take i xs ++ x ∷ [] = take_more xs i x c.loop-change-test.true ∙ ap (λ (z : Change). take i xs ++ z ∷ []) (sym c.change-item.is) in
           subst (λ (l : List Change). Steps old new (λ cells. changed cells l)) (sym longer) more;
     }
+
+-- All of them were made.
+pub returns-clause-steps : goal.returns-clause-steps
+returns-clause-steps g c clean was =
+    let old = state g.S.Store c.args.transaction.now.conn.now in
+    let new = state g.S.Store c.loop-change.transaction.conn.now in
+    let whole : take c.loop-change.change-index c.args.changes.now ≡ c.args.changes.now = take_all c.loop-change.change-index c.args.changes.now (omega (arith, c.loop-change-test.false)) in
+    subst (λ (l : List Change). Steps old new (λ cells. changed cells l)) whole (c.loop-change.invariant.steps clean was)

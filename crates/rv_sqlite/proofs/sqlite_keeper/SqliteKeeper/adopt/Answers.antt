@@ -9,5 +9,5 @@ invariant_of-result g c = record {
   known = λ is tells.
       let h = c.args.connection in
       let empty = (c.recall.ensures.settled tells.ready.is_open tells.ready.autocommit).1 in
-      subst IsKnown (c.schema.ensures.value ∙ sym (when_empty h.saved empty h.schema).0) (c.is_known-is_known.ensures.0 is);
+      subst IsKnown (c.schema.ensures.value ∙ sym (when_empty h.saved empty h.schema).0) (record { by = c.is_known-is_known.ensures.0 is });
 }

@@ -1,8 +1,8 @@
 use Rattle.std.proofs.Common.{sym, subst, OnOk}
 use Rattle.sqlite.specs.Held.{state}
-use Rattle.rv_keeper.specs.Keeping.{committed}
+use Rattle.rv_keeper.specs.Keeping.{Made, committed}
 use Rattle.rv_sqlite.specs.Telling.{CallMakes, CommitsOrNot, Holds}
-use Rattle.rv_sqlite.proofs.Answering.{commit_by, leaves_as, made_by, settled_by}
+use Rattle.rv_sqlite.proofs.Answering.{commit_by, held_by, leaves_as, made_by, settled_by}
 use Rattle.rv_sqlite.proofs.Settling.{commit_survives}
 use Rattle.rv_sqlite.proofs.sqlite_keeper.SqliteKeeperKeeper.commit.Goals as goal
 
@@ -21,6 +21,14 @@ returns-clause-made g c tells held holds =
     let new = state g.S.Store c.write-answer.new.connection in
     subst (λ r. CommitsOrNot c.args.from c.args.changes.now r (Holds new) held) (sym c.count_in.ensures.same)
     (made_by old new c.args.from c.args.changes.now c.write-answer.result c.requires.from c.requires.changes (c.write-answer.ensures.comes tells.honest) tells held holds)
+
+pub returns-clause-held : goal.returns-clause-held
+returns-clause-held g c told held holds =
+    let old = state g.S.Store c.args.self.now.connection in
+    let new = state g.S.Store c.write-answer.new.connection in
+    subst (λ r. Made c.args.from c.args.changes.now r (Holds new) held) (sym c.count_in.ensures.same)
+    (held_by c.args.from c.args.changes.now c.write-answer.result (Holds new) held
+    (made_by old new c.args.from c.args.changes.now c.write-answer.result c.requires.from c.requires.changes (c.write-answer.ensures.comes told.1.honest) told.1 held holds))
 
 pub returns-clause-survives : goal.returns-clause-survives
 returns-clause-survives g c =
