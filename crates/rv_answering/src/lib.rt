@@ -1,5 +1,5 @@
-//! From the bytes of a line to its answer, with the turns between. Nothing here reads or writes: lines and later HTTP go by
-//! the same calls.
+//! From the bytes of a line to its answer, with the turns between. Nothing here reads or writes: lines and the bodies of HTTP
+//! go by the same calls.
 //!
 //! A [`Line`] asks a [`Request`], or the first thing that is wrong with its body; or it is a stop. Turns are taken by anything that
 //! implements [`rv_turns::Turns`]; what closes the book is asked only of who closes it.

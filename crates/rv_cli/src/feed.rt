@@ -9,7 +9,7 @@ use rv_desk::Desk;
 use rv_keeper::Keeper;
 use std::alloc::Global;
 
-/// The most entries of the book.
+/// The greatest length of the book.
 pub(crate) const BOOK_LIMIT: u32 = 4_294_967_295;
 
 /// Takes the lines of the input, each as it was read, and gives the ending and the keeper.

@@ -119,7 +119,7 @@ pub fn run_export<P: Place, O: Sink>(
     }
 }
 
-/// Writes that the store is sound, with the number of its book's entries: the command `check STORE`. The status is 0, 4, 5, 7 or 8,
+/// Writes that the store is sound, with its book's length: the command `check STORE`. The status is 0, 4, 5, 7 or 8,
 /// where 4 also tells that the store isn't there, and none is made, and 5 what is wrong first. The store stays as it is.
 pub fn run_check<P: Place, O: Sink>(alloc: Global, place: &mut P, store: &str, out: &mut O) -> u8
     ensures report { WasReported P.Place O.Sink store.now ReportsSound place.old place.new out.old out.new result }

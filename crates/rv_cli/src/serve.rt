@@ -177,7 +177,7 @@ where
     }
 }
 
-// Writes how many entries the book has that was served; or why nothing was served.
+// Writes how long the book is that was served; or why nothing was served.
 fn write_served<O: Sink>(out: &mut O, served: Result<(), Fault>, entries: u32) -> ServeEnding
     ensures writes { WritesServed served entries (O.state out.old) (O.state out.new) result }
     ensures steady { O.fails_no_more out.old → ServeIsSteady (O.fails_no_more out.new) (O.state out.old).refusals (O.state out.new).refusals result }
@@ -189,7 +189,7 @@ fn write_served<O: Sink>(out: &mut O, served: Result<(), Fault>, entries: u32) -
     }
 }
 
-// Writes how many entries the book has.
+// Writes how long the book is: the number of its entries, and where it opens with a page the page's place besides.
 fn write_entries<O: Sink>(out: &mut O, entries: u32) -> ServeEnding
     ensures writes { WritesCount (count_text entries) (O.state out.old) (O.state out.new) result }
     ensures steady { O.fails_no_more out.old → ServeIsSteady (O.fails_no_more out.new) (O.state out.old).refusals (O.state out.new).refusals result }
@@ -249,8 +249,8 @@ where
 
 /// Answers the requests of connections, from the book that the store keeps: the command `serve STORE`. The accounts file is read
 /// before the store is opened, and the net is listened to after that. As many workers as the options say serve connections side by
-/// side, each those of a listener of its own, and beside them as many poke jobs serve links; the crew runs them. At the end the number of
-/// the book's entries is written. The status is 0, 3, 4, 5, 7, 8 or 9.
+/// side, each those of a listener of its own, and beside them as many poke jobs serve links; the crew runs them. At the end the book's
+/// length is written. The status is 0, 3, 4, 5, 7, 8 or 9.
 pub fn run_serve<R: Wait + Sync, P: Place, O: Sink, N: Net, C: Crew>(
     alloc: Global,
     runtime: &R,

@@ -55,9 +55,9 @@ impl<K: Keeper> Desk<K> {
     ghost use Rattle.rv_doubt.specs.Kept.{HoldsBook, KeepsBook, LeavesBook};
     ghost use Rattle.rv_desk.specs.Seated.{DeskKeeps, IsSoundDesk};
 
-    /// The desk of the book that the keeper holds, which takes at most so many entries. Whatever is kept is left as it is. The
-    /// refusals give the keeper back: the keeper failed, and its count of faults rose; the cells are not just those of a lawful
-    /// book of at most so many entries, first at this place; or memory was refused.
+    /// The desk of the book that the keeper holds, which may grow to this length. Whatever is kept is left as it is. The refusals
+    /// give the keeper back: the keeper failed, and its count of faults rose; the cells are not just those of a lawful book of at
+    /// most this length, first at this place; or memory was refused.
     pub fn open(alloc: Global, keeper: K, limit: u32) -> Result<Desk<K>, (OpenFault, K)>
         ensures { OpensOrNot K.Keeper limit keeper result }
     {

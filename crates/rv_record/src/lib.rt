@@ -1,5 +1,5 @@
 //! The cells that a book is kept as: one for each entry, each row with its version, each client, each group and each kept
-//! view record.
+//! view record; and of a page that the book opens with one for the page, each of its rows, clients and groups.
 //!
 //! The writers, `cell_of_entry` and its kin, give each the shelf, the key and the body that `specs/CellTexts.antt` defines.
 //! A body is the compact text of a JSON value. The readers, `entry_of_cell` and its kin, take exactly these cells.

@@ -3,7 +3,7 @@ use rv_record::Damage;
 /// What a check of a store found.
 #[derive(Debug, Drop)]
 pub enum CheckAnswer {
-    /// The store holds just the cells of a lawful book of so many entries.
+    /// The store holds just the cells of a lawful book of this length.
     Sound(u32),
     /// It is damaged, first at this place.
     Damaged(Damage),

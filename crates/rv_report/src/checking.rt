@@ -5,7 +5,7 @@ use rv_desk::{Desk, OpenFault};
 use rv_keeper::Keeper;
 use std::alloc::Global;
 
-/// Whether the keeper holds just the cells of a lawful book of at most 4,294,967,295 entries, as a server that opens it would find.
+/// Whether the keeper holds just the cells of a lawful book of a length of at most 4,294,967,295, as a server that opens it would find.
 /// Nothing is changed, and the keeper is given back.
 pub fn check<K: Keeper>(alloc: Global, keeper: K) -> (CheckAnswer, K)
     ensures { Checks K.Keeper keeper result }

@@ -69,6 +69,10 @@ module _ {K : Type 0} where
   abbrev pub on_turn : (K → ℕ) → SeatView K → Seated K → SeatView K
   on_turn faults v d = record v { turns = 1; book = d.book; doubt = d.doubt; keeper = Some d.keeper; before = v.before ++ faults d.keeper ∷ [] }
 
+  -- it has the turn, and knows this desk as it is
+  abbrev pub KnowsDesk : SeatView K → Seated K → Type 0
+  KnowsDesk v d = (v.turns ≡ 1) × (d.book ≡ v.book) × (d.doubt ≡ v.doubt) × (v.keeper ≡ Some d.keeper)
+
   -- the history has become this: what was added is the seat's own
   abbrev pub grown : SeatView K → Book → SeatView K
   grown v book = record v { book = book; own = v.own ++ numbered (size v.book) (since (size v.book) book) }

@@ -5,7 +5,7 @@ ghost use Rattle.rv_desk.specs.Seated.{Seated};
 ghost use Rattle.rv_room.specs.Following.{FollowsAll};
 ghost use Rattle.rv_room.specs.Plays.{TakesTicket};
 ghost use Rattle.rv_room.specs.Rule.{IsOf};
-ghost use Rattle.rv_room.specs.Views.{IsIdle, ended, on_turn};
+ghost use Rattle.rv_room.specs.Views.{IsIdle, KnowsDesk, ended, on_turn};
 
 use crate::room::Room;
 use crate::rule::{CheckTurn, PassTurn, Signal, TakeFreeTicket, TakeTicket};
@@ -184,7 +184,7 @@ impl<K: Keeper> Room<K> {
     // one of those that sleep without.
     pub(crate) fn pass(&self, token: &mut Token<K>)
         requires table { token.old.table_id ≡ self.now.table.shared.table_id }
-        requires home { (d : Seated K) × (token.old.me.1 ≡ (0, Some d) ∷ []) × (token.old.me.0.turns ≡ 1) × IsOf K.Keeper token.old.me.0 d × (d.book ≡ token.old.me.0.book) × (d.doubt ≡ token.old.me.0.doubt) × (token.old.me.0.keeper ≡ Some d.keeper) }
+        requires home { (d : Seated K) × (token.old.me.1 ≡ (0, Some d) ∷ []) × IsOf K.Keeper token.old.me.0 d × KnowsDesk token.old.me.0 d }
         ensures same { (token.new.table_id ≡ token.old.table_id) × (token.new.id ≡ token.old.id) }
         ensures ended { token.new.me ≡ (ended token.old.me.0, []) }
     {

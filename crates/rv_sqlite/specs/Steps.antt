@@ -1,5 +1,5 @@
 -- What the statements of a transaction do to the cells of the table, and what its commit leaves.
-use Rattle.std.specs.Prelude.{◌≡◌, ℕ, false, List, [], Result, Ok, Err, IsTrue, decimal}
+use Rattle.std.specs.Prelude.{◌≡◌, ℕ, false, List, [], Result, Ok, Err, IsTrue, OnOk, decimal}
 use Rattle.sqlite_trees.specs.Tree.{Trees}
 use Rattle.sqlite_trees.specs.declared.store.Store.{Ghosts}
 use Rattle.sqlite_schema.specs.declared.schema.Schema.{Schema}
@@ -75,3 +75,7 @@ IsSettledWhereOpen s = IsTrue s.is_open → s.now ≡ s.committed
 -- where the disk gave back what was written, nothing was committed
 abbrev pub KeepsWhereClean : {S : Type 0} → Ghosts S → Held S → Held S → Type 0
 KeepsWhereClean g old new = HasCleanDisk (state g new) → KeepsCommit (state g old) (state g new)
+
+-- where the disk gave back what was written, a statement that was run leads so from cells to cells
+abbrev pub StepsWhereClean : {S E : Type 0} → Ghosts S → Held S → Held S → Result (Unit {0}) E → (List Cell → List Cell) → Type 0
+StepsWhereClean g old new result f = HasCleanDisk (state g new) → OnOk result (Steps (state g old) (state g new) f)

@@ -11,7 +11,7 @@ ghost use Rattle.sqlite.specs.Held.{state};
 ghost use Rattle.sqlite.specs.Given.{HasBegun, IsRefused};
 ghost use Rattle.rv_sqlite.specs.Asked.{FindsRow, generation_key, one_text};
 ghost use Rattle.rv_sqlite.specs.Loads.{all_text};
-ghost use Rattle.rv_sqlite.specs.Steps.{IsReady, KeepsWhereClean, Steps, cell_of, generation_cell};
+ghost use Rattle.rv_sqlite.specs.Steps.{IsReady, KeepsWhereClean, StepsWhereClean, cell_of, generation_cell};
 
 use itoa::Buffer;
 use rv_keeper::Change;
@@ -71,7 +71,7 @@ pub(crate) fn generation_row<S: Alter>(connection: &mut Connection<S>) -> Result
 #[tactic(auto, using(crate::proofs::Kept::step_keeps))]
 pub(crate) fn make_table<S: Alter>(transaction: &mut Transaction<'_, S>) -> Result<(), Error>
     ensures same_reference { transaction.new.conn.ghost_name ≡ transaction.old.conn.ghost_name }
-    ensures steps { HasCleanDisk (state S.Store transaction.new.conn.now) → OnOk result (Steps (state S.Store transaction.old.conn.now) (state S.Store transaction.new.conn.now) (λ cells. cells)) }
+    ensures steps { StepsWhereClean S.Store transaction.old.conn.now transaction.new.conn.now result (λ cells. cells) }
     ensures kept { KeepsWhereClean S.Store transaction.old.conn.now transaction.new.conn.now }
     ensures survives { Survives (state S.Store transaction.old.conn.now) (state S.Store transaction.new.conn.now) (λ _. ⊥) }
 {
@@ -88,7 +88,7 @@ fn put_row<S: Alter>(
     body: &[u8],
 ) -> Result<(), Error>
     ensures same_reference { transaction.new.conn.ghost_name ≡ transaction.old.conn.ghost_name }
-    ensures steps { HasCleanDisk (state S.Store transaction.new.conn.now) → OnOk result (Steps (state S.Store transaction.old.conn.now) (state S.Store transaction.new.conn.now) (put_by cell_key (cell_of shelf key.now body.now))) }
+    ensures steps { StepsWhereClean S.Store transaction.old.conn.now transaction.new.conn.now result (put_by cell_key (cell_of shelf key.now body.now)) }
     ensures kept { KeepsWhereClean S.Store transaction.old.conn.now transaction.new.conn.now }
     ensures survives { Survives (state S.Store transaction.old.conn.now) (state S.Store transaction.new.conn.now) (λ _. ⊥) }
 {
@@ -104,7 +104,7 @@ fn remove_row<S: Alter>(
     key: &[u8],
 ) -> Result<(), Error>
     ensures same_reference { transaction.new.conn.ghost_name ≡ transaction.old.conn.ghost_name }
-    ensures steps { HasCleanDisk (state S.Store transaction.new.conn.now) → OnOk result (Steps (state S.Store transaction.old.conn.now) (state S.Store transaction.new.conn.now) (without cell_key (shelf ∷ key.now))) }
+    ensures steps { StepsWhereClean S.Store transaction.old.conn.now transaction.new.conn.now result (without cell_key (shelf ∷ key.now)) }
     ensures kept { KeepsWhereClean S.Store transaction.old.conn.now transaction.new.conn.now }
     ensures survives { Survives (state S.Store transaction.old.conn.now) (state S.Store transaction.new.conn.now) (λ _. ⊥) }
 {
@@ -118,7 +118,7 @@ pub(crate) fn make_change<S: Alter>(
     change: &Change,
 ) -> Result<(), Error>
     ensures same_reference { transaction.new.conn.ghost_name ≡ transaction.old.conn.ghost_name }
-    ensures steps { HasCleanDisk (state S.Store transaction.new.conn.now) → OnOk result (Steps (state S.Store transaction.old.conn.now) (state S.Store transaction.new.conn.now) (λ cells. changed_by cells change.now)) }
+    ensures steps { StepsWhereClean S.Store transaction.old.conn.now transaction.new.conn.now result (λ cells. changed_by cells change.now) }
     ensures kept { KeepsWhereClean S.Store transaction.old.conn.now transaction.new.conn.now }
     ensures survives { Survives (state S.Store transaction.old.conn.now) (state S.Store transaction.new.conn.now) (λ _. ⊥) }
 {
@@ -139,7 +139,7 @@ pub(crate) fn put_generation<S: Alter>(
     generation: u64,
 ) -> Result<(), Error>
     ensures same_reference { transaction.new.conn.ghost_name ≡ transaction.old.conn.ghost_name }
-    ensures steps { HasCleanDisk (state S.Store transaction.new.conn.now) → OnOk result (Steps (state S.Store transaction.old.conn.now) (state S.Store transaction.new.conn.now) (put_by cell_key (generation_cell generation))) }
+    ensures steps { StepsWhereClean S.Store transaction.old.conn.now transaction.new.conn.now result (put_by cell_key (generation_cell generation)) }
     ensures kept { KeepsWhereClean S.Store transaction.old.conn.now transaction.new.conn.now }
     ensures survives { Survives (state S.Store transaction.old.conn.now) (state S.Store transaction.new.conn.now) (λ _. ⊥) }
 {

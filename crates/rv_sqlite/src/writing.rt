@@ -5,7 +5,7 @@ ghost use Rattle.rv_keeper.specs.Cells.{changed};
 ghost use Rattle.sqlite.specs.State.{HasCleanDisk, KeepsCommit, Survives};
 ghost use Rattle.sqlite.specs.Held.{state};
 ghost use Rattle.rv_sqlite.specs.Faults.{fault_of};
-ghost use Rattle.rv_sqlite.specs.Steps.{Comes, IsReady, IsSettledWhereOpen, IsUnderWay, KeepsWhereClean, ShowsCommitted, Steps, WritesCells, all_next};
+ghost use Rattle.rv_sqlite.specs.Steps.{Comes, IsReady, IsSettledWhereOpen, IsUnderWay, KeepsWhereClean, ShowsCommitted, StepsWhereClean, WritesCells, all_next};
 
 use crate::statements::{is_settled, make_change, make_table, put_generation};
 use rv_base::Fault;
@@ -25,7 +25,7 @@ pub fn fault_of(error: Error) -> Fault
 // Makes the table, where that is asked and there is none.
 fn prepare<S: Alter>(transaction: &mut Transaction<'_, S>, makes_table: bool) -> Result<(), Error>
     ensures same_reference { transaction.new.conn.ghost_name ≡ transaction.old.conn.ghost_name }
-    ensures steps { HasCleanDisk (state S.Store transaction.new.conn.now) → IsUnderWay (state S.Store transaction.old.conn.now) → OnOk result (Steps (state S.Store transaction.old.conn.now) (state S.Store transaction.new.conn.now) (λ cells. cells)) }
+    ensures steps { IsUnderWay (state S.Store transaction.old.conn.now) → StepsWhereClean S.Store transaction.old.conn.now transaction.new.conn.now result (λ cells. cells) }
     ensures kept { KeepsWhereClean S.Store transaction.old.conn.now transaction.new.conn.now }
     ensures survives { Survives (state S.Store transaction.old.conn.now) (state S.Store transaction.new.conn.now) (λ _. ⊥) }
 {
@@ -42,7 +42,7 @@ fn make_changes<S: Alter>(
     changes: &[Change],
 ) -> Result<(), Error>
     ensures same_reference { transaction.new.conn.ghost_name ≡ transaction.old.conn.ghost_name }
-    ensures steps { HasCleanDisk (state S.Store transaction.new.conn.now) → IsUnderWay (state S.Store transaction.old.conn.now) → OnOk result (Steps (state S.Store transaction.old.conn.now) (state S.Store transaction.new.conn.now) (λ cells. changed cells changes.now)) }
+    ensures steps { IsUnderWay (state S.Store transaction.old.conn.now) → StepsWhereClean S.Store transaction.old.conn.now transaction.new.conn.now result (λ cells. changed cells changes.now) }
     ensures kept { KeepsWhereClean S.Store transaction.old.conn.now transaction.new.conn.now }
     ensures survives { Survives (state S.Store transaction.old.conn.now) (state S.Store transaction.new.conn.now) (λ _. ⊥) }
 {
@@ -61,7 +61,7 @@ fn fill<S: Alter>(
     changes: &[Change],
 ) -> Result<(), Error>
     ensures same_reference { transaction.new.conn.ghost_name ≡ transaction.old.conn.ghost_name }
-    ensures steps { HasCleanDisk (state S.Store transaction.new.conn.now) → IsTrue transaction.old.conn.now.in_transaction → OnOk result (Steps (state S.Store transaction.old.conn.now) (state S.Store transaction.new.conn.now) (all_next generation changes.now)) }
+    ensures steps { IsTrue transaction.old.conn.now.in_transaction → StepsWhereClean S.Store transaction.old.conn.now transaction.new.conn.now result (all_next generation changes.now) }
     ensures kept { KeepsWhereClean S.Store transaction.old.conn.now transaction.new.conn.now }
     ensures survives { Survives (state S.Store transaction.old.conn.now) (state S.Store transaction.new.conn.now) (λ _. ⊥) }
 {

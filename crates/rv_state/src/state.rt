@@ -83,7 +83,7 @@ impl State {
     ghost use Rattle.rv_state.specs.Ready.{IsPrepared, next_of};
     ghost use Rattle.rv_state.specs.Standing.{IsWithin};
 
-    /// The state of the empty book, which takes at most so many entries.
+    /// The state of the empty book, which may grow to this length.
     pub fn new(alloc: Global, limit: u32) -> State
         ensures book { result.book ≡ empty_book }
         ensures limit { result.limit ≡ limit }

@@ -16,7 +16,7 @@ pub enum Trouble {
     Keeper,
     /// What is kept is at another generation than the book, or than the book with what may have been kept.
     Changed {
-        /// The number of the book's entries.
+        /// How long the book is: the number of its entries, and where it opens with a page the page's place besides.
         kept: u64,
         /// The generation that was found.
         found: u64,

@@ -34,7 +34,7 @@ loop-change-preserved g c =
 
 -- All of them were made.
 pub returns-clause-steps : goal.returns-clause-steps
-returns-clause-steps g c clean was =
+returns-clause-steps g c was clean =
     let old = state g.S.Store c.args.transaction.now.conn.now in
     let new = state g.S.Store c.loop-change.transaction.conn.now in
     let whole : take c.loop-change.change-index c.args.changes.now ≡ c.args.changes.now = take_all c.loop-change.change-index c.args.changes.now (omega (arith, c.loop-change-test.false)) in

@@ -82,11 +82,13 @@ pass-requires-clause-home g c =
     let at3 : c.note_settled.new.token.me ≡ (noted (grown (entered v s) d.book) d.doubt (Some d.keeper), (0, Some d) ∷ []) = c.note_settled.ensures.noted d (ap (λ (m : M). m.1) at2) ∙ (λ i. (noted (at2 i).0 d.doubt (Some d.keeper), (at2 i).1)) in (
       d,
       ap (λ (m : M). m.1) at3,
-      ap (λ (m : M). m.0.turns) at3 ∙ c.requires.empty.1,
       subst (λ (m : M). IsOf g.K.Keeper m.0 d) (sym at3) c.requires.of,
-      sym (ap (λ (m : M). m.0.book) at3),
-      sym (ap (λ (m : M). m.0.doubt) at3),
-      ap (λ (m : M). m.0.keeper) at3,
+      (
+        ap (λ (m : M). m.0.turns) at3 ∙ c.requires.empty.1,
+        sym (ap (λ (m : M). m.0.book) at3),
+        sym (ap (λ (m : M). m.0.doubt) at3),
+        ap (λ (m : M). m.0.keeper) at3,
+      ),
     )
 
 pub returns-clause-ended : goal.returns-clause-ended

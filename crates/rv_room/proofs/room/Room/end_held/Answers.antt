@@ -23,9 +23,11 @@ pass-requires-clause-home g c =
     let at : c.note_keeper.new.token.me ≡ (with_keeper v (Some d.keeper), (0, Some d) ∷ []) = c.note_keeper.ensures.noted d (ap (λ (m : M). m.1) put) ∙ (λ i. (with_keeper (put i).0 (Some d.keeper), (put i).1)) in (
       d,
       ap (λ (m : M). m.1) at,
-      ap (λ (m : M). m.0.turns) at ∙ c.requires.empty.1,
       subst (λ (m : M). IsOf g.K.Keeper m.0 d) (sym at) c.requires.of,
-      c.requires.stays.0 ∙ sym (ap (λ (m : M). m.0.book) at),
-      c.requires.stays.1 ∙ sym (ap (λ (m : M). m.0.doubt) at),
-      ap (λ (m : M). m.0.keeper) at,
+      (
+        ap (λ (m : M). m.0.turns) at ∙ c.requires.empty.1,
+        c.requires.stays.0 ∙ sym (ap (λ (m : M). m.0.book) at),
+        c.requires.stays.1 ∙ sym (ap (λ (m : M). m.0.doubt) at),
+        ap (λ (m : M). m.0.keeper) at,
+      ),
     )
