@@ -15,7 +15,7 @@ use Rattle.rv_base.specs.Positions.{equals, not_same, find_put, find_without, fo
 use Rattle.rv_base.specs.Arranged.{in_order-same, distinct-in_order, distinct-sorted, distinct-filter, find-filter, find-sorted, find-map}
 use Rattle.rv_rows.specs.declared.row.Row.{Row}
 use Rattle.rv_rows.specs.Keys.{row_key, key_text, row_text, row_at, has_row, in_key_order}
-use Rattle.rv_rows.specs.Sharing.{sees, seen, list_of}
+use Rattle.rv_rows.specs.Sharing.{sees_row, seen}
 use Rattle.rv_rows.specs.Changes.{same_row}
 use Rattle.rv_rows.specs.EffectLaws.{same_row-Decides}
 use Rattle.rv_turns.specs.declared.op.Op.{Op}
@@ -119,7 +119,7 @@ shown_in_order (row ∷ rows) sorted = (above_shown (row_text row) rows sorted.0
 
 -- the rows that a user sees are among the rows, in key order
 pub seen_in_order : (user : List ℕ) (rows : List Row) → InOrder row_text (seen user rows)
-seen_in_order user rows = in_order-filter row_text (λ row. sees user (list_of row) rows) (in_key_order rows) (in_order-sorted row_text rows)
+seen_in_order user rows = in_order-filter row_text (sees_row user rows) (in_key_order rows) (in_order-sorted row_text rows)
 
 pub seen_distinct : (user : List ℕ) (rows : List Row) → Distinct row_text (seen user rows)
 seen_distinct user rows = distinct-in_order row_text (seen user rows) (seen_in_order user rows)
@@ -130,8 +130,8 @@ passed p (Some y) x e = elim (p y) as (λ b. cond b (Some y) None ≡ Some x →
 
 row_of_seen : (user : List ℕ) (rows : List Row) (k : List ℕ) (row : Row) → Distinct row_text rows → row_at k (seen user rows) ≡ Some row → row_at k rows ≡ Some row
 row_of_seen user rows k row h is =
-    passed (λ row. sees user (list_of row) rows) (row_at k rows) row
-    (ap (option_filter (λ row. sees user (list_of row) rows)) (sym (find-sorted row_text k rows h)) ∙ sym (find-filter row_text (λ row. sees user (list_of row) rows) k (in_key_order rows) (distinct-sorted row_text rows)) ∙ is)
+    passed (sees_row user rows) (row_at k rows) row
+    (ap (option_filter (sees_row user rows)) (sym (find-sorted row_text k rows h)) ∙ sym (find-filter row_text (sees_row user rows) k (in_key_order rows) (distinct-sorted row_text rows)) ∙ is)
 
 -- a row is absent where none is found by its key
 pub absent_is : (rows : List Row) (row : Row) (k : List ℕ) (o : Option Row) → row_at k rows ≡ o → k ≡ row_text row → is_absent rows row ≡ not (is_some o)

@@ -10,7 +10,7 @@ use Rattle.rv_rows.specs.declared.row.Row.{Row}
 use Rattle.rv_rows.specs.Keys.{in_key_order, key_text, row_key, row_text}
 use Rattle.rv_rows.specs.Held.{Stored, AreRows, find, rows_in, stored_key}
 use Rattle.rv_rows.specs.HeldLaws.{in_order-rows}
-use Rattle.rv_rows.specs.Sharing.{list_of, seen, sees}
+use Rattle.rv_rows.specs.Sharing.{seen, sees_row}
 use Rattle.rv_sharing.specs.Gathered.{keys_at, rows_at, Stand}
 use Rattle.rv_sharing.specs.Visible.{visible}
 use Rattle.rv_import.specs.Views.{IsView, view_text}
@@ -66,7 +66,7 @@ rows_at-rows (x ∷ xs) = ap (λ (t : List Row). x.0.now ∷ t) (rows_at-rows xs
 pub rows_seen_are : (user : List ℕ) (stored : List Stored) (rows : List (Bor Row × ℕ)) → AreRows stored → keys_at rows ≡ visible user stored → Stand stored (rows_at rows)
     → map (λ pair. pair.0.now) rows ≡ seen user (rows_in stored)
 rows_seen_are user stored rows order keys stand =
-    let p : Row → Bool = λ row. sees user (list_of row) (rows_in stored) in
+    let p : Row → Bool = sees_row user (rows_in stored) in
     let mine : List Stored = filter (λ s. p s.0) stored in
     let same : rows_at rows ≡ mine = stand_same stored (rows_at rows) mine stand (all_filter _ (λ s. p s.0) stored (found_own stored order)) (sym (keys_at-rows rows) ∙ keys) in
     rows_at-rows rows ∙ ap rows_in same ∙ rows_filter p stored
@@ -76,7 +76,7 @@ rows_seen_are user stored rows order keys stand =
 pub seen_is_view : {T E : Type 0} (user : List ℕ) (rows read : List Row) (made : Result T E) → read ≡ seen user rows → OnOk made (InOrder row_text read → IsView read) → OnOk made (IsView (seen user rows))
 seen_is_view user rows read (Ok x) is view =
     let P : List Row → Type 0 = λ xs. InOrder row_text xs → IsView xs in
-    subst P is view (in_order-filter row_text (λ row. sees user (list_of row) rows) (in_key_order rows) (in_order-sorted row_text rows))
+    subst P is view (in_order-filter row_text (sees_row user rows) (in_key_order rows) (in_order-sorted row_text rows))
 seen_is_view user rows read (Err e) is view = tt
 
 -- what reads the text of a view gives its rows

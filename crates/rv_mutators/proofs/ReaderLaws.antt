@@ -10,7 +10,7 @@ use Rattle.rv_rows.specs.declared.row.ListRow.{ListRow}
 use Rattle.rv_rows.specs.declared.row.ShareRow.{ShareRow}
 use Rattle.rv_rows.specs.declared.row.TodoRow.{TodoRow}
 use Rattle.rv_rows.specs.declared.row.Row.TheVariants as variants
-use Rattle.rv_rows.specs.Sharing.{sees, is_list, owns, shares, list_of}
+use Rattle.rv_rows.specs.Sharing.{may_see, is_list, owns, shares, list_of}
 use Rattle.rv_sharing.specs.Texts.{AddsText}
 use Rattle.rv_sharing.specs.Sharers.{AddsSharers}
 use Rattle.rv_sharing.specs.Affected.{AddsViewers}
@@ -37,7 +37,7 @@ bytes_eq-swapped a b =
 -- a list's readers are those of the list before, its owner, and whom shares of it name
 pub readers_list : {E : Type 0} (rows : List Row) (row : ListRow) (users viewers owned : List (List ℕ)) (result : Result (List (List ℕ)) E)
     → AddsViewers rows row.id users viewers → AddsText row.owner viewers owned → IfOk result (AddsSharers rows row.id owned) → IfOk result (AddsViewers (variants.List row ∷ rows) row.id users)
-unfolding sees
+unfolding may_see
 readers_list rows row users viewers owned (Err e) seen own shared = tt
 readers_list rows row users viewers owned (Ok after) seen own shared = record {
   order = shared.order;
@@ -57,7 +57,7 @@ readers_list rows row users viewers owned (Ok after) seen own shared = record {
 -- a share's readers are those of the list before, and whom it names where the list is there
 pub readers_share : {E : Type 0} (rows : List Row) (row : ShareRow) (users viewers : List (List ℕ)) (result : Result (List (List ℕ)) E)
     → list_any (is_list row.list) rows ≡ true → AddsViewers rows row.list users viewers → IfOk result (AddsText row.user viewers) → IfOk result (AddsViewers (variants.Share row ∷ rows) row.list users)
-unfolding sees
+unfolding may_see
 readers_share rows row users viewers (Err e) there seen named = tt
 readers_share rows row users viewers (Ok after) there seen named = record {
   order = named.order;
@@ -73,11 +73,11 @@ readers_share rows row users viewers (Ok after) there seen named = record {
     flags false false o s = refl
 
 pub readers_lost : (rows : List Row) (row : ShareRow) (users viewers : List (List ℕ)) → list_any (is_list row.list) rows ≡ false → AddsViewers rows row.list users viewers → AddsViewers (variants.Share row ∷ rows) row.list users viewers
-unfolding sees
+unfolding may_see
 readers_lost rows row users viewers absent seen = record { order = seen.order; each = λ user. seen.each user ∙ rw absent refl }
 
 pub readers_todo : (rows : List Row) (row : TodoRow) (users viewers : List (List ℕ)) → AddsViewers rows row.list users viewers → AddsViewers (variants.Todo row ∷ rows) row.list users viewers
-unfolding sees
+unfolding may_see
 readers_todo rows row users viewers seen = record { order = seen.order; each = seen.each }
 
 -- one more row

@@ -17,10 +17,10 @@ use Rattle.rv_rows.specs.declared.call.Call.{Call}
 use Rattle.rv_rows.specs.declared.call.Call.TheVariants.{CreateList, DeleteList, CreateShare, UpdateShare, DeleteShare, CreateTodo, UpdateTodo, DeleteTodo, Void}
 use Rattle.rv_rows.specs.Keys.{key_text, row_key, row_text, row_at, has_row, in_key_order}
 use Rattle.rv_rows.specs.Held.{Stored, rows_in, AreRows}
-use Rattle.rv_rows.specs.Sharing.{is_list, owns, shares, sees, may_edit, list_of}
+use Rattle.rv_rows.specs.Sharing.{is_list, owns, shares, may_see, sees_row, may_edit, list_of}
 use Rattle.rv_rows.specs.Effects.{is_outside, is_other, is_unchanged, may_change, may_set_role, ends, with_fields, with_role, after_update, after_role, next_sort, effect}
 use Rattle.rv_rows.specs.Changes.{same_row, is_gone, written, lost, version_after}
-use Rattle.rv_rows.specs.EffectLaws.{sees-sorted}
+use Rattle.rv_rows.specs.EffectLaws.{may_see-sorted}
 use Rattle.rv_sharing.specs.Affected.{sees_key, AreAffected}
 use Rattle.rv_mutators.specs.declared.staged.Staged.{Staged}
 use Rattle.rv_mutators.specs.Staging.{staged, with_staged, IsStagedOn, written_if}
@@ -55,7 +55,7 @@ viewers-removed user before after keys e =
     rw (append-nil keys) (ap (λ (b : Bool). list_any (sees_key before user) keys || b) (subst (λ (t : List Key). list_any (sees_key (in_key_order after) user) t ≡ false) e (lost-unseen user before after)))
 
 -- one row is written, and nothing removed
-viewers-written : (user : List ℕ) (before after : List Row) (row : Row) → row_at (row_text row) after ≡ Some row → sees user (list_of row) after ≡ sees_with before user row
+viewers-written : (user : List ℕ) (before after : List Row) (row : Row) → row_at (row_text row) after ≡ Some row → sees_row user after row ≡ sees_with before user row
     → (sees_key before user (row_key row) ≡ true → sees_with before user row ≡ true) → HasViewers before after user (record { rows = row ∷ []; keys = [] })
 viewers-written user before after row stands same earlier = rw (stands, same) (each (sees_key before user (row_key row)) (sees_with before user row) earlier)
   where
@@ -66,11 +66,11 @@ viewers-written user before after row stands same earlier = rw (stands, same) (e
 -- one more row
 viewers-push : (user : List ℕ) (before : List Row) (row : Row) → InOrder row_text before → find_by row_text (row_text row) before ≡ None
     → HasViewers before (in_key_order (before ++ row ∷ [])) user (record { rows = row ∷ []; keys = [] })
-unfolding sees
+unfolding may_see
 viewers-push user before row h none =
     viewers-written user before (in_key_order (before ++ row ∷ [])) row
     (rw (sorted-push row_text row before, sorted-in_order row_text before h, find_put row_text (row_text row) row before, equals (row_text row)) refl)
-    (sees-sorted user (list_of row) (before ++ row ∷ []) (distinct-push row_text row before none (distinct-in_order row_text before h)) ∙ rw (list_any-push (owns user (list_of row)) before row, list_any-push (is_list (list_of row)) before row, list_any-push (shares user (list_of row)) before row) refl)
+    (may_see-sorted user (list_of row) (before ++ row ∷ []) (distinct-push row_text row before none (distinct-in_order row_text before h)) ∙ rw (list_any-push (owns user (list_of row)) before row, list_any-push (is_list (list_of row)) before row, list_any-push (shares user (list_of row)) before row) refl)
     (λ e. absurd (let never : sees_key before user (row_key row) ≡ false = rw none refl in let both : false ≡ true = sym never ∙ e in cc))
 
 -- only keys are removed
@@ -133,14 +133,14 @@ module _ (before : List Row) (h : InOrder row_text before) (user caller : List �
     same_by : (p : Row → Bool) → ((x : Row) → p (new x) ≡ p x) → (x : Row) → p (set x) ≡ p x
     same_by p same x = elim (bytes_eq k (row_text x) && allowed x) as (λ b. p (cond b (new x) x) ≡ p x) [ true ↦ same x | false ↦ refl ]
 
-    sees-set : (list : List ℕ) → sees user list (map set before) ≡ sees user list before
-    unfolding sees
-    sees-set list = rw (any-map (owns user list) set before (same_by (owns user list) (owns_same list)), any-map (is_list list) set before (same_by (is_list list) (is_list_same list)), any-map (shares user list) set before (same_by (shares user list) (shares_same list))) refl
+    may_see-set : (list : List ℕ) → may_see user list (map set before) ≡ may_see user list before
+    unfolding may_see
+    may_see-set list = rw (any-map (owns user list) set before (same_by (owns user list) (owns_same list)), any-map (is_list list) set before (same_by (is_list list) (is_list_same list)), any-map (shares user list) set before (same_by (shares user list) (shares_same list))) refl
 
     -- beside the others it shows no more than the row that it replaces, which is among them
-    sees-beside : (x : Row) (list : List ℕ) → find_by row_text k before ≡ Some x → sees user list (new x ∷ before) ≡ sees user list before
-    unfolding sees
-    sees-beside x list e =
+    may_see-beside : (x : Row) (list : List ℕ) → find_by row_text k before ≡ Some x → may_see user list (new x ∷ before) ≡ may_see user list before
+    unfolding may_see
+    may_see-beside x list e =
         rw (owns_same list x, is_list_same list x, shares_same list x, is_among row_text (owns user list) k before x e, is_among row_text (is_list list) k before x e, is_among row_text (shares user list) k before x e) refl
 
     viewers-set : (x : Row) → find_by row_text k before ≡ Some x → allowed x ≡ true → HasViewers before (in_key_order (map set before)) user (record { rows = new x ∷ []; keys = [] })
@@ -149,8 +149,8 @@ module _ (before : List Row) (h : InOrder row_text before) (user caller : List �
         let at : bytes_eq k (row_text x) ≡ true = subst (λ (t : List ℕ). bytes_eq t (row_text x) ≡ true) (sym (find-key row_text k before x e)) (equals (row_text x)) in
         viewers-written user before (in_key_order (map set before)) (new x)
         (rw (keeps_key x, sorted, find-changed row_text set (row_text x) before (keeps before h k allowed new keeps_key), own, at, may) refl)
-        (rw sorted (sees-set (list_of (new x)) ∙ sym (sees-beside x (list_of (new x)) e)))
-        (λ t. sees-beside x (list_of (new x)) e ∙ ap (λ (list : List ℕ). sees user list before) (same_list x) ∙ (rw (keeps_key x, own) at t))
+        (rw sorted (may_see-set (list_of (new x)) ∙ sym (may_see-beside x (list_of (new x)) e)))
+        (λ t. may_see-beside x (list_of (new x)) e ∙ ap (λ (list : List ℕ). may_see user list before) (same_list x) ∙ (rw (keeps_key x, own) at t))
 
     viewers-still : HasViewers before (in_key_order (map set before)) user (record { rows = []; keys = [] })
     viewers-still = viewers-removed user before (map set before) [] (ap (λ (s : Staged). s.keys) (changes-map before set (keeps before h k allowed new keeps_key) h))

@@ -7,7 +7,7 @@ use Rattle.rv_rows.specs.declared.key.Key.{Key}
 use Rattle.rv_rows.specs.declared.row.Row.{Row}
 use Rattle.rv_rows.specs.Keys.{row_key}
 use Rattle.rv_rows.specs.Held.{Stored, rows_in}
-use Rattle.rv_rows.specs.Sharing.{sees, list_of}
+use Rattle.rv_rows.specs.Sharing.{sees_row}
 use Rattle.rv_sharing.specs.Affected.{sees_key}
 use Rattle.rv_sharing.specs.Texts.{AreInOrder}
 use Rattle.rv_mutators.specs.declared.staged.Staged.{Staged}
@@ -22,9 +22,9 @@ pub record AreTouched (stored : List Stored) (s : Staged) (users : List (List �
   pub order : InOrder (λ user. user) users
   pub each : (user : List ℕ) → list_any (bytes_eq user) users ≡ (list_any (sees_key (rows_in stored) user) (touched s) || list_any (sees_key (rows_in (with_staged 0 s stored)) user) (touched s))
 
--- the user sees the list of the row, where it stands beside the others
+-- the user sees the row, where it stands beside the others
 abbrev pub sees_with : List Row → List ℕ → Row → Bool
-sees_with rows user row = sees user (list_of row) (row ∷ rows)
+sees_with rows user row = sees_row user (row ∷ rows) row
 
 -- the users afterwards are those before and those who see one of these rows, where it stands beside the others
 pub record AddsReaders (rows added : List Row) (before after : List (List ℕ)) : Type 0 where

@@ -11,8 +11,8 @@ use Rattle.rv_rows.specs.declared.key.Key.{Key}
 use Rattle.rv_rows.specs.declared.row.Row.{Row}
 use Rattle.rv_rows.specs.Keys.{key_text, row_key, row_text, row_at, has_row, in_key_order}
 use Rattle.rv_rows.specs.Held.{Stored, stored_key, find, rows_in}
-use Rattle.rv_rows.specs.Sharing.{list_of, sees as sees_list, seen}
-use Rattle.rv_rows.specs.EffectLaws.{sees-sorted}
+use Rattle.rv_rows.specs.Sharing.{sees_row, seen}
+use Rattle.rv_rows.specs.EffectLaws.{sees_row-sorted}
 use Rattle.rv_turns.specs.declared.op.Op.{Op}
 use Rattle.rv_turns.specs.declared.op.Op.TheVariants.{Clear, Del, Put}
 use Rattle.rv_sharing.specs.Visible.{visible}
@@ -38,7 +38,7 @@ pair s = (row_key s.0, s.1)
 
 -- the stored rows that the user sees
 abbrev sighted : List ℕ → List Stored → List Stored
-sighted user stored = filter (λ s. sees_list user (list_of s.0) (rows_in stored)) stored
+sighted user stored = filter (λ s. sees_row user (rows_in stored) s.0) stored
 
 all_each : {X : Type 0} (P : X → Type 0) (xs : List X) → ((x : X) → P x) → AllByRecursion P xs
 all_each P [] each = tt
@@ -63,9 +63,9 @@ rows_filter p (x ∷ xs) =
 -- their rows are those that the user sees at the book
 sighted_rows : (user : List ℕ) (book : Book) (stored : List Stored) → IsReplay book stored → rows_in (sighted user stored) ≡ seen user (rows_of book)
 sighted_rows user book stored r =
-    rows_filter (λ row. sees_list user (list_of row) (rows_in stored)) stored
-    ∙ ap (λ (rows : List Row). filter (λ row. sees_list user (list_of row) rows) rows) r.rows
-    ∙ (λ i. filter (λ row. sees-sorted user (list_of row) (rows_of book) (distinct-rows_of book) i) (in_key_order (rows_of book)))
+    rows_filter (sees_row user (rows_in stored)) stored
+    ∙ ap (λ (rows : List Row). filter (sees_row user rows) rows) r.rows
+    ∙ (λ i. filter (λ row. sees_row-sorted user (rows_of book) (distinct-rows_of book) row i) (in_key_order (rows_of book)))
 
 -- as many as the keys that the user sees
 pub visible_size : (user : List ℕ) (book : Book) (stored : List Stored) → IsReplay book stored → length (visible user stored) ≡ length (seen user (rows_of book))
@@ -142,12 +142,12 @@ puts_are user book place stored earlier r q =
     let since : List Entry = since place book in
     let base : List Stored = sighted user earlier in
     let apart : Distinct stored_key earlier = distinct-in_order stored_key earlier (stored_in_order (up_to place book) earlier q) in
-    let sight : Stored → Bool = λ (s : Stored). sees_list user (list_of s.0) (rows_in earlier) in
+    let sight : Stored → Bool = λ (s : Stored). sees_row user (rows_in earlier) s.0 in
     keys_filter (λ pair. not (list_any (λ other. bytes_eq (key_text other.0) (key_text pair.0) && (other.1 == pair.1)) (visible user earlier))) (is_news (rows_in base) rows since) (sighted user stored)
     (all_to (λ (s : Stored). find (stored_key s) stored ≡ Some s) _ (sighted user stored)
     (λ s found. news_match rows since base s (distinct-filter stored_key sight earlier apart)
     (λ was e. versions_match book place stored earlier (row_text s.0) s was r q found (passed sight (find (row_text s.0) earlier) was (sym (find-filter stored_key sight (row_text s.0) earlier apart) ∙ e))))
-    (all_filter (λ (s : Stored). find (stored_key s) stored ≡ Some s) (λ (s : Stored). sees_list user (list_of s.0) (rows_in stored)) stored (each_found stored_key stored (stored_in_order book stored r))))
+    (all_filter (λ (s : Stored). find (stored_key s) stored ≡ Some s) (λ (s : Stored). sees_row user (rows_in stored) s.0) stored (each_found stored_key stored (stored_in_order book stored r))))
     ∙ (λ i. map row_key (filter (is_news (sighted_rows user (up_to place book) earlier q i) rows since) (sighted_rows user book stored r i)))
 
 -- the dels and the puts of keys are those of their rows
@@ -168,7 +168,7 @@ puts_of stored (row ∷ rows) all = rw (put_is (find (row_text row) stored) row 
 seen_stored : (user : List ℕ) (book : Book) (stored : List Stored) → IsReplay book stored → AllByRecursion (λ row. option_map (λ (s : Stored). s.0) (find (row_text row) stored) ≡ Some row) (seen user (rows_of book))
 seen_stored user book stored r =
     all_to (λ (row : Row). row_at (row_text row) (rows_of book) ≡ Some row) _ (seen user (rows_of book)) (λ row e. stored_is book stored (row_text row) r ∙ e)
-    (all_filter (λ (row : Row). row_at (row_text row) (rows_of book) ≡ Some row) (λ row. sees_list user (list_of row) (rows_of book)) (in_key_order (rows_of book)) (each_at book))
+    (all_filter (λ (row : Row). row_at (row_text row) (rows_of book) ≡ Some row) (sees_row user (rows_of book)) (in_key_order (rows_of book)) (each_at book))
 
 -- the whole patch since a place, by the keys and versions there and now, and the rows that are stored now
 pub patch_by_keys : (user : List ℕ) (book : Book) (place : ℕ) (stored earlier : List Stored) → IsReplay book stored → IsReplay (up_to place book) earlier

@@ -7,7 +7,7 @@ ghost use Rattle.rv_rows.specs.Effects.{is_at, is_other, is_outside, may_change,
 ghost use Rattle.rv_rows.specs.declared.call.Call.TheVariants.{CreateList, CreateShare, CreateTodo};
 ghost use Rattle.std.specs.List.{filter, list_any};
 
-use crate::sharing::{has_share, may_edit, owns_list, sees};
+use crate::sharing::{has_share, may_edit, may_see, owns_list};
 use rv_base::{Id, Memory, Num, Text, User};
 use rv_rows::{Call, Kind, ListRow, Role, Row, ShareRow, TodoRow};
 use std::alloc::Global;
@@ -366,7 +366,7 @@ pub fn seen(alloc: Global, rows: &[Row], user: &User) -> Result<Vec<Row>, Memory
     let sorted = in_key_order(alloc, rows)?;
     let mut seen = Vec::new(alloc);
     for row in &sorted {
-        if sees(user, row.list(), rows) {
+        if may_see(user, row.list(), rows) {
             seen.push(row.copy(alloc)?)?;
         }
     }

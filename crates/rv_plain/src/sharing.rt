@@ -1,7 +1,7 @@
-//! Who sees a list of rows, and who may edit it.
+//! Who may see a list among rows, and who may edit it.
 ghost use Rattle.std.specs.Prelude.{◌≡◌};
 ghost use Rattle.std.specs.List.{list_any};
-ghost use Rattle.rv_rows.specs.Sharing.{is_list, owns, shares, lets_edit, sees, may_edit};
+ghost use Rattle.rv_rows.specs.Sharing.{is_list, owns, shares, lets_edit, may_edit, may_see};
 
 use rv_base::{Id, User};
 use rv_rows::Row;
@@ -48,10 +48,10 @@ fn has_list(list: &Id, rows: &[Row]) -> bool
     rows.iter().any(|row| is_list(list, row))
 }
 
-/// Whether the user sees the list: it is there, and the user owns it or a share of it names the user.
-#[tactic(auto, unfolding(rv_rows::specs::Sharing::sees))]
-pub(crate) fn sees(user: &User, list: &Id, rows: &[Row]) -> bool
-    ensures { result ≡ sees user.now list.now rows.now }
+/// Whether the user may see the list: it is there, and the user owns it or a share of it names the user.
+#[tactic(auto, unfolding(rv_rows::specs::Sharing::may_see))]
+pub(crate) fn may_see(user: &User, list: &Id, rows: &[Row]) -> bool
+    ensures { result ≡ may_see user.now list.now rows.now }
 {
     owns_list(user, list, rows) || (has_list(list, rows) && has_share(user, list, rows))
 }

@@ -16,7 +16,7 @@ use Rattle.rv_rows.specs.declared.row.Row.TheVariants as variants
 use Rattle.rv_rows.specs.declared.call.Call.{Call}
 use Rattle.rv_rows.specs.declared.call.Call.TheVariants.{CreateList, DeleteList, CreateShare, UpdateShare, DeleteShare, CreateTodo, UpdateTodo, DeleteTodo, Void}
 use Rattle.rv_rows.specs.Keys.{key_text, row_text, has_row, in_key_order}
-use Rattle.rv_rows.specs.Sharing.{owns, shares, lets_edit, is_list, list_of, sees, may_edit}
+use Rattle.rv_rows.specs.Sharing.{owns, shares, lets_edit, is_list, list_of, may_see, sees_row, may_edit}
 use Rattle.rv_rows.specs.Roles.{same_role}
 use Rattle.rv_rows.specs.Effects.{effect, is_at, may_change, may_end, ends, is_unchanged, is_outside, is_other, greater_sort, greatest_sort, next_sort, sort_after, sort_in, with_fields, after_update, may_set_role, with_role, after_role}
 use Rattle.rv_rows.specs.Changes.{same_row, same_flag}
@@ -25,13 +25,16 @@ use Rattle.rv_rows.specs.Changes.{same_row, same_flag}
 has_row-sorted : (key : List ℕ) (rows : List Row) → Distinct row_text rows → has_row key (in_key_order rows) ≡ has_row key rows
 has_row-sorted key rows h = list_any-sorted row_text (λ row. bytes_eq key (row_text row)) rows h
 
-pub sees-sorted : (user list : List ℕ) (rows : List Row) → Distinct row_text rows → sees user list (in_key_order rows) ≡ sees user list rows
-unfolding sees
-sees-sorted user list rows h =
+pub may_see-sorted : (user list : List ℕ) (rows : List Row) → Distinct row_text rows → may_see user list (in_key_order rows) ≡ may_see user list rows
+unfolding may_see
+may_see-sorted user list rows h =
     let owned = list_any-sorted row_text (owns user list) rows h in
     let there = list_any-sorted row_text (is_list list) rows h in
     let shared = list_any-sorted row_text (shares user list) rows h in
     (λ i. owned i || (there i && shared i))
+
+pub sees_row-sorted : (user : List ℕ) (rows : List Row) → Distinct row_text rows → (row : Row) → sees_row user (in_key_order rows) row ≡ sees_row user rows row
+sees_row-sorted user rows h row = may_see-sorted user (list_of row) rows h
 
 pub may_edit-sorted : (user list : List ℕ) (rows : List Row) → Distinct row_text rows → may_edit user list (in_key_order rows) ≡ may_edit user list rows
 unfolding may_edit

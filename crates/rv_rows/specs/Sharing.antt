@@ -1,4 +1,4 @@
--- Who sees what, and who may edit. A user sees a list exactly where the list is there and the user owns it or a share of that
+-- Who sees what, and who may edit. A user may see a list exactly where the list is there and the user owns it or a share of that
 -- list names the user. A user sees each such list with its shares and its todos. The owner, and a user whom a share of the list
 -- with role edit names, may add, change and remove its todos.
 use Rattle.std.specs.Prelude.{ℕ, Bool, false, List, [], ◌&&◌, ◌||◌}
@@ -33,9 +33,9 @@ lets_edit user list (variants.List row) = false
 lets_edit user list (variants.Share row) = bytes_eq row.list list && bytes_eq row.user user && is_edit row.role
 lets_edit user list (variants.Todo row) = false
 
--- The user sees the list, as one of these rows: it is there, and the user owns it or a share of it names the user.
-unfoldable pub sees : List ℕ → List ℕ → List Row → Bool
-sees user list rows = list_any (owns user list) rows || (list_any (is_list list) rows && list_any (shares user list) rows)
+-- The user may see the list, as one of these rows: it is there, and the user owns it or a share of it names the user.
+unfoldable pub may_see : List ℕ → List ℕ → List Row → Bool
+may_see user list rows = list_any (owns user list) rows || (list_any (is_list list) rows && list_any (shares user list) rows)
 
 -- The user may edit the list's todos, as one of these rows: the list is there, and the user owns it or a share of it names the
 -- user and lets the user edit.
@@ -54,6 +54,10 @@ user_of (variants.List row) = row.owner
 user_of (variants.Share row) = row.user
 user_of (variants.Todo row) = []
 
--- the rows that the user sees, those of the lists that the user sees, in the order of their keys
+-- The user sees the row, as one of these rows: the user may see the list that it is or belongs to.
+abbrev pub sees_row : List ℕ → List Row → Row → Bool
+sees_row user rows row = may_see user (list_of row) rows
+
+-- the rows that the user sees, in the order of their keys
 abbrev pub seen : List ℕ → List Row → List Row
-seen user rows = filter (λ row. sees user (list_of row) rows) (in_key_order rows)
+seen user rows = filter (sees_row user rows) (in_key_order rows)

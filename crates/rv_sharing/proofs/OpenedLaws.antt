@@ -1,4 +1,4 @@
--- Laws of the lists that a user sees, collected row by row.
+-- Laws of the lists that a user may see, collected row by row.
 use Rattle.std.proofs.Common.{◌≡◌, ℕ, Bool, true, false, cond, List, [], ◌∷◌, Option, Some, None, refl, ap, ◌∙◌, subst, ◌||◌, ◌&&◌}
 use Rattle.std.specs.List.{filter, list_any}
 use Rattle.std.specs.Option.{option_map_or}
@@ -7,7 +7,7 @@ use Rattle.std.proofs.lemmas.Slice.Eq.{bytes_eq-Decides}
 use Rattle.rv_rows.specs.declared.row.Row.{Row}
 use Rattle.rv_rows.specs.declared.row.Row.TheVariants as variants
 use Rattle.rv_rows.specs.Held.{Stored, rows_in}
-use Rattle.rv_rows.specs.Sharing.{is_list, owns, shares, sees, user_of}
+use Rattle.rv_rows.specs.Sharing.{is_list, owns, shares, may_see, user_of}
 use Rattle.rv_sharing.proofs.OwnerLaws.{same_either_way}
 use Rattle.rv_sharing.specs.Texts.{AreInOrder, AddsText}
 use Rattle.rv_sharing.proofs.TextLaws.{or_moved, or_false}
@@ -54,10 +54,10 @@ opens_is user rows list (variants.Share row) = shared (bytes_eq row.user user)
         absent false false e = refl
 opens_is user rows list (variants.Todo row) = nothing (list_any (is_list list) rows)
 
--- some row lets the user see a list exactly where the user sees it
-pub opens-sees : (user : List ℕ) (list : List ℕ) (rows : List Row) → list_any (opens user rows list) rows ≡ sees user list rows
-unfolding sees
-opens-sees user list rows = each rows
+-- some row lets the user see a list exactly where the user may see it
+pub opens-may_see : (user : List ℕ) (list : List ℕ) (rows : List Row) → list_any (opens user rows list) rows ≡ may_see user list rows
+unfolding may_see
+opens-may_see user list rows = each rows
   where
     joined : (a b s c d : Bool) → ((a || (b && s)) || (c || (b && d))) ≡ ((a || c) || (b && (s || d)))
     joined true b s c d = refl
@@ -73,10 +73,10 @@ opens-sees user list rows = each rows
         ∙ ap (λ (b : Bool). (owns user list row || (list_any (is_list list) rows && shares user list row)) || b) (each xs)
         ∙ joined (owns user list row) (list_any (is_list list) rows) (shares user list row) (list_any (owns user list) xs) (list_any (shares user list) xs)
 
--- the lists that the rows so far let the user see, with what the rest lets the user see, are all that the user sees
+-- the lists that the rows so far let the user see, with what the rest lets the user see, are all that the user may see
 pub record Opening (user : List ℕ) (rows : List Row) (lists : List (List ℕ)) (rest : List Stored) : Type 0 where
   pub order : AreInOrder lists
-  pub each : (list : List ℕ) → (list_any (bytes_eq list) lists || list_any (opens user rows list) (rows_in rest)) ≡ sees user list rows
+  pub each : (list : List ℕ) → (list_any (bytes_eq list) lists || list_any (opens user rows list) (rows_in rest)) ≡ may_see user list rows
 
 -- a row that names another lets the user see nothing
 names_another : (user : List ℕ) (rows : List Row) (list : List ℕ) (row : Row) → bytes_eq (user_of row) user ≡ false → opens user rows list row ≡ false
@@ -94,7 +94,7 @@ opens-named user rows list (s ∷ stored) =
     ] refl
 
 pub opening_begins : (user : List ℕ) (stored rest : List Stored) (lists : List (List ℕ)) → lists ≡ [] → rest ≡ filter (λ s. bytes_eq (user_of s.0) user) stored → Opening user (rows_in stored) lists rest
-opening_begins user stored rest lists none all = rw (none, all) (record { order = tt; each = λ list. opens-named user (rows_in stored) list stored ∙ opens-sees user list (rows_in stored) })
+opening_begins user stored rest lists none all = rw (none, all) (record { order = tt; each = λ list. opens-named user (rows_in stored) list stored ∙ opens-may_see user list (rows_in stored) })
 
 pub opening_more : (user : List ℕ) (rows : List Row) (rest next : List Stored) (s : Stored) (id : List ℕ) (before after : List (List ℕ)) → rest ≡ s ∷ next → Some id ≡ opened user rows s.0 → AddsText id before after
     → Opening user rows before rest → Opening user rows after next

@@ -1,5 +1,5 @@
 -- Laws of owners: among rows of which no two have one key, the owner of a list decides whether the list is there, who owns
--- it, and who sees it.
+-- it, and who may see it.
 use Rattle.std.proofs.Common.{◌≡◌, ℕ, Bool, true, false, cond, List, [], ◌∷◌, Option, Some, None, refl, sym, ap, ◌∙◌, subst, ◌||◌, ◌&&◌}
 use Rattle.std.specs.List.{list_any}
 use Rattle.std.specs.Option.{is_some, option_map, option_map_or, option_and_then}
@@ -14,7 +14,7 @@ use Rattle.rv_rows.specs.declared.row.Row.TheVariants as variants
 use Rattle.rv_rows.specs.Keys.{key_text, row_text, row_at}
 use Rattle.rv_rows.specs.Held.{Stored, rows_in, find, AreRows}
 use Rattle.rv_rows.specs.HeldLaws.{distinct-rows}
-use Rattle.rv_rows.specs.Sharing.{is_list, owns, shares, sees, lets_edit, may_edit}
+use Rattle.rv_rows.specs.Sharing.{is_list, owns, shares, may_see, lets_edit, may_edit}
 use Rattle.rv_sharing.specs.Owners.{row_owner, owner_of}
 
 -- the text of a list's key
@@ -87,10 +87,10 @@ let-owner lets user list rows apart =
     joined None = refl
     joined (Some owner) = refl
 
--- who sees a list, by its owner
-pub sees-owner : (user list : List ℕ) (rows : List Row) → Distinct row_text rows → sees user list rows ≡ option_map_or (λ owner. bytes_eq owner user || list_any (shares user list) rows) (owner_of list rows) false
-unfolding sees
-sees-owner user list rows apart = let-owner (shares user list) user list rows apart
+-- who may see a list, by its owner
+pub may_see-owner : (user list : List ℕ) (rows : List Row) → Distinct row_text rows → may_see user list rows ≡ option_map_or (λ owner. bytes_eq owner user || list_any (shares user list) rows) (owner_of list rows) false
+unfolding may_see
+may_see-owner user list rows apart = let-owner (shares user list) user list rows apart
 
 -- who may edit a list, by its owner
 may_edit-owner : (user list : List ℕ) (rows : List Row) → Distinct row_text rows → may_edit user list rows ≡ option_map_or (λ owner. bytes_eq owner user || list_any (lets_edit user list) rows) (owner_of list rows) false
@@ -105,12 +105,12 @@ owner-found list stored = joined (find (list_key list) stored) ∙ ap (λ (o : O
     joined None = refl
     joined (Some s) = refl
 
--- who sees a list of a table, by what is known of its owner
-pub sees-owned : (user list owner : List ℕ) (stored : List Stored) → AreRows stored → Some owner ≡ owner_of list (rows_in stored) → sees user list (rows_in stored) ≡ (bytes_eq owner user || list_any (shares user list) (rows_in stored))
-sees-owned user list owner stored order is = sees-owner user list (rows_in stored) (distinct-rows stored order) ∙ ap (λ (o : Option (List ℕ)). option_map_or (λ owner. bytes_eq owner user || list_any (shares user list) (rows_in stored)) o false) (sym is)
+-- who may see a list of a table, by what is known of its owner
+pub may_see-owned : (user list owner : List ℕ) (stored : List Stored) → AreRows stored → Some owner ≡ owner_of list (rows_in stored) → may_see user list (rows_in stored) ≡ (bytes_eq owner user || list_any (shares user list) (rows_in stored))
+may_see-owned user list owner stored order is = may_see-owner user list (rows_in stored) (distinct-rows stored order) ∙ ap (λ (o : Option (List ℕ)). option_map_or (λ owner. bytes_eq owner user || list_any (shares user list) (rows_in stored)) o false) (sym is)
 
-pub sees-absent : (user list : List ℕ) (stored : List Stored) → AreRows stored → None ≡ owner_of list (rows_in stored) → sees user list (rows_in stored) ≡ false
-sees-absent user list stored order is = sees-owner user list (rows_in stored) (distinct-rows stored order) ∙ ap (λ (o : Option (List ℕ)). option_map_or (λ owner. bytes_eq owner user || list_any (shares user list) (rows_in stored)) o false) (sym is)
+pub may_see-absent : (user list : List ℕ) (stored : List Stored) → AreRows stored → None ≡ owner_of list (rows_in stored) → may_see user list (rows_in stored) ≡ false
+may_see-absent user list stored order is = may_see-owner user list (rows_in stored) (distinct-rows stored order) ∙ ap (λ (o : Option (List ℕ)). option_map_or (λ owner. bytes_eq owner user || list_any (shares user list) (rows_in stored)) o false) (sym is)
 
 -- who may edit a list of a table, by what is known of its owner
 pub may_edit-owned : (user list owner : List ℕ) (stored : List Stored) → AreRows stored → Some owner ≡ owner_of list (rows_in stored) → may_edit user list (rows_in stored) ≡ (bytes_eq owner user || list_any (lets_edit user list) (rows_in stored))

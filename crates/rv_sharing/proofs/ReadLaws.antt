@@ -12,7 +12,7 @@ use Rattle.std.proofs.lemmas.Slice.Eq.{bytes_eq-Decides}
 use Rattle.rv_base.specs.Positions.{Above}
 use Rattle.rv_rows.specs.Held.{Stored, rows_in}
 use Rattle.rv_rows.specs.Keys.{row_key}
-use Rattle.rv_rows.specs.Sharing.{list_of, sees}
+use Rattle.rv_rows.specs.Sharing.{list_of, sees_row}
 use Rattle.rv_sharing.specs.Texts.{AreInOrder}
 use Rattle.rv_sharing.specs.Opened.{AreOpened}
 use Rattle.rv_sharing.specs.Gathered.{of_list, rows_at, rows_in_lists}
@@ -71,8 +71,8 @@ pub read_seen : (user : List ℕ) (stored : List Stored) (held lists : List (Lis
 read_seen user stored held lists same are =
     ap (λ (ls : List (List ℕ)). rows_in_lists ls stored) same
     ∙ lists_apart lists stored are.order
-    ∙ same_count (λ s. list_any (bytes_eq (list_of s.0)) lists) (λ s. sees user (list_of s.0) (rows_in stored)) stored (λ s. are.each (list_of s.0))
-    ∙ sym (length-map (filter (λ s. sees user (list_of s.0) (rows_in stored)) stored) (λ s. (row_key s.0, s.1)))
+    ∙ same_count (λ s. list_any (bytes_eq (list_of s.0)) lists) (λ s. sees_row user (rows_in stored) s.0) stored (λ s. are.each (list_of s.0))
+    ∙ sym (length-map (filter (λ s. sees_row user (rows_in stored) s.0) stored) (λ s. (row_key s.0, s.1)))
 
 length_at : (rows : List Item) → length (rows_at rows) ≡ length rows
 length_at [] = refl

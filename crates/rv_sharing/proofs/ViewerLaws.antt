@@ -15,9 +15,9 @@ use Rattle.rv_rows.specs.declared.row.TodoRow.{TodoRow}
 use Rattle.rv_rows.specs.declared.row.Row.TheVariants as variants
 use Rattle.rv_rows.specs.Keys.{key_text, row_text}
 use Rattle.rv_rows.specs.Held.{Stored, rows_in, find, stored_key, AreRows}
-use Rattle.rv_rows.specs.Sharing.{shares, sees, lets_edit, list_of, user_of}
+use Rattle.rv_rows.specs.Sharing.{shares, may_see, lets_edit, list_of, user_of}
 use Rattle.rv_sharing.specs.Owners.{owner_of}
-use Rattle.rv_sharing.proofs.OwnerLaws.{same_either_way, sees-owned, sees-absent}
+use Rattle.rv_sharing.proofs.OwnerLaws.{same_either_way, may_see-owned, may_see-absent}
 use Rattle.rv_sharing.specs.Texts.{AreInOrder, AddsText}
 use Rattle.rv_sharing.proofs.TextLaws.{or_moved, or_false}
 use Rattle.rv_sharing.specs.Opened.{list_passes, AreListsOf}
@@ -138,7 +138,7 @@ adding_stops list rows before users after rest next s todo first is same adding 
     nothing : (u : List ℕ) (s : Stored) → s.0 ≡ variants.Todo todo → AreRows (s ∷ next) → (shares u list s.0 || list_any (shares u list) (rows_in next)) ≡ false
     nothing u s is order = rw is (no_shares u list todo next (subst (λ (row : Row). Above stored_key (row_text row) next) is order.0))
 
--- the owner and the shares' users are those who see the list
+-- the owner and the shares' users are those who may see the list
 pub viewers_owned : (list owner : List ℕ) (stored : List Stored) (before owned after : List (List ℕ)) → AreRows stored → Some owner ≡ owner_of list (rows_in stored) → AddsText owner before owned → AddsSharers (rows_in stored) list owned after
     → AddsViewers (rows_in stored) list before after
 viewers_owned list owner stored before owned after rows is adds shared = record {
@@ -147,7 +147,7 @@ viewers_owned list owner stored before owned after rows is adds shared = record 
       shared.each u
       ∙ ap (λ (b : Bool). b || list_any (shares u list) (rows_in stored)) (adds.each (bytes_eq u) ∙ ap (λ (b : Bool). b || list_any (bytes_eq u) before) (same_either_way u owner))
       ∙ or_moved (bytes_eq owner u) (list_any (bytes_eq u) before) (list_any (shares u list) (rows_in stored))
-      ∙ ap (λ (b : Bool). list_any (bytes_eq u) before || b) (sym (sees-owned u list owner stored rows is));
+      ∙ ap (λ (b : Bool). list_any (bytes_eq u) before || b) (sym (may_see-owned u list owner stored rows is));
 }
 
 pub viewers_shared : {E : Type 0} (list owner : List ℕ) (stored : List Stored) (before owned : List (List ℕ)) (r : Result (List (List ℕ)) E) → AreRows stored → Some owner ≡ owner_of list (rows_in stored) → AddsText owner before owned
@@ -158,7 +158,7 @@ viewers_shared list owner stored before owned (Err e) rows is adds shared = tt
 pub viewers_absent : (list : List ℕ) (stored : List Stored) (before : List (List ℕ)) → AreRows stored → None ≡ owner_of list (rows_in stored) → AreInOrder before → AddsViewers (rows_in stored) list before before
 viewers_absent list stored before rows is order = record {
   order = order;
-  each = λ u. or_false (list_any (bytes_eq u) before) ∙ ap (λ (b : Bool). list_any (bytes_eq u) before || b) (sym (sees-absent u list stored rows is));
+  each = λ u. or_false (list_any (bytes_eq u) before) ∙ ap (λ (b : Bool). list_any (bytes_eq u) before || b) (sym (may_see-absent u list stored rows is));
 }
 
 -- the lists of keys, key by key
@@ -194,10 +194,10 @@ lists_same stored keys i key lists lt at is are = record {
       ∙ sym (list_any_more (list_passes p (rows_in stored)) keys i key lt);
 }
 
--- the users who see one of some lists, list by list
+-- the users who may see one of some lists, list by list
 pub record Viewing (rows : List Row) (lists users : List (List ℕ)) : Type 0 where
   pub order : AreInOrder users
-  pub each : (user : List ℕ) → list_any (bytes_eq user) users ≡ list_any (λ list. sees user list rows) lists
+  pub each : (user : List ℕ) → list_any (bytes_eq user) users ≡ list_any (λ list. may_see user list rows) lists
 
 pub viewing_begins : (rows : List Row) (lists users : List (List ℕ)) → users ≡ [] → Viewing rows (take 0 lists) users
 viewing_begins rows lists users none = rw none (record { order = tt; each = λ u. refl })
@@ -208,14 +208,14 @@ viewing_more rows lists i list before after lt at adds viewing = record {
   order = adds.order;
   each = λ u.
       adds.each u
-      ∙ ap (λ (b : Bool). b || sees u list rows) (viewing.each u)
-      ∙ ap (λ (l : List ℕ). list_any (λ list. sees u list rows) (take i lists) || sees u l rows) at
-      ∙ sym (list_any_more (λ list. sees u list rows) lists i list lt);
+      ∙ ap (λ (b : Bool). b || may_see u list rows) (viewing.each u)
+      ∙ ap (λ (l : List ℕ). list_any (λ list. may_see u list rows) (take i lists) || may_see u l rows) at
+      ∙ sym (list_any_more (λ list. may_see u list rows) lists i list lt);
 }
 
 -- they see one of the keys
 pub viewing_ends : (rows : List Row) (keys : List Key) (lists users : List (List ℕ)) (i : ℕ) → length lists ≤ i → AreListsOf rows keys lists → Viewing rows (take i lists) users → AreAffected rows keys users
 viewing_ends rows keys lists users i le are viewing = record {
   order = viewing.order;
-  each = λ u. viewing.each u ∙ ap (λ (ls : List (List ℕ)). list_any (λ list. sees u list rows) ls) (take_all i lists le) ∙ are.each (λ list. sees u list rows);
+  each = λ u. viewing.each u ∙ ap (λ (ls : List (List ℕ)). list_any (λ list. may_see u list rows) ls) (take_all i lists le) ∙ are.each (λ list. may_see u list rows);
 }

@@ -10,7 +10,7 @@ use Rattle.rv_rows.specs.declared.key.Key.{Key}
 use Rattle.rv_rows.specs.declared.row.Row.{Row}
 use Rattle.rv_rows.specs.Keys.{key_text, row_key}
 use Rattle.rv_rows.specs.Held.{Stored, AreRows, find, stored_key, rows_in}
-use Rattle.rv_rows.specs.Sharing.{list_of, sees}
+use Rattle.rv_rows.specs.Sharing.{list_of, sees_row}
 use Rattle.rv_sharing.specs.Opened.{AreOpened}
 use Rattle.rv_sharing.specs.Gathered.{rows_at, keys_at, Stand}
 use Rattle.rv_sharing.specs.Visible.{visible}
@@ -71,4 +71,4 @@ in_order-pairs [] h = tt
 in_order-pairs (x ∷ xs) h = (above-pairs (stored_key x) xs h.0, in_order-pairs xs h.1)
 
 pub visible_in_order : (user : List ℕ) (stored : List Stored) (keys : List (Key × ℕ)) → keys ≡ visible user stored → AreRows stored → InOrder (λ (p : Key × ℕ). key_text p.0) keys
-visible_in_order user stored keys is h = rw is (in_order-pairs _ (in_order-filter stored_key (λ s. sees user (list_of s.0) (rows_in stored)) stored h))
+visible_in_order user stored keys is h = rw is (in_order-pairs _ (in_order-filter stored_key (λ s. sees_row user (rows_in stored) s.0) stored h))

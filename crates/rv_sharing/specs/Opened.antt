@@ -1,4 +1,4 @@
--- The lists that a user sees, and the lists of keys.
+-- The lists that a user may see, and the lists of keys.
 use Rattle.std.specs.Prelude.{◌≡◌, ℕ, Bool, false, List, Option, Some, None, ◌&&◌, if◌then◌else◌}
 use Rattle.std.specs.List.{list_any}
 use Rattle.std.specs.Option.{option_map_or}
@@ -7,7 +7,7 @@ use Rattle.rv_rows.specs.declared.key.Key.{Key}
 use Rattle.rv_rows.specs.declared.row.Row.{Row}
 use Rattle.rv_rows.specs.declared.row.Row.TheVariants as variants
 use Rattle.rv_rows.specs.Keys.{key_text, row_at}
-use Rattle.rv_rows.specs.Sharing.{is_list, sees, list_of}
+use Rattle.rv_rows.specs.Sharing.{is_list, may_see, list_of}
 use Rattle.rv_sharing.specs.Texts.{AreInOrder}
 
 -- the list that the row lets the user see: one that the user owns, or one that is there and shared with the user
@@ -16,10 +16,10 @@ opened user rows (variants.List row) = if bytes_eq row.owner user then Some row.
 opened user rows (variants.Share row) = if bytes_eq row.user user && list_any (is_list row.list) rows then Some row.list else None
 opened user rows (variants.Todo row) = None
 
--- these are the lists that the user sees
+-- these are the lists that the user may see
 pub record AreOpened (user : List ℕ) (rows : List Row) (lists : List (List ℕ)) : Type 0 where
   pub order : AreInOrder lists
-  pub each : (list : List ℕ) → list_any (bytes_eq list) lists ≡ sees user list rows
+  pub each : (list : List ℕ) → list_any (bytes_eq list) lists ≡ may_see user list rows
 
 -- the key's row is there, and the list that it is or belongs to passes the test
 abbrev pub list_passes : (List ℕ → Bool) → List Row → Key → Bool

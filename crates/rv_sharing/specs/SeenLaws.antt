@@ -14,9 +14,9 @@ use Rattle.rv_rows.specs.declared.key.Key.{Key}
 use Rattle.rv_rows.specs.declared.row.Row.{Row}
 use Rattle.rv_rows.specs.declared.row.Row.TheVariants as variants
 use Rattle.rv_rows.specs.Keys.{key_text, row_key, row_text, row_at, has_row, in_key_order}
-use Rattle.rv_rows.specs.Sharing.{is_list, owns, shares, sees, list_of, seen}
+use Rattle.rv_rows.specs.Sharing.{is_list, owns, shares, may_see, sees_row, list_of, seen}
 use Rattle.rv_rows.specs.Changes.{same_row, is_new, is_gone, written, lost}
-use Rattle.rv_rows.specs.EffectLaws.{sees-sorted, same_row-Decides}
+use Rattle.rv_rows.specs.EffectLaws.{sees_row-sorted, same_row-Decides}
 use Rattle.rv_sharing.specs.Affected.{sees_key}
 
 -- the keys that are touched from the rows before to those after: the keys that are lost, and those of the rows that are written
@@ -210,18 +210,18 @@ none_touched q before after g h same = any-touched q before after h ∙ or-false
 
 -- the user sees what is found at the key
 abbrev sees_at : List ℕ → List Row → List ℕ → Bool
-sees_at user rows k = option_map_or (λ row. sees user (list_of row) rows) (row_at k rows) false
+sees_at user rows k = option_map_or (sees_row user rows) (row_at k rows) false
 
-sees_at-row : (user : List ℕ) (rows : List Row) (k : List ℕ) → sees_at user rows k ≡ true → (row : Row) × (row_at k rows ≡ Some row) × (sees user (list_of row) rows ≡ true)
+sees_at-row : (user : List ℕ) (rows : List Row) (k : List ℕ) → sees_at user rows k ≡ true → (row : Row) × (row_at k rows ≡ Some row) × (sees_row user rows row ≡ true)
 sees_at-row user rows k e =
-    by_found (λ o. option_map_or (λ row. sees user (list_of row) rows) o false ≡ true → (row : Row) × (o ≡ Some row) × (sees user (list_of row) rows ≡ true)) (row_at k rows)
+    by_found (λ o. option_map_or (sees_row user rows) o false ≡ true → (row : Row) × (o ≡ Some row) × (sees_row user rows row ≡ true)) (row_at k rows)
     (λ n f. absurd (cc)) (λ row s f. (row, refl, f)) e
 
-sees_at-from : (user : List ℕ) (rows : List Row) (k : List ℕ) (row : Row) → row_at k rows ≡ Some row → sees user (list_of row) rows ≡ true → sees_at user rows k ≡ true
+sees_at-from : (user : List ℕ) (rows : List Row) (k : List ℕ) (row : Row) → row_at k rows ≡ Some row → sees_row user rows row ≡ true → sees_at user rows k ≡ true
 sees_at-from user rows k row e is = rw e is
 
 sees_at-sorted : (user : List ℕ) (rows : List Row) (k : List ℕ) → Distinct row_text rows → sees_at user (in_key_order rows) k ≡ sees_at user rows k
-sees_at-sorted user rows k h = λ i. option_map_or (λ row. sees-sorted user (list_of row) rows h i) (find-sorted row_text k rows h i) false
+sees_at-sorted user rows k h = λ i. option_map_or (λ row. sees_row-sorted user rows h row i) (find-sorted row_text k rows h i) false
 
 -- some touched key is seen before or after, with the rows afterwards in any order
 sees_touched-is : (user : List ℕ) (before after : List Row) → Distinct row_text after
@@ -230,27 +230,27 @@ sees_touched-is user before after h = λ i. list_any (sees_key before user) (tou
 
 -- What a user sees does not depend on the order of the rows.
 pub seen-sorted : (user : List ℕ) (rows : List Row) → Distinct row_text rows → seen user (in_key_order rows) ≡ seen user rows
-seen-sorted user rows h = λ i. filter (λ row. sees-sorted user (list_of row) rows h i) (sorted-sorted row_text rows i)
+seen-sorted user rows h = λ i. filter (λ row. sees_row-sorted user rows h row i) (sorted-sorted row_text rows i)
 
 -- what is found among the rows that the user sees
-find-seen : (user : List ℕ) (rows : List Row) (k : List ℕ) → Distinct row_text rows → row_at k (seen user rows) ≡ option_filter (λ row. sees user (list_of row) rows) (row_at k rows)
+find-seen : (user : List ℕ) (rows : List Row) (k : List ℕ) → Distinct row_text rows → row_at k (seen user rows) ≡ option_filter (sees_row user rows) (row_at k rows)
 find-seen user rows k h =
-    let p : Row → Bool = λ row. sees user (list_of row) rows in
+    let p : Row → Bool = sees_row user rows in
     find-filter row_text p k (in_key_order rows) (distinct-sorted row_text rows) ∙ ap (option_filter p) (find-sorted row_text k rows h)
 
--- what the user sees at a key stands there, and the user sees its list
-pub seen-found : (user : List ℕ) (rows : List Row) (k : List ℕ) (row : Row) → Distinct row_text rows → row_at k (seen user rows) ≡ Some row → (row_at k rows ≡ Some row) × (sees user (list_of row) rows ≡ true)
-seen-found user rows k row h e = passed (λ row. sees user (list_of row) rows) (row_at k rows) row (sym (find-seen user rows k h) ∙ e)
+-- what the user sees at a key stands there, and the user sees the row
+pub seen-found : (user : List ℕ) (rows : List Row) (k : List ℕ) (row : Row) → Distinct row_text rows → row_at k (seen user rows) ≡ Some row → (row_at k rows ≡ Some row) × (sees_row user rows row ≡ true)
+seen-found user rows k row h e = passed (sees_row user rows) (row_at k rows) row (sym (find-seen user rows k h) ∙ e)
 
-found-seen : (user : List ℕ) (rows : List Row) (k : List ℕ) (row : Row) → Distinct row_text rows → row_at k rows ≡ Some row → sees user (list_of row) rows ≡ true → row_at k (seen user rows) ≡ Some row
+found-seen : (user : List ℕ) (rows : List Row) (k : List ℕ) (row : Row) → Distinct row_text rows → row_at k rows ≡ Some row → sees_row user rows row ≡ true → row_at k (seen user rows) ≡ Some row
 found-seen user rows k row h e is = find-seen user rows k h ∙ rw (e, is) refl
 
 seen_in_order : (user : List ℕ) (rows : List Row) → InOrder row_text (seen user rows)
-seen_in_order user rows = in_order-filter row_text (λ row. sees user (list_of row) rows) (in_key_order rows) (in_order-sorted row_text rows)
+seen_in_order user rows = in_order-filter row_text (sees_row user rows) (in_key_order rows) (in_order-sorted row_text rows)
 
 -- each row that the user sees among the first rows stands among the others
 abbrev Keeps : List ℕ → List Row → List Row → Type 0
-Keeps user rows others = (row : Row) → row_at (row_text row) rows ≡ Some row → sees user (list_of row) rows ≡ true → row_at (row_text row) others ≡ Some row
+Keeps user rows others = (row : Row) → row_at (row_text row) rows ≡ Some row → sees_row user rows row ≡ true → row_at (row_text row) others ≡ Some row
 
 -- the rows that show a list to a user belong to it
 owns-list : (user list : List ℕ) (row : Row) → owns user list row ≡ true → list_of row ≡ list
@@ -268,16 +268,16 @@ shares-list user list (variants.List row) e = absurd (cc)
 shares-list user list (variants.Share row) e = (bytes_eq-Decides row.list list).0 (and-both _ _ e).0
 shares-list user list (variants.Todo row) e = absurd (cc)
 
--- so where the rows that a user sees are kept, the lists that the user sees are
-any-kept : (p : Row → Bool) (user list : List ℕ) (rows others : List Row) → Distinct row_text rows → Keeps user rows others → sees user list rows ≡ true → ((row : Row) → p row ≡ true → list_of row ≡ list)
+-- so where the rows that a user sees are kept, the lists that the user may see are
+any-kept : (p : Row → Bool) (user list : List ℕ) (rows others : List Row) → Distinct row_text rows → Keeps user rows others → may_see user list rows ≡ true → ((row : Row) → p row ≡ true → list_of row ≡ list)
     → list_any p rows ≡ true → list_any p others ≡ true
 any-kept p user list rows others h keeps is of e =
     let found = any-found row_text p rows h e in
-    found-passes row_text p (row_text found.0) others found.0 (keeps found.0 found.1 (subst (λ (l : List ℕ). sees user l rows ≡ true) (sym (of found.0 found.2)) is)) found.2
+    found-passes row_text p (row_text found.0) others found.0 (keeps found.0 found.1 (subst (λ (l : List ℕ). may_see user l rows ≡ true) (sym (of found.0 found.2)) is)) found.2
 
-sees-kept : (user list : List ℕ) (rows others : List Row) → Distinct row_text rows → Keeps user rows others → sees user list rows ≡ true → sees user list others ≡ true
-unfolding sees
-sees-kept user list rows others h keeps is =
+may_see-kept : (user list : List ℕ) (rows others : List Row) → Distinct row_text rows → Keeps user rows others → may_see user list rows ≡ true → may_see user list others ≡ true
+unfolding may_see
+may_see-kept user list rows others h keeps is =
     shown_again _ _ _ _ _ _
     (any-kept (owns user list) user list rows others h keeps is (owns-list user list))
     (any-kept (is_list list) user list rows others h keeps is (is_list-list list))
@@ -291,7 +291,7 @@ seen-kept user rows others g h keeps k row e =
     let found = seen-found user rows k row g e in
     let one : k ≡ row_text row = find-key row_text k rows row found.0 in
     let stands : row_at k others ≡ Some row = subst (λ (t : List ℕ). row_at t others ≡ Some row) (sym one) (keeps row (at_own row_text k rows row found.0) found.1) in
-    found-seen user others k row h stands (sees-kept user (list_of row) rows others g keeps found.1)
+    found-seen user others k row h stands (may_see-kept user (list_of row) rows others g keeps found.1)
 
 -- Where a user sees no touched key, before or after, the user sees the same.
 pub untouched_seen : (user : List ℕ) (before after : List Row) → InOrder row_text before → Distinct row_text after → sees_touched user before after ≡ false → seen user after ≡ seen user before

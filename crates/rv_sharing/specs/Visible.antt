@@ -4,7 +4,7 @@ use Rattle.std.specs.List.{filter}
 use Rattle.rv_rows.specs.declared.key.Key.{Key}
 use Rattle.rv_rows.specs.Keys.{row_key}
 use Rattle.rv_rows.specs.Held.{Stored, rows_in}
-use Rattle.rv_rows.specs.Sharing.{sees, list_of}
+use Rattle.rv_rows.specs.Sharing.{sees_row}
 
 abbrev pub visible : List ℕ → List Stored → List (Key × ℕ)
-visible user stored = map (λ s. (row_key s.0, s.1)) (filter (λ s. sees user (list_of s.0) (rows_in stored)) stored)
+visible user stored = map (λ s. (row_key s.0, s.1)) (filter (λ s. sees_row user (rows_in stored) s.0) stored)

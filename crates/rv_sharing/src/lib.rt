@@ -1,6 +1,6 @@
 //! Who sees which rows, and who may edit them.
 //!
-//! A user sees a list exactly where the list is there and the user owns it or a share of that list names the user. A
+//! A user may see a list exactly where the list is there and the user owns it or a share of that list names the user. A
 //! user sees each such list, with its shares and its todos, and may edit the todos of a list that is the user's own or of
 //! which such a share has role edit. The calls here are these rules over [`Tables`](rv_rows::Tables).
 #![tactic(auto)]
@@ -11,6 +11,6 @@ mod texts;
 mod viewers;
 mod views;
 
-pub use lists::{has_list, has_share, may_edit, owner_of, owns, sees};
+pub use lists::{has_list, has_share, may_edit, may_see, owner_of, owns};
 pub use viewers::{add_sharers, add_user, add_viewers, affected};
 pub use views::{keys_of, rows_seen, visible};

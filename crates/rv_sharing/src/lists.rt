@@ -1,8 +1,8 @@
-// Who owns a list, who sees it, and who may edit it.
+// Who owns a list, who may see it, and who may edit it.
 ghost use Rattle.std.specs.Prelude.{◌≡◌, option_map};
 ghost use Rattle.std.specs.List.{list_any};
 ghost use Rattle.rv_rows.specs.Held.{rows_in, AreRows};
-ghost use Rattle.rv_rows.specs.Sharing.{is_list, lets_edit, may_edit, owns, sees, shares};
+ghost use Rattle.rv_rows.specs.Sharing.{is_list, lets_edit, may_edit, may_see, owns, shares};
 ghost use Rattle.rv_sharing.specs.Owners.{row_owner, owner_of};
 
 use rv_base::{Id, User};
@@ -59,9 +59,9 @@ pub fn has_share(tables: &Tables, user: &User, list: &Id) -> bool
     false
 }
 
-/// Whether the user sees the list: it is there, and the user owns it or a share of it names the user. Takes no memory.
-pub fn sees(tables: &Tables, user: &User, list: &Id) -> bool
-    ensures { result ≡ sees user.now list.now (rows_in tables.now.rows) }
+/// Whether the user may see the list: it is there, and the user owns it or a share of it names the user. Takes no memory.
+pub fn may_see(tables: &Tables, user: &User, list: &Id) -> bool
+    ensures { result ≡ may_see user.now list.now (rows_in tables.now.rows) }
 {
     match owner_of(tables, list) {
         Some(owner) => owner == user || has_share(tables, user, list),

@@ -68,7 +68,7 @@ pub fn add_sharers(alloc: Global, users: Users, tables: &Tables, list: &Id) -> R
     Ok(Sequence::from_vec(users))
 }
 
-/// The users and those who see the list. They stand in the order of their bytes, each once.
+/// The users and those who may see the list. They stand in the order of their bytes, each once.
 pub fn add_viewers(alloc: Global, users: Users, tables: &Tables, list: &Id) -> Result<Users, Memory>
     requires { AreInOrder users }
     ensures { IfOk result (AddsViewers (rows_in tables.now.rows) list.now users) }

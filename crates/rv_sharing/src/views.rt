@@ -37,7 +37,7 @@ fn opened<'r>(tables: &Tables, user: &User, row: &'r Row) -> Option<&'r Id>
     }
 }
 
-// The lists that the user sees, in order, each once: those that a row lets the user see that names the user.
+// The lists that the user may see, in order, each once: those that a row lets the user see that names the user.
 fn lists_opened(alloc: Global, tables: &Tables, user: &User) -> Result<Vec<Id>, Memory>
     ensures lists { IfOk result (λ lists. AreOpened user.now (rows_in tables.now.rows) lists.items) }
     ensures order { AreRows tables.now.rows }
