@@ -108,7 +108,7 @@ all_weaker P Q (x ∷ xs) weaker all = (weaker x all.0, all_weaker P Q xs weaker
 
 pub sorted_whole : (rows : List Row) → Distinct row_text rows → AreWhole rows → AreWhole (in_key_order rows)
 sorted_whole rows distinct whole = record {
-  listed = all_weaker _ _ sorted (λ row is. list_any-sorted row_text (is_list (list_of row)) rows distinct ∙ is) (all_there _ rows sorted whole.listed there);
+  listed = all_weaker _ _ sorted (λ row is. (λ i. option_map_or (λ list. list_any-sorted row_text (is_list list) rows distinct i) (list_of row) true) ∙ is) (all_there _ rows sorted whole.listed there);
   once = apart sorted (in_order-sorted row_text rows) there;
   others = all_weaker _ _ sorted (λ row is. other row ∙ is) (all_there _ rows sorted whole.others there);
 }

@@ -2,6 +2,7 @@
 -- share names its list's owner. Each call keeps them so.
 use Rattle.std.proofs.Common.{◌≡◌, ℕ, Bool, true, false, cond, not, List, [], ◌∷◌, ◌++◌, ◌||◌, ◌&&◌, map, Option, Some, None, refl, sym, ap, ◌∙◌, subst}
 use Rattle.std.specs.List.{filter, list_any, AllByRecursion}
+use Rattle.std.specs.Option.{option_map_or}
 use Rattle.std.specs.Str.{bytes_eq}
 use Rattle.std.proofs.Math.Bool.{or-false, or-true}
 use Rattle.std.proofs.lemmas.List.Folds.{list_any-append}
@@ -15,9 +16,9 @@ use Rattle.rv_rows.specs.declared.row.Row.TheVariants as variants
 use Rattle.rv_rows.specs.declared.call.Call.{Call}
 use Rattle.rv_rows.specs.declared.call.Call.TheVariants.{CreateList, DeleteList, CreateShare, UpdateShare, DeleteShare, CreateTodo, UpdateTodo, DeleteTodo, Void}
 use Rattle.rv_rows.specs.Keys.{key_text, row_text, has_row}
-use Rattle.rv_rows.specs.Sharing.{is_list, list_of, owns, shares, lets_edit, may_edit}
+use Rattle.rv_rows.specs.Sharing.{is_list, list_of, list_passes, owns, shares, lets_edit, may_edit}
 use Rattle.rv_rows.specs.Effects.{after_role, after_update, effect, ends, is_at, is_other, is_outside, is_unchanged, may_change, may_end, may_set_role, may_share, next_sort, with_fields, with_role}
-use Rattle.rv_book.specs.SoundPages.{share_alike, shared_with_owner, AreSharedOnce}
+use Rattle.rv_book.specs.SoundPages.{has_its_list, share_alike, shared_with_owner, AreSharedOnce}
 
 -- ---- Lists.
 
@@ -91,7 +92,7 @@ any_through p g (x ∷ xs) same = (λ i. same x i || any_through p g xs same i)
 -- ---- What holds of the rows.
 
 pub record AreWhole (rows : List Row) : Type 0 where
-  pub listed : AllByRecursion (λ row. list_any (is_list (list_of row)) rows ≡ true) rows
+  pub listed : AllByRecursion (λ row. has_its_list rows row ≡ true) rows
   pub once : AreSharedOnce rows
   pub others : AllByRecursion (λ row. shared_with_owner rows row ≡ false) rows
 
@@ -105,10 +106,15 @@ once_push : (rows : List Row) (row : Row) → AllByRecursion (λ other. share_al
 once_push [] row apart once = (tt, tt)
 once_push (other ∷ rows) row apart once = (all_push _ rows row once.0 apart.0, once_push rows row apart.1 once.1)
 
-pub push_whole : (rows : List Row) (row : Row) → AreWhole rows → list_any (is_list (list_of row)) (rows ++ row ∷ []) ≡ true → AllByRecursion (λ other. share_alike other row ≡ false) rows
+-- what holds of a row's list, where it has one
+its_list_too : (p q : List ℕ → Bool) → ((list : List ℕ) → p list ≡ true → q list ≡ true) → (o : Option (List ℕ)) → option_map_or p o true ≡ true → option_map_or q o true ≡ true
+its_list_too p q too None is = refl
+its_list_too p q too (Some list) is = too list is
+
+pub push_whole : (rows : List Row) (row : Row) → AreWhole rows → has_its_list (rows ++ row ∷ []) row ≡ true → AllByRecursion (λ other. share_alike other row ≡ false) rows
     → AllByRecursion (λ other. shared_with_owner (rows ++ row ∷ []) other ≡ false) rows → shared_with_owner (rows ++ row ∷ []) row ≡ false → AreWhole (rows ++ row ∷ [])
 push_whole rows row whole listed apart others own = record {
-  listed = all_push _ rows row (all_weaker _ _ rows (λ other is. list_any-append (is_list (list_of other)) rows (row ∷ []) ∙ ap (λ (b : Bool). b || list_any (is_list (list_of other)) (row ∷ [])) is) whole.listed) listed;
+  listed = all_push _ rows row (all_weaker _ _ rows (λ other is. its_list_too _ _ (λ list is. list_any-append (is_list list) rows (row ∷ []) ∙ ap (λ (b : Bool). b || list_any (is_list list) (row ∷ [])) is) (list_of other) is) whole.listed) listed;
   once = once_push rows row apart whole.once;
   others = all_push _ rows row others own;
 }
@@ -171,13 +177,22 @@ once_filter f (row ∷ rows) once =
       | false ↦ once_filter f rows once.1
     ]
 
-pub filter_whole : (f : Row → Bool) (rows : List Row) → ((row list : Row) → f row ≡ true → is_list (list_of row) list ≡ true → f list ≡ true) → AreWhole rows → AreWhole (filter f rows)
+-- a row that is no list is no row's list
+pub names_none : (o : Option (List ℕ)) → option_map_or (λ id. false) o false ≡ true → ⊥
+names_none None here = cc
+names_none (Some id) here = cc
+
+pub filter_whole : (f : Row → Bool) (rows : List Row) → ((row list : Row) → f row ≡ true → list_passes (λ id. is_list id list) row ≡ true → f list ≡ true) → AreWhole rows → AreWhole (filter f rows)
 filter_whole f rows lists whole = record {
-  listed = all_filter f _ _ rows (λ row stays is. any_filter (is_list (list_of row)) f rows (λ list here. lists row list stays here) is) whole.listed;
+  listed = all_filter f _ _ rows (λ row stays is. left row stays (list_of row) refl is) whole.listed;
   once = once_filter f rows whole.once;
   others = all_filter f _ _ rows (λ row stays is. each row is) whole.others;
 }
   where
+    left : (row : Row) → f row ≡ true → (o : Option (List ℕ)) → list_of row ≡ o → option_map_or (λ list. list_any (is_list list) rows) o true ≡ true → option_map_or (λ list. list_any (is_list list) (filter f rows)) o true ≡ true
+    left row stays None of is = refl
+    left row stays (Some id) of is = any_filter (is_list id) f rows (λ list here. lists row list stays (ap (λ (o : Option (List ℕ)). option_map_or (λ id. is_list id list) o false) of ∙ here)) is
+
     each : (row : Row) → shared_with_owner rows row ≡ false → shared_with_owner (filter f rows) row ≡ false
     each (variants.List row) is = refl
     each (variants.Share row) is = none_filter (owns row.user row.list) f rows is
@@ -199,7 +214,7 @@ once_through g (row ∷ rows) keeps once = (all_through g _ _ rows (λ later is.
 
 through_whole : (g : Row → Row) (rows : List Row) → Keeps g → AreWhole rows → AreWhole (map g rows)
 through_whole g rows keeps whole = record {
-  listed = all_through g _ _ rows (λ row is. ap (λ (list : List ℕ). list_any (is_list list) (map g rows)) (keeps.listed row) ∙ any_through (is_list (list_of row)) g rows (keeps.is (list_of row)) ∙ is) whole.listed;
+  listed = all_through g _ _ rows (λ row is. ap (λ (o : Option (List ℕ)). option_map_or (λ list. list_any (is_list list) (map g rows)) o true) (keeps.listed row) ∙ (λ i. option_map_or (λ list. any_through (is_list list) g rows (keeps.is list) i) (list_of row) true) ∙ is) whole.listed;
   once = once_through g rows keeps whole.once;
   others = all_through g _ _ rows (λ row is. keeps.shared (map g rows) row ∙ each row is) whole.others;
 }
@@ -277,7 +292,7 @@ with_list rows user id name owner whole =
           | false ↦ λ same. refl
         ] refl
 
-    others : has_row (key_text (record { kind = kinds.List; id = id })) rows ≡ false → (those : List Row) → AllByRecursion (λ row. list_any (is_list (list_of row)) rows ≡ true) those → AllByRecursion (λ row. shared_with_owner rows row ≡ false) those → AllByRecursion (λ row. shared_with_owner (rows ++ new ∷ []) row ≡ false) those
+    others : has_row (key_text (record { kind = kinds.List; id = id })) rows ≡ false → (those : List Row) → AllByRecursion (λ row. has_its_list rows row ≡ true) those → AllByRecursion (λ row. shared_with_owner rows row ≡ false) those → AllByRecursion (λ row. shared_with_owner (rows ++ new ∷ []) row ≡ false) those
     others absent [] there all = tt
     others absent (variants.List row ∷ those) there all = (refl, others absent those there.1 all.1)
     others absent (variants.Share row ∷ those) there all =
@@ -328,27 +343,31 @@ with_todo rows user id list text complete whole =
 pub without_list : (rows : List Row) (user id : List ℕ) → AreWhole rows → AreWhole (effect rows user (DeleteList id))
 without_list rows user id whole = whole_if (list_any (owns user id) rows) (filter (is_outside id) rows) rows (λ is. filter_whole (is_outside id) rows lists whole) whole
   where
-    lists : (row list : Row) → is_outside id row ≡ true → is_list (list_of row) list ≡ true → is_outside id list ≡ true
-    lists row (variants.List list) outside here = ap (λ (name : List ℕ). not (bytes_eq name id)) ((bytes_eq-Decides list.id (list_of row)).0 here) ∙ outside
-    lists row (variants.Share list) outside here = absurd (cc)
-    lists row (variants.Todo list) outside here = absurd (cc)
+    own : (name : List ℕ) (o : Option (List ℕ)) → not (option_map_or (λ text. bytes_eq text id) o false) ≡ true → option_map_or (λ text. bytes_eq name text) o false ≡ true → not (bytes_eq name id) ≡ true
+    own name None outside here = absurd (cc)
+    own name (Some text) outside here = ap (λ (other : List ℕ). not (bytes_eq other id)) ((bytes_eq-Decides name text).0 here) ∙ outside
+
+    lists : (row list : Row) → is_outside id row ≡ true → list_passes (λ id. is_list id list) row ≡ true → is_outside id list ≡ true
+    lists row (variants.List list) outside here = own list.id (list_of row) outside here
+    lists row (variants.Share list) outside here = absurd (names_none (list_of row) here)
+    lists row (variants.Todo list) outside here = absurd (names_none (list_of row) here)
 
 pub without_share : (rows : List Row) (user id : List ℕ) → AreWhole rows → AreWhole (effect rows user (DeleteShare id))
 without_share rows user id whole = whole_if (list_any (ends user rows id) rows) (filter (is_other kinds.Share id) rows) rows (λ is. filter_whole (is_other kinds.Share id) rows lists whole) whole
   where
-    lists : (row list : Row) → is_other kinds.Share id row ≡ true → is_list (list_of row) list ≡ true → is_other kinds.Share id list ≡ true
+    lists : (row list : Row) → is_other kinds.Share id row ≡ true → list_passes (λ id. is_list id list) row ≡ true → is_other kinds.Share id list ≡ true
     lists row (variants.List list) other here = refl
-    lists row (variants.Share list) other here = absurd (cc)
-    lists row (variants.Todo list) other here = absurd (cc)
+    lists row (variants.Share list) other here = absurd (names_none (list_of row) here)
+    lists row (variants.Todo list) other here = absurd (names_none (list_of row) here)
 
 pub without_todo : (rows : List Row) (user id : List ℕ) → AreWhole rows → AreWhole (effect rows user (DeleteTodo id))
 unfolding may_change
 without_todo rows user id whole = filter_whole (is_unchanged user rows id) rows lists whole
   where
-    lists : (row list : Row) → is_unchanged user rows id row ≡ true → is_list (list_of row) list ≡ true → is_unchanged user rows id list ≡ true
+    lists : (row list : Row) → is_unchanged user rows id row ≡ true → list_passes (λ id. is_list id list) row ≡ true → is_unchanged user rows id list ≡ true
     lists row (variants.List list) other here = refl
-    lists row (variants.Share list) other here = absurd (cc)
-    lists row (variants.Todo list) other here = absurd (cc)
+    lists row (variants.Share list) other here = absurd (names_none (list_of row) here)
+    lists row (variants.Todo list) other here = absurd (names_none (list_of row) here)
 
 -- a row whose role, or whose other fields, are set
 record KeepsRow (row new : Row) : Type 0 where

@@ -15,7 +15,7 @@ use Rattle.rv_rows.specs.declared.row.Row.TheVariants as variants
 use Rattle.rv_rows.specs.declared.call.Call.TheVariants.{CreateList, DeleteList, CreateShare, UpdateShare, DeleteShare, CreateTodo, UpdateTodo, DeleteTodo}
 use Rattle.rv_rows.specs.Keys.{key_text, row_key, row_text, has_row}
 use Rattle.rv_rows.specs.Held.{Stored, rows_in, find}
-use Rattle.rv_rows.specs.Sharing.{owns, shares, may_edit, list_of}
+use Rattle.rv_rows.specs.Sharing.{belongs, owns, shares, may_edit, list_passes}
 use Rattle.rv_rows.specs.Effects.{is_outside, is_other, is_unchanged, may_change, may_set_role, ends, may_end, with_fields, with_role, next_sort}
 use Rattle.rv_rows.specs.Changes.{same_row}
 use Rattle.rv_rows.specs.EffectLaws.{same_row-Decides}
@@ -91,11 +91,11 @@ module _ (rows : List Row) (h : InOrder row_text rows) where
   twice false = refl
 
   pub delete_list-is : (user id : List ℕ)
-      → cond {A = Staged} (list_any (owns user id) rows) (record { rows = []; keys = map row_key (filter (λ row. bytes_eq (list_of row) id) rows) }) (record { rows = []; keys = [] }) ≡ staged rows user (DeleteList id)
+      → cond {A = Staged} (list_any (owns user id) rows) (record { rows = []; keys = map row_key (filter (belongs id) rows) }) (record { rows = []; keys = [] }) ≡ staged rows user (DeleteList id)
   delete_list-is user id = each (list_any (owns user id) rows)
     where
-      each : (b : Bool) → cond {A = Staged} b (record { rows = []; keys = map row_key (filter (λ row. bytes_eq (list_of row) id) rows) }) (record { rows = []; keys = [] }) ≡ changes rows (cond b (filter (is_outside id) rows) rows)
-      each true = sym (changes-filter rows (is_outside id) h ∙ both [] [] _ _ refl (ap (map row_key) (filter_agree (λ x. not (is_outside id x)) (λ x. bytes_eq (list_of x) id) (λ x. twice (bytes_eq (list_of x) id)) rows)))
+      each : (b : Bool) → cond {A = Staged} b (record { rows = []; keys = map row_key (filter (belongs id) rows) }) (record { rows = []; keys = [] }) ≡ changes rows (cond b (filter (is_outside id) rows) rows)
+      each true = sym (changes-filter rows (is_outside id) h ∙ both [] [] _ _ refl (ap (map row_key) (filter_agree (λ x. not (is_outside id x)) (belongs id) (λ x. twice (belongs id x)) rows)))
       each false = sym (changes-none rows h)
 
   -- the row that is found at a key is removed where the test holds
@@ -137,17 +137,17 @@ module _ (rows : List Row) (h : InOrder row_text rows) where
   delete_share-absent user id e = sym (ap (λ (o : Option Row). option_map_or (λ x. removed_if (may_end user rows x) x) o (record { rows = []; keys = [] })) e) ∙ delete_share-is user id
 
   delete_todo-is : (user id : List ℕ)
-      → option_map_or (λ x. removed_if (may_edit user (list_of x) rows) x) (find_by row_text (key_text (record { kind = kinds.Todo; id = id })) rows) (record { rows = []; keys = [] }) ≡ staged rows user (DeleteTodo id)
+      → option_map_or (λ x. removed_if (list_passes (λ list. may_edit user list rows) x) x) (find_by row_text (key_text (record { kind = kinds.Todo; id = id })) rows) (record { rows = []; keys = [] }) ≡ staged rows user (DeleteTodo id)
   unfolding may_change
   delete_todo-is user id =
       let k = key_text (record { kind = kinds.Todo; id = id }) in
-      removed k (λ x. may_edit user (list_of x) rows) (is_unchanged user rows id) (λ x. twice (bytes_eq k (row_text x) && may_edit user (list_of x) rows))
+      removed k (list_passes (λ list. may_edit user list rows)) (is_unchanged user rows id) (λ x. twice (bytes_eq k (row_text x) && list_passes (λ list. may_edit user list rows) x))
 
-  pub delete_todo-found : (user id : List ℕ) (row : Row) → find_by row_text (key_text (record { kind = kinds.Todo; id = id })) rows ≡ Some row → removed_if (may_edit user (list_of row) rows) row ≡ staged rows user (DeleteTodo id)
-  delete_todo-found user id row e = sym (ap (λ (o : Option Row). option_map_or (λ x. removed_if (may_edit user (list_of x) rows) x) o (record { rows = []; keys = [] })) e) ∙ delete_todo-is user id
+  pub delete_todo-found : (user id : List ℕ) (row : Row) → find_by row_text (key_text (record { kind = kinds.Todo; id = id })) rows ≡ Some row → removed_if (list_passes (λ list. may_edit user list rows) row) row ≡ staged rows user (DeleteTodo id)
+  delete_todo-found user id row e = sym (ap (λ (o : Option Row). option_map_or (λ x. removed_if (list_passes (λ list. may_edit user list rows) x) x) o (record { rows = []; keys = [] })) e) ∙ delete_todo-is user id
 
   pub delete_todo-absent : (user id : List ℕ) → find_by row_text (key_text (record { kind = kinds.Todo; id = id })) rows ≡ None → ◌≡◌ {A = Staged} (record { rows = []; keys = [] }) (staged rows user (DeleteTodo id))
-  delete_todo-absent user id e = sym (ap (λ (o : Option Row). option_map_or (λ x. removed_if (may_edit user (list_of x) rows) x) o (record { rows = []; keys = [] })) e) ∙ delete_todo-is user id
+  delete_todo-absent user id e = sym (ap (λ (o : Option Row). option_map_or (λ x. removed_if (list_passes (λ list. may_edit user list rows) x) x) o (record { rows = []; keys = [] })) e) ∙ delete_todo-is user id
 
   -- a row at a key is replaced where a test allows it and the new one differs
   module _ (k : List ℕ) (allowed : Row → Bool) (new : Row → Row) (keeps_key : (x : Row) → row_text (new x) ≡ row_text x) where
@@ -206,32 +206,32 @@ module _ (rows : List Row) (h : InOrder row_text rows) where
 
   -- a todo's fields are set where one of them differs
   module _ (user id : List ℕ) (text : Option (List ℕ)) (complete : Option Bool) (sort : Option ℕ) where
-    pub update_todo-allowed : (row : Row) → find_by row_text (key_text (record { kind = kinds.Todo; id = id })) rows ≡ Some row → may_edit user (list_of row) rows ≡ true
+    pub update_todo-allowed : (row : Row) → find_by row_text (key_text (record { kind = kinds.Todo; id = id })) rows ≡ Some row → list_passes (λ list. may_edit user list rows) row ≡ true
         → written_if (not (same_row (with_fields text complete sort row) row)) (with_fields text complete sort row) ≡ staged rows user (UpdateTodo id text complete sort)
     unfolding may_change
-    update_todo-allowed row e may = set-allowed (key_text (record { kind = kinds.Todo; id = id })) (λ x. may_edit user (list_of x) rows) (with_fields text complete sort) (fields-keep text complete sort) row e may
+    update_todo-allowed row e may = set-allowed (key_text (record { kind = kinds.Todo; id = id })) (list_passes (λ list. may_edit user list rows)) (with_fields text complete sort) (fields-keep text complete sort) row e may
 
-    pub update_todo-refused : (row : Row) → find_by row_text (key_text (record { kind = kinds.Todo; id = id })) rows ≡ Some row → may_edit user (list_of row) rows ≡ false
+    pub update_todo-refused : (row : Row) → find_by row_text (key_text (record { kind = kinds.Todo; id = id })) rows ≡ Some row → list_passes (λ list. may_edit user list rows) row ≡ false
         → ◌≡◌ {A = Staged} (record { rows = []; keys = [] }) (staged rows user (UpdateTodo id text complete sort))
     unfolding may_change
-    update_todo-refused row e may_not = set-refused (key_text (record { kind = kinds.Todo; id = id })) (λ x. may_edit user (list_of x) rows) (with_fields text complete sort) (fields-keep text complete sort) row e may_not
+    update_todo-refused row e may_not = set-refused (key_text (record { kind = kinds.Todo; id = id })) (list_passes (λ list. may_edit user list rows)) (with_fields text complete sort) (fields-keep text complete sort) row e may_not
 
     pub update_todo-absent : find_by row_text (key_text (record { kind = kinds.Todo; id = id })) rows ≡ None → ◌≡◌ {A = Staged} (record { rows = []; keys = [] }) (staged rows user (UpdateTodo id text complete sort))
     unfolding may_change
-    update_todo-absent e = set-absent (key_text (record { kind = kinds.Todo; id = id })) (λ x. may_edit user (list_of x) rows) (with_fields text complete sort) (fields-keep text complete sort) e
+    update_todo-absent e = set-absent (key_text (record { kind = kinds.Todo; id = id })) (list_passes (λ list. may_edit user list rows)) (with_fields text complete sort) (fields-keep text complete sort) e
 
   -- a share's role is set where it is another
   module _ (user id : List ℕ) (role : Role) where
-    pub update_share-allowed : (row : Row) → find_by row_text (key_text (record { kind = kinds.Share; id = id })) rows ≡ Some row → list_any (owns user (list_of row)) rows ≡ true
+    pub update_share-allowed : (row : Row) → find_by row_text (key_text (record { kind = kinds.Share; id = id })) rows ≡ Some row → list_passes (λ list. list_any (owns user list) rows) row ≡ true
         → written_if (not (same_row (with_role role row) row)) (with_role role row) ≡ staged rows user (UpdateShare id role)
     unfolding may_set_role
-    update_share-allowed row e may = set-allowed (key_text (record { kind = kinds.Share; id = id })) (λ x. list_any (owns user (list_of x)) rows) (with_role role) (role-keeps role) row e may
+    update_share-allowed row e may = set-allowed (key_text (record { kind = kinds.Share; id = id })) (list_passes (λ list. list_any (owns user list) rows)) (with_role role) (role-keeps role) row e may
 
-    pub update_share-refused : (row : Row) → find_by row_text (key_text (record { kind = kinds.Share; id = id })) rows ≡ Some row → list_any (owns user (list_of row)) rows ≡ false
+    pub update_share-refused : (row : Row) → find_by row_text (key_text (record { kind = kinds.Share; id = id })) rows ≡ Some row → list_passes (λ list. list_any (owns user list) rows) row ≡ false
         → ◌≡◌ {A = Staged} (record { rows = []; keys = [] }) (staged rows user (UpdateShare id role))
     unfolding may_set_role
-    update_share-refused row e may_not = set-refused (key_text (record { kind = kinds.Share; id = id })) (λ x. list_any (owns user (list_of x)) rows) (with_role role) (role-keeps role) row e may_not
+    update_share-refused row e may_not = set-refused (key_text (record { kind = kinds.Share; id = id })) (list_passes (λ list. list_any (owns user list) rows)) (with_role role) (role-keeps role) row e may_not
 
     pub update_share-absent : find_by row_text (key_text (record { kind = kinds.Share; id = id })) rows ≡ None → ◌≡◌ {A = Staged} (record { rows = []; keys = [] }) (staged rows user (UpdateShare id role))
     unfolding may_set_role
-    update_share-absent e = set-absent (key_text (record { kind = kinds.Share; id = id })) (λ x. list_any (owns user (list_of x)) rows) (with_role role) (role-keeps role) e
+    update_share-absent e = set-absent (key_text (record { kind = kinds.Share; id = id })) (list_passes (λ list. list_any (owns user list) rows)) (with_role role) (role-keeps role) e

@@ -10,11 +10,11 @@ use Rattle.rv_rows.specs.declared.row.ListRow.{ListRow}
 use Rattle.rv_rows.specs.declared.row.ShareRow.{ShareRow}
 use Rattle.rv_rows.specs.declared.row.TodoRow.{TodoRow}
 use Rattle.rv_rows.specs.declared.row.Row.TheVariants as variants
-use Rattle.rv_rows.specs.Sharing.{may_see, is_list, owns, shares, list_of}
+use Rattle.rv_rows.specs.Sharing.{may_see, is_list, owns, shares}
 use Rattle.rv_sharing.specs.Texts.{AddsText}
 use Rattle.rv_sharing.specs.Sharers.{AddsSharers}
 use Rattle.rv_sharing.specs.Affected.{AddsViewers}
-use Rattle.rv_mutators.specs.Touched.{sees_with, AddsReaders}
+use Rattle.rv_mutators.specs.Touched.{sees_with, AddsReaders, AddsReadersOf}
 use Rattle.rv_mutators.proofs.Picked.{by_flag}
 
 pub list_any-push : {X : Type 0} (p : X → Bool) (xs : List X) (x : X) → list_any p (xs ++ x ∷ []) ≡ (p x || list_any p xs)
@@ -36,7 +36,7 @@ bytes_eq-swapped a b =
 
 -- a list's readers are those of the list before, its owner, and whom shares of it name
 pub readers_list : {E : Type 0} (rows : List Row) (row : ListRow) (users viewers owned : List (List ℕ)) (result : Result (List (List ℕ)) E)
-    → AddsViewers rows row.id users viewers → AddsText row.owner viewers owned → IfOk result (AddsSharers rows row.id owned) → IfOk result (AddsViewers (variants.List row ∷ rows) row.id users)
+    → AddsViewers rows row.id users viewers → AddsText row.owner viewers owned → IfOk result (AddsSharers rows row.id owned) → IfOk result (AddsReadersOf rows (variants.List row) users)
 unfolding may_see
 readers_list rows row users viewers owned (Err e) seen own shared = tt
 readers_list rows row users viewers owned (Ok after) seen own shared = record {
@@ -56,7 +56,7 @@ readers_list rows row users viewers owned (Ok after) seen own shared = record {
 
 -- a share's readers are those of the list before, and whom it names where the list is there
 pub readers_share : {E : Type 0} (rows : List Row) (row : ShareRow) (users viewers : List (List ℕ)) (result : Result (List (List ℕ)) E)
-    → list_any (is_list row.list) rows ≡ true → AddsViewers rows row.list users viewers → IfOk result (AddsText row.user viewers) → IfOk result (AddsViewers (variants.Share row ∷ rows) row.list users)
+    → list_any (is_list row.list) rows ≡ true → AddsViewers rows row.list users viewers → IfOk result (AddsText row.user viewers) → IfOk result (AddsReadersOf rows (variants.Share row) users)
 unfolding may_see
 readers_share rows row users viewers (Err e) there seen named = tt
 readers_share rows row users viewers (Ok after) there seen named = record {
@@ -72,17 +72,18 @@ readers_share rows row users viewers (Ok after) there seen named = record {
     flags false true false s = refl
     flags false false o s = refl
 
-pub readers_lost : (rows : List Row) (row : ShareRow) (users viewers : List (List ℕ)) → list_any (is_list row.list) rows ≡ false → AddsViewers rows row.list users viewers → AddsViewers (variants.Share row ∷ rows) row.list users viewers
+pub readers_lost : (rows : List Row) (row : ShareRow) (users viewers : List (List ℕ)) → list_any (is_list row.list) rows ≡ false → AddsViewers rows row.list users viewers → AddsReadersOf rows (variants.Share row) users viewers
 unfolding may_see
 readers_lost rows row users viewers absent seen = record { order = seen.order; each = λ user. seen.each user ∙ rw absent refl }
 
-pub readers_todo : (rows : List Row) (row : TodoRow) (users viewers : List (List ℕ)) → AddsViewers rows row.list users viewers → AddsViewers (variants.Todo row ∷ rows) row.list users viewers
+pub readers_todo : {E : Type 0} (rows : List Row) (row : TodoRow) (users : List (List ℕ)) (result : Result (List (List ℕ)) E) → IfOk result (AddsViewers rows row.list users) → IfOk result (AddsReadersOf rows (variants.Todo row) users)
 unfolding may_see
-readers_todo rows row users viewers seen = record { order = seen.order; each = seen.each }
+readers_todo rows row users (Err e) seen = tt
+readers_todo rows row users (Ok after) seen = record { order = seen.order; each = seen.each }
 
 -- one more row
 pub readers_more : (rows added : List Row) (i : ℕ) (row : Row) (users readers after : List (List ℕ)) → i < length added → row ≡ get_or added i row
-    → AddsViewers (row ∷ rows) (list_of row) readers after → AddsReaders rows (take i added) users readers → AddsReaders rows (take (i + 1) added) users after
+    → AddsReadersOf rows row readers after → AddsReaders rows (take i added) users readers → AddsReaders rows (take (i + 1) added) users after
 readers_more rows added i row users readers after lt is seen before = record {
   order = seen.order;
   each = λ user. seen.each user ∙ ap (λ (b : Bool). b || sees_with rows user row) (before.each user) ∙ moved (list_any (bytes_eq user) users) (list_any (sees_with rows user) (take i added)) (sees_with rows user row)

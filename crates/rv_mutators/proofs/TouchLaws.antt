@@ -17,10 +17,10 @@ use Rattle.rv_rows.specs.declared.call.Call.{Call}
 use Rattle.rv_rows.specs.declared.call.Call.TheVariants.{CreateList, DeleteList, CreateShare, UpdateShare, DeleteShare, CreateTodo, UpdateTodo, DeleteTodo, Void}
 use Rattle.rv_rows.specs.Keys.{key_text, row_key, row_text, row_at, has_row, in_key_order}
 use Rattle.rv_rows.specs.Held.{Stored, rows_in, AreRows}
-use Rattle.rv_rows.specs.Sharing.{is_list, owns, shares, may_see, sees_row, may_edit, list_of}
+use Rattle.rv_rows.specs.Sharing.{is_list, owns, shares, may_see, sees_row, may_edit, list_of, list_passes}
 use Rattle.rv_rows.specs.Effects.{is_outside, is_other, is_unchanged, may_change, may_set_role, ends, with_fields, with_role, after_update, after_role, next_sort, effect}
 use Rattle.rv_rows.specs.Changes.{same_row, is_gone, written, lost, version_after}
-use Rattle.rv_rows.specs.EffectLaws.{may_see-sorted}
+use Rattle.rv_rows.specs.EffectLaws.{sees_row-sorted}
 use Rattle.rv_sharing.specs.Affected.{sees_key, AreAffected}
 use Rattle.rv_mutators.specs.declared.staged.Staged.{Staged}
 use Rattle.rv_mutators.specs.Staging.{staged, with_staged, IsStagedOn, written_if}
@@ -64,13 +64,16 @@ viewers-written user before after row stands same earlier = rw (stands, same) (e
     each false b h = refl
 
 -- one more row
+may_see-push : (user list : List ℕ) (rows : List Row) (row : Row) → may_see user list (rows ++ row ∷ []) ≡ may_see user list (row ∷ rows)
+unfolding may_see
+may_see-push user list rows row = rw (list_any-push (owns user list) rows row, list_any-push (is_list list) rows row, list_any-push (shares user list) rows row) refl
+
 viewers-push : (user : List ℕ) (before : List Row) (row : Row) → InOrder row_text before → find_by row_text (row_text row) before ≡ None
     → HasViewers before (in_key_order (before ++ row ∷ [])) user (record { rows = row ∷ []; keys = [] })
-unfolding may_see
 viewers-push user before row h none =
     viewers-written user before (in_key_order (before ++ row ∷ [])) row
     (rw (sorted-push row_text row before, sorted-in_order row_text before h, find_put row_text (row_text row) row before, equals (row_text row)) refl)
-    (may_see-sorted user (list_of row) (before ++ row ∷ []) (distinct-push row_text row before none (distinct-in_order row_text before h)) ∙ rw (list_any-push (owns user (list_of row)) before row, list_any-push (is_list (list_of row)) before row, list_any-push (shares user (list_of row)) before row) refl)
+    (sees_row-sorted user (before ++ row ∷ []) (distinct-push row_text row before none (distinct-in_order row_text before h)) row ∙ (λ i. list_passes (λ list. may_see-push user list before row i) row))
     (λ e. absurd (let never : sees_key before user (row_key row) ≡ false = rw none refl in let both : false ≡ true = sym never ∙ e in cc))
 
 -- only keys are removed
@@ -149,8 +152,8 @@ module _ (before : List Row) (h : InOrder row_text before) (user caller : List �
         let at : bytes_eq k (row_text x) ≡ true = subst (λ (t : List ℕ). bytes_eq t (row_text x) ≡ true) (sym (find-key row_text k before x e)) (equals (row_text x)) in
         viewers-written user before (in_key_order (map set before)) (new x)
         (rw (keeps_key x, sorted, find-changed row_text set (row_text x) before (keeps before h k allowed new keeps_key), own, at, may) refl)
-        (rw sorted (may_see-set (list_of (new x)) ∙ sym (may_see-beside x (list_of (new x)) e)))
-        (λ t. may_see-beside x (list_of (new x)) e ∙ ap (λ (list : List ℕ). may_see user list before) (same_list x) ∙ (rw (keeps_key x, own) at t))
+        (rw sorted (λ i. list_passes (λ list. (may_see-set list ∙ sym (may_see-beside x list e)) i) (new x)))
+        (λ t. (λ i. list_passes (λ list. may_see-beside x list e i) (new x)) ∙ ap (λ (o : Option (List ℕ)). option_map_or (λ list. may_see user list before) o false) (same_list x) ∙ (rw (keeps_key x, own) at t))
 
     viewers-still : HasViewers before (in_key_order (map set before)) user (record { rows = []; keys = [] })
     viewers-still = viewers-removed user before (map set before) [] (ap (λ (s : Staged). s.keys) (changes-map before set (keeps before h k allowed new keeps_key) h))
@@ -173,7 +176,7 @@ module _ (before : List Row) (h : InOrder row_text before) (user caller : List �
   viewers-fields : (id : List ℕ) (text : Option (List ℕ)) (complete : Option Bool) (sort : Option ℕ) → HasViewers before (in_key_order (map (after_update caller before id text complete sort) before)) user (staged before caller (UpdateTodo id text complete sort))
   unfolding may_change
   viewers-fields id text complete sort =
-      viewers-map (key_text (record { kind = kinds.Todo; id = id })) (λ x. may_edit caller (list_of x) before) (with_fields text complete sort) (fields-keep before h text complete sort) same_list owns_same is_list_same shares_same
+      viewers-map (key_text (record { kind = kinds.Todo; id = id })) (list_passes (λ list. may_edit caller list before)) (with_fields text complete sort) (fields-keep before h text complete sort) same_list owns_same is_list_same shares_same
     where
       same_list : (x : Row) → list_of (with_fields text complete sort x) ≡ list_of x
       same_list (variants.List x) = refl
@@ -199,7 +202,7 @@ module _ (before : List Row) (h : InOrder row_text before) (user caller : List �
   viewers-role : (id : List ℕ) (role : Role) → HasViewers before (in_key_order (map (after_role caller before id role) before)) user (staged before caller (UpdateShare id role))
   unfolding may_set_role
   viewers-role id role =
-      viewers-map (key_text (record { kind = kinds.Share; id = id })) (λ x. list_any (owns caller (list_of x)) before) (with_role role) (role-keeps before h role) same_list owns_same is_list_same shares_same
+      viewers-map (key_text (record { kind = kinds.Share; id = id })) (list_passes (λ list. list_any (owns caller list) before)) (with_role role) (role-keeps before h role) same_list owns_same is_list_same shares_same
     where
       same_list : (x : Row) → list_of (with_role role x) ≡ list_of x
       same_list (variants.List x) = refl

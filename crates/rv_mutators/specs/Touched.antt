@@ -26,6 +26,11 @@ pub record AreTouched (stored : List Stored) (s : Staged) (users : List (List �
 abbrev pub sees_with : List Row → List ℕ → Row → Bool
 sees_with rows user row = sees_row user (row ∷ rows) row
 
+-- the users afterwards are those before and those who see the row, where it stands beside the others
+pub record AddsReadersOf (rows : List Row) (row : Row) (before after : List (List ℕ)) : Type 0 where
+  pub order : AreInOrder after
+  pub each : (user : List ℕ) → list_any (bytes_eq user) after ≡ (list_any (bytes_eq user) before || sees_with rows user row)
+
 -- the users afterwards are those before and those who see one of these rows, where it stands beside the others
 pub record AddsReaders (rows added : List Row) (before after : List (List ℕ)) : Type 0 where
   pub order : AreInOrder after

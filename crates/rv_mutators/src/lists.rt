@@ -4,7 +4,7 @@ ghost use Rattle.std.specs.List.{filter};
 ghost use Rattle.std.specs.Str.{bytes_eq};
 ghost use Rattle.rv_rows.specs.Held.{rows_in, AreRows};
 ghost use Rattle.rv_rows.specs.Keys.{key_text, row_key, has_row};
-ghost use Rattle.rv_rows.specs.Sharing.{list_of};
+ghost use Rattle.rv_rows.specs.Sharing.{belongs};
 ghost use Rattle.rv_rows.specs.declared.call.Call.TheVariants.{CreateList, DeleteList};
 ghost use Rattle.rv_rows.specs.declared.key.Kind.TheVariants.{List as ListKind};
 ghost use Rattle.rv_mutators.specs.Staging.{staged};
@@ -69,7 +69,7 @@ pub(crate) fn delete_list(
 
 // The keys of a list, of its shares and of its todos.
 fn keys_of(alloc: Global, tables: &Tables, list: &Id) -> Result<Keys, Memory>
-    ensures { IfOk result (λ keys. keys ≡ map row_key (filter (λ row. bytes_eq (list_of row) list.now) (rows_in tables.now.rows))) }
+    ensures { IfOk result (λ keys. keys ≡ map row_key (filter (belongs list.now) (rows_in tables.now.rows))) }
 {
     let mut keys = Keys::new(alloc);
     for (row, _version) in tables.of_list(list) {

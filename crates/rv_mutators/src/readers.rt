@@ -1,10 +1,8 @@
 // The users who see rows that are written.
-ghost use Rattle.std.specs.Prelude.{◌∷◌, IfOk};
+ghost use Rattle.std.specs.Prelude.{IfOk};
 ghost use Rattle.rv_rows.specs.Held.{rows_in};
-ghost use Rattle.rv_rows.specs.Sharing.{list_of};
 ghost use Rattle.rv_sharing.specs.Texts.{AreInOrder};
-ghost use Rattle.rv_sharing.specs.Affected.{AddsViewers};
-ghost use Rattle.rv_mutators.specs.Touched.{AddsReaders};
+ghost use Rattle.rv_mutators.specs.Touched.{AddsReaders, AddsReadersOf};
 
 use rv_base::Memory;
 use rv_rows::{Row, Tables, Users};
@@ -31,21 +29,22 @@ pub(crate) fn add_readers(
 // The users and those who see the row, where it stands beside those of the tables.
 fn add_readers_of(alloc: Global, users: Users, tables: &Tables, row: &Row) -> Result<Users, Memory>
     requires { AreInOrder users }
-    ensures { IfOk result (AddsViewers (row.now ∷ rows_in tables.now.rows) (list_of row.now) users) }
+    ensures { IfOk result (AddsReadersOf (rows_in tables.now.rows) row.now users) }
 {
-    let viewers = add_viewers(alloc, users, tables, row.list())?;
     match row {
         Row::List(list) => {
+            let viewers = add_viewers(alloc, users, tables, &list.id)?;
             let owned = add_user(alloc, viewers, &list.owner)?;
             add_sharers(alloc, owned, tables, &list.id)
         }
         Row::Share(share) => {
+            let viewers = add_viewers(alloc, users, tables, &share.list)?;
             if has_list(tables, &share.list) {
                 add_user(alloc, viewers, &share.user)
             } else {
                 Ok(viewers)
             }
         }
-        Row::Todo(_) => Ok(viewers),
+        Row::Todo(todo) => add_viewers(alloc, users, tables, &todo.list),
     }
 }

@@ -10,7 +10,7 @@ use crate::lists::has_row;
 use crate::staged::Staged;
 use rv_base::{Id, Memory, User};
 use rv_rows::{Kind, Role, Row, ShareRow, Tables};
-use rv_sharing::{has_share, owns};
+use rv_sharing::{has_share, owns, owns_list_of};
 use std::alloc::Global;
 
 // A share of the user's list with another, who has none of it, with this role.
@@ -63,7 +63,7 @@ pub(crate) fn update_share(
 {
     match tables.row(Kind::Share, id) {
         Some((row, _version)) => {
-            if owns(tables, user, row.list()) {
+            if owns_list_of(tables, user, row) {
                 set_role(alloc, row, role)
             } else {
                 Ok(Staged::nothing(alloc))

@@ -14,7 +14,7 @@ use crate::lists::has_row;
 use crate::staged::Staged;
 use rv_base::{Id, Memory, Num, Text, User};
 use rv_rows::{Kind, Row, Tables, TodoRow};
-use rv_sharing::may_edit;
+use rv_sharing::{may_edit, may_edit_list_of};
 use std::alloc::Global;
 
 // A todo that is not there, at the end of a list that the user may edit.
@@ -66,7 +66,7 @@ pub(crate) fn update_todo(
 {
     match tables.row(Kind::Todo, id) {
         Some((row, _version)) => {
-            if may_edit(tables, user, row.list()) {
+            if may_edit_list_of(tables, user, row) {
                 set_fields(alloc, row, text, complete, sort)
             } else {
                 Ok(Staged::nothing(alloc))
@@ -123,7 +123,7 @@ pub(crate) fn delete_todo(
 {
     match tables.row(Kind::Todo, id) {
         Some((row, _version)) => {
-            if may_edit(tables, user, row.list()) {
+            if may_edit_list_of(tables, user, row) {
                 Staged::removes(alloc, row.key(alloc)?)
             } else {
                 Ok(Staged::nothing(alloc))

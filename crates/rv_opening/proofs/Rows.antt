@@ -14,8 +14,8 @@ use Rattle.rv_rows.specs.declared.row.TodoRow.{TodoRow}
 use Rattle.rv_rows.specs.declared.row.Row.TheVariants as variants
 use Rattle.rv_rows.specs.Keys.{key_text, row_text, has_row}
 use Rattle.rv_rows.specs.Held.{Stored, rows_in, stored_key}
-use Rattle.rv_rows.specs.Sharing.{is_list, list_of, owns, shares}
-use Rattle.rv_book.specs.SoundPages.{share_alike, shared_with_owner, AreSharedOnce}
+use Rattle.rv_rows.specs.Sharing.{is_list, owns, shares}
+use Rattle.rv_book.specs.SoundPages.{has_its_list, share_alike, shared_with_owner, AreSharedOnce}
 use Rattle.rv_history.specs.WholeRows.{push_whole, AreWhole}
 use Rattle.rv_opening.specs.PageReads.{stands_with}
 use Rattle.rv_opening.specs.Lists.{all-last}
@@ -100,7 +100,7 @@ module _ (rows : List Row) (whole : AreWhole rows) where
               )
           by false other = refl
 
-      others : (those : List Row) → AllByRecursion (λ other. list_any (is_list (list_of other)) rows ≡ true) those → AllByRecursion (λ other. shared_with_owner rows other ≡ false) those → AllByRecursion (λ other. shared_with_owner (rows ++ variants.List row ∷ []) other ≡ false) those
+      others : (those : List Row) → AllByRecursion (λ other. has_its_list rows other ≡ true) those → AllByRecursion (λ other. shared_with_owner rows other ≡ false) those → AllByRecursion (λ other. shared_with_owner (rows ++ variants.List row ∷ []) other ≡ false) those
       others [] there all = tt
       others (variants.List other ∷ those) there all = (refl, others those there.1 all.1)
       others (variants.Share other ∷ those) there all = (any_before (owns other.user other.list) rows (variants.List row) (not_owned other.user other.list there.0) ∙ all.0, others those there.1 all.1)
@@ -148,8 +148,8 @@ pub whole_last : (rows : List Row) (row : Row) → AreWhole (rows ++ row ∷ [])
 whole_last rows (variants.List row) whole = refl
 whole_last rows (variants.Share row) whole =
     all_three (list_any (is_list row.list) rows) (list_any (owns row.user row.list) rows) (list_any (shares row.user row.list) rows)
-    (sym (any_before (is_list row.list) rows (variants.Share row) refl) ∙ all-last (λ other. list_any (is_list (list_of other)) (rows ++ variants.Share row ∷ []) ≡ true) rows (variants.Share row) whole.listed)
+    (sym (any_before (is_list row.list) rows (variants.Share row) refl) ∙ all-last (λ other. has_its_list (rows ++ variants.Share row ∷ []) other ≡ true) rows (variants.Share row) whole.listed)
     (sym (any_before (owns row.user row.list) rows (variants.Share row) refl) ∙ all-last (λ other. shared_with_owner (rows ++ variants.Share row ∷ []) other ≡ false) rows (variants.Share row) whole.others)
     (not_shared rows row whole.once)
 whole_last rows (variants.Todo row) whole =
-    sym (any_before (is_list row.list) rows (variants.Todo row) refl) ∙ all-last (λ other. list_any (is_list (list_of other)) (rows ++ variants.Todo row ∷ []) ≡ true) rows (variants.Todo row) whole.listed
+    sym (any_before (is_list row.list) rows (variants.Todo row) refl) ∙ all-last (λ other. has_its_list (rows ++ variants.Todo row ∷ []) other ≡ true) rows (variants.Todo row) whole.listed

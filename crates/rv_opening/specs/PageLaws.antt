@@ -1,8 +1,8 @@
 -- Laws of the cells of a page: they tell one page, they stand in order on shelves of their own, and those of a kept page are broken off nowhere.
-use Rattle.std.proofs.Common.{◌≡◌, ℕ, suc, ◌-◌, ◌^◌, ◌<◌, ◌≤◌, ◌==◌, ◌||◌, Bool, true, false, cond, List, [], ◌∷◌, ◌++◌, length, take, drop, map, Some, refl, sym, ap, ◌∙◌, subst, arith}
+use Rattle.std.proofs.Common.{◌≡◌, ℕ, suc, ◌-◌, ◌^◌, ◌<◌, ◌≤◌, ◌==◌, ◌||◌, Bool, true, false, cond, List, [], ◌∷◌, ◌++◌, length, take, drop, map, Option, Some, None, refl, sym, ap, ◌∙◌, subst, arith}
 use Rattle.std.specs.declared.cmp.Ordering.TheVariants.{Less, Greater}
 use Rattle.std.specs.List.{list_any, AllByRecursion}
-use Rattle.std.specs.Option.{is_some, IsSome}
+use Rattle.std.specs.Option.{is_some, option_map_or, IsSome}
 use Rattle.std.specs.Str.{bytes_eq}
 use Rattle.std.proofs.Math.Bool.{or-false}
 use Rattle.std.proofs.lemmas.List.{take-append-drop, take-map}
@@ -14,11 +14,11 @@ use Rattle.rv_rows.specs.declared.row.Row.{Row}
 use Rattle.rv_rows.specs.declared.row.Row.TheVariants as variants
 use Rattle.rv_rows.specs.Keys.{row_text}
 use Rattle.rv_rows.specs.Held.{Stored, rows_in, stored_key}
-use Rattle.rv_rows.specs.Sharing.{is_list, list_of, owns}
+use Rattle.rv_rows.specs.Sharing.{is_list, list_of, list_passes, owns}
 use Rattle.rv_book.specs.declared.page.Page.{Page}
 use Rattle.rv_book.specs.Book.{no_page}
-use Rattle.rv_book.specs.SoundPages.{shared_with_owner, share_alike, AreSharedOnce, IsSoundPage}
-use Rattle.rv_history.specs.WholeRows.{AreWhole}
+use Rattle.rv_book.specs.SoundPages.{has_its_list, shared_with_owner, share_alike, AreSharedOnce, IsSoundPage}
+use Rattle.rv_history.specs.WholeRows.{AreWhole, names_none}
 use Rattle.rv_keeper.specs.declared.cell.Cell.{Cell}
 use Rattle.rv_keeper.specs.Cells.{cell_key}
 use Rattle.rv_record.specs.CellTexts.{page_cell, page_row_cell, page_client_cell, page_group_cell}
@@ -123,7 +123,7 @@ named_order page from order =
 
 -- ---- The first of whole rows in the order of their keys are whole by themselves: a row names no list behind it.
 
-names_none_behind : (row list : Row) → is_list (list_of row) list ≡ true → Below (row_text row) (row_text list) → ⊥
+names_none_behind : (row list : Row) → list_passes (λ id. is_list id list) row ≡ true → Below (row_text row) (row_text list) → ⊥
 names_none_behind (variants.List row) (variants.List list) is below =
     let same : list.id ≡ row.id = (bytes_eq-Decides list.id row.id).0 is in
     let own : Below (row_text (variants.List row)) (row_text (variants.List row)) = subst (λ (id : List ℕ). Below (row_text (variants.List row)) (row_text (variants.List (record { id = id; name = list.name; owner = list.owner })))) same below in
@@ -131,15 +131,15 @@ names_none_behind (variants.List row) (variants.List list) is below =
     cc
 names_none_behind (variants.Share row) (variants.List list) is below = let both : Greater ≡ Less = below in cc
 names_none_behind (variants.Todo row) (variants.List list) is below = let both : Greater ≡ Less = below in cc
-names_none_behind row (variants.Share list) is below = let both : false ≡ true = is in cc
-names_none_behind row (variants.Todo list) is below = let both : false ≡ true = is in cc
+names_none_behind row (variants.Share list) is below = names_none (list_of row) is
+names_none_behind row (variants.Todo list) is below = names_none (list_of row) is
 
-none_behind : (row : Row) (rest : List Row) → AllByRecursion (λ list. Below (row_text row) (row_text list)) rest → list_any (is_list (list_of row)) rest ≡ false
-none_behind row [] below = refl
-none_behind row (list ∷ rest) below = (λ i. here (is_list (list_of row) list) refl i || none_behind row rest below.1 i)
+none_behind : (row : Row) (id : List ℕ) (rest : List Row) → list_of row ≡ Some id → AllByRecursion (λ list. Below (row_text row) (row_text list)) rest → list_any (is_list id) rest ≡ false
+none_behind row id [] of below = refl
+none_behind row id (list ∷ rest) of below = (λ i. here (is_list id list) refl i || none_behind row id rest of below.1 i)
   where
-    here : (b : Bool) → is_list (list_of row) list ≡ b → b ≡ false
-    here true is = absurd (names_none_behind row list is below.0)
+    here : (b : Bool) → is_list id list ≡ b → b ≡ false
+    here true is = absurd (names_none_behind row list (ap (λ (o : Option (List ℕ)). option_map_or (λ id. is_list id list) o false) of ∙ is) below.0)
     here false is = refl
 
 once_left : (front rest : List Row) → AreSharedOnce (front ++ rest) → AreSharedOnce front
@@ -147,12 +147,13 @@ once_left [] rest once = tt
 once_left (row ∷ front) rest once = (all-left (λ later. share_alike row later ≡ false) front rest once.0, once_left front rest once.1)
 
 module _ (front rest : List Row) where
-  listed_left : (those : List Row) → AllByRecursion (λ row. AllByRecursion (λ list. Below (row_text row) (row_text list)) rest) those → AllByRecursion (λ row. list_any (is_list (list_of row)) (front ++ rest) ≡ true) those → AllByRecursion (λ row. list_any (is_list (list_of row)) front ≡ true) those
+  listed_left : (those : List Row) → AllByRecursion (λ row. AllByRecursion (λ list. Below (row_text row) (row_text list)) rest) those → AllByRecursion (λ row. has_its_list (front ++ rest) row ≡ true) those → AllByRecursion (λ row. has_its_list front row ≡ true) those
   listed_left [] below all = tt
-  listed_left (row ∷ those) below all = (
-    sym (list_any-append (is_list (list_of row)) front rest ∙ ap (λ (b : Bool). list_any (is_list (list_of row)) front || b) (none_behind row rest below.0) ∙ or-false _) ∙ all.0,
-    listed_left those below.1 all.1,
-  )
+  listed_left (row ∷ those) below all = (one (list_of row) refl all.0, listed_left those below.1 all.1)
+    where
+      one : (o : Option (List ℕ)) → list_of row ≡ o → option_map_or (λ list. list_any (is_list list) (front ++ rest)) o true ≡ true → option_map_or (λ list. list_any (is_list list) front) o true ≡ true
+      one None of is = refl
+      one (Some id) of is = sym (list_any-append (is_list id) front rest ∙ ap (λ (b : Bool). list_any (is_list id) front || b) (none_behind row id rest of below.0) ∙ or-false _) ∙ is
 
   others_left : (row : Row) → shared_with_owner (front ++ rest) row ≡ false → shared_with_owner front row ≡ false
   others_left (variants.List row) is = refl
@@ -165,7 +166,7 @@ module _ (front rest : List Row) where
 
   whole_left : InOrder row_text (front ++ rest) → AreWhole (front ++ rest) → AreWhole front
   whole_left order whole = record {
-    listed = listed_left front (in_order-below row_text front rest order) (all-left (λ row. list_any (is_list (list_of row)) (front ++ rest) ≡ true) front rest whole.listed);
+    listed = listed_left front (in_order-below row_text front rest order) (all-left (λ row. has_its_list (front ++ rest) row ≡ true) front rest whole.listed);
     once = once_left front rest whole.once;
     others = all-weaker (λ row. shared_with_owner (front ++ rest) row ≡ false) (λ row. shared_with_owner front row ≡ false) front others_left (all-left (λ row. shared_with_owner (front ++ rest) row ≡ false) front rest whole.others);
   }

@@ -7,7 +7,7 @@ ghost use Rattle.rv_rows.specs.Effects.{is_at, is_other, is_outside, may_change,
 ghost use Rattle.rv_rows.specs.declared.call.Call.TheVariants.{CreateList, CreateShare, CreateTodo};
 ghost use Rattle.std.specs.List.{filter, list_any};
 
-use crate::sharing::{has_share, may_edit, may_see, owns_list};
+use crate::sharing::{has_share, may_edit, may_edit_list_of, owns_list, owns_list_of, sees_row};
 use rv_base::{Id, Memory, Num, Text, User};
 use rv_rows::{Call, Kind, ListRow, Role, Row, ShareRow, TodoRow};
 use std::alloc::Global;
@@ -33,7 +33,7 @@ fn without_list(alloc: Global, rows: &[Row], list: &Id) -> Result<Vec<Row>, Memo
 {
     let mut kept = Vec::new(alloc);
     for row in rows {
-        if row.list() != list {
+        if !row.belongs(list) {
             kept.push(row.copy(alloc)?)?;
         }
     }
@@ -59,7 +59,7 @@ fn without_row(alloc: Global, rows: &[Row], kind: Kind, id: &Id) -> Result<Vec<R
 fn may_change(user: &User, rows: &[Row], id: &Id, row: &Row) -> bool
     ensures { result ≡ may_change user.now rows.now id.now row.now }
 {
-    is_at(Kind::Todo, id, row) && may_edit(user, row.list(), rows)
+    is_at(Kind::Todo, id, row) && may_edit_list_of(user, rows, row)
 }
 
 // The rows but for this todo, where the user may edit its list.
@@ -185,7 +185,7 @@ fn create_share(
 fn may_set_role(user: &User, rows: &[Row], id: &Id, row: &Row) -> bool
     ensures { result ≡ may_set_role user.now rows.now id.now row.now }
 {
-    is_at(Kind::Share, id, row) && owns_list(user, row.list(), rows)
+    is_at(Kind::Share, id, row) && owns_list_of(user, rows, row)
 }
 
 // The row with the role, where it is a share.
@@ -366,7 +366,7 @@ pub fn seen(alloc: Global, rows: &[Row], user: &User) -> Result<Vec<Row>, Memory
     let sorted = in_key_order(alloc, rows)?;
     let mut seen = Vec::new(alloc);
     for row in &sorted {
-        if may_see(user, row.list(), rows) {
+        if sees_row(user, rows, row) {
             seen.push(row.copy(alloc)?)?;
         }
     }

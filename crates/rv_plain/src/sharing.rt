@@ -1,7 +1,7 @@
 //! Who may see a list among rows, and who may edit it.
 ghost use Rattle.std.specs.Prelude.{◌≡◌};
 ghost use Rattle.std.specs.List.{list_any};
-ghost use Rattle.rv_rows.specs.Sharing.{is_list, owns, shares, lets_edit, may_edit, may_see};
+ghost use Rattle.rv_rows.specs.Sharing.{is_list, owns, shares, lets_edit, list_passes, may_edit, may_see, sees_row};
 
 use rv_base::{Id, User};
 use rv_rows::Row;
@@ -68,4 +68,34 @@ pub(crate) fn may_edit(user: &User, list: &Id, rows: &[Row]) -> bool
     ensures { result ≡ may_edit user.now list.now rows.now }
 {
     owns_list(user, list, rows) || (has_list(list, rows) && has_edit_share(user, list, rows))
+}
+
+/// Whether the user sees the row: the user may see the list that it is or belongs to.
+pub(crate) fn sees_row(user: &User, rows: &[Row], row: &Row) -> bool
+    ensures { result ≡ sees_row user.now rows.now row.now }
+{
+    match row.list() {
+        Some(list) => may_see(user, list, rows),
+        None => false,
+    }
+}
+
+/// Whether the user owns the list that the row is or belongs to.
+pub(crate) fn owns_list_of(user: &User, rows: &[Row], row: &Row) -> bool
+    ensures { result ≡ list_passes (λ list. list_any (owns user.now list) rows.now) row.now }
+{
+    match row.list() {
+        Some(list) => owns_list(user, list, rows),
+        None => false,
+    }
+}
+
+/// Whether the user may edit the todos of the list that the row is or belongs to.
+pub(crate) fn may_edit_list_of(user: &User, rows: &[Row], row: &Row) -> bool
+    ensures { result ≡ list_passes (λ list. may_edit user.now list rows.now) row.now }
+{
+    match row.list() {
+        Some(list) => may_edit(user, list, rows),
+        None => false,
+    }
 }

@@ -1,11 +1,10 @@
 -- The report of the lists: a line for each list in the order of their keys, and a line of totals.
 use Rattle.std.specs.Prelude.{List, [], ◌++◌, ℕ, Bool, true, false, not, codes, decimal, count_by}
 use Rattle.std.specs.List.{filter, flat_map}
-use Rattle.std.specs.Str.{bytes_eq}
 use Rattle.rv_rows.specs.declared.row.Row.TheVariants as variants
 use Rattle.rv_rows.specs.declared.row.ListRow.{ListRow}
 use Rattle.rv_rows.specs.Held.{Stored}
-use Rattle.rv_rows.specs.Sharing.{list_of}
+use Rattle.rv_rows.specs.Sharing.{belongs}
 use Rattle.rv_report.specs.Texts.{quoted}
 
 abbrev pub is_list_row : Stored → Bool
@@ -31,7 +30,7 @@ is_open (variants.Todo row, version) = not row.complete
 
 -- the list itself, its shares and its todos
 abbrev pub list_rows : List ℕ → List Stored → List Stored
-list_rows list rows = filter (λ s. bytes_eq (list_of s.0) list) rows
+list_rows list rows = filter (λ s. belongs list s.0) rows
 
 -- three numbers with one space between, and LF
 abbrev pub counts_text : ℕ → ℕ → ℕ → List ℕ

@@ -1,6 +1,7 @@
 -- Texts for what rows are filed under and for what comes then stand to each other as what the rows are filed under, and where
 -- that is the same as what comes then.
 use Rattle.std.proofs.Common.{◌≡◌, ℕ, zero, suc, ◌≤◌, ◌∷◌, ◌++◌, List, [], refl, sym, ap, ◌∙◌, subst, arith}
+use Rattle.std.specs.Str.{bytes_eq}
 use Rattle.std.specs.declared.cmp.Ordering.{Ordering}
 use Rattle.std.specs.declared.cmp.Ordering.TheVariants.{Less, Equal, Greater}
 use Rattle.std.specs.Ordering.{nat_cmp, match_ordering, ordering_then}
@@ -11,8 +12,9 @@ use Rattle.rv_base.specs.Positions.{Below, same_from}
 use Rattle.rv_rows.specs.declared.filing.Filing.{Filing}
 use Rattle.rv_rows.specs.declared.filing.Filing.TheVariants as filings
 use Rattle.rv_rows.specs.declared.row.Row.{Row}
+use Rattle.rv_rows.specs.declared.row.Row.TheVariants as variants
 use Rattle.rv_rows.specs.Keys.{row_text}
-use Rattle.rv_rows.specs.Sharing.{list_of}
+use Rattle.rv_rows.specs.Sharing.{belongs}
 use Rattle.rv_rows.specs.Filed.{filed, under, falling, sort_of, then_by, filed_text}
 
 lowest : (y : ℕ) → nat_cmp 0 (suc y) ≡ Less
@@ -94,7 +96,13 @@ no_greater s t Equal p e h = grind (arith, nat_tests)
 no_greater s t Greater p e h = absurd (cc)
 
 -- of two rows of a list in the order by sorts, the later has no greater sort
-pub sort-falls : (row other : Row) → list_of row ≡ list_of other → Below (filed_text filings.Sort row) (filed_text filings.Sort other) → sort_of other ≤ sort_of row
+pub sort-falls : (row other : Row) → under filings.Sort row ≡ under filings.Sort other → Below (filed_text filings.Sort row) (filed_text filings.Sort other) → sort_of other ≤ sort_of row
 sort-falls row other e h =
-    let low : Below (then_by filings.Sort row) (then_by filings.Sort other) = below-then (list_of other) (then_by filings.Sort row) (then_by filings.Sort other) (subst (λ (l : List ℕ). Below (filed l (then_by filings.Sort row)) (filed_text filings.Sort other)) e h) in
+    let low : Below (then_by filings.Sort row) (then_by filings.Sort other) = below-then (under filings.Sort other) (then_by filings.Sort row) (then_by filings.Sort other) (subst (λ (l : List ℕ). Below (filed l (then_by filings.Sort row)) (filed_text filings.Sort other)) e h) in
     no_greater (sort_of row) (sort_of other) (nat_cmp (sort_of other) (sort_of row)) (slice_cmp nat_cmp (row_text row) (row_text other)) refl (sym (falling-cmp (sort_of row) (sort_of other) (row_text row) (row_text other)) ∙ low)
+
+-- a row is filed under a list where it belongs to it
+pub filed_belongs : (list : List ℕ) (row : Row) → bytes_eq (under filings.List row) list ≡ belongs list row
+filed_belongs list (variants.List row) = refl
+filed_belongs list (variants.Share row) = refl
+filed_belongs list (variants.Todo row) = refl

@@ -19,9 +19,9 @@ use Rattle.rv_rows.specs.Keys.{row_text}
 use Rattle.rv_rows.specs.Held.{Stored, stored_key, put, AreRows}
 use Rattle.rv_rows.specs.declared.filing.Filing.{Filing}
 use Rattle.rv_rows.specs.declared.filing.Filing.TheVariants as filings
-use Rattle.rv_rows.specs.Sharing.{list_of, user_of}
+use Rattle.rv_rows.specs.Sharing.{user_of}
 use Rattle.rv_rows.specs.declared.row.Row.{Row}
-use Rattle.rv_rows.specs.Filed.{filed, falling, sort_of, filed_text, filed_key}
+use Rattle.rv_rows.specs.Filed.{filed, falling, sort_of, filed_text, filed_key, under}
 use Rattle.rv_rows.specs.Slots.{no_row, row_of, standing, by_slot, AreSlots, AreSame, IsFiled, HasOrders, relabelled, renamed, Vacates}
 use Rattle.rv_rows.proofs.FiledLaws.{filed-key}
 use Rattle.rv_rows.proofs.SlotLaws.{by_flag, by_found, any_default, found_key, renamed_settled, struck, rewritten, member_found, found_item, in_order-slots, in_order-items, same-filter, same-map, all-to, all-map, all-insert, others-filter, alike, alike-moved, map-insert, map-remove, same-insert}
@@ -185,7 +185,7 @@ written_filed by slots by_key order s x at same is =
 -- a row with the key of another, that is filed as it is
 pub record IsFiledAs (row other : Row) : Type 0 where
   pub key : row_text row ≡ row_text other
-  pub list : list_of row ≡ list_of other
+  pub list : under filings.List row ≡ under filings.List other
   pub user : user_of row ≡ user_of other
   pub sort : sort_of row ≡ sort_of other
 
@@ -226,7 +226,7 @@ pub slot_there : (slots : List Stored) (os : List ℕ) (at s : ℕ) → AreSlots
 slot_there slots os at s all lt is = subst (λ (i : ℕ). i < length slots) (read_at os at s 0 lt is) (slot_at (length slots) os at all lt)
 
 pub written_at : (slots new : List Stored) (by_key by_list by_user by_sort : List ℕ) (at s : ℕ) (x : Stored) → HasOrders slots by_key by_list by_user by_sort → IsPositionOf stored_key (stored_key x) (standing slots by_key) (Ok at) → s ≡ get_or by_key at s
-    → list_of (get_or (standing slots by_key) at no_row).0 ≡ list_of x.0 → user_of (get_or (standing slots by_key) at no_row).0 ≡ user_of x.0 → sort_of (get_or (standing slots by_key) at no_row).0 ≡ sort_of x.0
+    → under filings.List (get_or (standing slots by_key) at no_row).0 ≡ under filings.List x.0 → user_of (get_or (standing slots by_key) at no_row).0 ≡ user_of x.0 → sort_of (get_or (standing slots by_key) at no_row).0 ≡ sort_of x.0
     → new ≡ set slots s x → HasOrders new by_key by_list by_user by_sort × (standing new by_key ≡ set (standing slots by_key) at x)
 written_at slots new by_key by_list by_user by_sort at s x indexed there slot_is list user sort new_is =
     let lt : at < length by_key = in_standing slots by_key at there.in_range in
@@ -234,7 +234,7 @@ written_at slots new by_key by_list by_user by_sort at s x indexed there slot_is
     let alike : IsFiledAs x.0 (row_of slots s).0 =
     record {
       key = found_key stored_key (stored_key x) (standing slots by_key) (get_or (standing slots by_key) at no_row) (there.found no_row) ∙ ap stored_key is;
-      list = sym list ∙ ap (λ (y : Stored). list_of y.0) is;
+      list = sym list ∙ ap (λ (y : Stored). under filings.List y.0) is;
       user = sym user ∙ ap (λ (y : Stored). user_of y.0) is;
       sort = sym sort ∙ ap (λ (y : Stored). sort_of y.0) is;
     } in

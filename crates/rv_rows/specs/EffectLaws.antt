@@ -16,7 +16,7 @@ use Rattle.rv_rows.specs.declared.row.Row.TheVariants as variants
 use Rattle.rv_rows.specs.declared.call.Call.{Call}
 use Rattle.rv_rows.specs.declared.call.Call.TheVariants.{CreateList, DeleteList, CreateShare, UpdateShare, DeleteShare, CreateTodo, UpdateTodo, DeleteTodo, Void}
 use Rattle.rv_rows.specs.Keys.{key_text, row_text, has_row, in_key_order}
-use Rattle.rv_rows.specs.Sharing.{owns, shares, lets_edit, is_list, list_of, may_see, sees_row, may_edit}
+use Rattle.rv_rows.specs.Sharing.{owns, shares, lets_edit, is_list, list_passes, may_see, sees_row, may_edit}
 use Rattle.rv_rows.specs.Roles.{same_role}
 use Rattle.rv_rows.specs.Effects.{effect, is_at, may_change, may_end, ends, is_unchanged, is_outside, is_other, greater_sort, greatest_sort, next_sort, sort_after, sort_in, with_fields, after_update, may_set_role, with_role, after_role}
 use Rattle.rv_rows.specs.Changes.{same_row, same_flag}
@@ -34,7 +34,7 @@ may_see-sorted user list rows h =
     (λ i. owned i || (there i && shared i))
 
 pub sees_row-sorted : (user : List ℕ) (rows : List Row) → Distinct row_text rows → (row : Row) → sees_row user (in_key_order rows) row ≡ sees_row user rows row
-sees_row-sorted user rows h row = may_see-sorted user (list_of row) rows h
+sees_row-sorted user rows h row = λ i. list_passes (λ list. may_see-sorted user list rows h i) row
 
 pub may_edit-sorted : (user list : List ℕ) (rows : List Row) → Distinct row_text rows → may_edit user list (in_key_order rows) ≡ may_edit user list rows
 unfolding may_edit
@@ -46,11 +46,11 @@ may_edit-sorted user list rows h =
 
 may_set_role-sorted : (user : List ℕ) (rows : List Row) (id : List ℕ) → Distinct row_text rows → may_set_role user (in_key_order rows) id ≡ may_set_role user rows id
 unfolding may_set_role
-may_set_role-sorted user rows id h = λ i row. is_at kinds.Share id row && list_any-sorted row_text (owns user (list_of row)) rows h i
+may_set_role-sorted user rows id h = λ i row. is_at kinds.Share id row && list_passes (λ list. list_any-sorted row_text (owns user list) rows h i) row
 
 may_change-sorted : (user : List ℕ) (rows : List Row) (id : List ℕ) → Distinct row_text rows → may_change user (in_key_order rows) id ≡ may_change user rows id
 unfolding may_change
-may_change-sorted user rows id h = λ i row. is_at kinds.Todo id row && may_edit-sorted user (list_of row) rows h i
+may_change-sorted user rows id h = λ i row. is_at kinds.Todo id row && list_passes (λ list. may_edit-sorted user list rows h i) row
 
 may_end-sorted : (user : List ℕ) (rows : List Row) (row : Row) → Distinct row_text rows → may_end user (in_key_order rows) row ≡ may_end user rows row
 may_end-sorted user rows (variants.Share row) h = ap (λ (b : Bool). b || bytes_eq row.user user) (list_any-sorted row_text (owns user row.list) rows h)

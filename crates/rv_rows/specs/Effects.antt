@@ -11,7 +11,7 @@ use Rattle.rv_rows.specs.declared.row.Row.TheVariants as variants
 use Rattle.rv_rows.specs.declared.call.Call.{Call}
 use Rattle.rv_rows.specs.declared.call.Call.TheVariants.{CreateList, DeleteList, CreateShare, UpdateShare, DeleteShare, CreateTodo, UpdateTodo, DeleteTodo, Void}
 use Rattle.rv_rows.specs.Keys.{key_text, row_text, has_row}
-use Rattle.rv_rows.specs.Sharing.{owns, shares, may_edit, list_of}
+use Rattle.rv_rows.specs.Sharing.{owns, shares, may_edit, list_passes, belongs}
 
 -- the row has the key of this kind and this id
 abbrev pub is_at : Kind → List ℕ → Row → Bool
@@ -23,11 +23,11 @@ is_other kind id row = not (is_at kind id row)
 
 -- the row neither is the list nor belongs to it
 abbrev pub is_outside : List ℕ → Row → Bool
-is_outside list row = not (bytes_eq (list_of row) list)
+is_outside list row = not (belongs list row)
 
 -- the row is this todo, and the user may edit its list
 unfoldable pub may_change : List ℕ → List Row → List ℕ → Row → Bool
-may_change user rows id row = is_at kinds.Todo id row && may_edit user (list_of row) rows
+may_change user rows id row = is_at kinds.Todo id row && list_passes (λ list. may_edit user list rows) row
 
 abbrev pub is_unchanged : List ℕ → List Row → List ℕ → Row → Bool
 is_unchanged user rows id row = not (may_change user rows id row)
@@ -44,7 +44,7 @@ ends user rows id row = is_at kinds.Share id row && may_end user rows row
 
 -- the row is this share, and the user owns its list
 unfoldable pub may_set_role : List ℕ → List Row → List ℕ → Row → Bool
-may_set_role user rows id row = is_at kinds.Share id row && list_any (owns user (list_of row)) rows
+may_set_role user rows id row = is_at kinds.Share id row && list_passes (λ list. list_any (owns user list) rows) row
 
 -- the share with this role
 abbrev pub with_role : Role → Row → Row

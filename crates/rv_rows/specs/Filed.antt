@@ -1,6 +1,6 @@
 -- The orders of rows by a text that each is filed under, and among those of one text by the texts of their keys, or by their
 -- sorts and then by those texts, as the order of single texts.
-use Rattle.std.specs.Prelude.{ℕ, zero, suc, List, [], ◌∷◌, ◌++◌, map}
+use Rattle.std.specs.Prelude.{ℕ, zero, suc, List, [], ◌∷◌, ◌++◌, map, unwrap_or}
 use Rattle.rv_rows.specs.declared.filing.Filing.{Filing}
 use Rattle.rv_rows.specs.declared.filing.Filing.TheVariants as filings
 use Rattle.rv_rows.specs.declared.row.Row.{Row}
@@ -14,11 +14,11 @@ use Rattle.rv_rows.specs.Sharing.{list_of, user_of}
 abbrev pub filed : List ℕ → List ℕ → List ℕ
 filed text then = map suc text ++ 0 ∷ then
 
--- what a row is filed under: its list, or the user whom it names
+-- what a row is filed under: its list, and nothing where it has none; or the user whom it names
 abbrev pub under : Filing → Row → List ℕ
-under filings.List row = list_of row
+under filings.List row = unwrap_or (list_of row) []
 under filings.User row = user_of row
-under filings.Sort row = list_of row
+under filings.Sort row = unwrap_or (list_of row) []
 
 -- the sort of a todo, and 0 of any other row
 abbrev pub sort_of : Row → ℕ

@@ -1,8 +1,9 @@
 -- Who sees what, and who may edit. A user may see a list exactly where the list is there and the user owns it or a share of that
 -- list names the user. A user sees each such list with its shares and its todos. The owner, and a user whom a share of the list
 -- with role edit names, may add, change and remove its todos.
-use Rattle.std.specs.Prelude.{ℕ, Bool, false, List, [], ◌&&◌, ◌||◌}
+use Rattle.std.specs.Prelude.{ℕ, Bool, false, List, [], Option, Some, ◌&&◌, ◌||◌}
 use Rattle.std.specs.List.{filter, list_any}
+use Rattle.std.specs.Option.{option_map_or}
 use Rattle.std.specs.Str.{bytes_eq}
 use Rattle.rv_rows.specs.declared.row.Row.{Row}
 use Rattle.rv_rows.specs.declared.row.Row.TheVariants as variants
@@ -42,11 +43,19 @@ may_see user list rows = list_any (owns user list) rows || (list_any (is_list li
 unfoldable pub may_edit : List ℕ → List ℕ → List Row → Bool
 may_edit user list rows = list_any (owns user list) rows || (list_any (is_list list) rows && list_any (lets_edit user list) rows)
 
--- the list that a row is or belongs to
-abbrev pub list_of : Row → List ℕ
-list_of (variants.List row) = row.id
-list_of (variants.Share row) = row.list
-list_of (variants.Todo row) = row.list
+-- the list that a row is or belongs to, where it has one
+abbrev pub list_of : Row → Option (List ℕ)
+list_of (variants.List row) = Some row.id
+list_of (variants.Share row) = Some row.list
+list_of (variants.Todo row) = Some row.list
+
+-- the row is a list that passes the test, or belongs to one
+abbrev pub list_passes : (List ℕ → Bool) → Row → Bool
+list_passes test row = option_map_or test (list_of row) false
+
+-- the row is this list, or belongs to it
+abbrev pub belongs : List ℕ → Row → Bool
+belongs list row = list_passes (λ l. bytes_eq l list) row
 
 -- the user whom a row names: a list its owner, a share the user that it is shared with; a todo names none
 abbrev pub user_of : Row → List ℕ
@@ -56,7 +65,7 @@ user_of (variants.Todo row) = []
 
 -- The user sees the row, as one of these rows: the user may see the list that it is or belongs to.
 abbrev pub sees_row : List ℕ → List Row → Row → Bool
-sees_row user rows row = may_see user (list_of row) rows
+sees_row user rows row = list_passes (λ list. may_see user list rows) row
 
 -- the rows that the user sees, in the order of their keys
 abbrev pub seen : List ℕ → List Row → List Row

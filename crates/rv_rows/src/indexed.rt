@@ -5,7 +5,8 @@ ghost use Rattle.rv_base.specs.Sorted.{IsPositionOf};
 ghost use Rattle.rv_pages.specs.Paging.{index_of, place, IsItem, IsGap};
 ghost use Rattle.rv_rows.specs.Keys.{key_text, row_text};
 ghost use Rattle.rv_rows.specs.Held.{find, put, rows_in, AreRows, stored_key};
-ghost use Rattle.rv_rows.specs.Sharing.{list_of, user_of};
+ghost use Rattle.rv_rows.specs.declared.filing.Filing.TheVariants as filings;
+ghost use Rattle.rv_rows.specs.Sharing.{belongs, user_of};
 ghost use Rattle.rv_rows.specs.Filed.{sort_of, under};
 ghost use Rattle.rv_rows.specs.Effects.{greatest_sort};
 ghost use Rattle.rv_rows.specs.Slots.{rows_of, no_row};
@@ -140,7 +141,7 @@ impl IndexedRows {
     fn rewrite_at(&mut self, at: At, row: Row, version: u32)
         requires item { IsItem self.old.by_key at }
         requires position { IsPositionOf stored_key (row_text row) (rows_of self.old) (Ok (index_of self.old.by_key at)) }
-        requires list { list_of (slice_index_or (rows_of self.old) (index_of self.old.by_key at) no_row).0 ≡ list_of row }
+        requires list { under filings.List (slice_index_or (rows_of self.old) (index_of self.old.by_key at) no_row).0 ≡ under filings.List row }
         requires user { user_of (slice_index_or (rows_of self.old) (index_of self.old.by_key at) no_row).0 ≡ user_of row }
         requires sort { sort_of (slice_index_or (rows_of self.old) (index_of self.old.by_key at) no_row).0 ≡ sort_of row }
         ensures rows { rows_of self.new ≡ slice_set (rows_of self.old) (index_of self.old.by_key at) (row, version) }
@@ -216,7 +217,7 @@ impl IndexedRows {
 
     // The rows that are filed under a text by their lists, in the order of their keys.
     pub(crate) fn of_list(&self, list: &str) -> RowsInOrder<'_>
-        ensures rows { result ≡ filter (λ s. bytes_eq (list_of s.0) list.now) (rows_of self.now) }
+        ensures rows { result ≡ filter (λ s. belongs list.now s.0) (rows_of self.now) }
         ensures order { AreRows (rows_of self.now) }
     {
         RowsInOrder::new(

@@ -1,10 +1,11 @@
-ghost use Rattle.std.specs.Prelude.{◌≡◌, ◌↔◌, IsTrue, IfOk};
+ghost use Rattle.std.specs.Prelude.{◌≡◌, ◌↔◌, [], IsTrue, IfOk, option_map, unwrap_or};
 ghost use Rattle.std.specs.Cmp.Lexicographic.{slice_cmp};
 ghost use Rattle.std.specs.Ordering.{nat_cmp};
 ghost use Rattle.rv_rows.specs.Keys.{key_text, row_key, row_text};
-ghost use Rattle.rv_rows.specs.Sharing.{lets_edit, list_of, shares, user_of};
+ghost use Rattle.rv_rows.specs.Sharing.{belongs, lets_edit, list_of, shares, user_of};
 ghost use Rattle.rv_rows.specs.Filed.{filed_text, sort_of, then_by, under};
 ghost use Rattle.rv_rows.specs.Effects.{sort_after, sort_in, with_fields, with_role};
+ghost use Rattle.rv_rows.specs.declared.filing.Filing.TheVariants as filings;
 ghost use Rattle.rv_rows.specs.declared.filing.Filing.TheVariants.{Sort};
 ghost use Rattle.rv_rows.specs.declared.row.Row.TheVariants.{Share, Todo};
 
@@ -88,14 +89,25 @@ impl Row {
         }
     }
 
-    /// The list that the row is or belongs to.
-    pub fn list(&self) -> &Id
-        ensures { result.now ≡ list_of self.now }
+    /// The list that the row is or belongs to, where it has one.
+    pub fn list(&self) -> Option<&Id>
+        ensures { option_map (λ list. list.now) result ≡ list_of self.now }
     {
         match self {
-            Row::List(row) => &row.id,
-            Row::Share(row) => &row.list,
-            Row::Todo(row) => &row.list,
+            Row::List(row) => Some(&row.id),
+            Row::Share(row) => Some(&row.list),
+            Row::Todo(row) => Some(&row.list),
+        }
+    }
+
+    /// Whether the row is this list, or belongs to it.
+    pub fn belongs(&self, list: &Id) -> bool
+        ensures { result ≡ belongs list.now self.now }
+    {
+        match self {
+            Row::List(row) => row.id == *list,
+            Row::Share(row) => row.list == *list,
+            Row::Todo(row) => row.list == *list,
         }
     }
 
@@ -127,22 +139,35 @@ impl Row {
         }
     }
 
+    // The text of the row's list, and nothing where it has none.
+    fn list_text(&self) -> &str
+        ensures { result.now ≡ unwrap_or (list_of self.now) [] }
+    {
+        match self {
+            Row::List(row) => row.id.as_str(),
+            Row::Share(row) => row.list.as_str(),
+            Row::Todo(row) => row.list.as_str(),
+        }
+    }
+
     // What the row is filed under.
     pub(crate) fn under(&self, by: Filing) -> &str
         ensures { result.now ≡ under by self.now }
     {
         match by {
-            Filing::List => self.list().as_str(),
+            Filing::List => self.list_text(),
             Filing::User => self.user(),
-            Filing::Sort => self.list().as_str(),
+            Filing::Sort => self.list_text(),
         }
     }
 
     // Whether the row is filed as another in each order: under the same list and the same user, and with the same sort.
     pub(crate) fn is_filed_as(&self, other: &Row) -> bool
-        ensures { IsTrue result ↔ ((list_of self.now ≡ list_of other.now) × (user_of self.now ≡ user_of other.now) × (sort_of self.now ≡ sort_of other.now)) }
+        ensures { IsTrue result ↔ ((under filings.List self.now ≡ under filings.List other.now) × (user_of self.now ≡ user_of other.now) × (sort_of self.now ≡ sort_of other.now)) }
     {
-        self.list() == other.list() && self.user() == other.user() && self.sort() == other.sort()
+        self.list_text() == other.list_text()
+            && self.user() == other.user()
+            && self.sort() == other.sort()
     }
 
     // How the row stands to another: by what they are filed under, and where that is the same by what comes then.

@@ -3,7 +3,7 @@ ghost use Rattle.std.specs.List.{filter};
 ghost use Rattle.std.specs.Str.{bytes_eq};
 ghost use Rattle.rv_rows.specs.Keys.{key_text};
 ghost use Rattle.rv_rows.specs.Held.{find, put, remove, rows_in, AreRows};
-ghost use Rattle.rv_rows.specs.Sharing.{list_of, user_of};
+ghost use Rattle.rv_rows.specs.Sharing.{belongs, user_of};
 ghost use Rattle.rv_rows.specs.Effects.{greatest_sort};
 
 use crate::indexed::IndexedRows;
@@ -103,7 +103,7 @@ impl Tables {
     /// The rows of a list: the list itself, its shares and its todos, with their versions, in the order of their keys. Takes
     /// no memory.
     pub fn of_list(&self, list: &Id) -> RowsInOrder<'_>
-        ensures rows { result ≡ filter (λ s. bytes_eq (list_of s.0) list.now) self.now.rows }
+        ensures rows { result ≡ filter (λ s. belongs list.now s.0) self.now.rows }
         ensures order { AreRows self.now.rows }
     {
         self.rows.of_list(list.as_str())

@@ -1,10 +1,11 @@
 -- Laws of rows that are gathered from several lists.
-use Rattle.std.proofs.Common.{take, ◌⊎◌, inl, inr, ◌≡◌, ℕ, zero, suc, ◌+◌, ◌<◌, ◌≤◌, Bool, true, false, cond, ◌||◌, List, [], ◌∷◌, ◌++◌, length, get_or, drop, refl, sym, ap, ◌∙◌, subst, arith, add-one, append_assoc, append-nil}
+use Rattle.std.proofs.Common.{take, ◌⊎◌, inl, inr, ◌≡◌, ℕ, zero, suc, ◌+◌, ◌<◌, ◌≤◌, Bool, true, false, cond, ◌||◌, List, [], ◌∷◌, ◌++◌, length, get_or, drop, Option, Some, None, refl, sym, ap, ◌∙◌, subst, arith, add-one, append_assoc, append-nil}
 use Rattle.std.specs.declared.cmp.Ordering.{Ordering}
 use Rattle.std.specs.declared.cmp.Ordering.TheVariants.{Less, Equal, Greater}
 use Rattle.std.specs.Ordering.{nat_cmp, ordering_reverse}
 use Rattle.std.specs.Cmp.Lexicographic.{slice_cmp}
 use Rattle.std.specs.List.{filter, list_any}
+use Rattle.std.specs.Option.{option_map_or}
 use Rattle.std.specs.Str.{bytes_eq}
 use Rattle.std.specs.Borrow.{Bor}
 use Rattle.std.proofs.lemmas.Cmp.{nat_list_cmp_total, tied_itself}
@@ -14,7 +15,7 @@ use Rattle.rv_rows.specs.declared.key.Kind.{Kind}
 use Rattle.rv_rows.specs.declared.row.Row.{Row}
 use Rattle.rv_rows.specs.Keys.{key_text, row_key, row_text}
 use Rattle.rv_rows.specs.Held.{Stored, AreRows, stored_key, put}
-use Rattle.rv_rows.specs.Sharing.{list_of}
+use Rattle.rv_rows.specs.Sharing.{belongs, list_of, list_passes}
 use Rattle.rv_sharing.specs.Gathered.{rows_at, merged}
 
 above_is : (a b : List ℕ) → Below a b → slice_cmp nat_cmp b a ≡ Greater
@@ -161,8 +162,20 @@ compared one other kind id o p kind_is id_is told is = (λ k. slice_cmp nat_cmp 
 pub collected : (rows new : List Item) (x : Item) (rest before all : List Stored) → new ≡ rows ++ x ∷ [] → before ≡ (x.0.now, x.1) ∷ rest → rows_at rows ++ before ≡ all → rows_at new ++ rest ≡ all
 collected rows new x rest before all new_is first so_far = pushes rows new x rest all before new_is first so_far
 
+-- a row belongs to one of some lists exactly where it has a list that is one of them
+pub among_passes : (lists : List (List ℕ)) (row : Row) → list_any (λ list. belongs list row) lists ≡ list_passes (λ text. list_any (bytes_eq text) lists) row
+among_passes lists row = each (list_of row)
+  where
+    nothing : (lists : List (List ℕ)) → list_any (λ list. false) lists ≡ false
+    nothing [] = refl
+    nothing (l ∷ ls) = nothing ls
+
+    each : (o : Option (List ℕ)) → list_any (λ list. option_map_or (λ text. bytes_eq text list) o false) lists ≡ option_map_or (λ text. list_any (bytes_eq text) lists) o false
+    each None = nothing lists
+    each (Some text) = refl
+
 -- the rows of no list, of one, and of some with those of others
-pub of_none : (lists : List (List ℕ)) (xs : List Stored) → length lists < 1 → filter (λ s. list_any (bytes_eq (list_of s.0)) lists) xs ≡ []
+pub of_none : (lists : List (List ℕ)) (xs : List Stored) → length lists < 1 → filter (λ s. list_any (λ list. belongs list s.0) lists) xs ≡ []
 of_none [] xs lt = none xs
   where
     none : (xs : List Stored) → filter (λ s. false) xs ≡ []
@@ -170,8 +183,8 @@ of_none [] xs lt = none xs
     none (x ∷ xs) = none xs
 of_none (l ∷ lists) xs lt = absurd (omega arith)
 
-pub in_order-of : (lists : List (List ℕ)) (xs : List Stored) → AreRows xs → AreRows (filter (λ s. list_any (bytes_eq (list_of s.0)) lists) xs)
-in_order-of lists xs h = in_order-filter stored_key (λ s. list_any (bytes_eq (list_of s.0)) lists) xs h
+pub in_order-of : (lists : List (List ℕ)) (xs : List Stored) → AreRows xs → AreRows (filter (λ s. list_any (λ list. belongs list s.0) lists) xs)
+in_order-of lists xs h = in_order-filter stored_key (λ s. list_any (λ list. belongs list s.0) lists) xs h
 
 any-parts : (p : List ℕ → Bool) (n : ℕ) (lists : List (List ℕ)) → (list_any p (take n lists) || list_any p (drop n lists)) ≡ list_any p lists
 any-parts p zero lists = refl
@@ -179,11 +192,11 @@ any-parts p (suc n) [] = refl
 any-parts p (suc n) (l ∷ lists) = elim (p l) as (λ b. ((b || list_any p (take n lists)) || list_any p (drop n lists)) ≡ (b || list_any p lists)) [ true ↦ refl | false ↦ any-parts p n lists ]
 
 pub of_both : (n : ℕ) (lists front back : List (List ℕ)) (xs left right rows : List Stored) → AreRows xs → front ≡ take n lists → back ≡ drop n lists
-    → left ≡ filter (λ s. list_any (bytes_eq (list_of s.0)) front) xs → right ≡ filter (λ s. list_any (bytes_eq (list_of s.0)) back) xs → rows ≡ merged left right
-    → rows ≡ filter (λ s. list_any (bytes_eq (list_of s.0)) lists) xs
+    → left ≡ filter (λ s. list_any (λ list. belongs list s.0) front) xs → right ≡ filter (λ s. list_any (λ list. belongs list s.0) back) xs → rows ≡ merged left right
+    → rows ≡ filter (λ s. list_any (λ list. belongs list s.0) lists) xs
 of_both n lists front back xs left right rows h front_is back_is left_is right_is rows_are =
     rows_are
     ∙ (λ k. merged (left_is k) (right_is k))
-    ∙ merged-filter (λ s. list_any (bytes_eq (list_of s.0)) front) (λ s. list_any (bytes_eq (list_of s.0)) back) xs h
-    ∙ (λ k. filter (λ s. list_any (bytes_eq (list_of s.0)) (front_is k) || list_any (bytes_eq (list_of s.0)) (back_is k)) xs)
-    ∙ (λ k. filter (λ s. any-parts (bytes_eq (list_of s.0)) n lists k) xs)
+    ∙ merged-filter (λ s. list_any (λ list. belongs list s.0) front) (λ s. list_any (λ list. belongs list s.0) back) xs h
+    ∙ (λ k. filter (λ s. list_any (λ list. belongs list s.0) (front_is k) || list_any (λ list. belongs list s.0) (back_is k)) xs)
+    ∙ (λ k. filter (λ s. any-parts (λ list. belongs list s.0) n lists k) xs)

@@ -1,9 +1,10 @@
 -- Laws of how many rows are read of several lists.
-use Rattle.std.proofs.Common.{◌≡◌, ℕ, suc, ◌+◌, Bool, true, false, cond, ◌||◌, List, [], ◌∷◌, ◌++◌, length, take, drop, refl, sym, ap, ◌∙◌, subst, arith, zero-add, length-append}
+use Rattle.std.proofs.Common.{◌≡◌, ℕ, suc, ◌+◌, Bool, true, false, cond, ◌||◌, List, [], ◌∷◌, ◌++◌, length, take, drop, Option, Some, None, refl, sym, ap, ◌∙◌, subst, arith, zero-add, length-append}
 use Rattle.std.specs.declared.cmp.Ordering.TheVariants.{Less, Equal}
 use Rattle.std.specs.Ordering.{nat_cmp}
 use Rattle.std.specs.Cmp.Lexicographic.{slice_cmp}
 use Rattle.std.specs.List.{filter, list_any}
+use Rattle.std.specs.Option.{option_map_or}
 use Rattle.std.specs.Str.{bytes_eq}
 use Rattle.std.proofs.lemmas.Cmp.{nat_list_cmp_total, tied_itself}
 use Rattle.std.proofs.lemmas.List.{length-map, take-append-drop}
@@ -12,11 +13,11 @@ use Rattle.std.proofs.lemmas.Slice.Eq.{bytes_eq-Decides}
 use Rattle.rv_base.specs.Positions.{Above}
 use Rattle.rv_rows.specs.Held.{Stored, rows_in}
 use Rattle.rv_rows.specs.Keys.{row_key}
-use Rattle.rv_rows.specs.Sharing.{list_of, sees_row}
+use Rattle.rv_rows.specs.Sharing.{belongs, list_of, list_passes, sees_row}
 use Rattle.rv_sharing.specs.Texts.{AreInOrder}
 use Rattle.rv_sharing.specs.Opened.{AreOpened}
 use Rattle.rv_sharing.specs.Gathered.{of_list, rows_at, rows_in_lists}
-use Rattle.rv_sharing.proofs.GatheredLaws.{Item}
+use Rattle.rv_sharing.proofs.GatheredLaws.{Item, among_passes}
 use Rattle.rv_sharing.specs.Visible.{visible}
 
 -- of rows that pass at most one of two tests there are as many as pass the one and as pass the other
@@ -49,7 +50,7 @@ first_and_others l ls stored =
     ∙ ap (λ (n : ℕ). n + rows_in_lists ls stored) (zero-add (length (of_list l stored)))
 
 -- of several lists, each once, as many rows are read as belong to one of them
-lists_apart : (lists : List (List ℕ)) (stored : List Stored) → AreInOrder lists → rows_in_lists lists stored ≡ length (filter (λ s. list_any (bytes_eq (list_of s.0)) lists) stored)
+lists_apart : (lists : List (List ℕ)) (stored : List Stored) → AreInOrder lists → rows_in_lists lists stored ≡ length (filter (λ s. list_any (λ list. belongs list s.0) lists) stored)
 lists_apart [] stored order = none stored
   where
     none : (xs : List Stored) → 0 ≡ length (filter (λ s. false) xs)
@@ -58,10 +59,14 @@ lists_apart [] stored order = none stored
 lists_apart (l ∷ ls) stored order =
     first_and_others l ls stored
     ∙ ap (λ (n : ℕ). length (of_list l stored) + n) (lists_apart ls stored order.1)
-    ∙ sym (either (λ s. bytes_eq (list_of s.0) l) (λ s. list_any (bytes_eq (list_of s.0)) ls) stored apart)
+    ∙ sym (either (λ s. belongs l s.0) (λ s. list_any (λ list. belongs list s.0) ls) stored apart)
   where
-    apart : (s : Stored) → bytes_eq (list_of s.0) l ≡ true → list_any (bytes_eq (list_of s.0)) ls ≡ false
-    apart s same = subst (λ (text : List ℕ). list_any (bytes_eq text) ls ≡ false) (sym ((bytes_eq-Decides (list_of s.0) l).0 same)) (not_among l ls order.0)
+    apart : (s : Stored) → belongs l s.0 ≡ true → list_any (λ list. belongs list s.0) ls ≡ false
+    apart s same = each (list_of s.0) same
+      where
+        each : (o : Option (List ℕ)) → option_map_or (λ text. bytes_eq text l) o false ≡ true → list_any (λ list. option_map_or (λ text. bytes_eq text list) o false) ls ≡ false
+        each None same = absurd (cc)
+        each (Some text) same = subst (λ (text : List ℕ). list_any (bytes_eq text) ls ≡ false) (sym ((bytes_eq-Decides text l).0 same)) (not_among l ls order.0)
 
 same_count : (p q : Stored → Bool) (xs : List Stored) → ((s : Stored) → p s ≡ q s) → length (filter p xs) ≡ length (filter q xs)
 same_count p q xs same = λ i. length (filter (λ s. same s i) xs)
@@ -71,7 +76,7 @@ pub read_seen : (user : List ℕ) (stored : List Stored) (held lists : List (Lis
 read_seen user stored held lists same are =
     ap (λ (ls : List (List ℕ)). rows_in_lists ls stored) same
     ∙ lists_apart lists stored are.order
-    ∙ same_count (λ s. list_any (bytes_eq (list_of s.0)) lists) (λ s. sees_row user (rows_in stored) s.0) stored (λ s. are.each (list_of s.0))
+    ∙ same_count (λ s. list_any (λ list. belongs list s.0) lists) (λ s. sees_row user (rows_in stored) s.0) stored (λ s. among_passes lists s.0 ∙ (λ i. list_passes (λ list. are.each list i) s.0))
     ∙ sym (length-map (filter (λ s. sees_row user (rows_in stored) s.0) stored) (λ s. (row_key s.0, s.1)))
 
 length_at : (rows : List Item) → length (rows_at rows) ≡ length rows

@@ -15,12 +15,12 @@ use Rattle.rv_rows.specs.declared.row.TodoRow.{TodoRow}
 use Rattle.rv_rows.specs.declared.row.Row.TheVariants as variants
 use Rattle.rv_rows.specs.Keys.{key_text, row_text}
 use Rattle.rv_rows.specs.Held.{Stored, rows_in, find, stored_key, AreRows}
-use Rattle.rv_rows.specs.Sharing.{shares, may_see, lets_edit, list_of, user_of}
+use Rattle.rv_rows.specs.Sharing.{belongs, shares, may_see, lets_edit, list_of, list_passes, user_of}
 use Rattle.rv_sharing.specs.Owners.{owner_of}
 use Rattle.rv_sharing.proofs.OwnerLaws.{same_either_way, may_see-owned, may_see-absent}
 use Rattle.rv_sharing.specs.Texts.{AreInOrder, AddsText}
 use Rattle.rv_sharing.proofs.TextLaws.{or_moved, or_false}
-use Rattle.rv_sharing.specs.Opened.{list_passes, AreListsOf}
+use Rattle.rv_sharing.specs.Opened.{key_passes, AreListsOf}
 use Rattle.rv_sharing.specs.Sharers.{sharer, AddsSharers}
 use Rattle.rv_sharing.specs.Affected.{AreAffected, AddsViewers}
 
@@ -37,15 +37,15 @@ sharer_is user list (variants.Share row) =
 sharer_is user list (variants.Todo row) = refl
 
 -- the rows of the list have all shares of it
-not_sharing : (user list : List ℕ) (row : Row) → bytes_eq (list_of row) list ≡ false → shares user list row ≡ false
+not_sharing : (user list : List ℕ) (row : Row) → belongs list row ≡ false → shares user list row ≡ false
 not_sharing user list (variants.List row) e = refl
 not_sharing user list (variants.Share row) e = ap (λ (b : Bool). b && bytes_eq row.user user) e
 not_sharing user list (variants.Todo row) e = refl
 
-shares-own : (user list : List ℕ) (stored : List Stored) → list_any (shares user list) (rows_in (filter (λ s. bytes_eq (list_of s.0) list) stored)) ≡ list_any (shares user list) (rows_in stored)
+shares-own : (user list : List ℕ) (stored : List Stored) → list_any (shares user list) (rows_in (filter (λ s. belongs list s.0) stored)) ≡ list_any (shares user list) (rows_in stored)
 shares-own user list [] = refl
 shares-own user list (s ∷ stored) =
-    elim (bytes_eq (list_of s.0) list) as (λ b. bytes_eq (list_of s.0) list ≡ b → list_any (shares user list) (rows_in (cond b (s ∷ filter (λ s. bytes_eq (list_of s.0) list) stored) (filter (λ s. bytes_eq (list_of s.0) list) stored))) ≡ (shares user list s.0 || list_any (shares user list) (rows_in stored))) [
+    elim (belongs list s.0) as (λ b. belongs list s.0 ≡ b → list_any (shares user list) (rows_in (cond b (s ∷ filter (λ s. belongs list s.0) stored) (filter (λ s. belongs list s.0) stored))) ≡ (shares user list s.0 || list_any (shares user list) (rows_in stored))) [
       | true ↦ λ e. ap (λ (b : Bool). shares user list s.0 || b) (shares-own user list stored)
       | false ↦ λ e. shares-own user list stored ∙ ap (λ (b : Bool). b || list_any (shares user list) (rows_in stored)) (sym (not_sharing user list s.0 e))
     ] refl
@@ -92,9 +92,9 @@ no_shares user list todo ((variants.List row, version) ∷ rest) all = absurd (l
 no_shares user list todo ((variants.Share row, version) ∷ rest) all = absurd (let below : Less ≡ Greater = sym all.0 in cc)
 no_shares user list todo ((variants.Todo row, version) ∷ rest) all = no_shares user list todo rest all.1
 
-pub adding_begins : (list : List ℕ) (stored rest : List Stored) (before users : List (List ℕ)) → AreRows stored → AreInOrder before → users ≡ before → rest ≡ filter (λ s. bytes_eq (list_of s.0) list) stored → Adding list (rows_in stored) before users rest
+pub adding_begins : (list : List ℕ) (stored rest : List Stored) (before users : List (List ℕ)) → AreRows stored → AreInOrder before → users ≡ before → rest ≡ filter (λ s. belongs list s.0) stored → Adding list (rows_in stored) before users rest
 adding_begins list stored rest before users rows order same own =
-    rw (same, own) (record { order = order; rest_order = in_order-filter stored_key (λ s. bytes_eq (list_of s.0) list) stored rows; each = λ user. ap (λ (b : Bool). list_any (bytes_eq user) before || b) (shares-own user list stored) })
+    rw (same, own) (record { order = order; rest_order = in_order-filter stored_key (λ s. belongs list s.0) stored rows; each = λ user. ap (λ (b : Bool). list_any (bytes_eq user) before || b) (shares-own user list stored) })
 
 pub adding_more : (list : List ℕ) (rows : List Row) (rest next : List Stored) (s : Stored) (user : List ℕ) (before users after : List (List ℕ)) → rest ≡ s ∷ next → Some user ≡ sharer list s.0 → AddsText user users after
     → Adding list rows before users rest → Adding list rows before after next
@@ -169,17 +169,31 @@ swapped false true = refl
 swapped false false = refl
 
 pub lists_more : (stored : List Stored) (keys : List Key) (i : ℕ) (key : Key) (s : Stored) (list : List ℕ) (before after : List (List ℕ)) → i < length keys → key ≡ get_or keys i key
-    → Some s ≡ find (key_text key) stored → list ≡ list_of s.0 → AddsText list before after → AreListsOf (rows_in stored) (take i keys) before → AreListsOf (rows_in stored) (take (i + 1) keys) after
+    → Some s ≡ find (key_text key) stored → Some list ≡ list_of s.0 → AddsText list before after → AreListsOf (rows_in stored) (take i keys) before → AreListsOf (rows_in stored) (take (i + 1) keys) after
 lists_more stored keys i key s list before after lt at is of adds lists = record {
   order = adds.order;
   each = λ p.
       adds.each p
       ∙ swapped (p list) (list_any p before)
       ∙ ap (λ (b : Bool). b || p list) (lists.each p)
-      ∙ ap (λ (l : List ℕ). list_any (list_passes p (rows_in stored)) (take i keys) || p l) of
-      ∙ ap (λ (o : Option Row). list_any (list_passes p (rows_in stored)) (take i keys) || option_map_or (λ row. p (list_of row)) o false) (ap (option_map (λ (t : Stored). t.0)) is ∙ find-map row_text (λ (t : Stored). t.0) (key_text key) stored)
-      ∙ ap (λ (k : Key). list_any (list_passes p (rows_in stored)) (take i keys) || list_passes p (rows_in stored) k) at
-      ∙ sym (list_any_more (list_passes p (rows_in stored)) keys i key lt);
+      ∙ ap (λ (o : Option (List ℕ)). list_any (key_passes p (rows_in stored)) (take i keys) || option_map_or p o false) of
+      ∙ ap (λ (o : Option Row). list_any (key_passes p (rows_in stored)) (take i keys) || option_map_or (list_passes p) o false) (ap (option_map (λ (t : Stored). t.0)) is ∙ find-map row_text (λ (t : Stored). t.0) (key_text key) stored)
+      ∙ ap (λ (k : Key). list_any (key_passes p (rows_in stored)) (take i keys) || key_passes p (rows_in stored) k) at
+      ∙ sym (list_any_more (key_passes p (rows_in stored)) keys i key lt);
+}
+
+-- where the row has no list, no list comes
+pub lists_alone : (stored : List Stored) (keys : List Key) (i : ℕ) (key : Key) (s : Stored) (lists : List (List ℕ)) → i < length keys → key ≡ get_or keys i key
+    → Some s ≡ find (key_text key) stored → None ≡ list_of s.0 → AreListsOf (rows_in stored) (take i keys) lists → AreListsOf (rows_in stored) (take (i + 1) keys) lists
+lists_alone stored keys i key s lists lt at is of are = record {
+  order = are.order;
+  each = λ p.
+      are.each p
+      ∙ or_false (list_any (key_passes p (rows_in stored)) (take i keys))
+      ∙ ap (λ (o : Option (List ℕ)). list_any (key_passes p (rows_in stored)) (take i keys) || option_map_or p o false) of
+      ∙ ap (λ (o : Option Row). list_any (key_passes p (rows_in stored)) (take i keys) || option_map_or (list_passes p) o false) (ap (option_map (λ (t : Stored). t.0)) is ∙ find-map row_text (λ (t : Stored). t.0) (key_text key) stored)
+      ∙ ap (λ (k : Key). list_any (key_passes p (rows_in stored)) (take i keys) || key_passes p (rows_in stored) k) at
+      ∙ sym (list_any_more (key_passes p (rows_in stored)) keys i key lt);
 }
 
 pub lists_same : (stored : List Stored) (keys : List Key) (i : ℕ) (key : Key) (lists : List (List ℕ)) → i < length keys → key ≡ get_or keys i key
@@ -188,10 +202,10 @@ lists_same stored keys i key lists lt at is are = record {
   order = are.order;
   each = λ p.
       are.each p
-      ∙ or_false (list_any (list_passes p (rows_in stored)) (take i keys))
-      ∙ ap (λ (o : Option Row). list_any (list_passes p (rows_in stored)) (take i keys) || option_map_or (λ row. p (list_of row)) o false) (ap (option_map (λ (t : Stored). t.0)) is ∙ find-map row_text (λ (t : Stored). t.0) (key_text key) stored)
-      ∙ ap (λ (k : Key). list_any (list_passes p (rows_in stored)) (take i keys) || list_passes p (rows_in stored) k) at
-      ∙ sym (list_any_more (list_passes p (rows_in stored)) keys i key lt);
+      ∙ or_false (list_any (key_passes p (rows_in stored)) (take i keys))
+      ∙ ap (λ (o : Option Row). list_any (key_passes p (rows_in stored)) (take i keys) || option_map_or (list_passes p) o false) (ap (option_map (λ (t : Stored). t.0)) is ∙ find-map row_text (λ (t : Stored). t.0) (key_text key) stored)
+      ∙ ap (λ (k : Key). list_any (key_passes p (rows_in stored)) (take i keys) || key_passes p (rows_in stored) k) at
+      ∙ sym (list_any_more (key_passes p (rows_in stored)) keys i key lt);
 }
 
 -- the users who may see one of some lists, list by list

@@ -1,7 +1,6 @@
 -- Laws of the keys that a user sees, collected row by row.
 use Rattle.std.proofs.Common.{◌≡◌, ℕ, ◌+◌, ◌<◌, ◌≤◌, Bool, true, false, cond, List, [], ◌∷◌, ◌++◌, map, length, get_or, take, Some, refl, sym, ap, ◌∙◌, subst}
 use Rattle.std.specs.List.{AllByRecursion, filter, list_any}
-use Rattle.std.specs.Str.{bytes_eq}
 use Rattle.std.specs.Borrow.{Bor}
 use Rattle.std.proofs.lemmas.List.{take_more, take_all}
 use Rattle.rv_base.specs.Sorted.{InOrder}
@@ -10,10 +9,11 @@ use Rattle.rv_rows.specs.declared.key.Key.{Key}
 use Rattle.rv_rows.specs.declared.row.Row.{Row}
 use Rattle.rv_rows.specs.Keys.{key_text, row_key}
 use Rattle.rv_rows.specs.Held.{Stored, AreRows, find, stored_key, rows_in}
-use Rattle.rv_rows.specs.Sharing.{list_of, sees_row}
+use Rattle.rv_rows.specs.Sharing.{belongs, list_passes, sees_row}
 use Rattle.rv_sharing.specs.Opened.{AreOpened}
 use Rattle.rv_sharing.specs.Gathered.{rows_at, keys_at, Stand}
 use Rattle.rv_sharing.specs.Visible.{visible}
+use Rattle.rv_sharing.proofs.GatheredLaws.{among_passes}
 
 -- rows behind references
 abbrev Item : Type 0
@@ -24,10 +24,10 @@ keys_at-rows [] = refl
 keys_at-rows (x ∷ xs) = ap (λ (t : List (Key × ℕ)). (row_key x.0.now, x.1) ∷ t) (keys_at-rows xs)
 
 -- the rows of the lists that a user sees are those that the user sees
-pub seen_rows : (user : List ℕ) (stored : List Stored) (held lists : List (List ℕ)) (rows : List Item) → held ≡ lists → AreOpened user (rows_in stored) lists → rows_at rows ≡ filter (λ s. list_any (bytes_eq (list_of s.0)) held) stored → keys_at rows ≡ visible user stored
+pub seen_rows : (user : List ℕ) (stored : List Stored) (held lists : List (List ℕ)) (rows : List Item) → held ≡ lists → AreOpened user (rows_in stored) lists → rows_at rows ≡ filter (λ s. list_any (λ list. belongs list s.0) held) stored → keys_at rows ≡ visible user stored
 seen_rows user stored held lists rows same are is =
     keys_at-rows rows
-    ∙ ap (map (λ (s : Stored). (row_key s.0, s.1))) (is ∙ (λ k. filter (λ s. list_any (bytes_eq (list_of s.0)) (same k)) stored) ∙ (λ k. filter (λ s. are.each (list_of s.0) k) stored))
+    ∙ ap (map (λ (s : Stored). (row_key s.0, s.1))) (is ∙ (λ k. filter (λ s. list_any (λ list. belongs list s.0) (same k)) stored) ∙ (λ k. filter (λ s. among_passes lists s.0 k) stored) ∙ (λ k. filter (λ s. list_passes (λ list. are.each list k) s.0) stored))
 
 -- one more key
 keys_at-append : (rows more : List Item) → keys_at (rows ++ more) ≡ keys_at rows ++ keys_at more
@@ -54,9 +54,9 @@ found_own (x ∷ xs) h = (rw (equals (stored_key x)) refl, behind xs h.0 (found_
     behind [] low all = tt
     behind (y ∷ ys) low all = (rw (differs_back (stored_key x) (stored_key y) low.0) all.0, behind ys low.1 all.1)
 
-pub all_stand : (stored : List Stored) (lists : List (List ℕ)) (rows : List Stored) → rows ≡ filter (λ s. list_any (bytes_eq (list_of s.0)) lists) stored → AreRows stored → Stand stored rows
+pub all_stand : (stored : List Stored) (lists : List (List ℕ)) (rows : List Stored) → rows ≡ filter (λ s. list_any (λ list. belongs list s.0) lists) stored → AreRows stored → Stand stored rows
 all_stand stored lists rows is h =
-    subst (Stand stored) (sym is) (all_filter (λ (s : Stored). find (stored_key s) stored ≡ Some s) (λ s. list_any (bytes_eq (list_of s.0)) lists) stored (found_own stored h))
+    subst (Stand stored) (sym is) (all_filter (λ (s : Stored). find (stored_key s) stored ≡ Some s) (λ s. list_any (λ list. belongs list s.0) lists) stored (found_own stored h))
 
 -- keys with versions, of stored rows in the order of their keys
 abbrev pair : Stored → Key × ℕ

@@ -2,12 +2,11 @@
 use Rattle.std.specs.Prelude.{◌≡◌, ℕ, List, length, map, sum_by, Some}
 use Rattle.std.specs.Borrow.{Bor}
 use Rattle.std.specs.List.{AllByRecursion, filter, fold}
-use Rattle.std.specs.Str.{bytes_eq}
 use Rattle.rv_rows.specs.declared.key.Key.{Key}
 use Rattle.rv_rows.specs.declared.row.Row.{Row}
 use Rattle.rv_rows.specs.Keys.{row_key}
 use Rattle.rv_rows.specs.Held.{Stored, find, put, stored_key}
-use Rattle.rv_rows.specs.Sharing.{list_of}
+use Rattle.rv_rows.specs.Sharing.{belongs}
 
 -- the rows that references point to
 abbrev pub rows_at : List (Bor Row × ℕ) → List Stored
@@ -23,7 +22,7 @@ keys_at rows = map (λ row. (row_key row.0.now, row.1)) rows
 
 -- the rows of a list
 abbrev pub of_list : List ℕ → List Stored → List Stored
-of_list list stored = filter (λ s. bytes_eq (list_of s.0) list) stored
+of_list list stored = filter (λ s. belongs list s.0) stored
 
 -- how many rows are read where each of these lists is, one after another
 abbrev pub rows_in_lists : List (List ℕ) → List Stored → ℕ

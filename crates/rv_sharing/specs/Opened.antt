@@ -7,7 +7,7 @@ use Rattle.rv_rows.specs.declared.key.Key.{Key}
 use Rattle.rv_rows.specs.declared.row.Row.{Row}
 use Rattle.rv_rows.specs.declared.row.Row.TheVariants as variants
 use Rattle.rv_rows.specs.Keys.{key_text, row_at}
-use Rattle.rv_rows.specs.Sharing.{is_list, may_see, list_of}
+use Rattle.rv_rows.specs.Sharing.{is_list, list_passes, may_see}
 use Rattle.rv_sharing.specs.Texts.{AreInOrder}
 
 -- the list that the row lets the user see: one that the user owns, or one that is there and shared with the user
@@ -21,11 +21,11 @@ pub record AreOpened (user : List ℕ) (rows : List Row) (lists : List (List ℕ
   pub order : AreInOrder lists
   pub each : (list : List ℕ) → list_any (bytes_eq list) lists ≡ may_see user list rows
 
--- the key's row is there, and the list that it is or belongs to passes the test
-abbrev pub list_passes : (List ℕ → Bool) → List Row → Key → Bool
-list_passes p rows key = option_map_or (λ row. p (list_of row)) (row_at (key_text key) rows) false
+-- the key's row is there, and is a list that passes the test, or belongs to one
+abbrev pub key_passes : (List ℕ → Bool) → List Row → Key → Bool
+key_passes p rows key = option_map_or (list_passes p) (row_at (key_text key) rows) false
 
 -- these are the lists that the keys' rows are or belong to
 pub record AreListsOf (rows : List Row) (keys : List Key) (lists : List (List ℕ)) : Type 0 where
   pub order : AreInOrder lists
-  pub each : (p : List ℕ → Bool) → list_any p lists ≡ list_any (list_passes p rows) keys
+  pub each : (p : List ℕ → Bool) → list_any p lists ≡ list_any (key_passes p rows) keys

@@ -252,28 +252,33 @@ seen_in_order user rows = in_order-filter row_text (sees_row user rows) (in_key_
 abbrev Keeps : List ℕ → List Row → List Row → Type 0
 Keeps user rows others = (row : Row) → row_at (row_text row) rows ≡ Some row → sees_row user rows row ≡ true → row_at (row_text row) others ≡ Some row
 
+-- what is there passes another test too
+passes_again : {X : Type 0} (p q : X → Bool) → ((x : X) → p x ≡ true → q x ≡ true) → (o : Option X) → option_map_or p o false ≡ true → option_map_or q o false ≡ true
+passes_again p q too None e = absurd (cc)
+passes_again p q too (Some x) e = too x e
+
 -- the rows that show a list to a user belong to it
-owns-list : (user list : List ℕ) (row : Row) → owns user list row ≡ true → list_of row ≡ list
-owns-list user list (variants.List row) e = (bytes_eq-Decides row.id list).0 (and-both _ _ e).0
+owns-list : (user list : List ℕ) (row : Row) → owns user list row ≡ true → list_of row ≡ Some list
+owns-list user list (variants.List row) e = ap Some ((bytes_eq-Decides row.id list).0 (and-both _ _ e).0)
 owns-list user list (variants.Share row) e = absurd (cc)
 owns-list user list (variants.Todo row) e = absurd (cc)
 
-is_list-list : (list : List ℕ) (row : Row) → is_list list row ≡ true → list_of row ≡ list
-is_list-list list (variants.List row) e = (bytes_eq-Decides row.id list).0 e
+is_list-list : (list : List ℕ) (row : Row) → is_list list row ≡ true → list_of row ≡ Some list
+is_list-list list (variants.List row) e = ap Some ((bytes_eq-Decides row.id list).0 e)
 is_list-list list (variants.Share row) e = absurd (cc)
 is_list-list list (variants.Todo row) e = absurd (cc)
 
-shares-list : (user list : List ℕ) (row : Row) → shares user list row ≡ true → list_of row ≡ list
+shares-list : (user list : List ℕ) (row : Row) → shares user list row ≡ true → list_of row ≡ Some list
 shares-list user list (variants.List row) e = absurd (cc)
-shares-list user list (variants.Share row) e = (bytes_eq-Decides row.list list).0 (and-both _ _ e).0
+shares-list user list (variants.Share row) e = ap Some ((bytes_eq-Decides row.list list).0 (and-both _ _ e).0)
 shares-list user list (variants.Todo row) e = absurd (cc)
 
 -- so where the rows that a user sees are kept, the lists that the user may see are
-any-kept : (p : Row → Bool) (user list : List ℕ) (rows others : List Row) → Distinct row_text rows → Keeps user rows others → may_see user list rows ≡ true → ((row : Row) → p row ≡ true → list_of row ≡ list)
+any-kept : (p : Row → Bool) (user list : List ℕ) (rows others : List Row) → Distinct row_text rows → Keeps user rows others → may_see user list rows ≡ true → ((row : Row) → p row ≡ true → list_of row ≡ Some list)
     → list_any p rows ≡ true → list_any p others ≡ true
 any-kept p user list rows others h keeps is of e =
     let found = any-found row_text p rows h e in
-    found-passes row_text p (row_text found.0) others found.0 (keeps found.0 found.1 (subst (λ (l : List ℕ). may_see user l rows ≡ true) (sym (of found.0 found.2)) is)) found.2
+    found-passes row_text p (row_text found.0) others found.0 (keeps found.0 found.1 (ap (λ (o : Option (List ℕ)). option_map_or (λ l. may_see user l rows) o false) (of found.0 found.2) ∙ is)) found.2
 
 may_see-kept : (user list : List ℕ) (rows others : List Row) → Distinct row_text rows → Keeps user rows others → may_see user list rows ≡ true → may_see user list others ≡ true
 unfolding may_see
@@ -291,7 +296,7 @@ seen-kept user rows others g h keeps k row e =
     let found = seen-found user rows k row g e in
     let one : k ≡ row_text row = find-key row_text k rows row found.0 in
     let stands : row_at k others ≡ Some row = subst (λ (t : List ℕ). row_at t others ≡ Some row) (sym one) (keeps row (at_own row_text k rows row found.0) found.1) in
-    found-seen user others k row h stands (may_see-kept user (list_of row) rows others g keeps found.1)
+    found-seen user others k row h stands (passes_again (λ list. may_see user list rows) (λ list. may_see user list others) (λ list. may_see-kept user list rows others g keeps) (list_of row) found.1)
 
 -- Where a user sees no touched key, before or after, the user sees the same.
 pub untouched_seen : (user : List ℕ) (before after : List Row) → InOrder row_text before → Distinct row_text after → sees_touched user before after ≡ false → seen user after ≡ seen user before

@@ -1,9 +1,8 @@
 // The rows of several lists, in the order of their keys. Each row that is read of a list is a step.
 ghost use Rattle.std.specs.Prelude.{◌≡◌, ◌≤◌, ◌+◌, length, IfOk, OnOk};
 ghost use Rattle.std.specs.List.{filter, list_any};
-ghost use Rattle.std.specs.Str.{bytes_eq};
 ghost use Rattle.rv_rows.specs.Held.{AreRows};
-ghost use Rattle.rv_rows.specs.Sharing.{list_of};
+ghost use Rattle.rv_rows.specs.Sharing.{belongs};
 ghost use Rattle.rv_sharing.specs.Gathered.{rows_at, merged, of_list, rows_in_lists};
 
 use rv_base::{Id, Memory, Steps};
@@ -21,7 +20,7 @@ pub(crate) fn rows_of<'t, L: Ledger>(
     steps: &mut Steps<L>,
 ) -> Result<Vec<(&'t Row, u32)>, Memory>
     requires { AreRows tables.now.rows }
-    ensures rows { IfOk result (λ rows. rows_at rows.items ≡ filter (λ s. list_any (bytes_eq (list_of s.0)) lists.now) tables.now.rows) }
+    ensures rows { IfOk result (λ rows. rows_at rows.items ≡ filter (λ s. list_any (λ list. belongs list s.0) lists.now) tables.now.rows) }
     ensures read { OnOk result (steps.new ≡ steps.old + rows_in_lists lists.now tables.now.rows) }
     ensures most { steps.new ≤ steps.old + rows_in_lists lists.now tables.now.rows }
 {

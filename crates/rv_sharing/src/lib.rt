@@ -11,6 +11,8 @@ mod texts;
 mod viewers;
 mod views;
 
-pub use lists::{has_list, has_share, may_edit, may_see, owner_of, owns};
+pub use lists::{
+    has_list, has_share, may_edit, may_edit_list_of, may_see, owner_of, owns, owns_list_of,
+};
 pub use viewers::{add_sharers, add_user, add_viewers, affected};
 pub use views::{keys_of, rows_seen, visible};

@@ -2,7 +2,7 @@
 ghost use Rattle.std.specs.Prelude.{◌≡◌, option_map};
 ghost use Rattle.std.specs.List.{list_any};
 ghost use Rattle.rv_rows.specs.Held.{rows_in, AreRows};
-ghost use Rattle.rv_rows.specs.Sharing.{is_list, lets_edit, may_edit, may_see, owns, shares};
+ghost use Rattle.rv_rows.specs.Sharing.{is_list, lets_edit, list_passes, may_edit, may_see, owns, shares};
 ghost use Rattle.rv_sharing.specs.Owners.{row_owner, owner_of};
 
 use rv_base::{Id, User};
@@ -88,6 +88,26 @@ pub fn may_edit(tables: &Tables, user: &User, list: &Id) -> bool
 {
     match owner_of(tables, list) {
         Some(owner) => owner == user || has_edit_share(tables, user, list),
+        None => false,
+    }
+}
+
+/// Whether the user owns the list that the row is or belongs to. Takes no memory.
+pub fn owns_list_of(tables: &Tables, user: &User, row: &Row) -> bool
+    ensures { result ≡ list_passes (λ list. list_any (owns user.now list) (rows_in tables.now.rows)) row.now }
+{
+    match row.list() {
+        Some(list) => owns(tables, user, list),
+        None => false,
+    }
+}
+
+/// Whether the user may edit the todos of the list that the row is or belongs to. Takes no memory.
+pub fn may_edit_list_of(tables: &Tables, user: &User, row: &Row) -> bool
+    ensures { result ≡ list_passes (λ list. may_edit user.now list (rows_in tables.now.rows)) row.now }
+{
+    match row.list() {
+        Some(list) => may_edit(tables, user, list),
         None => false,
     }
 }

@@ -89,7 +89,9 @@ fn lists_of(alloc: Global, tables: &Tables, keys: &[Key]) -> Result<Vec<Id>, Mem
     let mut lists = Vec::new(alloc);
     for key in keys {
         if let Some((row, _version)) = tables.get(key) {
-            add(alloc, &mut lists, row.list())?;
+            if let Some(list) = row.list() {
+                add(alloc, &mut lists, list)?;
+            }
         }
     }
     Ok(lists)

@@ -11,13 +11,13 @@ returns-in_ok-key-in-Some c =
     let stored = c.args.tables.now.rows in
     let k = key_text (record { kind = Todo; id = c.args.id.now }) in
     ok_is _ _ _ (rw c.in_ok-key-in-Some.ensures at c.removes.ensures)
-    (then_is _ _ _ _ (sym (rw c.list.ensures at c.may_edit.ensures) ∙ c.if-may_edit.true) (delete_todo-found (rows_in stored) (in_order-rows stored c.requires) c.args.user.now c.args.id.now c.in-Some.row.now (row_found k stored (c.in-Some.row.now, c.in-Some._version) c.in-Some.ensures.found)))
+    (then_is _ _ _ _ (sym c.may_edit_list_of.ensures ∙ c.if-may_edit_list_of.true) (delete_todo-found (rows_in stored) (in_order-rows stored c.requires) c.args.user.now c.args.id.now c.in-Some.row.now (row_found k stored (c.in-Some.row.now, c.in-Some._version) c.in-Some.ensures.found)))
 
-pub returns-else-may_edit : goal.returns-else-may_edit
-returns-else-may_edit c =
+pub returns-else-may_edit_list_of : goal.returns-else-may_edit_list_of
+returns-else-may_edit_list_of c =
     let stored = c.args.tables.now.rows in
     let k = key_text (record { kind = Todo; id = c.args.id.now }) in
-    c.nothing.ensures ∙ else_is _ _ _ _ (sym (rw c.list.ensures at c.may_edit.ensures) ∙ c.if-may_edit.false) (delete_todo-found (rows_in stored) (in_order-rows stored c.requires) c.args.user.now c.args.id.now c.in-Some.row.now (row_found k stored (c.in-Some.row.now, c.in-Some._version) c.in-Some.ensures.found))
+    c.nothing.ensures ∙ else_is _ _ _ _ (sym c.may_edit_list_of.ensures ∙ c.if-may_edit_list_of.false) (delete_todo-found (rows_in stored) (in_order-rows stored c.requires) c.args.user.now c.args.id.now c.in-Some.row.now (row_found k stored (c.in-Some.row.now, c.in-Some._version) c.in-Some.ensures.found))
 
 pub returns-in-None : goal.returns-in-None
 returns-in-None c =

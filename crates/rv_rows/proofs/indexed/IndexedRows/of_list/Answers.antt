@@ -1,11 +1,11 @@
 use Rattle.std.proofs.Common.{◌≡◌, List, length, refl, ap, sym, ◌∙◌, subst}
 use Rattle.std.specs.List.{filter}
-use Rattle.std.specs.Str.{bytes_eq}
 use Rattle.rv_pages.specs.Paging.{items}
 use Rattle.rv_rows.specs.Held.{Stored}
-use Rattle.rv_rows.specs.Sharing.{list_of}
+use Rattle.rv_rows.specs.Sharing.{belongs}
 use Rattle.rv_rows.specs.declared.filing.Filing.TheVariants as filings
 use Rattle.rv_rows.specs.Slots.{standing, is_under, AreSlots, Slotted, rows_of}
+use Rattle.rv_rows.proofs.FiledLaws.{filed_belongs}
 use Rattle.rv_rows.proofs.FiledSlots.{filed_rows, found_slots}
 use Rattle.rv_rows.proofs.indexed.IndexedRows.of_list.Goals as goal
 
@@ -27,4 +27,5 @@ returns-clause-rows c =
     c.new.ensures
     ∙ ap (λ (slots : List Stored). standing slots c.slots_under.result) c.deref.ensures.value
     ∙ filed_rows filings.List inside.slots.items (items inside.by_key.pages) (items inside.by_list.pages) c.slots_under.result (standing inside.slots.items (items inside.by_key.pages)) c.args.list.now (λ _. refl) c.self.invariant.0.key_order c.self.invariant.0.lists refl (found_then c)
-    ∙ ap (λ (v : Slotted). filter (λ (s : Stored). bytes_eq (list_of s.0) c.args.list.now) (rows_of v)) c.self.view_is
+    ∙ (λ i. filter (λ (s : Stored). filed_belongs c.args.list.now s.0 i) (standing inside.slots.items (items inside.by_key.pages)))
+    ∙ ap (λ (v : Slotted). filter (λ (s : Stored). belongs c.args.list.now s.0) (rows_of v)) c.self.view_is

@@ -4,8 +4,9 @@ use Rattle.rv_pages.specs.Paging.{items, index_of, IsItem}
 use Rattle.rv_pages.specs.PlaceLaws.{item_in_range}
 use Rattle.rv_rows.specs.Keys.{row_text}
 use Rattle.rv_rows.specs.Held.{stored_key}
-use Rattle.rv_rows.specs.Sharing.{list_of, user_of}
-use Rattle.rv_rows.specs.Filed.{sort_of}
+use Rattle.rv_rows.specs.Sharing.{user_of}
+use Rattle.rv_rows.specs.declared.filing.Filing.TheVariants as filings
+use Rattle.rv_rows.specs.Filed.{sort_of, under}
 use Rattle.rv_rows.specs.Slots.{standing, HasOrders, Slotted, rows_of, no_row}
 use Rattle.rv_rows.proofs.RowSlots.{slot_there, written_at}
 use Rattle.rv_rows.proofs.indexed.IndexedRows.rewrite_at.Goals as goal
@@ -26,7 +27,7 @@ rewritten c =
     written_at inside.slots.items c.rewrite.new.slots.items (items inside.by_key.pages) (items inside.by_list.pages) (items inside.by_user.pages) (items inside.by_sort.pages) (index_of inside.by_key.pages c.args.at) c.get-slot.result.now (c.args.row, c.args.version) c.self.invariant.0
     (subst (λ (v : Slotted). IsPositionOf stored_key (row_text c.args.row) (rows_of v) (Ok (index_of v.by_key c.args.at))) back c.requires.position)
     (c.get-slot.ensures c.get-slot.result.now)
-    (subst (λ (v : Slotted). list_of (get_or (rows_of v) (index_of v.by_key c.args.at) no_row).0 ≡ list_of c.args.row) back c.requires.list)
+    (subst (λ (v : Slotted). under filings.List (get_or (rows_of v) (index_of v.by_key c.args.at) no_row).0 ≡ under filings.List c.args.row) back c.requires.list)
     (subst (λ (v : Slotted). user_of (get_or (rows_of v) (index_of v.by_key c.args.at) no_row).0 ≡ user_of c.args.row) back c.requires.user)
     (subst (λ (v : Slotted). sort_of (get_or (rows_of v) (index_of v.by_key c.args.at) no_row).0 ≡ sort_of c.args.row) back c.requires.sort)
     c.rewrite.ensures.rows
