@@ -7,6 +7,7 @@ pub mod WritesLaws
 pub mod Texts
 pub mod Sorted
 pub mod Positions
+pub mod RisingLaws
 pub mod Chains
 pub mod Options
 pub mod Schemas

@@ -1,5 +1,5 @@
 -- Lists of items in the order of their keys' bytes, each key once.
-use Rattle.std.specs.Prelude.{◌≡◌, ℕ, suc, ◌<◌, ◌≤◌, List, [], ◌∷◌, ◌++◌, length, take, drop, slice_set, slice_index_or, Option, Some, None, Result, Ok, Err, if◌then◌else◌, not, fold}
+use Rattle.std.specs.Prelude.{◌≡◌, Bool, true, false, ◌&&◌, ℕ, suc, ◌<◌, ◌≤◌, List, [], ◌∷◌, ◌++◌, length, take, drop, slice_set, slice_index_or, Option, Some, None, Result, Ok, Err, if◌then◌else◌, not, fold}
 use Rattle.std.specs.declared.cmp.Ordering.TheVariants.{Less}
 use Rattle.std.specs.Ordering.{nat_cmp, match_ordering}
 use Rattle.std.specs.Cmp.Lexicographic.{slice_cmp}
@@ -52,3 +52,15 @@ module _ {X : Type 0} (key : X → List ℕ) where
   abbrev pub Distinct : List X → Type 0
   Distinct [] = Unit {0}
   Distinct (x ∷ xs) = (find_by (key x) xs ≡ None) × Distinct xs
+
+  -- each key is below the next, as a test
+  abbrev pub is_below : X → X → Bool
+  is_below x y = match_ordering (slice_cmp nat_cmp (key x) (key y)) true false false
+
+  abbrev pub rises_from : X → List X → Bool
+  rises_from x [] = true
+  rises_from x (y ∷ ys) = is_below x y && rises_from y ys
+
+  abbrev pub is_in_order : List X → Bool
+  is_in_order [] = true
+  is_in_order (x ∷ xs) = rises_from x xs

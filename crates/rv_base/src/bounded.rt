@@ -90,6 +90,17 @@ impl<const MIN: usize, const MAX: usize> Bounded<MIN, MAX> {
     }
 }
 
+impl User {
+    /// The user's name as an id, which shares its text. It takes no memory: what may be refused is one more owner of a text that
+    /// has 2^63 already.
+    pub fn to_id(&self, _alloc: Global) -> Result<Id, Memory>
+        ensures { IfOk result (λ id. id ≡ self.now) }
+    {
+        let text = self.text.clone()?;
+        Ok(Bounded { text })
+    }
+}
+
 impl<const MIN: usize, const MAX: usize> PartialEq for Bounded<MIN, MAX> {
     ghost eq = { bytes_eq };
 

@@ -1,6 +1,6 @@
 -- Texts for what rows are filed under and for what comes then stand to each other as what the rows are filed under, and where
 -- that is the same as what comes then.
-use Rattle.std.proofs.Common.{◌≡◌, ℕ, zero, suc, ◌≤◌, ◌∷◌, ◌++◌, List, [], refl, sym, ap, ◌∙◌, subst, arith}
+use Rattle.std.proofs.Common.{◌≡◌, ℕ, zero, suc, ◌≤◌, false, ◌∷◌, ◌++◌, List, [], length, refl, sym, ap, ◌∙◌, subst, arith}
 use Rattle.std.specs.Str.{bytes_eq}
 use Rattle.std.specs.declared.cmp.Ordering.{Ordering}
 use Rattle.std.specs.declared.cmp.Ordering.TheVariants.{Less, Equal, Greater}
@@ -101,8 +101,14 @@ sort-falls row other e h =
     let low : Below (then_by filings.Sort row) (then_by filings.Sort other) = below-then (under filings.Sort other) (then_by filings.Sort row) (then_by filings.Sort other) (subst (λ (l : List ℕ). Below (filed l (then_by filings.Sort row)) (filed_text filings.Sort other)) e h) in
     no_greater (sort_of row) (sort_of other) (nat_cmp (sort_of other) (sort_of row)) (slice_cmp nat_cmp (row_text row) (row_text other)) refl (sym (falling-cmp (sort_of row) (sort_of other) (row_text row) (row_text other)) ∙ low)
 
+-- the empty text is no list's id
+no_id : (list : List ℕ) → 1 ≤ length list → bytes_eq [] list ≡ false
+no_id [] some = absurd (omega arith)
+no_id (x ∷ list) some = refl
+
 -- a row is filed under a list where it belongs to it
-pub filed_belongs : (list : List ℕ) (row : Row) → bytes_eq (under filings.List row) list ≡ belongs list row
-filed_belongs list (variants.List row) = refl
-filed_belongs list (variants.Share row) = refl
-filed_belongs list (variants.Todo row) = refl
+pub filed_belongs : (list : List ℕ) → 1 ≤ length list → (row : Row) → bytes_eq (under filings.List row) list ≡ belongs list row
+filed_belongs list some (variants.Extent row) = no_id list some
+filed_belongs list some (variants.List row) = refl
+filed_belongs list some (variants.Share row) = refl
+filed_belongs list some (variants.Todo row) = refl

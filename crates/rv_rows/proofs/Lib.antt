@@ -1,3 +1,4 @@
+pub mod IdLaws
 pub mod RowLaws
 pub mod FiledLaws
 pub mod SlotLaws

@@ -1,23 +1,30 @@
 -- What is read as a row is the row's value, and the value of a row is read as it.
-use Rattle.std.proofs.Common.{◌≡◌, ℕ, ◌<◌, ◌^◌, Bool, List, length, Option, Some, None, refl, sym, ap, ◌∙◌, subst, arith, ◌&&◌, leb, nat_lt}
+use Rattle.std.proofs.Common.{◌≡◌, ℕ, ◌<◌, ◌≤◌, ◌^◌, Bool, true, List, [], ◌∷◌, map, length, Option, Some, None, refl, sym, ap, ◌∙◌, subst, arith, ◌&&◌, leb, nat_lt}
 use Rattle.std.specs.Prelude.{codes, option_map, option_and_then, IfSome}
 use Rattle.std.specs.Str.{bytes_eq}
 use Rattle.std.proofs.lemmas.Slice.Eq.{bytes_eq-Decides}
 use Rattle.std.proofs.lemmas.Option.{none-some, same_Some, cond_some}
 use Rattle.std.proofs.lemmas.Bool.Decides.{nat_tests}
-use Rattle.serde_json.specs.Data.{Data, unsigned, negative, float, Members, no_members, member, null, boolean, number, string, array, object}
+use Rattle.std.specs.List.{AllByRecursion}
+use Rattle.std.proofs.lemmas.Bool.{and_parts}
+use Rattle.serde_json.specs.Data.{Data, unsigned, negative, float, Items, no_items, item, Members, no_members, member, null, boolean, number, string, array, object}
+use Rattle.serde_json.specs.View.{items_of}
 use Rattle.serde_json.specs.Find.{as_bool, as_str}
+use Rattle.rv_base.specs.Sorted.{is_in_order}
+use Rattle.rv_base.specs.RisingLaws.{order_is, in_order-from_test}
 use Rattle.rv_base.specs.Texts.{IsWithin}
 use Rattle.rv_base.specs.Options.{◌>>=◌}
 use Rattle.rv_rows.specs.declared.role.Role.{Role}
 use Rattle.rv_rows.specs.declared.role.Role.TheVariants as roles
 use Rattle.rv_rows.specs.declared.row.Row.{Row}
 use Rattle.rv_rows.specs.declared.row.Row.TheVariants as variants
+use Rattle.rv_rows.specs.declared.row.ExtentRow.{ExtentRow}
 use Rattle.rv_rows.specs.declared.row.ListRow.{ListRow}
 use Rattle.rv_rows.specs.declared.row.ShareRow.{ShareRow}
 use Rattle.rv_rows.specs.declared.row.TodoRow.{TodoRow}
-use Rattle.rv_rows.specs.Members.{within, text_in, num_in, named, has_ended}
-use Rattle.rv_rows.specs.RowTexts.{row_data, RowIsWithin, role_then, past_role, list_row_in, share_row_in, todo_row_in, either, share_or_todo_in, row_in}
+use Rattle.rv_rows.specs.Extents.{AreLists, exact_lists}
+use Rattle.rv_rows.specs.Members.{within, text_in, num_in, each_item, ids_in, lists_in, named, has_ended}
+use Rattle.rv_rows.specs.RowTexts.{ids_data, row_data, RowIsWithin, role_then, past_role, extent_row_in, list_row_in, share_row_in, todo_row_in, either, share_or_todo_in, listed_row_in, row_in}
 
 named_is : (k : List ℕ) (ms : Members) (x : Data × Members) → named k ms ≡ Some x → ms ≡ member k x.0 x.1
 named_is k no_members x e = absurd (none-some x e)
@@ -53,6 +60,68 @@ one_more k ms x d rest e p q = named_is k ms x e ∙ (λ i. member k (p i) (q i)
 then : {A B P : Type 0} (o : Option A) (f : A → Option B) (y : B) → (o >>= f) ≡ Some y → ((x : A) → o ≡ Some x → f x ≡ Some y → P) → P
 then (Some x) f y e next = next x refl e
 then None f y e next = absurd (none-some y e)
+
+-- what is read as ids is an array of them
+each_is : (ds : Items) (ids : List (List ℕ)) → each_item (text_in 1 128) ds ≡ Some ids → (ds ≡ items_of (map (λ (id : List ℕ). string id) ids)) × AllByRecursion (IsWithin 1 128) ids
+each_is no_items ids e = subst (λ (is : List (List ℕ)). (no_items ≡ items_of (map (λ (id : List ℕ). string id) is)) × AllByRecursion (IsWithin 1 128) is) (same_Some [] ids e) (refl, tt)
+each_is (item d ds) ids e = then _ _ ids e (λ x ex f. then _ _ ids f (λ xs exs g. one_id x xs (text_is 1 128 d x ex) (each_is ds xs exs) g))
+  where
+    one_id : (x : List ℕ) (xs : List (List ℕ)) → (d ≡ string x) × IsWithin 1 128 x → (ds ≡ items_of (map (λ (id : List ℕ). string id) xs)) × AllByRecursion (IsWithin 1 128) xs → Some (x ∷ xs) ≡ Some ids
+        → (item d ds ≡ items_of (map (λ (id : List ℕ). string id) ids)) × AllByRecursion (IsWithin 1 128) ids
+    one_id x xs one rest g = subst (λ (is : List (List ℕ)). (item d ds ≡ items_of (map (λ (id : List ℕ). string id) is)) × AllByRecursion (IsWithin 1 128) is) (same_Some (x ∷ xs) ids g) ((λ i. item (one.0 i) (rest.0 i)), (one.1, rest.1))
+
+ids_are : (d : Data) (ids : List (List ℕ)) → ids_in d ≡ Some ids → (d ≡ ids_data ids) × AllByRecursion (IsWithin 1 128) ids
+ids_are (array ds) ids e = let parts = each_is ds ids e in (ap (λ (is : Items). array is) parts.0, parts.1)
+ids_are null ids e = absurd (none-some ids e)
+ids_are (boolean b) ids e = absurd (none-some ids e)
+ids_are (number n) ids e = absurd (none-some ids e)
+ids_are (string s) ids e = absurd (none-some ids e)
+ids_are (object ms) ids e = absurd (none-some ids e)
+
+each_again : (ids : List (List ℕ)) → AllByRecursion (IsWithin 1 128) ids → each_item (text_in 1 128) (items_of (map (λ (id : List ℕ). string id) ids)) ≡ Some ids
+each_again [] all = refl
+each_again (x ∷ xs) all = rw (within_again 1 128 x all.0, each_again xs all.1) refl
+
+at_most_from : (n : ℕ) → leb n 64 ≡ true → n ≤ 64
+at_most_from n e = grind (arith, nat_tests)
+
+at_most_is : (n : ℕ) → n ≤ 64 → leb n 64 ≡ true
+at_most_is n le = grind (arith, nat_tests)
+
+-- ids that are taken as they stand are an extent's lists, and such lists are taken so
+exact_are : (ids lists : List (List ℕ)) → exact_lists ids ≡ Some lists → (ids ≡ lists) × AreLists lists
+exact_are ids lists e =
+    let parts = cond_some (leb (length ids) 64 && is_in_order (λ (id : List ℕ). id) ids) ids lists e in
+    let holds = and_parts (leb (length ids) 64) (is_in_order (λ (id : List ℕ). id) ids) parts.0 in
+    (parts.1, subst AreLists parts.1 (in_order-from_test (λ (id : List ℕ). id) ids holds.1, at_most_from (length ids) holds.0))
+
+exact_again : (ids : List (List ℕ)) → AreLists ids → exact_lists ids ≡ Some ids
+exact_again ids fits = rw (at_most_is (length ids) fits.1, order_is (λ (id : List ℕ). id) ids fits.0) refl
+
+lists_are : (d : Data) (lists : List (List ℕ)) → lists_in d ≡ Some lists → (d ≡ ids_data lists) × AllByRecursion (IsWithin 1 128) lists × AreLists lists
+lists_are d lists e = taken (ids_in d) refl e
+  where
+    taken : (o : Option (List (List ℕ))) → ids_in d ≡ o → option_and_then exact_lists o ≡ Some lists → (d ≡ ids_data lists) × AllByRecursion (IsWithin 1 128) lists × AreLists lists
+    taken None is f = absurd (none-some lists f)
+    taken (Some ids) is f =
+        let read = ids_are d ids is in
+        let exact = exact_are ids lists f in
+        (read.0 ∙ ap ids_data exact.0, subst (AllByRecursion (IsWithin 1 128)) exact.0 read.1, exact.1)
+
+pub lists_again : (lists : List (List ℕ)) → AllByRecursion (IsWithin 1 128) lists → AreLists lists → lists_in (ids_data lists) ≡ Some lists
+lists_again lists all fits = rw (each_again lists all) (exact_again lists fits)
+
+extent_takes : (ms : Members) (r : ExtentRow) → extent_row_in ms ≡ Some r → (object ms ≡ row_data (variants.Extent r)) × RowIsWithin (variants.Extent r)
+unfolding extent_row_in
+extent_takes ms r e =
+    then _ _ r e (λ a ea e. then _ _ r e (λ b eb e. then _ _ r e (λ d ed e. then _ _ r e (λ l el e. then _ _ r e (λ u eu e.
+    extent_made ms a b d l u r ea eb ed (lists_are a.0 l el) (text_is 1 64 b.0 u eu) e)))))
+  where
+    extent_made : (ms : Members) (a b : Data × Members) (d : Unit {0}) (l : List (List ℕ)) (u : List ℕ) (r : ExtentRow) → named (codes "lists") ms ≡ Some a → named (codes "user") a.1 ≡ Some b → has_ended b.1 ≡ Some d
+        → (a.0 ≡ ids_data l) × AllByRecursion (IsWithin 1 128) l × AreLists l → (b.0 ≡ string u) × IsWithin 1 64 u → Some (record { user = u; lists = l }) ≡ Some r → (object ms ≡ row_data (variants.Extent r)) × RowIsWithin (variants.Extent r)
+    extent_made ms a b d l u r ea eb ed tl tu e =
+        subst (λ (q : ExtentRow). (object ms ≡ row_data (variants.Extent q)) × RowIsWithin (variants.Extent q)) (same_Some (record { user = u; lists = l }) r e)
+        (ap (λ (t : Members). object t) (one_more (codes "lists") ms a (ids_data l) _ ea tl.0 (one_more (codes "user") a.1 b (string u) _ eb tu.0 (ended_is b.1 d ed))), (tu.1, tl.1, tl.2))
 
 list_takes : (ms : Members) (r : ListRow) → list_row_in ms ≡ Some r → (object ms ≡ row_data (variants.List r)) × RowIsWithin (variants.List r)
 unfolding list_row_in
@@ -135,9 +204,13 @@ rest_takes ms None (Some x) q r e f g h = subst (λ (r : Row). (object ms ≡ ro
 rest_takes ms None None (Some x) r e f g h = subst (λ (r : Row). (object ms ≡ row_data r) × RowIsWithin r) (same_Some (variants.Todo x) r h) (todo_takes ms x g)
 rest_takes ms None None None r e f g h = absurd (none-some r h)
 
-members_takes : (ms : Members) (o : Option ListRow) (r : Row) → list_row_in ms ≡ o → either (option_map (λ r. variants.List r) o) (share_or_todo_in ms) ≡ Some r → (object ms ≡ row_data r) × RowIsWithin r
-members_takes ms (Some x) r e h = subst (λ (r : Row). (object ms ≡ row_data r) × RowIsWithin r) (same_Some (variants.List x) r h) (list_takes ms x e)
-members_takes ms None r e h = rest_takes ms _ _ _ r refl refl refl h
+listed_takes : (ms : Members) (o : Option ListRow) (r : Row) → list_row_in ms ≡ o → either (option_map (λ r. variants.List r) o) (share_or_todo_in ms) ≡ Some r → (object ms ≡ row_data r) × RowIsWithin r
+listed_takes ms (Some x) r e h = subst (λ (r : Row). (object ms ≡ row_data r) × RowIsWithin r) (same_Some (variants.List x) r h) (list_takes ms x e)
+listed_takes ms None r e h = rest_takes ms _ _ _ r refl refl refl h
+
+members_takes : (ms : Members) (o : Option ExtentRow) (r : Row) → extent_row_in ms ≡ o → either (option_map (λ r. variants.Extent r) o) (listed_row_in ms) ≡ Some r → (object ms ≡ row_data r) × RowIsWithin r
+members_takes ms (Some x) r e h = subst (λ (r : Row). (object ms ≡ row_data r) × RowIsWithin r) (same_Some (variants.Extent x) r h) (extent_takes ms x e)
+members_takes ms None r e h = listed_takes ms _ r refl h
 
 pub row_takes : (d : Data) (r : Row) → row_in d ≡ Some r → (d ≡ row_data r) × RowIsWithin r
 row_takes (object ms) r e = members_takes ms _ r refl e
@@ -149,12 +222,13 @@ row_takes (array ds) r e = absurd (none-some r e)
 
 share_again : (id list user : List ℕ) (role : Role) → IsWithin 1 128 id → IsWithin 1 128 list → IsWithin 1 64 user
     → row_in (row_data (variants.Share (record { id = id; list = list; user = user; role = role }))) ≡ Some (variants.Share (record { id = id; list = list; user = user; role = role }))
-unfolding list_row_in share_row_in todo_row_in
+unfolding extent_row_in list_row_in share_row_in todo_row_in
 share_again id list user roles.View i l u = rw (within_again 1 128 id i, within_again 1 128 list l, within_again 1 64 user u) refl
 share_again id list user roles.Edit i l u = rw (within_again 1 128 id i, within_again 1 128 list l, within_again 1 64 user u) refl
 
 pub row_again : (r : Row) → RowIsWithin r → row_in (row_data r) ≡ Some r
-unfolding list_row_in share_row_in todo_row_in
+unfolding extent_row_in list_row_in share_row_in todo_row_in
+row_again (variants.Extent r) fits = rw (lists_again r.lists fits.1 fits.2, within_again 1 64 r.user fits.0) refl
 row_again (variants.List r) fits = rw (within_again 1 128 r.id fits.0, within_again 0 16384 r.name fits.1, within_again 1 64 r.owner fits.2) refl
 row_again (variants.Share r) fits = share_again r.id r.list r.user r.role fits.0 fits.1 fits.2
 row_again (variants.Todo r) fits = rw (within_again 1 128 r.id fits.0, within_again 1 128 r.list fits.1, within_again 0 16384 r.text fits.2, num_again r.sort fits.3) refl

@@ -21,11 +21,13 @@ use Rattle.rv_rows.proofs.SlotLaws.{by_flag}
 
 -- a row's sort in its own list, and in another
 own_sort : (list : List ℕ) (row : Row) → under filings.Sort row ≡ list → sort_in list row ≡ sort_of row
+own_sort list (variants.Extent row) e = refl
 own_sort list (variants.List row) e = refl
 own_sort list (variants.Share row) e = refl
 own_sort list (variants.Todo row) e = ap (λ (b : Bool). cond b row.sort 0) ((bytes_eq-Decides row.list list).1 e)
 
 no_sort : (list : List ℕ) (row : Row) → bytes_eq (under filings.Sort row) list ≡ false → sort_in list row ≡ 0
+no_sort list (variants.Extent row) e = refl
 no_sort list (variants.List row) e = refl
 no_sort list (variants.Share row) e = refl
 no_sort list (variants.Todo row) e = ap (λ (b : Bool). cond b row.sort 0) e

@@ -10,6 +10,7 @@ use Rattle.rv_rows.specs.declared.row.Row.TheVariants as variants
 use Rattle.rv_rows.specs.declared.call.Call.{Call}
 use Rattle.rv_rows.specs.Keys.{row_key, row_text, has_row, in_key_order}
 use Rattle.rv_rows.specs.Roles.{same_role}
+use Rattle.rv_rows.specs.Extents.{same_lists}
 use Rattle.rv_rows.specs.Held.{Stored, rows_in, find}
 use Rattle.rv_rows.specs.Effects.{effect}
 
@@ -20,13 +21,20 @@ same_flag false b = not b
 
 -- the two rows are the same
 abbrev pub same_row : Row → Row → Bool
+same_row (variants.Extent a) (variants.Extent b) = bytes_eq a.user b.user && same_lists a.lists b.lists
 same_row (variants.List a) (variants.List b) = bytes_eq a.id b.id && bytes_eq a.name b.name && bytes_eq a.owner b.owner
 same_row (variants.Share a) (variants.Share b) = bytes_eq a.id b.id && bytes_eq a.list b.list && bytes_eq a.user b.user && same_role a.role b.role
 same_row (variants.Todo a) (variants.Todo b) = bytes_eq a.id b.id && bytes_eq a.list b.list && bytes_eq a.text b.text && same_flag a.complete b.complete && (a.sort == b.sort)
+same_row (variants.Extent a) (variants.List b) = false
+same_row (variants.Extent a) (variants.Share b) = false
+same_row (variants.Extent a) (variants.Todo b) = false
+same_row (variants.List a) (variants.Extent b) = false
 same_row (variants.List a) (variants.Share b) = false
 same_row (variants.List a) (variants.Todo b) = false
+same_row (variants.Share a) (variants.Extent b) = false
 same_row (variants.Share a) (variants.List b) = false
 same_row (variants.Share a) (variants.Todo b) = false
+same_row (variants.Todo a) (variants.Extent b) = false
 same_row (variants.Todo a) (variants.List b) = false
 same_row (variants.Todo a) (variants.Share b) = false
 

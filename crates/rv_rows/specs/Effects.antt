@@ -1,6 +1,6 @@
 -- The effect of a user's call on the rows. Where its condition holds, the rows to remove are filtered out, a new row is
 -- appended, and a changed row is replaced; else the rows stay as they are.
-use Rattle.std.specs.Prelude.{ℕ, ◌+◌, ◌-◌, ◌^◌, Bool, false, List, [], ◌∷◌, ◌++◌, ◌&&◌, ◌||◌, not, Option, map, unwrap_or, nat_lt, fold, if◌then◌else◌}
+use Rattle.std.specs.Prelude.{ℕ, ◌+◌, ◌-◌, ◌^◌, Bool, false, List, [], ◌∷◌, ◌++◌, ◌&&◌, ◌||◌, not, Option, Some, None, map, unwrap_or, nat_lt, fold, if◌then◌else◌}
 use Rattle.std.specs.List.{filter, list_any}
 use Rattle.std.specs.Str.{bytes_eq}
 use Rattle.rv_rows.specs.declared.key.Kind.{Kind}
@@ -9,7 +9,7 @@ use Rattle.rv_rows.specs.declared.role.Role.{Role}
 use Rattle.rv_rows.specs.declared.row.Row.{Row}
 use Rattle.rv_rows.specs.declared.row.Row.TheVariants as variants
 use Rattle.rv_rows.specs.declared.call.Call.{Call}
-use Rattle.rv_rows.specs.declared.call.Call.TheVariants.{CreateList, DeleteList, CreateShare, UpdateShare, DeleteShare, CreateTodo, UpdateTodo, DeleteTodo, Void}
+use Rattle.rv_rows.specs.declared.call.Call.TheVariants.{CreateList, DeleteList, CreateShare, UpdateShare, DeleteShare, CreateTodo, UpdateTodo, DeleteTodo, SetExtent, Void}
 use Rattle.rv_rows.specs.Keys.{key_text, row_text, has_row}
 use Rattle.rv_rows.specs.Sharing.{owns, shares, may_edit, list_passes, belongs}
 
@@ -35,6 +35,7 @@ is_unchanged user rows id row = not (may_change user rows id row)
 -- the user may end the share: the user owns its list, or is the one whom it names
 abbrev pub may_end : List ℕ → List Row → Row → Bool
 may_end user rows (variants.Share row) = list_any (owns user row.list) rows || bytes_eq row.user user
+may_end user rows (variants.Extent row) = false
 may_end user rows (variants.List row) = false
 may_end user rows (variants.Todo row) = false
 
@@ -49,6 +50,7 @@ may_set_role user rows id row = is_at kinds.Share id row && list_passes (λ list
 -- the share with this role
 abbrev pub with_role : Role → Row → Row
 with_role role (variants.Share row) = variants.Share (record { id = row.id; list = row.list; user = row.user; role = role })
+with_role role (variants.Extent row) = variants.Extent row
 with_role role (variants.List row) = variants.List row
 with_role role (variants.Todo row) = variants.Todo row
 
@@ -59,6 +61,7 @@ after_role user rows id role row = if may_set_role user rows id row then with_ro
 -- the sort of a todo of this list, and 0 of any other row
 abbrev pub sort_in : List ℕ → Row → ℕ
 sort_in list (variants.Todo row) = if bytes_eq row.list list then row.sort else 0
+sort_in list (variants.Extent row) = 0
 sort_in list (variants.List row) = 0
 sort_in list (variants.Share row) = 0
 
@@ -81,6 +84,7 @@ next_sort list rows = sort_after (greatest_sort list rows)
 -- the todo with the fields that are named
 abbrev pub with_fields : Option (List ℕ) → Option Bool → Option ℕ → Row → Row
 with_fields text complete sort (variants.Todo row) = variants.Todo (record { id = row.id; list = row.list; text = unwrap_or text row.text; complete = unwrap_or complete row.complete; sort = unwrap_or sort row.sort })
+with_fields text complete sort (variants.Extent row) = variants.Extent row
 with_fields text complete sort (variants.List row) = variants.List row
 with_fields text complete sort (variants.Share row) = variants.Share row
 
@@ -93,6 +97,19 @@ may_share user rows id list other =
 -- the row with this todo's fields set, where the user may edit its list
 abbrev pub after_update : List ℕ → List Row → List ℕ → Option (List ℕ) → Option Bool → Option ℕ → Row → Row
 after_update user rows id text complete sort row = if may_change user rows id row then with_fields text complete sort row else row
+
+-- the new row in the place of the one that has its key
+abbrev pub replaced : Row → Row → Row
+replaced new row = if bytes_eq (row_text new) (row_text row) then new else row
+
+-- the rows with the new one: in the place of the one that has its key, and at the end where none has it
+abbrev pub with_row : Row → List Row → List Row
+with_row new rows = if has_row (row_text new) rows then map (replaced new) rows else rows ++ new ∷ []
+
+-- the rows with the user's extent of these lists, or with none
+abbrev pub with_extent : List ℕ → Option (List (List ℕ)) → List Row → List Row
+with_extent user (Some lists) rows = with_row (variants.Extent (record { user = user; lists = lists })) rows
+with_extent user None rows = filter (is_other kinds.Extent user) rows
 
 abbrev pub effect : List Row → List ℕ → Call → List Row
 -- no list has the id, and the caller is the owner: the list is added
@@ -128,5 +145,7 @@ effect rows user (UpdateTodo id text complete sort) =
     map (after_update user rows id text complete sort) rows
 -- the todo is there, and the caller may edit its list: it goes
 effect rows user (DeleteTodo id) = filter (is_unchanged user rows id) rows
+-- the caller's extent is set, or it goes
+effect rows user (SetExtent lists) = with_extent user lists rows
 -- a call that is none has no effect
 effect rows user (Void reason) = rows

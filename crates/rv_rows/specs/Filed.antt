@@ -23,6 +23,7 @@ under filings.Sort row = unwrap_or (list_of row) []
 -- the sort of a todo, and 0 of any other row
 abbrev pub sort_of : Row → ℕ
 sort_of (variants.Todo row) = row.sort
+sort_of (variants.Extent row) = 0
 sort_of (variants.List row) = 0
 sort_of (variants.Share row) = 0
 

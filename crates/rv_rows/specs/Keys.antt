@@ -11,6 +11,7 @@ use Rattle.rv_rows.specs.declared.row.Row.TheVariants as variants
 
 -- the kind's text, with the slash
 abbrev pub prefix : Kind → List ℕ
+prefix kinds.Extent = codes "extent/"
 prefix kinds.List = codes "list/"
 prefix kinds.Share = codes "share/"
 prefix kinds.Todo = codes "todo/"
@@ -18,7 +19,9 @@ prefix kinds.Todo = codes "todo/"
 abbrev pub key_text : Key → List ℕ
 key_text key = prefix key.kind ++ key.id
 
+-- of an extent its user names it
 abbrev pub row_key : Row → Key
+row_key (variants.Extent row) = record { kind = kinds.Extent; id = row.user }
 row_key (variants.List row) = record { kind = kinds.List; id = row.id }
 row_key (variants.Share row) = record { kind = kinds.Share; id = row.id }
 row_key (variants.Todo row) = record { kind = kinds.Todo; id = row.id }

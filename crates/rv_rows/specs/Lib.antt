@@ -1,5 +1,6 @@
 pub mod Keys
 pub mod Roles
+pub mod Extents
 pub mod Held
 pub mod HeldLaws
 pub mod Sharing
@@ -10,5 +11,6 @@ pub mod RowTexts
 pub mod Members
 pub mod JsonTexts
 pub mod Additions
+pub mod ItemLaws
 pub mod Changes
 pub mod EffectLaws

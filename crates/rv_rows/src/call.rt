@@ -1,5 +1,6 @@
 ghost use Rattle.std.specs.Prelude.{◌≡◌, IfOk};
 
+use crate::lists::Lists;
 use crate::role::Role;
 use rv_base::{Id, Memory, Num, Text, User};
 use std::alloc::Global;
@@ -71,6 +72,11 @@ pub enum Call {
         /// The todo's id.
         id: Id,
     },
+    /// The caller's extent becomes these lists, or goes where there are none.
+    SetExtent {
+        /// The lists that the extent names, where there is to be one.
+        lists: Option<Lists>,
+    },
     /// Nothing: the name and the arguments spell no call.
     Void(Reason),
 }
@@ -89,6 +95,15 @@ fn text_copy(alloc: Global, text: &Option<Text>) -> Result<Option<Text>, Memory>
 {
     match text {
         Some(text) => Ok(Some(text.copy(alloc)?)),
+        None => Ok(None),
+    }
+}
+
+fn lists_copy(alloc: Global, lists: &Option<Lists>) -> Result<Option<Lists>, Memory>
+    ensures { IfOk result (λ copy. copy ≡ lists.now) }
+{
+    match lists {
+        Some(lists) => Ok(Some(lists.copy(alloc)?)),
         None => Ok(None),
     }
 }
@@ -149,6 +164,9 @@ impl Call {
             }),
             Call::DeleteTodo { id } => Ok(Call::DeleteTodo {
                 id: id.copy(alloc)?,
+            }),
+            Call::SetExtent { lists } => Ok(Call::SetExtent {
+                lists: lists_copy(alloc, lists)?,
             }),
             Call::Void(reason) => Ok(Call::Void(*reason)),
         }

@@ -91,7 +91,7 @@ impl IndexedRows {
     }
 
     // Where the row of a key stands in the order of the keys, or where it would go.
-    pub(crate) fn position(&self, kind: Kind, id: &Id) -> Result<At, At>
+    pub(crate) fn position(&self, kind: Kind, id: &str) -> Result<At, At>
         ensures position { IsPositionOf stored_key (key_text (record { kind = kind; id = id.now })) (rows_of self.now) (place self.now.by_key result) }
         ensures at { MatchResult result (IsItem self.now.by_key) (IsGap self.now.by_key) }
         ensures order { AreRows (rows_of self.now) }
@@ -215,14 +215,14 @@ impl IndexedRows {
         RowsInOrder::new(&self.slots, self.by_key.iter())
     }
 
-    // The rows that are filed under a text by their lists, in the order of their keys.
-    pub(crate) fn of_list(&self, list: &str) -> RowsInOrder<'_>
+    // The rows of a list, in the order of their keys: those that are filed under its id, which is not empty.
+    pub(crate) fn of_list(&self, list: &Id) -> RowsInOrder<'_>
         ensures rows { result ≡ filter (λ s. belongs list.now s.0) (rows_of self.now) }
         ensures order { AreRows (rows_of self.now) }
     {
         RowsInOrder::new(
             &self.slots,
-            slots_under(&self.slots, &self.by_list, Filing::List, list),
+            slots_under(&self.slots, &self.by_list, Filing::List, list.as_str()),
         )
     }
 

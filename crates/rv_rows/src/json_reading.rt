@@ -1,11 +1,13 @@
 // JSON values of texts, members of objects, and what values are read as.
 ghost use Rattle.std.specs.Prelude.{◌≡◌, IfOk, IfSome, IfNone, Some, None, option_map};
-ghost use Rattle.serde_json.specs.View.{view, members_view};
+ghost use Rattle.serde_json.specs.View.{view, items_view, members_view};
 ghost use Rattle.rv_rows.specs.JsonTexts.{json_in};
-ghost use Rattle.rv_rows.specs.Members.{named, within, text_in, num_in, role_in, role_or_edit};
+ghost use Rattle.rv_rows.specs.Members.{named, within, text_in, num_in, ids_in, lists_in, each_item, role_in, role_or_edit};
 
+use crate::lists::Lists;
 use crate::role::Role;
-use rv_base::{Bounded, Memory, Num, TextRefusal};
+use crate::sequences::Ids;
+use rv_base::{Bounded, Memory, Num, Sequence, TextRefusal};
 use serde_json::Value;
 use std::alloc::Global;
 use std::collections::btree_map::Iter;
@@ -64,6 +66,40 @@ pub fn text_of_value<const MIN: usize, const MAX: usize>(
     match value.as_str() {
         None => Ok(None),
         Some(text) => text_within(alloc, text),
+    }
+}
+
+// What each value is, where each is an id.
+fn ids_of_values(alloc: Global, values: &[Value]) -> Result<Option<Ids>, Memory>
+    ensures { IfOk result (λ o. o ≡ each_item (text_in 1 128) (items_view values.now)) }
+{
+    let mut ids = Sequence::new(alloc);
+    for value in values {
+        match text_of_value(alloc, value)? {
+            Some(id) => ids.push(id)?,
+            None => return Ok(None),
+        }
+    }
+    Ok(Some(ids))
+}
+
+/// The ids that a value is, where it is an array of ids.
+pub fn ids_of_value(alloc: Global, value: &Value) -> Result<Option<Ids>, Memory>
+    ensures { IfOk result (λ o. o ≡ ids_in (view value.now)) }
+{
+    match value.as_array() {
+        Some(values) => ids_of_values(alloc, values),
+        None => Ok(None),
+    }
+}
+
+/// The lists of an extent that a value is, where it is an array of at most 64 ids, each below the next.
+pub fn lists_of_value(alloc: Global, value: &Value) -> Result<Option<Lists>, Memory>
+    ensures { IfOk result (λ o. o ≡ lists_in (view value.now)) }
+{
+    match ids_of_value(alloc, value)? {
+        Some(ids) => Ok(Lists::exact(ids)),
+        None => Ok(None),
     }
 }
 

@@ -4,12 +4,12 @@ ghost use Rattle.std.specs.Prelude.{◌∷◌, [], decimal};
 ghost use Rattle.json.specs.Token.{key, string, number, boolean};
 ghost use Rattle.rv_rows.specs.declared.row.Row.TheVariants as variants;
 ghost use Rattle.rv_rows.specs.Additions.{AddsTokens, AddsValue, role_tokens};
-ghost use Rattle.rv_rows.specs.RowTexts.{row_data};
+ghost use Rattle.rv_rows.specs.RowTexts.{ids_data, row_data};
 
 use crate::role::Role;
-use crate::row::{ListRow, Row, ShareRow, TodoRow};
+use crate::row::{ExtentRow, ListRow, Row, ShareRow, TodoRow};
 use json::Writer;
-use rv_base::{Memory, Num};
+use rv_base::{Id, Memory, Num};
 
 /// Writes a member whose value is a text.
 pub fn write_text_member(out: &mut Writer, name: &str, text: &str) -> Result<(), Memory>
@@ -35,6 +35,29 @@ pub fn write_bool_member(out: &mut Writer, name: &str, flag: bool) -> Result<(),
 {
     out.key(name)?;
     out.boolean(flag)?;
+    Ok(())
+}
+
+/// Writes ids, as `[ID,..]`.
+pub fn write_ids(out: &mut Writer, ids: &[Id]) -> Result<(), Memory>
+    ensures { AddsValue result out.old out.new (ids_data ids.now) }
+{
+    out.begin_array()?;
+    for id in ids {
+        out.string(id.as_str())?;
+    }
+    out.end_array()?;
+    Ok(())
+}
+
+fn write_extent(out: &mut Writer, row: &ExtentRow) -> Result<(), Memory>
+    ensures { AddsValue result out.old out.new (row_data (variants.Extent row.now)) }
+{
+    out.begin_object()?;
+    out.key("lists")?;
+    write_ids(out, row.lists.as_slice())?;
+    write_text_member(out, "user", row.user.as_str())?;
+    out.end_object()?;
     Ok(())
 }
 
@@ -84,13 +107,15 @@ fn write_todo(out: &mut Writer, row: &TodoRow) -> Result<(), Memory>
     Ok(())
 }
 
-/// Writes the row as JSON: a list is `{"id":I,"name":T,"ownerID":U}`, a share that lets edit is
-/// `{"id":I,"listID":I,"userID":U}`, one that lets see alone `{"id":I,"listID":I,"role":"view","userID":U}`, and a todo is
-/// `{"complete":B,"id":I,"listID":I,"sort":N,"text":T}`. Where memory is refused, some first part of it may have been written.
+/// Writes the row as JSON: an extent is `{"lists":[I,..],"user":U}`, a list is `{"id":I,"name":T,"ownerID":U}`, a share that
+/// lets edit is `{"id":I,"listID":I,"userID":U}`, one that lets see alone `{"id":I,"listID":I,"role":"view","userID":U}`, and a
+/// todo is `{"complete":B,"id":I,"listID":I,"sort":N,"text":T}`. Where memory is refused, some first part of it may have been
+/// written.
 pub fn write_row(out: &mut Writer, row: &Row) -> Result<(), Memory>
     ensures { AddsValue result out.old out.new (row_data row.now) }
 {
     match row {
+        Row::Extent(row) => write_extent(out, row),
         Row::List(row) => write_list(out, row),
         Row::Share(row) => write_share(out, row),
         Row::Todo(row) => write_todo(out, row),

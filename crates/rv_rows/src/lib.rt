@@ -18,18 +18,23 @@ mod row;
 mod row_json;
 mod row_reading;
 mod rows_in_order;
+mod sequences;
 mod tables;
 
 pub use call::{Call, Reason};
 pub use json_reading::{
-    next_named, num_of_value, read_json, role_of_value, role_or_edit, text_of_value, text_within,
+    ids_of_value, lists_of_value, next_named, num_of_value, read_json, role_of_value, role_or_edit,
+    text_of_value, text_within,
 };
-pub use json_writing::{write_bool_member, write_num_member, write_row, write_text_member};
+pub use json_writing::{
+    write_bool_member, write_ids, write_num_member, write_row, write_text_member,
+};
 pub use key::{Key, Kind};
-pub use lists::{Clients, Keys, Rows, Users, Visible};
+pub use lists::Lists;
 pub use role::Role;
-pub use row::{ListRow, Row, ShareRow, TodoRow};
+pub use row::{ExtentRow, ListRow, Row, ShareRow, TodoRow};
 pub use row_json::row_value;
 pub use row_reading::read_row;
 pub use rows_in_order::RowsInOrder;
+pub use sequences::{Clients, Ids, Keys, Rows, Users, Visible};
 pub use tables::Tables;

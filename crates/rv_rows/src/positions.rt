@@ -11,7 +11,6 @@ ghost use Rattle.rv_rows.specs.Slots.{by_slot, standing, AreSlots, is_under, rel
 use crate::filing::Filing;
 use crate::key::Kind;
 use crate::row::Row;
-use rv_base::Id;
 use rv_pages::{At, Compare, Pages, Walk};
 use std::cmp::Ordering;
 
@@ -20,7 +19,7 @@ use std::cmp::Ordering;
 struct SoughtKey<'a> {
     slots: &'a [(Row, u32)],
     kind: Kind,
-    id: &'a Id,
+    id: &'a str,
 }
 
 impl<'a> Compare<u32> for SoughtKey<'a> {
@@ -41,7 +40,7 @@ pub(crate) fn position_by_key(
     slots: &[(Row, u32)],
     order: &Pages<u32>,
     kind: Kind,
-    id: &Id,
+    id: &str,
 ) -> Result<At, At>
     requires slots { AreSlots (length slots.now) (items order.now.pages) }
     requires order { AreRows (standing slots.now (items order.now.pages)) }

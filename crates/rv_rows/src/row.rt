@@ -11,10 +11,20 @@ ghost use Rattle.rv_rows.specs.declared.row.Row.TheVariants.{Share, Todo};
 
 use crate::filing::Filing;
 use crate::key::{Key, Kind, compare_keys};
+use crate::lists::Lists;
 use crate::role::Role;
 use rv_base::{Id, Memory, Num, Text, User};
 use std::alloc::Global;
 use std::cmp::Ordering;
+
+/// An extent: the lists that its user wants to have synced. A user has at most one.
+#[derive(Debug, Drop)]
+pub struct ExtentRow {
+    /// Whose extent it is.
+    pub user: User,
+    /// The lists that it names, whether they are there or not.
+    pub lists: Lists,
+}
 
 /// A list, which belongs to its owner.
 #[derive(Debug, Drop)]
@@ -58,6 +68,8 @@ pub struct TodoRow {
 /// A row.
 #[derive(Debug, Drop)]
 pub enum Row {
+    /// An extent of a user.
+    Extent(ExtentRow),
     /// A list.
     List(ListRow),
     /// A share of a list with a user.
@@ -72,20 +84,34 @@ impl Row {
         ensures { result ≡ (row_key self.now).kind }
     {
         match self {
+            Row::Extent(_) => Kind::Extent,
             Row::List(_) => Kind::List,
             Row::Share(_) => Kind::Share,
             Row::Todo(_) => Kind::Todo,
         }
     }
 
-    /// The id of the row's key.
-    pub fn id(&self) -> &Id
+    /// The text of the id of the row's key.
+    pub fn id(&self) -> &str
         ensures { result.now ≡ (row_key self.now).id }
     {
         match self {
-            Row::List(row) => &row.id,
-            Row::Share(row) => &row.id,
-            Row::Todo(row) => &row.id,
+            Row::Extent(row) => row.user.as_str(),
+            Row::List(row) => row.id.as_str(),
+            Row::Share(row) => row.id.as_str(),
+            Row::Todo(row) => row.id.as_str(),
+        }
+    }
+
+    // The id of the row's key, which shares its text.
+    fn id_copy(&self, alloc: Global) -> Result<Id, Memory>
+        ensures { IfOk result (λ id. id ≡ (row_key self.now).id) }
+    {
+        match self {
+            Row::Extent(row) => row.user.to_id(alloc),
+            Row::List(row) => row.id.copy(alloc),
+            Row::Share(row) => row.id.copy(alloc),
+            Row::Todo(row) => row.id.copy(alloc),
         }
     }
 
@@ -94,6 +120,7 @@ impl Row {
         ensures { option_map (λ list. list.now) result ≡ list_of self.now }
     {
         match self {
+            Row::Extent(_) => None,
             Row::List(row) => Some(&row.id),
             Row::Share(row) => Some(&row.list),
             Row::Todo(row) => Some(&row.list),
@@ -105,6 +132,7 @@ impl Row {
         ensures { result ≡ belongs list.now self.now }
     {
         match self {
+            Row::Extent(_) => false,
             Row::List(row) => row.id == *list,
             Row::Share(row) => row.list == *list,
             Row::Todo(row) => row.list == *list,
@@ -117,12 +145,12 @@ impl Row {
     {
         Ok(Key {
             kind: self.kind(),
-            id: self.id().copy(alloc)?,
+            id: self.id_copy(alloc)?,
         })
     }
 
     /// How the row's key stands to another, by the bytes of their texts.
-    pub fn compare_key(&self, kind: Kind, id: &Id) -> Ordering
+    pub fn compare_key(&self, kind: Kind, id: &str) -> Ordering
         ensures { result ≡ slice_cmp nat_cmp (row_text self.now) (key_text (record { kind = kind; id = id.now })) }
     {
         compare_keys(self.kind(), self.id(), kind, id)
@@ -133,6 +161,7 @@ impl Row {
         ensures { result.now ≡ user_of self.now }
     {
         match self {
+            Row::Extent(row) => row.user.as_str(),
             Row::List(row) => row.owner.as_str(),
             Row::Share(row) => row.user.as_str(),
             Row::Todo(_) => "",
@@ -144,6 +173,7 @@ impl Row {
         ensures { result.now ≡ unwrap_or (list_of self.now) [] }
     {
         match self {
+            Row::Extent(_) => "",
             Row::List(row) => row.id.as_str(),
             Row::Share(row) => row.list.as_str(),
             Row::Todo(row) => row.list.as_str(),
@@ -208,6 +238,7 @@ impl Row {
         ensures { result ≡ shares user.now list.now self.now }
     {
         match self {
+            Row::Extent(_) => false,
             Row::List(_) => false,
             Row::Share(row) => row.list == *list && row.user == *user,
             Row::Todo(_) => false,
@@ -219,6 +250,7 @@ impl Row {
         ensures { result ≡ lets_edit user.now list.now self.now }
     {
         match self {
+            Row::Extent(_) => false,
             Row::List(_) => false,
             Row::Share(row) => row.list == *list && row.user == *user && row.role == Role::Edit,
             Row::Todo(_) => false,
@@ -230,6 +262,7 @@ impl Row {
         ensures { result ≡ sort_of self.now }
     {
         match self {
+            Row::Extent(_) => 0,
             Row::List(_) => 0,
             Row::Share(_) => 0,
             Row::Todo(row) => row.sort.get(),
@@ -241,6 +274,7 @@ impl Row {
         ensures { result ≡ sort_in list.now self.now }
     {
         match self {
+            Row::Extent(_) => 0,
             Row::List(_) => 0,
             Row::Share(_) => 0,
             Row::Todo(row) => { if row.list == *list { row.sort.get() } else { 0 } }
@@ -252,10 +286,23 @@ impl Row {
         ensures { IfOk result (λ copy. copy ≡ self.now) }
     {
         match self {
+            Row::Extent(row) => Ok(Row::Extent(row.copy(alloc)?)),
             Row::List(row) => Ok(Row::List(row.copy(alloc)?)),
             Row::Share(row) => Ok(Row::Share(row.copy(alloc)?)),
             Row::Todo(row) => Ok(Row::Todo(row.copy(alloc)?)),
         }
+    }
+}
+
+impl ExtentRow {
+    /// The same row, which shares its texts.
+    pub fn copy(&self, alloc: Global) -> Result<ExtentRow, Memory>
+        ensures { IfOk result (λ copy. copy ≡ self.now) }
+    {
+        Ok(ExtentRow {
+            user: self.user.copy(alloc)?,
+            lists: self.lists.copy(alloc)?,
+        })
     }
 }
 

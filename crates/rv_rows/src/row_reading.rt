@@ -1,16 +1,38 @@
 ghost use Rattle.std.specs.Prelude.{◌≡◌, IfOk, IfSome, IfNone, Some, None};
 ghost use Rattle.serde_json.specs.View.{view, members_view};
 ghost use Rattle.rv_rows.specs.declared.row.Row.{Row};
-ghost use Rattle.rv_rows.specs.RowTexts.{row_data, RowIsWithin, list_row_in, past_role, share_row_in, todo_row_in, members_row_in, row_in};
+ghost use Rattle.rv_rows.specs.RowTexts.{row_data, RowIsWithin, extent_row_in, list_row_in, past_role, share_row_in, todo_row_in, members_row_in, row_in};
 
-use crate::json_reading::{next_named, num_of_value, text_of_value};
+use crate::json_reading::{lists_of_value, next_named, num_of_value, text_of_value};
 use crate::role::Role;
-use crate::row::{ListRow, Row, ShareRow, TodoRow};
+use crate::row::{ExtentRow, ListRow, Row, ShareRow, TodoRow};
 use rv_base::Memory;
 use serde_json::Value;
 use std::alloc::Global;
 use std::collections::BTreeMap;
 use std::collections::btree_map::Iter;
+
+#[tactic(auto, unfolding(crate::specs::RowTexts::extent_row_in))]
+fn extent_row(alloc: Global, mut left: Iter<'_, String, Value>) -> Result<Option<ExtentRow>, Memory>
+    ensures { IfOk result (λ o. o ≡ extent_row_in (members_view left.entry)) }
+{
+    let Some(lists) = next_named(&mut left, "lists") else {
+        return Ok(None);
+    };
+    let Some(user) = next_named(&mut left, "user") else {
+        return Ok(None);
+    };
+    if left.next().is_some() {
+        return Ok(None);
+    }
+    let Some(lists) = lists_of_value(alloc, lists)? else {
+        return Ok(None);
+    };
+    let Some(user) = text_of_value(alloc, user)? else {
+        return Ok(None);
+    };
+    Ok(Some(ExtentRow { user, lists }))
+}
 
 #[tactic(auto, unfolding(crate::specs::RowTexts::list_row_in))]
 fn list_row(alloc: Global, mut left: Iter<'_, String, Value>) -> Result<Option<ListRow>, Memory>
@@ -143,6 +165,9 @@ fn todo_row(alloc: Global, mut left: Iter<'_, String, Value>) -> Result<Option<T
 fn row_of_members(alloc: Global, members: &BTreeMap<String, Value>) -> Result<Option<Row>, Memory>
     ensures { IfOk result (λ o. o ≡ members_row_in (members_view members.now.entries)) }
 {
+    if let Some(row) = extent_row(alloc, members.iter())? {
+        return Ok(Some(Row::Extent(row)));
+    }
     if let Some(row) = list_row(alloc, members.iter())? {
         return Ok(Some(Row::List(row)));
     }

@@ -1,7 +1,8 @@
 ghost use Rattle.std.specs.Prelude.{◌≡◌, ◌≤◌, ◌+◌, [], option_map, OnOk, is_some};
 ghost use Rattle.std.specs.List.{filter};
 ghost use Rattle.std.specs.Str.{bytes_eq};
-ghost use Rattle.rv_rows.specs.Keys.{key_text};
+ghost use Rattle.rv_rows.specs.declared.key.Kind.TheVariants.{Extent};
+ghost use Rattle.rv_rows.specs.Keys.{key_text, row_text};
 ghost use Rattle.rv_rows.specs.Held.{find, put, remove, rows_in, AreRows};
 ghost use Rattle.rv_rows.specs.Sharing.{belongs, user_of};
 ghost use Rattle.rv_rows.specs.Effects.{greatest_sort};
@@ -53,6 +54,22 @@ impl Tables {
         ensures found { option_map (λ r. (r.0.now, r.1)) result ≡ find (key_text (record { kind = kind; id = id.now })) self.now.rows }
         ensures order { AreRows self.now.rows }
     {
+        self.find(kind, id.as_str())
+    }
+
+    /// The extent of a user, with its version, where there is one. Takes no memory.
+    pub fn extent(&self, user: &User) -> Option<(&Row, u32)>
+        ensures found { option_map (λ r. (r.0.now, r.1)) result ≡ find (key_text (record { kind = Extent; id = user.now })) self.now.rows }
+        ensures order { AreRows self.now.rows }
+    {
+        self.find(Kind::Extent, user.as_str())
+    }
+
+    // The row of this kind and of the id with this text, with its version.
+    fn find(&self, kind: Kind, id: &str) -> Option<(&Row, u32)>
+        ensures found { option_map (λ r. (r.0.now, r.1)) result ≡ find (key_text (record { kind = kind; id = id.now })) self.now.rows }
+        ensures order { AreRows self.now.rows }
+    {
         match self.rows.position(kind, id) {
             Ok(at) => Some(self.rows.row_at(at)),
             Err(_) => None,
@@ -77,13 +94,20 @@ impl Tables {
         self.rows.put(row, version);
     }
 
+    /// Whether some row has the key of this one. Takes no memory.
+    pub fn has_key_of(&self, row: &Row) -> bool
+        ensures { result ≡ is_some (find (row_text row.now) self.now.rows) }
+    {
+        self.find(row.kind(), row.id()).is_some()
+    }
+
     /// Removes the row of a key, and says whether there was one.
     pub fn remove(&mut self, key: &Key) -> bool
         ensures rows { self.new.rows ≡ remove (key_text key.now) self.old.rows }
         ensures found { result ≡ is_some (find (key_text key.now) self.old.rows) }
         ensures spare { self.old.spare ≤ self.new.spare }
     {
-        match self.rows.position(key.kind, &key.id) {
+        match self.rows.position(key.kind, key.id.as_str()) {
             Ok(at) => {
                 self.rows.remove_at(at);
                 true
@@ -106,11 +130,11 @@ impl Tables {
         ensures rows { result ≡ filter (λ s. belongs list.now s.0) self.now.rows }
         ensures order { AreRows self.now.rows }
     {
-        self.rows.of_list(list.as_str())
+        self.rows.of_list(list)
     }
 
-    /// The rows that name a user: the lists that the user owns and the shares with the user, with their versions, in the
-    /// order of their keys. Takes no memory.
+    /// The rows that name a user: the user's extent, the lists that the user owns and the shares with the user, with their
+    /// versions, in the order of their keys. Takes no memory.
     pub fn of_user(&self, user: &User) -> RowsInOrder<'_>
         ensures rows { result ≡ filter (λ s. bytes_eq (user_of s.0) user.now) self.now.rows }
         ensures order { AreRows self.now.rows }

@@ -10,7 +10,7 @@ use Rattle.rv_rows.proofs.FiledSlots.{filed_rows, found_slots}
 use Rattle.rv_rows.proofs.indexed.IndexedRows.of_list.Goals as goal
 
 found : (c : goal.After-slots_under) → c.slots_under.result ≡ filter (is_under filings.List c.args.list.now c.self.inside.slots.items) (items c.self.inside.by_list.pages)
-found c = c.slots_under.ensures ∙ (λ i. filter (is_under filings.List c.args.list.now (c.deref-2.ensures.value i)) (items c.self.inside.by_list.pages))
+found c = c.slots_under.ensures ∙ (λ i. filter (is_under filings.List (c.as_str.ensures.value i) (c.deref-2.ensures.value i)) (items c.self.inside.by_list.pages))
 
 pub new-requires : goal.new-requires
 new-requires c =
@@ -19,7 +19,7 @@ new-requires c =
     (found_slots filings.List inside.slots.items (items inside.by_list.pages) c.slots_under.result c.args.list.now c.self.invariant.0.lists.in_slots (found c))
 
 found_then : (c : goal.After-new) → c.slots_under.result ≡ filter (is_under filings.List c.args.list.now c.self.inside.slots.items) (items c.self.inside.by_list.pages)
-found_then c = c.slots_under.ensures ∙ (λ i. filter (is_under filings.List c.args.list.now (c.deref-2.ensures.value i)) (items c.self.inside.by_list.pages))
+found_then c = c.slots_under.ensures ∙ (λ i. filter (is_under filings.List (c.as_str.ensures.value i) (c.deref-2.ensures.value i)) (items c.self.inside.by_list.pages))
 
 pub returns-clause-rows : goal.returns-clause-rows
 returns-clause-rows c =
@@ -27,5 +27,5 @@ returns-clause-rows c =
     c.new.ensures
     ∙ ap (λ (slots : List Stored). standing slots c.slots_under.result) c.deref.ensures.value
     ∙ filed_rows filings.List inside.slots.items (items inside.by_key.pages) (items inside.by_list.pages) c.slots_under.result (standing inside.slots.items (items inside.by_key.pages)) c.args.list.now (λ _. refl) c.self.invariant.0.key_order c.self.invariant.0.lists refl (found_then c)
-    ∙ (λ i. filter (λ (s : Stored). filed_belongs c.args.list.now s.0 i) (standing inside.slots.items (items inside.by_key.pages)))
+    ∙ (λ i. filter (λ (s : Stored). filed_belongs c.args.list.now c.as_str.ensures.low s.0 i) (standing inside.slots.items (items inside.by_key.pages)))
     ∙ ap (λ (v : Slotted). filter (λ (s : Stored). belongs c.args.list.now s.0) (rows_of v)) c.self.view_is
