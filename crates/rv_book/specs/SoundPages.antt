@@ -23,6 +23,7 @@ AreSharedOnce (row ∷ rows) = AllByRecursion (λ later. share_alike row later �
 
 -- a share that names the owner of its list
 abbrev pub shared_with_owner : List Row → Row → Bool
+shared_with_owner rows (variants.Extent row) = false
 shared_with_owner rows (variants.List row) = false
 shared_with_owner rows (variants.Share row) = list_any (owns row.user row.list) rows
 shared_with_owner rows (variants.Todo row) = false

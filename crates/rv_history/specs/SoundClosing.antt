@@ -66,12 +66,19 @@ rows_are_whole book lawful = whole_after (page_rows book.page) book.entries (dis
 
 alike_back : (a b : Row) → share_alike a b ≡ share_alike b a
 alike_back (variants.Share a) (variants.Share b) = λ i. bytes_eq_back a.list b.list i && bytes_eq_back a.user b.user i
+alike_back (variants.Share a) (variants.Extent b) = refl
 alike_back (variants.Share a) (variants.List b) = refl
 alike_back (variants.Share a) (variants.Todo b) = refl
+alike_back (variants.Extent a) (variants.Share b) = refl
+alike_back (variants.Extent a) (variants.Extent b) = refl
+alike_back (variants.Extent a) (variants.List b) = refl
+alike_back (variants.Extent a) (variants.Todo b) = refl
 alike_back (variants.List a) (variants.Share b) = refl
+alike_back (variants.List a) (variants.Extent b) = refl
 alike_back (variants.List a) (variants.List b) = refl
 alike_back (variants.List a) (variants.Todo b) = refl
 alike_back (variants.Todo a) (variants.Share b) = refl
+alike_back (variants.Todo a) (variants.Extent b) = refl
 alike_back (variants.Todo a) (variants.List b) = refl
 alike_back (variants.Todo a) (variants.Todo b) = refl
 
@@ -120,6 +127,7 @@ sorted_whole rows distinct whole = record {
     there = each_there rows distinct
 
     other : (row : Row) → shared_with_owner (in_key_order rows) row ≡ shared_with_owner rows row
+    other (variants.Extent row) = refl
     other (variants.List row) = refl
     other (variants.Share row) = list_any-sorted row_text (owns row.user row.list) rows distinct
     other (variants.Todo row) = refl

@@ -14,10 +14,10 @@ use Rattle.rv_rows.specs.declared.role.Role.{Role}
 use Rattle.rv_rows.specs.declared.row.Row.{Row}
 use Rattle.rv_rows.specs.declared.row.Row.TheVariants as variants
 use Rattle.rv_rows.specs.declared.call.Call.{Call}
-use Rattle.rv_rows.specs.declared.call.Call.TheVariants.{CreateList, DeleteList, CreateShare, UpdateShare, DeleteShare, CreateTodo, UpdateTodo, DeleteTodo, Void}
+use Rattle.rv_rows.specs.declared.call.Call.TheVariants.{CreateList, DeleteList, CreateShare, UpdateShare, DeleteShare, CreateTodo, UpdateTodo, DeleteTodo, SetExtent, Void}
 use Rattle.rv_rows.specs.Keys.{key_text, row_text, has_row}
 use Rattle.rv_rows.specs.Sharing.{is_list, list_of, list_passes, owns, shares, lets_edit, may_edit}
-use Rattle.rv_rows.specs.Effects.{after_role, after_update, effect, ends, is_at, is_other, is_outside, is_unchanged, may_change, may_end, may_set_role, may_share, next_sort, with_fields, with_role}
+use Rattle.rv_rows.specs.Effects.{after_role, after_update, effect, ends, is_at, is_other, is_outside, is_unchanged, may_change, may_end, may_set_role, may_share, next_sort, replaced, with_extent, with_fields, with_role}
 use Rattle.rv_book.specs.SoundPages.{has_its_list, share_alike, shared_with_owner, AreSharedOnce}
 
 -- ---- Lists.
@@ -124,6 +124,7 @@ still_others : (rows : List Row) (row : Row) → ((user list : List ℕ) → own
 still_others rows row none all = all_weaker _ _ rows each all
   where
     each : (other : Row) → shared_with_owner rows other ≡ false → shared_with_owner (rows ++ row ∷ []) other ≡ false
+    each (variants.Extent other) is = refl
     each (variants.List other) is = refl
     each (variants.Share other) is = list_any-append (owns other.user other.list) rows (row ∷ []) ∙ (λ i. is i || (none other.user other.list i || false))
     each (variants.Todo other) is = refl
@@ -133,6 +134,7 @@ has_list : (id : List ℕ) (rows : List Row) → list_any (is_list id) rows ≡ 
 has_list id rows is = any_weaker (is_list id) (λ row. bytes_eq (key_text (record { kind = kinds.List; id = id })) (row_text row)) rows each is
   where
     each : (row : Row) → is_list id row ≡ true → bytes_eq (key_text (record { kind = kinds.List; id = id })) (row_text row) ≡ true
+    each (variants.Extent row) here = absurd (cc)
     each (variants.List row) here = (bytes_eq-Decides _ _).1 (ap (λ (name : List ℕ). key_text (record { kind = kinds.List; id = name })) (sym ((bytes_eq-Decides row.id id).0 here)))
     each (variants.Share row) here = absurd (cc)
     each (variants.Todo row) here = absurd (cc)
@@ -154,6 +156,7 @@ owned_there : (user list : List ℕ) (rows : List Row) → list_any (owns user l
 owned_there user list rows is = any_weaker (owns user list) (is_list list) rows each is
   where
     each : (row : Row) → owns user list row ≡ true → is_list list row ≡ true
+    each (variants.Extent row) here = absurd (cc)
     each (variants.List row) here = both_first (bytes_eq row.id list) (bytes_eq row.owner user) here
     each (variants.Share row) here = absurd (cc)
     each (variants.Todo row) here = absurd (cc)
@@ -194,6 +197,7 @@ filter_whole f rows lists whole = record {
     left row stays (Some id) of is = any_filter (is_list id) f rows (λ list here. lists row list stays (ap (λ (o : Option (List ℕ)). option_map_or (λ id. is_list id list) o false) of ∙ here)) is
 
     each : (row : Row) → shared_with_owner rows row ≡ false → shared_with_owner (filter f rows) row ≡ false
+    each (variants.Extent row) is = refl
     each (variants.List row) is = refl
     each (variants.Share row) is = none_filter (owns row.user row.list) f rows is
     each (variants.Todo row) is = refl
@@ -220,6 +224,7 @@ through_whole g rows keeps whole = record {
 }
   where
     each : (row : Row) → shared_with_owner rows row ≡ false → shared_with_owner (map g rows) row ≡ false
+    each (variants.Extent row) is = refl
     each (variants.List row) is = refl
     each (variants.Share row) is = any_through (owns row.user row.list) g rows (keeps.owned row.user row.list) ∙ is
     each (variants.Todo row) is = refl
@@ -227,6 +232,7 @@ through_whole g rows keeps whole = record {
 -- ---- Who owns a list.
 
 owned_key : (user list : List ℕ) (row : Row) → owns user list row ≡ true → row_text row ≡ key_text (record { kind = kinds.List; id = list })
+owned_key user list (variants.Extent row) own = absurd (cc)
 owned_key user list (variants.List row) own = ap (λ (name : List ℕ). key_text (record { kind = kinds.List; id = name })) ((bytes_eq-Decides row.id list).0 (both_first (bytes_eq row.id list) (bytes_eq row.owner user) own))
 owned_key user list (variants.Share row) own = absurd (cc)
 owned_key user list (variants.Todo row) own = absurd (cc)
@@ -249,6 +255,7 @@ and_false true b is = is
 and_false false b is = refl
 
 other_owner : (user other list : List ℕ) (row : Row) → bytes_eq other user ≡ false → owns user list row ≡ true → owns other list row ≡ false
+other_owner user other list (variants.Extent row) apart own = refl
 other_owner user other list (variants.List row) apart own =
     let same : row.owner ≡ user = (bytes_eq-Decides row.owner user).0 (both_second (bytes_eq row.id list) (bytes_eq row.owner user) own) in
     and_false (bytes_eq row.id list) (bytes_eq row.owner other) (ap (λ (name : List ℕ). bytes_eq name other) same ∙ not_same other user apart)
@@ -281,6 +288,7 @@ with_list rows user id name owner whole =
     listed = list_any-append (is_list id) rows (new ∷ []) ∙ ap (λ (b : Bool). list_any (is_list id) rows || (b || false)) (equals id) ∙ or-true (list_any (is_list id) rows)
 
     apart : (other : Row) → share_alike other new ≡ false
+    apart (variants.Extent other) = refl
     apart (variants.List other) = refl
     apart (variants.Share other) = refl
     apart (variants.Todo other) = refl
@@ -294,6 +302,7 @@ with_list rows user id name owner whole =
 
     others : has_row (key_text (record { kind = kinds.List; id = id })) rows ≡ false → (those : List Row) → AllByRecursion (λ row. has_its_list rows row ≡ true) those → AllByRecursion (λ row. shared_with_owner rows row ≡ false) those → AllByRecursion (λ row. shared_with_owner (rows ++ new ∷ []) row ≡ false) those
     others absent [] there all = tt
+    others absent (variants.Extent row ∷ those) there all = (refl, others absent those there.1 all.1)
     others absent (variants.List row ∷ those) there all = (refl, others absent those there.1 all.1)
     others absent (variants.Share row ∷ those) there all =
         (list_any-append (owns row.user row.list) rows (new ∷ []) ∙ (λ i. all.0 i || (not_owned absent row.user row.list there.0 i || false)), others absent those there.1 all.1)
@@ -314,6 +323,7 @@ with_share rows user id list other role distinct whole =
     new = variants.Share (record { id = id; list = list; user = other; role = role })
 
     apart : (row : Row) → shares other list row ≡ false → share_alike row new ≡ false
+    apart (variants.Extent row) is = refl
     apart (variants.List row) is = refl
     apart (variants.Share row) is = is
     apart (variants.Todo row) is = refl
@@ -336,6 +346,7 @@ with_todo rows user id list text complete whole =
     listed edits = list_any-append (is_list list) rows (new ∷ []) ∙ ap (λ (b : Bool). b || list_any (is_list list) (new ∷ [])) (edited_there user list rows edits)
 
     apart : (other : Row) → share_alike other new ≡ false
+    apart (variants.Extent other) = refl
     apart (variants.List other) = refl
     apart (variants.Share other) = refl
     apart (variants.Todo other) = refl
@@ -348,6 +359,7 @@ without_list rows user id whole = whole_if (list_any (owns user id) rows) (filte
     own name (Some text) outside here = ap (λ (other : List ℕ). not (bytes_eq other id)) ((bytes_eq-Decides name text).0 here) ∙ outside
 
     lists : (row list : Row) → is_outside id row ≡ true → list_passes (λ id. is_list id list) row ≡ true → is_outside id list ≡ true
+    lists row (variants.Extent list) outside here = absurd (names_none (list_of row) here)
     lists row (variants.List list) outside here = own list.id (list_of row) outside here
     lists row (variants.Share list) outside here = absurd (names_none (list_of row) here)
     lists row (variants.Todo list) outside here = absurd (names_none (list_of row) here)
@@ -356,6 +368,7 @@ pub without_share : (rows : List Row) (user id : List ℕ) → AreWhole rows →
 without_share rows user id whole = whole_if (list_any (ends user rows id) rows) (filter (is_other kinds.Share id) rows) rows (λ is. filter_whole (is_other kinds.Share id) rows lists whole) whole
   where
     lists : (row list : Row) → is_other kinds.Share id row ≡ true → list_passes (λ id. is_list id list) row ≡ true → is_other kinds.Share id list ≡ true
+    lists row (variants.Extent list) other here = absurd (names_none (list_of row) here)
     lists row (variants.List list) other here = refl
     lists row (variants.Share list) other here = absurd (names_none (list_of row) here)
     lists row (variants.Todo list) other here = absurd (names_none (list_of row) here)
@@ -365,6 +378,7 @@ unfolding may_change
 without_todo rows user id whole = filter_whole (is_unchanged user rows id) rows lists whole
   where
     lists : (row list : Row) → is_unchanged user rows id row ≡ true → list_passes (λ id. is_list id list) row ≡ true → is_unchanged user rows id list ≡ true
+    lists row (variants.Extent list) other here = absurd (names_none (list_of row) here)
     lists row (variants.List list) other here = refl
     lists row (variants.Share list) other here = absurd (names_none (list_of row) here)
     lists row (variants.Todo list) other here = absurd (names_none (list_of row) here)
@@ -395,29 +409,75 @@ all_kept g each = record {
 }
 
 role_kept : (role : Role) (row : Row) → KeepsRow row (with_role role row)
+role_kept role (variants.Extent row) = same_kept (variants.Extent row)
 role_kept role (variants.List row) = same_kept (variants.List row)
 role_kept role (variants.Share row) = record { listed = refl; is = λ list. refl; owned = λ user list. refl; left = left; right = right; shared = λ rows. refl }
   where
     left : (other : Row) → share_alike (with_role role (variants.Share row)) other ≡ share_alike (variants.Share row) other
+    left (variants.Extent other) = refl
     left (variants.List other) = refl
     left (variants.Share other) = refl
     left (variants.Todo other) = refl
 
     right : (other : Row) → share_alike other (with_role role (variants.Share row)) ≡ share_alike other (variants.Share row)
+    right (variants.Extent other) = refl
     right (variants.List other) = refl
     right (variants.Share other) = refl
     right (variants.Todo other) = refl
 role_kept role (variants.Todo row) = same_kept (variants.Todo row)
 
 fields_kept : (text : Option (List ℕ)) (complete : Option Bool) (sort : Option ℕ) (row : Row) → KeepsRow row (with_fields text complete sort row)
+fields_kept text complete sort (variants.Extent row) = same_kept (variants.Extent row)
 fields_kept text complete sort (variants.List row) = same_kept (variants.List row)
 fields_kept text complete sort (variants.Share row) = same_kept (variants.Share row)
 fields_kept text complete sort (variants.Todo row) = record { listed = refl; is = λ list. refl; owned = λ user list. refl; left = λ other. refl; right = right; shared = λ rows. refl }
   where
     right : (other : Row) → share_alike other (with_fields text complete sort (variants.Todo row)) ≡ share_alike other (variants.Todo row)
+    right (variants.Extent other) = refl
     right (variants.List other) = refl
     right (variants.Share other) = refl
     right (variants.Todo other) = refl
+
+-- an extent has no list and is no share, as the one in whose place it comes
+extent_kept : (user : List ℕ) (lists : List (List ℕ)) (row : Row) → KeepsRow row (replaced (variants.Extent (record { user = user; lists = lists })) row)
+extent_kept user lists (variants.Extent row) =
+    kept_if (bytes_eq (row_text (variants.Extent (record { user = user; lists = lists }))) (row_text (variants.Extent row))) (variants.Extent row) (variants.Extent (record { user = user; lists = lists }))
+    (record { listed = refl; is = λ list. refl; owned = λ user list. refl; left = λ other. refl; right = right; shared = λ rows. refl })
+  where
+    right : (other : Row) → share_alike other (variants.Extent (record { user = user; lists = lists })) ≡ share_alike other (variants.Extent row)
+    right (variants.Extent other) = refl
+    right (variants.List other) = refl
+    right (variants.Share other) = refl
+    right (variants.Todo other) = refl
+extent_kept user lists (variants.List row) = same_kept (variants.List row)
+extent_kept user lists (variants.Share row) = same_kept (variants.Share row)
+extent_kept user lists (variants.Todo row) = same_kept (variants.Todo row)
+
+extent_more : (rows : List Row) (user : List ℕ) (lists : List (List ℕ)) → AreWhole rows → AreWhole (rows ++ variants.Extent (record { user = user; lists = lists }) ∷ [])
+extent_more rows user lists whole = push_whole rows (variants.Extent (record { user = user; lists = lists })) whole refl (all_of _ rows apart) (still_others rows (variants.Extent (record { user = user; lists = lists })) (λ user list. refl) whole.others) refl
+  where
+    apart : (other : Row) → share_alike other (variants.Extent (record { user = user; lists = lists })) ≡ false
+    apart (variants.Extent other) = refl
+    apart (variants.List other) = refl
+    apart (variants.Share other) = refl
+    apart (variants.Todo other) = refl
+
+extent_whole : (rows : List Row) (user : List ℕ) (lists : Option (List (List ℕ))) → AreWhole rows → AreWhole (with_extent user lists rows)
+extent_whole rows user (Some lists) whole =
+    elim (has_row (row_text new) rows) as (λ b. AreWhole (cond b (map (replaced new) rows) (rows ++ new ∷ []))) [
+      | true ↦ through_whole (replaced new) rows (all_kept (replaced new) (extent_kept user lists)) whole
+      | false ↦ extent_more rows user lists whole
+    ]
+  where
+    new : Row
+    new = variants.Extent (record { user = user; lists = lists })
+extent_whole rows user None whole = filter_whole (is_other kinds.Extent user) rows lists whole
+  where
+    lists : (row list : Row) → is_other kinds.Extent user row ≡ true → list_passes (λ id. is_list id list) row ≡ true → is_other kinds.Extent user list ≡ true
+    lists row (variants.Extent list) other here = absurd (names_none (list_of row) here)
+    lists row (variants.List list) other here = refl
+    lists row (variants.Share list) other here = absurd (names_none (list_of row) here)
+    lists row (variants.Todo list) other here = absurd (names_none (list_of row) here)
 
 -- so each call keeps rows whole
 pub effect_whole : (rows : List Row) (user : List ℕ) (call : Call) → Distinct row_text rows → AreWhole rows → AreWhole (effect rows user call)
@@ -431,4 +491,5 @@ effect_whole rows user (CreateTodo id list text complete) distinct whole = with_
 effect_whole rows user (UpdateTodo id text complete sort) distinct whole =
     through_whole (after_update user rows id text complete sort) rows (all_kept (after_update user rows id text complete sort) (λ row. kept_if (may_change user rows id row) row (with_fields text complete sort row) (fields_kept text complete sort row))) whole
 effect_whole rows user (DeleteTodo id) distinct whole = without_todo rows user id whole
+effect_whole rows user (SetExtent lists) distinct whole = extent_whole rows user lists whole
 effect_whole rows user (Void reason) distinct whole = whole

@@ -12,7 +12,7 @@ use Rattle.rv_rows.specs.Keys.{row_text}
 use Rattle.rv_rows.specs.RowTexts.{row_data, RowIsWithin}
 use Rattle.rv_rows.proofs.RowLaws.{row_again}
 use Rattle.rv_record.specs.RowReading.{HasTexts}
-use Rattle.rv_record.specs.ReadBack.{IsPlain, json_again}
+use Rattle.rv_record.specs.ReadBack.{IsPlain, json_again, ids_plain}
 use Rattle.rv_record.specs.ReadTexts.{num_plain}
 use Rattle.rv_import.specs.Records.{Record}
 use Rattle.rv_import.specs.Views.{IsRow, row_record}
@@ -30,10 +30,11 @@ share_plain id list user roles.View n i l u = (
 share_plain id list user roles.Edit n i l u =
     ((IsUtf8-are_ascii (codes "id") refl, i, (IsUtf8-are_ascii (codes "listID") refl, l, (IsUtf8-are_ascii (codes "userID") refl, u, tt))), refl)
 
-row_plain : (r : Row) (n : ℕ) → RowIsWithin r → HasTexts r → IsPlain (row_data r) (suc n)
+row_plain : (r : Row) (n : ℕ) → RowIsWithin r → HasTexts r → IsPlain (row_data r) (suc (suc n))
+row_plain (variants.Extent r) n fits texts = ((IsUtf8-are_ascii (codes "lists") refl, ids_plain r.lists n texts.1, (IsUtf8-are_ascii (codes "user") refl, texts.0, tt)), refl)
 row_plain (variants.List r) n fits texts =
     ((IsUtf8-are_ascii (codes "id") refl, texts.0, (IsUtf8-are_ascii (codes "name") refl, texts.1, (IsUtf8-are_ascii (codes "ownerID") refl, texts.2, tt))), refl)
-row_plain (variants.Share r) n fits texts = share_plain r.id r.list r.user r.role n texts.0 texts.1 texts.2
+row_plain (variants.Share r) n fits texts = share_plain r.id r.list r.user r.role (suc n) texts.0 texts.1 texts.2
 row_plain (variants.Todo r) n fits texts = (
   (
     IsUtf8-are_ascii (codes "complete") refl,
@@ -44,7 +45,7 @@ row_plain (variants.Todo r) n fits texts = (
 )
 
 pub text_again : (r : Row) → IsRow r → row_text_in (compact_text (row_data r)) ≡ Some r
-text_again r is = rw (json_again (row_data r) (row_plain r 126 is.0 is.1)) (row_again r is.0)
+text_again r is = rw (json_again (row_data r) (row_plain r 125 is.0 is.1)) (row_again r is.0)
 
 -- the second field of a record
 abbrev value_in : Record → List ℕ

@@ -32,7 +32,8 @@ fn text_from<L: Ledger>(
     view_text(alloc, &rows)
 }
 
-/// The rows that the user sees, as [`view_text`] writes a view: those of the lists that the user sees, in the order of their keys.
+/// The rows that the user sees, as [`view_text`] writes a view: the user's extent, and those of the lists that the user sees, in
+/// the order of their keys.
 pub fn export_text(alloc: Global, tables: &Tables, user: &User) -> Result<Bytes, Memory>
     // The text is that of exactly the rows that the user sees.
     ensures text { IfOk result (λ text. text ≡ view_text (seen user.now (rows_in tables.now.rows))) }

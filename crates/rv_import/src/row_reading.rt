@@ -21,6 +21,10 @@ pub(crate) fn is_row(row: &Row)
     ensures { IsRow row.now }
 {
     match row {
+        Row::Extent(row) => {
+            let _ = row.user.as_str().as_bytes();
+            row.lists.ids_fit();
+        }
         Row::List(row) => {
             let _ = row.id.as_str().as_bytes();
             let _ = row.name.as_str().as_bytes();

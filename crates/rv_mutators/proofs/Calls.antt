@@ -12,13 +12,13 @@ use Rattle.rv_rows.specs.declared.key.Kind.TheVariants as kinds
 use Rattle.rv_rows.specs.declared.role.Role.{Role}
 use Rattle.rv_rows.specs.declared.row.Row.{Row}
 use Rattle.rv_rows.specs.declared.row.Row.TheVariants as variants
-use Rattle.rv_rows.specs.declared.call.Call.TheVariants.{CreateList, DeleteList, CreateShare, UpdateShare, DeleteShare, CreateTodo, UpdateTodo, DeleteTodo}
+use Rattle.rv_rows.specs.declared.call.Call.TheVariants.{CreateList, DeleteList, CreateShare, UpdateShare, DeleteShare, CreateTodo, UpdateTodo, DeleteTodo, SetExtent}
 use Rattle.rv_rows.specs.Keys.{key_text, row_key, row_text, has_row}
 use Rattle.rv_rows.specs.Held.{Stored, rows_in, find}
 use Rattle.rv_rows.specs.Sharing.{belongs, owns, shares, may_edit, list_passes}
-use Rattle.rv_rows.specs.Effects.{is_outside, is_other, is_unchanged, may_change, may_set_role, ends, may_end, with_fields, with_role, next_sort}
+use Rattle.rv_rows.specs.Effects.{is_outside, is_other, is_unchanged, may_change, may_set_role, ends, may_end, with_fields, with_role, replaced, next_sort}
 use Rattle.rv_rows.specs.Changes.{same_row}
-use Rattle.rv_rows.specs.EffectLaws.{same_row-Decides}
+use Rattle.rv_rows.specs.EffectLaws.{same_row-Decides, replaced-key}
 use Rattle.rv_mutators.specs.declared.staged.Staged.{Staged}
 use Rattle.rv_mutators.specs.Staging.{staged, written_if, removed_if}
 use Rattle.rv_mutators.proofs.Picked.{by_flag, by_found, find-key, filter-at, any-at}
@@ -28,6 +28,10 @@ use Rattle.rv_mutators.proofs.Changed.{changes, both, changes-none, changes-push
 pub ok_is : {A E : Type 0} (r : Result A E) (x y : A) → IfOk r (λ s. s ≡ x) → x ≡ y → IfOk r (λ s. s ≡ y)
 ok_is (Ok s) x y h e = h ∙ e
 ok_is (Err f) x y h e = tt
+
+-- a row that stays as it is is not written
+pub stays_same : (row : Row) → written_if (not (same_row row row)) row ≡ record { rows = []; keys = [] }
+stays_same row = ap (λ (b : Bool). written_if (not b) row) ((same_row-Decides row row).1 refl)
 
 -- the one of two that a test picks
 pub then_is : {A : Type 0} (b : Bool) (x y z : A) → b ≡ true → cond b x y ≡ z → x ≡ z
@@ -195,11 +199,13 @@ module _ (rows : List Row) (h : InOrder row_text rows) where
     set-absent e = sym (ap (λ (o : Option Row). option_map_or (λ x. written_if (set_if x) (new x)) o (record { rows = []; keys = [] })) e) ∙ set-is
 
   pub fields-keep : (text : Option (List ℕ)) (complete : Option Bool) (sort : Option ℕ) (x : Row) → row_text (with_fields text complete sort x) ≡ row_text x
+  fields-keep text complete sort (variants.Extent x) = refl
   fields-keep text complete sort (variants.List x) = refl
   fields-keep text complete sort (variants.Share x) = refl
   fields-keep text complete sort (variants.Todo x) = refl
 
   pub role-keeps : (role : Role) (x : Row) → row_text (with_role role x) ≡ row_text x
+  role-keeps role (variants.Extent x) = refl
   role-keeps role (variants.List x) = refl
   role-keeps role (variants.Share x) = refl
   role-keeps role (variants.Todo x) = refl
@@ -235,3 +241,48 @@ module _ (rows : List Row) (h : InOrder row_text rows) where
     pub update_share-absent : find_by row_text (key_text (record { kind = kinds.Share; id = id })) rows ≡ None → ◌≡◌ {A = Staged} (record { rows = []; keys = [] }) (staged rows user (UpdateShare id role))
     unfolding may_set_role
     update_share-absent e = set-absent (key_text (record { kind = kinds.Share; id = id })) (list_passes (λ list. list_any (owns user list) rows)) (with_role role) (role-keeps role) e
+
+  -- a user's extent is set where it is another, and goes where there is to be none
+  module _ (user : List ℕ) where
+    abbrev pub extent_key : List ℕ
+    extent_key = key_text (record { kind = kinds.Extent; id = user })
+
+    -- the user's extent of these lists
+    abbrev pub extent_of : List (List ℕ) → Row
+    extent_of lists = variants.Extent (record { user = user; lists = lists })
+
+    pub replaces : (new x : Row) → set_at (row_text new) (λ _. true) (replaced new) (replaced-key new) x ≡ replaced new x
+    replaces new x = each (bytes_eq (row_text new) (row_text x))
+      where
+        each : (b : Bool) → cond (b && true) (cond b new x) x ≡ cond b new x
+        each true = refl
+        each false = refl
+
+    pub set_extent-found : (lists : List (List ℕ)) (row : Row) → find_by row_text extent_key rows ≡ Some row → written_if (not (same_row (extent_of lists) row)) (extent_of lists) ≡ staged rows user (SetExtent (Some lists))
+    set_extent-found lists row e =
+        let new = extent_of lists in
+        let at : bytes_eq extent_key (row_text row) ≡ true = subst (λ (t : List ℕ). bytes_eq t (row_text row) ≡ true) (sym (find-key row_text extent_key rows row e)) (equals (row_text row)) in
+        let there : has_row extent_key rows ≡ true = sym (found-any row_text extent_key rows) ∙ ap is_some e in
+        ap (λ (x : Row). written_if (not (same_row x row)) x) (sym (ap (λ (b : Bool). cond b new row) at))
+        ∙ set-allowed extent_key (λ _. true) (replaced new) (replaced-key new) row e refl
+        ∙ (λ i. changes rows (map (λ x. replaces new x i) rows))
+        ∙ ap (λ (b : Bool). changes rows (cond b (map (replaced new) rows) (rows ++ new ∷ []))) (sym there)
+
+    pub set_extent-absent : (lists : List (List ℕ)) → find_by row_text extent_key rows ≡ None → ◌≡◌ {A = Staged} (record { rows = extent_of lists ∷ []; keys = [] }) (staged rows user (SetExtent (Some lists)))
+    set_extent-absent lists e =
+        let new = extent_of lists in
+        let free : has_row extent_key rows ≡ false = sym (found-any row_text extent_key rows) ∙ ap is_some e in
+        sym (changes-push rows new h e) ∙ ap (λ (b : Bool). changes rows (cond b (map (replaced new) rows) (rows ++ new ∷ []))) (sym free)
+
+    remove_extent-is : option_map_or (λ x. removed_if true x) (find_by row_text extent_key rows) (record { rows = []; keys = [] }) ≡ staged rows user (SetExtent None)
+    remove_extent-is = removed extent_key (λ _. true) (is_other kinds.Extent user) (λ x. still (bytes_eq extent_key (row_text x)))
+      where
+        still : (b : Bool) → not (not b) ≡ (b && true)
+        still true = refl
+        still false = refl
+
+    pub remove_extent-found : (row : Row) → find_by row_text extent_key rows ≡ Some row → removed_if true row ≡ staged rows user (SetExtent None)
+    remove_extent-found row e = sym (ap (λ (o : Option Row). option_map_or (λ x. removed_if true x) o (record { rows = []; keys = [] })) e) ∙ remove_extent-is
+
+    pub remove_extent-absent : find_by row_text extent_key rows ≡ None → ◌≡◌ {A = Staged} (record { rows = []; keys = [] }) (staged rows user (SetExtent None))
+    remove_extent-absent e = sym (ap (λ (o : Option Row). option_map_or (λ x. removed_if true x) o (record { rows = []; keys = [] })) e) ∙ remove_extent-is

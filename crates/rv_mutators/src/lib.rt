@@ -1,9 +1,10 @@
-//! What the eight calls do to the tables.
+//! What the nine calls do to the tables.
 //!
 //! [`stage`] finds the rows that a call writes and the keys that it removes, and makes all the space that they need;
 //! [`Staged::apply`] then writes and removes them, and can't fail. Together they are the effect of the call on the rows.
 #![tactic(auto)]
 
+mod extents;
 mod lists;
 mod readers;
 mod shares;

@@ -6,7 +6,7 @@ ghost use Rattle.rv_mutators.specs.Touched.{AddsReaders, AddsReadersOf};
 
 use rv_base::Memory;
 use rv_rows::{Row, Tables, Users};
-use rv_sharing::{add_sharers, add_user, add_viewers, has_list};
+use rv_sharing::{add_if_synced, add_sharers, add_user, add_viewers, has_list};
 use std::alloc::Global;
 
 // The users and those who see one of the rows, where it stands beside those of the tables.
@@ -32,15 +32,16 @@ fn add_readers_of(alloc: Global, users: Users, tables: &Tables, row: &Row) -> Re
     ensures { IfOk result (AddsReadersOf (rows_in tables.now.rows) row.now users) }
 {
     match row {
+        Row::Extent(extent) => add_user(alloc, users, &extent.user),
         Row::List(list) => {
             let viewers = add_viewers(alloc, users, tables, &list.id)?;
-            let owned = add_user(alloc, viewers, &list.owner)?;
+            let owned = add_if_synced(alloc, viewers, tables, &list.owner, &list.id)?;
             add_sharers(alloc, owned, tables, &list.id)
         }
         Row::Share(share) => {
             let viewers = add_viewers(alloc, users, tables, &share.list)?;
             if has_list(tables, &share.list) {
-                add_user(alloc, viewers, &share.user)
+                add_if_synced(alloc, viewers, tables, &share.user, &share.list)
             } else {
                 Ok(viewers)
             }

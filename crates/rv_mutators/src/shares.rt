@@ -78,6 +78,7 @@ fn set_role(alloc: Global, row: &Row, role: Role) -> Result<Staged, Memory>
     ensures { IfOk result (λ s. s ≡ written_if (not (same_row (with_role role row.now) row.now)) (with_role role row.now)) }
 {
     match row {
+        Row::Extent(_) => Ok(Staged::nothing(alloc)),
         Row::List(_) => Ok(Staged::nothing(alloc)),
         Row::Share(row) => {
             if row.role == role {
@@ -122,6 +123,7 @@ fn may_end(tables: &Tables, user: &User, row: &Row) -> bool
     ensures { result ≡ may_end user.now (rows_in tables.now.rows) row.now }
 {
     match row {
+        Row::Extent(_) => false,
         Row::List(_) => false,
         Row::Share(row) => owns(tables, user, &row.list) || row.user == *user,
         Row::Todo(_) => false,

@@ -3,6 +3,7 @@ ghost use Rattle.rv_rows.specs.Held.{rows_in, AreRows};
 ghost use Rattle.rv_rows.specs.Changes.{after};
 ghost use Rattle.rv_mutators.specs.Staging.{staged, with_staged};
 
+use crate::extents::set_extent;
 use crate::lists::{create_list, delete_list};
 use crate::shares::{create_share, delete_share, update_share};
 use crate::staged::Staged;
@@ -56,6 +57,7 @@ fn changes(alloc: Global, tables: &Tables, user: &User, call: &Call) -> Result<S
             sort,
         } => update_todo(alloc, tables, user, id, text, *complete, *sort),
         Call::DeleteTodo { id } => delete_todo(alloc, tables, user, id),
+        Call::SetExtent { lists } => set_extent(alloc, tables, user, lists),
         Call::Void(_) => Ok(Staged::nothing(alloc)),
     }
 }

@@ -87,6 +87,7 @@ fn set_fields(
     ensures { IfOk result (λ s. s ≡ written_if (not (same_row (with_fields text.now complete sort row.now) row.now)) (with_fields text.now complete sort row.now)) }
 {
     match row {
+        Row::Extent(_) => Ok(Staged::nothing(alloc)),
         Row::List(_) => Ok(Staged::nothing(alloc)),
         Row::Share(_) => Ok(Staged::nothing(alloc)),
         Row::Todo(row) => {

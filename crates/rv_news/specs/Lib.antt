@@ -6,3 +6,4 @@ pub mod News
 pub mod TouchLaws
 pub mod SinceMark
 pub mod UnchangedLaws
+pub mod ExtentMarks

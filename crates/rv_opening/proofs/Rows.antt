@@ -8,6 +8,7 @@ use Rattle.std.proofs.lemmas.Slice.Eq.{bytes_eq-Decides}
 use Rattle.rv_base.specs.Positions.{Below, differs_back, equals}
 use Rattle.rv_rows.specs.declared.key.Kind.TheVariants as kinds
 use Rattle.rv_rows.specs.declared.row.Row.{Row}
+use Rattle.rv_rows.specs.declared.row.ExtentRow.{ExtentRow}
 use Rattle.rv_rows.specs.declared.row.ListRow.{ListRow}
 use Rattle.rv_rows.specs.declared.row.ShareRow.{ShareRow}
 use Rattle.rv_rows.specs.declared.row.TodoRow.{TodoRow}
@@ -58,6 +59,7 @@ any_before p rows row none = list_any-append p rows (row ∷ []) ∙ ap (λ (b :
 -- a list that is there has its key among the rows
 listed_key : (id : List ℕ) (rows : List Row) → list_any (is_list id) rows ≡ true → has_row (key_text (record { kind = kinds.List; id = id })) rows ≡ true
 listed_key id [] is = is
+listed_key id (variants.Extent row ∷ rows) is = ap (λ (b : Bool). bytes_eq (key_text (record { kind = kinds.List; id = id })) (row_text (variants.Extent row)) || b) (listed_key id rows is) ∙ or-true (bytes_eq (key_text (record { kind = kinds.List; id = id })) (row_text (variants.Extent row)))
 listed_key id (variants.List row ∷ rows) is = by (bytes_eq row.id id) refl is (listed_key id rows)
   where
     by : (b : Bool) → bytes_eq row.id id ≡ b → (b || list_any (is_list id) rows) ≡ true → (list_any (is_list id) rows ≡ true → has_row (key_text (record { kind = kinds.List; id = id })) rows ≡ true)
@@ -74,6 +76,7 @@ listed_key id (variants.Todo row ∷ rows) is = ap (λ (b : Bool). bytes_eq (key
 module _ (rows : List Row) (whole : AreWhole rows) where
   still_others : (row : Row) → ((user list : List ℕ) → owns user list row ≡ false) → (those : List Row) → AllByRecursion (λ other. shared_with_owner rows other ≡ false) those → AllByRecursion (λ other. shared_with_owner (rows ++ row ∷ []) other ≡ false) those
   still_others row none [] all = tt
+  still_others row none (variants.Extent other ∷ those) all = (refl, still_others row none those all.1)
   still_others row none (variants.List other ∷ those) all = (refl, still_others row none those all.1)
   still_others row none (variants.Share other ∷ those) all = (any_before (owns other.user other.list) rows row (none other.user other.list) ∙ all.0, still_others row none those all.1)
   still_others row none (variants.Todo other ∷ those) all = (refl, still_others row none those all.1)
@@ -85,6 +88,7 @@ module _ (rows : List Row) (whole : AreWhole rows) where
       listed = list_any-append (is_list row.id) rows (variants.List row ∷ []) ∙ ap (λ (b : Bool). list_any (is_list row.id) rows || (b || false)) (equals row.id) ∙ or-true (list_any (is_list row.id) rows)
 
       apart : (other : Row) → share_alike other (variants.List row) ≡ false
+      apart (variants.Extent other) = refl
       apart (variants.List other) = refl
       apart (variants.Share other) = refl
       apart (variants.Todo other) = refl
@@ -102,6 +106,7 @@ module _ (rows : List Row) (whole : AreWhole rows) where
 
       others : (those : List Row) → AllByRecursion (λ other. has_its_list rows other ≡ true) those → AllByRecursion (λ other. shared_with_owner rows other ≡ false) those → AllByRecursion (λ other. shared_with_owner (rows ++ variants.List row ∷ []) other ≡ false) those
       others [] there all = tt
+      others (variants.Extent other ∷ those) there all = (refl, others those there.1 all.1)
       others (variants.List other ∷ those) there all = (refl, others those there.1 all.1)
       others (variants.Share other ∷ those) there all = (any_before (owns other.user other.list) rows (variants.List row) (not_owned other.user other.list there.0) ∙ all.0, others those there.1 all.1)
       others (variants.Todo other ∷ those) there all = (refl, others those there.1 all.1)
@@ -118,6 +123,7 @@ module _ (rows : List Row) (whole : AreWhole rows) where
     where
       apart : (those : List Row) → list_any (shares row.user row.list) those ≡ false → AllByRecursion (λ other. share_alike other (variants.Share row) ≡ false) those
       apart [] none = tt
+      apart (variants.Extent other ∷ those) none = (refl, apart those none)
       apart (variants.List other ∷ those) none = (refl, apart those none)
       apart (variants.Share other ∷ those) none = let parts = either_false _ _ none in (parts.0, apart those parts.1)
       apart (variants.Todo other ∷ those) none = (refl, apart those none)
@@ -127,11 +133,22 @@ module _ (rows : List Row) (whole : AreWhole rows) where
       push_whole rows (variants.Todo row) whole (any_before (is_list row.list) rows (variants.Todo row) refl ∙ listed) (all_of _ rows apart) (still_others (variants.Todo row) (λ user list. refl) rows whole.others) refl
     where
       apart : (other : Row) → share_alike other (variants.Todo row) ≡ false
+      apart (variants.Extent other) = refl
+      apart (variants.List other) = refl
+      apart (variants.Share other) = refl
+      apart (variants.Todo other) = refl
+
+  extent_more : (row : ExtentRow) → AreWhole (rows ++ variants.Extent row ∷ [])
+  extent_more row = push_whole rows (variants.Extent row) whole refl (all_of _ rows apart) (still_others (variants.Extent row) (λ user list. refl) rows whole.others) refl
+    where
+      apart : (other : Row) → share_alike other (variants.Extent row) ≡ false
+      apart (variants.Extent other) = refl
       apart (variants.List other) = refl
       apart (variants.Share other) = refl
       apart (variants.Todo other) = refl
 
   pub whole_more : (row : Row) → has_row (row_text row) rows ≡ false → stands_with row rows ≡ true → AreWhole (rows ++ row ∷ [])
+  whole_more (variants.Extent row) new stands = extent_more row
   whole_more (variants.List row) new stands = list_more row new
   whole_more (variants.Share row) new stands = share_more row stands
   whole_more (variants.Todo row) new stands = todo_more row stands
@@ -140,11 +157,13 @@ module _ (rows : List Row) (whole : AreWhole rows) where
 
 not_shared : (rows : List Row) (row : ShareRow) → AreSharedOnce (rows ++ variants.Share row ∷ []) → list_any (shares row.user row.list) rows ≡ false
 not_shared [] row once = refl
+not_shared (variants.Extent other ∷ rows) row once = not_shared rows row once.1
 not_shared (variants.List other ∷ rows) row once = not_shared rows row once.1
 not_shared (variants.Share other ∷ rows) row once = (λ i. all-last (λ later. share_alike (variants.Share other) later ≡ false) rows (variants.Share row) once.0 i || not_shared rows row once.1 i)
 not_shared (variants.Todo other ∷ rows) row once = not_shared rows row once.1
 
 pub whole_last : (rows : List Row) (row : Row) → AreWhole (rows ++ row ∷ []) → stands_with row rows ≡ true
+whole_last rows (variants.Extent row) whole = refl
 whole_last rows (variants.List row) whole = refl
 whole_last rows (variants.Share row) whole =
     all_three (list_any (is_list row.list) rows) (list_any (owns row.user row.list) rows) (list_any (shares row.user row.list) rows)

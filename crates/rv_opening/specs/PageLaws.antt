@@ -129,8 +129,10 @@ names_none_behind (variants.List row) (variants.List list) is below =
     let own : Below (row_text (variants.List row)) (row_text (variants.List row)) = subst (λ (id : List ℕ). Below (row_text (variants.List row)) (row_text (variants.List (record { id = id; name = list.name; owner = list.owner })))) same below in
     let both : true ≡ false = sym (equals (row_text (variants.List row))) ∙ differs (row_text (variants.List row)) (row_text (variants.List row)) own in
     cc
+names_none_behind (variants.Extent row) (variants.List list) is below = let none : false ≡ true = is in cc
 names_none_behind (variants.Share row) (variants.List list) is below = let both : Greater ≡ Less = below in cc
 names_none_behind (variants.Todo row) (variants.List list) is below = let both : Greater ≡ Less = below in cc
+names_none_behind row (variants.Extent list) is below = names_none (list_of row) is
 names_none_behind row (variants.Share list) is below = names_none (list_of row) is
 names_none_behind row (variants.Todo list) is below = names_none (list_of row) is
 
@@ -156,6 +158,7 @@ module _ (front rest : List Row) where
       one (Some id) of is = sym (list_any-append (is_list id) front rest ∙ ap (λ (b : Bool). list_any (is_list id) front || b) (none_behind row id rest of below.0) ∙ or-false _) ∙ is
 
   others_left : (row : Row) → shared_with_owner (front ++ rest) row ≡ false → shared_with_owner front row ≡ false
+  others_left (variants.Extent row) is = refl
   others_left (variants.List row) is = refl
   others_left (variants.Share row) is = left (list_any (owns row.user row.list) front) (list_any (owns row.user row.list) rest) (sym (list_any-append (owns row.user row.list) front rest) ∙ is)
     where

@@ -20,6 +20,7 @@ use Rattle.rv_opening.specs.Begins.{Begins, BreaksOff, BreaksPage}
 -- The row may stand beside these, which come before it: a share or a todo names a list that is there, and a share one that its user neither
 -- owns nor shares already.
 abbrev pub stands_with : Row → List Row → Bool
+stands_with (variants.Extent row) rows = true
 stands_with (variants.List row) rows = true
 stands_with (variants.Share row) rows = list_any (is_list row.list) rows && (not (list_any (owns row.user row.list) rows) && not (list_any (shares row.user row.list) rows))
 stands_with (variants.Todo row) rows = list_any (is_list row.list) rows

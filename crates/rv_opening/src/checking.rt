@@ -21,6 +21,7 @@ fn stands_with(tables: &Tables, row: &Row) -> bool
     ensures { result ≡ stands_with row.now (rows_in tables.now.rows) }
 {
     match row {
+        Row::Extent(_) => true,
         Row::List(_) => true,
         Row::Share(share) => {
             has_list(tables, &share.list)

@@ -50,6 +50,10 @@ fn texts_fit(row: &Row)
     ensures { RowIsWithin row.now × HasTexts row.now }
 {
     match row {
+        Row::Extent(row) => {
+            user_fits(&row.user);
+            row.lists.ids_fit();
+        }
         Row::List(row) => {
             id_fits(&row.id);
             words_fit(&row.name);

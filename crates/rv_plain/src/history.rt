@@ -38,29 +38,36 @@ pub(crate) fn same_row(a: &Row, b: &Row) -> bool
     ensures { result ≡ same_row a.now b.now }
 {
     match (a, b) {
+        (Row::Extent(a), Row::Extent(b)) => a.user == b.user && a.lists.is_same(&b.lists),
         (Row::List(a), Row::List(b)) => a.id == b.id && a.name == b.name && a.owner == b.owner,
         (Row::Share(a), Row::Share(b)) => a.id == b.id
             && a.list == b.list
             && a.user == b.user
             && a.role == b.role,
         (Row::Todo(a), Row::Todo(b)) => same_todo(a, b),
+        (Row::Extent(_), Row::List(_)) => false,
+        (Row::Extent(_), Row::Share(_)) => false,
+        (Row::Extent(_), Row::Todo(_)) => false,
+        (Row::List(_), Row::Extent(_)) => false,
         (Row::List(_), Row::Share(_)) => false,
         (Row::List(_), Row::Todo(_)) => false,
+        (Row::Share(_), Row::Extent(_)) => false,
         (Row::Share(_), Row::List(_)) => false,
         (Row::Share(_), Row::Todo(_)) => false,
+        (Row::Todo(_), Row::Extent(_)) => false,
         (Row::Todo(_), Row::List(_)) => false,
         (Row::Todo(_), Row::Share(_)) => false,
     }
 }
 
-fn is_at(kind: Kind, id: &Id, row: &Row) -> bool
+fn is_at(kind: Kind, id: &str, row: &Row) -> bool
     ensures { result ≡ bytes_eq (key_text (record { kind = kind; id = id.now })) (row_text row.now) }
 {
     row.kind() == kind && row.id() == id
 }
 
 // The row of this kind and id.
-fn row_at<'r>(rows: &'r [Row], kind: Kind, id: &Id) -> Option<&'r Row>
+fn row_at<'r>(rows: &'r [Row], kind: Kind, id: &str) -> Option<&'r Row>
     ensures { option_map (λ row. row.now) result ≡ row_at (key_text (record { kind = kind; id = id.now })) rows.now }
 {
     for row in rows {
@@ -72,7 +79,7 @@ fn row_at<'r>(rows: &'r [Row], kind: Kind, id: &Id) -> Option<&'r Row>
 }
 
 // Whether the row of this kind and id is there afterwards, and was not, or was another, before.
-fn is_written(kind: Kind, id: &Id, before: &[Row], after: &[Row]) -> bool
+fn is_written(kind: Kind, id: &str, before: &[Row], after: &[Row]) -> bool
     ensures { result ≡ is_written (key_text (record { kind = kind; id = id.now })) before.now after.now }
 {
     match row_at(after, kind, id) {
@@ -95,7 +102,7 @@ fn next_rows(alloc: Global, rows: &[Row], entry: &Entry) -> Result<Vec<Row>, Mem
 fn is_touched(
     alloc: Global,
     kind: Kind,
-    id: &Id,
+    id: &str,
     rows: &[Row],
     since: &[Entry],
 ) -> Result<bool, Memory>
@@ -137,23 +144,13 @@ fn is_news(
     is_touched(alloc, row.kind(), row.id(), rows, since)
 }
 
-// The key of a row.
-fn key_of(alloc: Global, row: &Row) -> Result<Key, Memory>
-    ensures { IfOk result (λ key. key ≡ row_key row.now) }
-{
-    Ok(Key {
-        kind: row.kind(),
-        id: row.id().copy(alloc)?,
-    })
-}
-
 // Adds a del of each row that is not among those that are seen now.
 fn add_dels(alloc: Global, ops: &mut Ops, base: &[Row], now: &[Row]) -> Result<(), Memory>
     ensures { OnOk result (ops.new ≡ ops.old ++ map (λ row. Del (row_key row)) (filter (is_absent now.now) base.now)) }
 {
     for row in base {
         if is_absent(now, row) {
-            ops.push(Op::Del(key_of(alloc, row)?))?;
+            ops.push(Op::Del(row.key(alloc)?))?;
         }
     }
     Ok(())

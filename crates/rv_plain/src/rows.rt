@@ -3,24 +3,25 @@ ghost use Rattle.std.specs.Prelude.{◌≡◌, IfOk, OnOk, map};
 ghost use Rattle.rv_base.specs.Sorted.{InOrder, put_by, IsPositionOf};
 ghost use Rattle.rv_rows.specs.Keys.{key_text, row_text, has_row, in_key_order};
 ghost use Rattle.rv_rows.specs.Sharing.{seen};
-ghost use Rattle.rv_rows.specs.Effects.{is_at, is_other, is_outside, may_change, is_unchanged, may_set_role, with_role, after_role, may_end, ends, sort_in, greatest_sort, next_sort, with_fields, after_update, effect};
+ghost use Rattle.rv_rows.specs.Effects.{is_at, is_other, is_outside, may_change, is_unchanged, may_set_role, with_role, after_role, may_end, ends, sort_in, greatest_sort, next_sort, with_fields, after_update, replaced, with_row, with_extent, effect};
 ghost use Rattle.rv_rows.specs.declared.call.Call.TheVariants.{CreateList, CreateShare, CreateTodo};
+ghost use Rattle.rv_rows.specs.declared.row.Row.TheVariants.{Extent};
 ghost use Rattle.std.specs.List.{filter, list_any};
 
 use crate::sharing::{has_share, may_edit, may_edit_list_of, owns_list, owns_list_of, sees_row};
 use rv_base::{Id, Memory, Num, Text, User};
-use rv_rows::{Call, Kind, ListRow, Role, Row, ShareRow, TodoRow};
+use rv_rows::{Call, ExtentRow, Kind, ListRow, Lists, Role, Row, ShareRow, TodoRow};
 use std::alloc::Global;
 
 /// Whether the row has the key of this kind and id.
-pub(crate) fn is_at(kind: Kind, id: &Id, row: &Row) -> bool
+pub(crate) fn is_at(kind: Kind, id: &str, row: &Row) -> bool
     ensures { result ≡ is_at kind id.now row.now }
 {
     row.kind() == kind && row.id() == id
 }
 
 /// Whether some row has the key of this kind and id.
-pub(crate) fn has_row(rows: &[Row], kind: Kind, id: &Id) -> bool
+pub(crate) fn has_row(rows: &[Row], kind: Kind, id: &str) -> bool
     ensures { result ≡ has_row (key_text (record { kind = kind; id = id.now })) rows.now }
 {
     rows.iter().any(|row| is_at(kind, id, row))
@@ -42,7 +43,7 @@ fn without_list(alloc: Global, rows: &[Row], list: &Id) -> Result<Vec<Row>, Memo
 
 // The rows but for the one of this key.
 #[tactic(auto, using(std::proofs::lemmas::List::Elements::filter_more))]
-fn without_row(alloc: Global, rows: &[Row], kind: Kind, id: &Id) -> Result<Vec<Row>, Memory>
+fn without_row(alloc: Global, rows: &[Row], kind: Kind, id: &str) -> Result<Vec<Row>, Memory>
     ensures { IfOk result (λ v. v.items ≡ filter (is_other kind id.now) rows.now) }
 {
     let mut kept = Vec::new(alloc);
@@ -59,7 +60,7 @@ fn without_row(alloc: Global, rows: &[Row], kind: Kind, id: &Id) -> Result<Vec<R
 fn may_change(user: &User, rows: &[Row], id: &Id, row: &Row) -> bool
     ensures { result ≡ may_change user.now rows.now id.now row.now }
 {
-    is_at(Kind::Todo, id, row) && may_edit_list_of(user, rows, row)
+    is_at(Kind::Todo, id.as_str(), row) && may_edit_list_of(user, rows, row)
 }
 
 // The rows but for this todo, where the user may edit its list.
@@ -81,6 +82,7 @@ fn may_end(user: &User, rows: &[Row], row: &Row) -> bool
     ensures { result ≡ may_end user.now rows.now row.now }
 {
     match row {
+        Row::Extent(_) => false,
         Row::List(_) => false,
         Row::Share(row) => owns_list(user, &row.list, rows) || row.user == *user,
         Row::Todo(_) => false,
@@ -91,7 +93,7 @@ fn may_end(user: &User, rows: &[Row], row: &Row) -> bool
 fn ends(user: &User, rows: &[Row], id: &Id, row: &Row) -> bool
     ensures { result ≡ ends user.now rows.now id.now row.now }
 {
-    is_at(Kind::Share, id, row) && may_end(user, rows, row)
+    is_at(Kind::Share, id.as_str(), row) && may_end(user, rows, row)
 }
 
 fn ends_any(user: &User, rows: &[Row], id: &Id) -> bool
@@ -126,6 +128,7 @@ fn with_fields(
     ensures { IfOk result (λ new. new ≡ with_fields text.now complete sort row.now) }
 {
     match row {
+        Row::Extent(row) => Ok(Row::Extent(row.copy(alloc)?)),
         Row::List(row) => Ok(Row::List(row.copy(alloc)?)),
         Row::Share(row) => Ok(Row::Share(row.copy(alloc)?)),
         Row::Todo(row) => Ok(Row::Todo(row.with_fields(alloc, text, complete, sort)?)),
@@ -143,7 +146,7 @@ fn create_list(
 ) -> Result<Vec<Row>, Memory>
     ensures { IfOk result (λ new. new.items ≡ effect rows.items user.now (CreateList id.now name.now owner.now)) }
 {
-    if !has_row(&rows, Kind::List, id) && owner == user {
+    if !has_row(&rows, Kind::List, id.as_str()) && owner == user {
         rows.push(Row::List(ListRow {
             id: id.copy(alloc)?,
             name: name.copy(alloc)?,
@@ -166,7 +169,7 @@ fn create_share(
     ensures { IfOk result (λ new. new.items ≡ effect rows.items user.now (CreateShare id.now list.now other.now role)) }
 {
     if owns_list(user, list, &rows)
-        && !has_row(&rows, Kind::Share, id)
+        && !has_row(&rows, Kind::Share, id.as_str())
         && other != user
         && !has_share(other, list, &rows)
     {
@@ -185,7 +188,7 @@ fn create_share(
 fn may_set_role(user: &User, rows: &[Row], id: &Id, row: &Row) -> bool
     ensures { result ≡ may_set_role user.now rows.now id.now row.now }
 {
-    is_at(Kind::Share, id, row) && owns_list_of(user, rows, row)
+    is_at(Kind::Share, id.as_str(), row) && owns_list_of(user, rows, row)
 }
 
 // The row with the role, where it is a share.
@@ -193,6 +196,7 @@ fn with_role(alloc: Global, role: Role, row: &Row) -> Result<Row, Memory>
     ensures { IfOk result (λ new. new ≡ with_role role row.now) }
 {
     match row {
+        Row::Extent(row) => Ok(Row::Extent(row.copy(alloc)?)),
         Row::List(row) => Ok(Row::List(row.copy(alloc)?)),
         Row::Share(row) => Ok(Row::Share(row.with_role(alloc, role)?)),
         Row::Todo(row) => Ok(Row::Todo(row.copy(alloc)?)),
@@ -233,7 +237,7 @@ fn create_todo(
 ) -> Result<Vec<Row>, Memory>
     ensures { IfOk result (λ new. new.items ≡ effect rows.items user.now (CreateTodo id.now list.now text.now complete)) }
 {
-    if !has_row(&rows, Kind::Todo, id) && may_edit(user, list, &rows) {
+    if !has_row(&rows, Kind::Todo, id.as_str()) && may_edit(user, list, &rows) {
         let sort = TodoRow::sort_after(greatest_sort(list, &rows));
         rows.push(Row::Todo(TodoRow {
             id: id.copy(alloc)?,
@@ -270,6 +274,61 @@ fn update_todo(
     Ok(updated)
 }
 
+// The user's extent of these lists.
+fn extent_of(alloc: Global, user: &User, lists: &Lists) -> Result<Row, Memory>
+    ensures { IfOk result (λ row. row ≡ Extent (record { user = user.now; lists = lists.now })) }
+{
+    Ok(Row::Extent(ExtentRow {
+        user: user.copy(alloc)?,
+        lists: lists.copy(alloc)?,
+    }))
+}
+
+// The rows with the new one in the place of the one that has its key.
+#[tactic(auto, using(std::proofs::lemmas::List::map_more))]
+fn replaced(alloc: Global, rows: &[Row], new: &Row) -> Result<Vec<Row>, Memory>
+    ensures { IfOk result (λ v. v.items ≡ map (replaced new.now) rows.now) }
+{
+    let mut changed = Vec::new(alloc);
+    for row in rows {
+        if is_at(new.kind(), new.id(), row) {
+            changed.push(new.copy(alloc)?)?;
+        } else {
+            changed.push(row.copy(alloc)?)?;
+        }
+    }
+    Ok(changed)
+}
+
+// The rows with the new one: in the place of the one that has its key, and at the end where none has it.
+fn with_row(alloc: Global, mut rows: Vec<Row>, new: Row) -> Result<Vec<Row>, Memory>
+    ensures { IfOk result (λ v. v.items ≡ with_row new rows.items) }
+{
+    if has_row(&rows, new.kind(), new.id()) {
+        return replaced(alloc, &rows, &new);
+    }
+    rows.push(new)?;
+    Ok(rows)
+}
+
+// The rows with the user's extent of these lists, or with none.
+fn with_extent(
+    alloc: Global,
+    rows: Vec<Row>,
+    user: &User,
+    lists: &Option<Lists>,
+) -> Result<Vec<Row>, Memory>
+    ensures { IfOk result (λ v. v.items ≡ with_extent user.now lists.now rows.items) }
+{
+    match lists {
+        Some(lists) => {
+            let new = extent_of(alloc, user, lists)?;
+            with_row(alloc, rows, new)
+        }
+        None => without_row(alloc, &rows, Kind::Extent, user.as_str()),
+    }
+}
+
 /// The rows after a call of the user.
 pub(crate) fn effect(
     alloc: Global,
@@ -297,7 +356,7 @@ pub(crate) fn effect(
         Call::UpdateShare { id, role } => update_share(alloc, &rows, user, id, *role),
         Call::DeleteShare { id } => {
             if ends_any(user, &rows, id) {
-                without_row(alloc, &rows, Kind::Share, id)
+                without_row(alloc, &rows, Kind::Share, id.as_str())
             } else {
                 Ok(rows)
             }
@@ -315,6 +374,7 @@ pub(crate) fn effect(
             sort,
         } => update_todo(alloc, &rows, user, id, text, *complete, *sort),
         Call::DeleteTodo { id } => without_todo(alloc, &rows, user, id),
+        Call::SetExtent { lists } => with_extent(alloc, rows, user, lists),
         Call::Void(_) => Ok(rows),
     }
 }

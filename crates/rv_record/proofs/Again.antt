@@ -14,7 +14,7 @@ use Rattle.rv_rows.proofs.RowLaws.{row_takes, row_again}
 use Rattle.rv_record.specs.CellTexts.{row_body, client_body, group_body, row_cell_on, client_cell_on, group_cell_on, page_cell}
 use Rattle.rv_record.specs.CellReading.{ClientFits, GroupFits, client_in_cell, group_in_cell, page_in_cell, PageFits}
 use Rattle.rv_record.specs.RowReading.{HasTexts, RowFits, row_cell_in}
-use Rattle.rv_record.specs.ReadBack.{IsPlain, json_again}
+use Rattle.rv_record.specs.ReadBack.{IsPlain, json_again, ids_plain}
 use Rattle.rv_record.specs.ReadTexts.{within_again, text_again, num_again, place_again, num_plain, place_plain}
 
 pub client_again : (shelf : ℕ) (c : List ℕ × List ℕ × ℕ) → ClientFits c → client_in_cell (client_cell_on shelf c.0 c.1 c.2) ≡ Some c
@@ -43,10 +43,11 @@ share_plain id list user roles.View n i l u = (
 share_plain id list user roles.Edit n i l u =
     ((IsUtf8-are_ascii (codes "id") refl, i, (IsUtf8-are_ascii (codes "listID") refl, l, (IsUtf8-are_ascii (codes "userID") refl, u, tt))), refl)
 
-row_plain : (r : Row) (n : ℕ) → RowIsWithin r → HasTexts r → IsPlain (row_data r) (suc n)
+row_plain : (r : Row) (n : ℕ) → RowIsWithin r → HasTexts r → IsPlain (row_data r) (suc (suc n))
+row_plain (variants.Extent r) n fits texts = ((IsUtf8-are_ascii (codes "lists") refl, ids_plain r.lists n texts.1, (IsUtf8-are_ascii (codes "user") refl, texts.0, tt)), refl)
 row_plain (variants.List r) n fits texts =
     ((IsUtf8-are_ascii (codes "id") refl, texts.0, (IsUtf8-are_ascii (codes "name") refl, texts.1, (IsUtf8-are_ascii (codes "ownerID") refl, texts.2, tt))), refl)
-row_plain (variants.Share r) n fits texts = share_plain r.id r.list r.user r.role n texts.0 texts.1 texts.2
+row_plain (variants.Share r) n fits texts = share_plain r.id r.list r.user r.role (suc n) texts.0 texts.1 texts.2
 row_plain (variants.Todo r) n fits texts = (
   (
     IsUtf8-are_ascii (codes "complete") refl,
@@ -59,7 +60,7 @@ row_plain (variants.Todo r) n fits texts = (
 pub row_cell_again : (shelf : ℕ) (r : Row × ℕ) → RowFits r → row_cell_in (row_cell_on shelf r.0 r.1) ≡ Some r
 unfolding row_cell_in
 row_cell_again shelf r fits =
-    rw (json_again (row_body r.0 r.1) (place_plain r.1 fits.2, (row_plain r.0 125 fits.0 fits.1, tt)), place_again r.1 fits.2, row_again r.0 fits.0) refl
+    rw (json_again (row_body r.0 r.1) (place_plain r.1 fits.2, (row_plain r.0 124 fits.0 fits.1, tt)), place_again r.1 fits.2, row_again r.0 fits.0) refl
 
 -- what a reader of rows gives that is exact
 only_none : (d : Data) (o : Option Row) → ((r : Row) → RowIsWithin r → d ≡ row_data r → None ≡ Some r) → row_in d ≡ o → None ≡ o

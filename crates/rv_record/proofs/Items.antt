@@ -1,47 +1,11 @@
--- Reading an array item by item, as a loop does, and neighbours in order.
-use Rattle.std.proofs.Common.{◌≡◌, ℕ, zero, suc, ◌+◌, ◌-◌, ◌<◌, ◌≤◌, ◌&&◌, List, [], ◌∷◌, ◌++◌, length, get_or, drop, Bool, true, false, Option, option_map, Ordering, refl, sym, ap, ◌∙◌, subst, arith}
-use Rattle.std.specs.declared.cmp.Ordering.TheVariants.{Less}
-use Rattle.std.specs.Cmp.Lexicographic.{slice_cmp}
-use Rattle.std.specs.Ordering.{nat_cmp, match_ordering}
+-- Reading an array item by item, as a loop does.
+use Rattle.std.proofs.Common.{◌≡◌, List, ◌++◌, Option, option_map}
 use Rattle.serde_json.specs.Data.{Data}
 use Rattle.serde_json.specs.View.{items_view}
 use Rattle.serde_json.specs.declared.value.Value.{Value}
-use Rattle.rv_record.specs.ViewReading.{each_item, is_below, is_in_order}
+use Rattle.rv_rows.specs.Members.{each_item}
 
 module _ {X : Type 0} (read : Data → Option X) where
   -- what is read is what was read, and then what the values that are left are read as
   abbrev pub Goes : List X → List Value → Option (List X) → Type 0
   Goes out left whole = whole ≡ option_map (λ (rest : List X). out ++ rest) (each_item read (items_view left))
-
--- whether the neighbours from a place on are in order
-module _ {X : Type 0} (key : X → List ℕ) where
-  next_pair : (xs : List X) (k : ℕ) (d e : X) → suc k < length xs → is_in_order key (drop k xs) ≡ (is_below key (get_or xs k d) (get_or xs (suc k) e) && is_in_order key (drop (suc k) xs))
-  next_pair [] k d e lt = absurd (omega arith)
-  next_pair (x ∷ []) k d e lt = absurd (omega arith)
-  next_pair (x ∷ y ∷ ys) zero d e lt = refl
-  next_pair (x ∷ y ∷ ys) (suc k) d e lt = next_pair (y ∷ ys) k d e (omega arith)
-
-  last_one : (xs : List X) (k : ℕ) → length xs ≤ suc k → is_in_order key (drop k xs) ≡ true
-  last_one [] zero le = refl
-  last_one [] (suc k) le = refl
-  last_one (x ∷ []) zero le = refl
-  last_one (x ∷ []) (suc k) le = last_one [] k (omega arith)
-  last_one (x ∷ y ∷ ys) zero le = absurd (omega arith)
-  last_one (x ∷ y ∷ ys) (suc k) le = last_one (y ∷ ys) k (omega arith)
-
-  -- a neighbour that is above the one before
-  pub stays_in_order : (xs : List X) (i : ℕ) (d e : X) (whole : Bool) → 1 ≤ i → i < length xs → whole ≡ is_in_order key (drop (i - 1) xs) → Less ≡ slice_cmp nat_cmp (key (get_or xs (i - 1) d)) (key (get_or xs i e)) → whole ≡ is_in_order key (drop (i + 1 - 1) xs)
-  stays_in_order xs zero d e whole low lt so_far below = absurd (omega arith)
-  stays_in_order xs (suc k) d e whole low lt so_far below =
-      let before : suc k - 1 ≡ k = omega arith in
-      let after : suc k + 1 - 1 ≡ suc k = omega arith in
-      let less : Less ≡ slice_cmp nat_cmp (key (get_or xs k d)) (key (get_or xs (suc k) e)) = subst (λ (j : ℕ). Less ≡ slice_cmp nat_cmp (key (get_or xs j d)) (key (get_or xs (suc k) e))) before below in
-      so_far ∙ ap (λ (j : ℕ). is_in_order key (drop j xs)) before ∙ next_pair xs k d e lt
-      ∙ ap (λ (o : Ordering). match_ordering o true false false && is_in_order key (drop (suc k) xs)) (sym less) ∙ ap (λ (j : ℕ). is_in_order key (drop j xs)) (sym after)
-
-  -- no neighbour is left
-  pub was_in_order : (xs : List X) (i : ℕ) (whole : Bool) → 1 ≤ i → length xs ≤ i → whole ≡ is_in_order key (drop (i - 1) xs) → true ≡ whole
-  was_in_order xs zero whole low le so_far = absurd (omega arith)
-  was_in_order xs (suc k) whole low le so_far =
-      let before : suc k - 1 ≡ k = omega arith in
-      sym (so_far ∙ ap (λ (j : ℕ). is_in_order key (drop j xs)) before ∙ last_one xs k le)

@@ -1,18 +1,15 @@
 -- What the cell of a kept view record is made of is found in it.
-use Rattle.std.proofs.Common.{◌≡◌, ℕ, suc, Bool, true, false, List, [], ◌∷◌, ◌++◌, map, Option, Some, None, codes, IsUtf8, refl, sym, ap, ◌∙◌, subst, Ordering}
+use Rattle.std.proofs.Common.{◌≡◌, ℕ, suc, Bool, true, false, List, [], ◌∷◌, ◌++◌, map, Option, Some, None, codes, IsUtf8, refl, sym, ap, ◌∙◌, subst}
 use Rattle.std.specs.List.{AllByRecursion}
-use Rattle.std.specs.declared.cmp.Ordering.TheVariants.{Less, Equal, Greater}
-use Rattle.std.specs.Cmp.Lexicographic.{slice_cmp}
-use Rattle.std.specs.Ordering.{nat_cmp, match_ordering}
-use Rattle.std.proofs.lemmas.Bool.{and_parts}
 use Rattle.std.proofs.lemmas.Option.{none-some, same_Some}
 use Rattle.std.proofs.lemmas.Str.{IsUtf8-append}
 use Rattle.json.proofs.Printed.Utf8.{IsUtf8-are_ascii}
 use Rattle.serde_json.specs.Data.{Data}
 use Rattle.serde_json.specs.View.{items_of}
 use Rattle.serde_json.specs.Written.{compact_text}
-use Rattle.rv_base.specs.Positions.{Below, above_chain}
-use Rattle.rv_base.specs.Sorted.{InOrder}
+use Rattle.rv_base.specs.Sorted.{InOrder, is_in_order}
+use Rattle.rv_base.specs.RisingLaws.{order_is, in_order-from_test}
+use Rattle.rv_rows.specs.Members.{each_item}
 use Rattle.rv_keeper.specs.declared.cell.Cell.{Cell}
 use Rattle.rv_rows.specs.Keys.{prefix}
 use Rattle.rv_rows.specs.declared.key.Key.{Key}
@@ -22,17 +19,19 @@ use Rattle.rv_views.specs.Viewed.{Viewed, AreSeen, AreClients, seen_key, client_
 use Rattle.rv_record.specs.CellTexts.{ten_digits, seen_data, client_data, view_body, view_cell}
 use Rattle.rv_record.specs.CellReading.{IsText, IsOfNone}
 use Rattle.rv_record.specs.EntryReading.{IsPlace}
-use Rattle.rv_record.specs.ViewReading.{SeenFits, PairFits, ViewFits, key_in, seen_in, pair_in, each_item, is_below, rises_from, is_in_order, viewed, view_in, body_view}
+use Rattle.rv_record.specs.ViewReading.{SeenFits, PairFits, ViewFits, key_in, seen_in, pair_in, viewed, view_in, body_view}
 use Rattle.rv_record.specs.ReadBack.{IsPlain, ArePlain, json_again}
 use Rattle.rv_record.specs.ReadTexts.{within_again, text_again, num_again, place_again, num_plain, place_plain}
 
 prefix_valid : (kind : Kind) → IsUtf8 (prefix kind)
+prefix_valid kinds.Extent = IsUtf8-are_ascii (codes "extent/") refl
 prefix_valid kinds.List = IsUtf8-are_ascii (codes "list/") refl
 prefix_valid kinds.Share = IsUtf8-are_ascii (codes "share/") refl
 prefix_valid kinds.Todo = IsUtf8-are_ascii (codes "todo/") refl
 
 key_again : (kind : Kind) (id : List ℕ) → IsText 1 128 id → key_in (prefix kind ++ id) ≡ Some (record { kind = kind; id = id })
 unfolding key_in
+key_again kinds.Extent id fits = rw (text_again 1 128 id fits.0 fits.1) refl
 key_again kinds.List id fits = rw (text_again 1 128 id fits.0 fits.1) refl
 key_again kinds.Share id fits = rw (text_again 1 128 id fits.0 fits.1) refl
 key_again kinds.Todo id fits = rw (text_again 1 128 id fits.0 fits.1) refl
@@ -59,33 +58,6 @@ module _ {X : Type 0} (of_item : X → Data) (Fits : X → Type 0) where
   all_plain : (n : ℕ) → ((x : X) → Fits x → IsPlain (of_item x) n) → (xs : List X) → AllByRecursion Fits xs → ArePlain (items_of (map of_item xs)) n
   all_plain n plain [] all = tt
   all_plain n plain (x ∷ xs) all = (plain x all.0, all_plain n plain xs all.1)
-
--- the test of an order and the order
-below-is : (o : Ordering) → match_ordering o true false false ≡ true → o ≡ Less
-below-is Less e = refl
-below-is Equal e = absurd cc
-below-is Greater e = absurd cc
-
-module _ {X : Type 0} (key : X → List ℕ) where
-  order_rises : (x : X) (xs : List X) → InOrder key (x ∷ xs) → rises_from key x xs ≡ true
-  order_rises x [] h = refl
-  order_rises x (y ∷ ys) h = rw (h.0.0, order_rises y ys h.1) refl
-
-  order_is : (xs : List X) → InOrder key xs → is_in_order key xs ≡ true
-  order_is [] h = refl
-  order_is (x ∷ xs) h = order_rises x xs h
-
-  rises_order : (x : X) (xs : List X) → rises_from key x xs ≡ true → InOrder key (x ∷ xs)
-  rises_order x [] e = (tt, tt)
-  rises_order x (y ∷ ys) e =
-      let parts = and_parts (is_below key x y) (rises_from key y ys) e in
-      let low : Below (key x) (key y) = below-is (slice_cmp nat_cmp (key x) (key y)) parts.0 in
-      let later = rises_order y ys parts.1 in
-      ((low, above_chain key (key x) (key y) ys low later.0), later)
-
-  in_order-from_test : (xs : List X) → is_in_order key xs ≡ true → InOrder key xs
-  in_order-from_test [] e = tt
-  in_order-from_test (x ∷ xs) e = rises_order x xs e
 
 -- a list that was tested and moved
 pub tested_order : {X : Type 0} (key : X → List ℕ) (xs ys zs : List X) (r : Bool) → ys ≡ xs → zs ≡ xs → r ≡ is_in_order key ys → r ≡ true → InOrder key zs

@@ -1,6 +1,6 @@
 -- The cells of a book. A cell's body is the compact text of a JSON value; another spelling of the same value is no cell.
 --   shelf 1, key PLACE: an entry
---   shelf 2, key `list/ID`, `share/ID` or `todo/ID`: [VERSION,ROW]
+--   shelf 2, key `extent/USER`, `list/ID`, `share/ID` or `todo/ID`: [VERSION,ROW]
 --   shelf 3, key CLIENT: [GROUP,LAST], of a client with an act
 --   shelf 4, key GROUP: [USER,LASTORDER,RETIRED], of a group that an act or a look names; LASTORDER is 0 before the first look
 --   shelf 5, key PLACE: [[[KEY,VERSION],..],[[CLIENT,LAST],..]], of a kept look: what the user saw and the group's clients

@@ -1,14 +1,17 @@
 -- What the body of an entry's cell is read as. Items after those that are named are not looked at here: the reader makes
 -- the cell anew and compares.
 use Rattle.std.specs.Prelude.{ℕ, ◌<◌, ◌≤◌, ◌^◌, List, Option, Some, None, codes, option_and_then, option_map, if◌then◌else◌}
-use Rattle.std.specs.Str.{bytes_eq}
+use Rattle.std.specs.Str.{IsUtf8, bytes_eq}
 use Rattle.serde_json.specs.Data.{Data}
 use Rattle.serde_json.specs.Find.{at, as_bool}
 use Rattle.rv_base.specs.Options.{◌>>=◌}
-use Rattle.rv_rows.specs.Members.{text_in, num_in, role_or_edit}
+use Rattle.std.specs.List.{AllByRecursion}
+use Rattle.rv_base.specs.Texts.{IsWithin}
+use Rattle.rv_rows.specs.Extents.{AreLists}
+use Rattle.rv_rows.specs.Members.{text_in, num_in, lists_in, role_or_edit}
 use Rattle.rv_rows.specs.JsonTexts.{json_in}
 use Rattle.rv_rows.specs.declared.call.Call.{Call}
-use Rattle.rv_rows.specs.declared.call.Call.TheVariants.{CreateList, DeleteList, CreateShare, UpdateShare, DeleteShare, CreateTodo, UpdateTodo, DeleteTodo, Void}
+use Rattle.rv_rows.specs.declared.call.Call.TheVariants.{CreateList, DeleteList, CreateShare, UpdateShare, DeleteShare, CreateTodo, UpdateTodo, DeleteTodo, SetExtent, Void}
 use Rattle.rv_rows.specs.declared.call.Reason.TheVariants.{UnknownName, BadArgs}
 use Rattle.rv_book.specs.declared.entry.Entry.{Entry}
 use Rattle.rv_book.specs.declared.entry.Entry.TheVariants.{Act, Look, Retire}
@@ -24,6 +27,10 @@ abbrev pub IfThere : {X : Type 0} → (X → Type 0) → Option X → Type 0
 IfThere P None = Unit {0}
 IfThere P (Some x) = P x
 
+-- an extent's lists, whose ids are UTF-8
+abbrev pub ListsFit : List (List ℕ) → Type 0
+ListsFit lists = AllByRecursion (IsWithin 1 128) lists × AllByRecursion IsUtf8 lists × AreLists lists
+
 abbrev pub CallFits : Call → Type 0
 CallFits (CreateList id name owner) = IsText 1 128 id × IsText 0 16384 name × IsText 1 64 owner
 CallFits (DeleteList id) = IsText 1 128 id
@@ -33,6 +40,7 @@ CallFits (DeleteShare id) = IsText 1 128 id
 CallFits (CreateTodo id list text complete) = IsText 1 128 id × IsText 1 128 list × IsText 0 16384 text
 CallFits (UpdateTodo id text complete sort) = IsText 1 128 id × IfThere (IsText 0 16384) text × IfThere (λ n. n < 2 ^ 53) sort
 CallFits (DeleteTodo id) = IsText 1 128 id
+CallFits (SetExtent lists) = IfThere ListsFit lists
 CallFits (Void reason) = Unit {0}
 
 abbrev pub EntryFits : Entry → Type 0
@@ -83,6 +91,12 @@ stored_update_todo_in value = do
   sort ← option_and_then (or_null num_in) (at 4 value)
   Some (UpdateTodo id text complete sort)
 
+-- ["setExtent",null] or ["setExtent",[ID,..]]
+unfoldable pub stored_set_extent_in : Data → Option Call
+stored_set_extent_in value = do
+  lists ← option_and_then (or_null lists_in) (at 1 value)
+  Some (SetExtent lists)
+
 -- a void call, by the text of its reason
 abbrev pub void_with : List ℕ → Option Call
 void_with reason =
@@ -101,6 +115,7 @@ stored_call_with name value =
     else if bytes_eq name (codes "createTodo") then stored_create_todo_in value
     else if bytes_eq name (codes "updateTodo") then stored_update_todo_in value
     else if bytes_eq name (codes "deleteTodo") then option_map (λ id. DeleteTodo id) (text_item 1 128 1 value)
+    else if bytes_eq name (codes "setExtent") then stored_set_extent_in value
     else if bytes_eq name (codes "void") then option_and_then void_with (string_item 1 value)
     else None
 

@@ -1,7 +1,8 @@
 -- The compact text of a value is read as that value, where its numbers fit 64 bits, its texts are UTF-8, the members of
 -- its objects stand in order, and it nests no deeper than the reader goes.
 use Rattle.std.proofs.Common.{◌≡◌, ℕ, zero, suc, ◌^◌, ◌<◌, ◌≤◌, Bool, true, false, List, [], ◌∷◌, Some, option_and_then, IsUtf8, decimal, refl, sym, ap, ◌∙◌, arith, append-nil}
-use Rattle.std.specs.Prelude.{⊤}
+use Rattle.std.specs.Prelude.{⊤, map}
+use Rattle.std.specs.List.{AllByRecursion}
 use Rattle.std.proofs.lemmas.Fmt.{IsAscii-decimal}
 use Rattle.std.proofs.lemmas.Str.{IsUtf8-append, IsUtf8-nil, IsUtf8-from_ascii}
 use Rattle.json.specs.Token.{Token}
@@ -17,7 +18,9 @@ use Rattle.serde_json.specs.Read.{of_json, of_items, of_members, max_depth, read
 use Rattle.serde_json.specs.Written.{outline, items_outline, members_outline, comma_if, compact_text, items_text, members_text}
 use Rattle.serde_json.proofs.Numbers.{number_of-decimal}
 use Rattle.serde_json.proofs.Texts.{print-outline}
+use Rattle.serde_json.specs.View.{items_of}
 use Rattle.rv_rows.specs.JsonTexts.{json_in, json_some}
+use Rattle.rv_rows.specs.RowTexts.{ids_data}
 
 -- the members put in one after another
 abbrev pub put_all : Members → Members → Members
@@ -147,3 +150,11 @@ read-compact d h =
 
 pub json_again : (d : Data) → IsPlain d max_depth → json_in (compact_text d) ≡ Some d
 json_again d h = json_some (compact_text d) d (IsUtf8-compact d max_depth h) (read-compact d h)
+
+-- ids that are UTF-8
+pub ids_plain : (ids : List (List ℕ)) (n : ℕ) → AllByRecursion IsUtf8 ids → IsPlain (ids_data ids) (suc n)
+ids_plain ids n all = each ids all
+  where
+    each : (ids : List (List ℕ)) → AllByRecursion IsUtf8 ids → ArePlain (items_of (map (λ id. string id) ids)) n
+    each [] all = tt
+    each (id ∷ ids) all = (all.0, each ids all.1)

@@ -1,5 +1,6 @@
 -- What the cell of a row is read as.
 use Rattle.std.specs.Prelude.{ℕ, ◌<◌, ◌^◌, Option, Some}
+use Rattle.std.specs.List.{AllByRecursion}
 use Rattle.std.specs.Str.{IsUtf8}
 use Rattle.serde_json.specs.Find.{at}
 use Rattle.rv_base.specs.Options.{◌>>=◌}
@@ -12,6 +13,7 @@ use Rattle.rv_record.specs.ValueReading.{place_item}
 
 -- the row's texts are UTF-8
 abbrev pub HasTexts : Row → Type 0
+HasTexts (variants.Extent row) = IsUtf8 row.user × AllByRecursion IsUtf8 row.lists
 HasTexts (variants.List row) = IsUtf8 row.id × IsUtf8 row.name × IsUtf8 row.owner
 HasTexts (variants.Share row) = IsUtf8 row.id × IsUtf8 row.list × IsUtf8 row.user
 HasTexts (variants.Todo row) = IsUtf8 row.id × IsUtf8 row.list × IsUtf8 row.text

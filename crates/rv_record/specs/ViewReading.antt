@@ -1,13 +1,13 @@
 -- What the body of a kept view record's cell is read as.
-use Rattle.std.specs.Prelude.{ℕ, ◌<◌, ◌^◌, ◌&&◌, List, [], ◌∷◌, length, take, drop, Bool, true, false, Option, Some, None, option_map, option_and_then, if◌then◌else◌}
-use Rattle.std.specs.Cmp.Lexicographic.{slice_cmp}
+use Rattle.std.specs.Prelude.{ℕ, ◌<◌, ◌^◌, ◌&&◌, List, length, take, drop, Option, Some, None, option_map, option_and_then, if◌then◌else◌}
 use Rattle.std.specs.List.{AllByRecursion}
-use Rattle.std.specs.Ordering.{nat_cmp, match_ordering}
 use Rattle.std.specs.Str.{bytes_eq}
-use Rattle.serde_json.specs.Data.{Data, Items, no_items, item}
+use Rattle.serde_json.specs.Data.{Data}
 use Rattle.serde_json.specs.Find.{at, as_array}
 use Rattle.rv_base.specs.Options.{◌>>=◌}
+use Rattle.rv_base.specs.Sorted.{is_in_order}
 use Rattle.rv_rows.specs.Keys.{prefix}
+use Rattle.rv_rows.specs.Members.{each_item}
 use Rattle.rv_rows.specs.JsonTexts.{json_in}
 use Rattle.rv_rows.specs.declared.key.Key.{Key}
 use Rattle.rv_rows.specs.declared.key.Kind.{Kind}
@@ -40,12 +40,13 @@ abbrev pub with_front : Option (List ℕ) → Kind → Option Key → Option Key
 with_front (Some bytes) kind other = key_with kind bytes
 with_front None kind other = other
 
--- the key of a text: `list/ID`, `share/ID` or `todo/ID`
+-- the key of a text: `extent/USER`, `list/ID`, `share/ID` or `todo/ID`
 unfoldable pub key_in : List ℕ → Option Key
 key_in text =
-    with_front (after_front (prefix kinds.List) text) kinds.List
+    with_front (after_front (prefix kinds.Extent) text) kinds.Extent
+    (with_front (after_front (prefix kinds.List) text) kinds.List
     (with_front (after_front (prefix kinds.Share) text) kinds.Share
-    (with_front (after_front (prefix kinds.Todo) text) kinds.Todo None))
+    (with_front (after_front (prefix kinds.Todo) text) kinds.Todo None)))
 
 unfoldable pub seen_in : Data → Option (Key × ℕ)
 seen_in value = do
@@ -60,27 +61,9 @@ pair_in value = do
   last ← num_item 1 value
   Some (client, last)
 
--- what each item is read as, where each is read
-abbrev pub each_item : {X : Type 0} → (Data → Option X) → Items → Option (List X)
-each_item read no_items = Some []
-each_item read (item value values) = read value >>= λ x. each_item read values >>= λ xs. Some (x ∷ xs)
-
--- the same of the array at a place
+-- what each item of the array at a place is read as, where each is read
 abbrev pub each_of : {X : Type 0} → (Data → Option X) → ℕ → Data → Option (List X)
 each_of read place value = option_and_then (each_item read) (option_and_then as_array (at place value))
-
--- each key is below the next
-module _ {X : Type 0} (key : X → List ℕ) where
-  abbrev pub is_below : X → X → Bool
-  is_below x y = match_ordering (slice_cmp nat_cmp (key x) (key y)) true false false
-
-  abbrev pub rises_from : X → List X → Bool
-  rises_from x [] = true
-  rises_from x (y ∷ ys) = is_below x y && rises_from y ys
-
-  abbrev pub is_in_order : List X → Bool
-  is_in_order [] = true
-  is_in_order (x ∷ xs) = rises_from x xs
 
 -- the record of two lists, where they are in order
 abbrev pub viewed : List (Key × ℕ) → List (List ℕ × ℕ) → Option Viewed

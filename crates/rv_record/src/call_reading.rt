@@ -1,13 +1,13 @@
 ghost use Rattle.std.specs.Prelude.{◌≡◌, IfOk, option_and_then};
 ghost use Rattle.serde_json.specs.Find.{at, as_bool};
 ghost use Rattle.serde_json.specs.View.{view};
-ghost use Rattle.rv_rows.specs.Members.{text_in, num_in};
+ghost use Rattle.rv_rows.specs.Members.{text_in, num_in, lists_in};
 ghost use Rattle.rv_record.specs.ValueReading.{or_null, text_item};
-ghost use Rattle.rv_record.specs.EntryReading.{stored_create_list_in, stored_create_share_in, stored_update_share_in, stored_create_todo_in, stored_update_todo_in, void_with, stored_call_with, stored_call_in};
+ghost use Rattle.rv_record.specs.EntryReading.{stored_create_list_in, stored_create_share_in, stored_update_share_in, stored_create_todo_in, stored_update_todo_in, stored_set_extent_in, void_with, stored_call_with, stored_call_in};
 
 use crate::value_reading::{flag_item, role_item, string_item, text_item};
 use rv_base::{Id, Memory, Num, Text};
-use rv_rows::{Call, Reason, num_of_value, role_or_edit, text_of_value};
+use rv_rows::{Call, Lists, Reason, lists_of_value, num_of_value, role_or_edit, text_of_value};
 use serde_json::Value;
 use std::alloc::Global;
 
@@ -156,6 +156,36 @@ fn update_todo(alloc: Global, value: &Value) -> Result<Option<Call>, Memory>
     }))
 }
 
+// The lists at a place, or that there are none; `None` where it is neither null nor an extent's lists.
+fn lists_or_null(
+    alloc: Global,
+    value: &Value,
+    place: usize,
+) -> Result<Option<Option<Lists>>, Memory>
+    ensures { IfOk result (λ o. o ≡ option_and_then (or_null lists_in) (at place (view value.now))) }
+{
+    let Some(item) = value.get(place) else {
+        return Ok(None);
+    };
+    if item.is_null() {
+        return Ok(Some(None));
+    }
+    match lists_of_value(alloc, item)? {
+        Some(lists) => Ok(Some(Some(lists))),
+        None => Ok(None),
+    }
+}
+
+#[tactic(auto, unfolding(crate::specs::EntryReading::stored_set_extent_in))]
+fn set_extent(alloc: Global, value: &Value) -> Result<Option<Call>, Memory>
+    ensures { IfOk result (λ o. o ≡ stored_set_extent_in (view value.now)) }
+{
+    let Some(lists) = lists_or_null(alloc, value, 1)? else {
+        return Ok(None);
+    };
+    Ok(Some(Call::SetExtent { lists }))
+}
+
 fn void_with(reason: &str) -> Option<Call>
     ensures { result ≡ void_with reason.now }
 {
@@ -179,6 +209,7 @@ fn stored_call_with(alloc: Global, name: &str, value: &Value) -> Result<Option<C
         "createTodo" => create_todo(alloc, value),
         "updateTodo" => update_todo(alloc, value),
         "deleteTodo" => Ok(id_of(alloc, value)?.map(|id| Call::DeleteTodo { id })),
+        "setExtent" => set_extent(alloc, value),
         "void" => Ok(string_item(value, 1).and_then(void_with)),
         _ => Ok(None),
     }

@@ -1,11 +1,13 @@
 ghost use Rattle.std.specs.Prelude.{◌≡◌, ◌≤◌, IfOk, option_map, option_and_then};
 ghost use Rattle.serde_json.specs.Find.{at, as_array};
 ghost use Rattle.serde_json.specs.View.{view, items_view};
+ghost use Rattle.rv_base.specs.Sorted.{is_in_order};
 ghost use Rattle.rv_rows.specs.Keys.{prefix};
+ghost use Rattle.rv_rows.specs.Members.{each_item};
 ghost use Rattle.rv_views.specs.Viewed.{seen_key, client_of_pair};
 ghost use Rattle.rv_record.specs.CellTexts.{view_cell};
 ghost use Rattle.rv_record.specs.CellReading.{ReadsCell};
-ghost use Rattle.rv_record.specs.ViewReading.{ViewFits, after_front, key_with, key_in, seen_in, pair_in, each_item, each_of, is_in_order, viewed, view_in, body_view};
+ghost use Rattle.rv_record.specs.ViewReading.{ViewFits, after_front, key_with, key_in, seen_in, pair_in, each_of, viewed, view_in, body_view};
 
 use crate::cells::{cell_of_view, is_same};
 use crate::fault::{CellFault, damaged};
@@ -36,11 +38,14 @@ fn key_with(alloc: Global, kind: Kind, bytes: &[u8]) -> Result<Option<Key>, Memo
     }
 }
 
-// The key of a text: `list/ID`, `share/ID` or `todo/ID`.
+// The key of a text: `extent/USER`, `list/ID`, `share/ID` or `todo/ID`.
 #[tactic(auto, unfolding(crate::specs::ViewReading::key_in))]
 fn key_of_text(alloc: Global, text: &[u8]) -> Result<Option<Key>, Memory>
     ensures { IfOk result (λ o. o ≡ key_in text.now) }
 {
+    if let Some(id) = after_front(Kind::Extent, text) {
+        return key_with(alloc, Kind::Extent, id);
+    }
     if let Some(id) = after_front(Kind::List, text) {
         return key_with(alloc, Kind::List, id);
     }

@@ -19,7 +19,7 @@ fn write_seen(
 ) -> Result<(), Memory>
     ensures { AddsValue result out.old out.new (seen_data (key.now, version)) }
 {
-    key.kind.put_key_text(key_text, &key.id)?;
+    key.kind.put_key_text(key_text, key.id.as_str())?;
     write_pair(out, key_text.as_str(), u64::from(version))
 }
 

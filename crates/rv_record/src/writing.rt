@@ -9,13 +9,13 @@ ghost use Rattle.serde_json.specs.Written.{items_outline};
 ghost use Rattle.rv_rows.specs.declared.call.Call.TheVariants as calls;
 ghost use Rattle.rv_rows.specs.Additions.{AddsValue, AddsTokens};
 ghost use Rattle.rv_book.specs.declared.entry.Entry.TheVariants as entries;
-ghost use Rattle.rv_record.specs.CallTexts.{array_of, text_or_null, flag_or_null, number_or_null, reason_text, role_items, call_data};
+ghost use Rattle.rv_record.specs.CallTexts.{array_of, text_or_null, flag_or_null, number_or_null, lists_or_null, reason_text, role_items, call_data};
 ghost use Rattle.rv_record.specs.EntryTexts.{entry_data};
 ghost use Rattle.rv_record.specs.CellTexts.{row_body, group_body};
 
 use json::Writer;
 use rv_base::{Id, Memory, Num, Text, User};
-use rv_rows::{Call, Reason, Role, Row, write_row};
+use rv_rows::{Call, Lists, Reason, Role, Row, write_ids, write_row};
 
 // Writes a text, or null where there is none.
 fn write_text_or_null(out: &mut Writer, text: &Option<Text>) -> Result<(), Memory>
@@ -169,6 +169,26 @@ fn write_removal(out: &mut Writer, name: &str, id: &Id) -> Result<(), Memory>
     Ok(())
 }
 
+// Writes an extent's lists, or null where there are none.
+fn write_lists_or_null(out: &mut Writer, lists: &Option<Lists>) -> Result<(), Memory>
+    ensures { AddsValue result out.old out.new (lists_or_null lists.now) }
+{
+    match lists {
+        Some(lists) => write_ids(out, lists.as_slice()),
+        None => Ok(out.null()?),
+    }
+}
+
+fn write_set_extent(out: &mut Writer, lists: &Option<Lists>) -> Result<(), Memory>
+    ensures { AddsValue result out.old out.new (call_data (calls.SetExtent lists.now)) }
+{
+    out.begin_array()?;
+    out.string("setExtent")?;
+    write_lists_or_null(out, lists)?;
+    out.end_array()?;
+    Ok(())
+}
+
 fn reason_text(reason: Reason) -> &'static str
     ensures { result.now ≡ reason_text reason }
 {
@@ -216,6 +236,7 @@ fn write_call(out: &mut Writer, call: &Call) -> Result<(), Memory>
             sort,
         } => write_update_todo(out, id, text, *complete, *sort),
         Call::DeleteTodo { id } => write_removal(out, "deleteTodo", id),
+        Call::SetExtent { lists } => write_set_extent(out, lists),
         Call::Void(reason) => write_void(out, *reason),
     }
 }

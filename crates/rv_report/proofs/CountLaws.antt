@@ -19,6 +19,7 @@ pub lists_counted : (rows : List Stored) → count_by counts_list (map (λ s. co
 lists_counted rows = counted_same counts_list is_list_row rows each
   where
     each : (s : Stored) → counts_list (counted_as s.0) ≡ is_list_row s
+    each (variants.Extent row, version) = refl
     each (variants.List row, version) = refl
     each (variants.Share row, version) = refl
     each (variants.Todo row, version) = elim row.complete as (λ b. counts_list (cond b CompleteTodo OpenTodo) ≡ false) [ true ↦ refl | false ↦ refl ]
@@ -27,6 +28,7 @@ pub todos_counted : (rows : List Stored) → count_by counts_todo (map (λ s. co
 todos_counted rows = counted_same counts_todo is_todo rows each
   where
     each : (s : Stored) → counts_todo (counted_as s.0) ≡ is_todo s
+    each (variants.Extent row, version) = refl
     each (variants.List row, version) = refl
     each (variants.Share row, version) = refl
     each (variants.Todo row, version) = elim row.complete as (λ b. counts_todo (cond b CompleteTodo OpenTodo) ≡ true) [ true ↦ refl | false ↦ refl ]
@@ -35,6 +37,7 @@ pub open_counted : (rows : List Stored) → count_by counts_open (map (λ s. cou
 open_counted rows = counted_same counts_open is_open rows each
   where
     each : (s : Stored) → counts_open (counted_as s.0) ≡ is_open s
+    each (variants.Extent row, version) = refl
     each (variants.List row, version) = refl
     each (variants.Share row, version) = refl
     each (variants.Todo row, version) = elim row.complete as (λ b. counts_open (cond b CompleteTodo OpenTodo) ≡ not b) [ true ↦ refl | false ↦ refl ]
@@ -43,6 +46,7 @@ pub shares_counted : (rows : List Stored) → count_by counts_share (map (λ s. 
 shares_counted rows = counted_same counts_share is_share rows each
   where
     each : (s : Stored) → counts_share (counted_as s.0) ≡ is_share s
+    each (variants.Extent row, version) = refl
     each (variants.List row, version) = refl
     each (variants.Share row, version) = refl
     each (variants.Todo row, version) = elim row.complete as (λ b. counts_share (cond b CompleteTodo OpenTodo) ≡ false) [ true ↦ refl | false ↦ refl ]

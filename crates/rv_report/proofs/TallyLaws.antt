@@ -16,7 +16,7 @@ use Rattle.rv_base.specs.Sorted.{find_by, put_by, InOrder}
 use Rattle.rv_base.specs.Positions.{Above, equals, below_is, same_from, differs, differs_back, above_chain, not_same, sorted_more, in_order-sorted, map-put, found-sorted}
 use Rattle.rv_base.specs.Arranged.{find-map, sorted-push}
 use Rattle.rv_rows.specs.declared.call.Call.{Call}
-use Rattle.rv_rows.specs.declared.call.Call.TheVariants.{CreateList, DeleteList, CreateShare, UpdateShare, DeleteShare, CreateTodo, UpdateTodo, DeleteTodo, Void}
+use Rattle.rv_rows.specs.declared.call.Call.TheVariants.{CreateList, DeleteList, CreateShare, UpdateShare, DeleteShare, CreateTodo, UpdateTodo, DeleteTodo, SetExtent, Void}
 use Rattle.rv_book.specs.declared.entry.Entry.{Entry}
 use Rattle.rv_book.specs.declared.entry.Entry.TheVariants.{Act, Look, Retire}
 use Rattle.rv_book.specs.Book.{Book, book_from, entry_at, opening, size, up_to, with_entry}
@@ -79,6 +79,7 @@ void_by user other group client id (DeleteShare share) = refl
 void_by user other group client id (CreateTodo todo list text complete) = refl
 void_by user other group client id (UpdateTodo todo text complete sort) = refl
 void_by user other group client id (DeleteTodo todo) = refl
+void_by user other group client id (SetExtent lists) = refl
 void_by user other group client id (Void reason) = refl
 
 abbrev numbers : ℕ → ℕ → ℕ → Tally

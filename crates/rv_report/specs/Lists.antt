@@ -8,22 +8,26 @@ use Rattle.rv_rows.specs.Sharing.{belongs}
 use Rattle.rv_report.specs.Texts.{quoted}
 
 abbrev pub is_list_row : Stored → Bool
+is_list_row (variants.Extent row, version) = false
 is_list_row (variants.List row, version) = true
 is_list_row (variants.Share row, version) = false
 is_list_row (variants.Todo row, version) = false
 
 abbrev pub is_share : Stored → Bool
+is_share (variants.Extent row, version) = false
 is_share (variants.List row, version) = false
 is_share (variants.Share row, version) = true
 is_share (variants.Todo row, version) = false
 
 abbrev pub is_todo : Stored → Bool
+is_todo (variants.Extent row, version) = false
 is_todo (variants.List row, version) = false
 is_todo (variants.Share row, version) = false
 is_todo (variants.Todo row, version) = true
 
 -- a todo that isn't complete
 abbrev pub is_open : Stored → Bool
+is_open (variants.Extent row, version) = false
 is_open (variants.List row, version) = false
 is_open (variants.Share row, version) = false
 is_open (variants.Todo row, version) = not row.complete
@@ -43,6 +47,7 @@ list_text list own =
 
 -- the line of a row, which only a list has
 abbrev pub line_of_list : List Stored → Stored → List ℕ
+line_of_list rows (variants.Extent extent, version) = []
 line_of_list rows (variants.List list, version) = list_text list (list_rows list.id rows)
 line_of_list rows (variants.Share share, version) = []
 line_of_list rows (variants.Todo todo, version) = []

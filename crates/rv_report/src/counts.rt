@@ -9,6 +9,7 @@ use std::alloc::Global;
 // What a row counts as.
 #[derive(Clone, Copy, Debug)]
 enum Counted {
+    Extent,
     List,
     Share,
     OpenTodo,
@@ -20,6 +21,7 @@ impl Counted {
         ensures { result ≡ counted_as row.now }
     {
         match row {
+            Row::Extent(_) => Counted::Extent,
             Row::List(_) => Counted::List,
             Row::Share(_) => Counted::Share,
             Row::Todo(todo) => {

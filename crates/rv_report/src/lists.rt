@@ -30,6 +30,7 @@ fn with_line(alloc: Global, out: Vec<u8>, tables: &Tables, row: &Row) -> Result<
     ensures { IfOk result (λ added. (version : ℕ) → added.items ≡ out.items ++ line_of_list tables.now.rows (row.now, version)) }
 {
     match row {
+        Row::Extent(_) => Ok(out),
         Row::List(list) => {
             let own = Counts::of(alloc, tables.of_list(&list.id))?;
             with_list(out, list, &own)

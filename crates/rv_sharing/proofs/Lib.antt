@@ -1,4 +1,5 @@
 pub mod OwnerLaws
+pub mod ExtentLaws
 pub mod TextLaws
 pub mod OpenedLaws
 pub mod VisibleLaws

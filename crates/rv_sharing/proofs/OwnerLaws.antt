@@ -6,7 +6,6 @@ use Rattle.std.specs.Option.{is_some, option_map, option_map_or, option_and_then
 use Rattle.std.specs.Str.{bytes_eq}
 use Rattle.std.proofs.lemmas.Slice.Eq.{bytes_eq-Decides}
 use Rattle.rv_base.specs.Sorted.{Distinct}
-use Rattle.rv_base.specs.Positions.{not_same}
 use Rattle.rv_base.specs.Arranged.{find-map}
 use Rattle.rv_rows.specs.declared.key.Kind.TheVariants as kinds
 use Rattle.rv_rows.specs.declared.row.Row.{Row}
@@ -16,22 +15,21 @@ use Rattle.rv_rows.specs.Held.{Stored, rows_in, find, AreRows}
 use Rattle.rv_rows.specs.HeldLaws.{distinct-rows}
 use Rattle.rv_rows.specs.Sharing.{is_list, owns, shares, may_see, lets_edit, may_edit}
 use Rattle.rv_sharing.specs.Owners.{row_owner, owner_of}
+use Rattle.rv_sharing.specs.SameTexts.{same_either_way}
 
 -- the text of a list's key
 abbrev list_key : List ℕ → List ℕ
 list_key list = key_text (record { kind = kinds.List; id = list })
 
--- texts are compared the same either way
-pub same_either_way : (a b : List ℕ) → bytes_eq a b ≡ bytes_eq b a
-same_either_way a b =
-    elim (bytes_eq a b) as (λ t. bytes_eq a b ≡ t → t ≡ bytes_eq b a) [
-      | true ↦ λ e. let same : a ≡ b = (bytes_eq-Decides a b).0 e in sym ((bytes_eq-Decides b a).1 (sym same))
-      | false ↦ λ e. sym (not_same a b e)
-    ] refl
+-- a text is the one that is given on a condition
+pub picked : (a b : List ℕ) (given : Bool) → option_map_or (bytes_eq a) (cond given (Some b) None) false ≡ (given && bytes_eq a b)
+picked a b true = refl
+picked a b false = refl
 
 -- the list is there exactly where it has an owner
 pub is_list-owner : (list : List ℕ) (rows : List Row) → list_any (is_list list) rows ≡ is_some (owner_of list rows)
 is_list-owner list [] = refl
+is_list-owner list (variants.Extent row ∷ rows) = is_list-owner list rows
 is_list-owner list (variants.List row ∷ rows) =
     ap (λ (b : Bool). b || list_any (is_list list) rows) (same_either_way row.id list)
     ∙ elim (bytes_eq list row.id) as (λ b. (b || list_any (is_list list) rows) ≡ is_some (option_and_then row_owner (cond b (Some (variants.List row)) (row_at (list_key list) rows)))) [
@@ -51,6 +49,7 @@ is_list-found view o list rows is = seen o ∙ ap is_some is ∙ sym (is_list-ow
 -- the user owns it exactly where the user is that owner
 none_owns : (user list : List ℕ) (rows : List Row) → row_at (list_key list) rows ≡ None → list_any (owns user list) rows ≡ false
 none_owns user list [] h = refl
+none_owns user list (variants.Extent row ∷ rows) h = none_owns user list rows h
 none_owns user list (variants.List row ∷ rows) h =
     ap (λ (b : Bool). (b && bytes_eq row.owner user) || list_any (owns user list) rows) (same_either_way row.id list)
     ∙ elim (bytes_eq list row.id) as (λ b. cond b (Some (variants.List row)) (row_at (list_key list) rows) ≡ None → ((b && bytes_eq row.owner user) || list_any (owns user list) rows) ≡ false) [
@@ -60,12 +59,13 @@ none_owns user list (variants.List row ∷ rows) h =
 none_owns user list (variants.Share row ∷ rows) h = none_owns user list rows h
 none_owns user list (variants.Todo row ∷ rows) h = none_owns user list rows h
 
-or_none : (b c : Bool) → c ≡ false → (b || c) ≡ b
+pub or_none : (b c : Bool) → c ≡ false → (b || c) ≡ b
 or_none true c h = refl
 or_none false c h = h
 
 pub owns-owner : (user list : List ℕ) (rows : List Row) → Distinct row_text rows → list_any (owns user list) rows ≡ option_map_or (λ owner. bytes_eq owner user) (owner_of list rows) false
 owns-owner user list [] apart = refl
+owns-owner user list (variants.Extent row ∷ rows) apart = owns-owner user list rows apart.1
 owns-owner user list (variants.List row ∷ rows) apart =
     ap (λ (b : Bool). (b && bytes_eq row.owner user) || list_any (owns user list) rows) (same_either_way row.id list)
     ∙ elim (bytes_eq list row.id) as (λ b. bytes_eq list row.id ≡ b → ((b && bytes_eq row.owner user) || list_any (owns user list) rows) ≡ option_map_or (λ owner. bytes_eq owner user) (option_and_then row_owner (cond b (Some (variants.List row)) (row_at (list_key list) rows))) false) [

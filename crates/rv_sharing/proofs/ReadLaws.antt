@@ -1,5 +1,6 @@
 -- Laws of how many rows are read of several lists.
-use Rattle.std.proofs.Common.{◌≡◌, ℕ, suc, ◌+◌, Bool, true, false, cond, ◌||◌, List, [], ◌∷◌, ◌++◌, length, take, drop, Option, Some, None, refl, sym, ap, ◌∙◌, subst, arith, zero-add, length-append}
+use Rattle.std.proofs.Common.{◌≡◌, ℕ, suc, ◌+◌, Bool, true, false, cond, ◌||◌, List, [], ◌∷◌, ◌++◌, length, take, drop, Option, Some, None, Result, Ok, Err, refl, sym, ap, ◌∙◌, subst, arith, zero-add, length-append}
+use Rattle.std.specs.Prelude.{OnOk}
 use Rattle.std.specs.declared.cmp.Ordering.TheVariants.{Less, Equal}
 use Rattle.std.specs.Ordering.{nat_cmp}
 use Rattle.std.specs.Cmp.Lexicographic.{slice_cmp}
@@ -11,13 +12,16 @@ use Rattle.std.proofs.lemmas.List.{length-map, take-append-drop}
 use Rattle.std.proofs.lemmas.List.Sums.{sum_by-append}
 use Rattle.std.proofs.lemmas.Slice.Eq.{bytes_eq-Decides}
 use Rattle.rv_base.specs.Positions.{Above}
+use Rattle.rv_rows.specs.declared.row.Row.{Row}
+use Rattle.rv_rows.specs.declared.row.Row.TheVariants as variants
 use Rattle.rv_rows.specs.Held.{Stored, rows_in}
 use Rattle.rv_rows.specs.Keys.{row_key}
-use Rattle.rv_rows.specs.Sharing.{belongs, list_of, list_passes, sees_row}
+use Rattle.rv_rows.specs.Sharing.{belongs, is_extent, list_of, sees_row}
 use Rattle.rv_sharing.specs.Texts.{AreInOrder}
 use Rattle.rv_sharing.specs.Opened.{AreOpened}
-use Rattle.rv_sharing.specs.Gathered.{of_list, rows_at, rows_in_lists}
+use Rattle.rv_sharing.specs.Gathered.{extents, of_list, rows_at, rows_in_lists}
 use Rattle.rv_sharing.proofs.GatheredLaws.{Item, among_passes}
+use Rattle.rv_sharing.proofs.VisibleLaws.{sees_either}
 use Rattle.rv_sharing.specs.Visible.{visible}
 
 -- of rows that pass at most one of two tests there are as many as pass the one and as pass the other
@@ -71,13 +75,26 @@ lists_apart (l ∷ ls) stored order =
 same_count : (p q : Stored → Bool) (xs : List Stored) → ((s : Stored) → p s ≡ q s) → length (filter p xs) ≡ length (filter q xs)
 same_count p q xs same = λ i. length (filter (λ s. same s i) xs)
 
--- as many rows are read as the user sees
-pub read_seen : (user : List ℕ) (stored : List Stored) (held lists : List (List ℕ)) → held ≡ lists → AreOpened user (rows_in stored) lists → rows_in_lists held stored ≡ length (visible user stored)
+-- an extent belongs to no list
+belongs_nowhere : (user : List ℕ) (lists : List (List ℕ)) (row : Row) → is_extent user row ≡ true → list_any (λ list. belongs list row) lists ≡ false
+belongs_nowhere user lists (variants.Extent row) e = among_passes lists (variants.Extent row)
+belongs_nowhere user lists (variants.List row) e = absurd (cc)
+belongs_nowhere user lists (variants.Share row) e = absurd (cc)
+belongs_nowhere user lists (variants.Todo row) e = absurd (cc)
+
+-- as many rows are read as the user sees: the user's extent, and the rows of the lists
+pub read_seen : (user : List ℕ) (stored : List Stored) (held lists : List (List ℕ)) → held ≡ lists → AreOpened user (rows_in stored) lists → length (extents user stored) + rows_in_lists held stored ≡ length (visible user stored)
 read_seen user stored held lists same are =
-    ap (λ (ls : List (List ℕ)). rows_in_lists ls stored) same
-    ∙ lists_apart lists stored are.order
-    ∙ same_count (λ s. list_any (λ list. belongs list s.0) lists) (λ s. sees_row user (rows_in stored) s.0) stored (λ s. among_passes lists s.0 ∙ (λ i. list_passes (λ list. are.each list i) s.0))
+    ap (λ (ls : List (List ℕ)). length (extents user stored) + rows_in_lists ls stored) same
+    ∙ ap (λ (n : ℕ). length (extents user stored) + n) (lists_apart lists stored are.order)
+    ∙ sym (either (λ s. is_extent user s.0) (λ s. list_any (λ list. belongs list s.0) lists) stored (λ s e. belongs_nowhere user lists s.0 e))
+    ∙ same_count (λ s. is_extent user s.0 || list_any (λ list. belongs list s.0) lists) (λ s. sees_row user (rows_in stored) s.0) stored (λ s. sees_either user (rows_in stored) lists are s.0)
     ∙ sym (length-map (filter (λ s. sees_row user (rows_in stored) s.0) stored) (λ s. (row_key s.0, s.1)))
+
+-- the steps of both, one after the other
+pub steps_of_both : {T E : Type 0} (r : Result T E) (before mid after lists own all : ℕ) → mid ≡ before + lists → own + lists ≡ all → OnOk r (after ≡ mid + own) → OnOk r (after ≡ before + all)
+steps_of_both (Ok x) before mid after lists own all first sum second = omega (arith, first, sum, second)
+steps_of_both (Err e) before mid after lists own all first sum second = tt
 
 length_at : (rows : List Item) → length (rows_at rows) ≡ length rows
 length_at [] = refl

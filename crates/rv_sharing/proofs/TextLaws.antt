@@ -1,5 +1,6 @@
 -- Laws of texts in the order of their bytes, each once.
-use Rattle.std.proofs.Common.{◌≡◌, ℕ, Bool, true, false, cond, List, [], ◌∷◌, ◌++◌, get_or, take, drop, Some, Ok, Err, refl, sym, ap, ◌∙◌, subst, ◌||◌}
+use Rattle.std.proofs.Common.{◌≡◌, ℕ, Bool, true, false, cond, List, [], ◌∷◌, ◌++◌, get_or, take, drop, Some, Result, Ok, Err, refl, sym, ap, ◌∙◌, subst, ◌||◌, ◌&&◌}
+use Rattle.std.specs.Prelude.{IfOk}
 use Rattle.std.specs.declared.cmp.Ordering.TheVariants.{Less, Equal, Greater}
 use Rattle.std.specs.Ordering.{nat_cmp, match_ordering}
 use Rattle.std.specs.Cmp.Lexicographic.{slice_cmp}
@@ -8,7 +9,7 @@ use Rattle.std.specs.Str.{bytes_eq}
 use Rattle.std.proofs.lemmas.Slice.Eq.{bytes_eq-Decides}
 use Rattle.rv_base.specs.Sorted.{find_by, put_by, IsPositionOf}
 use Rattle.rv_base.specs.Positions.{same_from, in_order-put}
-use Rattle.rv_sharing.specs.Texts.{AreInOrder, AddsText}
+use Rattle.rv_sharing.specs.Texts.{AreInOrder, AddsText, AddsTextIf}
 
 abbrev pub text_key : List ℕ → List ℕ
 text_key text = text
@@ -30,6 +31,14 @@ or_moved false b c = refl
 pub or_false : (b : Bool) → b ≡ (b || false)
 or_false true = refl
 or_false false = refl
+
+-- a text that comes on a condition
+pub adds_when : {E : Type 0} (flag : Bool) (text : List ℕ) (before : List (List ℕ)) (r : Result (List (List ℕ)) E) → flag ≡ true → IfOk r (AddsText text before) → IfOk r (AddsTextIf flag text before)
+adds_when flag text before (Ok after) is adds = record { order = adds.order; each = λ p. adds.each p ∙ ap (λ (b : Bool). (b && p text) || list_any p before) (sym is) }
+adds_when flag text before (Err e) is adds = tt
+
+pub adds_none : (flag : Bool) (text : List ℕ) (before : List (List ℕ)) → flag ≡ false → AreInOrder before → AddsTextIf flag text before before
+adds_none flag text before is order = record { order = order; each = λ p. ap (λ (b : Bool). (b && p text) || list_any p before) (sym is) }
 
 module _ (p : List ℕ → Bool) where
   any-put : (x : List ℕ) (xs : List (List ℕ)) → list_any p (put_by text_key x xs) ≡ (p x || list_any p xs)

@@ -1,19 +1,22 @@
 -- Laws of the keys that a user sees, collected row by row.
-use Rattle.std.proofs.Common.{◌≡◌, ℕ, ◌+◌, ◌<◌, ◌≤◌, Bool, true, false, cond, List, [], ◌∷◌, ◌++◌, map, length, get_or, take, Some, refl, sym, ap, ◌∙◌, subst}
+use Rattle.std.proofs.Common.{◌≡◌, ℕ, ◌+◌, ◌<◌, ◌≤◌, Bool, true, false, cond, ◌||◌, List, [], ◌∷◌, ◌++◌, map, length, get_or, take, Some, refl, sym, ap, ◌∙◌, subst}
 use Rattle.std.specs.List.{AllByRecursion, filter, list_any}
 use Rattle.std.specs.Borrow.{Bor}
+use Rattle.std.specs.Str.{bytes_eq}
 use Rattle.std.proofs.lemmas.List.{take_more, take_all}
 use Rattle.rv_base.specs.Sorted.{InOrder}
 use Rattle.rv_base.specs.Positions.{Above, differs_back, equals, in_order-filter}
 use Rattle.rv_rows.specs.declared.key.Key.{Key}
 use Rattle.rv_rows.specs.declared.row.Row.{Row}
+use Rattle.rv_rows.specs.declared.row.Row.TheVariants as variants
 use Rattle.rv_rows.specs.Keys.{key_text, row_key}
 use Rattle.rv_rows.specs.Held.{Stored, AreRows, find, stored_key, rows_in}
-use Rattle.rv_rows.specs.Sharing.{belongs, list_passes, sees_row}
+use Rattle.rv_rows.specs.Sharing.{belongs, is_extent, list_passes, sees_row}
 use Rattle.rv_sharing.specs.Opened.{AreOpened}
-use Rattle.rv_sharing.specs.Gathered.{rows_at, keys_at, Stand}
+use Rattle.rv_sharing.specs.Gathered.{rows_at, keys_at, extents, merged, Stand}
 use Rattle.rv_sharing.specs.Visible.{visible}
-use Rattle.rv_sharing.proofs.GatheredLaws.{among_passes}
+use Rattle.rv_sharing.proofs.GatheredLaws.{among_passes, merged-filter}
+use Rattle.rv_sharing.proofs.TextLaws.{or_false}
 
 -- rows behind references
 abbrev Item : Type 0
@@ -23,11 +26,27 @@ keys_at-rows : (rows : List Item) → keys_at rows ≡ map (λ (s : Stored). (ro
 keys_at-rows [] = refl
 keys_at-rows (x ∷ xs) = ap (λ (t : List (Key × ℕ)). (row_key x.0.now, x.1) ∷ t) (keys_at-rows xs)
 
--- the rows of the lists that a user sees are those that the user sees
-pub seen_rows : (user : List ℕ) (stored : List Stored) (held lists : List (List ℕ)) (rows : List Item) → held ≡ lists → AreOpened user (rows_in stored) lists → rows_at rows ≡ filter (λ s. list_any (λ list. belongs list s.0) held) stored → keys_at rows ≡ visible user stored
-seen_rows user stored held lists rows same are is =
-    keys_at-rows rows
-    ∙ ap (map (λ (s : Stored). (row_key s.0, s.1))) (is ∙ (λ k. filter (λ s. list_any (λ list. belongs list s.0) (same k)) stored) ∙ (λ k. filter (λ s. among_passes lists s.0 k) stored) ∙ (λ k. filter (λ s. list_passes (λ list. are.each list k) s.0) stored))
+-- a user sees the rows of the lists that the user sees, and the user's extent
+pub sees_either : (user : List ℕ) (rows : List Row) (lists : List (List ℕ)) → AreOpened user rows lists → (row : Row) → (is_extent user row || list_any (λ list. belongs list row) lists) ≡ sees_row user rows row
+sees_either user rows lists are row = ap (λ (b : Bool). is_extent user row || b) (among_passes lists row) ∙ each row
+  where
+    each : (row : Row) → (is_extent user row || list_passes (λ text. list_any (bytes_eq text) lists) row) ≡ sees_row user rows row
+    each (variants.Extent row) = sym (or_false (bytes_eq row.user user))
+    each (variants.List row) = are.each row.id
+    each (variants.Share row) = are.each row.list
+    each (variants.Todo row) = are.each row.list
+
+-- so both together are those that the user sees
+pub seen_rows : (user : List ℕ) (stored : List Stored) (held lists : List (List ℕ)) (rows all : List Stored) → AreRows stored → held ≡ lists → AreOpened user (rows_in stored) lists
+    → rows ≡ filter (λ s. list_any (λ list. belongs list s.0) held) stored → all ≡ merged (extents user stored) rows → all ≡ filter (λ s. sees_row user (rows_in stored) s.0) stored
+seen_rows user stored held lists rows all order same are is both =
+    both
+    ∙ ap (merged (extents user stored)) (is ∙ (λ k. filter (λ s. list_any (λ list. belongs list s.0) (same k)) stored))
+    ∙ merged-filter (λ s. is_extent user s.0) (λ s. list_any (λ list. belongs list s.0) lists) stored order
+    ∙ (λ k. filter (λ s. sees_either user (rows_in stored) lists are s.0 k) stored)
+
+pub seen_keys : (user : List ℕ) (stored : List Stored) (rows : List Item) → rows_at rows ≡ filter (λ s. sees_row user (rows_in stored) s.0) stored → keys_at rows ≡ visible user stored
+seen_keys user stored rows is = keys_at-rows rows ∙ ap (map (λ (s : Stored). (row_key s.0, s.1))) is
 
 -- one more key
 keys_at-append : (rows more : List Item) → keys_at (rows ++ more) ≡ keys_at rows ++ keys_at more
@@ -54,9 +73,8 @@ found_own (x ∷ xs) h = (rw (equals (stored_key x)) refl, behind xs h.0 (found_
     behind [] low all = tt
     behind (y ∷ ys) low all = (rw (differs_back (stored_key x) (stored_key y) low.0) all.0, behind ys low.1 all.1)
 
-pub all_stand : (stored : List Stored) (lists : List (List ℕ)) (rows : List Stored) → rows ≡ filter (λ s. list_any (λ list. belongs list s.0) lists) stored → AreRows stored → Stand stored rows
-all_stand stored lists rows is h =
-    subst (Stand stored) (sym is) (all_filter (λ (s : Stored). find (stored_key s) stored ≡ Some s) (λ s. list_any (λ list. belongs list s.0) lists) stored (found_own stored h))
+pub all_stand : (p : Stored → Bool) (stored rows : List Stored) → rows ≡ filter p stored → AreRows stored → Stand stored rows
+all_stand p stored rows is h = subst (Stand stored) (sym is) (all_filter (λ (s : Stored). find (stored_key s) stored ≡ Some s) p stored (found_own stored h))
 
 -- keys with versions, of stored rows in the order of their keys
 abbrev pair : Stored → Key × ℕ

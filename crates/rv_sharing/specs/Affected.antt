@@ -1,4 +1,4 @@
--- The users who may see a list, and the users who see at least one of some keys.
+-- The users who see a list, and the users who see at least one of some keys.
 use Rattle.std.specs.Prelude.{◌≡◌, ℕ, Bool, false, List, ◌||◌}
 use Rattle.std.specs.List.{list_any}
 use Rattle.std.specs.Option.{option_map_or}
@@ -7,7 +7,7 @@ use Rattle.rv_base.specs.Sorted.{InOrder}
 use Rattle.rv_rows.specs.declared.key.Key.{Key}
 use Rattle.rv_rows.specs.declared.row.Row.{Row}
 use Rattle.rv_rows.specs.Keys.{key_text, row_at}
-use Rattle.rv_rows.specs.Sharing.{may_see, sees_row}
+use Rattle.rv_rows.specs.Sharing.{sees_list, sees_row}
 use Rattle.rv_sharing.specs.Texts.{AreInOrder}
 
 -- the user sees the row of the key, where it is there
@@ -19,7 +19,7 @@ pub record AreAffected (rows : List Row) (keys : List Key) (users : List (List �
   pub order : InOrder (λ user. user) users
   pub each : (user : List ℕ) → list_any (bytes_eq user) users ≡ list_any (sees_key rows user) keys
 
--- the users afterwards are those before and those who may see the list
+-- the users afterwards are those before and those who see the list
 pub record AddsViewers (rows : List Row) (list : List ℕ) (before after : List (List ℕ)) : Type 0 where
   pub order : AreInOrder after
-  pub each : (user : List ℕ) → list_any (bytes_eq user) after ≡ (list_any (bytes_eq user) before || may_see user list rows)
+  pub each : (user : List ℕ) → list_any (bytes_eq user) after ≡ (list_any (bytes_eq user) before || sees_list user list rows)

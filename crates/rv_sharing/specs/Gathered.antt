@@ -6,7 +6,7 @@ use Rattle.rv_rows.specs.declared.key.Key.{Key}
 use Rattle.rv_rows.specs.declared.row.Row.{Row}
 use Rattle.rv_rows.specs.Keys.{row_key}
 use Rattle.rv_rows.specs.Held.{Stored, find, put, stored_key}
-use Rattle.rv_rows.specs.Sharing.{belongs}
+use Rattle.rv_rows.specs.Sharing.{belongs, is_extent}
 
 -- the rows that references point to
 abbrev pub rows_at : List (Bor Row × ℕ) → List Stored
@@ -23,6 +23,10 @@ keys_at rows = map (λ row. (row_key row.0.now, row.1)) rows
 -- the rows of a list
 abbrev pub of_list : List ℕ → List Stored → List Stored
 of_list list stored = filter (λ s. belongs list s.0) stored
+
+-- the user's extent
+abbrev pub extents : List ℕ → List Stored → List Stored
+extents user stored = filter (λ s. is_extent user s.0) stored
 
 -- how many rows are read where each of these lists is, one after another
 abbrev pub rows_in_lists : List (List ℕ) → List Stored → ℕ

@@ -1,8 +1,11 @@
 pub mod Owners
+pub mod Extents
 pub mod Texts
+pub mod SameTexts
 pub mod Opened
 pub mod Sharers
 pub mod Gathered
 pub mod Visible
 pub mod Affected
 pub mod SeenLaws
+pub mod ExtentLaws

@@ -6,6 +6,7 @@ use Rattle.rv_rows.specs.declared.row.Row.TheVariants as variants
 use Rattle.rv_rows.specs.Keys.{key_text, row_at}
 
 abbrev pub row_owner : Row → Option (List ℕ)
+row_owner (variants.Extent row) = None
 row_owner (variants.List row) = Some row.owner
 row_owner (variants.Share row) = None
 row_owner (variants.Todo row) = None

@@ -14,7 +14,7 @@ use Rattle.rv_rows.specs.declared.key.Key.{Key}
 use Rattle.rv_rows.specs.declared.row.Row.{Row}
 use Rattle.rv_rows.specs.declared.row.Row.TheVariants as variants
 use Rattle.rv_rows.specs.Keys.{key_text, row_key, row_text, row_at, has_row, in_key_order}
-use Rattle.rv_rows.specs.Sharing.{is_list, owns, shares, may_see, sees_row, list_of, seen}
+use Rattle.rv_rows.specs.Sharing.{is_list, is_extent, names, owns, shares, may_see, is_synced, sees_list, sees_row, list_of, seen}
 use Rattle.rv_rows.specs.Changes.{same_row, is_new, is_gone, written, lost}
 use Rattle.rv_rows.specs.EffectLaws.{sees_row-sorted, same_row-Decides}
 use Rattle.rv_sharing.specs.Affected.{sees_key}
@@ -253,50 +253,89 @@ abbrev Keeps : List ℕ → List Row → List Row → Type 0
 Keeps user rows others = (row : Row) → row_at (row_text row) rows ≡ Some row → sees_row user rows row ≡ true → row_at (row_text row) others ≡ Some row
 
 -- what is there passes another test too
-passes_again : {X : Type 0} (p q : X → Bool) → ((x : X) → p x ≡ true → q x ≡ true) → (o : Option X) → option_map_or p o false ≡ true → option_map_or q o false ≡ true
-passes_again p q too None e = absurd (cc)
-passes_again p q too (Some x) e = too x e
+passes_again : {X : Type 0} (p q : X → Bool) (none : Bool) → ((x : X) → p x ≡ true → q x ≡ true) → (o : Option X) → option_map_or p o none ≡ true → option_map_or q o none ≡ true
+passes_again p q none too None e = e
+passes_again p q none too (Some x) e = too x e
 
 -- the rows that show a list to a user belong to it
 owns-list : (user list : List ℕ) (row : Row) → owns user list row ≡ true → list_of row ≡ Some list
+owns-list user list (variants.Extent row) e = absurd (cc)
 owns-list user list (variants.List row) e = ap Some ((bytes_eq-Decides row.id list).0 (and-both _ _ e).0)
 owns-list user list (variants.Share row) e = absurd (cc)
 owns-list user list (variants.Todo row) e = absurd (cc)
 
 is_list-list : (list : List ℕ) (row : Row) → is_list list row ≡ true → list_of row ≡ Some list
+is_list-list list (variants.Extent row) e = absurd (cc)
 is_list-list list (variants.List row) e = ap Some ((bytes_eq-Decides row.id list).0 e)
 is_list-list list (variants.Share row) e = absurd (cc)
 is_list-list list (variants.Todo row) e = absurd (cc)
 
 shares-list : (user list : List ℕ) (row : Row) → shares user list row ≡ true → list_of row ≡ Some list
+shares-list user list (variants.Extent row) e = absurd (cc)
 shares-list user list (variants.List row) e = absurd (cc)
 shares-list user list (variants.Share row) e = ap Some ((bytes_eq-Decides row.list list).0 (and-both _ _ e).0)
 shares-list user list (variants.Todo row) e = absurd (cc)
 
--- so where the rows that a user sees are kept, the lists that the user may see are
-any-kept : (p : Row → Bool) (user list : List ℕ) (rows others : List Row) → Distinct row_text rows → Keeps user rows others → may_see user list rows ≡ true → ((row : Row) → p row ≡ true → list_of row ≡ Some list)
-    → list_any p rows ≡ true → list_any p others ≡ true
-any-kept p user list rows others h keeps is of e =
-    let found = any-found row_text p rows h e in
-    found-passes row_text p (row_text found.0) others found.0 (keeps found.0 found.1 (ap (λ (o : Option (List ℕ)). option_map_or (λ l. may_see user l rows) o false) (of found.0 found.2) ∙ is)) found.2
+-- and the user sees them where the user sees the list
+list-seen : (p : Row → Bool) (user list : List ℕ) (rows : List Row) → sees_list user list rows ≡ true → ((row : Row) → p row ≡ true → list_of row ≡ Some list) → (row : Row) → p row ≡ true → sees_row user rows row ≡ true
+list-seen p user list rows is of row e = ap (λ (o : Option (List ℕ)). option_map_or (λ l. sees_list user l rows) o (is_extent user row)) (of row e) ∙ is
 
-may_see-kept : (user list : List ℕ) (rows others : List Row) → Distinct row_text rows → Keeps user rows others → may_see user list rows ≡ true → may_see user list others ≡ true
+-- the user sees the user's extent
+extent-seen : (user : List ℕ) (rows : List Row) (row : Row) → is_extent user row ≡ true → sees_row user rows row ≡ true
+extent-seen user rows (variants.Extent row) e = e
+extent-seen user rows (variants.List row) e = absurd (cc)
+extent-seen user rows (variants.Share row) e = absurd (cc)
+extent-seen user rows (variants.Todo row) e = absurd (cc)
+
+names-extent : (user list : List ℕ) (row : Row) → names user list row ≡ true → is_extent user row ≡ true
+names-extent user list (variants.Extent row) e = (and-both _ _ e).0
+names-extent user list (variants.List row) e = absurd (cc)
+names-extent user list (variants.Share row) e = absurd (cc)
+names-extent user list (variants.Todo row) e = absurd (cc)
+
+-- so where the rows that a user sees are kept, those that pass a test are
+any-kept : (p : Row → Bool) (user : List ℕ) (rows others : List Row) → Distinct row_text rows → Keeps user rows others → ((row : Row) → p row ≡ true → sees_row user rows row ≡ true) → list_any p rows ≡ true → list_any p others ≡ true
+any-kept p user rows others h keeps sees e =
+    let found = any-found row_text p rows h e in
+    found-passes row_text p (row_text found.0) others found.0 (keeps found.0 found.1 (sees found.0 found.2)) found.2
+
+-- the lists that the user sees may still be seen
+may_see-kept : (user list : List ℕ) (rows others : List Row) → Distinct row_text rows → Keeps user rows others → sees_list user list rows ≡ true → may_see user list others ≡ true
 unfolding may_see
 may_see-kept user list rows others h keeps is =
     shown_again _ _ _ _ _ _
-    (any-kept (owns user list) user list rows others h keeps is (owns-list user list))
-    (any-kept (is_list list) user list rows others h keeps is (is_list-list list))
-    (any-kept (shares user list) user list rows others h keeps is (shares-list user list))
-    is
+    (any-kept (owns user list) user rows others h keeps (list-seen (owns user list) user list rows is (owns-list user list)))
+    (any-kept (is_list list) user rows others h keeps (list-seen (is_list list) user list rows is (is_list-list list)))
+    (any-kept (shares user list) user rows others h keeps (list-seen (shares user list) user list rows is (shares-list user list)))
+    (and-both _ _ is).0
+
+-- and are synced, where no extent came either
+synced-kept : (user list : List ℕ) (rows others : List Row) → Distinct row_text rows → Distinct row_text others → Keeps user rows others → Keeps user others rows → is_synced user list rows ≡ true → is_synced user list others ≡ true
+unfolding is_synced
+synced-kept user list rows others g h keeps back is =
+    by_flag (λ b. list_any (names user list) rows ≡ b → (not (list_any (is_extent user) others) || list_any (names user list) others) ≡ true) (list_any (names user list) rows)
+    (λ t e. rw (any-kept (names user list) user rows others g keeps (λ row named. extent-seen user rows row (names-extent user list row named)) e) (or-true (not (list_any (is_extent user) others))))
+    (λ t e.
+    let gone : list_any (is_extent user) rows ≡ false = none (list_any (is_extent user) rows) (list_any (names user list) rows) e is in
+    let still : list_any (is_extent user) others ≡ false = not_true _ (λ came. contrary _ (any-kept (is_extent user) user others rows h back (extent-seen user others) came) gone) in
+    rw still refl)
+    refl
+  where
+    none : (a b : Bool) → b ≡ false → (not a || b) ≡ true → a ≡ false
+    none true b e f = absurd (contrary b f e)
+    none false b e f = refl
+
+sees_list-kept : (user list : List ℕ) (rows others : List Row) → Distinct row_text rows → Distinct row_text others → Keeps user rows others → Keeps user others rows → sees_list user list rows ≡ true → sees_list user list others ≡ true
+sees_list-kept user list rows others g h keeps back is = and-from _ _ (may_see-kept user list rows others g keeps is) (synced-kept user list rows others g h keeps back (and-both _ _ is).1)
 
 -- and what is found among the rows that the user sees is found again
-seen-kept : (user : List ℕ) (rows others : List Row) → Distinct row_text rows → Distinct row_text others → Keeps user rows others
+seen-kept : (user : List ℕ) (rows others : List Row) → Distinct row_text rows → Distinct row_text others → Keeps user rows others → Keeps user others rows
     → (k : List ℕ) (row : Row) → row_at k (seen user rows) ≡ Some row → row_at k (seen user others) ≡ Some row
-seen-kept user rows others g h keeps k row e =
+seen-kept user rows others g h keeps back k row e =
     let found = seen-found user rows k row g e in
     let one : k ≡ row_text row = find-key row_text k rows row found.0 in
     let stands : row_at k others ≡ Some row = subst (λ (t : List ℕ). row_at t others ≡ Some row) (sym one) (keeps row (at_own row_text k rows row found.0) found.1) in
-    found-seen user others k row h stands (passes_again (λ list. may_see user list rows) (λ list. may_see user list others) (λ list. may_see-kept user list rows others g keeps) (list_of row) found.1)
+    found-seen user others k row h stands (passes_again (λ list. sees_list user list rows) (λ list. sees_list user list others) (is_extent user row) (λ list. sees_list-kept user list rows others g h keeps back) (list_of row) found.1)
 
 -- Where a user sees no touched key, before or after, the user sees the same.
 pub untouched_seen : (user : List ℕ) (before after : List Row) → InOrder row_text before → Distinct row_text after → sees_touched user before after ≡ false → seen user after ≡ seen user before
@@ -306,7 +345,7 @@ untouched_seen user before after order h none =
     let kept : Keeps user before after = λ row e is. stays (sees_at user before) before after g h neither.0 row e (sees_at-from user before (row_text row) row e is) in
     let came : Keeps user after before = λ row e is. stood (sees_at user after) before after g h neither.1 row e (sees_at-from user after (row_text row) row e is) in
     in_order-same row_text (seen user after) (seen user before) (seen_in_order user after) (seen_in_order user before)
-    (λ k. same_options (row_at k (seen user after)) (row_at k (seen user before)) (seen-kept user after before h g came k) (seen-kept user before after g h kept k))
+    (λ k. same_options (row_at k (seen user after)) (row_at k (seen user before)) (seen-kept user after before h g came kept k) (seen-kept user before after g h kept came k))
 
 -- where what the user sees is the same, what the user sees at a key is found among the other rows
 seen_there : (user : List ℕ) (rows others : List Row) → Distinct row_text rows → Distinct row_text others → seen user rows ≡ seen user others

@@ -56,7 +56,7 @@ fn rows_of_one<'t, L: Ledger>(
 }
 
 // Two lists of rows in the order of their keys as one. Of two rows with one key that of the left stands in it.
-fn merged<'t>(
+pub(crate) fn merged<'t>(
     alloc: Global,
     left: &[(&'t Row, u32)],
     right: &[(&'t Row, u32)],

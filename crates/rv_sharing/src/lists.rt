@@ -1,18 +1,20 @@
-// Who owns a list, who may see it, and who may edit it.
+// Who owns a list, who may see it, who syncs it, and who may edit it.
 ghost use Rattle.std.specs.Prelude.{◌≡◌, option_map};
 ghost use Rattle.std.specs.List.{list_any};
 ghost use Rattle.rv_rows.specs.Held.{rows_in, AreRows};
-ghost use Rattle.rv_rows.specs.Sharing.{is_list, lets_edit, list_passes, may_edit, may_see, owns, shares};
+ghost use Rattle.rv_rows.specs.Sharing.{is_list, is_synced, lets_edit, list_passes, may_edit, may_see, owns, shares};
+ghost use Rattle.rv_sharing.specs.Extents.{row_lists, extent_of, is_named};
 ghost use Rattle.rv_sharing.specs.Owners.{row_owner, owner_of};
 
 use rv_base::{Id, User};
-use rv_rows::{Kind, Row, Tables};
+use rv_rows::{Kind, Lists, Row, Tables};
 
 // Whose the row is, where it is a list.
 fn row_owner(row: &Row) -> Option<&User>
     ensures { option_map (λ owner. owner.now) result ≡ row_owner row.now }
 {
     match row {
+        Row::Extent(_) => None,
         Row::List(row) => Some(&row.owner),
         Row::Share(_) => None,
         Row::Todo(_) => None,
@@ -67,6 +69,46 @@ pub fn may_see(tables: &Tables, user: &User, list: &Id) -> bool
         Some(owner) => owner == user || has_share(tables, user, list),
         None => false,
     }
+}
+
+// The lists that the row names, where it is an extent.
+fn row_lists(row: &Row) -> Option<&Lists>
+    ensures { option_map (λ lists. lists.now) result ≡ row_lists row.now }
+{
+    match row {
+        Row::Extent(row) => Some(&row.lists),
+        Row::List(_) => None,
+        Row::Share(_) => None,
+        Row::Todo(_) => None,
+    }
+}
+
+// The lists that the user's extent names, where there is one. Takes no memory.
+pub(crate) fn extent_of<'t>(tables: &'t Tables, user: &User) -> Option<&'t Lists>
+    ensures extent { option_map (λ lists. lists.now) result ≡ extent_of user.now (rows_in tables.now.rows) }
+    ensures order { AreRows tables.now.rows }
+{
+    match tables.extent(user) {
+        Some((row, _version)) => row_lists(row),
+        None => None,
+    }
+}
+
+// Whether the extent names the list, or there is none.
+pub(crate) fn is_named(extent: Option<&Lists>, list: &Id) -> bool
+    ensures { result ≡ is_named (option_map (λ lists. lists.now) extent.entry) list.now }
+{
+    match extent {
+        Some(lists) => lists.has(list),
+        None => true,
+    }
+}
+
+/// Whether the user syncs the list: the user's extent names it, or the user has none. Takes no memory.
+pub fn is_synced(tables: &Tables, user: &User, list: &Id) -> bool
+    ensures { result ≡ is_synced user.now list.now (rows_in tables.now.rows) }
+{
+    is_named(extent_of(tables, user), list)
 }
 
 // Whether a share of the list names the user and lets the user edit: among the rows that name the user. Takes no memory.

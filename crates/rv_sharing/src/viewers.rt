@@ -1,14 +1,16 @@
 // The users who see something of a table.
 ghost use Rattle.std.specs.Prelude.{◌≡◌, IsTrue, IfOk, option_map};
 ghost use Rattle.rv_rows.specs.Held.{rows_in};
+ghost use Rattle.rv_rows.specs.Sharing.{is_synced};
 ghost use Rattle.rv_rows.specs.declared.row.TodoRow.{TodoRow};
 ghost use Rattle.rv_rows.specs.declared.row.Row.TheVariants.{Todo};
-ghost use Rattle.rv_sharing.specs.Texts.{AreInOrder, AddsText};
-ghost use Rattle.rv_sharing.specs.Opened.{AreListsOf};
+ghost use Rattle.rv_sharing.specs.Texts.{AreInOrder, AddsText, AddsTextIf};
+ghost use Rattle.rv_sharing.specs.Opened.{AreListsOf, AreUsersOf};
+ghost use Rattle.rv_sharing.specs.Extents.{row_extent};
 ghost use Rattle.rv_sharing.specs.Sharers.{sharer, AddsSharers};
 ghost use Rattle.rv_sharing.specs.Affected.{AddsViewers, AreAffected};
 
-use crate::lists::owner_of;
+use crate::lists::{is_synced, owner_of};
 use crate::texts::add;
 use rv_base::{Id, Memory, Sequence, User};
 use rv_rows::{Key, Row, Tables, Users};
@@ -24,13 +26,32 @@ pub fn add_user(alloc: Global, users: Users, user: &User) -> Result<Users, Memor
     Ok(Sequence::from_vec(users))
 }
 
-// The user whom the row names, where it is a share of the list.
-fn sharer<'r>(row: &'r Row, list: &Id) -> Option<&'r User>
-    ensures { option_map (λ user. user.now) result ≡ sharer list.now row.now }
+/// The users, and this one where the user syncs the list. They stand in the order of their bytes, each once.
+pub fn add_if_synced(
+    alloc: Global,
+    users: Users,
+    tables: &Tables,
+    user: &User,
+    list: &Id,
+) -> Result<Users, Memory>
+    requires { AreInOrder users }
+    ensures { IfOk result (AddsTextIf (is_synced user.now list.now (rows_in tables.now.rows)) user.now users) }
+{
+    if is_synced(tables, user, list) {
+        add_user(alloc, users, user)
+    } else {
+        Ok(users)
+    }
+}
+
+// The user whom the row names, where it is a share of the list and the user syncs that.
+fn sharer<'r>(tables: &Tables, list: &Id, row: &'r Row) -> Option<&'r User>
+    ensures { option_map (λ user. user.now) result ≡ sharer list.now (rows_in tables.now.rows) row.now }
 {
     match row {
+        Row::Extent(_) => None,
         Row::List(_) => None,
-        Row::Share(row) => if row.list == *list {
+        Row::Share(row) => if row.list == *list && is_synced(tables, &row.user, list) {
             Some(&row.user)
         } else {
             None
@@ -44,14 +65,15 @@ fn is_todo(row: &Row) -> bool
     ensures { IsTrue result → (todo : TodoRow) × (row.now ≡ Todo todo) }
 {
     match row {
+        Row::Extent(_) => false,
         Row::List(_) => false,
         Row::Share(_) => false,
         Row::Todo(_) => true,
     }
 }
 
-/// The users and those whom a share of the list names. They stand in the order of their bytes, each once. The list's todos,
-/// which come after its shares, are not looked at.
+/// The users and those whom a share of the list names and who sync it. They stand in the order of their bytes, each once. The
+/// list's todos, which come after its shares, are not looked at.
 pub fn add_sharers(alloc: Global, users: Users, tables: &Tables, list: &Id) -> Result<Users, Memory>
     requires { AreInOrder users }
     ensures { IfOk result (AddsSharers (rows_in tables.now.rows) list.now users) }
@@ -61,21 +83,21 @@ pub fn add_sharers(alloc: Global, users: Users, tables: &Tables, list: &Id) -> R
         if is_todo(row) {
             return Ok(Sequence::from_vec(users));
         }
-        if let Some(user) = sharer(row, list) {
+        if let Some(user) = sharer(tables, list, row) {
             add(alloc, &mut users, user)?;
         }
     }
     Ok(Sequence::from_vec(users))
 }
 
-/// The users and those who may see the list. They stand in the order of their bytes, each once.
+/// The users and those who see the list. They stand in the order of their bytes, each once.
 pub fn add_viewers(alloc: Global, users: Users, tables: &Tables, list: &Id) -> Result<Users, Memory>
     requires { AreInOrder users }
     ensures { IfOk result (AddsViewers (rows_in tables.now.rows) list.now users) }
 {
     match owner_of(tables, list) {
         Some(owner) => {
-            let owned = add_user(alloc, users, owner)?;
+            let owned = add_if_synced(alloc, users, tables, owner, list)?;
             add_sharers(alloc, owned, tables, list)
         }
         None => Ok(users),
@@ -97,12 +119,39 @@ fn lists_of(alloc: Global, tables: &Tables, keys: &[Key]) -> Result<Vec<Id>, Mem
     Ok(lists)
 }
 
+// The user whose extent the row is, where it is one.
+fn row_extent(row: &Row) -> Option<&User>
+    ensures { option_map (λ user. user.now) result ≡ row_extent row.now }
+{
+    match row {
+        Row::Extent(row) => Some(&row.user),
+        Row::List(_) => None,
+        Row::Share(_) => None,
+        Row::Todo(_) => None,
+    }
+}
+
+// The users whose extents the keys' rows are, in order, each once.
+fn users_of(alloc: Global, tables: &Tables, keys: &[Key]) -> Result<Users, Memory>
+    ensures { IfOk result (AreUsersOf (rows_in tables.now.rows) keys.now) }
+{
+    let mut users = Vec::new(alloc);
+    for key in keys {
+        if let Some((row, _version)) = tables.get(key) {
+            if let Some(user) = row_extent(row) {
+                add(alloc, &mut users, user)?;
+            }
+        }
+    }
+    Ok(Sequence::from_vec(users))
+}
+
 /// The users who see at least one of the keys, in the order of their bytes, each once.
 pub fn affected(alloc: Global, tables: &Tables, keys: &[Key]) -> Result<Users, Memory>
     ensures { IfOk result (AreAffected (rows_in tables.now.rows) keys.now) }
 {
     let lists = lists_of(alloc, tables, keys)?;
-    let mut users = Sequence::new(alloc);
+    let mut users = users_of(alloc, tables, keys)?;
     for list in &lists {
         users = add_viewers(alloc, users, tables, list)?;
     }

@@ -4,30 +4,32 @@ ghost use Rattle.rv_base.specs.Sorted.{InOrder};
 ghost use Rattle.rv_rows.specs.Keys.{key_text};
 ghost use Rattle.rv_rows.specs.Held.{rows_in, AreRows};
 ghost use Rattle.rv_sharing.specs.Opened.{opened, AreOpened};
-ghost use Rattle.rv_sharing.specs.Gathered.{keys_at, rows_at, Stand};
+ghost use Rattle.rv_sharing.specs.Gathered.{extents, keys_at, merged, rows_at, Stand};
 ghost use Rattle.rv_sharing.specs.Visible.{visible};
 
-use crate::gathering::rows_of;
-use crate::lists::has_list;
+use crate::gathering::{merged, rows_of};
+use crate::lists::{extent_of, has_list, is_named};
 use crate::texts::add;
 use rv_base::{Id, Memory, Sequence, Steps, User};
-use rv_rows::{Row, Tables, Visible};
+use rv_rows::{Lists, Row, Tables, Visible};
 use std::alloc::Global;
 use std::marker::Brand;
 use std::sync::ledger::{Blank, Ledger};
 
-// The list that the row lets the user see: one that the user owns, or one that is there and shared with the user.
-fn opened<'r>(tables: &Tables, user: &User, row: &'r Row) -> Option<&'r Id>
-    ensures { option_map (λ list. list.now) result ≡ opened user.now (rows_in tables.now.rows) row.now }
+// The list that the row shows to the user under the extent: it names the list, or there is none; and the user owns it, or it is
+// there and shared with the user.
+fn opened<'r>(tables: &Tables, user: &User, extent: Option<&Lists>, row: &'r Row) -> Option<&'r Id>
+    ensures { option_map (λ list. list.now) result ≡ opened user.now (option_map (λ lists. lists.now) extent.entry) (rows_in tables.now.rows) row.now }
 {
     match row {
-        Row::List(row) => if row.owner == *user {
+        Row::Extent(_) => None,
+        Row::List(row) => if row.owner == *user && is_named(extent, &row.id) {
             Some(&row.id)
         } else {
             None
         },
         Row::Share(row) => {
-            if row.user == *user && has_list(tables, &row.list) {
+            if row.user == *user && is_named(extent, &row.list) && has_list(tables, &row.list) {
                 Some(&row.list)
             } else {
                 None
@@ -37,18 +39,41 @@ fn opened<'r>(tables: &Tables, user: &User, row: &'r Row) -> Option<&'r Id>
     }
 }
 
-// The lists that the user may see, in order, each once: those that a row lets the user see that names the user.
+// The lists that the user sees, in order, each once: those that a row shows that names the user.
 fn lists_opened(alloc: Global, tables: &Tables, user: &User) -> Result<Vec<Id>, Memory>
     ensures lists { IfOk result (λ lists. AreOpened user.now (rows_in tables.now.rows) lists.items) }
     ensures order { AreRows tables.now.rows }
 {
+    let extent = extent_of(tables, user);
     let mut lists = Vec::new(alloc);
     for (row, _version) in tables.of_user(user) {
-        if let Some(list) = opened(tables, user, row) {
+        if let Some(list) = opened(tables, user, extent, row) {
             add(alloc, &mut lists, list)?;
         }
     }
     Ok(lists)
+}
+
+// The rows and the user's extent, where there is one, in the order of their keys. The extent is a step.
+fn with_extent<'t, L: Ledger>(
+    alloc: Global,
+    tables: &'t Tables,
+    user: &User,
+    rows: Vec<(&'t Row, u32)>,
+    steps: &mut Steps<L>,
+) -> Result<Vec<(&'t Row, u32)>, Memory>
+    requires { AreRows (rows_at rows.items) }
+    ensures rows { IfOk result (λ all. rows_at all.items ≡ merged (extents user.now tables.now.rows) (rows_at rows.entry.items)) }
+    ensures read { OnOk result (steps.new ≡ steps.old + length (extents user.now tables.now.rows)) }
+    ensures most { steps.new ≤ steps.old + length (extents user.now tables.now.rows) }
+{
+    match tables.extent(user) {
+        Some(extent) => {
+            steps.tick();
+            merged(alloc, &[extent], &rows)
+        }
+        None => Ok(rows),
+    }
 }
 
 /// The rows that the user sees, with their versions, in the order of their keys. No row of a list that the user does not see is
@@ -66,7 +91,8 @@ pub fn rows_seen<'t, L: Ledger>(
     ensures most { steps.new ≤ steps.old + length (visible user.now tables.now.rows) }
 {
     let lists = lists_opened(alloc, tables, user)?;
-    rows_of(alloc, tables, &lists, steps)
+    let rows = rows_of(alloc, tables, &lists, steps)?;
+    with_extent(alloc, tables, user, rows, steps)
 }
 
 /// The keys of rows, each with the version of its row.

@@ -1,11 +1,11 @@
 // That entries are of the form: their types have it so.
 ghost use Rattle.std.specs.Prelude.{◌<◌, ◌^◌};
 ghost use Rattle.rv_record.specs.CellReading.{IsText};
-ghost use Rattle.rv_record.specs.EntryReading.{CallFits, EntryFits, IfThere};
+ghost use Rattle.rv_record.specs.EntryReading.{CallFits, EntryFits, IfThere, ListsFit};
 
 use rv_base::{Bounded, Id, Num, Text, User};
 use rv_book::Entry;
-use rv_rows::Call;
+use rv_rows::{Call, Lists};
 
 // A text is within its bounds, and UTF-8.
 fn text_fits<const MIN: usize, const MAX: usize>(text: &Bounded<MIN, MAX>)
@@ -62,6 +62,14 @@ fn update_fits(id: &Id, text: &Option<Text>, sort: Option<Num>)
     number_fits_if_there(sort);
 }
 
+fn lists_fit_if_there(lists: &Option<Lists>)
+    ensures { IfThere ListsFit lists.now }
+{
+    if let Some(lists) = lists {
+        lists.ids_fit();
+    }
+}
+
 fn call_fits(call: &Call)
     ensures { CallFits call.now }
 {
@@ -86,6 +94,7 @@ fn call_fits(call: &Call)
         }
         Call::UpdateTodo { id, text, sort, .. } => update_fits(id, text, *sort),
         Call::DeleteTodo { id } => id_fits(id),
+        Call::SetExtent { lists } => lists_fit_if_there(lists),
         Call::Void(_) => {}
     }
 }

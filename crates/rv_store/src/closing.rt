@@ -73,7 +73,7 @@ fn add_gone_records(
 fn is_gone(tables: &Tables, row: &Row) -> bool
     ensures { result ≡ is_left_out tables.now.rows row.now }
 {
-    tables.row(row.kind(), row.id()).is_none()
+    !tables.has_key_of(row)
 }
 
 // Of the page's rows those are removed whose keys none of the rows that stand has.

@@ -18,7 +18,7 @@ const ROWS: u8 = 2;
 fn removed_row(alloc: Global, key: &Key) -> Result<Change, Memory>
     ensures { IfOk result (λ change. change ≡ Change.Remove 2 (key_text key.now)) }
 {
-    let text = key.kind.key_text(alloc, &key.id)?;
+    let text = key.kind.key_text(alloc, key.id.as_str())?;
     Ok(Change::Remove(ROWS, Sequence::from_vec(text.into_bytes())))
 }
 

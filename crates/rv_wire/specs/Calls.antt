@@ -1,5 +1,6 @@
 -- The call that a mutation's name and arguments spell. Members that are not named here are ignored; where one that is
--- named is missing or of another kind or size, null included, the arguments are bad; a role is the text `view` or `edit`.
+-- named is missing or of another kind or size, null included but for the lists of an extent, the arguments are bad; a role is
+-- the text `view` or `edit`.
 use Rattle.std.specs.Prelude.{ℕ, List, Option, Some, None, codes, unwrap_or, option_map, if◌then◌else◌}
 use Rattle.std.specs.Str.{bytes_eq}
 use Rattle.serde_json.specs.Data.{Data}
@@ -7,9 +8,9 @@ use Rattle.serde_json.specs.Find.{get, as_bool}
 use Rattle.rv_base.specs.Options.{◌>>=◌}
 use Rattle.rv_rows.specs.Members.{text_in, num_in, role_or_edit}
 use Rattle.rv_rows.specs.declared.call.Call.{Call}
-use Rattle.rv_rows.specs.declared.call.Call.TheVariants.{CreateList, DeleteList, CreateShare, UpdateShare, DeleteShare, CreateTodo, UpdateTodo, DeleteTodo, Void}
+use Rattle.rv_rows.specs.declared.call.Call.TheVariants.{CreateList, DeleteList, CreateShare, UpdateShare, DeleteShare, CreateTodo, UpdateTodo, DeleteTodo, SetExtent, Void}
 use Rattle.rv_rows.specs.declared.call.Reason.TheVariants.{UnknownName, BadArgs}
-use Rattle.rv_wire.specs.Members.{text_member, bool_member, role_member, optional}
+use Rattle.rv_wire.specs.Members.{text_member, bool_member, role_member, extent_member, optional}
 
 -- {id,name,ownerID}
 unfoldable pub create_list_in : Data → Option Call
@@ -53,6 +54,12 @@ update_todo_in args = do
   sort ← optional num_in (get (codes "sort") args)
   Some (UpdateTodo id text complete sort)
 
+-- {lists}: null, or an array of at most 64 ids, in any order, with repeats
+unfoldable pub set_extent_in : Data → Option Call
+set_extent_in args = do
+  lists ← extent_member (codes "lists") args
+  Some (SetExtent lists)
+
 -- the call of a name, where its arguments are not bad; an id alone ends a list, a share or a todo
 abbrev pub call_with : List ℕ → Data → Option Call
 call_with name args =
@@ -64,6 +71,7 @@ call_with name args =
     else if bytes_eq name (codes "createTodo") then create_todo_in args
     else if bytes_eq name (codes "updateTodo") then update_todo_in args
     else if bytes_eq name (codes "deleteTodo") then option_map (λ id. DeleteTodo id) (text_in 1 128 args)
+    else if bytes_eq name (codes "setExtent") then set_extent_in args
     else Some (Void UnknownName)
 
 -- the call of a name; bad arguments spell none

@@ -1,8 +1,9 @@
 -- The members of a body, and what they are read as. A number with a fraction or an exponent is none here.
-use Rattle.std.specs.Prelude.{ℕ, Bool, List, Option, Some, None, codes, option_and_then, option_map}
+use Rattle.std.specs.Prelude.{ℕ, Bool, List, Option, Some, None, codes, option_and_then, option_map, is_some, if◌then◌else◌}
 use Rattle.serde_json.specs.Data.{Data, Items}
-use Rattle.serde_json.specs.Find.{get, as_str, as_bool, as_array}
-use Rattle.rv_rows.specs.Members.{text_in, num_in, role_in}
+use Rattle.serde_json.specs.Find.{get, as_null, as_str, as_bool, as_array}
+use Rattle.rv_rows.specs.Extents.{lists_of}
+use Rattle.rv_rows.specs.Members.{text_in, num_in, ids_in, role_in}
 use Rattle.rv_rows.specs.declared.role.Role.{Role}
 use Rattle.rv_wire.specs.declared.fault.FieldName.{FieldName}
 use Rattle.rv_wire.specs.declared.fault.FieldName.TheVariants as fields
@@ -35,6 +36,14 @@ bool_member name body = option_and_then as_bool (get name body)
 -- a member that is the text of a role
 abbrev pub role_member : List ℕ → Data → Option Role
 role_member name body = option_and_then role_in (get name body)
+
+-- the extent that a value asks for: none where it is null, and one of just these lists where it is an array of at most 64 ids
+abbrev pub extent_in : Data → Option (Option (List (List ℕ)))
+extent_in value = if is_some (as_null value) then Some None else option_map (λ lists. Some lists) (option_and_then lists_of (ids_in value))
+
+-- a member that asks for an extent or for none
+abbrev pub extent_member : List ℕ → Data → Option (Option (List (List ℕ)))
+extent_member name body = option_and_then extent_in (get name body)
 
 -- what a member is read as that may be absent: nothing is read of an absent one, and one that can't be read is wrong
 abbrev pub optional : {X : Type 0} → (Data → Option X) → Option Data → Option (Option X)

@@ -84,7 +84,7 @@ fn write_op(out: &mut Writer, key_text: &mut String, op: &Op) -> Result<(), Memo
     match op {
         Op::Clear => write_clear(out),
         Op::Del(key) => {
-            key.kind.put_key_text(key_text, &key.id)?;
+            key.kind.put_key_text(key_text, key.id.as_str())?;
             write_del(out, key_text.as_str())
         }
         Op::Put(row) => {

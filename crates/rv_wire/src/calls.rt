@@ -1,13 +1,14 @@
-ghost use Rattle.std.specs.Prelude.{◌≡◌, IfOk, IfSome, option_map};
+ghost use Rattle.std.specs.Prelude.{◌≡◌, IfOk, IfSome, option_and_then, option_map};
 ghost use Rattle.serde_json.specs.Find.{as_bool, get};
 ghost use Rattle.serde_json.specs.View.{view};
-ghost use Rattle.rv_rows.specs.Members.{text_in, num_in};
-ghost use Rattle.rv_wire.specs.Members.{optional};
-ghost use Rattle.rv_wire.specs.Calls.{call_in, call_with, create_list_in, create_share_in, create_todo_in, update_share_in, update_todo_in};
+ghost use Rattle.rv_rows.specs.Extents.{lists_of};
+ghost use Rattle.rv_rows.specs.Members.{text_in, num_in, ids_in};
+ghost use Rattle.rv_wire.specs.Members.{extent_in, extent_member, optional};
+ghost use Rattle.rv_wire.specs.Calls.{call_in, call_with, create_list_in, create_share_in, create_todo_in, set_extent_in, update_share_in, update_todo_in};
 
 use crate::body::{bool_member, role_member, text_member};
 use rv_base::{Id, Memory, Num, Text};
-use rv_rows::{Call, Reason, num_of_value, role_or_edit, text_of_value};
+use rv_rows::{Call, Lists, Reason, ids_of_value, num_of_value, role_or_edit, text_of_value};
 use serde_json::Value;
 use std::alloc::Global;
 
@@ -34,6 +35,7 @@ fn call_with(alloc: Global, name: &str, args: &Value) -> Result<Option<Call>, Me
         "createTodo" => create_todo(alloc, args),
         "updateTodo" => update_todo(alloc, args),
         "deleteTodo" => Ok(id_of(alloc, args)?.map(|id| Call::DeleteTodo { id })),
+        "setExtent" => set_extent(alloc, args),
         _ => Ok(Some(Call::Void(Reason::UnknownName))),
     }
 }
@@ -174,4 +176,46 @@ fn update_todo(alloc: Global, args: &Value) -> Result<Option<Call>, Memory>
         complete,
         sort,
     }))
+}
+
+// The ids that a value is, each once, where it is an array of at most 64.
+fn lists_of(alloc: Global, value: &Value) -> Result<Option<Lists>, Memory>
+    ensures { IfOk result (λ o. o ≡ option_and_then lists_of (ids_in (view value.now))) }
+{
+    match ids_of_value(alloc, value)? {
+        Some(ids) => Lists::new(alloc, ids),
+        None => Ok(None),
+    }
+}
+
+// The lists of the extent that a value asks for, or that it asks for none; `None` where it is neither null nor such ids.
+fn extent_of(alloc: Global, value: &Value) -> Result<Option<Option<Lists>>, Memory>
+    ensures { IfOk result (λ o. o ≡ extent_in (view value.now)) }
+{
+    if value.is_null() {
+        return Ok(Some(None));
+    }
+    match lists_of(alloc, value)? {
+        Some(lists) => Ok(Some(Some(lists))),
+        None => Ok(None),
+    }
+}
+
+fn extent_member(alloc: Global, args: &Value, name: &str) -> Result<Option<Option<Lists>>, Memory>
+    ensures { IfOk result (λ o. o ≡ extent_member name.now (view args.now)) }
+{
+    match args.get(name) {
+        Some(value) => extent_of(alloc, value),
+        None => Ok(None),
+    }
+}
+
+#[tactic(auto, unfolding(crate::specs::Calls::set_extent_in))]
+fn set_extent(alloc: Global, args: &Value) -> Result<Option<Call>, Memory>
+    ensures { IfOk result (λ o. o ≡ set_extent_in (view args.now)) }
+{
+    let Some(lists) = extent_member(alloc, args, "lists")? else {
+        return Ok(None);
+    };
+    Ok(Some(Call::SetExtent { lists }))
 }

@@ -1,6 +1,6 @@
 use Rattle.rv_views.specs.Viewed.{seen_key}
-use Rattle.rv_record.specs.ViewReading.{is_in_order}
-use Rattle.rv_record.proofs.Items.{stays_in_order, was_in_order}
+use Rattle.rv_base.specs.Sorted.{is_in_order}
+use Rattle.rv_base.specs.RisingLaws.{stays_in_order, was_in_order}
 use Rattle.rv_record.proofs.view_reading.are_seen.Goals as goal
 
 pub loop-i-preserved : goal.loop-i-preserved

@@ -1,6 +1,7 @@
 use Rattle.std.proofs.Common.{drop}
 use Rattle.serde_json.specs.View.{items_view}
-use Rattle.rv_record.specs.ViewReading.{each_item, pair_in}
+use Rattle.rv_rows.specs.Members.{each_item}
+use Rattle.rv_record.specs.ViewReading.{pair_in}
 use Rattle.rv_record.proofs.Items.{Goes}
 use Rattle.rv_record.proofs.view_reading.pairs_of_values.Given as goal
 

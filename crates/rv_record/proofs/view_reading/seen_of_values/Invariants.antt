@@ -1,6 +1,7 @@
 use Rattle.std.proofs.Common.{drop}
 use Rattle.serde_json.specs.View.{items_view}
-use Rattle.rv_record.specs.ViewReading.{each_item, seen_in}
+use Rattle.rv_rows.specs.Members.{each_item}
+use Rattle.rv_record.specs.ViewReading.{seen_in}
 use Rattle.rv_record.proofs.Items.{Goes}
 use Rattle.rv_record.proofs.view_reading.seen_of_values.Given as goal
 

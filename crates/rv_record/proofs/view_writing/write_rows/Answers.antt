@@ -1,6 +1,6 @@
 use Rattle.std.proofs.Common.{rules, ◌∙◌, arith}
 use Rattle.rv_record.specs.CellTexts.{seen_data}
-use Rattle.rv_record.proofs.WritingLaws.{one_more, last}
+use Rattle.rv_rows.specs.ItemLaws.{one_more, last}
 use Rattle.rv_record.proofs.view_writing.write_rows.Goals as goal
 
 pub loop-key-preserved : goal.loop-key-preserved

@@ -1,7 +1,7 @@
 use Rattle.std.proofs.Common.{◌≡◌, ◌++◌, ◌∷◌, drop}
 use Rattle.json.specs.Token.{begin_array}
 use Rattle.rv_record.specs.CellTexts.{seen_data}
-use Rattle.rv_record.proofs.WritingLaws.{list_tokens}
+use Rattle.rv_rows.specs.ItemLaws.{list_tokens}
 use Rattle.rv_record.proofs.view_writing.write_rows.Given as goal
 
 abbrev pub invariant-loop-key : goal.invariant-loop-key

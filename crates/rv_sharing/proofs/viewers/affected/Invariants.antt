@@ -7,5 +7,5 @@ use Rattle.rv_sharing.proofs.viewers.affected.Given as goal
 abbrev pub invariant-loop-list : goal.invariant-loop-list
 invariant-loop-list l = record {
   lists : AreListsOf (rows_in l.tables.rows) l.keys l.list-items;
-  viewing : Viewing (rows_in l.tables.rows) (take l.list-index l.list-items) l.users;
+  viewing : Viewing (rows_in l.tables.rows) l.keys (take l.list-index l.list-items) l.users;
 }
