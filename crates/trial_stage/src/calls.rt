@@ -150,6 +150,29 @@ fn add_todo_change(alloc: Global, text: &mut String, draws: &mut Draws) -> Resul
     append_parts(alloc, text, &[Text("}")])
 }
 
+// The lists that an extent is to name: none, one, two of three in any order, one twice, what is no list, or no extent.
+fn lists(draws: &mut Draws) -> &'static str {
+    match draws.below(10) {
+        0..=2 => "null",
+        3 => "[]",
+        4 => "[\"l0\"]",
+        5 => "[\"l1\"]",
+        6 => "[\"l2\",\"l0\"]",
+        7 => "[\"l1\",\"l2\"]",
+        8 => "[\"l2\",\"l2\"]",
+        _ => "[\"l0\",0]",
+    }
+}
+
+fn add_extent_call(alloc: Global, text: &mut String, draws: &mut Draws) -> Result<(), Memory> {
+    let call = [
+        Text("\"setExtent\",\"args\":{\"lists\":"),
+        Text(lists(draws)),
+        Text("}"),
+    ];
+    append_parts(alloc, text, &call)
+}
+
 // Adds a name and the arguments of a call of a user's, mostly in a list of its own.
 fn add_call(
     alloc: Global,
@@ -162,12 +185,13 @@ fn add_call(
     } else {
         user
     };
-    match draws.below(26) {
+    match draws.below(28) {
         0..=6 => add_list_call(alloc, text, draws, name(user)),
         7..=13 => add_share_call(alloc, text, draws),
         14..=18 => add_new_todo(alloc, text, draws),
         19..=23 => add_todo_change(alloc, text, draws),
-        24 => append_parts(alloc, text, &[Text("\"renameList\",\"args\":{}")]),
+        24..=25 => add_extent_call(alloc, text, draws),
+        26 => append_parts(alloc, text, &[Text("\"renameList\",\"args\":{}")]),
         _ => append_parts(alloc, text, &[Text("\"createTodo\",\"args\":{}")]),
     }
 }
