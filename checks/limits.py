@@ -18,6 +18,7 @@ from serving import Server, free_ports, same, talk
 
 TABLE = "CREATE TABLE cell (shelf INTEGER NOT NULL, k BLOB NOT NULL, body BLOB NOT NULL, PRIMARY KEY (shelf, k)) STRICT"
 LINE, BODY, HEAD, FIELDS, KEY, USER, NAME, TEXT, IMPORT = 4_195_328, 4_194_304, 16_384, 64, 256, 64, 128, 16_384, 16_777_216
+LISTS = 64
 NUMBER = 2**53 - 1
 TAKEN = "200 {}"
 
@@ -120,6 +121,17 @@ def effects(program):
         stand = rows([("createList", list_of("l")), ("createTodo", first), ("updateTodo", {"id": "t", "sort": size})])
         same("a sort", size if size <= NUMBER else 1, stand["todo/t"]["sort"])
     tell("a sort", NUMBER, sizes, "the row", "no call")
+    for limit, at, lists in (
+        ("lists of an extent", LISTS, lambda size: [f"l{number:02}" for number in range(size)]),
+        ("lists of an extent, all the same", LISTS, lambda size: ["l"] * size),
+        ("bytes of a list's id in an extent", NAME, lambda size: ["l" * size]),
+    ):
+        sizes = below(at) + [at]
+        for size in sizes + [at + 1]:
+            stand = rows([("setExtent", {"lists": []}), ("setExtent", {"lists": lists(size)})])
+            wanted = sorted(set(lists(size))) if size <= at else []
+            same(limit, {"extent/ann": {"lists": wanted, "user": "ann"}}, stand)
+        tell(limit, at, sizes, "the row", "no call")
 
 
 def numbers(program):

@@ -4,8 +4,8 @@
 PROGRAM is the program `rv` as it was built. First 100,000 rows come and go in an order that is drawn, in lists of 1 to 1,000 rows and
 of 63, 64 and 65, and the rows that a pull tells are those that a plain dictionary holds. Then so many USERS (1,000) share lists, and
 after each of so many ACTS (10,000) so many users PULL (20), among them all whom the act concerns: each keeps a view of its own, to
-which it applies the patches that it is told, and holds exactly what it may see, and its own last mutation id. With USERS for PULLS
-everybody pulls after each act, which takes long. Ends with status 1 at the first view that differs.
+which it applies the patches that it is told, and holds exactly what it sees, which an extent of its own may narrow, and its own last
+mutation id. With USERS for PULLS everybody pulls after each act, which takes long. Ends with status 1 at the first view that differs.
 """
 import json
 import random
@@ -90,7 +90,7 @@ def rows_that_come_and_go(program, count=100_000):
 
 
 class Shared:
-    """Lists with their todos and the users who see them."""
+    """Lists with their todos and the users who may see them, and the extents of users."""
 
     def __init__(self, users):
         self.users = users
@@ -98,6 +98,7 @@ class Shared:
         self.todos = {}
         self.shares = {}
         self.of_user = {user: set() for user in users}
+        self.extents = {}
 
     def rows_of(self, name):
         entry = self.lists[name]
@@ -108,15 +109,28 @@ class Shared:
             yield f"todo/{todo}", self.todos[todo]
 
     def seen(self, user):
-        return {key: row for name in self.of_user[user] for key, row in self.rows_of(name)}
+        extent = self.extents.get(user)
+        rows = {} if extent is None else {f"extent/{user}": {"lists": extent, "user": user}}
+        synced = [name for name in self.of_user[user] if extent is None or name in extent]
+        return rows | {key: row for name in synced for key, row in self.rows_of(name)}
 
     def viewers(self, name):
         return {self.lists[name]["owner"]} | {self.shares[share][1] for share in self.lists[name]["shares"]}
 
+    def set_extent(self, drawn):
+        """An extent of some of the lists that its user may see, and one that is not there; or of none, or all of them again."""
+        user = drawn.choice(self.users)
+        some = ["l", *(name for name in sorted(self.of_user[user]) if drawn.random() < 0.7)]
+        lists = drawn.choice([some[:64], some[:64], [], None])
+        self.extents[user] = None if lists is None else sorted(lists)
+        return user, ("setExtent", {"lists": lists}), {user}
+
     def act(self, drawn, number):
-        """One call that has an effect, by a user who may make it: who, the call, and whom it concerns."""
+        """One call, by a user who may make it: who, the call, and whom it concerns."""
         names = list(self.lists)
         kind = drawn.random()
+        if kind > 0.95:
+            return self.set_extent(drawn)
         if kind < 0.15 or not names:
             user, name = drawn.choice(self.users), f"l{number}"
             self.lists[name] = {"owner": user, "shares": [], "todos": []}
@@ -189,7 +203,7 @@ def main():
     count, acts, pulls = (int(word) for word in sys.argv[2:5]) if len(sys.argv) > 2 else (1000, 10_000, 20)
     calls, rows = rows_that_come_and_go(program)
     told, unchanged = users_who_pull(program, count, acts, pulls)
-    print(f"{calls} calls left {rows} rows as they should be; {told} pulls of {count} users after {acts} acts, {unchanged} with nothing to tell, gave each what it may see")
+    print(f"{calls} calls left {rows} rows as they should be; {told} pulls of {count} users after {acts} acts, {unchanged} with nothing to tell, gave each what it sees")
 
 
 if __name__ == "__main__":

@@ -6,7 +6,7 @@ memory by malloc and realloc of the C library, to which it is linked as it start
 refusing.c) refuses the n-th of these calls, whichever thread makes it, for n from 1 until a run has none left to refuse. A limit of the
 address space would refuse only what is large.
 
-`feed memory` is fed four scripts, line by line, and `serve` over a file a push and a pull over HTTP. A client sends again what is
+`feed memory` is fed five scripts, line by line, and `serve` over a file a push and a pull over HTTP. A client sends again what is
 answered 503. No run may end by a signal; a refusal gives 503 `{"error":"memory"}`, or status 8 with the text `memory`; every other answer
 is the one that comes where nothing is refused, and of `serve` the file then holds just what was answered 200. Where SQLite is refused
 memory while it ends a transaction, that may have happened: so then the answer is 503 `{"error":"keeper"}`, or, as the store is opened,
@@ -78,6 +78,21 @@ def difference():
     yield client, client.pull("bob")
 
 
+def left_out():
+    """A list that an extent leaves out, in which a todo is made meanwhile, and that comes again."""
+    client = Client()
+    yield client, client.push("ann", ("createList", {"id": "l1", "name": "Home", "ownerID": "ann"}), ("createShare", {"id": "s1", "listID": "l1", "userID": "bob"}))
+    yield client, client.pull("bob")
+    yield client, client.push("bob", ("setExtent", {"lists": ["l3", "l2", "l3"]}))
+    yield client, client.pull("bob")
+    yield client, client.push("ann", ("createTodo", {"id": "t1", "listID": "l1", "text": "milk", "complete": False}))
+    yield client, client.pull("bob")
+    yield client, client.push("bob", ("setExtent", {"lists": ["l2", "l1"]}))
+    yield client, client.pull("bob")
+    yield client, client.push("bob", ("setExtent", {"lists": None}))
+    yield client, client.pull("bob")
+
+
 def sixteen_looks():
     """Seventeen pulls of a group, each after a push: the first look is kept no more."""
     client = Client()
@@ -89,7 +104,7 @@ def sixteen_looks():
 
 
 def closed_book():
-    """A book with rows, clients and groups that is closed, goes on, and is closed again."""
+    """A book with rows, an extent among them, clients and groups that is closed, goes on, and is closed again."""
     client = Client()
     close = {"closeBook": True}
     yield client, client.push("ann", ("createList", {"id": "l1", "name": "Home", "ownerID": "ann"}), ("createShare", {"id": "s1", "listID": "l1", "userID": "bob"}))
@@ -97,7 +112,7 @@ def closed_book():
     yield client, client.pull("bob")
     yield client, close
     yield client, client.pull("bob")
-    yield client, client.push("bob", ("createTodo", {"id": "t1", "listID": "l1", "text": "milk", "complete": False}))
+    yield client, client.push("bob", ("createTodo", {"id": "t1", "listID": "l1", "text": "milk", "complete": False}), ("setExtent", {"lists": ["l1"]}))
     yield client, close
     yield client, client.pull("bob")
     yield client, client.pull("ann")
@@ -341,7 +356,7 @@ def main():
         subprocess.run(["gcc", "-shared", "-fPIC", "-O2", "-Wall", "-o", library, HERE / "refusing.c"], check=True)
         start = functools.partial(Run, program, library)
         totals = collections.Counter()
-        for script in (first_sync, difference, sixteen_looks, closed_book):
+        for script in (first_sync, difference, left_out, sixteen_looks, closed_book):
             totals.update(feeds(start, script))
         totals.update(serves(program, start, folder, first_port))
     print(f"{sum(totals.values())} refusals, no signal: {told(totals)}")

@@ -9,6 +9,7 @@ import random
 
 GREATEST = 2**53 - 1
 KEPT_LOOKS = 16
+MOST_LISTS = 64
 
 
 def is_id(value):
@@ -35,6 +36,10 @@ def is_role(value):
     return isinstance(value, str) and value in ("view", "edit")
 
 
+def is_lists(value):
+    return value is None or isinstance(value, list) and len(value) <= MOST_LISTS and all(map(is_id, value))
+
+
 # the members that a call's arguments must have, and those that they may have
 NEEDED = {
     "createList": {"id": is_id, "name": is_text, "ownerID": is_user},
@@ -42,6 +47,7 @@ NEEDED = {
     "createTodo": {"id": is_id, "listID": is_id, "text": is_text, "complete": is_flag},
     "updateShare": {"id": is_id, "role": is_role},
     "updateTodo": {"id": is_id},
+    "setExtent": {"lists": is_lists},
 }
 OPTIONAL = {"createShare": {"role": is_role}, "updateTodo": {"text": is_text, "complete": is_flag, "sort": is_number}}
 BY_ID = ("deleteList", "deleteShare", "deleteTodo")
@@ -58,18 +64,48 @@ def reading(name, args):
     optional = OPTIONAL.get(name, {})
     if not all(test(args[member]) for member, test in optional.items() if member in args):
         return None
-    return {member: args[member] for member in args if member in NEEDED[name] or member in optional}
+    read = {member: args[member] for member in args if member in NEEDED[name] or member in optional}
+    return {"lists": extent_of(read["lists"])} if name == "setExtent" else read
+
+
+def extent_of(lists):
+    """The lists that a user's extent names, by those that are asked for: in the order of their bytes, each once."""
+    return None if lists is None else in_order(set(lists))
+
+
+def name_of(kind, row):
+    """What names a row among those of its kind: an extent its user, any other its id."""
+    return row["user"] if kind == "extent" else row["id"]
+
+
+def list_of(kind, row):
+    """The list that a row is or belongs to; an extent has none."""
+    return {"extent": None, "list": row.get("id")}.get(kind, row.get("listID"))
 
 
 def find(rows, kind, row_id):
-    return next((row for other, row in rows if other == kind and row["id"] == row_id), None)
+    return next((row for other, row in rows if other == kind and name_of(other, row) == row_id), None)
 
 
-def sees(rows, user, list_id):
-    """Whether a user sees a list."""
+def may_see(rows, user, list_id):
+    """Whether a user may see a list: it is there, and the user owns it or a share of it names the user."""
     found = find(rows, "list", list_id)
     shared = any(k == "share" and r["listID"] == list_id and r["userID"] == user for k, r in rows)
     return found is not None and (found["ownerID"] == user or shared)
+
+
+def is_synced(rows, user, list_id):
+    """Whether a user's extent names a list, or the user has none."""
+    extent = find(rows, "extent", user)
+    return extent is None or list_id in extent["lists"]
+
+
+def sees(rows, user, kind, row):
+    """Whether a user sees a row: the user's own extent, and what is or belongs to a list that the user may see and that is synced."""
+    if kind == "extent":
+        return row["user"] == user
+    list_id = list_of(kind, row)
+    return may_see(rows, user, list_id) and is_synced(rows, user, list_id)
 
 
 def may_edit(rows, user, list_id):
@@ -86,13 +122,16 @@ def with_role(share, role):
 
 
 def without(rows, kind, row_id):
-    return [(k, r) for k, r in rows if not (k == kind and r["id"] == row_id)]
+    return [(k, r) for k, r in rows if not (k == kind and name_of(k, r) == row_id)]
 
 
 def effect(rows, user, name, args):
     """The rows after a call."""
     if args is None:
         return rows
+    if name == "setExtent":
+        extent = [] if args["lists"] is None else [("extent", {"lists": args["lists"], "user": user})]
+        return without(rows, "extent", user) + extent
     row_id = args["id"]
     if name == "createList":
         fits = find(rows, "list", row_id) is None and args["ownerID"] == user
@@ -101,7 +140,7 @@ def effect(rows, user, name, args):
         found = find(rows, "list", row_id)
         if found is None or found["ownerID"] != user:
             return rows
-        return [(k, r) for k, r in without(rows, "list", row_id) if k == "list" or r["listID"] != row_id]
+        return [(k, r) for k, r in rows if list_of(k, r) != row_id]
     if name == "createShare":
         found = find(rows, "list", args["listID"])
         twice = any(k == "share" and r["listID"] == args["listID"] and r["userID"] == args["userID"] for k, r in rows)
@@ -133,7 +172,7 @@ def effect(rows, user, name, args):
 
 
 def by_key(rows):
-    return {f"{kind}/{row['id']}": row for kind, row in rows}
+    return {f"{kind}/{name_of(kind, row)}": row for kind, row in rows}
 
 
 def in_order(keys):
@@ -190,7 +229,7 @@ class Server:
 
     def seen(self, user, place):
         rows = self.states[place]
-        return by_key((k, r) for k, r in rows if sees(rows, user, r["id"] if k == "list" else r["listID"]))
+        return by_key((k, r) for k, r in rows if sees(rows, user, k, r))
 
     def is_written(self, key, place):
         after = by_key(self.states[place]).get(key)
@@ -297,6 +336,7 @@ def call_value(name, args):
         "updateShare": ["id", "role"],
         "createTodo": ["id", "listID", "text", "complete"],
         "updateTodo": ["id", "text", "complete", "sort"],
+        "setExtent": ["lists"],
     }
     return [name] + [args.get(member) for member in members.get(name, ["id"])]
 
@@ -364,7 +404,7 @@ def lists_text(server):
     rows, lines = server.states[-1], []
     for key in in_order(by_key([(kind, row) for kind, row in rows if kind == "list"])):
         found = by_key(rows)[key]
-        own = [(kind, row) for kind, row in rows if kind != "list" and row["listID"] == found["id"]]
+        own = [(kind, row) for kind, row in rows if kind != "list" and list_of(kind, row) == found["id"]]
         todos = [row for kind, row in own if kind == "todo"]
         texts = " ".join(text_of(found[member]) for member in ("id", "ownerID", "name"))
         lines.append(f"{texts} {len(todos)} {sum(not todo['complete'] for todo in todos)} {len(own) - len(todos)}")
@@ -387,8 +427,13 @@ GROUPS = ["g0", "g1", "g2", "g3", "g4"]
 CLIENTS = ["c0", "c1", "c2", "c3", "c4", "c5"]
 NAMES = {
     "createList": 3, "deleteList": 1, "createShare": 3, "updateShare": 2, "deleteShare": 2,
-    "createTodo": 4, "updateTodo": 5, "deleteTodo": 2, "paint": 1,
+    "createTodo": 4, "updateTodo": 5, "deleteTodo": 2, "setExtent": 3, "paint": 1,
 }
+# names of lists for extents; three of them may be there
+LISTS = ["l0", "l1", "l2", "ä", "L", "l10"]
+# as many lists as an extent may name, and what it can't name
+MANY_LISTS = [["l1"] * MOST_LISTS, [f"l{MOST_LISTS - number}" for number in range(MOST_LISTS)]]
+NO_LISTS = [*([*lists, "l0"] for lists in MANY_LISTS), "l1", 5, False, {}, [""], ["x" * 129], ["l1", None], [["l1"]]]
 
 
 class Requests:
@@ -402,6 +447,15 @@ class Requests:
 
     def user_of(self, group):
         return self.chance.choice(USERS) if self.one_in(25) else USERS[int(group[1]) % len(USERS)]
+
+    def lists(self):
+        """What an extent is to name: mostly lists in any order, with repeats, or nothing, and now and then what it can't name."""
+        chance, kind = self.chance, self.chance.randrange(20)
+        if kind < 7:
+            return None
+        if kind < 10:
+            return chance.choice(NO_LISTS if kind < 9 else MANY_LISTS)
+        return [chance.choice(LISTS) for _ in range(chance.randrange(9))]
 
     def args(self, name, user):
         chance = self.chance
@@ -420,6 +474,8 @@ class Requests:
         if name == "updateTodo":
             members = {"text": chance.choice(["milk", "eggs"]), "complete": self.one_in(2), "sort": chance.choice([0, 1, GREATEST, -1])}
             return {"id": todo, **{member: value for member, value in members.items() if self.one_in(2)}}
+        if name == "setExtent":
+            return {"list": "l1"} if self.one_in(20) else {"lists": self.lists()}
         return {"deleteList": list_id, "deleteShare": share, "deleteTodo": todo}.get(name)
 
     def push(self):

@@ -20,14 +20,17 @@ TOP = os.path.dirname(os.path.dirname(os.path.abspath(__file__)))
 OTHERS = set("rt git curl auth pushURL pullURL CRATE Scratch Wary".split())
 NUMBERS = ("none one two three four five six seven eight nine ten".split(),
            "none first second third fourth fifth sixth seventh eighth ninth tenth".split())
-CONTRIBUTING, COSTS, OPERATING, PROTOCOL = (f"docs/{name}.md" for name in ("contributing", "costs", "operating", "protocol"))
+CONTRIBUTING, COSTS, DECISIONS, OPERATING, PROTOCOL = (f"docs/{name}.md" for name in ("contributing", "costs", "DECISIONS", "operating", "protocol"))
+WEB, A_CALL = "examples/web/README.md", r"(?m)^    (?!Void)[A-Z]\w+ \{$"
 UNIT, PROXY, LISTS, CALLS = "examples/deploy/rv@.service", "examples/deploy/haproxy.cfg", "examples/deploy/lists.env", "crates/rv_rows/src/call.rt"
 # Numbers that a document states, each in the text around it, and where they are had: the pattern of a file that has them too, or how
 # often a pattern stands in a file, or how many files a pattern names.
 STATED = [
     (CONTRIBUTING, r"at most (\d+) in all", "files", "crates/*/must-fail/*.edit", 0),
     (COSTS, r"(\d+) edits refused", "files", "crates/*/must-fail/*.edit", 0),
-    (CONTRIBUTING, r"## A (\w+) mutator", "times", CALLS, r"(?m)^    (?!Void)[A-Z]\w+ \{$", 1),
+    (CONTRIBUTING, r"## A (\w+) mutator", "times", CALLS, A_CALL, 1),
+    (DECISIONS, r"come to be by the (\w+) calls", "times", CALLS, A_CALL, 0),
+    (WEB, r"the (\w+) mutators on the rows", "times", CALLS, A_CALL, 0),
     (CONTRIBUTING, r"`rv_make` makes (\w+) of them", "times", "crates/rv_make/src/calls.rt", r"Ok\(Call::\w+", 0),
     (PROTOCOL, r"(\w+) commands tell what is in a store", "times", PROTOCOL, r"(?m)^- \*\*`\w+ STORE( USER)?`\*\*", 0),
     (PROTOCOL, r"(\w+) statements read and write it", "times", PROTOCOL, r"(?m)^\d\. `(SELECT|INSERT|DELETE)", 0),

@@ -383,6 +383,30 @@ def check_roles(ann, bob, pictures):
     print("roles: a share that lets look alone showed the list, and what was done offline had no effect")
 
 
+def check_hidden(ann, bob, pictures):
+    """A list that is hidden goes from the other's window alone, and comes back with what was done in it; one that is made meanwhile stays."""
+    bob.window.click("#hide-list")
+    bob.waits("no list", "return document.querySelectorAll('#lists li').length === 0 && !document.getElementById('some-lists').hidden")
+    bob.in_step()
+    same("what bob's window keeps", ["extent/bob"], bob.kept()["keys"])
+    ann.add("while it is hidden")
+    ann.in_step()
+    bob.make_list("Chores")
+    bob.in_step()
+    bob.open_list("Chores")
+    same("the lists that bob's window keeps", 1, sum(key.startswith("list/") for key in bob.kept()["keys"]))
+    pictures.take_all_looks(bob, "hidden")
+    bob.window.click("#show-all")
+    bob.open_list("Groceries")
+    bob.shows("while it is hidden")
+    bob.open_list("Chores")
+    bob.window.click("#delete-list")
+    bob.window.click("#question-yes")
+    bob.open_list("Groceries")
+    come_together(ann, bob)
+    print("hiding: a list that was hidden came back with what was done in it, and one that was made meanwhile stayed")
+
+
 def check_refusals(ann, bob, site, pictures):
     """A key that is no longer taken, a version that is not served, and a client group that was ended."""
     site.kill_server()
@@ -528,6 +552,7 @@ def main():
         check_tabs(ann, bob)
         check_share_taken(ann, bob, pictures)
         check_roles(ann, bob, pictures)
+        check_hidden(ann, bob, pictures)
         check_refusals(ann, bob, site, pictures)
         check_restore(ann, bob, site, pictures)
         check_wrong_name(driver, site)

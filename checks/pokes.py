@@ -49,6 +49,33 @@ def check_sharing(program):
     print(f"sharing: bob was poked {took * 1000:.1f} ms after a push began, and not before and after the share; cat only by her own push")
 
 
+def check_extents(program):
+    """A push to a list that a user's extent leaves out pokes others and not that user, whose own setExtent pokes nobody else."""
+    server = Server(program, connections=4)
+    server.add_list("ann", "bob")
+    ann, bob = server.link("ann"), server.link("bob")
+    for link in (ann, bob):
+        link.poked("a link as it begins")
+    server.push("bob", "setExtent", {"lists": ["l-bob"]})
+    bob.poked("bob after his extent")
+    ann.quiet("ann after bob's extent")
+    server.add_todo("ann", "t")
+    ann.poked("ann after a todo of hers")
+    server.push("ann", "updateTodo", {"id": "t", "text": "bread"})
+    ann.poked("ann after a change of that todo")
+    bob.quiet("bob after a todo in a list that his extent leaves out")
+    server.push("bob", "updateTodo", {"id": "t", "complete": True})
+    ann.poked("ann after bob's change in a list that his extent leaves out")
+    bob.poked("bob after his own change there")
+    server.push("bob", "setExtent", {"lists": ["l-ann", "l-bob"]})
+    bob.poked("bob after an extent that names the list")
+    ann.quiet("ann after that extent")
+    server.push("ann", "updateTodo", {"id": "t", "text": "milk"})
+    bob.poked("bob after a change in a list that his extent names")
+    server.ends(9)
+    print("extents: bob was poked by a list of ann's only while his extent named it, and ann by no extent of his")
+
+
 def check_denied(program):
     """A first message that names no account is answered by a close with 1008, and then the job serves the next client."""
     refused = (CLOSE, POLICY_VIOLATION)
@@ -473,8 +500,8 @@ def main():
     words = [word for word in sys.argv[1:] if word != "--slow"]
     if len(words) != 1:
         sys.exit("usage: checks/pokes.py PROGRAM [--slow]")
-    checks = [check_sharing, check_denied, check_idle, check_aborts, check_leaving, check_sixteen, check_crossing, check_order, check_end,
-              check_limit, check_many]
+    checks = [check_sharing, check_extents, check_denied, check_idle, check_aborts, check_leaving, check_sixteen, check_crossing, check_order,
+              check_end, check_limit, check_many]
     for check in checks + [check_silence] * ("--slow" in sys.argv):
         check(words[0])
         sys.stdout.flush()
