@@ -1,16 +1,17 @@
 /**
- * The eight mutators, on the rows that this browser knows: a map of rows by the protocol's keys, `list/ID`, `share/ID` and
- * `todo/ID`. The server has the last word by the same rules over all rows (docs/protocol.md, "Mutators"): a call whose
- * condition fails has no effect, there as here.
+ * The nine mutators, on the rows that this browser knows: a map of rows by the protocol's keys, `extent/USER`, `list/ID`,
+ * `share/ID` and `todo/ID`. The server has the last word by the same rules over all rows (docs/protocol.md, "Mutators"): a call
+ * whose condition fails has no effect, there as here.
  */
 function sharesOf(view, listID) {
   return [...view.values()].filter((row) => row.userID !== undefined && row.listID === listID);
 }
 
-/** Whether the user sees the list: they own it, or a share of it names them. */
+/** Whether the user sees the list: they own it, or a share of it names them; and their extent names it, if they have one. */
 export function sees(view, user, listID) {
-  const list = view.get(`list/${listID}`);
-  return list !== undefined && (list.ownerID === user || sharesOf(view, listID).some((share) => share.userID === user));
+  const [list, extent] = [view.get(`list/${listID}`), view.get(`extent/${user}`)];
+  if (list === undefined || extent?.lists.includes(listID) === false) return false;
+  return list.ownerID === user || sharesOf(view, listID).some((share) => share.userID === user);
 }
 
 /** Whether the user may edit the list's todos: they own it, or a share of it that is not for looking alone names them. */
@@ -72,5 +73,10 @@ export const mutators = {
   deleteTodo(view, user, id) {
     const todo = view.get(`todo/${id}`);
     if (todo !== undefined && mayEdit(view, user, todo.listID)) view.delete(`todo/${id}`);
+  },
+
+  setExtent(view, user, { lists }) {
+    if (lists === null) view.delete(`extent/${user}`);
+    else view.set(`extent/${user}`, { lists: [...new Set(lists)], user });
   },
 };

@@ -8,6 +8,12 @@ const addressOf = (id) => `#${encodeURIComponent(id)}`;
 
 const changes = (count) => (count === 1 ? "1 change" : `${count} changes`);
 
+/** How many lists an extent names at most. */
+const MOST_LISTS = 64;
+
+/** The call that has just these lists synced, or all where they are too many. */
+const syncing = (lists) => ({ name: "setExtent", args: { lists: lists.length <= MOST_LISTS ? lists : null } });
+
 /** The state that the page is in by the last round, and the text of it. */
 function stateOf(outcome, isOnline, waiting) {
   const counted = waiting > 0 ? ` · ${waiting} waiting` : "";
@@ -32,11 +38,12 @@ function noticeOf(outcome, { user, groupID }) {
 }
 
 /**
- * The server tells nobody who they are. That it gives lists of others, or makes no list where that was asked in this name, shows
- * that the key has another.
+ * The server tells nobody who they are. That it gives lists or an extent of others, or makes no list where that was asked in this
+ * name, shows that the key has another.
  */
 const otherName = (user) => `This key is not ${user}’s. Sign out, and sign in with the name that the key has at the server.`;
 
+/** Whether a list that was made is not there, where no extent can have left it out. */
 function hasLostList(confirmed, lists) {
   const deleted = new Set(confirmed.filter(({ name }) => name === "deleteList").map(({ args }) => args));
   return confirmed.some(({ name, args }) => name === "createList" && !deleted.has(args.id) && !lists.some(({ id }) => id === args.id));
@@ -46,6 +53,8 @@ export class Page {
   #actions;
   #session;
   #lists = [];
+  #extent;
+  #isNarrowed = false;
   #outcome;
   #waiting = 0;
   #waitingIDs = new Set();
@@ -67,6 +76,8 @@ export class Page {
     byId("sign-out").addEventListener("click", () => this.#signOut());
     byId("delete-list").addEventListener("click", () => this.#deleteList());
     byId("leave-list").addEventListener("click", () => this.#leaveList());
+    byId("hide-list").addEventListener("click", () => actions.mutate(syncing(this.#synced.filter((id) => id !== this.#list.id))));
+    byId("show-all").addEventListener("click", () => actions.mutate({ name: "setExtent", args: { lists: null } }));
     addEventListener("hashchange", () => {
       this.#showList();
       byId(this.#list === undefined ? "list-name" : "list-title").focus({ preventScroll: true });
@@ -88,7 +99,10 @@ export class Page {
   show(snapshot) {
     this.#session = snapshot.session;
     this.#waiting = snapshot.pending.length;
-    this.#lists = listsOf(shownView(snapshot), snapshot.session.user);
+    const [view, key] = [shownView(snapshot), `extent/${snapshot.session.user}`];
+    this.#lists = listsOf(view, snapshot.session.user);
+    this.#extent = view.get(key);
+    this.#isNarrowed = view.has(key) || snapshot.rows.has(key);
     this.#waitingIDs = new Set(snapshot.pending.map(({ args }) => args.id ?? args));
     this.#isOtherName ||= isForOther(snapshot);
     byId("app").hidden = false;
@@ -102,12 +116,17 @@ export class Page {
   /** Shows what the last round came to. */
   setOutcome(outcome, confirmed) {
     this.#outcome = outcome;
-    this.#isOtherName ||= hasLostList(confirmed, this.#lists);
+    this.#isOtherName ||= !this.#isNarrowed && hasLostList(confirmed, this.#lists);
     this.#showState();
   }
 
   get #list() {
     return this.#lists.find(({ id }) => location.hash === addressOf(id));
+  }
+
+  /** The ids of the lists that are synced: those that the user's extent names, or all. */
+  get #synced() {
+    return this.#extent?.lists ?? this.#lists.map(({ id }) => id);
   }
 
   #onForm(form, field, act) {
@@ -121,7 +140,9 @@ export class Page {
 
   #addList(name) {
     const id = crypto.randomUUID();
-    this.#actions.mutate({ name: "createList", args: { id, name, ownerID: this.#session.user } }).then(() => {
+    const calls = [{ name: "createList", args: { id, name, ownerID: this.#session.user } }];
+    if (this.#extent !== undefined) calls.push(syncing([...this.#synced, id]));
+    this.#actions.mutate(...calls).then(() => {
       location.hash = addressOf(id);
       byId("todo-text").focus();
     });
@@ -197,7 +218,8 @@ export class Page {
       const isOwn = ownerID === this.#session.user;
       shownName.dataset.sharing = isOwn ? (shares.length > 0 ? "shared" : "") : `by ${ownerID}`;
     });
-    byId("no-lists").hidden = this.#lists.length > 0;
+    byId("no-lists").hidden = this.#lists.length > 0 || this.#extent !== undefined;
+    byId("some-lists").hidden = this.#extent === undefined;
   }
 
   #showList() {
@@ -244,5 +266,6 @@ export class Page {
     byId("share-form").hidden = !isOwn;
     byId("delete-list").hidden = !isOwn;
     byId("leave-list").hidden = isOwn;
+    byId("hide-list").hidden = this.#synced.length > MOST_LISTS + 1;
   }
 }

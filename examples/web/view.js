@@ -14,9 +14,12 @@ function rowsOf(view, kind) {
   return [...view].filter(([key]) => key.startsWith(`${kind}/`)).map(([, row]) => row);
 }
 
-/** Whether what the server gave is for somebody else: all lists that it gives are ones that the key's user sees. */
-export function isForOther({ session, rows }) {
-  return rowsOf(rows, "list").some(({ id }) => !sees(rows, session.user, id));
+/**
+ * Whether what the server gave is for somebody else: all lists that it gives are ones that the key's user sees, and an extent that
+ * it gives is that user's.
+ */
+export function isForOther({ session: { user }, rows }) {
+  return rowsOf(rows, "extent").some((extent) => extent.user !== user) || rowsOf(rows, "list").some(({ id }) => !sees(rows, user, id));
 }
 
 /** The lists that the user sees, by their names; each with its shares, its todos, and whether the user may edit them. */
