@@ -81,6 +81,45 @@ def print_unchanged(program, pulls=20):
                 print(f"a pull of {count} rows with nothing changed, {label}: {(more - one) // pulls} instructions")
 
 
+def beside(count):
+    """Lines that leave so many lists of ten rows that ann may see: each second one is ann's, and the others are shared with ann."""
+    lines = []
+    for number in range(count):
+        owner, list_id, client, group = "ann" if number % 2 else "bob", f"b{number}", f"d{number}", f"h{number}"
+        lines += rows(10, client, owner, group, list_id)
+        if owner == "bob":
+            share = {"id": f"s{number}", "listID": list_id, "userID": "ann"}
+            lines.append(push(client, 11, "createShare", share, owner, group))
+    return lines
+
+
+def print_extents(program, pulls=20):
+    """Prints what a pull costs under an extent of one list of ten rows, beside no other list and beside a thousand."""
+    for count in (0, 1000):
+        before = beside(count) + rows(10) + [push("c1", 11, "setExtent", {"lists": ["l1"]}), pull()]
+        place = len(before)
+        acted = before + [push("c1", 12, "paint", None)]
+        kinds = (
+            ("unchanged, as the mark tells", before, unchanged(place, pulls)),
+            ("unchanged, after an act without effect", acted, unchanged(place, pulls)),
+            ("without base", before, anew(pulls)),
+        )
+        for name, lines, asked in kinds:
+            each = (instructions(program, lines + asked) - instructions(program, lines)) // pulls
+            print(f"a pull under an extent of one list, beside {count:4} lists, {name}: {each} instructions")
+
+
+def print_sharers(program, count=1000, turns=20):
+    """Prints what a todo costs in a list of many sharers, each of whom is looked for by an extent: nobody has one, or everybody."""
+    shares = [push("c1", number, "createShare", {"id": f"s{number}", "listID": "l1", "userID": f"u{number}"}) for number in range(2, count + 2)]
+    for label, lists in (("nobody has an extent", None), ("each has one that leaves it out", ["l2"]), ("each has one that names it", ["l1"])):
+        extents = [push(f"e{number}", 1, "setExtent", {"lists": lists}, f"u{number}", f"h{number}") for number in range(2, count + 2)]
+        before = rows(1) + shares + extents
+        todos = [push("c1", count + 2 + turn, "createTodo", {"id": f"t{turn}", "listID": "l1", "text": "milk", "complete": False}) for turn in range(turns)]
+        each = (instructions(program, before + todos) - instructions(program, before)) // turns
+        print(f"a line with a todo for a list with {count} sharers, {label}: {each} instructions")
+
+
 def print_stores(program, turns=100):
     """Prints what a turn costs over a store of many entries, and what it costs to open such a store."""
     for count in (1000, 10000, 100000):
@@ -96,6 +135,8 @@ def main():
     print_table(program)
     print_stores(program)
     print_unchanged(program)
+    print_extents(program)
+    print_sharers(program)
     for count in (0, 1000, 100000):
         print_pulls(program, f"{count:6} other clients", strangers(count), count)
     for count in (1000, 10000):
