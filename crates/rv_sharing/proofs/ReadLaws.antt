@@ -18,7 +18,7 @@ use Rattle.rv_rows.specs.Held.{Stored, rows_in}
 use Rattle.rv_rows.specs.Keys.{row_key}
 use Rattle.rv_rows.specs.Sharing.{belongs, is_extent, list_of, sees_row}
 use Rattle.rv_sharing.specs.Texts.{AreInOrder}
-use Rattle.rv_sharing.specs.Opened.{AreOpened}
+use Rattle.rv_sharing.specs.Opened.{AreSeen}
 use Rattle.rv_sharing.specs.Gathered.{extents, of_list, rows_at, rows_in_lists}
 use Rattle.rv_sharing.proofs.GatheredLaws.{Item, among_passes}
 use Rattle.rv_sharing.proofs.VisibleLaws.{sees_either}
@@ -83,7 +83,7 @@ belongs_nowhere user lists (variants.Share row) e = absurd (cc)
 belongs_nowhere user lists (variants.Todo row) e = absurd (cc)
 
 -- as many rows are read as the user sees: the user's extent, and the rows of the lists
-pub read_seen : (user : List ℕ) (stored : List Stored) (held lists : List (List ℕ)) → held ≡ lists → AreOpened user (rows_in stored) lists → length (extents user stored) + rows_in_lists held stored ≡ length (visible user stored)
+pub read_seen : (user : List ℕ) (stored : List Stored) (held lists : List (List ℕ)) → held ≡ lists → AreSeen user (rows_in stored) lists → length (extents user stored) + rows_in_lists held stored ≡ length (visible user stored)
 read_seen user stored held lists same are =
     ap (λ (ls : List (List ℕ)). length (extents user stored) + rows_in_lists ls stored) same
     ∙ ap (λ (n : ℕ). length (extents user stored) + n) (lists_apart lists stored are.order)

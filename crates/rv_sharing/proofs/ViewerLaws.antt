@@ -64,7 +64,7 @@ not_sharing user list (variants.List row) e = refl
 not_sharing user list (variants.Share row) e = ap (λ (b : Bool). b && bytes_eq row.user user) e
 not_sharing user list (variants.Todo row) e = refl
 
-shares-own : (user list : List ℕ) (stored : List Stored) → list_any (shares user list) (rows_in (filter (λ s. belongs list s.0) stored)) ≡ list_any (shares user list) (rows_in stored)
+pub shares-own : (user list : List ℕ) (stored : List Stored) → list_any (shares user list) (rows_in (filter (λ s. belongs list s.0) stored)) ≡ list_any (shares user list) (rows_in stored)
 shares-own user list [] = refl
 shares-own user list (s ∷ stored) =
     elim (belongs list s.0) as (λ b. belongs list s.0 ≡ b → list_any (shares user list) (rows_in (cond b (s ∷ filter (λ s. belongs list s.0) stored) (filter (λ s. belongs list s.0) stored))) ≡ (shares user list s.0 || list_any (shares user list) (rows_in stored))) [
@@ -116,6 +116,13 @@ no_shares user list todo ((variants.Extent row, version) ∷ rest) all = absurd 
 no_shares user list todo ((variants.List row, version) ∷ rest) all = absurd (let below : Less ≡ Greater = sym all.0 in cc)
 no_shares user list todo ((variants.Share row, version) ∷ rest) all = absurd (let below : Less ≡ Greater = sym all.0 in cc)
 no_shares user list todo ((variants.Todo row, version) ∷ rest) all = no_shares user list todo rest all.1
+
+pub none_behind : (user list : List ℕ) (rows : List Row) (rest next : List Stored) (s : Stored) (todo : TodoRow) → rest ≡ s ∷ next → s.0 ≡ variants.Todo todo → AreRows rest → list_any (shares user list) (rows_in rest) ≡ list_any (shares user list) rows
+    → false ≡ list_any (shares user list) rows
+none_behind user list rows rest next s todo first is order told = sym (subst (λ (rs : List Stored). list_any (shares user list) (rows_in rs) ≡ false) (sym first) (nothing s is (rw first at order))) ∙ told
+  where
+    nothing : (s : Stored) → s.0 ≡ variants.Todo todo → AreRows (s ∷ next) → (shares user list s.0 || list_any (shares user list) (rows_in next)) ≡ false
+    nothing s is order = rw is (no_shares user list todo next (subst (λ (row : Row). Above stored_key (row_text row) next) is order.0))
 
 pub adding_begins : (list : List ℕ) (stored rest : List Stored) (before users : List (List ℕ)) → AreRows stored → AreInOrder before → users ≡ before → rest ≡ filter (λ s. belongs list s.0) stored → Adding list (rows_in stored) before users rest
 adding_begins list stored rest before users rows order same own =

@@ -12,7 +12,7 @@ use Rattle.rv_rows.specs.declared.row.Row.TheVariants as variants
 use Rattle.rv_rows.specs.Keys.{key_text, row_key}
 use Rattle.rv_rows.specs.Held.{Stored, AreRows, find, stored_key, rows_in}
 use Rattle.rv_rows.specs.Sharing.{belongs, is_extent, list_passes, sees_row}
-use Rattle.rv_sharing.specs.Opened.{AreOpened}
+use Rattle.rv_sharing.specs.Opened.{AreSeen}
 use Rattle.rv_sharing.specs.Gathered.{rows_at, keys_at, extents, merged, Stand}
 use Rattle.rv_sharing.specs.Visible.{visible}
 use Rattle.rv_sharing.proofs.GatheredLaws.{among_passes, merged-filter}
@@ -27,7 +27,7 @@ keys_at-rows [] = refl
 keys_at-rows (x ∷ xs) = ap (λ (t : List (Key × ℕ)). (row_key x.0.now, x.1) ∷ t) (keys_at-rows xs)
 
 -- a user sees the rows of the lists that the user sees, and the user's extent
-pub sees_either : (user : List ℕ) (rows : List Row) (lists : List (List ℕ)) → AreOpened user rows lists → (row : Row) → (is_extent user row || list_any (λ list. belongs list row) lists) ≡ sees_row user rows row
+pub sees_either : (user : List ℕ) (rows : List Row) (lists : List (List ℕ)) → AreSeen user rows lists → (row : Row) → (is_extent user row || list_any (λ list. belongs list row) lists) ≡ sees_row user rows row
 sees_either user rows lists are row = ap (λ (b : Bool). is_extent user row || b) (among_passes lists row) ∙ each row
   where
     each : (row : Row) → (is_extent user row || list_passes (λ text. list_any (bytes_eq text) lists) row) ≡ sees_row user rows row
@@ -37,7 +37,7 @@ sees_either user rows lists are row = ap (λ (b : Bool). is_extent user row || b
     each (variants.Todo row) = are.each row.list
 
 -- so both together are those that the user sees
-pub seen_rows : (user : List ℕ) (stored : List Stored) (held lists : List (List ℕ)) (rows all : List Stored) → AreRows stored → held ≡ lists → AreOpened user (rows_in stored) lists
+pub seen_rows : (user : List ℕ) (stored : List Stored) (held lists : List (List ℕ)) (rows all : List Stored) → AreRows stored → held ≡ lists → AreSeen user (rows_in stored) lists
     → rows ≡ filter (λ s. list_any (λ list. belongs list s.0) held) stored → all ≡ merged (extents user stored) rows → all ≡ filter (λ s. sees_row user (rows_in stored) s.0) stored
 seen_rows user stored held lists rows all order same are is both =
     both

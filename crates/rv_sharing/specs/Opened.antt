@@ -7,20 +7,28 @@ use Rattle.rv_rows.specs.declared.key.Key.{Key}
 use Rattle.rv_rows.specs.declared.row.Row.{Row}
 use Rattle.rv_rows.specs.declared.row.Row.TheVariants as variants
 use Rattle.rv_rows.specs.Keys.{key_text, row_at}
-use Rattle.rv_rows.specs.Sharing.{is_list, is_extent, list_passes, sees_list}
-use Rattle.rv_sharing.specs.Extents.{is_named}
+use Rattle.rv_rows.specs.Sharing.{is_list, is_extent, list_passes, may_see, sees_list}
 use Rattle.rv_sharing.specs.Texts.{AreInOrder}
 
--- the list that the row shows to the user under the extent: it names the list, or there is none; and the user owns it, or it is
--- there and shared with the user
-abbrev pub opened : List ℕ → Option (List (List ℕ)) → List Row → Row → Option (List ℕ)
-opened user extent rows (variants.Extent row) = None
-opened user extent rows (variants.List row) = if bytes_eq row.owner user && is_named extent row.id then Some row.id else None
-opened user extent rows (variants.Share row) = if bytes_eq row.user user && is_named extent row.list && list_any (is_list row.list) rows then Some row.list else None
-opened user extent rows (variants.Todo row) = None
+-- the list that the row lets the user see: one that the user owns, or one that is there and shared with the user
+abbrev pub opened : List ℕ → List Row → Row → Option (List ℕ)
+opened user rows (variants.Extent row) = None
+opened user rows (variants.List row) = if bytes_eq row.owner user then Some row.id else None
+opened user rows (variants.Share row) = if bytes_eq row.user user && list_any (is_list row.list) rows then Some row.list else None
+opened user rows (variants.Todo row) = None
+
+-- these are the lists that the user may see
+pub record AreOpened (user : List ℕ) (rows : List Row) (lists : List (List ℕ)) : Type 0 where
+  pub order : AreInOrder lists
+  pub each : (list : List ℕ) → list_any (bytes_eq list) lists ≡ may_see user list rows
+
+-- these are, of the named lists, those that the user may see
+pub record AreAmong (user : List ℕ) (rows : List Row) (named lists : List (List ℕ)) : Type 0 where
+  pub order : AreInOrder lists
+  pub each : (list : List ℕ) → list_any (bytes_eq list) lists ≡ (may_see user list rows && list_any (bytes_eq list) named)
 
 -- these are the lists that the user sees
-pub record AreOpened (user : List ℕ) (rows : List Row) (lists : List (List ℕ)) : Type 0 where
+pub record AreSeen (user : List ℕ) (rows : List Row) (lists : List (List ℕ)) : Type 0 where
   pub order : AreInOrder lists
   pub each : (list : List ℕ) → list_any (bytes_eq list) lists ≡ sees_list user list rows
 

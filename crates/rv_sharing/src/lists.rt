@@ -6,6 +6,7 @@ ghost use Rattle.rv_rows.specs.Sharing.{is_list, is_synced, lets_edit, list_pass
 ghost use Rattle.rv_sharing.specs.Extents.{row_lists, extent_of, is_named};
 ghost use Rattle.rv_sharing.specs.Owners.{row_owner, owner_of};
 
+use crate::viewers::is_todo;
 use rv_base::{Id, User};
 use rv_rows::{Kind, Lists, Row, Tables};
 
@@ -49,13 +50,26 @@ pub fn owns(tables: &Tables, user: &User, list: &Id) -> bool
     }
 }
 
-/// Whether a share of the list names the user: among the rows that name the user. Takes no memory.
+/// Whether a share of the list names the user. It stands among the rows that name the user and among those of the list, before
+/// its todos: both are walked side by side, until one of them ends. Takes no memory.
 pub fn has_share(tables: &Tables, user: &User, list: &Id) -> bool
     ensures { result ≡ list_any (shares user.now list.now) (rows_in tables.now.rows) }
 {
+    let mut of_list = tables.of_list(list);
     for (row, _version) in tables.of_user(user) {
         if row.shares(user, list) {
             return true;
+        }
+        match of_list.next() {
+            Some((other, _version)) => {
+                if other.shares(user, list) {
+                    return true;
+                }
+                if is_todo(other) {
+                    return false;
+                }
+            }
+            None => return false,
         }
     }
     false
@@ -95,7 +109,7 @@ pub(crate) fn extent_of<'t>(tables: &'t Tables, user: &User) -> Option<&'t Lists
 }
 
 // Whether the extent names the list, or there is none.
-pub(crate) fn is_named(extent: Option<&Lists>, list: &Id) -> bool
+fn is_named(extent: Option<&Lists>, list: &Id) -> bool
     ensures { result ≡ is_named (option_map (λ lists. lists.now) extent.entry) list.now }
 {
     match extent {

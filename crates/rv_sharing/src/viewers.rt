@@ -61,7 +61,7 @@ fn sharer<'r>(tables: &Tables, list: &Id, row: &'r Row) -> Option<&'r User>
 }
 
 // Whether the row is a todo.
-fn is_todo(row: &Row) -> bool
+pub(crate) fn is_todo(row: &Row) -> bool
     ensures { IsTrue result → (todo : TodoRow) × (row.now ≡ Todo todo) }
 {
     match row {

@@ -3,33 +3,32 @@ ghost use Rattle.std.specs.Prelude.{◌≡◌, ◌≤◌, ◌<◌, ◌+◌, leng
 ghost use Rattle.rv_base.specs.Sorted.{InOrder};
 ghost use Rattle.rv_rows.specs.Keys.{key_text};
 ghost use Rattle.rv_rows.specs.Held.{rows_in, AreRows};
-ghost use Rattle.rv_sharing.specs.Opened.{opened, AreOpened};
+ghost use Rattle.rv_sharing.specs.Opened.{opened, AreOpened, AreAmong, AreSeen};
 ghost use Rattle.rv_sharing.specs.Gathered.{extents, keys_at, merged, rows_at, Stand};
 ghost use Rattle.rv_sharing.specs.Visible.{visible};
 
 use crate::gathering::{merged, rows_of};
-use crate::lists::{extent_of, has_list, is_named};
+use crate::lists::{extent_of, has_list, may_see};
 use crate::texts::add;
 use rv_base::{Id, Memory, Sequence, Steps, User};
-use rv_rows::{Lists, Row, Tables, Visible};
+use rv_rows::{Row, Tables, Visible};
 use std::alloc::Global;
 use std::marker::Brand;
 use std::sync::ledger::{Blank, Ledger};
 
-// The list that the row shows to the user under the extent: it names the list, or there is none; and the user owns it, or it is
-// there and shared with the user.
-fn opened<'r>(tables: &Tables, user: &User, extent: Option<&Lists>, row: &'r Row) -> Option<&'r Id>
-    ensures { option_map (λ list. list.now) result ≡ opened user.now (option_map (λ lists. lists.now) extent.entry) (rows_in tables.now.rows) row.now }
+// The list that the row lets the user see: one that the user owns, or one that is there and shared with the user.
+fn opened<'r>(tables: &Tables, user: &User, row: &'r Row) -> Option<&'r Id>
+    ensures { option_map (λ list. list.now) result ≡ opened user.now (rows_in tables.now.rows) row.now }
 {
     match row {
         Row::Extent(_) => None,
-        Row::List(row) => if row.owner == *user && is_named(extent, &row.id) {
+        Row::List(row) => if row.owner == *user {
             Some(&row.id)
         } else {
             None
         },
         Row::Share(row) => {
-            if row.user == *user && is_named(extent, &row.list) && has_list(tables, &row.list) {
+            if row.user == *user && has_list(tables, &row.list) {
                 Some(&row.list)
             } else {
                 None
@@ -39,19 +38,41 @@ fn opened<'r>(tables: &Tables, user: &User, extent: Option<&Lists>, row: &'r Row
     }
 }
 
-// The lists that the user sees, in order, each once: those that a row shows that names the user.
+// The lists that the user may see, in order, each once: those that a row lets the user see that names the user.
 fn lists_opened(alloc: Global, tables: &Tables, user: &User) -> Result<Vec<Id>, Memory>
-    ensures lists { IfOk result (λ lists. AreOpened user.now (rows_in tables.now.rows) lists.items) }
-    ensures order { AreRows tables.now.rows }
+    ensures { IfOk result (λ lists. AreOpened user.now (rows_in tables.now.rows) lists.items) }
 {
-    let extent = extent_of(tables, user);
     let mut lists = Vec::new(alloc);
     for (row, _version) in tables.of_user(user) {
-        if let Some(list) = opened(tables, user, extent, row) {
+        if let Some(list) = opened(tables, user, row) {
             add(alloc, &mut lists, list)?;
         }
     }
     Ok(lists)
+}
+
+// Of the named lists those that the user may see, in order, each once.
+fn lists_among(alloc: Global, tables: &Tables, user: &User, named: &[Id]) -> Result<Vec<Id>, Memory>
+    ensures { IfOk result (λ lists. AreAmong user.now (rows_in tables.now.rows) named.now lists.items) }
+{
+    let mut lists = Vec::new(alloc);
+    for list in named {
+        if may_see(tables, user, list) {
+            add(alloc, &mut lists, list)?;
+        }
+    }
+    Ok(lists)
+}
+
+// The lists that the user sees, in order, each once: where the user has an extent, only those that it names are looked at.
+fn lists_seen(alloc: Global, tables: &Tables, user: &User) -> Result<Vec<Id>, Memory>
+    ensures lists { IfOk result (λ lists. AreSeen user.now (rows_in tables.now.rows) lists.items) }
+    ensures order { AreRows tables.now.rows }
+{
+    match extent_of(tables, user) {
+        Some(named) => lists_among(alloc, tables, user, named.as_slice()),
+        None => lists_opened(alloc, tables, user),
+    }
 }
 
 // The rows and the user's extent, where there is one, in the order of their keys. The extent is a step.
@@ -90,7 +111,7 @@ pub fn rows_seen<'t, L: Ledger>(
     ensures read { OnOk result (steps.new ≡ steps.old + length (visible user.now tables.now.rows)) }
     ensures most { steps.new ≤ steps.old + length (visible user.now tables.now.rows) }
 {
-    let lists = lists_opened(alloc, tables, user)?;
+    let lists = lists_seen(alloc, tables, user)?;
     let rows = rows_of(alloc, tables, &lists, steps)?;
     with_extent(alloc, tables, user, rows, steps)
 }
