@@ -5,3 +5,4 @@ pub mod SlotLaws
 pub mod RowSlots
 pub mod FiledSlots
 pub mod SortSlots
+pub mod ExtentLaws

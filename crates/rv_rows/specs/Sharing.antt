@@ -2,7 +2,7 @@
 -- list names the user. A user sees each such list that the user's extent names, or each where there is none, with its shares and
 -- its todos; and the extent itself. The owner, and a user whom a share of the list with role edit names, may add, change and remove
 -- its todos.
-use Rattle.std.specs.Prelude.{ℕ, Bool, false, List, [], Option, Some, None, ◌&&◌, ◌||◌, not}
+use Rattle.std.specs.Prelude.{ℕ, Bool, true, false, List, [], Option, Some, None, ◌&&◌, ◌||◌, not}
 use Rattle.std.specs.List.{filter, list_any}
 use Rattle.std.specs.Option.{option_map_or}
 use Rattle.std.specs.Str.{bytes_eq}
@@ -38,6 +38,13 @@ lets_edit user list (variants.Extent row) = false
 lets_edit user list (variants.List row) = false
 lets_edit user list (variants.Share row) = bytes_eq row.list list && bytes_eq row.user user && is_edit row.role
 lets_edit user list (variants.Todo row) = false
+
+-- the row is some user's extent
+abbrev pub is_any_extent : Row → Bool
+is_any_extent (variants.Extent row) = true
+is_any_extent (variants.List row) = false
+is_any_extent (variants.Share row) = false
+is_any_extent (variants.Todo row) = false
 
 -- the row is the user's extent
 abbrev pub is_extent : List ℕ → Row → Bool

@@ -2,7 +2,7 @@ ghost use Rattle.std.specs.Prelude.{◌≡◌, ◌↔◌, [], IsTrue, IfOk, opti
 ghost use Rattle.std.specs.Cmp.Lexicographic.{slice_cmp};
 ghost use Rattle.std.specs.Ordering.{nat_cmp};
 ghost use Rattle.rv_rows.specs.Keys.{key_text, row_key, row_text};
-ghost use Rattle.rv_rows.specs.Sharing.{belongs, lets_edit, list_of, shares, user_of};
+ghost use Rattle.rv_rows.specs.Sharing.{is_any_extent, belongs, lets_edit, list_of, shares, user_of};
 ghost use Rattle.rv_rows.specs.Filed.{filed_text, sort_of, then_by, under};
 ghost use Rattle.rv_rows.specs.Effects.{sort_after, sort_in, with_fields, with_role};
 ghost use Rattle.rv_rows.specs.declared.filing.Filing.TheVariants as filings;
@@ -230,6 +230,18 @@ impl Row {
             Ordering::Less => Ordering::Less,
             Ordering::Equal => self.compare_key(other.kind(), other.id()),
             Ordering::Greater => Ordering::Greater,
+        }
+    }
+
+    // Whether the row is an extent.
+    pub(crate) fn is_extent(&self) -> bool
+        ensures { result ≡ is_any_extent self.now }
+    {
+        match self {
+            Row::Extent(_) => true,
+            Row::List(_) => false,
+            Row::Share(_) => false,
+            Row::Todo(_) => false,
         }
     }
 

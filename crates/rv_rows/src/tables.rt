@@ -1,10 +1,10 @@
 ghost use Rattle.std.specs.Prelude.{◌≡◌, ◌≤◌, ◌+◌, [], option_map, OnOk, is_some};
-ghost use Rattle.std.specs.List.{filter};
+ghost use Rattle.std.specs.List.{filter, list_any};
 ghost use Rattle.std.specs.Str.{bytes_eq};
 ghost use Rattle.rv_rows.specs.declared.key.Kind.TheVariants.{Extent};
 ghost use Rattle.rv_rows.specs.Keys.{key_text, row_text};
 ghost use Rattle.rv_rows.specs.Held.{find, put, remove, rows_in, AreRows};
-ghost use Rattle.rv_rows.specs.Sharing.{belongs, user_of};
+ghost use Rattle.rv_rows.specs.Sharing.{belongs, is_any_extent, user_of};
 ghost use Rattle.rv_rows.specs.Effects.{greatest_sort};
 
 use crate::indexed::IndexedRows;
@@ -57,12 +57,27 @@ impl Tables {
         self.find(kind, id.as_str())
     }
 
-    /// The extent of a user, with its version, where there is one. Takes no memory.
+    /// The extent of a user, with its version, where there is one. Takes no memory, and searches only where somebody has one.
     pub fn extent(&self, user: &User) -> Option<(&Row, u32)>
         ensures found { option_map (λ r. (r.0.now, r.1)) result ≡ find (key_text (record { kind = Extent; id = user.now })) self.now.rows }
         ensures order { AreRows self.now.rows }
     {
-        self.find(Kind::Extent, user.as_str())
+        if self.has_extents() {
+            self.find(Kind::Extent, user.as_str())
+        } else {
+            None
+        }
+    }
+
+    // Whether some row is an extent: these stand before all others.
+    fn has_extents(&self) -> bool
+        ensures extents { result ≡ list_any is_any_extent (rows_in self.now.rows) }
+        ensures order { AreRows self.now.rows }
+    {
+        match self.iter().next() {
+            Some((row, _version)) => row.is_extent(),
+            None => false,
+        }
     }
 
     // The row of this kind and of the id with this text, with its version.

@@ -14,16 +14,9 @@ use Rattle.rv_rows.specs.declared.row.Row.{Row}
 use Rattle.rv_rows.specs.declared.row.Row.TheVariants as variants
 use Rattle.rv_rows.specs.declared.call.Call.TheVariants.{SetExtent}
 use Rattle.rv_rows.specs.Keys.{row_text, has_row, in_key_order}
-use Rattle.rv_rows.specs.Sharing.{is_list, is_extent, names, owns, shares, may_see, is_synced, sees_list, sees_row, list_of, seen}
+use Rattle.rv_rows.specs.Sharing.{is_list, is_any_extent, is_extent, names, owns, shares, may_see, is_synced, sees_list, sees_row, list_of, seen}
 use Rattle.rv_rows.specs.Effects.{effect, is_at, is_other, replaced}
 use Rattle.rv_rows.specs.EffectLaws.{distinct-effect}
-
--- the row is some user's extent
-abbrev pub is_any_extent : Row → Bool
-is_any_extent (variants.Extent row) = true
-is_any_extent (variants.List row) = false
-is_any_extent (variants.Share row) = false
-is_any_extent (variants.Todo row) = false
 
 -- Where no extent stands, a user sees each list that the user may see.
 pub sees_all : (user list : List ℕ) (rows : List Row) → list_any is_any_extent rows ≡ false → sees_list user list rows ≡ may_see user list rows
