@@ -1,4 +1,5 @@
 ghost use Rattle.std.specs.Prelude.{◌≡◌, IfOk};
+ghost use Rattle.rv_rows.specs.declared.call.Call.TheVariants.{CreateList, CreateShare, CreateTodo, UpdateTodo};
 
 use crate::lists::Lists;
 use crate::role::Role;
@@ -108,17 +109,78 @@ fn lists_copy(alloc: Global, lists: &Option<Lists>) -> Result<Option<Lists>, Mem
     }
 }
 
+// The same call that makes a list.
+fn create_list_copy(alloc: Global, id: &Id, name: &Text, owner: &User) -> Result<Call, Memory>
+    ensures { IfOk result (λ copy. copy ≡ CreateList id.now name.now owner.now) }
+{
+    Ok(Call::CreateList {
+        id: id.copy(alloc)?,
+        name: name.copy(alloc)?,
+        owner: owner.copy(alloc)?,
+    })
+}
+
+// The same call that makes a share.
+fn create_share_copy(
+    alloc: Global,
+    id: &Id,
+    list: &Id,
+    user: &User,
+    role: Role,
+) -> Result<Call, Memory>
+    ensures { IfOk result (λ copy. copy ≡ CreateShare id.now list.now user.now role) }
+{
+    Ok(Call::CreateShare {
+        id: id.copy(alloc)?,
+        list: list.copy(alloc)?,
+        user: user.copy(alloc)?,
+        role,
+    })
+}
+
+// The same call that makes a todo.
+fn create_todo_copy(
+    alloc: Global,
+    id: &Id,
+    list: &Id,
+    text: &Text,
+    complete: bool,
+) -> Result<Call, Memory>
+    ensures { IfOk result (λ copy. copy ≡ CreateTodo id.now list.now text.now complete) }
+{
+    Ok(Call::CreateTodo {
+        id: id.copy(alloc)?,
+        list: list.copy(alloc)?,
+        text: text.copy(alloc)?,
+        complete,
+    })
+}
+
+// The same call that sets fields of a todo.
+fn update_todo_copy(
+    alloc: Global,
+    id: &Id,
+    text: &Option<Text>,
+    complete: Option<bool>,
+    sort: Option<Num>,
+) -> Result<Call, Memory>
+    ensures { IfOk result (λ copy. copy ≡ UpdateTodo id.now text.now complete sort) }
+{
+    Ok(Call::UpdateTodo {
+        id: id.copy(alloc)?,
+        text: text_copy(alloc, text)?,
+        complete,
+        sort,
+    })
+}
+
 impl Call {
     /// The same call, which shares its texts.
     pub fn copy(&self, alloc: Global) -> Result<Call, Memory>
         ensures { IfOk result (λ copy. copy ≡ self.now) }
     {
         match self {
-            Call::CreateList { id, name, owner } => Ok(Call::CreateList {
-                id: id.copy(alloc)?,
-                name: name.copy(alloc)?,
-                owner: owner.copy(alloc)?,
-            }),
+            Call::CreateList { id, name, owner } => create_list_copy(alloc, id, name, owner),
             Call::DeleteList { id } => Ok(Call::DeleteList {
                 id: id.copy(alloc)?,
             }),
@@ -127,12 +189,7 @@ impl Call {
                 list,
                 user,
                 role,
-            } => Ok(Call::CreateShare {
-                id: id.copy(alloc)?,
-                list: list.copy(alloc)?,
-                user: user.copy(alloc)?,
-                role: *role,
-            }),
+            } => create_share_copy(alloc, id, list, user, *role),
             Call::UpdateShare { id, role } => Ok(Call::UpdateShare {
                 id: id.copy(alloc)?,
                 role: *role,
@@ -145,23 +202,13 @@ impl Call {
                 list,
                 text,
                 complete,
-            } => Ok(Call::CreateTodo {
-                id: id.copy(alloc)?,
-                list: list.copy(alloc)?,
-                text: text.copy(alloc)?,
-                complete: *complete,
-            }),
+            } => create_todo_copy(alloc, id, list, text, *complete),
             Call::UpdateTodo {
                 id,
                 text,
                 complete,
                 sort,
-            } => Ok(Call::UpdateTodo {
-                id: id.copy(alloc)?,
-                text: text_copy(alloc, text)?,
-                complete: *complete,
-                sort: *sort,
-            }),
+            } => update_todo_copy(alloc, id, text, *complete, *sort),
             Call::DeleteTodo { id } => Ok(Call::DeleteTodo {
                 id: id.copy(alloc)?,
             }),
