@@ -50,6 +50,7 @@ module _ (Holds : Trouble → Type 0) where
   refusal_causes refusals.ClientOfOther none = absurd none
   refusal_causes refusals.NotFound none = absurd none
   refusal_causes refusals.NoGroup none = absurd none
+  refusal_causes (refusals.Behind length) none = absurd none
   refusal_causes (refusals.Limit what at) none = absurd none
   refusal_causes refusals.Memory none = absurd none
 

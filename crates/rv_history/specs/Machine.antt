@@ -48,8 +48,8 @@ IsUnchanged user request book = (patch_for user request book ≡ []) × (ids_for
 -- last is skipped. Of a pull: the group is bound to another user; it is retired; the next order is above 2^53 - 1; the book is full. One
 -- with nothing to tell is answered whatever the limits. Of a retirement: no act or look names the group; it is retired already; the
 -- book is full. Of a closing: the book is full. Memory may be refused to a mutation, to a retirement and to a closing only where they would
--- have been done, and to a pull wherever the group is the user's and not retired. The machine has no trouble with what keeps the book: that
--- is told of a whole server.
+-- have been done, and to a pull wherever the group is the user's and not retired. The machine has no trouble with what keeps the book, and
+-- is not behind another: that is told of a whole server.
 abbrev pub Refuses : ℕ → Book → Ask → Refusal → Type 0
 Refuses limit book (Ask.mutation from m) GroupOfOther = is_of_other from.user from.group book ≡ true
 Refuses limit book (Ask.mutation from m) NotFound = (is_of_other from.user from.group book ≡ false) × (retired from.group book ≡ true)

@@ -87,6 +87,7 @@ module _ (write : ReplyText) (from : Sender) where
   not_refused limit m book (refusals.Limit what at) takes le why = let next = why.1 in omega (arith, le, next)
   not_refused limit m book refusals.Memory takes le why = let next = why.1 in omega (arith, le, next)
   not_refused limit m book refusals.NoGroup takes le never = never
+  not_refused limit m book (refusals.Behind length) takes le never = never
   not_refused limit m book (refusals.Trouble trouble) takes le never = never
 
   -- a step for what its client has done

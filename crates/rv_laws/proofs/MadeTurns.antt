@@ -14,7 +14,7 @@ use Rattle.rv_turns.specs.declared.outcome.Outcome.{Outcome}
 use Rattle.rv_turns.specs.declared.outcome.Outcome.TheVariants.{Acted, Skipped, Pulled, Retired, Closed, Refused}
 use Rattle.rv_turns.specs.declared.pull.PullReply.{PullReply}
 use Rattle.rv_turns.specs.declared.refusal.Refusal.{Refusal}
-use Rattle.rv_turns.specs.declared.refusal.Refusal.TheVariants.{Future, GroupOfOther, ClientOfOther, NotFound, NoGroup, Limit, Trouble, Memory}
+use Rattle.rv_turns.specs.declared.refusal.Refusal.TheVariants.{Future, GroupOfOther, ClientOfOther, NotFound, NoGroup, Behind, Limit, Trouble, Memory}
 use Rattle.rv_turns.specs.declared.refusal.Trouble.{Trouble as AnyTrouble}
 use Rattle.rv_turns.specs.declared.refusal.Which.TheVariants as which
 use Rattle.rv_book.specs.Book.{Book, bound, group_of, last, last_order, size, with_entry}
@@ -88,6 +88,7 @@ module _ (most : ℕ) (who : Who) (book : Book) (count : ℕ) (room : most < 2 ^
   push_kept id call (Limit what at) le memory (takes, next, full, is, so) = omega (arith, full, small.few, room)
   push_kept id call Memory le memory why = cc
   push_kept id call NoGroup le memory never = never
+  push_kept id call (Behind length) le memory never = never
   push_kept id call (Trouble trouble) le memory never = never
 
   pub came_of_push : (id : ℕ) (call : Call) (outcome : Outcome) (new : Book) → id ≤ count + 1 → lacked_memory outcome ≡ false → Step pull_json (2 ^ 32 - 1) book (pushed_by who id call) outcome new → CameOfPush who id call book outcome new
@@ -110,6 +111,7 @@ module _ (most : ℕ) (who : Who) (book : Book) (count : ℕ) (room : most < 2 ^
   pull_kept cookie ClientOfOther low memory never = never
   pull_kept cookie (Future expected got) low memory never = never
   pull_kept cookie NoGroup low memory never = never
+  pull_kept cookie (Behind length) low memory never = never
   pull_kept cookie (Trouble trouble) low memory never = never
 
   came_of_reply : (cookie : Cookie) (same : Bool) (reply : PullReply) (new : Book) → reply.same ≡ same → Replies pull_json (2 ^ 32 - 1) book (user who) (record { group = group who; cookie = cookie }) same reply new

@@ -2,7 +2,7 @@
 use Rattle.std.proofs.Common.{◌≡◌, true, refl}
 use Rattle.rv_http.specs.Responses.{is_status}
 use Rattle.rv_turns.specs.declared.refusal.Refusal.{Refusal}
-use Rattle.rv_turns.specs.declared.refusal.Refusal.TheVariants.{Future, GroupOfOther, ClientOfOther, NotFound, NoGroup, Limit, Trouble, Memory}
+use Rattle.rv_turns.specs.declared.refusal.Refusal.TheVariants.{Future, GroupOfOther, ClientOfOther, NotFound, NoGroup, Behind, Limit, Trouble, Memory}
 use Rattle.rv_turns.specs.declared.refusal.Trouble.TheVariants.{Keeper, Changed}
 use Rattle.rv_wire.specs.declared.error_body.ErrorBody.{ErrorBody}
 use Rattle.rv_wire.specs.declared.error_body.ErrorBody.TheVariants.{VersionNotSupported, NotJson, Field, Refused}
@@ -14,6 +14,7 @@ refusal_served GroupOfOther = refl
 refusal_served ClientOfOther = refl
 refusal_served NotFound = refl
 refusal_served NoGroup = refl
+refusal_served (Behind length) = refl
 refusal_served (Limit which at) = refl
 refusal_served (Trouble Keeper) = refl
 refusal_served (Trouble (Changed kept found)) = refl

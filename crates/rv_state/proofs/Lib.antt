@@ -2,3 +2,4 @@ pub mod Concerned
 pub mod Marking
 pub mod Entered
 pub mod Openings
+pub mod EnteredCells

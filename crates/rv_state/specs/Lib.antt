@@ -1,3 +1,4 @@
 pub mod UserMarks
 pub mod Standing
 pub mod Ready
+pub mod Entering

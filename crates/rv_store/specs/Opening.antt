@@ -1,15 +1,14 @@
 -- What opening makes of cells and a generation that were loaded: the book that is kept as them, or the first place that is
 -- wrong.
-use Rattle.std.specs.Prelude.{◌≡◌, ◌⊎◌, ℕ, ◌+◌, ◌<◌, ◌≤◌, List, [], ◌∷◌, ◌++◌, not, Result, Ok, Err}
+use Rattle.std.specs.Prelude.{◌≡◌, ◌⊎◌, ℕ, ◌+◌, ◌≤◌, List, [], ◌∷◌, ◌++◌, not, Result, Ok, Err}
 use Rattle.std.specs.Cmp.Lexicographic.{slice_cmp}
 use Rattle.std.specs.declared.cmp.Ordering.TheVariants.{Less}
 use Rattle.std.specs.List.{AllByRecursion, filter}
 use Rattle.std.specs.Ordering.{nat_cmp}
 use Rattle.rv_base.specs.Sorted.{find_by}
-use Rattle.rv_book.specs.declared.entry.Entry.{Entry}
 use Rattle.rv_book.specs.declared.page.Page.{Page}
 use Rattle.rv_book.specs.Book.{Book, no_page, size}
-use Rattle.rv_history.specs.Lawful.{IsLawful, IsLawfulAfter}
+use Rattle.rv_history.specs.Lawful.{IsLawful}
 use Rattle.rv_keeper.specs.declared.cell.Cell.{Cell}
 use Rattle.rv_keeper.specs.declared.loaded.Loaded.{Loaded}
 use Rattle.rv_keeper.specs.Cells.{cell_key}
@@ -17,12 +16,12 @@ use Rattle.rv_record.specs.declared.fault.CellFault.{CellFault}
 use Rattle.rv_record.specs.declared.fault.CellFault.TheVariants.{BadCell, Memory}
 use Rattle.rv_record.specs.declared.fault.Damage.{Damage}
 use Rattle.rv_record.specs.CellReading.{damage_at}
-use Rattle.rv_record.specs.CellTexts.{entry_cell}
 use Rattle.rv_record.specs.EntryReading.{EntryFits}
 use Rattle.rv_opening.specs.PageCells.{PartsFit, on_page}
 use Rattle.rv_opening.specs.Begins.{BreaksPage}
 use Rattle.rv_opening.specs.PageReads.{IsKeptPage}
 use Rattle.rv_state.specs.Standing.{Standing}
+use Rattle.rv_state.specs.Entering.{IsBrokenEntry}
 use Rattle.rv_store.specs.StoreCells.{AreDerived, IsKeptAs, entry_cells}
 
 -- A lawful book that is at most so long, whose entries and whose page are of the form.
@@ -47,12 +46,6 @@ other_shelves cells = filter (λ cell. not (on_page cell)) cells
 -- the page that is kept as these cells; no page where there are none
 abbrev pub IsPageOf : ℕ → List Cell → Page → Type 0
 IsPageOf limit cells page = ((cells ≡ []) × (page ≡ no_page)) ⊎ IsKeptPage limit cells page
-
--- The cell of shelf 1 is not that of an entry which may come next: its key is not the next place, its body is no entry, the
--- book is as long as it may be, or the entry may not stand after these.
-pub record IsBrokenEntry (limit : ℕ) (book : Book) (cell : Cell) : Type 0 where
-  pub shelf : cell.shelf ≡ 1
-  pub none : (entry : Entry) → EntryFits entry → cell ≡ entry_cell (size book + 1) entry → size book < limit → IsLawfulAfter book entry → ⊥
 
 -- The least shelf and key at which the two hold not the same: a cell is missing, is too much, or has another body.
 pub record IsFirstDifference (own loaded : List Cell) (damage : Damage) : Type 0 where

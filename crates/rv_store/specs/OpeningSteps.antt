@@ -1,47 +1,20 @@
 -- What the steps of opening answer: the entries are entered one after another, and then the other cells of their book are
 -- compared with the loaded ones.
-use Rattle.std.specs.Prelude.{◌≡◌, ℕ, ◌+◌, ◌<◌, ◌≤◌, List, ◌++◌, drop, length, Option, Result, Ok, Err}
+use Rattle.std.specs.Prelude.{◌≡◌, ℕ, ◌+◌, ◌≤◌, List, ◌++◌, drop, length, Option, Result, Ok, Err}
 use Rattle.std.specs.Option.{option_map_or}
 use Rattle.rv_base.specs.Sorted.{InOrder}
-use Rattle.rv_book.specs.declared.entry.Entry.{Entry}
 use Rattle.rv_book.specs.declared.page.Page.{Page}
 use Rattle.rv_book.specs.SoundPages.{IsSoundPage}
-use Rattle.rv_book.specs.Book.{Book, no_page, size, with_entry}
-use Rattle.rv_history.specs.Lawful.{IsLawfulAfter}
+use Rattle.rv_book.specs.Book.{Book, no_page}
 use Rattle.rv_keeper.specs.declared.cell.Cell.{Cell}
 use Rattle.rv_keeper.specs.Cells.{cell_key}
 use Rattle.rv_record.specs.declared.fault.CellFault.{CellFault}
 use Rattle.rv_record.specs.declared.fault.CellFault.TheVariants.{BadCell, Memory}
-use Rattle.rv_record.specs.CellReading.{damage_at}
-use Rattle.rv_record.specs.CellTexts.{entry_cell}
-use Rattle.rv_record.specs.EntryReading.{EntryFits}
 use Rattle.rv_opening.specs.declared.page_read.PageRead.{PageRead}
 use Rattle.rv_opening.specs.PageCells.{PartsFit}
 use Rattle.rv_state.specs.Standing.{Standing}
 use Rattle.rv_store.specs.StoreCells.{AreDerived}
-use Rattle.rv_store.specs.Opening.{IsBrokenEntry, IsFirstDifference, BreaksAt, HasEntries}
-
--- the cell is that of an entry of the form which may come next
-pub record IsNext (limit : ℕ) (book : Book) (cell : Cell) (entry : Entry) : Type 0 where
-  pub fits : EntryFits entry
-  pub made : cell ≡ entry_cell (size book + 1) entry
-  pub below : size book < limit
-  pub lawful : IsLawfulAfter book entry
-
--- the cell is that of no entry which may come next, and the damage is at its place; or memory was refused
-abbrev pub Breaks : ℕ → Book → Cell → CellFault → Type 0
-Breaks limit book cell (BadCell damage) = IsBrokenEntry limit book cell × (damage ≡ damage_at cell)
-Breaks limit book cell Memory = Unit {0}
-
--- what is answered of a cell of shelf 1: the entry which comes next, or why there is none
-abbrev pub ReadsNext : ℕ → Book → Cell → Result Entry CellFault → Type 0
-ReadsNext limit book cell (Ok entry) = IsNext limit book cell entry
-ReadsNext limit book cell (Err fault) = Breaks limit book cell fault
-
--- what is answered of a cell of shelf 1 whose entry is entered, and the book then
-abbrev pub EntersNext : ℕ → Book → Cell → Book → Result (Unit {0}) CellFault → Type 0
-EntersNext limit book cell next (Ok done) = (entry : Entry) × IsNext limit book cell entry × (next ≡ with_entry book entry)
-EntersNext limit book cell next (Err fault) = Breaks limit book cell fault
+use Rattle.rv_store.specs.Opening.{IsFirstDifference, BreaksAt, HasEntries}
 
 -- a page that was read: it is sound, at a place from 1 to the limit, of the form, and its rows are the tables'
 pub record Stands (limit : ℕ) (read : PageRead) : Type 0 where

@@ -41,6 +41,8 @@ pub enum Refusal {
     NotFound,
     /// No act and no look names the client group.
     NoGroup,
+    /// The pull's cookie is of a later place than the book has: the book is this long, and follows another that is longer.
+    Behind(u32),
     /// This is full, at this number.
     Limit(Which, Num),
     /// The turn could not be kept.

@@ -6,7 +6,7 @@ use Rattle.serde_json.proofs.OnLiterals.{serde_json_on_literals}
 use Rattle.rv_turns.specs.declared.refusal.Which.{Which}
 use Rattle.rv_turns.specs.declared.refusal.Which.TheVariants.{Book, Order}
 use Rattle.rv_turns.specs.declared.refusal.Trouble.TheVariants.{Keeper, Changed}
-use Rattle.rv_turns.specs.declared.refusal.Refusal.TheVariants.{Future, GroupOfOther, ClientOfOther, NotFound, NoGroup, Limit, Memory}
+use Rattle.rv_turns.specs.declared.refusal.Refusal.TheVariants.{Future, GroupOfOther, ClientOfOther, NotFound, NoGroup, Behind, Limit, Memory}
 use Rattle.rv_wire.specs.declared.error_body.ErrorBody.TheVariants.{VersionNotSupported, NotJson, Field}
 use Rattle.rv_wire.specs.declared.fault.FieldName.{FieldName}
 use Rattle.rv_wire.specs.declared.fault.FieldName.TheVariants as fields
@@ -19,6 +19,10 @@ use Rattle.rv_wire.specs.Errors.{version_text, which_text, trouble_data, refusal
 pub future_text : (e g : ℕ) → (((codes "{\"error\":\"Future\",\"expected\":" ++ decimal e) ++ codes ",\"got\":") ++ decimal g) ++ codes "}" ≡ compact_text (refusal_data (Future e g))
 unfolding serde_json_on_literals
 future_text e g = simp append_assoc
+
+pub behind_text : (n : ℕ) → (codes "{\"error\":\"behind\",\"length\":" ++ decimal n) ++ codes "}" ≡ compact_text (refusal_data (Behind n))
+unfolding serde_json_on_literals
+behind_text n = simp append_assoc
 
 pub limit_text : (which : Which) (n : ℕ) → (codes "{\"at\":" ++ decimal n) ++ (codes ",\"error\":\"Limit\",\"which\":\"" ++ which_text which ++ codes "\"}") ≡ compact_text (refusal_data (Limit which n))
 unfolding serde_json_on_literals

@@ -6,7 +6,7 @@ use Rattle.rv_turns.specs.declared.refusal.Which.TheVariants.{Book, Order}
 use Rattle.rv_turns.specs.declared.refusal.Trouble as troubles
 use Rattle.rv_turns.specs.declared.refusal.Trouble.TheVariants.{Keeper, Changed}
 use Rattle.rv_turns.specs.declared.refusal.Refusal.{Refusal}
-use Rattle.rv_turns.specs.declared.refusal.Refusal.TheVariants.{Future, GroupOfOther, ClientOfOther, NotFound, NoGroup, Limit, Trouble, Memory}
+use Rattle.rv_turns.specs.declared.refusal.Refusal.TheVariants.{Future, GroupOfOther, ClientOfOther, NotFound, NoGroup, Behind, Limit, Trouble, Memory}
 use Rattle.rv_wire.specs.declared.error_body.ErrorBody.{ErrorBody}
 use Rattle.rv_wire.specs.declared.error_body.ErrorBody.TheVariants.{VersionNotSupported, NotJson, Field, Refused}
 use Rattle.rv_wire.specs.declared.fault.WireFault.{WireFault}
@@ -43,19 +43,21 @@ refusal_data GroupOfOther = object (member (codes "error") (string (codes "Group
 refusal_data ClientOfOther = object (member (codes "error") (string (codes "ClientOfOther")) no_members)
 refusal_data NotFound = object (member (codes "error") (string (codes "ClientStateNotFound")) no_members)
 refusal_data NoGroup = object (member (codes "error") (string (codes "NoGroup")) no_members)
+refusal_data (Behind length) = object (member (codes "error") (string (codes "behind")) (member (codes "length") (number (unsigned length)) no_members))
 refusal_data (Limit which at) = object (member (codes "at") (number (unsigned at)) (member (codes "error") (string (codes "Limit")) (member (codes "which") (string (which_text which)) no_members)))
 refusal_data (Trouble trouble) = trouble_data trouble
 refusal_data Memory = object (member (codes "error") (string (codes "memory")) no_members)
 
 -- 200 where the client's reference names the answer, 403 where another owns what is named, 404 where nothing has the name, 409 for a
--- mutation from the future, 500 where what is kept was changed by another, 503 where the keeper failed and for want of memory, and 507
--- where something is full (RFC 9110, section 15; RFC 4918, section 11.5)
+-- mutation from the future, 500 where what is kept was changed by another, 503 where the keeper failed, where the book is behind and for
+-- want of memory, and 507 where something is full (RFC 9110, section 15; RFC 4918, section 11.5)
 abbrev pub refusal_status : Refusal → ℕ
 refusal_status (Future expected got) = 409
 refusal_status GroupOfOther = 403
 refusal_status ClientOfOther = 403
 refusal_status NotFound = 200
 refusal_status NoGroup = 404
+refusal_status (Behind length) = 503
 refusal_status (Limit which at) = 507
 refusal_status (Trouble trouble) = trouble_status trouble
 refusal_status Memory = 503

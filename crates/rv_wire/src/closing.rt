@@ -2,7 +2,7 @@ ghost use Rattle.std.specs.Prelude.{◌≡◌, ◌≤◌, take};
 ghost use Rattle.serde_json.specs.Written.{compact_text};
 ghost use Rattle.rv_wire.specs.Answers.{closed_data};
 
-use crate::refusal::{put, put_number};
+use crate::refusal::put_last;
 
 /// Writes the JSON text of the answer to the closing of a book, `{"closed":PLACE}`, to the buffer's front, and answers how
 /// many bytes it has. Takes no memory.
@@ -10,7 +10,5 @@ pub fn closed_text(place: u32, out: &mut [u8; 128]) -> usize
     ensures length { result ≤ 128 }
     ensures text { take result out.new ≡ compact_text (closed_data place) }
 {
-    let at = put(out, 0, b"{\"closed\":");
-    let at = put_number(out, at, u64::from(place));
-    put(out, at, b"}")
+    put_last(out, b"{\"closed\":", u64::from(place))
 }

@@ -28,5 +28,5 @@ pub use pull_body::{pull_of_value, read_pull};
 pub use push::Push;
 pub use push_body::{push_of_value, read_push};
 pub use refusal::error_text;
-pub use reply::{look_reply, same_reply};
+pub use reply::{bare_reply, look_reply, same_reply};
 pub use retirement::retired_text;

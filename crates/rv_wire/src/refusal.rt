@@ -73,6 +73,17 @@ fn put_numbers(out: &mut [u8; 128], first: &[u8], one: u64, second: &[u8], other
     put(out, at, b"}")
 }
 
+// Writes a number after what names it, and ends the object.
+pub(crate) fn put_last(out: &mut [u8; 128], first: &[u8], number: u64) -> usize
+    requires { length first.now + 21 ≤ 128 }
+    ensures bound { result ≤ 128 }
+    ensures text { take result out.new ≡ (first.now ++ decimal number) ++ codes "}" }
+{
+    let at = put(out, 0, first);
+    let at = put_number(out, at, number);
+    put(out, at, b"}")
+}
+
 // Writes the JSON text of a turn that could not be kept.
 fn trouble_text(trouble: &Trouble, out: &mut [u8; 128]) -> usize
     ensures length { result ≤ 128 }
@@ -107,6 +118,11 @@ fn refusal_text(refusal: &Refusal, out: &mut [u8; 128]) -> usize
         Refusal::ClientOfOther => put(out, 0, b"{\"error\":\"ClientOfOther\"}"),
         Refusal::NotFound => put(out, 0, b"{\"error\":\"ClientStateNotFound\"}"),
         Refusal::NoGroup => put(out, 0, b"{\"error\":\"NoGroup\"}"),
+        Refusal::Behind(length) => put_last(
+            out,
+            b"{\"error\":\"behind\",\"length\":",
+            u64::from(*length),
+        ),
         Refusal::Limit(which, number) => put_limit(out, *which, number.get()),
         Refusal::Trouble(trouble) => trouble_text(trouble, out),
         Refusal::Memory => put(out, 0, b"{\"error\":\"memory\"}"),
@@ -154,6 +170,7 @@ fn refusal_status(refusal: &Refusal) -> u16
         Refusal::ClientOfOther => 403,
         Refusal::NotFound => 200,
         Refusal::NoGroup => 404,
+        Refusal::Behind(_) => 503,
         Refusal::Limit(_, _) => 507,
         Refusal::Trouble(trouble) => trouble_status(trouble),
         Refusal::Memory => 503,

@@ -1,7 +1,7 @@
 // Replies to pulls, with their texts.
 ghost use Rattle.std.specs.Prelude.{◌≡◌, decimal, true, false, [], IfOk};
 ghost use Rattle.rv_base.specs.Sorted.{InOrder};
-ghost use Rattle.rv_views.specs.declared.cookie.Cookie.TheVariants.{Named};
+ghost use Rattle.rv_views.specs.declared.cookie.Cookie.TheVariants.{Bare, Named};
 ghost use Rattle.rv_wire.specs.Answers.{reply_of};
 
 use crate::answer::pull_text;
@@ -24,6 +24,21 @@ fn place_text(alloc: Global, place: u32) -> Result<Text, Memory>
     }
 }
 
+// The reply that tells this, with a cookie of its own.
+fn told_reply(alloc: Global, cookie: Cookie, ids: Clients, ops: Ops) -> Result<PullReply, Memory>
+    requires { InOrder (λ pair. pair.0) ids }
+    ensures { IfOk result (λ reply. reply ≡ reply_of false cookie ids ops) }
+{
+    let text = pull_text(alloc, &cookie, &ids, &ops)?;
+    Ok(PullReply {
+        cookie,
+        same: false,
+        ids,
+        ops,
+        text,
+    })
+}
+
 /// The reply of a look that is entered at this place, with this order. The ids are in the order of the clients' bytes and each
 /// client's once.
 pub fn look_reply(
@@ -40,14 +55,16 @@ pub fn look_reply(
         place_text: place_text(alloc, place)?,
         order,
     };
-    let text = pull_text(alloc, &cookie, &ids, &ops)?;
-    Ok(PullReply {
-        cookie,
-        same: false,
-        ids,
-        ops,
-        text,
-    })
+    told_reply(alloc, cookie, ids, ops)
+}
+
+/// The reply of a pull that enters nothing, with this order: its cookie is the bare order, which names no base. The ids are in the
+/// order of the clients' bytes and each client's once.
+pub fn bare_reply(alloc: Global, order: Num, ids: Clients, ops: Ops) -> Result<PullReply, Memory>
+    requires { InOrder (λ pair. pair.0) ids }
+    ensures { IfOk result (λ reply. reply ≡ reply_of false (Bare order) ids ops) }
+{
+    told_reply(alloc, Cookie::Bare(order), ids, ops)
 }
 
 /// The reply of the request's own cookie, which tells nothing.

@@ -12,17 +12,17 @@ returns-then-cell-ne1 c = (
   c.loop-cell.invariant.limit,
 )
 
-pub enter_next-requires-clause-limit : goal.enter_next-requires-clause-limit
-enter_next-requires-clause-limit c = omega (arith, c.loop-cell.invariant.limit, c.ranges.limit.fits)
+pub enter_cell-requires-clause-limit : goal.enter_cell-requires-clause-limit
+enter_cell-requires-clause-limit c = omega (arith, c.loop-cell.invariant.limit, c.ranges.limit.fits)
 
-pub returns-in_err-enter_next : goal.returns-in_err-enter_next
-returns-in_err-enter_next c =
-    entered_fails c.args.limit (page_or_none c.args.page) c.args.cells.now _ c.loop-cell.cell-index c.cell-item.result c.loop-cell.state.book _ _ c.from_residual-in_err-enter_next.ensures.1 c.loop-cell.invariant.limit c.loop-cell-test.true c.cell-item.is c.in_err-enter_next.ensures.next c.loop-cell.invariant.entered
+pub returns-in_err-enter_cell : goal.returns-in_err-enter_cell
+returns-in_err-enter_cell c =
+    entered_fails c.args.limit (page_or_none c.args.page) c.args.cells.now _ c.loop-cell.cell-index c.cell-item.result c.loop-cell.state.book _ _ c.from_residual-in_err-enter_cell.ensures.1 c.loop-cell.invariant.limit c.loop-cell-test.true c.cell-item.is c.in_err-enter_cell.ensures.next.0 c.loop-cell.invariant.entered
 
 pub loop-cell-preserved : goal.loop-cell-preserved
 loop-cell-preserved c = record {
-  entered = one_entered c.args.limit _ (page_or_none c.args.page) c.args.cells.now c.loop-cell.cell-index c.cell-item.result c.loop-cell.state.book _ c.loop-cell.invariant.limit c.loop-cell-test.true c.cell-item.is c.in_ok-enter_next.ensures.next c.loop-cell.invariant.entered;
-  limit = c.in_ok-enter_next.ensures.limit ∙ c.loop-cell.invariant.limit;
+  entered = one_entered c.args.limit _ (page_or_none c.args.page) c.args.cells.now c.loop-cell.cell-index c.cell-item.result c.loop-cell.state.book _ c.loop-cell.invariant.limit c.loop-cell-test.true c.cell-item.is c.in_ok-enter_cell.ensures.next c.loop-cell.invariant.entered;
+  limit = c.in_ok-enter_cell.ensures.limit ∙ c.loop-cell.invariant.limit;
 }
 
 pub returns : goal.returns

@@ -1,5 +1,5 @@
 use Rattle.std.proofs.Common.{refl}
-use Rattle.rv_wire.proofs.ErrorTexts.{future_text, limit_text, memory_text, not_found_text, group_of_other_text, client_of_other_text, no_group_text}
+use Rattle.rv_wire.proofs.ErrorTexts.{future_text, limit_text, memory_text, not_found_text, group_of_other_text, client_of_other_text, no_group_text, behind_text}
 use Rattle.rv_wire.proofs.refusal.refusal_text.Goals as goal
 
 pub returns-in-Future-clause-text : goal.returns-in-Future-clause-text
@@ -22,3 +22,6 @@ returns-in-ClientOfOther-clause-text c = rw (c.put-in-ClientOfOther.ensures.text
 
 pub returns-in-NoGroup-clause-text : goal.returns-in-NoGroup-clause-text
 returns-in-NoGroup-clause-text c = rw (c.put-in-NoGroup.ensures.text, c.in-NoGroup.is, no_group_text) refl
+
+pub returns-in-Behind-clause-text : goal.returns-in-Behind-clause-text
+returns-in-Behind-clause-text c = rw (c.put_last.ensures.text, c.from.ensures, c.in-Behind.is) (behind_text _)

@@ -1,5 +1,5 @@
-use Rattle.rv_store.proofs.Entered.{not_next, not_read, next_fails}
-use Rattle.rv_store.proofs.entering.next_entry.Goals as goal
+use Rattle.rv_state.proofs.EnteredCells.{not_next, not_read, next_fails}
+use Rattle.rv_state.proofs.entering.next_entry.Goals as goal
 
 pub returns-in_err-place : goal.returns-in_err-place
 returns-in_err-place c = next_fails _ _ _ _ _ c.from_residual.ensures.1 (not_read _ _ _ _ c.requires.shelf c.requires.limit c.in_err-place.ensures.reads)
