@@ -151,7 +151,7 @@ module _ (write : ReplyText) (user : List ℕ) (books : List Book) (pull : Clien
   since_point = extends_on book told.new told.point told.within (go pull.reply.same refl)
     where
       go : (same : Bool) → pull.reply.same ≡ same → Extends told.new told.point
-      go true is = extends_same told.new told.point (told.tells.same is).3
+      go true is = extends_same told.new told.point (told.tells.stays is)
       go false is = (_, (told.tells.looks is).2)
 
   -- the base is the place that the cookie names
@@ -223,8 +223,8 @@ module _ (write : ReplyText) (user : List ℕ) (books : List Book) (pull : Clien
 
   current_then : IsCurrent user pull.request.group told.point (held_then pull)
   current_then = record {
-    view = told.tells.shows pull.base.view (view_there (base_of user pull.request.cookie told.point) refl);
-    ids = λ pair there. sent_or_held pull.request.group told.point pull.reply.ids pull.base.ids pair there told.tells.sound (which pair (told.tells.complete pair there));
+    view = told.tells.told.shows pull.base.view (view_there (base_of user pull.request.cookie told.point) refl);
+    ids = λ pair there. sent_or_held pull.request.group told.point pull.reply.ids pull.base.ids pair there told.tells.told.sound (which pair (told.tells.told.complete pair there));
   }
     where
       which : (pair : List ℕ × ℕ) → Contains (known_ids user pull.request told.point) pair ⊎ Contains pull.reply.ids pair → Contains pull.reply.ids pair ⊎ (find_by key (key pair) pull.base.ids ≡ Some pair)
@@ -234,7 +234,7 @@ module _ (write : ReplyText) (user : List ℕ) (books : List Book) (pull : Clien
   -- a reply of the same cookie leaves what is held as it is
   same_stands : pull.reply.same ≡ true → Stands user books (held_then pull)
   same_stands is =
-      let (ops, none, cookie, stays) = told.tells.same is in
+      let (ops, none, cookie) = told.tells.told.same is in
       let left : held_then pull ≡ pull.base = (λ i. record { cookie = (cookie ∙ asks) i; view = apply (ops i) pull.base.view; ids = none i ++ pull.base.ids }) in
       subst (λ (h : ClientState). Stands user books h) (sym left) stands
 

@@ -1,6 +1,6 @@
 -- What the reply to a pull tells.
-use Rattle.std.proofs.Common.{◌≡◌, ℕ, zero, suc, ◌<◌, ◌≤◌, ◌==◌, ◌&&◌, ◌⊎◌, inl, inr, Bool, true, false, cond, not, List, [], ◌∷◌, ◌++◌, map, Option, Some, None, refl, sym, ap, ◌∙◌, subst, arith}
-use Rattle.std.specs.Prelude.{option_and_then}
+use Rattle.std.proofs.Common.{◌≡◌, ℕ, zero, suc, ◌+◌, ◌<◌, ◌≤◌, ◌==◌, ◌&&◌, ◌⊎◌, inl, inr, Bool, true, false, cond, not, List, [], ◌∷◌, ◌++◌, map, Option, Some, None, refl, sym, ap, ◌∙◌, subst, arith}
+use Rattle.std.specs.Prelude.{decimal, option_and_then}
 use Rattle.std.specs.List.{AllByRecursion, Contains, filter, list_any}
 use Rattle.std.specs.Option.{option_map_or}
 use Rattle.std.specs.Str.{bytes_eq}
@@ -12,19 +12,21 @@ use Rattle.std.proofs.lemmas.Slice.Eq.{bytes_eq-Decides}
 use Rattle.rv_rows.specs.declared.row.Row.{Row}
 use Rattle.rv_rows.specs.Keys.{row_key}
 use Rattle.rv_rows.specs.Sharing.{seen}
+use Rattle.rv_views.specs.declared.cookie.Cookie.{Cookie}
+use Rattle.rv_views.specs.declared.cookie.Cookie.TheVariants.{Named}
 use Rattle.rv_turns.specs.Asks.{Ask}
 use Rattle.rv_turns.specs.declared.op.Op.{Op}
 use Rattle.rv_turns.specs.declared.op.Op.TheVariants.{Del, Put}
 use Rattle.rv_turns.specs.declared.outcome.Outcome.TheVariants.{Pulled}
 use Rattle.rv_turns.specs.declared.pull.PullReply.{PullReply}
 use Rattle.rv_turns.specs.declared.pull.PullRequest.{PullRequest}
-use Rattle.rv_book.specs.Book.{Book, last_order, ids, since, up_to}
+use Rattle.rv_book.specs.Book.{Book, last_order, ids, since, size, up_to}
 use Rattle.rv_history.specs.Replay.{rows_of}
 use Rattle.rv_history.specs.Bases.{base_of, base_group}
 use Rattle.rv_history.specs.Patches.{ClientView, client_view, apply}
 use Rattle.rv_history.specs.History.{is_absent, is_news, patch_since, is_among, ids_since}
-use Rattle.rv_history.specs.Machine.{ReplyText, Step, Replies, cookie_order, next_order, patch_for, ids_for, same_reply, reply_to}
-use Rattle.rv_history.specs.Laws.{IsBaseView, IsPermitted, is_clear, ClearsWithoutBase, EntersLook, known_ids, ReplyShows}
+use Rattle.rv_history.specs.Machine.{ReplyText, Step, Replies, IsUnchanged, cookie_order, next_order, patch_for, ids_for, same_reply, new_reply}
+use Rattle.rv_history.specs.Laws.{IsBaseView, IsPermitted, is_clear, ClearsWithoutBase, known_ids, ReplyTells, ReplyShows}
 use Rattle.rv_history.specs.Based.{first_and, last_and}
 use Rattle.rv_history.specs.Based.{next_above}
 use Rattle.rv_history.specs.PatchLaws.{patch_applies, patch_anew}
@@ -149,16 +151,15 @@ ids_news group book (Some base) pair there known =
     cc
 
 -- a reply with the machine's patch and ids, of these cookies
-abbrev Cookies : List ℕ → PullRequest → Book → Book → PullReply → Type 0
-Cookies user request book new reply =
+abbrev pub Cookies : PullRequest → Book → PullReply → Type 0
+Cookies request book reply =
     (cookie_order request.cookie ≤ cookie_order reply.cookie)
-    × (reply.same ≡ true → (reply.ops ≡ []) × (reply.ids ≡ []) × (reply.cookie ≡ request.cookie) × (new ≡ book))
+    × (reply.same ≡ true → (reply.ops ≡ []) × (reply.ids ≡ []) × (reply.cookie ≡ request.cookie))
     × (reply.same ≡ false → (last_order request.group book < cookie_order reply.cookie) × (cookie_order request.cookie < cookie_order reply.cookie))
-    × (reply.same ≡ false → EntersLook user request book new reply.cookie)
 
 module _ (write : ReplyText) where
-  tells : (user : List ℕ) (request : PullRequest) (book new : Book) (reply : PullReply) → reply.ops ≡ patch_for user request book → reply.ids ≡ ids_for user request book → reply.text ≡ write reply.cookie reply.ids reply.ops → Cookies user request book new reply → ReplyShows write user request book new reply
-  tells user request book new reply ops told text cookies =
+  tells : (user : List ℕ) (request : PullRequest) (book : Book) (reply : PullReply) → reply.ops ≡ patch_for user request book → reply.ids ≡ ids_for user request book → reply.text ≡ write reply.cookie reply.ids reply.ops → Cookies request book reply → ReplyTells write user request book reply
+  tells user request book reply ops told text cookies =
       let base : Option ℕ = base_of user request.cookie book in
       let group : Option (ℕ × List ℕ) = option_and_then (base_group book) base in
       record {
@@ -170,29 +171,44 @@ module _ (write : ReplyText) where
         news = λ pair there. ids_news request.group book group pair (subst (λ (t : List (List ℕ × ℕ)). Contains t pair) told there);
         no_lower = cookies.0;
         same = cookies.1;
-        text = text;
         above = cookies.2;
-        looks = cookies.3;
+        text = text;
       }
 
   -- a reply with the text of its parts
   own_text : (reply is : PullReply) → reply ≡ is → is.text ≡ write is.cookie is.ids is.ops → reply.text ≡ write reply.cookie reply.ids reply.ops
   own_text reply is same text = subst (λ (r : PullReply). r.text ≡ write r.cookie r.ids r.ops) (sym same) text
 
-  replies_show : (limit : ℕ) (user : List ℕ) (request : PullRequest) (book new : Book) (same : Bool) (reply : PullReply) → Replies write limit book user request same reply new → ReplyShows write user request book new reply
-  replies_show limit user request book new true reply (none, is, stays) =
+  -- the reply where there is nothing to tell
+  pub same_tells : (user : List ℕ) (request : PullRequest) (book : Book) (reply : PullReply) → IsUnchanged user request book → reply ≡ same_reply write request → ReplyTells write user request book reply
+  same_tells user request book reply none is =
       let cookie : reply.cookie ≡ request.cookie = ap (λ (r : PullReply). r.cookie) is in
       let own : reply.same ≡ true = ap (λ (r : PullReply). r.same) is in
       let order : cookie_order reply.cookie ≡ cookie_order request.cookie = ap cookie_order cookie in
       let ops : reply.ops ≡ [] = ap (λ (r : PullReply). r.ops) is in
       let told : reply.ids ≡ [] = ap (λ (r : PullReply). r.ids) is in
-      tells user request book new reply (ops ∙ sym none.0) (told ∙ sym none.1) (own_text reply (same_reply write request) is refl)
-      (omega arith, (λ yes. (ops, told, cookie, stays)), (λ no. absurd (let both : true ≡ false = sym own ∙ no in cc)), (λ no. absurd (let both : true ≡ false = sym own ∙ no in cc)))
+      tells user request book reply (ops ∙ sym none.0) (told ∙ sym none.1) (own_text reply (same_reply write request) is refl)
+      (omega arith, (λ yes. (ops, told, cookie)), (λ no. absurd (let both : true ≡ false = sym own ∙ no in cc)))
+
+  -- a reply with a cookie of the next order
+  pub new_tells : (user : List ℕ) (request : PullRequest) (book : Book) (cookie : Cookie) (reply : PullReply) → cookie_order cookie ≡ next_order request book → reply ≡ new_reply write cookie (ids_for user request book) (patch_for user request book) → ReplyTells write user request book reply
+  new_tells user request book cookie reply order is =
+      let other : reply.same ≡ false = ap (λ (r : PullReply). r.same) is in
+      let rises = next_above (cookie_order request.cookie) (last_order request.group book) (cookie_order reply.cookie) (ap (λ (r : PullReply). cookie_order r.cookie) is ∙ order) in
+      tells user request book reply (ap (λ (r : PullReply). r.ops) is) (ap (λ (r : PullReply). r.ids) is) (own_text reply (new_reply write cookie (ids_for user request book) (patch_for user request book)) is refl)
+      (omega arith, (λ yes. absurd (let both : true ≡ false = sym yes ∙ other in cc)), (λ no. (rises.1, rises.0)))
+
+  replies_show : (limit : ℕ) (user : List ℕ) (request : PullRequest) (book new : Book) (same : Bool) (reply : PullReply) → Replies write limit book user request same reply new → ReplyShows write user request book new reply
+  replies_show limit user request book new true reply (none, is, stays) =
+      let own : reply.same ≡ true = ap (λ (r : PullReply). r.same) is in
+      record { told = same_tells user request book reply none is; stays = λ yes. stays; looks = λ no. absurd (let both : true ≡ false = sym own ∙ no in cc) }
   replies_show limit user request book new false reply (some, fits, below, is, more) =
       let other : reply.same ≡ false = ap (λ (r : PullReply). r.same) is in
-      let rises = next_above (cookie_order request.cookie) (last_order request.group book) (cookie_order reply.cookie) (ap (λ (r : PullReply). cookie_order r.cookie) is) in
-      tells user request book new reply (ap (λ (r : PullReply). r.ops) is) (ap (λ (r : PullReply). r.ids) is) (own_text reply (reply_to write user request book) is refl)
-      (omega arith, (λ yes. absurd (let both : true ≡ false = sym yes ∙ other in cc)), (λ no. (rises.1, rises.0)), (λ no. (next_order request book, ap (λ (r : PullReply). r.cookie) is, more)))
+      record {
+        told = new_tells user request book (Named (decimal (size book + 1)) (next_order request book)) reply refl is;
+        stays = λ yes. absurd (let both : true ≡ false = sym yes ∙ other in cc);
+        looks = λ no. (next_order request book, ap (λ (r : PullReply). r.cookie) is, more);
+      }
 
   pub pulls_show : (limit : ℕ) (user : List ℕ) (request : PullRequest) (book new : Book) (reply : PullReply) → Step write limit book (Ask.pull user request) (Pulled reply) new → ReplyShows write user request book new reply
   pulls_show limit user request book new reply (admits, replies) = replies_show limit user request book new reply.same reply replies

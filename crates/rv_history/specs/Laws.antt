@@ -168,10 +168,9 @@ EntersLook user request book new cookie = (order : ℕ) × (cookie ≡ Named (de
 -- What the reply to a pull tells at a book. Its patch, applied to the view that the cookie names, gives exactly what the
 -- user sees; it begins with a clear exactly where there is no base, and names only what the user sees, or saw at the base. Each
 -- last mutation id of the group is known by the cookie or told, and nothing else is told; what is told was not known. The order is
--- not below the request's. A reply of the same cookie has an empty patch and no ids, and leaves the book as it is; any other names
--- the look that it enters, at the next place, and has an order above the group's last and the request's. The text is what is
--- written of the cookie, the ids and the patch.
-pub record ReplyShows (write : ReplyText) (user : List ℕ) (request : PullRequest) (book new : Book) (reply : PullReply) : Type 0 where
+-- not below the request's. A reply of the same cookie has an empty patch and no ids; any other has an order above the group's last and
+-- the request's. The text is what is written of the cookie, the ids and the patch.
+pub record ReplyTells (write : ReplyText) (user : List ℕ) (request : PullRequest) (book : Book) (reply : PullReply) : Type 0 where
   pub shows : (view : ClientView) → IsBaseView user book (base_of user request.cookie book) view → apply reply.ops view ≡ client_view user book
   pub clears : ClearsWithoutBase (base_of user request.cookie book) reply.ops
   pub permitted : AllByRecursion (IsPermitted user book (base_of user request.cookie book)) reply.ops
@@ -179,9 +178,15 @@ pub record ReplyShows (write : ReplyText) (user : List ℕ) (request : PullReque
   pub sound : (pair : List ℕ × ℕ) → Contains reply.ids pair → Contains (ids request.group book) pair
   pub news : (pair : List ℕ × ℕ) → Contains reply.ids pair → ¬ Contains (known_ids user request book) pair
   pub no_lower : cookie_order request.cookie ≤ cookie_order reply.cookie
-  pub same : reply.same ≡ true → (reply.ops ≡ []) × (reply.ids ≡ []) × (reply.cookie ≡ request.cookie) × (new ≡ book)
-  pub text : reply.text ≡ write reply.cookie reply.ids reply.ops
+  pub same : reply.same ≡ true → (reply.ops ≡ []) × (reply.ids ≡ []) × (reply.cookie ≡ request.cookie)
   pub above : reply.same ≡ false → (last_order request.group book < cookie_order reply.cookie) × (cookie_order request.cookie < cookie_order reply.cookie)
+  pub text : reply.text ≡ write reply.cookie reply.ids reply.ops
+
+-- What the reply to a pull tells at a book, and what it leaves of it: a reply of the same cookie leaves the book as it is; any other
+-- names the look that it enters, at the next place.
+pub record ReplyShows (write : ReplyText) (user : List ℕ) (request : PullRequest) (book new : Book) (reply : PullReply) : Type 0 where
+  pub told : ReplyTells write user request book reply
+  pub stays : reply.same ≡ true → new ≡ book
   pub looks : reply.same ≡ false → EntersLook user request book new reply.cookie
 
 -- So does each reply that the machine gives.

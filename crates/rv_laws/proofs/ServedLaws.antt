@@ -135,7 +135,7 @@ left_from : (user : List ℕ) (request : PullRequest) (point new : Book) (reply 
 left_from user request point new reply tells = by reply.same refl
   where
     by : (b : Bool) → reply.same ≡ b → Extends new point
-    by true same = extends_same new point (tells.same same).3
+    by true same = extends_same new point (tells.stays same)
     by false other = let (order, cookie, is) = tells.looks other in (_, is)
 
 reads_in : {K : Type 0} (G : Ghosts K) → PullsShow pull_json → (book : Book) → IsLawful book → MutationsStand pull_json → (user reader : List ℕ) (push : pushes.Push) (pull : ClientPull) → StandsIn G book (Ok (Push user push), Pushed) → IsServedPull G book reader pull

@@ -18,8 +18,8 @@ fn spells(text: &str, place: u32) -> bool
     Buffer::new().format(place) == text
 }
 
-// The place that a text spells in decimal without leading zeros, where it spells one.
-fn place_of(text: &str) -> Option<u32>
+/// The place that a text spells in decimal without leading zeros, from 0 to 4,294,967,295, where it spells one.
+pub fn place_of(text: &str) -> Option<u32>
     ensures found { IfSome result (λ place. text.now ≡ decimal place) }
     ensures none { IfNone result ((place : ℕ) → place < 2 ^ 32 → text.now ≡ decimal place → ⊥) }
 {

@@ -7,7 +7,7 @@ mod news;
 mod pull;
 mod records;
 
-pub use base::base_of;
+pub use base::{base_of, place_of};
 pub use news::{News, view_now};
 pub use pull::news_for;
 pub use records::Records;

@@ -23,10 +23,11 @@ fn may_follow(book: &Book, place: u32, entry: &Entry) -> bool
 
 // The entry whose cell this is, where it may come next.
 fn next_entry(alloc: Global, book: &Book, cell: &Cell) -> Result<Entry, CellFault>
-    requires shelf { cell.now.shelf ≡ 1 }
-    requires limit { book.now.limit < 2 ^ 32 }
+    requires { cell.now.shelf ≡ 1 }
     ensures { ReadsNext book.now.limit book.now.book cell.now result }
 {
+    // The book tells that its limit, and so its next place, is that of a key.
+    let _length = book.len();
     let (place, entry) = entry_of_cell(alloc, cell)?;
     entry_fits(&entry);
     if may_follow(book, place, &entry) {
@@ -44,8 +45,7 @@ impl State {
     ///
     /// `BadCell` at the place of the cell where its entry may not come next, and `Memory`.
     pub fn enter_cell(&mut self, cell: &Cell) -> Result<(), CellFault>
-        requires shelf { cell.now.shelf ≡ 1 }
-        requires limit { self.old.limit < 2 ^ 32 }
+        requires { cell.now.shelf ≡ 1 }
         ensures next { EntersNext self.old.limit self.old.book cell.now self.new.book result }
         ensures limit { self.new.limit ≡ self.old.limit }
     {

@@ -12,9 +12,6 @@ returns-then-cell-ne1 c = (
   c.loop-cell.invariant.limit,
 )
 
-pub enter_cell-requires-clause-limit : goal.enter_cell-requires-clause-limit
-enter_cell-requires-clause-limit c = omega (arith, c.loop-cell.invariant.limit, c.ranges.limit.fits)
-
 pub returns-in_err-enter_cell : goal.returns-in_err-enter_cell
 returns-in_err-enter_cell c =
     entered_fails c.args.limit (page_or_none c.args.page) c.args.cells.now _ c.loop-cell.cell-index c.cell-item.result c.loop-cell.state.book _ _ c.from_residual-in_err-enter_cell.ensures.1 c.loop-cell.invariant.limit c.loop-cell-test.true c.cell-item.is c.in_err-enter_cell.ensures.next.0 c.loop-cell.invariant.entered
