@@ -14,7 +14,7 @@ use Rattle.rv_record.specs.EntryReading.{IsPlace, EntryFits, PlacedFits}
 use Rattle.rv_state.specs.Entering.{IsBrokenEntry, Breaks, ReadsNext}
 
 -- a cell is that of one entry at one place
-entry_cell-same : (place other : ℕ) (e f : Entry) → place < 10 ^ 10 → other < 10 ^ 10 → EntryFits e → EntryFits f → entry_cell place e ≡ entry_cell other f → (place ≡ other) × (e ≡ f)
+pub entry_cell-same : (place other : ℕ) (e f : Entry) → place < 10 ^ 10 → other < 10 ^ 10 → EntryFits e → EntryFits f → entry_cell place e ≡ entry_cell other f → (place ≡ other) × (e ≡ f)
 entry_cell-same place other e f small also fits fit same = (
   ten_digits-injective place other small also (ap (λ (c : Cell). c.key) same),
   entry_body_injective place other e f fits fit (ap (λ (c : Cell). c.body) same),
