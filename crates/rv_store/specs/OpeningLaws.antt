@@ -18,11 +18,12 @@ use Rattle.rv_record.specs.EntryReading.{EntryFits}
 use Rattle.rv_opening.specs.PageCells.{PartsFit, page_cells}
 use Rattle.rv_opening.specs.Begins.{BreaksPage}
 use Rattle.rv_opening.specs.PageLaws.{kept_unbroken, none_kept_unbroken}
+use Rattle.rv_state.specs.Entering.{IsBrokenEntry}
 use Rattle.rv_state.specs.Standing.{Standing}
 use Rattle.rv_store.specs.StoreCells.{AreDerived, entry_cells}
 use Rattle.rv_store.specs.StoreUnique.{derived_unique}
 use Rattle.rv_store.specs.StoreBooks.{AreBeside, HasParts, IsTold, entries_front, entries_beside, kept_parts, kept_unique, page_told, same_book, sound-told}
-use Rattle.rv_store.specs.Opening.{IsSoundBook, IsPageOf, MayOpen, IsBrokenEntry, BreaksAt, DiffersAt, HasOtherGeneration, HasEntries, IsDamaged, breaks_page, breaks, differs, another, other_shelves, page_shelves, Restores}
+use Rattle.rv_store.specs.Opening.{IsSoundBook, IsPageOf, MayOpen, BreaksAt, DiffersAt, HasOtherGeneration, HasEntries, IsDamaged, breaks_page, breaks, differs, another, other_shelves, page_shelves, Restores}
 
 -- at most one book opens
 pub opens_one : (limit : ℕ) (book other : Book) (loaded : Loaded) → limit < 2 ^ 32 → MayOpen limit book loaded → MayOpen limit other loaded → book ≡ other
