@@ -1,0 +1,2 @@
+pub mod PagesRead
+pub mod Fronts
