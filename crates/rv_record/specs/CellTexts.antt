@@ -7,6 +7,7 @@
 --   shelf 6, empty key: PLACE, where the book opens with a page
 --   shelves 7, 8 and 9: as 2, 3 and 4, what the page that the book opens with has
 use Rattle.std.specs.Prelude.{ℕ, ◌-◌, List, [], ◌∷◌, ◌++◌, Bool, length, map, replicate, decimal}
+use Rattle.std.specs.Str.{IsUtf8}
 use Rattle.serde_json.specs.Data.{Data, boolean, number, unsigned, string}
 use Rattle.serde_json.specs.Written.{compact_text}
 use Rattle.rv_rows.specs.declared.key.Key.{Key}
@@ -22,6 +23,10 @@ use Rattle.rv_record.specs.EntryTexts.{entry_data}
 -- a place in ten decimal digits, with leading zeros
 abbrev pub ten_digits : ℕ → List ℕ
 ten_digits place = replicate (10 - length (decimal place)) 48 ++ decimal place
+
+-- the key and the body of a cell are UTF-8
+abbrev pub AreTexts : Cell → Type 0
+AreTexts cell = IsUtf8 cell.key × IsUtf8 cell.body
 
 -- a cell whose body is the text of a value
 abbrev pub cell_at : ℕ → List ℕ → Data → Cell

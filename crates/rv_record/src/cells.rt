@@ -1,10 +1,11 @@
 ghost use Rattle.std.specs.Prelude.{◌≡◌, IfOk};
+ghost use Rattle.std.specs.Str.{IsUtf8};
 ghost use Rattle.serde_json.specs.Data.{number, unsigned};
 ghost use Rattle.serde_json.specs.Written.{compact_text};
 ghost use Rattle.rv_rows.specs.Keys.{row_text};
 ghost use Rattle.rv_book.specs.declared.entry.Entry.TheVariants.{Act, Look, Retire};
 ghost use Rattle.rv_record.specs.EntryTexts.{entry_data};
-ghost use Rattle.rv_record.specs.CellTexts.{row_body, client_body, group_body, view_body, entry_cell, row_cell, row_cell_on, client_cell, client_cell_on, group_cell, group_cell_on, page_cell, page_client_cell, page_group_cell, page_row_cell, view_cell};
+ghost use Rattle.rv_record.specs.CellTexts.{AreTexts, row_body, client_body, group_body, view_body, entry_cell, row_cell, row_cell_on, client_cell, client_cell_on, group_cell, group_cell_on, page_cell, page_client_cell, page_group_cell, page_row_cell, view_cell};
 ghost use Rattle.rv_record.specs.CellReading.{same_cell};
 
 use crate::places::ten_digits;
@@ -29,7 +30,8 @@ fn act_text(
     id: Num,
     call: &Call,
 ) -> Result<Bytes, Memory>
-    ensures { IfOk result (λ text. text ≡ compact_text (entry_data (Act user.now group.now client.now id call.now))) }
+    ensures text { IfOk result (λ text. text ≡ compact_text (entry_data (Act user.now group.now client.now id call.now))) }
+    ensures utf8 { IfOk result IsUtf8 }
 {
     let mut out = Writer::new(Vec::new(alloc));
     write_act(&mut out, user, group, client, id, call)?;
@@ -43,7 +45,8 @@ fn look_text(
     order: Num,
     base: Option<u32>,
 ) -> Result<Bytes, Memory>
-    ensures { IfOk result (λ text. text ≡ compact_text (entry_data (Look user.now group.now order base))) }
+    ensures text { IfOk result (λ text. text ≡ compact_text (entry_data (Look user.now group.now order base))) }
+    ensures utf8 { IfOk result IsUtf8 }
 {
     let mut out = Writer::new(Vec::new(alloc));
     write_look(&mut out, user, group, order, base)?;
@@ -51,7 +54,8 @@ fn look_text(
 }
 
 fn retirement_text(alloc: Global, group: &Id) -> Result<Bytes, Memory>
-    ensures { IfOk result (λ text. text ≡ compact_text (entry_data (Retire group.now))) }
+    ensures text { IfOk result (λ text. text ≡ compact_text (entry_data (Retire group.now))) }
+    ensures utf8 { IfOk result IsUtf8 }
 {
     let mut out = Writer::new(Vec::new(alloc));
     write_retirement(&mut out, group)?;
@@ -59,7 +63,8 @@ fn retirement_text(alloc: Global, group: &Id) -> Result<Bytes, Memory>
 }
 
 fn row_body_text(alloc: Global, row: &Row, version: u32) -> Result<Bytes, Memory>
-    ensures { IfOk result (λ text. text ≡ compact_text (row_body row.now version)) }
+    ensures text { IfOk result (λ text. text ≡ compact_text (row_body row.now version)) }
+    ensures utf8 { IfOk result IsUtf8 }
 {
     let mut out = Writer::new(Vec::new(alloc));
     write_row_body(&mut out, row, version)?;
@@ -67,7 +72,8 @@ fn row_body_text(alloc: Global, row: &Row, version: u32) -> Result<Bytes, Memory
 }
 
 fn page_text(alloc: Global, place: u32) -> Result<Bytes, Memory>
-    ensures { IfOk result (λ text. text ≡ compact_text (number (unsigned place))) }
+    ensures text { IfOk result (λ text. text ≡ compact_text (number (unsigned place))) }
+    ensures utf8 { IfOk result IsUtf8 }
 {
     let mut out = Writer::new(Vec::new(alloc));
     write_place(&mut out, place)?;
@@ -75,7 +81,8 @@ fn page_text(alloc: Global, place: u32) -> Result<Bytes, Memory>
 }
 
 fn client_text(alloc: Global, group: &Id, last: Num) -> Result<Bytes, Memory>
-    ensures { IfOk result (λ text. text ≡ compact_text (client_body group.now last)) }
+    ensures text { IfOk result (λ text. text ≡ compact_text (client_body group.now last)) }
+    ensures utf8 { IfOk result IsUtf8 }
 {
     let mut out = Writer::new(Vec::new(alloc));
     write_pair(&mut out, group.as_str(), last.get())?;
@@ -83,7 +90,8 @@ fn client_text(alloc: Global, group: &Id, last: Num) -> Result<Bytes, Memory>
 }
 
 fn group_text(alloc: Global, user: &User, order: Num, retired: bool) -> Result<Bytes, Memory>
-    ensures { IfOk result (λ text. text ≡ compact_text (group_body user.now order retired)) }
+    ensures text { IfOk result (λ text. text ≡ compact_text (group_body user.now order retired)) }
+    ensures utf8 { IfOk result IsUtf8 }
 {
     let mut out = Writer::new(Vec::new(alloc));
     write_group_body(&mut out, user, order, retired)?;
@@ -91,7 +99,8 @@ fn group_text(alloc: Global, user: &User, order: Num, retired: bool) -> Result<B
 }
 
 fn view_text(alloc: Global, view: &ViewRecord) -> Result<Bytes, Memory>
-    ensures { IfOk result (λ text. text ≡ compact_text (view_body view.now)) }
+    ensures text { IfOk result (λ text. text ≡ compact_text (view_body view.now)) }
+    ensures utf8 { IfOk result IsUtf8 }
 {
     let mut key_text = String::new(alloc);
     let mut out = Writer::new(Vec::new(alloc));
@@ -101,14 +110,16 @@ fn view_text(alloc: Global, view: &ViewRecord) -> Result<Bytes, Memory>
 
 // The bytes of a name.
 fn name_key(alloc: Global, name: &Id) -> Result<Bytes, Memory>
-    ensures { IfOk result (λ key. key ≡ name.now) }
+    ensures key { IfOk result (λ key. key ≡ name.now) }
+    ensures utf8 { IfOk result IsUtf8 }
 {
     Ok(Sequence::from_vec(Vec::from_slice(alloc, name.as_str().as_bytes())?))
 }
 
 // The bytes of the text of the row's key.
 fn row_key(alloc: Global, row: &Row) -> Result<Bytes, Memory>
-    ensures { IfOk result (λ key. key ≡ row_text row.now) }
+    ensures key { IfOk result (λ key. key ≡ row_text row.now) }
+    ensures utf8 { IfOk result IsUtf8 }
 {
     let text = row.kind().key_text(alloc, row.id())?;
     Ok(Sequence::from_vec(text.into_bytes()))
@@ -124,7 +135,8 @@ pub fn cell_of_act(
     id: Num,
     call: &Call,
 ) -> Result<Cell, Memory>
-    ensures { IfOk result (λ cell. cell ≡ entry_cell place (Act user.now group.now client.now id call.now)) }
+    ensures cell { IfOk result (λ cell. cell ≡ entry_cell place (Act user.now group.now client.now id call.now)) }
+    ensures texts { IfOk result AreTexts }
 {
     Ok(Cell {
         shelf: 1,
@@ -143,7 +155,8 @@ pub fn cell_of_look(
     order: Num,
     base: Option<u32>,
 ) -> Result<Cell, Memory>
-    ensures { IfOk result (λ cell. cell ≡ entry_cell place (Look user.now group.now order base)) }
+    ensures cell { IfOk result (λ cell. cell ≡ entry_cell place (Look user.now group.now order base)) }
+    ensures texts { IfOk result AreTexts }
 {
     Ok(Cell {
         shelf: 1,
@@ -154,7 +167,8 @@ pub fn cell_of_look(
 
 /// The cell of a retirement at its place, from 1: on shelf 1, under the place in ten digits, `["retire",GROUP]`.
 pub fn cell_of_retirement(alloc: Global, place: u32, group: &Id) -> Result<Cell, Memory>
-    ensures { IfOk result (λ cell. cell ≡ entry_cell place (Retire group.now)) }
+    ensures cell { IfOk result (λ cell. cell ≡ entry_cell place (Retire group.now)) }
+    ensures texts { IfOk result AreTexts }
 {
     Ok(Cell {
         shelf: 1,
@@ -165,7 +179,8 @@ pub fn cell_of_retirement(alloc: Global, place: u32, group: &Id) -> Result<Cell,
 
 /// The cell of an entry at its place, from 1: that of an act, a look or a retirement.
 pub fn cell_of_entry(alloc: Global, place: u32, entry: &Entry) -> Result<Cell, Memory>
-    ensures { IfOk result (λ cell. cell ≡ entry_cell place entry.now) }
+    ensures cell { IfOk result (λ cell. cell ≡ entry_cell place entry.now) }
+    ensures texts { IfOk result AreTexts }
 {
     match entry {
         Entry::Act {
@@ -187,7 +202,8 @@ pub fn cell_of_entry(alloc: Global, place: u32, entry: &Entry) -> Result<Cell, M
 
 /// The cell of the page that a book opens with, at a place from 1: on shelf 6, under the empty key, the place in decimal.
 pub fn cell_of_page(alloc: Global, place: u32) -> Result<Cell, Memory>
-    ensures { IfOk result (λ cell. cell ≡ page_cell place) }
+    ensures cell { IfOk result (λ cell. cell ≡ page_cell place) }
+    ensures texts { IfOk result AreTexts }
 {
     Ok(Cell {
         shelf: 6,
@@ -198,7 +214,8 @@ pub fn cell_of_page(alloc: Global, place: u32) -> Result<Cell, Memory>
 
 // The cell of a row on a shelf.
 pub(crate) fn row_cell_on(alloc: Global, shelf: u8, row: &Row, version: u32) -> Result<Cell, Memory>
-    ensures { IfOk result (λ cell. cell ≡ row_cell_on shelf row.now version) }
+    ensures cell { IfOk result (λ cell. cell ≡ row_cell_on shelf row.now version) }
+    ensures texts { IfOk result AreTexts }
 {
     Ok(Cell {
         shelf,
@@ -210,14 +227,16 @@ pub(crate) fn row_cell_on(alloc: Global, shelf: u8, row: &Row, version: u32) -> 
 /// The cell of a row with its version, the place of the entry that wrote it: on shelf 2, under the text of the row's key,
 /// `[VERSION,ROW]`.
 pub fn cell_of_row(alloc: Global, row: &Row, version: u32) -> Result<Cell, Memory>
-    ensures { IfOk result (λ cell. cell ≡ row_cell row.now version) }
+    ensures cell { IfOk result (λ cell. cell ≡ row_cell row.now version) }
+    ensures texts { IfOk result AreTexts }
 {
     row_cell_on(alloc, 2, row, version)
 }
 
 /// The cell of a row of the page that a book opens with, with its version: as [`cell_of_row`], on shelf 7.
 pub fn cell_of_page_row(alloc: Global, row: &Row, version: u32) -> Result<Cell, Memory>
-    ensures { IfOk result (λ cell. cell ≡ page_row_cell row.now version) }
+    ensures cell { IfOk result (λ cell. cell ≡ page_row_cell row.now version) }
+    ensures texts { IfOk result AreTexts }
 {
     row_cell_on(alloc, 7, row, version)
 }
@@ -230,7 +249,8 @@ pub(crate) fn client_cell_on(
     group: &Id,
     last: Num,
 ) -> Result<Cell, Memory>
-    ensures { IfOk result (λ cell. cell ≡ client_cell_on shelf client.now group.now last) }
+    ensures cell { IfOk result (λ cell. cell ≡ client_cell_on shelf client.now group.now last) }
+    ensures texts { IfOk result AreTexts }
 {
     Ok(Cell {
         shelf,
@@ -241,7 +261,8 @@ pub(crate) fn client_cell_on(
 
 /// The cell of a client with its group and its last mutation id: on shelf 3, under the client's name, `[GROUP,LAST]`.
 pub fn cell_of_client(alloc: Global, client: &Id, group: &Id, last: Num) -> Result<Cell, Memory>
-    ensures { IfOk result (λ cell. cell ≡ client_cell client.now group.now last) }
+    ensures cell { IfOk result (λ cell. cell ≡ client_cell client.now group.now last) }
+    ensures texts { IfOk result AreTexts }
 {
     client_cell_on(alloc, 3, client, group, last)
 }
@@ -253,7 +274,8 @@ pub fn cell_of_page_client(
     group: &Id,
     last: Num,
 ) -> Result<Cell, Memory>
-    ensures { IfOk result (λ cell. cell ≡ page_client_cell client.now group.now last) }
+    ensures cell { IfOk result (λ cell. cell ≡ page_client_cell client.now group.now last) }
+    ensures texts { IfOk result AreTexts }
 {
     client_cell_on(alloc, 8, client, group, last)
 }
@@ -267,7 +289,8 @@ pub(crate) fn group_cell_on(
     order: Num,
     retired: bool,
 ) -> Result<Cell, Memory>
-    ensures { IfOk result (λ cell. cell ≡ group_cell_on shelf group.now user.now order retired) }
+    ensures cell { IfOk result (λ cell. cell ≡ group_cell_on shelf group.now user.now order retired) }
+    ensures texts { IfOk result AreTexts }
 {
     Ok(Cell {
         shelf,
@@ -285,7 +308,8 @@ pub fn cell_of_group(
     order: Num,
     retired: bool,
 ) -> Result<Cell, Memory>
-    ensures { IfOk result (λ cell. cell ≡ group_cell group.now user.now order retired) }
+    ensures cell { IfOk result (λ cell. cell ≡ group_cell group.now user.now order retired) }
+    ensures texts { IfOk result AreTexts }
 {
     group_cell_on(alloc, 4, group, user, order, retired)
 }
@@ -298,7 +322,8 @@ pub fn cell_of_page_group(
     order: Num,
     retired: bool,
 ) -> Result<Cell, Memory>
-    ensures { IfOk result (λ cell. cell ≡ page_group_cell group.now user.now order retired) }
+    ensures cell { IfOk result (λ cell. cell ≡ page_group_cell group.now user.now order retired) }
+    ensures texts { IfOk result AreTexts }
 {
     group_cell_on(alloc, 9, group, user, order, retired)
 }
@@ -306,7 +331,8 @@ pub fn cell_of_page_group(
 /// The cell of the view record of the look at a place, from 1: on shelf 5, under the place in ten digits,
 /// `[[[KEY,VERSION],..],[[CLIENT,LAST],..]]`, with the keys and the clients in order.
 pub fn cell_of_view(alloc: Global, place: u32, view: &ViewRecord) -> Result<Cell, Memory>
-    ensures { IfOk result (λ cell. cell ≡ view_cell place view.now) }
+    ensures cell { IfOk result (λ cell. cell ≡ view_cell place view.now) }
+    ensures texts { IfOk result AreTexts }
 {
     Ok(Cell {
         shelf: 5,

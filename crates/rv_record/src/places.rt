@@ -1,5 +1,6 @@
 // Places as the keys of cells.
 ghost use Rattle.std.specs.Prelude.{◌≡◌, ◌≤◌, ℕ, IfOk, IfSome, Some};
+ghost use Rattle.std.specs.Str.{IsUtf8};
 ghost use Rattle.rv_record.specs.CellTexts.{ten_digits};
 ghost use Rattle.rv_record.specs.EntryReading.{IsPlace};
 
@@ -10,7 +11,8 @@ use std::alloc::Global;
 /// The place in ten decimal digits, with leading zeros, so that the order of the keys is that of the places. It fails only
 /// where memory is refused.
 pub fn ten_digits(alloc: Global, place: u32) -> Result<Bytes, Memory>
-    ensures { IfOk result (λ key. key ≡ ten_digits place) }
+    ensures key { IfOk result (λ key. key ≡ ten_digits place) }
+    ensures utf8 { IfOk result IsUtf8 }
 {
     let mut buffer = Buffer::new();
     let digits = buffer.format(place).as_bytes();

@@ -1,8 +1,11 @@
 use Rattle.std.proofs.Common.{◌∙◌}
 use Rattle.rv_book.specs.declared.entry.Entry.TheVariants.{Look}
 use Rattle.rv_record.specs.EntryTexts.{entry_data}
-use Rattle.rv_record.proofs.WritingLaws.{text_of}
+use Rattle.rv_record.proofs.WritingLaws.{text_of, utf8_of}
 use Rattle.rv_record.proofs.cells.look_text.Goals as goal
 
-pub returns : goal.returns
-returns c = text_of (entry_data (Look c.args.user.now c.args.group.now c.args.order c.args.base)) _ _ _ _ _ (c.from_vec.ensures ∙ c.into_inner.ensures.items) c.in_ok-write_look.ensures.0 c.in_ok-write_look.ensures.1 (c.new-out.ensures.before ∙ c.new.ensures.items) c.new-out.ensures.tokens
+pub returns-clause-text : goal.returns-clause-text
+returns-clause-text c = text_of (entry_data (Look c.args.user.now c.args.group.now c.args.order c.args.base)) _ _ _ _ _ (c.from_vec.ensures ∙ c.into_inner.ensures.items) c.in_ok-write_look.ensures.0 c.in_ok-write_look.ensures.1 (c.new-out.ensures.before ∙ c.new.ensures.items) c.new-out.ensures.tokens
+
+pub returns-clause-utf8 : goal.returns-clause-utf8
+returns-clause-utf8 c = utf8_of _ _ _ _ (c.from_vec.ensures ∙ c.into_inner.ensures.items) c.in_ok-write_look.ensures.0 (c.new-out.ensures.before ∙ c.new.ensures.items) c.into_inner.ensures.utf8

@@ -16,4 +16,4 @@ returns-in_default c = not_found (row_cells c.args.shelf) RowFits row_cell_in (r
 pub returns-else-is_same : goal.returns-else-is_same
 returns-else-is_same c =
     other_found (row_cells c.args.shelf) RowFits row_cell_in (row_cell_again c.args.shelf) c.args.cell.now c.in_ok-again.again c.in_ok-made.field-0 c.in-Some.made c.is_same.result c.damaged-else-is_same.result
-    c.in-Some.is c.in_ok-made.ensures c.in_ok-again.ensures c.is_same.ensures c.if-is_same.false c.damaged-else-is_same.ensures
+    c.in-Some.is c.in_ok-made.ensures c.in_ok-again.ensures.cell c.is_same.ensures c.if-is_same.false c.damaged-else-is_same.ensures
