@@ -1,2 +1,3 @@
 pub mod PagesRead
 pub mod Fronts
+pub mod Shipped

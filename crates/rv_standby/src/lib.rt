@@ -8,6 +8,7 @@
 mod following;
 pub mod laws;
 mod pulling;
+mod shipping;
 mod standby;
 mod take_fault;
 

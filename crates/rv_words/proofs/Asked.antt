@@ -33,6 +33,7 @@ stores_asked = record {
   activity = λ name store. line_of_one name (codes "activity") store refl;
   check = λ name store. line_of_one name (codes "check") store refl;
   close_book = λ name store. line_of_one name (codes "close-book") store refl;
+  ship = λ name store. line_of_one name (codes "ship") store refl;
 }
 
 -- a group that is an `Id` is retired
@@ -54,6 +55,7 @@ each_store_asked = record {
   check = λ name store. line_is_plain (name ∷ codes "check" ∷ codes "--" ∷ store ∷ []);
   retire = λ name store group id. line_is_plain (name ∷ codes "retire" ∷ codes "--" ∷ store ∷ group ∷ []) ∙ by_group store group id;
   close_book = λ name store. line_is_plain (name ∷ codes "close-book" ∷ codes "--" ∷ store ∷ []);
+  ship = λ name store. line_is_plain (name ∷ codes "ship" ∷ codes "--" ∷ store ∷ []);
 }
 
 pub each_group_asked : EachGroupIsAsked
@@ -76,6 +78,7 @@ short_lines = record {
   export_alone = λ name. line_is_plain (name ∷ codes "export" ∷ []);
   serve_alone = λ name. line_is_plain (name ∷ codes "serve" ∷ []);
   close_book_alone = λ name. line_is_plain (name ∷ codes "close-book" ∷ []);
+  ship_alone = λ name. line_is_plain (name ∷ codes "ship" ∷ []);
   no_requests = λ name seed. line_is_plain (name ∷ codes "make" ∷ seed ∷ []) ∙ alone make_with refl (λ value. refl) seed;
   no_group = λ name store. line_is_plain (name ∷ codes "retire" ∷ store ∷ []) ∙ alone retire_with refl (λ value. refl) store;
   no_user = λ name store. line_is_plain (name ∷ codes "import" ∷ store ∷ []) ∙ alone import_with refl (λ value. refl) store;
@@ -119,7 +122,7 @@ differs verb known other = go (bytes_eq verb known) refl
     go false is = refl
 
 pub others : OthersAskForNothing
-others name verb words feed retire lists activity check make import export serve close_book = other_line name verb words (record {
+others name verb words feed retire lists activity check make import export serve close_book ship = other_line name verb words (record {
   feed = differs verb (codes "feed") feed;
   retire = differs verb (codes "retire") retire;
   lists = differs verb (codes "lists") lists;
@@ -130,4 +133,5 @@ others name verb words feed retire lists activity check make import export serve
   export = differs verb (codes "export") export;
   serve = differs verb (codes "serve") serve;
   close_book = differs verb (codes "close-book") close_book;
+  ship = differs verb (codes "ship") ship;
 })

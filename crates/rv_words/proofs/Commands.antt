@@ -11,7 +11,7 @@ use Rattle.rv_words.specs.Words.{as_import_name, as_user, command_in, export_of,
 use Rattle.rv_words.specs.Plain.{Part, asked_with, export_with, import_with, make_with, on_store_with, parts_from, plainly_in, retire_with, serve_with, the_value, values_in}
 use Rattle.rv_words.specs.Laws.{GroupsAreIds, IsUser, NamesImport, SeedsAreInBounds, UsersAreUsers}
 use Rattle.rv_words.specs.declared.command.Command.{Command}
-use Rattle.rv_words.specs.declared.command.Command.TheVariants.{Activity, Check, CloseBook, Export, Feed, Import, Lists, Make, Retire, Serve}
+use Rattle.rv_words.specs.declared.command.Command.TheVariants.{Activity, Check, CloseBook, Export, Feed, Import, Lists, Make, Retire, Serve, Ship}
 use Rattle.rv_words.specs.declared.serve_options.ServeOptions.{ServeOptions}
 use Rattle.rv_words.proofs.Lines.{line_is_plain}
 
@@ -31,6 +31,7 @@ record HoldsOf (P : Command → Type 0) : Type 0 where
   pub export : (store user : List ℕ) → IsUser user → P (Export store user)
   pub serve : (store : List ℕ) (options : ServeOptions) → P (Serve store options)
   pub close_book : (store : List ℕ) → P (CloseBook store)
+  pub ship : (store : List ℕ) → P (Ship store)
 
 both_true : (a b c : Bool) → (a && b && c) ≡ true → (b ≡ true) × (c ≡ true)
 both_true true true true is = (refl, refl)
@@ -98,20 +99,21 @@ module _ (P : Command → Type 0) (holds : HoldsOf P) where
       let same : known ≡ command = cc in
       subst P same known_holds
 
-  by_store : (from : List ℕ) (feed lists activity check close_book : Bool)
-      → AllHold (cond feed (Some (Feed from)) (cond lists (Some (Lists from)) (cond activity (Some (Activity from)) (cond check (Some (Check from)) (cond close_book (Some (CloseBook from)) None)))))
-  by_store from true lists activity check close_book command is = this_holds _ command (holds.feed from) is
-  by_store from false true activity check close_book command is = this_holds _ command (holds.lists from) is
-  by_store from false false true check close_book command is = this_holds _ command (holds.activity from) is
-  by_store from false false false true close_book command is = this_holds _ command (holds.check from) is
-  by_store from false false false false true command is = this_holds _ command (holds.close_book from) is
-  by_store from false false false false false command is = absurd (cc)
+  by_store : (from : List ℕ) (feed lists activity check close_book ship : Bool)
+      → AllHold (cond feed (Some (Feed from)) (cond lists (Some (Lists from)) (cond activity (Some (Activity from)) (cond check (Some (Check from)) (cond close_book (Some (CloseBook from)) (cond ship (Some (Ship from)) None))))))
+  by_store from true lists activity check close_book ship command is = this_holds _ command (holds.feed from) is
+  by_store from false true activity check close_book ship command is = this_holds _ command (holds.lists from) is
+  by_store from false false true check close_book ship command is = this_holds _ command (holds.activity from) is
+  by_store from false false false true close_book ship command is = this_holds _ command (holds.check from) is
+  by_store from false false false false true ship command is = this_holds _ command (holds.close_book from) is
+  by_store from false false false false false true command is = this_holds _ command (holds.ship from) is
+  by_store from false false false false false false command is = absurd (cc)
 
   by_stores : (verb : List ℕ) (values : List (List ℕ)) → AllHold (on_store_with verb values)
   by_stores verb [] command is = absurd (cc)
   by_stores verb (from ∷ []) command is = by_store from
       (bytes_eq verb (codes "feed")) (bytes_eq verb (codes "lists")) (bytes_eq verb (codes "activity")) (bytes_eq verb (codes "check"))
-      (bytes_eq verb (codes "close-book")) command is
+      (bytes_eq verb (codes "close-book")) (bytes_eq verb (codes "ship")) command is
   by_stores verb (from ∷ more ∷ values) command is = absurd (cc)
 
   by_id : (from text : List ℕ) → AllHold (retire_group_in from text)
@@ -216,10 +218,11 @@ HasId (Import store user name) = Unit {0}
 HasId (Export store user) = Unit {0}
 HasId (Serve store options) = Unit {0}
 HasId (CloseBook store) = Unit {0}
+HasId (Ship store) = Unit {0}
 
 pub group_is_id : GroupsAreIds
 group_is_id words store group is = all_hold HasId
-    (record { feed = λ s. tt; lists = λ s. tt; activity = λ s. tt; check = λ s. tt; retire = λ s g id. id; make = λ s n bounded. tt; import = λ s u n is named. tt; export = λ s u is. tt; serve = λ s o. tt; close_book = λ s. tt })
+    (record { feed = λ s. tt; lists = λ s. tt; activity = λ s. tt; check = λ s. tt; retire = λ s g id. id; make = λ s n bounded. tt; import = λ s u n is named. tt; export = λ s u is. tt; serve = λ s o. tt; close_book = λ s. tt; ship = λ s. tt })
     words (Retire store group) is
 
 abbrev HasBounds : Command → Type 0
@@ -233,10 +236,11 @@ HasBounds (Import store user name) = Unit {0}
 HasBounds (Export store user) = Unit {0}
 HasBounds (Serve store options) = Unit {0}
 HasBounds (CloseBook store) = Unit {0}
+HasBounds (Ship store) = Unit {0}
 
 pub seeds_in_bounds : SeedsAreInBounds
 seeds_in_bounds words seed requests is = all_hold HasBounds
-    (record { feed = λ s. tt; lists = λ s. tt; activity = λ s. tt; check = λ s. tt; retire = λ s g id. tt; make = λ s n bounded. bounded; import = λ s u n is named. tt; export = λ s u is. tt; serve = λ s o. tt; close_book = λ s. tt })
+    (record { feed = λ s. tt; lists = λ s. tt; activity = λ s. tt; check = λ s. tt; retire = λ s g id. tt; make = λ s n bounded. bounded; import = λ s u n is named. tt; export = λ s u is. tt; serve = λ s o. tt; close_book = λ s. tt; ship = λ s. tt })
     words (Make seed requests) is
 
 abbrev HasUser : Command → Type 0
@@ -250,10 +254,11 @@ HasUser (Import store user name) = IsUser user × NamesImport name
 HasUser (Export store user) = IsUser user
 HasUser (Serve store options) = Unit {0}
 HasUser (CloseBook store) = Unit {0}
+HasUser (Ship store) = Unit {0}
 
 all_have_users : (words : List (List ℕ)) (command : Command) → command_in words ≡ Some command → HasUser command
 all_have_users = all_hold HasUser
-    (record { feed = λ s. tt; lists = λ s. tt; activity = λ s. tt; check = λ s. tt; retire = λ s g id. tt; make = λ s n bounded. tt; import = λ s u n is named. (is, named); export = λ s u is. is; serve = λ s o. tt; close_book = λ s. tt })
+    (record { feed = λ s. tt; lists = λ s. tt; activity = λ s. tt; check = λ s. tt; retire = λ s g id. tt; make = λ s n bounded. tt; import = λ s u n is named. (is, named); export = λ s u is. is; serve = λ s o. tt; close_book = λ s. tt; ship = λ s. tt })
 
 pub users_are : UsersAreUsers
 users_are = record {

@@ -96,6 +96,7 @@ pub record IsOtherVerb (verb : Text) : Type 0 where
   pub export : bytes_eq verb (codes "export") ≡ false
   pub serve : bytes_eq verb (codes "serve") ≡ false
   pub close_book : bytes_eq verb (codes "close-book") ≡ false
+  pub ship : bytes_eq verb (codes "ship") ≡ false
 
 top_flags : HasNoFlags top
 top_flags = (λ name. refl, λ letter. refl)
@@ -116,7 +117,8 @@ not_named verb is =
     let no_export : bytes_eq (codes "export") verb ≡ false = not_same verb (codes "export") is.export in
     let no_serve : bytes_eq (codes "serve") verb ≡ false = not_same verb (codes "serve") is.serve in
     let no_close_book : bytes_eq (codes "close-book") verb ≡ false = not_same verb (codes "close-book") is.close_book in
-    rw (no_feed, no_lists, no_activity, no_check, no_retire, no_make, no_import, no_export, no_serve, no_close_book) refl
+    let no_ship : bytes_eq (codes "ship") verb ≡ false = not_same verb (codes "ship") is.ship in
+    rw (no_feed, no_lists, no_activity, no_check, no_retire, no_make, no_import, no_export, no_serve, no_close_book, no_ship) refl
 
 turn_alone : (verb : Text) → subcommand_met names idle verb ≡ None → turn_fault top names begin verb ≡ turn_fault top [] (at [] None 1 false) verb
 turn_alone verb none = ap (λ o. or_else (other_fault top o verb begin.held)
@@ -141,7 +143,7 @@ other_line name verb words is = go (bytes_eq verb (codes "--")) refl (is_flag ve
 
 other_asks : (verb : Text) (values : List Text) → IsOtherVerb verb → asked_with verb values ≡ None
 other_asks verb [] is = rw (is.retire, is.make, is.import, is.export) refl
-other_asks verb (store ∷ []) is = rw (is.retire, is.make, is.import, is.export, is.feed, is.lists, is.activity, is.check, is.close_book) refl
+other_asks verb (store ∷ []) is = rw (is.retire, is.make, is.import, is.export, is.feed, is.lists, is.activity, is.check, is.close_book, is.ship) refl
 other_asks verb (store ∷ more ∷ values) is = rw (is.retire, is.make, is.import, is.export) refl
 
 other_values : (verb : Text) (o : Option (List Text)) → IsOtherVerb verb → option_and_then (asked_with verb) o ≡ None
@@ -176,8 +178,9 @@ verb_line name verb words =
     by_name P verb (codes "export") (named_line name (codes "export") words export_leaf export_in (refl, refl, refl, λ rows. refl) ∙ export_0 words) (λ export.
     by_name P verb (codes "serve") (serve_line name words) (λ serve.
     by_name P verb (codes "close-book") (store_line (codes "close-book") (refl, refl, refl, λ rows. refl) name words) (λ close_book.
-    let is : IsOtherVerb verb = record { feed = feed; retire = retire; lists = lists; activity = activity; check = check; make = make; import = import; export = export; serve = serve; close_book = close_book } in
-    other_line name verb words is ∙ sym (ap (λ b. cond b (option_and_then serve_with (parts_from None words)) (option_and_then (asked_with verb) (values_in words))) serve ∙ other_values verb (values_in words) is)))))))))))
+    by_name P verb (codes "ship") (store_line (codes "ship") (refl, refl, refl, λ rows. refl) name words) (λ ship.
+    let is : IsOtherVerb verb = record { feed = feed; retire = retire; lists = lists; activity = activity; check = check; make = make; import = import; export = export; serve = serve; close_book = close_book; ship = ship } in
+    other_line name verb words is ∙ sym (ap (λ b. cond b (option_and_then serve_with (parts_from None words)) (option_and_then (asked_with verb) (values_in words))) serve ∙ other_values verb (values_in words) is))))))))))))
 
 pub line_is_plain : (words : List Text) → command_in words ≡ plainly_in words
 unfolding command_in rv_app clap_on_literals

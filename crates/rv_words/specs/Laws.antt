@@ -5,7 +5,7 @@ use Rattle.std.specs.List.{list_any}
 use Rattle.rv_words.specs.Words.{command_in, is_id}
 use Rattle.rv_words.specs.Plain.{plainly_in}
 use Rattle.rv_words.specs.declared.command.Command.{Command}
-use Rattle.rv_words.specs.declared.command.Command.TheVariants.{Activity, Check, CloseBook, Export, Feed, Import, Lists, Make, Retire}
+use Rattle.rv_words.specs.declared.command.Command.TheVariants.{Activity, Check, CloseBook, Export, Feed, Import, Lists, Make, Retire, Ship}
 
 -- a first `-` (45)
 abbrev pub begins_with_hyphen : List ℕ → Bool
@@ -25,6 +25,7 @@ pub record StoresAreAsked : Type 0 where
   pub activity : IsAskedOfStores (codes "activity") (λ store. Activity store)
   pub check : IsAskedOfStores (codes "check") (λ store. Check store)
   pub close_book : IsAskedOfStores (codes "close-book") (λ store. CloseBook store)
+  pub ship : IsAskedOfStores (codes "ship") (λ store. Ship store)
 
 abbrev pub RetireIsAsked : Type 0
 RetireIsAsked = (name store group : List ℕ) → is_id group ≡ true → begins_with_hyphen store ≡ false → begins_with_hyphen group ≡ false
@@ -43,6 +44,7 @@ pub record EachStoreIsAsked : Type 0 where
   pub retire : (name store group : List ℕ) → is_id group ≡ true
       → command_in (name ∷ codes "retire" ∷ codes "--" ∷ store ∷ group ∷ []) ≡ Some (Retire store group)
   pub close_book : IsAskedOfAnyStore (codes "close-book") (λ store. CloseBook store)
+  pub ship : IsAskedOfAnyStore (codes "ship") (λ store. Ship store)
 
 -- any `Id` is taken too where `--` stands before it alone
 abbrev pub EachGroupIsAsked : Type 0
@@ -106,6 +108,7 @@ pub record AskForNothing : Type 0 where
   pub export_alone : (name : List ℕ) → command_in (name ∷ codes "export" ∷ []) ≡ None
   pub serve_alone : (name : List ℕ) → command_in (name ∷ codes "serve" ∷ []) ≡ None
   pub close_book_alone : (name : List ℕ) → command_in (name ∷ codes "close-book" ∷ []) ≡ None
+  pub ship_alone : (name : List ℕ) → command_in (name ∷ codes "ship" ∷ []) ≡ None
   pub no_requests : (name seed : List ℕ) → command_in (name ∷ codes "make" ∷ seed ∷ []) ≡ None
   pub no_group : (name store : List ℕ) → command_in (name ∷ codes "retire" ∷ store ∷ []) ≡ None
   pub no_user : (name store : List ℕ) → command_in (name ∷ codes "import" ∷ store ∷ []) ≡ None
@@ -116,5 +119,5 @@ pub record AskForNothing : Type 0 where
 abbrev pub OthersAskForNothing : Type 0
 OthersAskForNothing = (name verb : List ℕ) (words : List (List ℕ))
     → verb ≢ codes "feed" → verb ≢ codes "retire" → verb ≢ codes "lists" → verb ≢ codes "activity" → verb ≢ codes "check" → verb ≢ codes "make"
-    → verb ≢ codes "import" → verb ≢ codes "export" → verb ≢ codes "serve" → verb ≢ codes "close-book"
+    → verb ≢ codes "import" → verb ≢ codes "export" → verb ≢ codes "serve" → verb ≢ codes "close-book" → verb ≢ codes "ship"
     → command_in (name ∷ verb ∷ words) ≡ None

@@ -57,7 +57,7 @@ bare_app = on_top (λ shape. record shape {
 abbrev pub commands : List App
 commands =
     store_app (codes "feed") ∷ store_app (codes "lists") ∷ store_app (codes "activity") ∷ store_app (codes "check") ∷ retire_app ∷ make_app ∷ import_app ∷ export_app ∷ serve_app
-    ∷ store_app (codes "close-book") ∷ []
+    ∷ store_app (codes "close-book") ∷ store_app (codes "ship") ∷ []
 
 abbrev pub with_commands : App → List App → App
 with_commands = fold (λ app command. with_subcommand app command.top)

@@ -8,7 +8,7 @@ use Rattle.rv_base.specs.Options.{◌>>=◌}
 use Rattle.rv_words.specs.Numbers.{number_in}
 use Rattle.rv_words.specs.Table.{rv_app}
 use Rattle.rv_words.specs.declared.command.Command.{Command}
-use Rattle.rv_words.specs.declared.command.Command.TheVariants.{Activity, Check, CloseBook, Export, Feed, Import, Lists, Make, Retire, Serve}
+use Rattle.rv_words.specs.declared.command.Command.TheVariants.{Activity, Check, CloseBook, Export, Feed, Import, Lists, Make, Retire, Serve, Ship}
 use Rattle.rv_words.specs.declared.serve_options.ServeOptions.{ServeOptions}
 
 -- the text is an `Id`
@@ -23,6 +23,7 @@ on_store verb store =
     else if bytes_eq verb (codes "activity") then Some (Activity store)
     else if bytes_eq verb (codes "check") then Some (Check store)
     else if bytes_eq verb (codes "close-book") then Some (CloseBook store)
+    else if bytes_eq verb (codes "ship") then Some (Ship store)
     else None
 
 abbrev pub on_store_in : Text → List Row → Option Command

@@ -70,4 +70,9 @@ pub enum Command {
         /// The name of the store.
         store: Name,
     },
+    /// `ship STORE`: tell the book of the store as lines, which a standby takes.
+    Ship {
+        /// The name of the store.
+        store: Name,
+    },
 }

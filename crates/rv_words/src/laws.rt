@@ -23,8 +23,8 @@ pub fn lines_are_plain()
     ensures { LinesArePlain }
 {}
 
-/// After any name of the program the words `feed STORE`, `lists STORE`, `activity STORE`, `check STORE` and
-/// `close-book STORE` each ask for their command of that store, for each text that doesn't begin with `-`.
+/// After any name of the program the words `feed STORE`, `lists STORE`, `activity STORE`, `check STORE`,
+/// `close-book STORE` and `ship STORE` each ask for their command of that store, for each text that doesn't begin with `-`.
 pub fn stores_are_asked()
     ensures { StoresAreAsked }
 {}

@@ -62,6 +62,7 @@ fn on_store(verb: &str, store: Name) -> Option<Command>
         "activity" => Some(Command::Activity { store }),
         "check" => Some(Command::Check { store }),
         "close-book" => Some(Command::CloseBook { store }),
+        "ship" => Some(Command::Ship { store }),
         _ => None,
     }
 }

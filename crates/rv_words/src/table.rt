@@ -121,5 +121,6 @@ pub fn rv<'a>(alloc: Global) -> Result<Command<'a>, AllocError>
         .subcommand(import(alloc)?)?
         .subcommand(export(alloc)?)?
         .subcommand(serve(alloc)?)?
-        .subcommand(of_store(alloc, "close-book")?)
+        .subcommand(of_store(alloc, "close-book")?)?
+        .subcommand(of_store(alloc, "ship")?)
 }
