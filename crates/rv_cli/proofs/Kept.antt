@@ -4,12 +4,13 @@ use Rattle.rv_base.specs.Outside.{OutputState}
 use Rattle.rv_base.specs.declared.memory.Memory.{Memory as Refused}
 use Rattle.rv_keeper.specs.declared.place.Place.{Ghosts as PlaceGhosts}
 use Rattle.rv_keeper.specs.Stores.{OpensAs, OthersStay}
+use Rattle.rv_book.specs.Book.{Book}
 use Rattle.rv_answering.specs.declared.answer.Answer.{Answer}
 use Rattle.rv_cli.specs.declared.ending.Ending.{Ending}
 use Rattle.rv_cli.specs.declared.ending.Ending.TheVariants.{Done, Keeper, Damaged, Read, Write, Memory, Malformed}
 use Rattle.rv_cli.specs.Change.{StoreChange, change}
 use Rattle.rv_cli.specs.FeedPromise.{feed_statuses}
-use Rattle.rv_cli.specs.Headline.{AllAsk, IsNotOpened, IsOther, KeptSound}
+use Rattle.rv_cli.specs.Headline.{AllAsk, IsNotOpened, IsOther, KeptSound, WritesLines}
 use Rattle.rv_cli.specs.Replying.{WritesReply}
 use Rattle.rv_cli.specs.Reporting.{WritesMade, WritesUntil}
 use Rattle.rv_cli.specs.Steadiness.{PlaceIsSteady}
@@ -49,6 +50,15 @@ module _ (statuses : List ℕ) where
   made_among none seven eight old new (Ok text) ending w = written_among none seven old new text ending w
   made_among none seven eight old new (Err refused) ending (is, w) = subst (λ (e : Ending). Contains statuses (status_of e)) (sym is) eight
 
+  pub lines_among : Contains statuses 0 → Contains statuses 7 → Contains statuses 8 → (book : Book) (old new : OutputState) (ending : Ending) → WritesLines book old new ending → Contains statuses (status_of ending)
+  lines_among none seven eight book old new Done w = none
+  lines_among none seven eight book old new Write w = seven
+  lines_among none seven eight book old new Memory w = eight
+  lines_among none seven eight book old new Keeper w = absurd w
+  lines_among none seven eight book old new (Damaged damage) w = absurd w
+  lines_among none seven eight book old new Read w = absurd w
+  lines_among none seven eight book old new (Malformed number) w = absurd w
+
   pub reply_among : Contains statuses 0 → Contains statuses 7 → (old new : OutputState) (answer : Answer) (ending : Ending) → WritesReply old new answer ending → Contains statuses (status_of ending)
   reply_among none seven old new answer Done w = none
   reply_among none seven old new answer Write w = seven
@@ -74,6 +84,15 @@ made_undamaged status old new (Err refused) ending same (is, w) five = let eight
 
 pub sound_undamaged : (status : ℕ) (old new : OutputState) (entries : ℕ) (ending : Ending) → status ≡ status_of ending → WritesUntil old new (codes "ok " ++ (decimal entries ++ codes "\n")) ending → status ≢ 5
 sound_undamaged status old new entries ending same w five = written_undamaged old new (codes "ok " ++ (decimal entries ++ codes "\n")) ending w (sym same ∙ five)
+
+pub lines_undamaged : (status : ℕ) (book : Book) (old new : OutputState) (ending : Ending) → status ≡ status_of ending → WritesLines book old new ending → status ≢ 5
+lines_undamaged status book old new Done same w five = let zero : 0 ≡ 5 = sym same ∙ five in omega (arith, zero)
+lines_undamaged status book old new Write same w five = let seven : 7 ≡ 5 = sym same ∙ five in omega (arith, seven)
+lines_undamaged status book old new Memory same w five = let eight : 8 ≡ 5 = sym same ∙ five in omega (arith, eight)
+lines_undamaged status book old new Keeper same w five = w
+lines_undamaged status book old new (Damaged damage) same w five = w
+lines_undamaged status book old new Read same w five = w
+lines_undamaged status book old new (Malformed number) same w five = w
 
 pub feed_among : (ending : Ending) → Contains feed_statuses (status_of ending)
 feed_among Done = (0, lit< tt, refl)

@@ -14,7 +14,7 @@ use Rattle.rv_desk.specs.Seated.{IsSoundDesk, Seated, served}
 use Rattle.rv_cli.specs.declared.ending.Ending.{Ending}
 use Rattle.rv_cli.specs.declared.ending.Ending.TheVariants.{Done, Keeper, Damaged, Read, Write, Memory, Malformed}
 use Rattle.rv_cli.specs.Change.{change}
-use Rattle.rv_cli.specs.Headline.{Reported, ReportsSound, WritesReport}
+use Rattle.rv_cli.specs.Headline.{Reported, ReportsSound, WritesReport, WritesWhole}
 use Rattle.rv_cli.specs.Reporting.{WritesUntil, WritesMade, WasSound, ChecksStore, ChecksKept}
 use Rattle.rv_cli.specs.Storing.{HasOpened}
 use Rattle.rv_cli.specs.Texts.{keep_ending}
@@ -48,11 +48,11 @@ module _ {P K : Type 0} (place : PlaceGhosts P K) (G : Ghosts K) (store : List �
   Back mid new keeper = WentBack place G store mid new keeper
 
   -- the desk was opened and reported of, and its keeper went back
-  pub has_reported : (Reports : Book → List ℕ → Type 0) (old mid new : P) (desk : Seated K) (keeper : K) (out out' : OutputState) (ending : Ending)
+  pub has_reported : (Writes : Book → OutputState → OutputState → Ending → Type 0) (old mid new : P) (desk : Seated K) (keeper : K) (out out' : OutputState) (ending : Ending)
       → HasOpened place G store old desk mid → keeper ≡ desk.keeper → KeepsBook G desk.keeper desk.book desk.doubt → IsSoundDesk desk
-      → Back mid new keeper → WritesReport (Reports desk.book) out out' ending
-      → Reported (change place store old new) Reports out out' ending
-  has_reported Reports old mid new desk keeper out out' ending opened is kept sound back w =
+      → Back mid new keeper → Writes desk.book out out' ending
+      → Reported (change place store old new) Writes out out' ending
+  has_reported Writes old mid new desk keeper out out' ending opened is kept sound back w =
       let home = subst (λ (k : K). Back mid new k) is back in
       record {
         first = served G.faults desk;
@@ -94,7 +94,7 @@ module _ {P K : Type 0} (place : PlaceGhosts P K) (G : Ghosts K) (store : List �
 -- the store was checked, and told to be sound
 pub has_checked : {P K : Type 0} (place : PlaceGhosts P K) (store : List ℕ) (old new : P) (entries : ℕ) (out out' : OutputState) (ending : Ending)
     → WasSound place store old new entries → WritesUntil out out' (codes "ok " ++ (decimal entries ++ codes "\n")) ending
-    → Reported (change place store old new) ReportsSound out out' ending
+    → Reported (change place store old new) (WritesWhole ReportsSound) out out' ending
 has_checked place store old new entries out out' ending was w = record {
   first = record { book = was.book; limit = 2 ^ 32 - 1; doubt = None; faults = 0 };
   begins = record { loaded = was.loaded; stored = was.stored; opens = was.opens; limit = refl; doubt = refl; faults = refl };

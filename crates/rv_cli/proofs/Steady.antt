@@ -12,7 +12,9 @@ use Rattle.rv_base.specs.Outside.{OutputState}
 use Rattle.rv_base.specs.declared.memory.Memory.{Memory as Refused}
 use Rattle.rv_base.specs.declared.fault.Fault.{Fault}
 use Rattle.rv_base.specs.declared.fault.Fault.TheVariants as outside
+use Rattle.rv_book.specs.Book.{Book}
 use Rattle.rv_answering.specs.declared.answer.Answer.{Answer}
+use Rattle.rv_cli.specs.Headline.{WritesLines}
 use Rattle.rv_cli.specs.Replying.{WritesReply}
 use Rattle.rv_cli.specs.Reporting.{WritesMade, WritesUntil}
 use Rattle.rv_cli.specs.declared.serve_ending.ServeEnding.{ServeEnding}
@@ -49,6 +51,9 @@ text_is_none before now text ending w is = subst (λ (e : Ending). WritesUntil b
 
 pub sound_is_none : (before now : OutputState) (entries : ℕ) (ending : Ending) → WritesUntil before now (codes "ok " ++ (decimal entries ++ codes "\n")) ending → ending ≡ Keeper → ⊥
 sound_is_none before now entries ending w is = text_is_none before now (codes "ok " ++ (decimal entries ++ codes "\n")) ending w is
+
+pub lines_is_none : (book : Book) (before now : OutputState) (ending : Ending) → WritesLines book before now ending → ending ≡ Keeper → ⊥
+lines_is_none book before now ending w is = subst (λ (e : Ending). WritesLines book before now e) is w
 
 -- a keeper that was not given was refused for memory
 pub not_given : {T : Type 0} (fault : Fault) (ending : Ending) → ¬ IsErrOf {T = T} (Err fault) outside.Failed → ending ≡ keep_ending fault → ending ≡ Keeper → ⊥

@@ -20,6 +20,7 @@ use Rattle.rv_keeper.specs.declared.loaded.Loaded.{Loaded}
 use Rattle.rv_keeper.specs.Stores.{TakesUp}
 use Rattle.rv_keeper.specs.Crashes.{LeavesMore}
 use Rattle.rv_state.specs.Ready.{NextFits}
+use Rattle.rv_standby.specs.Shipping.{book_lines}
 use Rattle.rv_store.specs.Opening.{MayOpen, IsDamaged, IsSoundBook}
 use Rattle.rv_store.specs.StoreCells.{IsKeptWith}
 use Rattle.rv_report.specs.Lists.{lists_text}
@@ -243,7 +244,7 @@ module _ (c : StoreChange) where
   RunsOne line output output' status = (ending : Ending) × (status ≡ status_of ending)
       × ((NotOpened output output' ending × IsLeftAs c) ⊎ Replied line output output' ending)
 
--- ---- And of a report: it is a text of the book that the store was kept as, which stays kept.
+-- ---- And of a report: it is a text of the book that the store was kept as, or its lines, and the book stays kept.
 
 -- the text of the rows that the book leaves
 abbrev pub ReportsLists : Book → List ℕ → Type 0
@@ -268,17 +269,29 @@ WritesReport Reports old new Write = (text : List ℕ) × Reports text × Append
 WritesReport Reports old new Memory = WritesOnly old new (status_text Memory)
 WritesReport Reports old new ending = ⊥
 
+-- so it is of a report that is a text of the book
+abbrev pub WritesWhole : (Book → List ℕ → Type 0) → Book → OutputState → OutputState → Ending → Type 0
+WritesWhole Reports book = WritesReport (Reports book)
+
+-- And of the lines of the book, which are written one after another: all of them; or a front of them, and a write failed; or a front of
+-- them, and then that memory was refused.
+abbrev pub WritesLines : Book → OutputState → OutputState → Ending → Type 0
+WritesLines book old new Done = Appends old.written new.written (book_lines book) × (new.faults ≡ old.faults)
+WritesLines book old new Write = AppendsFront old.written new.written (book_lines book) × Rose old.faults new.faults
+WritesLines book old new Memory = (mid : OutputState) × AppendsFront old.written mid.written (book_lines book) × (mid.faults ≡ old.faults) × WritesOnly mid new (status_text Memory)
+WritesLines book old new ending = ⊥
+
 module _ (c : StoreChange) where
-  pub record Reported (Reports : Book → List ℕ → Type 0) (output output' : OutputState) (ending : Ending) : Type 0 where
+  pub record Reported (Writes : Book → OutputState → OutputState → Ending → Type 0) (output output' : OutputState) (ending : Ending) : Type 0 where
     pub first : Served
     pub begins : Begins c first
-    pub writes : WritesReport (Reports first.book) output output' ending
+    pub writes : Writes first.book output output' ending
     pub leaves : Leaves c first
 
   -- the status is that of an ending, and the store did not open, or was reported so
-  abbrev pub RunsReport : (Book → List ℕ → Type 0) → OutputState → OutputState → ℕ → Type 0
-  RunsReport Reports output output' status = (ending : Ending) × (status ≡ status_of ending)
-      × ((NotOpened c output output' ending × IsLeftAs c) ⊎ Reported Reports output output' ending)
+  abbrev pub RunsReport : (Book → OutputState → OutputState → Ending → Type 0) → OutputState → OutputState → ℕ → Type 0
+  RunsReport Writes output output' status = (ending : Ending) × (status ≡ status_of ending)
+      × ((NotOpened c output output' ending × IsLeftAs c) ⊎ Reported Writes output output' ending)
 
 -- ---- And of `make`: it writes the summary of a run of the requests that a seed makes.
 

@@ -2,10 +2,10 @@
 use Rattle.std.specs.Prelude.{◌≡◌, ◌⊎◌, ℕ, List, Option, Some, None, String}
 use Rattle.std.specs.Global.{Global}
 use Rattle.rv_words.specs.declared.command.Command.{Command}
-use Rattle.rv_words.specs.declared.command.Command.TheVariants.{Feed, Retire, Lists, Activity, Check, CloseBook, Make, Serve, Export, Import}
+use Rattle.rv_words.specs.declared.command.Command.TheVariants.{Feed, Retire, Lists, Activity, Check, CloseBook, Make, Serve, Ship, Export, Import}
 use Rattle.rv_cli.specs.declared.ending.Ending.TheVariants.{Memory}
 use Rattle.rv_cli.specs.Commands.{asked_by}
-use Rattle.rv_cli.specs.Headline.{ReportsActivity, ReportsLists, ReportsSound, ReportsView, WritesOnly}
+use Rattle.rv_cli.specs.Headline.{ReportsActivity, ReportsLists, ReportsSound, ReportsView, WritesLines, WritesOnly, WritesWhole}
 use Rattle.rv_cli.specs.Running.{Outside, Run}
 use Rattle.rv_cli.specs.FeedPromise.{KeepsFeed}
 use Rattle.rv_cli.specs.ReplyPromises.{KeepsClosing, KeepsRetire}
@@ -31,10 +31,11 @@ module _ (o : Outside) where
   Promises (Some (Serve store options)) r = KeepsServe o store options r
   Promises (Some (Retire store group)) r = KeepsRetire o store group r
   Promises (Some (CloseBook store)) r = KeepsClosing o store r
-  Promises (Some (Lists store)) r = KeepsReport o store ReportsLists r
-  Promises (Some (Activity store)) r = KeepsReport o store ReportsActivity r
-  Promises (Some (Check store)) r = KeepsReport o store ReportsSound r
-  Promises (Some (Export store user)) r = KeepsReport o store (ReportsView user) r
+  Promises (Some (Lists store)) r = KeepsReport o store (WritesWhole ReportsLists) r
+  Promises (Some (Activity store)) r = KeepsReport o store (WritesWhole ReportsActivity) r
+  Promises (Some (Check store)) r = KeepsReport o store (WritesWhole ReportsSound) r
+  Promises (Some (Export store user)) r = KeepsReport o store (WritesWhole (ReportsView user)) r
+  Promises (Some (Ship store)) r = KeepsReport o store WritesLines r
   Promises (Some (Import store user name)) r = KeepsImport o store user name r
   Promises (Some (Make seed requests)) r = KeepsMake o seed requests r
 

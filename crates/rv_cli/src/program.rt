@@ -19,7 +19,7 @@ use crate::ending::Ending;
 use crate::feed::feed;
 use crate::import::run_import;
 use crate::make::run_make;
-use crate::reports::{run_activity, run_check, run_export, run_lists};
+use crate::reports::{run_activity, run_check, run_export, run_lists, run_ship};
 use crate::serve::run_serve;
 use crate::store::{open_desk, refuse_opening};
 use crate::texts::{write_answer, write_ending, write_usage};
@@ -220,6 +220,7 @@ where
         Ok(Some(Command::Lists { store })) => run_lists(alloc, place, store.as_str(), out),
         Ok(Some(Command::Activity { store })) => run_activity(alloc, place, store.as_str(), out),
         Ok(Some(Command::Check { store })) => run_check(alloc, place, store.as_str(), out),
+        Ok(Some(Command::Ship { store })) => run_ship(alloc, place, store.as_str(), out),
         Ok(Some(Command::Export { store, user })) => run_export(
             alloc,
             place,

@@ -26,6 +26,10 @@ pub returns-in-Ok-Some-Check-clause-command : goal.returns-in-Ok-Some-Check-clau
 returns-in-Ok-Some-Check-clause-command g c =
     obeys _ _ _ _ (rw (c.in-Ok-Some-Check.field-0-is, c.in-Ok-Some-Check.field-0-0-is, ← c.as_str-in-Ok-Some-Check.ensures) at c.in-Ok-Some-Check.ensures) (record { reported = c.run_check.ensures.report; keeps = c.run_check.ensures.keeps; still = c.run_check.ensures.still; none = c.run_check.ensures.none; input = refl; net = refl })
 
+pub returns-in-Ok-Some-Ship-clause-command : goal.returns-in-Ok-Some-Ship-clause-command
+returns-in-Ok-Some-Ship-clause-command g c =
+    obeys _ _ _ _ (rw (c.in-Ok-Some-Ship.field-0-is, c.in-Ok-Some-Ship.field-0-0-is, ← c.as_str-in-Ok-Some-Ship.ensures) at c.in-Ok-Some-Ship.ensures) (record { reported = c.run_ship.ensures.report; keeps = c.run_ship.ensures.keeps; still = c.run_ship.ensures.still; none = c.run_ship.ensures.none; input = refl; net = refl })
+
 pub returns-in-Ok-Some-Export-clause-command : goal.returns-in-Ok-Some-Export-clause-command
 returns-in-Ok-Some-Export-clause-command g c =
     obeys _ _ _ _ (rw (c.in-Ok-Some-Export.field-0-is, c.in-Ok-Some-Export.field-0-0-is, ← c.as_str-in-Ok-Some-Export.ensures) at c.in-Ok-Some-Export.ensures) (record { reported = c.run_export.ensures.report; keeps = c.run_export.ensures.keeps; still = c.run_export.ensures.still; none = c.run_export.ensures.none; input = refl; net = refl })

@@ -4,7 +4,7 @@ use Rattle.rv_cli.proofs.Kept.{as_of, keeps, made_among, made_undamaged, refused
 use Rattle.rv_cli.proofs.Steady.{made_is_none, not_four, taken_up}
 use Rattle.rv_keeper.specs.StoreLaws.{others_on}
 use Rattle.std.proofs.Common.{inr, ◌≡◌, ◌∙◌, ap, sym, refl, lit<}
-use Rattle.rv_cli.specs.Headline.{ReportsActivity}
+use Rattle.rv_cli.specs.Headline.{ReportsActivity, WritesWhole}
 use Rattle.rv_report.specs.Activity.{activity_text}
 use Rattle.rv_cli.proofs.Reporting.{has_reported, if_ok, reports_made}
 use Rattle.rv_cli.proofs.Storing.{refused_fails}
@@ -14,7 +14,7 @@ pub returns-in-Ok-clause-report : goal.returns-in-Ok-clause-report
 returns-in-Ok-clause-report g c = (
   c.write_report.result,
   c.status.ensures,
-  inr (has_reported g.P.Place g.P.Kept.Keeper c.args.store.now ReportsActivity c.args.place.now c.open_existing_desk.new.place c.close_keeper.new.self c.in-Ok.desk c.close.result
+  inr (has_reported g.P.Place g.P.Kept.Keeper c.args.store.now (WritesWhole ReportsActivity) c.args.place.now c.open_existing_desk.new.place c.close_keeper.new.self c.in-Ok.desk c.close.result
       (g.O.Sink.state c.args.out.now) (g.O.Sink.state c.write_report.new.out) c.write_report.result
       c.in-Ok.ensures.opens c.close.ensures.keeper c.close.ensures.kept c.close.ensures.sound (record { told = c.close_keeper.ensures.tells; honest = c.close_keeper.ensures.honest; held = c.close_keeper.ensures.kept; left = c.close_keeper.ensures.crash; taken = c.close_keeper.ensures.faults })
       (reports_made (ReportsActivity c.in-Ok.desk.book) c.activity_text-report.result (g.O.Sink.state c.args.out.now) (g.O.Sink.state c.write_report.new.out) c.write_report.result (λ text is. if_ok (λ t. t ≡ activity_text c.book.result.now.book) c.activity_text-report.result text c.activity_text-report.ensures is ∙ ap activity_text c.book.ensures.book) c.write_report.ensures.writes)),

@@ -4,7 +4,7 @@ use Rattle.rv_cli.proofs.Kept.{as_of, keeps, made_among, made_undamaged, refused
 use Rattle.rv_cli.proofs.Steady.{made_is_none, not_four, taken_up}
 use Rattle.rv_keeper.specs.StoreLaws.{others_on}
 use Rattle.std.proofs.Common.{inr, ◌≡◌, ◌∙◌, ap, sym, refl, lit<}
-use Rattle.rv_cli.specs.Headline.{ReportsView}
+use Rattle.rv_cli.specs.Headline.{ReportsView, WritesWhole}
 use Rattle.rv_rows.specs.Held.{rows_in}
 use Rattle.rv_rows.specs.Sharing.{seen}
 use Rattle.rv_import.specs.Views.{view_text}
@@ -16,7 +16,7 @@ pub returns-in-Ok-clause-report : goal.returns-in-Ok-clause-report
 returns-in-Ok-clause-report g c = (
   c.write_report.result,
   c.status.ensures,
-  inr (has_reported g.P.Place g.P.Kept.Keeper c.args.store.now (ReportsView c.args.user.now) c.args.place.now c.open_existing_desk.new.place c.close_keeper.new.self c.in-Ok.desk c.close.result
+  inr (has_reported g.P.Place g.P.Kept.Keeper c.args.store.now (WritesWhole (ReportsView c.args.user.now)) c.args.place.now c.open_existing_desk.new.place c.close_keeper.new.self c.in-Ok.desk c.close.result
       (g.O.Sink.state c.args.out.now) (g.O.Sink.state c.write_report.new.out) c.write_report.result
       c.in-Ok.ensures.opens c.close.ensures.keeper c.close.ensures.kept c.close.ensures.sound (record { told = c.close_keeper.ensures.tells; honest = c.close_keeper.ensures.honest; held = c.close_keeper.ensures.kept; left = c.close_keeper.ensures.crash; taken = c.close_keeper.ensures.faults })
       (reports_made (ReportsView c.args.user.now c.in-Ok.desk.book) c.export_text-report.result (g.O.Sink.state c.args.out.now) (g.O.Sink.state c.write_report.new.out) c.write_report.result (λ text is. (c.tables.result.now.rows, c.tables.ensures, on_ok _ c.export_text-report.result text c.export_text-report.ensures.view is, if_ok (λ t. t ≡ view_text (seen c.args.user.now (rows_in c.tables.result.now.rows))) c.export_text-report.result text c.export_text-report.ensures.text is)) c.write_report.ensures.writes)),

@@ -1,0 +1,54 @@
+use Rattle.rv_cli.specs.Change.{change}
+use Rattle.rv_cli.specs.ReportPromise.{report_statuses}
+use Rattle.rv_cli.proofs.Kept.{as_of, keeps, lines_among, lines_undamaged, refused_keeps}
+use Rattle.rv_cli.proofs.Steady.{lines_is_none, not_four, taken_up}
+use Rattle.rv_keeper.specs.StoreLaws.{others_on}
+use Rattle.std.proofs.Common.{inr, ◌≡◌, ◌∙◌, ap, sym, refl, lit<}
+use Rattle.rv_cli.specs.Headline.{WritesLines}
+use Rattle.rv_cli.proofs.Reporting.{has_reported}
+use Rattle.rv_cli.proofs.Storing.{refused_fails}
+use Rattle.rv_cli.proofs.reports.run_ship.Goals as goal
+
+pub returns-in-Ok-clause-report : goal.returns-in-Ok-clause-report
+returns-in-Ok-clause-report g c = (
+  c.write_lines-ending.result,
+  c.status.ensures,
+  inr (has_reported g.P.Place g.P.Kept.Keeper c.args.store.now WritesLines c.args.place.now c.open_existing_desk.new.place c.close_keeper.new.self c.in-Ok.desk c.close.result
+      (g.O.Sink.state c.args.out.now) (g.O.Sink.state c.write_lines-ending.new.out) c.write_lines-ending.result
+      c.in-Ok.ensures.opens c.close.ensures.keeper c.close.ensures.kept c.close.ensures.sound (record { told = c.close_keeper.ensures.tells; honest = c.close_keeper.ensures.honest; held = c.close_keeper.ensures.kept; left = c.close_keeper.ensures.crash; taken = c.close_keeper.ensures.faults })
+      c.write_lines-ending.ensures.writes),
+)
+
+pub returns-in-Ok-clause-keeps : goal.returns-in-Ok-clause-keeps
+returns-in-Ok-clause-keeps g c =
+    keeps g.P.Place c.args.store.now report_statuses (g.P.Place.has c.args.place.now c.args.store.now) c.args.place.now c.close_keeper.new.self _ (as_of report_statuses _ c.write_lines-ending.result c.status.ensures (lines_among report_statuses (0, lit< tt, refl) (3, lit< tt, refl) (4, lit< tt, refl) c.in-Ok.desk.book (g.O.Sink.state c.args.out.now) (g.O.Sink.state c.write_lines-ending.new.out) c.write_lines-ending.result c.write_lines-ending.ensures.writes))
+    (λ told kept. lines_undamaged _ c.in-Ok.desk.book (g.O.Sink.state c.args.out.now) (g.O.Sink.state c.write_lines-ending.new.out) c.write_lines-ending.result c.status.ensures c.write_lines-ending.ensures.writes)
+    (λ t. others_on g.P.Place.holds g.P.Place.may_leave g.P.Place.is_out g.P.Place.has g.P.Place.accounts c.args.store.now c.args.place.now c.open_existing_desk.new.place c.close_keeper.new.self (c.open_existing_desk.ensures.others (c.close_keeper.ensures.tells t).0) (c.close_keeper.ensures.others t))
+    (λ steady there.
+    let (on, same, desk) = c.in-Ok.ensures.steady steady there in
+    record { goes_on = c.close_keeper.ensures.steady on; no_fault = λ is. not_four c.write_lines-ending.result (lines_is_none c.in-Ok.desk.book (g.O.Sink.state c.args.out.now) (g.O.Sink.state c.write_lines-ending.new.out) c.write_lines-ending.result c.write_lines-ending.ensures.writes) (sym c.status.ensures ∙ is) })
+
+pub returns-in-Err-clause-keeps : goal.returns-in-Err-clause-keeps
+returns-in-Err-clause-keeps g c =
+    refused_keeps g.P.Place c.args.store.now report_statuses (g.P.Place.has c.args.place.now c.args.store.now) c.args.place.now c.open_existing_desk.new.place (1, lit< tt, refl) (2, lit< tt, refl) (4, lit< tt, refl) c.in-Err.ending _ c.in-Err.ensures.opens.0 c.refuse_opening.ensures.status
+    c.open_existing_desk.ensures.others (λ steady there. let (on, same, never) = c.in-Err.ensures.steady steady there in (on, never))
+
+pub returns-in-Ok-clause-still : goal.returns-in-Ok-clause-still
+returns-in-Ok-clause-still g c = λ steady there.
+    let (on, same, (goes, fresh)) = c.in-Ok.ensures.steady steady there in
+    taken_up _ _ _ (ap g.P.Kept.Keeper.faults c.close.ensures.keeper ∙ fresh) c.close_keeper.ensures.faults ∙ same
+
+pub returns-in-Err-clause-still : goal.returns-in-Err-clause-still
+returns-in-Err-clause-still g c = λ steady there. let (on, same, never) = c.in-Err.ensures.steady steady there in same
+
+pub returns-in-Ok-clause-none : goal.returns-in-Ok-clause-none
+returns-in-Ok-clause-none g c = record {
+  there = λ t done. c.in-Ok.ensures.there (c.close_keeper.ensures.tells t).0 refl;
+  none_made = λ t has. c.in-Ok.ensures.there (c.close_keeper.ensures.tells t).0 refl;
+}
+
+pub returns-in-Err-clause-none : goal.returns-in-Err-clause-none
+returns-in-Err-clause-none g c = record {
+  there = λ t done. absurd (refused_fails (change g.P.Place c.args.store.now c.args.place.now c.open_existing_desk.new.place) c.in-Err.ending _ c.in-Err.ensures.opens.0 c.refuse_opening.ensures.status done);
+  none_made = c.in-Err.ensures.none_made;
+}
