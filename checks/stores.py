@@ -14,7 +14,7 @@ import subprocess
 import sys
 import tempfile
 
-from model import Requests, Server, activity_text, cells, lists_text, more
+from model import Requests, Server, activity_text, cells, lists_text, more, text_of
 
 STOP = '{"stop":true}'
 
@@ -45,6 +45,23 @@ def check_reports(program, path, server, where):
             sys.exit(f"{where}: another report by {name}, status {run.returncode}: {run.stdout.decode()}")
 
 
+def ship_lines(held):
+    """The lines of a book: the cells of its page, that the page is whole, and the cells of its entries."""
+    places = sorted(held, key=lambda place: (place[0], place[1].encode()))
+    page = [place for place in places if 6 <= place[0] <= 9]
+    entries = [place for place in places if place[0] == 1]
+    whole = ['{"page":true}'] if page else []
+    line = lambda place: text_of({"cell": [*place, held[place]]})
+    return [line(place) for place in page] + whole + [line(place) for place in entries]
+
+
+def check_lines(program, path, held, where):
+    """What `ship` writes, beside the cells of the store."""
+    run = subprocess.run([program, "ship", path], stdout=subprocess.PIPE)
+    if (run.returncode, run.stdout.decode().split("\n")[:-1]) != (0, ship_lines(held)):
+        sys.exit(f"{where}: other lines by ship, status {run.returncode}")
+
+
 def with_stops(chance, lines):
     mixed = []
     for line in lines:
@@ -67,6 +84,7 @@ def check_store(program, path, seed):
         if held != cells(server) or generation != len(server.book):
             sys.exit(f"store {seed}, run {run}: other cells, at generation {generation}")
         check_reports(program, path, server, f"store {seed}, run {run}")
+        check_lines(program, path, held, f"store {seed}, run {run}")
     return len(server.book), len(held)
 
 
@@ -101,7 +119,7 @@ def main():
             book, held = check_store(program, os.path.join(folder, f"{seed}.db"), seed)
             entries, rows = entries + book, rows + held
         large_store(program, os.path.join(folder, "large.db"))
-    print(f"the same answers, cells and reports: {stores} stores, {entries} entries, {rows} cells")
+    print(f"the same answers, cells, lines and reports: {stores} stores, {entries} entries, {rows} cells")
 
 
 if __name__ == "__main__":

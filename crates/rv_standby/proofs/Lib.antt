@@ -1,3 +1,4 @@
 pub mod PagesRead
 pub mod Fronts
 pub mod Shipped
+pub mod PageShipped

@@ -1,0 +1,6 @@
+use Rattle.rv_record.specs.CellTexts.{page_row_cell}
+use Rattle.rv_standby.proofs.Shipped.{line_some, none_fails}
+use Rattle.rv_standby.proofs.shipping.ship_row.Goals as goal
+
+pub returns-in_err-cell-clause-ships : goal.returns-in_err-cell-clause-ships
+returns-in_err-cell-clause-ships g c = none_fails _ _ _ c.from_residual.ensures.1 (line_some (page_row_cell c.args.row.now c.args.version))
