@@ -1,6 +1,6 @@
 -- From the desk of a store, or a check of it, and the keeper that went back, to what a report promises.
-use Rattle.std.proofs.Common.{◌≡◌, ℕ, ◌-◌, ◌^◌, ◌++◌, List, Option, None, Result, Ok, Err, IsOk, IsErr, IsErrAnd, IfOk, OnOk, refl, sym, ap, ◌∙◌, subst, arith, decimal, codes, inl}
-use Rattle.rv_base.specs.Outside.{OutputState}
+use Rattle.std.proofs.Common.{◌≡◌, ℕ, ◌-◌, ◌^◌, ◌++◌, List, Option, None, Result, Ok, Err, IsOk, IsErr, IsErrAnd, IfOk, OnOk, refl, sym, ap, ◌∙◌, subst, arith, decimal, codes, inl, inr}
+use Rattle.rv_base.specs.Outside.{OutputState, Writes}
 use Rattle.rv_base.specs.declared.memory.Memory.{Memory as Refused}
 use Rattle.rv_base.specs.declared.fault.Fault.{Fault}
 use Rattle.rv_keeper.specs.declared.loaded.Loaded.{Loaded}
@@ -14,7 +14,7 @@ use Rattle.rv_desk.specs.Seated.{IsSoundDesk, Seated, served}
 use Rattle.rv_cli.specs.declared.ending.Ending.{Ending}
 use Rattle.rv_cli.specs.declared.ending.Ending.TheVariants.{Done, Keeper, Damaged, Read, Write, Memory, Malformed}
 use Rattle.rv_cli.specs.Change.{change}
-use Rattle.rv_cli.specs.Headline.{Reported, ReportsSound, WritesReport, WritesWhole}
+use Rattle.rv_cli.specs.Headline.{Reported, ReportsSound, WritesOnly, WritesReport, WritesWhole}
 use Rattle.rv_cli.specs.Reporting.{WritesUntil, WritesMade, WasSound, ChecksStore, ChecksKept}
 use Rattle.rv_cli.specs.Storing.{HasOpened}
 use Rattle.rv_cli.specs.Texts.{keep_ending}
@@ -101,3 +101,8 @@ has_checked place store old new entries out out' ending was w = record {
   writes = reports_text (ReportsSound was.book) _ out out' ending (ap (λ n. codes "ok " ++ (decimal n ++ codes "\n")) (sym was.length)) w;
   leaves = record { sound = record { book = was.opens.sound; small = omega arith; fits = tt; next = tt }; held = λ t. (was.loaded, was.held t, inl was.opens.kept); left = was.left; kept = 0; later = omega arith; taken = was.same };
 }
+
+-- a text that was written, or a front of it, and nothing else
+pub told_only : {T E : Type 0} (old new : OutputState) (result : Result T E) (text : List ℕ) → Writes old new result text → WritesOnly old new text
+told_only old new (Ok x) text w = (text, w.bytes, inl (refl, w.cause.still))
+told_only old new (Err e) text w = let (part, front, appended) = w.bytes in (part, appended, inr (front, w.cause.failed))
