@@ -16,17 +16,17 @@ returns-in-Ok-clause-report g c = (
   inr (has_reported g.P.Place g.P.Kept.Keeper c.args.store.now WritesLines c.args.place.now c.open_existing_desk.new.place c.close_keeper.new.self c.in-Ok.desk c.close.result
       (g.O.Sink.state c.args.out.now) (g.O.Sink.state c.write_lines-ending.new.out) c.write_lines-ending.result
       c.in-Ok.ensures.opens c.close.ensures.keeper c.close.ensures.kept c.close.ensures.sound (record { told = c.close_keeper.ensures.tells; honest = c.close_keeper.ensures.honest; held = c.close_keeper.ensures.kept; left = c.close_keeper.ensures.crash; taken = c.close_keeper.ensures.faults })
-      c.write_lines-ending.ensures.writes),
+      (rw c.book.ensures.book at c.write_lines-ending.ensures.writes)),
 )
 
 pub returns-in-Ok-clause-keeps : goal.returns-in-Ok-clause-keeps
 returns-in-Ok-clause-keeps g c =
-    keeps g.P.Place c.args.store.now report_statuses (g.P.Place.has c.args.place.now c.args.store.now) c.args.place.now c.close_keeper.new.self _ (as_of report_statuses _ c.write_lines-ending.result c.status.ensures (lines_among report_statuses (0, lit< tt, refl) (3, lit< tt, refl) (4, lit< tt, refl) c.in-Ok.desk.book (g.O.Sink.state c.args.out.now) (g.O.Sink.state c.write_lines-ending.new.out) c.write_lines-ending.result c.write_lines-ending.ensures.writes))
-    (λ told kept. lines_undamaged _ c.in-Ok.desk.book (g.O.Sink.state c.args.out.now) (g.O.Sink.state c.write_lines-ending.new.out) c.write_lines-ending.result c.status.ensures c.write_lines-ending.ensures.writes)
+    keeps g.P.Place c.args.store.now report_statuses (g.P.Place.has c.args.place.now c.args.store.now) c.args.place.now c.close_keeper.new.self _ (as_of report_statuses _ c.write_lines-ending.result c.status.ensures (lines_among report_statuses (0, lit< tt, refl) (3, lit< tt, refl) (4, lit< tt, refl) c.in-Ok.desk.book (g.O.Sink.state c.args.out.now) (g.O.Sink.state c.write_lines-ending.new.out) c.write_lines-ending.result (rw c.book.ensures.book at c.write_lines-ending.ensures.writes)))
+    (λ told kept. lines_undamaged _ c.in-Ok.desk.book (g.O.Sink.state c.args.out.now) (g.O.Sink.state c.write_lines-ending.new.out) c.write_lines-ending.result c.status.ensures (rw c.book.ensures.book at c.write_lines-ending.ensures.writes))
     (λ t. others_on g.P.Place.holds g.P.Place.may_leave g.P.Place.is_out g.P.Place.has g.P.Place.accounts c.args.store.now c.args.place.now c.open_existing_desk.new.place c.close_keeper.new.self (c.open_existing_desk.ensures.others (c.close_keeper.ensures.tells t).0) (c.close_keeper.ensures.others t))
     (λ steady there.
     let (on, same, desk) = c.in-Ok.ensures.steady steady there in
-    record { goes_on = c.close_keeper.ensures.steady on; no_fault = λ is. not_four c.write_lines-ending.result (lines_is_none c.in-Ok.desk.book (g.O.Sink.state c.args.out.now) (g.O.Sink.state c.write_lines-ending.new.out) c.write_lines-ending.result c.write_lines-ending.ensures.writes) (sym c.status.ensures ∙ is) })
+    record { goes_on = c.close_keeper.ensures.steady on; no_fault = λ is. not_four c.write_lines-ending.result (lines_is_none c.in-Ok.desk.book (g.O.Sink.state c.args.out.now) (g.O.Sink.state c.write_lines-ending.new.out) c.write_lines-ending.result (rw c.book.ensures.book at c.write_lines-ending.ensures.writes)) (sym c.status.ensures ∙ is) })
 
 pub returns-in-Err-clause-keeps : goal.returns-in-Err-clause-keeps
 returns-in-Err-clause-keeps g c =
