@@ -52,8 +52,8 @@ fn body_asks(alloc: Global, verb: Verb, user: User, body: &Value) -> Parsed
     }
 }
 
-// The names and values of an object's members, where it has two.
-fn two_members(members: &BTreeMap<String, Value>) -> Option<(&str, &Value, &str, &Value)>
+/// The names and values of an object's members, where it has two, in the order of the names. Takes no memory.
+pub fn two_members(members: &BTreeMap<String, Value>) -> Option<(&str, &Value, &str, &Value)>
     ensures { option_map (λ t. ((t.0.now, view t.1.now), (t.2.now, view t.3.now))) result ≡ two_members (members_view members.now.entries) }
 {
     let mut left = members.iter();
@@ -133,8 +133,8 @@ fn one_asks(alloc: Global, name: &str, value: &Value) -> Result<Option<Line>, Me
     Ok(retire_asked(alloc, name, value)?.map(Line::Asks))
 }
 
-// The name and the value of an object's member, where it has one.
-fn one_member(members: &BTreeMap<String, Value>) -> Option<(&str, &Value)>
+/// The name and the value of an object's member, where it has one. Takes no memory.
+pub fn one_member(members: &BTreeMap<String, Value>) -> Option<(&str, &Value)>
     ensures { option_map (λ t. (t.0.now, view t.1.now)) result ≡ one_member (members_view members.now.entries) }
 {
     let mut left = members.iter();

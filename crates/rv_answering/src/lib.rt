@@ -14,7 +14,7 @@ mod schemas;
 
 pub use answer::{Answer, Answered};
 pub use answering::{close_book, retire_group, run_pull, run_push, serve_asked, serve_request};
-pub use asking::{Parsed, line_of};
+pub use asking::{Parsed, line_of, one_member, two_members};
 pub use line::Line;
 pub use request::Request;
 pub use schemas::FeedSchemas;

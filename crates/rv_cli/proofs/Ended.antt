@@ -70,19 +70,19 @@ module _ (L : Lines) where
   line_among n (l ∷ rest) others bytes [] number e h = absurd h
   line_among n (l ∷ rest) others bytes (line ∷ lines) number e h = line_among (n + 1) rest others bytes lines number (omega (arith, e)) h.1
 
-  none_malformed : (Told : Type 0) (begun now : L.State) (bytes : List ℕ) (start input : InputState) (first out : OutputState) (number : ℕ) (lines : List L.Line) → FedAnswers L Told begun now bytes start input first out (Malformed number) → Are L 1 (lines_of bytes) lines → ⊥
-  none_malformed Told begun now bytes start input first out number lines f are =
+  none_malformed : ((state : L.State) (line : Option L.Line) → L.Refuses state line → line ≡ None) → (Told : Type 0) (begun now : L.State) (bytes : List ℕ) (start input : InputState) (first out : OutputState) (number : ℕ) (lines : List L.Line) → FedAnswers L Told begun now bytes start input first out (Malformed number) → Are L 1 (lines_of bytes) lines → ⊥
+  none_malformed of_form Told begun now bytes start input first out number lines f are =
       let (line, is) = line_among 1 f.ends.lines f.ends.others f.ends.line lines number (let e = f.ends.count in omega (arith, e)) (subst (λ (ls : List (List ℕ)). Are L 1 ls lines) f.ends.are are) in
-      let no : None ≡ Some line = sym f.ends.asks ∙ is in
+      let no : None ≡ Some line = sym (of_form _ _ f.ends.refused) ∙ is in
       cc
 
-  -- where all lines are of the form, no line is told to be none
-  pub completes : (Told : Type 0) (begun now : L.State) (o : Option (List ℕ)) (start input : InputState) (first out : OutputState) (ending : Ending) → IfSome o (λ bytes. FedAnswers L Told begun now bytes start input first out ending) → AllAre L o (IsOther (status_of ending))
-  completes Told begun now None start input first out ending f = tt
-  completes Told begun now (Some bytes) start input first out Done f = λ lines are. inl refl
-  completes Told begun now (Some bytes) start input first out Keeper f = λ lines are. inr (inl refl)
-  completes Told begun now (Some bytes) start input first out (Damaged damage) f = λ lines are. inr (inr (inl refl))
-  completes Told begun now (Some bytes) start input first out Read f = λ lines are. inr (inr (inr (inl refl)))
-  completes Told begun now (Some bytes) start input first out Write f = λ lines are. inr (inr (inr (inr (inl refl))))
-  completes Told begun now (Some bytes) start input first out Memory f = λ lines are. inr (inr (inr (inr (inr refl))))
-  completes Told begun now (Some bytes) start input first out (Malformed number) f = λ lines are. absurd (none_malformed Told begun now bytes start input first out number lines f are)
+  -- where only lines that are not of the form are refused, and all are of the form, none is
+  pub completes : ((state : L.State) (line : Option L.Line) → L.Refuses state line → line ≡ None) → (Told : Type 0) (begun now : L.State) (o : Option (List ℕ)) (start input : InputState) (first out : OutputState) (ending : Ending) → IfSome o (λ bytes. FedAnswers L Told begun now bytes start input first out ending) → AllAre L o (IsOther (status_of ending))
+  completes of_form Told begun now None start input first out ending f = tt
+  completes of_form Told begun now (Some bytes) start input first out Done f = λ lines are. inl refl
+  completes of_form Told begun now (Some bytes) start input first out Keeper f = λ lines are. inr (inl refl)
+  completes of_form Told begun now (Some bytes) start input first out (Damaged damage) f = λ lines are. inr (inr (inl refl))
+  completes of_form Told begun now (Some bytes) start input first out Read f = λ lines are. inr (inr (inr (inl refl)))
+  completes of_form Told begun now (Some bytes) start input first out Write f = λ lines are. inr (inr (inr (inr (inl refl))))
+  completes of_form Told begun now (Some bytes) start input first out Memory f = λ lines are. inr (inr (inr (inr (inr refl))))
+  completes of_form Told begun now (Some bytes) start input first out (Malformed number) f = λ lines are. absurd (none_malformed of_form Told begun now bytes start input first out number lines f are)

@@ -150,21 +150,21 @@ module _ (L : Lines) where
       reached = (w.answered.taken, w.answered.answers, w.answered.run);
       fed = known start.left (λ bytes. FedAnswers L Told begun now bytes start new first out (Malformed number)) (λ bytes is.
           let (read, line, others, on, lt) = read_too_long bytes pending pending' old new w.lines (of_bytes start.left bytes pending old.left w.lines is w.taken) r.ahead k h in
-          record { read = read; text = w.text; consumed = on.consumed; appended = w.appended; ends = record { lines = w.lines; line = line; others = others; are = on.are; count = w.count; asks = too_long L number line lt; needed = on.needed; answered = w.answered } });
+          record { read = read; text = w.text; consumed = on.consumed; appended = w.appended; ends = record { lines = w.lines; line = line; others = others; are = on.are; count = w.count; refused = subst (L.Refuses now) (sym (too_long L number line lt)) (L.refuses_none now); needed = on.needed; answered = w.answered } });
     }
 
     -- ---- A line with which the lines end.
 
-    -- the line isn't of the form
+    -- the line is refused
     line_malformed : (old new : InputState) (out : OutputState) (pending line : List ℕ) (number : ℕ) (now : L.State) (w : Going Told begun start old first out pending number now)
-        → Examined start old new line w.lines → line_at L number line ≡ None → Feeds L Told begun now start new first out (Malformed number)
-    line_malformed old new out pending line number now w l none = record {
+        → Examined start old new line w.lines → L.Refuses now (line_at L number line) → Feeds L Told begun now start new first out (Malformed number)
+    line_malformed old new out pending line number now w l refused = record {
       reads = (l.faults ∙ w.faults, ends_as start old new w.ends l.ends);
       writes = w.stays.faults;
       reached = (w.answered.taken, w.answered.answers, w.answered.run);
       fed = known start.left (λ bytes. FedAnswers L Told begun now bytes start new first out (Malformed number)) (λ bytes is.
           let (read, others, more, on, within) = l.on bytes is in
-          record { read = read; text = w.text; consumed = on.consumed; appended = w.appended; ends = record { lines = w.lines; line = line; others = others; are = on.are; count = w.count; asks = none; needed = on.needed; answered = w.answered } });
+          record { read = read; text = w.text; consumed = on.consumed; appended = w.appended; ends = record { lines = w.lines; line = line; others = others; are = on.are; count = w.count; refused = refused; needed = on.needed; answered = w.answered } });
     }
 
     -- memory was refused before it was known what the line is
@@ -231,9 +231,9 @@ module _ (L : Lines) where
     ends_examined old new out out' pending line number now next Write w l le lt cut = line_cut old new out out' pending line number now next w l le lt cut
     ends_examined old new out out' pending line number now next Memory w l le lt (same, kept) =
         subst (λ (s : L.State). Feeds L Told begun s start new first out' Memory) (sym same) (subst (λ (o : OutputState). Feeds L Told begun now start new first o Memory) (sym kept) (line_memory old new out pending line number now w l))
-    ends_examined old new out out' pending line number now next (Malformed n) w l le lt (is, none, same, kept) =
+    ends_examined old new out out' pending line number now next (Malformed n) w l le lt (is, refused, same, kept) =
         subst (λ (s : L.State). Feeds L Told begun s start new first out' (Malformed n)) (sym same) (subst (λ (o : OutputState). Feeds L Told begun now start new first o (Malformed n)) (sym kept)
-        (subst (λ (m : ℕ). Feeds L Told begun now start new first out (Malformed m)) (sym is) (line_malformed old new out pending line number now w l (at_line (λ o. o ≡ None) number line le lt none))))
+        (subst (λ (m : ℕ). Feeds L Told begun now start new first out (Malformed m)) (sym is) (line_malformed old new out pending line number now w l (at_line (L.Refuses now) number line le lt refused))))
     ends_examined old new out out' pending line number now next Keeper w l le lt (stop, same, kept) =
         subst (λ (s : L.State). Feeds L Told begun s start new first out' Keeper) (sym same) (subst (λ (o : OutputState). Feeds L Told begun now start new first o Keeper) (sym kept) (record {
           reads = (l.faults ∙ w.faults, ends_as start old new w.ends l.ends);
@@ -262,7 +262,7 @@ module _ (L : Lines) where
     pub ends_late : (old new : InputState) (out : OutputState) (pending pending' line : List ℕ) (is_last : Bool) (number : ℕ) (now : L.State)
         → Going Told begun start old first out pending number now → Finds pending pending' line old new is_last → 2 ^ 32 ≤ number → Feeds L Told begun now start new first out (Malformed number)
     ends_late old new out pending pending' line is_last number now w f late =
-        line_malformed old new out pending line number now w (examined start old new pending pending' line w.lines is_last w.taken f) (too_late L number line late)
+        line_malformed old new out pending line number now w (examined start old new pending pending' line w.lines is_last w.taken f) (subst (L.Refuses now) (sym (too_late L number line late)) (L.refuses_none now))
 
   -- ---- A line after which the lines go on.
 

@@ -1,6 +1,7 @@
 -- The headline: what a run of the program reads, writes and answers, and what is kept. It is read from the top down: what is
 -- answered, a run over lines and how it ends (what a line is and what is said of such runs stands in `LineRuns.antt`), how it begins
 -- and what it leaves, what `run` promises of each command, and what follows.
+use Rattle.std.proofs.Common.{refl}
 use Rattle.std.specs.Prelude.{codes, decimal, ℕ, ◌≡◌, ◌<◌, ◌≤◌, ◌+◌, ◌-◌, ◌^◌, ◌⊎◌, List, [], ◌∷◌, ◌++◌, length, Bool, true, Option, Some, None, IfSome, Ok}
 use Rattle.std.specs.List.{range_with_len, AllByRecursion}
 use Rattle.std.specs.List.Sorted.{IsStrictlyIncreasing}
@@ -92,7 +93,7 @@ TakesLine Told old Stop (Some answer) new = ⊥
 
 -- Lines as a server takes them: what bytes ask, how it takes that, and the text of its answers. After a stop it may stay closed.
 abbrev pub served_lines : Lines
-served_lines = record { State = Served; Line = Line; Answer = Answer; read = line_of; Takes = TakesLine; text = text_of; IsStop = λ line. line ≡ Some Stop }
+served_lines = record { State = Served; Line = Line; Answer = Answer; read = line_of; Takes = TakesLine; text = text_of; IsStop = λ line. line ≡ Some Stop; Refuses = λ state line. line ≡ None; refuses_none = λ state. refl }
 
 -- ---- Runs over lines, of such a server (`LineRuns.antt`): what lines are, what a run over them answers, and how it ends.
 

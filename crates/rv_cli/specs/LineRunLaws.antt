@@ -94,7 +94,7 @@ module _ (L : Lines) where
     }
     ends_later first bytes input input' read text now Memory e = record { lines = e.lines; others = e.others; are = e.are; waits = e.waits; needed = e.needed; answered = answered_later first e.lines text now e.answered }
     ends_later first bytes input input' read text now (Malformed number) e =
-        record { lines = e.lines; line = e.line; others = e.others; are = e.are; count = e.count; asks = e.asks; needed = e.needed; answered = answered_later first e.lines text now e.answered }
+        record { lines = e.lines; line = e.line; others = e.others; are = e.are; count = e.count; refused = e.refused; needed = e.needed; answered = answered_later first e.lines text now e.answered }
     ends_later first bytes input input' read text now Keeper e =
         record { lines = e.lines; line = e.line; others = e.others; are = e.are; stop = e.stop; needed = e.needed; answered = answered_later first e.lines text now e.answered }
     ends_later first bytes input input' read text now (Damaged damage) e =

@@ -25,6 +25,9 @@ pub record Lines : Type 1 where
   pub text : Answer → List ℕ
   -- what was read of a line is a stop: after it the lines may end, since what keeps the state failed
   pub IsStop : Option Line → Type 0
+  -- what was read of a line is refused at this state, and the lines end with it; so is each that is not of the form
+  pub Refuses : State → Option Line → Type 0
+  pub refuses_none : (state : State) → Refuses state None
 
 module _ (L : Lines) where
   -- ---- A line.
@@ -87,14 +90,14 @@ module _ (L : Lines) where
     pub told : text ≡ before ++ part
     pub front : IsFront part (L.text answer)
 
-  -- The line with this number is the first that isn't of the form, and all lines before it are answered.
+  -- The line with this number is the first that is refused, and all lines before it are answered.
   pub record StopsAt (Told : Type 0) (first : L.State) (number : ℕ) (bytes read text : List ℕ) (now : L.State) : Type 0 where
     pub lines : List (List ℕ)
     pub line : List ℕ
     pub others : List (List ℕ)
     pub are : lines_of bytes ≡ lines ++ line ∷ others
     pub count : number ≡ length lines + 1
-    pub asks : line_at number line ≡ None
+    pub refused : L.Refuses now (line_at number line)
     pub needed : IsNeeded read (length lines + 1)
     pub answered : Answered Told first lines text now
 

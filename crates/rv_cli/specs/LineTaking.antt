@@ -77,7 +77,7 @@ module _ (L : Lines) where
 
   -- a line with this number at which the lines end so, with this state
   abbrev pub EndsLine : Type 0 → L.State → List ℕ → ℕ → L.State → OutputState → OutputState → Ending → Type 0
-  EndsLine Told old line number new before now (Malformed n) = (n ≡ number) × (L.read line ≡ None) × (new ≡ old) × (now ≡ before)
+  EndsLine Told old line number new before now (Malformed n) = (n ≡ number) × L.Refuses old (L.read line) × (new ≡ old) × (now ≡ before)
   EndsLine Told old line number new before now Write = CutsAnswer Told old line new before now
   EndsLine Told old line number new before now Memory = (new ≡ old) × (now ≡ before)
   EndsLine Told old line number new before now Keeper = L.IsStop (L.read line) × (new ≡ old) × (now ≡ before)

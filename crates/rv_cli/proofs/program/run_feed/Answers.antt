@@ -22,7 +22,7 @@ returns-in-Ok-clause-feed g c = (
 
 pub returns-in-Ok-clause-complete : goal.returns-in-Ok-clause-complete
 returns-in-Ok-clause-complete g c =
-    none_malformed (g.S.Source.state c.args.input.now).left _ _ c.status.ensures (completes served_lines (g.P.Kept.Keeper.tells c.feed-ending.result.1) (served g.P.Kept.Keeper.faults c.in-Ok.desk) c.feed-ending.ensures.feeds.now (g.S.Source.state c.args.input.now).left (g.S.Source.state c.args.input.now) (g.S.Source.state c.feed-ending.new.input)
+    none_malformed (g.S.Source.state c.args.input.now).left _ _ c.status.ensures (completes served_lines (λ state line none. none) (g.P.Kept.Keeper.tells c.feed-ending.result.1) (served g.P.Kept.Keeper.faults c.in-Ok.desk) c.feed-ending.ensures.feeds.now (g.S.Source.state c.args.input.now).left (g.S.Source.state c.args.input.now) (g.S.Source.state c.feed-ending.new.input)
     (g.O.Sink.state c.args.out.now) (g.O.Sink.state c.feed-ending.new.out) c.feed-ending.result.0 c.feed-ending.ensures.feeds.feeds.fed)
 
 pub returns-in-Err-clause-complete : goal.returns-in-Err-clause-complete

@@ -1,0 +1,3 @@
+pub mod FollowLines
+pub mod FollowReads
+pub mod FollowSteps
