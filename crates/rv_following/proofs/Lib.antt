@@ -1,1 +1,3 @@
 pub mod ThreeItems
+pub mod CellsRead
+pub mod Followed

@@ -6,6 +6,7 @@
 
 mod follow_line;
 mod follower;
+pub mod laws;
 mod reading;
 
 pub use follow_line::{FollowLine, ParsedPull};
