@@ -1,3 +1,4 @@
 pub mod ThreeItems
 pub mod CellsRead
 pub mod Followed
+pub mod Shipped

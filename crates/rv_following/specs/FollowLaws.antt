@@ -1,8 +1,9 @@
 -- What follows for a follower that is given the lines of a book: it is always at a front of that book, and nothing of the book is refused.
 use Rattle.std.specs.Prelude.{◌≡◌, ◌⊎◌, ℕ, ◌+◌, ◌^◌, ◌<◌, ◌≤◌, ◌==◌, List, [], ◌∷◌, ◌++◌, Option, Some, None, map, codes, if◌then◌else◌, Result, Ok, Err}
+use Rattle.std.specs.List.{AllByRecursion}
 use Rattle.serde_json.specs.Written.{compact_text}
+use Rattle.rv_lines.specs.Lines.{ended_lines_of}
 use Rattle.rv_book.specs.declared.entry.Entry.{Entry}
-use Rattle.rv_book.specs.declared.page.Page.{Page}
 use Rattle.rv_book.specs.Book.{Book, empty_book, size, with_entries}
 use Rattle.rv_keeper.specs.declared.cell.Cell.{Cell}
 use Rattle.rv_record.specs.CellTexts.{AreTexts}
@@ -10,7 +11,7 @@ use Rattle.rv_opening.specs.PageCells.{page_cells}
 use Rattle.rv_store.specs.Opening.{IsSoundBook}
 use Rattle.rv_store.specs.StoreCells.{entry_cells}
 use Rattle.rv_answering.specs.declared.answer.Answer.{Answer}
-use Rattle.rv_standby.specs.Shipping.{cell_data}
+use Rattle.rv_standby.specs.Shipping.{book_lines, cell_data}
 use Rattle.rv_standby.specs.declared.take_fault.TakeFault.{TakeFault}
 use Rattle.rv_standby.specs.declared.take_fault.TakeFault.TheVariants as faults
 use Rattle.rv_following.specs.declared.follow_line.FollowLine.{FollowLine}
@@ -62,3 +63,17 @@ LinesAreFollowed = (limit : ℕ) (book : Book) (taken rest : List FollowLine) (s
 abbrev pub NoLineIsRefused : Type 0
 NoLineIsRefused = (limit : ℕ) (book : Book) (state new : Following) (line : FollowLine) (rest : List FollowLine) (result : Result (Option Answer) TakeFault) → limit < 2 ^ 32 → IsSoundBook limit book → StandsAt limit book state (line ∷ rest) → Follows state line result new
     → ((result ≡ Ok None) × StandsAt limit book new rest) ⊎ ((result ≡ Err faults.Memory) × (new ≡ state))
+
+-- ---- The bytes that `ship` writes.
+
+-- These bytes begin the lines of the book, whose cells are texts.
+abbrev pub AreTheLinesOf : Book → List ℕ → List ℕ → Type 0
+AreTheLinesOf book front back = AllByRecursion AreTexts (page_cells book.page) × AllByRecursion AreTexts (entry_cells (book.page.at + 1) book.entries) × (book_lines book ≡ front ++ back)
+
+-- the lines that end in these bytes are read as the first of these
+abbrev pub ReadAsFirst : List FollowLine → List ℕ → Type 0
+ReadAsFirst said bytes = (taken : List FollowLine) × (rest : List FollowLine) × (said ≡ taken ++ rest) × (map follow_line_of (ended_lines_of bytes) ≡ map (λ line. Some line) taken)
+
+-- Wherever the lines of a book are cut, those that end before are read as the first of what the book says.
+abbrev pub ShippedLinesAreRead : Type 0
+ShippedLinesAreRead = (book : Book) (front back : List ℕ) → AreTheLinesOf book front back → ReadAsFirst (book_says book) front

@@ -1,5 +1,5 @@
 -- What a line is: {"cell":[SHELF,KEY,BODY]}, {"page":true} or {"user":U,"pull":V}; members in any order, and no others.
-use Rattle.std.specs.Prelude.{ℕ, ◌^◌, List, Option, Some, None, codes, Result, option_map, option_and_then, if◌then◌else◌, nat_lt, ◌&&◌}
+use Rattle.std.specs.Prelude.{ℕ, ◌^◌, List, Option, Some, None, codes, option_map, option_and_then, if◌then◌else◌, nat_lt, ◌&&◌}
 use Rattle.std.specs.Option.{option_map_or}
 use Rattle.std.specs.Str.{bytes_eq}
 use Rattle.serde_json.specs.Data.{Data, Items, item, no_items, Members}
