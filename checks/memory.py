@@ -228,7 +228,7 @@ class Asking:
                 connection = socket.create_connection(("127.0.0.1", self.port))
                 connection.settimeout(20)
                 return connection
-            except ConnectionRefusedError:
+            except (ConnectionRefusedError, ConnectionResetError):  # it doesn't listen yet, or stopped listening in between
                 if self.process.poll() is not None:
                     return None
                 time.sleep(0.002)
